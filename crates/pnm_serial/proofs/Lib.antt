@@ -14,3 +14,10 @@ pub mod RefusalExample
 pub mod FeederSteps
 pub mod CollectorSteps
 pub mod TurnSteps
+pub mod DecimalText
+pub mod NumberText
+pub mod PamText
+pub mod HeaderText
+pub mod RowText
+pub mod PlainText
+pub mod ReadAgain

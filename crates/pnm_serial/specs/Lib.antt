@@ -10,3 +10,4 @@ pub mod Examples
 pub mod Feeders
 pub mod Collectors
 pub mod Turns
+pub mod ReadAgain

@@ -1,9 +1,16 @@
-//! Laws of what is answered and of what is due for a text. Each stands over the definitions alone, as
+//! Laws of what is written and read again, of what is answered and of what is due for a text. Each stands over the definitions alone, as
 //! the contract of a function that does nothing.
 
 ghost use Rattle.pnm_serial.specs.Examples.{RunExamplesHold, ResultBeforeRefusalIsWritten};
+ghost use Rattle.pnm_serial.specs.ReadAgain.{WrittenIsReadAgain};
 ghost use Rattle.pnm_serial.specs.RunLaws.{OneAnswerForEachText};
 ghost use Rattle.pnm_serial.specs.Verdicts.{OneVerdictForEachText, VerdictsAreOfTexts};
+
+/// What is written of images that the form can hold, of which each has rows, is read again as the
+/// same images.
+pub fn written_is_read_again()
+    ensures { WrittenIsReadAgain }
+{}
 
 /// Each text has exactly one verdict with each job: its fault, or the chain's refusal of the images
 /// that it spells, or why the form can't hold the results, or none.

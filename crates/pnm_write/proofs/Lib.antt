@@ -5,11 +5,5 @@ pub mod EntryLaws
 pub mod PixelLaws
 pub mod NumeralLaws
 pub mod RawLaws
-pub mod DecimalText
-pub mod NumberText
-pub mod PamText
-pub mod HeaderText
-pub mod RowText
-pub mod PlainText
+pub mod WordSizes
 pub mod OneText
-pub mod ReadAgain

@@ -10,7 +10,7 @@ use Rattle.pnm_image.specs.Characters.{blank, line_feed}
 use Rattle.pnm_write.specs.PlainRows.{max_line_length, sample_text, join_with_blank, IsFilled, AreFilled, IsLine, line_text, IsSetInLines, words_after}
 use Rattle.pnm_write.specs.PlainRows.{set_in_lines}
 use Rattle.pnm_write.specs.EncodingLaws.{HasOneText}
-use Rattle.pnm_write.proofs.PlainText.{AreSpelled, row_is_spelled}
+use Rattle.pnm_write.proofs.WordSizes.{AreShortWords, row_is_short}
 
 -- ---- words in a line
 
@@ -211,14 +211,14 @@ set_is_only words text set = set.whole ∙ lines_text set.lines set.are.filled s
 
 -- ---- rows
 
-texts_are_short : (kind : Kind) (samples : List ℕ) → AreSpelled kind samples → AreShort (map (sample_text kind) samples)
+texts_are_short : (kind : Kind) (samples : List ℕ) → AreShortWords kind samples → AreShort (map (sample_text kind) samples)
 texts_are_short kind [] are = tt
 texts_are_short kind (sample ∷ samples) are = (omega (arith, are.0.short), texts_are_short kind samples are.1)
 
 pub row_has_one_text : (head : HeadValue) → IsHead head → (row : List ℕ) → IsRowOf head.shape row → HasOneText head.shape.kind row
 row_has_one_text head sound row is =
     let kind : Kind = head.shape.kind in
-    let short : AreShort (map (sample_text kind) row) = texts_are_short kind row (row_is_spelled head sound row is) in
+    let short : AreShort (map (sample_text kind) row) = texts_are_short kind row (row_is_short head sound row is) in
     record {
       holds = set_holds (map (sample_text kind) row) short;
       only = λ text set. set_is_only (map (sample_text kind) row) text set;

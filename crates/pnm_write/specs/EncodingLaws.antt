@@ -8,7 +8,6 @@ use Rattle.pnm_image.specs.declared.shape.Kind.{Kind}
 use Rattle.pnm_image.specs.Heads.{HeadValue, IsHead}
 use Rattle.pnm_image.specs.Images.{Image, AreImages, messages_of_stream}
 use Rattle.pnm_image.specs.Places.{IsRowOf, place_of}
-use Rattle.pnm_read.specs.Spelling.{Spells}
 use Rattle.pnm_write.specs.PlainRows.{sample_text, plain_row_text, IsSetInLines}
 use Rattle.pnm_write.specs.Forms.{form_fault_of, images_fault}
 use Rattle.pnm_write.specs.Encoding.{encoding_of, bytes_at, bytes_of}
@@ -23,13 +22,6 @@ abbrev pub MessagesAddTheirBytes : Type 0
 MessagesAddTheirBytes =
     (form : Form) (messages : List Message) (m : Message)
     → bytes_of form (messages ++ m ∷ []) ≡ bytes_of form messages ++ bytes_at form (place_of Between messages) m
-
--- what is written of images that the form can hold is read again: it spells these images
-abbrev pub WrittenIsReadAgain : Type 0
-WrittenIsReadAgain =
-    (form : Form) (is : List Image) → 0 < length is → AreImages is → AllByRecursion (λ i. 0 < i.head.shape.height) is
-    → images_fault form is ≡ None
-    → Spells (encoding_of form is) is
 
 -- the form refuses a message of a stream for the reason for which it can't hold its images
 abbrev pub RefusedStreamsAreOfImages : Type 0

@@ -1,7 +1,7 @@
 //! Laws of the bytes of messages. Each stands over the definitions alone, as the contract of a
 //! function that does nothing.
 
-ghost use Rattle.pnm_write.specs.EncodingLaws.{BytesAreTheEncoding, MessagesAddTheirBytes, WrittenIsReadAgain};
+ghost use Rattle.pnm_write.specs.EncodingLaws.{BytesAreTheEncoding, MessagesAddTheirBytes};
 ghost use Rattle.pnm_write.specs.EncodingLaws.{RefusedStreamsAreOfImages, PlainRowsHaveOneText};
 
 /// The bytes of a stream's messages are the encoding of its images.
@@ -12,12 +12,6 @@ pub fn bytes_are_the_encoding()
 /// One message more adds its own bytes to those of the messages before it.
 pub fn messages_add_their_bytes()
     ensures { MessagesAddTheirBytes }
-{}
-
-/// What is written of images that the form can hold, of which each has rows, is read again as the
-/// same images.
-pub fn written_is_read_again()
-    ensures { WrittenIsReadAgain }
 {}
 
 /// The form refuses a message of a stream for the reason for which it can't hold its images.

@@ -22,7 +22,8 @@ use Rattle.pnm_read.specs.Rasters.{SpellsDecimal}
 use Rattle.pnm_read.proofs.LineLaws.{with_feeds}
 use Rattle.pnm_read.proofs.TupleTypeLaws.{trimmed_start-same, trimmed_end-same}
 use Rattle.pnm_write.specs.Encoding.{tuple_type_line, pam_text}
-use Rattle.pnm_write.proofs.DecimalText.{decimal_spells, decimal_short, first_token-digits, one_line-digits}
+use Rattle.pnm_write.proofs.WordSizes.{decimal_short}
+use Rattle.pnm_serial.proofs.DecimalText.{decimal_spells, first_token-digits, one_line-digits}
 
 -- a byte other than LF
 abbrev is_other : ℕ → Bool

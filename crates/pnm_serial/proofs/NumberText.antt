@@ -10,7 +10,7 @@ use Rattle.pnm_read.specs.Rasters.{SpellsDecimal}
 use Rattle.pnm_read.proofs.CommentLaws.{commented_after-append}
 use Rattle.pnm_read.proofs.WordLaws.{white_is_not_sharp, words-split, uncommented-split, ends_by-split}
 use Rattle.pnm_read.proofs.SampleLaws.{uncommented_digits}
-use Rattle.pnm_write.proofs.DecimalText.{outside-digits, words-digits, ends-digits}
+use Rattle.pnm_serial.proofs.DecimalText.{outside-digits, words-digits, ends-digits}
 
 abbrev is_body_byte : ℕ → Bool
 is_body_byte b = is_digit b || is_white b

@@ -17,9 +17,10 @@ use Rattle.pnm_read.specs.Headers.{SpellsPnmHeader, SpellsHeaderBy, SpellsHeader
 use Rattle.pnm_read.specs.Rasters.{SpellsDecimal}
 use Rattle.pnm_write.specs.Encoding.{kind_text, header_text}
 use Rattle.pnm_write.specs.Forms.{plain_kind_fault}
-use Rattle.pnm_write.proofs.DecimalText.{decimal_spells, decimal_short}
-use Rattle.pnm_write.proofs.NumberText.{SpellsNumbers, no_numbers, number_more, ends_in_number, numbers_of}
-use Rattle.pnm_write.proofs.PamText.{pam_text_spells}
+use Rattle.pnm_write.proofs.WordSizes.{decimal_short}
+use Rattle.pnm_serial.proofs.DecimalText.{decimal_spells}
+use Rattle.pnm_serial.proofs.NumberText.{SpellsNumbers, no_numbers, number_more, ends_in_number, numbers_of}
+use Rattle.pnm_serial.proofs.PamText.{pam_text_spells}
 
 -- ---- PBM, PGM and PPM
 

@@ -4,7 +4,7 @@ use Rattle.std.specs.List.{AllPass, list_all}
 use Rattle.std.specs.Char.{digit_value}
 use Rattle.std.specs.Str.Parse.{AllDigits}
 use Rattle.std.proofs.lemmas.Bool.Decides.{nat_tests}
-use Rattle.std.proofs.lemmas.Fmt.{decimal_is_IsNumeral, length-decimal-le}
+use Rattle.std.proofs.lemmas.Fmt.{decimal_is_IsNumeral}
 use Rattle.std.proofs.lemmas.List.Elements.{All-nil, All-cons, All-head, All-tail}
 use Rattle.std.proofs.lemmas.Str.Parse.{digit_from_value}
 use Rattle.pnm_image.specs.Texts.{is_blank, is_digit, words}
@@ -26,10 +26,6 @@ all_digits (b ∷ text) h = All-cons (λ x. is_digit x ≡ true) b text (is_digi
 -- the text of a number spells it
 pub decimal_spells : (n : ℕ) → n < 2 ^ 64 → SpellsDecimal (decimal n) n
 decimal_spells n h = let numeral = decimal_is_IsNumeral n h in record { some = numeral.0.0; digits = all_digits (decimal n) numeral.0.1; value = numeral.1 }
-
--- it has at most ten digits
-pub decimal_short : (n : ℕ) → n < 10 ^ 10 → length (decimal n) ≤ 10
-decimal_short n h = length-decimal-le 10 n (omega arith) h (omega arith)
 
 -- ---- digits
 

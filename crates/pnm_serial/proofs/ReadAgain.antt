@@ -14,10 +14,10 @@ use Rattle.pnm_image.proofs.Rows.{AreRowsOf, AreRowsOf-rows_of, length-rows_of}
 use Rattle.pnm_read.specs.Rasters.{raw_samples, bytes_in_row, SpellsRaw}
 use Rattle.pnm_read.specs.Spelling.{SpellsRawImage, SpellsRawImages, SpellsPlainAlone, Spells}
 use Rattle.pnm_write.specs.Encoding.{header_text, row_bytes, image_bytes, encoding_of}
-use Rattle.pnm_write.proofs.HeaderText.{format_in, raw_header_spells, plain_header_spells}
-use Rattle.pnm_write.proofs.PlainText.{plain_raster_spells}
+use Rattle.pnm_serial.proofs.HeaderText.{format_in, raw_header_spells, plain_header_spells}
+use Rattle.pnm_serial.proofs.PlainText.{plain_raster_spells}
 use Rattle.pnm_write.proofs.FormLaws.{no_first_fault, no_last_fault}
-use Rattle.pnm_write.proofs.RowText.{RowIsReadAgain, row_is_read_again}
+use Rattle.pnm_serial.proofs.RowText.{RowIsReadAgain, row_is_read_again}
 
 -- ---- the rows of an image
 

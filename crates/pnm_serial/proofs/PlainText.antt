@@ -19,50 +19,36 @@ use Rattle.pnm_write.specs.Encoding.{row_bytes}
 use Rattle.pnm_image.specs.Characters.{blank, line_feed}
 use Rattle.pnm_write.specs.PlainRows.{sample_text, plain_row_text}
 use Rattle.pnm_write.specs.PlainParts.{fits_in_line, separator, column_after, word_in_line, text_of_part, sample_texts}
-use Rattle.pnm_write.proofs.DecimalText.{decimal_spells, decimal_short}
+use Rattle.pnm_serial.proofs.DecimalText.{decimal_spells}
+use Rattle.pnm_write.proofs.WordSizes.{IsShortWord, each_within, sample_is_short}
 use Rattle.pnm_write.proofs.PlainLaws.{row_text_left, has_begun_line}
 
 -- ---- samples
 
--- a sample's text spells it, and is short
-pub record IsSpelled (kind : Kind) (sample : ℕ) : Type 0 where
-  pub spells : SpellsSample kind (sample_text kind sample) sample
-  pub some : 0 < length (sample_text kind sample)
-  pub short : length (sample_text kind sample) ≤ 10
+-- a sample's text spells it, and is a short word
+record IsSpelled (kind : Kind) (sample : ℕ) : Type 0 where
+  spells : SpellsSample kind (sample_text kind sample) sample
+  word : IsShortWord (sample_text kind sample)
 
-pixel_is_spelled : (sample : ℕ) → sample ≤ 1 → IsSpelled Bit sample
-pixel_is_spelled sample within = record { spells = (within, refl); some = omega arith; short = omega arith }
-
-abbrev pub AreSpelled : Kind → List ℕ → Type 0
+abbrev AreSpelled : Kind → List ℕ → Type 0
 AreSpelled kind samples = AllByRecursion (IsSpelled kind) samples
 
-each_is_spelled : (kind : Kind) (maxval : ℕ) → ((sample : ℕ) → sample ≤ maxval → IsSpelled kind sample) → (samples : List ℕ)
-    → All (λ sample. sample ≤ maxval) samples → AreSpelled kind samples
-each_is_spelled kind maxval is [] range = tt
-each_is_spelled kind maxval is (sample ∷ samples) range =
-    (is sample (All-head (λ x. x ≤ maxval) sample samples range), each_is_spelled kind maxval is samples (All-tail (λ x. x ≤ maxval) sample samples range))
-
-number_spells : (sample : ℕ) → sample ≤ 65535 → SpellsSample Gray (decimal sample) sample
-number_spells sample within = decimal_spells sample (omega arith)
-
-number_short : (sample : ℕ) → sample ≤ 65535 → length (decimal sample) ≤ 10
-number_short sample within = decimal_short sample (omega arith)
-
-samples_by : (kind : Kind) (depth maxval : ℕ) (tuple_type : List ℕ) → Suits kind depth maxval tuple_type → maxval ≤ 65535 → (sample : ℕ) → sample ≤ maxval
-    → IsSpelled kind sample
-samples_by Bit depth maxval tuple_type suits high sample within = pixel_is_spelled sample (omega (arith, suits.1))
-samples_by Gray depth maxval tuple_type suits high sample within = let s = number_spells sample (omega arith) in
-    record { spells = s; some = s.some; short = number_short sample (omega arith) }
-samples_by Color depth maxval tuple_type suits high sample within = let s = number_spells sample (omega arith) in
-    record { spells = s; some = s.some; short = number_short sample (omega arith) }
-samples_by Pam depth maxval tuple_type suits high sample within = let s = number_spells sample (omega arith) in
-    record { spells = s; some = s.some; short = number_short sample (omega arith) }
+spells_by : (kind : Kind) (depth maxval : ℕ) (tuple_type : List ℕ) → Suits kind depth maxval tuple_type → maxval ≤ 65535 → (sample : ℕ) → sample ≤ maxval
+    → SpellsSample kind (sample_text kind sample) sample
+spells_by Bit depth maxval tuple_type suits high sample within = (omega (arith, suits.1), refl)
+spells_by Gray depth maxval tuple_type suits high sample within = decimal_spells sample (omega arith)
+spells_by Color depth maxval tuple_type suits high sample within = decimal_spells sample (omega arith)
+spells_by Pam depth maxval tuple_type suits high sample within = decimal_spells sample (omega arith)
 
 -- the samples of a row are spelled
-pub row_is_spelled : (head : HeadValue) → IsHead head → (row : List ℕ) → IsRowOf head.shape row → AreSpelled head.shape.kind row
+row_is_spelled : (head : HeadValue) → IsHead head → (row : List ℕ) → IsRowOf head.shape row → AreSpelled head.shape.kind row
 row_is_spelled head sound row is =
-    each_is_spelled head.shape.kind head.shape.maxval
-    (samples_by head.shape.kind head.shape.depth head.shape.maxval head.tuple_type sound.suits (omega (arith, sound.limits.maxval_high))) row is.range
+    let high : head.shape.maxval ≤ 65535 = omega (arith, sound.limits.maxval_high) in
+    each_within (IsSpelled head.shape.kind) head.shape.maxval
+    (λ sample within. record {
+      spells = spells_by head.shape.kind head.shape.depth head.shape.maxval head.tuple_type sound.suits high sample within;
+      word = sample_is_short head.shape.kind head.shape.depth head.shape.maxval head.tuple_type sound.suits high sample within;
+    }) row is.range
 
 -- ---- words
 
@@ -88,7 +74,7 @@ piece_spells kind gap sample is one spelled = record {
   whole = refl;
   gap_is = is;
   digits_are = spelled.spells;
-  short = omega (arith, length-append gap (sample_text kind sample), spelled.short);
+  short = omega (arith, length-append gap (sample_text kind sample), spelled.word.short);
 }
 
 -- what stands before a word behind a line that has begun, by whether it fits in
@@ -130,7 +116,7 @@ others_spell kind column (sample ∷ samples) begun are =
     let word : List ℕ = sample_text kind sample in
     let now : ℕ = column_after column word in
     let before : IsBefore (separator column word) = separator_is column word begun in
-    let then_begun : 0 < now = column_begun column word are.0.some in (
+    let then_begun : 0 < now = column_begun column word are.0.word.some in (
       word_in_line column word,
       text_of_part now (sample_texts kind samples),
       refl,
@@ -150,8 +136,8 @@ row_spells kind gap (sample ∷ samples) is one some are =
       text_of_part now (sample_texts kind samples),
       sym (append_assoc gap word (text_of_part now (sample_texts kind samples))),
       piece_spells kind gap sample is one are.0,
-      apart_follows kind (text_of_part now (sample_texts kind samples)) (part_begins_apart kind now samples are.0.some),
-      others_spell kind now samples are.0.some are.1,
+      apart_follows kind (text_of_part now (sample_texts kind samples)) (part_begins_apart kind now samples are.0.word.some),
+      others_spell kind now samples are.0.word.some are.1,
     )
 
 -- ---- rows
