@@ -2,7 +2,7 @@ use Rattle.std.proofs.Common.{refl, sym, ◌∙◌}
 use Rattle.pnm_stages.specs.Rings.{sent, received, known_items}
 use Rattle.pnm_image.specs.declared.message.Ending.TheVariants.{More}
 use Rattle.pnm_image.specs.Messages.{ending_of}
-use Rattle.pnm_stages.proofs.RingSteps.{same_input, same_output}
+use Rattle.pnm_stages.proofs.RingSteps.{same_input, same_output, itself_input, itself_output}
 use Rattle.pnm_stages.proofs.StagedSteps.{passes_nothing, passes_one, still_sent, still_going, input_gone, output_gone, breaks_off, ends_well, ends_broken}
 use Rattle.pnm_stages.proofs.stage.pass_all.Goals as goal
 
@@ -83,3 +83,66 @@ returns-in-BrokenOff-clause-ran g c tool fresh =
     (still_sent c.loop.invariant.2 c.receive.ensures.sent) c.in-Some-receive.ensures.taken c.in-Some-receive.ensures.message c.feed.ensures
     c.if-not-send_answers.ensures.sent)
     ((sym c.in-BrokenOff.is) ∙ c.ending-ending.ensures) (sym c.fault-in-loop.ensures ∙ c.in_default-fault.is) fresh
+
+pub loop-init : goal.loop-init
+loop-init g c = (
+  itself_input c.args.input.now,
+  itself_output c.args.output.now,
+  passes_nothing g.F.Filter.at g.F.Filter.all_given g.F.Filter.stopped c.args.stage.now (received c.args.input.now) (sent c.args.output.now),
+  (sym c.fault.ensures ∙ c.in_default.is),
+)
+
+pub returns-in-Some-clause-input : goal.returns-in-Some-clause-input
+returns-in-Some-clause-input g c = c.break_off.ensures.input
+
+pub returns-in-Some-clause-output : goal.returns-in-Some-clause-output
+returns-in-Some-clause-output g c = c.break_off.ensures.output
+
+pub returns-in_default-receive-clause-input : goal.returns-in_default-receive-clause-input
+returns-in_default-receive-clause-input g c =
+    same_input c.args.input.now c.loop.input c.receive.new.input c.loop.invariant.0 c.receive.ensures.ring
+
+pub returns-in_default-receive-clause-output : goal.returns-in_default-receive-clause-output
+returns-in_default-receive-clause-output g c =
+    same_output c.args.output.now c.receive.new.output c.send.new.self
+    (same_output c.args.output.now c.loop.output c.receive.new.output c.loop.invariant.1 c.receive.ensures.output) c.send.ensures.ring
+
+pub returns-then-not-send_answers-clause-input : goal.returns-then-not-send_answers-clause-input
+returns-then-not-send_answers-clause-input g c =
+    same_input c.args.input.now c.receive.new.input c.drain_after.new.self
+    (same_input c.args.input.now c.loop.input c.receive.new.input c.loop.invariant.0 c.receive.ensures.ring) c.drain_after.ensures.ring
+
+pub returns-then-not-send_answers-clause-output : goal.returns-then-not-send_answers-clause-output
+returns-then-not-send_answers-clause-output g c =
+    same_output c.args.output.now c.receive.new.output c.send_answers.new.output
+    (same_output c.args.output.now c.loop.output c.receive.new.output c.loop.invariant.1 c.receive.ensures.output) c.send_answers.ensures.output
+
+pub returns-in-Some-fault-clause-input : goal.returns-in-Some-fault-clause-input
+returns-in-Some-fault-clause-input g c =
+    same_input c.args.input.now c.receive.new.input c.break_off-in-Some-fault.new.input
+    (same_input c.args.input.now c.loop.input c.receive.new.input c.loop.invariant.0 c.receive.ensures.ring) c.break_off-in-Some-fault.ensures.input
+
+pub returns-in-Some-fault-clause-output : goal.returns-in-Some-fault-clause-output
+returns-in-Some-fault-clause-output g c =
+    same_output c.args.output.now c.send_answers.new.output c.break_off-in-Some-fault.new.output
+    (same_output c.args.output.now c.receive.new.output c.send_answers.new.output
+    (same_output c.args.output.now c.loop.output c.receive.new.output c.loop.invariant.1 c.receive.ensures.output) c.send_answers.ensures.output)
+    c.break_off-in-Some-fault.ensures.output
+
+pub returns-in-Whole-clause-input : goal.returns-in-Whole-clause-input
+returns-in-Whole-clause-input g c =
+    same_input c.args.input.now c.loop.input c.receive.new.input c.loop.invariant.0 c.receive.ensures.ring
+
+pub returns-in-Whole-clause-output : goal.returns-in-Whole-clause-output
+returns-in-Whole-clause-output g c =
+    same_output c.args.output.now c.receive.new.output c.send_answers.new.output
+    (same_output c.args.output.now c.loop.output c.receive.new.output c.loop.invariant.1 c.receive.ensures.output) c.send_answers.ensures.output
+
+pub returns-in-BrokenOff-clause-input : goal.returns-in-BrokenOff-clause-input
+returns-in-BrokenOff-clause-input g c =
+    same_input c.args.input.now c.loop.input c.receive.new.input c.loop.invariant.0 c.receive.ensures.ring
+
+pub returns-in-BrokenOff-clause-output : goal.returns-in-BrokenOff-clause-output
+returns-in-BrokenOff-clause-output g c =
+    same_output c.args.output.now c.receive.new.output c.send_answers.new.output
+    (same_output c.args.output.now c.loop.output c.receive.new.output c.loop.invariant.1 c.receive.ensures.output) c.send_answers.ensures.output

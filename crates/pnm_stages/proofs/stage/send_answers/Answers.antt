@@ -1,4 +1,5 @@
-use Rattle.std.proofs.Common.{sym, subst}
+use Rattle.std.proofs.Common.{◌<◌, sym, subst}
+use Rattle.pnm_tools.specs.FusedFilters.{waiting_at}
 use Rattle.pnm_stages.specs.Rings.{sent}
 use Rattle.pnm_stages.proofs.RingSteps.{itself_output, same_output}
 use Rattle.pnm_stages.proofs.SendingSteps.{IsSending, sends_nothing_yet, sends_on, loses_answer, sends_all}
@@ -24,3 +25,26 @@ returns-then-not-send-clause-sent g c = loses_answer g.F.Filter.at g.F.Filter.al
 pub returns-clause-sent : goal.returns-clause-sent
 returns-clause-sent g c = sends_all g.F.Filter.at g.F.Filter.all_given g.F.Filter.stopped g.met.F.Filter.at_answers c.args.stage.now c.loop-answer.stage
     c.next.new.self (sent c.args.output.now) (sent c.loop-answer.output) c.loop-answer.invariant.1 c.in_default.ensures.full
+
+pub returns-then-not-send-clause-output : goal.returns-then-not-send-clause-output
+returns-then-not-send-clause-output g c =
+    same_output c.args.output.now c.loop-answer.output c.send.new.self c.loop-answer.invariant.0 c.send.ensures.ring
+
+pub returns-then-gave_all-clause-output : goal.returns-then-gave_all-clause-output
+returns-then-gave_all-clause-output g c =
+    same_output c.args.output.now c.loop-answer.output c.send.new.self c.loop-answer.invariant.0 c.send.ensures.ring
+
+pub returns-then-gave_all-clause-sent : goal.returns-then-gave_all-clause-sent
+returns-then-gave_all-clause-sent g c = sends_all g.F.Filter.at g.F.Filter.all_given g.F.Filter.stopped g.met.F.Filter.at_answers c.args.stage.now
+    c.next.new.self c.gave_all.new.self (sent c.args.output.now) (sent c.send.new.self)
+    (sends_on g.F.Filter.at g.F.Filter.stopped c.args.stage.now c.loop-answer.stage c.next.new.self c.in-Some.answer (sent c.args.output.now)
+    (sent c.loop-answer.output) (sent c.send.new.self) c.loop-answer.invariant.1 c.in-Some.ensures.given (c.send.ensures.given c.if-not-send.false))
+    (c.gave_all.ensures.full c.if-gave_all.true)
+
+pub loop-answer-smaller : goal.loop-answer-smaller
+loop-answer-smaller g c =
+    subst (λ (stage : _). waiting_at g.F.Filter.waiting stage < waiting_at g.F.Filter.waiting c.loop-answer.stage)
+    (sym (c.gave_all.ensures.unknown c.if-gave_all.false)) c.in-Some.ensures.fewer
+
+pub returns-clause-output : goal.returns-clause-output
+returns-clause-output g c = c.loop-answer.invariant.0
