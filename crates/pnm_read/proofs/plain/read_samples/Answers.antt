@@ -1,4 +1,4 @@
-use Rattle.std.proofs.Common.{rules, arith, ◌≡◌, ◌≤◌, ◌-◌, ◌+◌, [], length, vec_len, refl}
+use Rattle.std.proofs.Common.{rules, arith, ◌≡◌, ◌≤◌, ◌-◌, ◌+◌, [], length, vec_len, refl, ap, subst, ◌∙◌, length-append}
 use Rattle.std.proofs.lemmas.Result.{err_from_is_err_and}
 use Rattle.pnm_read.proofs.PlainSteps.{samples_fault, samples_no_memory, samples_more, samples_read, samples_begin}
 use Rattle.pnm_read.proofs.LeadingSteps.{samples_taken, reading_no_memory}
@@ -54,3 +54,30 @@ returns g c =
     c.loop-taken.invariant.reading c.bytes.ensures c.in-Ok-take_samples.ensures.taken (omega arith) c.advance.ensures.reader c.advance.ensures.ended
     c.advance.ensures.held)
     c.row_length-length.ensures (omega arith) c.within.ensures
+
+pub loop-taken-init : goal.loop-taken-init
+loop-taken-init g c =
+    let none : vec_len c.in-Ok.row ≡ 0 = c.in-Ok.ensures.len in
+    record {
+      reading = samples_begin c.args.shape c.row_length-length.result (c.row_length-length.result - vec_len c.in-Ok.row) c.in-Ok.row.items c.args.input.now
+          g.met.R.BytesIn.same_at_once (omega arith) c.in-Ok.ensures.items;
+      most = omega arith;
+    }
+
+pub take_samples-requires : goal.take_samples-requires
+take_samples-requires g c = c.requires
+
+pub advance-requires : goal.advance-requires
+advance-requires g c = subst (λ (l : _). c.in-Ok-take_samples.taken ≤ length l) c.bytes.ensures c.in-Ok-take_samples.ensures.taken.within
+
+pub read_sample-requires : goal.read_sample-requires
+read_sample-requires g c = c.requires
+
+pub loop-taken-smaller : goal.loop-taken-smaller
+loop-taken-smaller g c =
+    let most : length c.take_samples.new.row.items ≤ c.row_length-length.result = c.in-Ok-take_samples.ensures.most c.loop-taken.invariant.most in
+    let longer : vec_len c.push.new.self ≡ vec_len c.take_samples.new.row + 1 = search rules in
+    let more = c.in-Ok-take_samples.ensures.taken in
+    let grown : length c.take_samples.new.row.items ≡ length c.loop-taken.row.items + length more.samples =
+    ap length more.appended ∙ length-append c.loop-taken.row.items more.samples in
+    omega arith
