@@ -353,3 +353,9 @@ pixel_taken bytes old now new taken at sample short t w some low high is e =
     (omega (arith, length-drop taken bytes, w.before)) w.white byte low is high in
     let sum : taken + ((at - taken) + 1) ≡ at + 1 = omega (arith, w.before) in
     subst (λ (n : ℕ). TakesSamples plain_pixel bytes old new n) sum (takes_more plain_pixel bytes old now new taken sample ((at - taken) + 1) t read e)
+
+-- ---- how many of some tests hold
+
+pub at_most_one : (test : Bool) (n : ℕ) → n ≡ from_bool test → n ≤ 1
+at_most_one true n e = omega (arith, e)
+at_most_one false n e = omega (arith, e)

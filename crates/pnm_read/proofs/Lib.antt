@@ -3,6 +3,7 @@ pub mod CommentLaws
 pub mod Consumed
 pub mod PixelSteps
 pub mod Turns
+pub mod EndSteps
 pub mod PieceLaws
 pub mod SampleLaws
 pub mod WordLaws

@@ -1,6 +1,6 @@
 -- How the samples of a plain raster are read from an input.
 use Rattle.std.proofs.Common.{◌≡◌, ℕ, zero, suc, ◌-◌, ◌<◌, ◌≤◌, Bool, true, false, if◌then◌else◌, List}
-use Rattle.std.proofs.Common.{[], ◌∷◌, ◌++◌, Option, Some, Result, Ok, Err, inl, inr, refl}
+use Rattle.std.proofs.Common.{[], ◌∷◌, ◌++◌, Option, Some, None, Result, Ok, Err, inl, inr, refl}
 use Rattle.std.proofs.Common.{sym, ap, ap₂, subst, ◌∙◌, arith}
 use Rattle.std.specs.Prelude.{slice_get}
 use Rattle.std.proofs.lemmas.Bool.{le-leb, lt-leb}
@@ -18,10 +18,11 @@ use Rattle.pnm_read.specs.Items.{after_last_item}
 use Rattle.pnm_read.specs.Said.{in_turn, plain_row, last_plain_row, row_in_form}
 use Rattle.pnm_read.specs.Scans.{Scans, ScansAfter}
 use Rattle.pnm_read.specs.Scanners.{IsPixelAfter, IsPixelWhole, IsDecimalAfter, IsDecimalWhole}
-use Rattle.pnm_read.specs.BufferedReaders.{ReadCall, Finds, Fills, Passes, held_of}
+use Rattle.pnm_read.specs.BufferedReaders.{ReadCall, Finds, Fills, Passes, held_of, HoldsEnough}
 use Rattle.pnm_read.proofs.UnitLaws.{and_turns}
 use Rattle.pnm_read.proofs.PartLaws.{all_are_left, part_is_read, part_fails, none_are_left, one_is_read, one_fails}
-use Rattle.pnm_read.proofs.Turns.{no_fault, turn_then, turn_ok_so, turn_err_so, turn_taken, turn_seen}
+use Rattle.pnm_read.proofs.Turns.{no_fault, turn_then, turn_ok_so, turn_err_so, turn_taken, turn_seen, nothing_left}
+use Rattle.pnm_read.proofs.EndSteps.{none_held, end_seen}
 
 -- a sample, and what is left of the text
 abbrev sample_done : ℕ → List ℕ → Result (ℕ × List ℕ) InputFault
@@ -141,6 +142,19 @@ end_is_bad {mid = mid} byte bytes held first apart t =
     turn_ok_so {A = Unit {0}} {B = Unit {0}} tt (Err BadSample) (λ e. absurd cc) (λ b a o.
     let whole : b ≡ bytes ++ o.1.0 = o.0 ∙ o.1.2 ∙ ap (λ (l : List ℕ). l ++ o.1.0) (sym held) in
     inl (ap (λ (t : Bool). end_if t b) (ap begins_apart whole ∙ begins_by byte bytes o.1.0 first ∙ apart)))
+    (turn_seen t)
+
+-- no byte comes after the last sample
+pub end_is_there : {R : Type 0} {left : R → Option (List ℕ)} {failures : R → ℕ} {same : R → R → Type 0} {old mid : BufferedReader R} (bytes : List ℕ)
+    → bytes ≡ held_of mid → None ≡ slice_get bytes 0 → HoldsEnough 1 mid
+    → ReadCall {A = Unit {0}} left failures same old mid (Ok tt) (Fills (Ok tt))
+    → ReadCall {A = Unit {0}} left failures same old mid (Ok tt) (Passes after_last_item (Ok tt))
+unfolding after_last_item
+end_is_there {mid = mid} bytes held none enough t =
+    let empty = none_held bytes (held_of mid) held none in
+    turn_ok_so {A = Unit {0}} {B = Unit {0}} tt (Ok tt) (no_fault tt ReadFailed) (λ b a o.
+    let last = nothing_left mid a empty (end_seen mid enough empty) o.1 in
+    ap after_last_item (o.0 ∙ last) ∙ ap (λ (l : List ℕ). Ok l) (sym last))
     (turn_seen t)
 
 -- ---- the samples of a row

@@ -153,6 +153,16 @@ impl<R: BytesIn> Source<R> {
         if has_row(&self.state) {
             return self.give_row(spares);
         }
+        self.take_step(awaited)
+    }
+
+    /// The next message where this is awaited and no row is.
+    fn take_step(&mut self, awaited: Awaited) -> Result<Option<Message>, InputFault>
+        requires { HasRow (State.Awaits awaited) → ⊥ }
+        ensures read_call { ReadCall R.left R.failures R.same self.old.input self.new.input result
+            (AnswersNext awaited result self.new.state) }
+        ensures stopped { IfErr result (λ fault. stopped_by self.new ≡ Some fault) }
+    {
         match step_at(&mut self.input, awaited) {
             Ok(step) => {
                 self.state = step.state;

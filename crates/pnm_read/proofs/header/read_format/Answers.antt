@@ -39,3 +39,8 @@ returns-in-None-2 g c =
     (byte_is c.in_ok-next_byte.field-0 80 b o.0 (c.in-Some-eq80.is ∙ ap (λ (byte : ℕ). Some byte) c.in-Some-eq80.field-0-test) o.1)
     (no_byte c.in_ok-byte.field-0 o.0 a c.in-None-2.is o.2)))
     (turn_then c.in_ok-next_byte.field-0 g.met.R.BytesIn.same_later c.in_ok-next_byte.ensures c.in_ok-byte.ensures)
+
+pub returns-in_err-next_byte : goal.returns-in_err-next_byte
+returns-in_err-next_byte g c =
+    let p = err_from_is_err_and c.from_residual.result c.from_residual.ensures.1 in
+    rw (p.1, p.2) (turn_err_so c.in_err-next_byte.field-0.0 (λ b a o. inr o) c.in_err-next_byte.ensures)

@@ -1,6 +1,7 @@
-use Rattle.std.proofs.Common.{◌≡◌, ℕ, List, Option, Some, None, Ok, Err, inl, inr, refl}
+use Rattle.std.proofs.Common.{◌≡◌, ◌==◌, ℕ, false, List, Option, Some, None, Ok, Err, inl, inr, refl, sym, ◌∙◌}
+use Rattle.std.proofs.lemmas.Bool.{ne_eqb}
 use Rattle.std.proofs.lemmas.Result.{err_from_is_err_and}
-use Rattle.pnm_read.specs.declared.fault.InputFault.TheVariants.{HeaderCut, ReadFailed}
+use Rattle.pnm_read.specs.declared.fault.InputFault.TheVariants.{BadPamLine, HeaderCut, ReadFailed}
 use Rattle.pnm_read.specs.Items.{line_feed_item}
 use Rattle.pnm_read.specs.BufferedReaders.{IsByte}
 use Rattle.pnm_read.proofs.Turns.{turn_err_so, turn_ok_so, no_fault}
@@ -31,3 +32,16 @@ pub returns-in-None : goal.returns-in-None
 returns-in-None g c =
     turn_ok_so c.in_ok-next_byte.field-0 (Err HeaderCut) (λ e. absurd cc)
     (λ b a o. inl (no_feed c.in_ok-next_byte.field-0 c.in-None.is b a o)) c.in_ok-next_byte.ensures
+
+other_byte : (found : Option ℕ) (byte : ℕ) → found ≡ Some byte → (byte ≡ 10 → ⊥) → (b a : List ℕ) → IsByte (Ok found) b a
+    → line_feed_item b ≡ Err BadPamLine
+unfolding line_feed_item
+other_byte None byte e other b a o = absurd cc
+other_byte (Some x) byte e other b a o =
+    let is : (x == 10) ≡ false = ne_eqb x 10 (λ ten. other (let same : x ≡ byte = cc in sym same ∙ ten)) in
+    rw (o, is) refl
+
+pub returns-in-Some : goal.returns-in-Some
+returns-in-Some g c =
+    turn_ok_so c.in_ok-next_byte.field-0 (Err BadPamLine) (λ e. absurd cc)
+    (λ b a o. inl (other_byte c.in_ok-next_byte.field-0 c.in-Some.field-0 c.in-Some.is c.in-Some.field-0-test.1 b a o)) c.in_ok-next_byte.ensures

@@ -1,6 +1,7 @@
-use Rattle.std.proofs.Common.{inr, sym, ◌∙◌}
+use Rattle.std.proofs.Common.{◌≡◌, ℕ, inr, Option, None, Bor, slice_get, sym, ap, ◌∙◌}
+use Rattle.std.specs.Option.{option_copied}
 use Rattle.std.proofs.lemmas.Result.{err_from_is_err_and}
-use Rattle.pnm_read.proofs.PlainSteps.{end_goes_on, end_is_bad}
+use Rattle.pnm_read.proofs.PlainSteps.{end_goes_on, end_is_bad, end_is_there}
 use Rattle.pnm_read.proofs.Turns.{turn_err_so}
 use Rattle.pnm_read.proofs.plain.check_end.Goals as goal
 
@@ -18,3 +19,9 @@ pub returns-in_default : goal.returns-in_default
 returns-in_default g c =
     end_goes_on c.in-Some.byte.now c.bytes.result.now c.bytes.ensures c.in-Some.ensures.value (sym c.is_apart.ensures ∙ c.if-not-is_apart.false)
     c.in_ok-fill.ensures.read_call
+
+pub returns-in_default-2 : goal.returns-in_default-2
+returns-in_default-2 g c =
+    let first : None ≡ slice_get c.bytes.result.now 0 =
+    ap (λ (found : Option (Bor ℕ)). option_copied found) (sym c.in_default.is) ∙ c.first.ensures.value in
+    end_is_there c.bytes.result.now c.bytes.ensures first c.in_ok-fill.ensures.enough c.in_ok-fill.ensures.read_call

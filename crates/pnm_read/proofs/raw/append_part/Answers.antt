@@ -1,4 +1,5 @@
-use Rattle.std.proofs.Common.{◌≤◌, ◌*◌, length, sym, arith, ◌∙◌}
+use Rattle.std.proofs.Common.{ℕ, ◌≤◌, ◌*◌, All, length, sym, subst, arith, ◌∙◌}
+use Rattle.std.proofs.lemmas.List.Elements.{All-append}
 use Rattle.std.proofs.lemmas.Result.{err_from_is_err_and}
 use Rattle.pnm_read.specs.BufferedReaders.{held_of}
 use Rattle.pnm_read.proofs.PartSteps.{words_cut, words_fail, words_read}
@@ -22,3 +23,8 @@ returns-clause-found g c =
     let few : c.min-count.result * 2 ≤ length (held_of c.fill.new.self) = rw (sym c.bytes-bytes.ensures) (omega arith) in
     words_read c.args.maxval c.args.most c.min-count.result c.args.row.now.items c.append_wide.new.row.items c.in_ok-fill.ensures.read_call (omega arith) few
     (rw (sym c.bytes-bytes.ensures) c.in_ok-append_wide.ensures) c.advance.ensures.reader c.advance.ensures.ended c.advance.ensures.held
+
+pub returns-clause-within : goal.returns-clause-within
+returns-clause-within g c = λ old.
+    let most = λ (sample : ℕ). sample ≤ c.args.maxval in
+    subst (All most) (sym c.in_ok-append_wide.ensures.0) (All-append most c.args.row.now.items _ old c.in_ok-append_wide.ensures.1)

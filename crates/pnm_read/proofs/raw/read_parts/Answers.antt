@@ -1,10 +1,10 @@
-use Rattle.std.proofs.Common.{[], ◌≡◌, ◌-◌, ◌+◌, ℕ, List, ◌++◌, length, take, ap, sym, arith, ◌∙◌}
+use Rattle.std.proofs.Common.{[], ◌≡◌, ◌-◌, ◌+◌, ℕ, List, ◌++◌, length, take, ap, sym, subst, arith, ◌∙◌}
 use borrow.Rule.Slice.PartMut.{post_of}
 use Rattle.std.specs.Vec.{with_items}
 use Rattle.std.proofs.lemmas.Grind.{common_steps}
 use Rattle.std.proofs.lemmas.List.{take_all}
 use Rattle.std.proofs.lemmas.Result.{err_from_is_err_and}
-use Rattle.pnm_read.specs.Units.{samples_of_bytes}
+use Rattle.pnm_read.specs.Units.{samples_of_bytes, AreBytesWithin}
 use Rattle.pnm_read.proofs.ReadSteps.{range_length}
 use Rattle.pnm_read.proofs.PartSteps.{no_bytes, no_bytes_within, samples_of_both, both_within, prefix_grown}
 use Rattle.pnm_read.proofs.RawSteps.{units_begin, part_read, part_fault, units_read}
@@ -69,3 +69,8 @@ returns-clause-found g c =
     c.requires.count (omega arith)
     (sym (ap (samples_of_bytes c.args.sample_width)
     (take_all c.loop-filled.filled c.loop-filled.row.items (omega (arith, c.loop-filled.row.ok.0, c.loop-filled.invariant.2)))))
+
+pub returns-clause-within : goal.returns-clause-within
+returns-clause-within g c =
+    subst (AreBytesWithin c.args.sample_width c.args.shape.maxval)
+    (take_all c.loop-filled.filled c.loop-filled.row.items (omega (arith, c.loop-filled.row.ok.0, c.loop-filled.invariant.2))) c.loop-filled.invariant.3

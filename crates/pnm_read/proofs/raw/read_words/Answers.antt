@@ -1,6 +1,8 @@
-use Rattle.std.proofs.Common.{refl, arith}
+use Rattle.std.proofs.Common.{◌≤◌, All, refl, sym, subst, arith}
+use Rattle.std.proofs.lemmas.List.Elements.{All-nil}
+use Rattle.pnm_image.specs.declared.sample_width.SampleWidth.TheVariants.{Words}
 use Rattle.std.proofs.lemmas.Result.{err_from_is_err_and}
-use Rattle.pnm_read.proofs.RawSteps.{part_read, part_fault, units_read}
+use Rattle.pnm_read.proofs.RawSteps.{units_begin, part_read, part_fault, units_read}
 use Rattle.pnm_read.proofs.raw.read_words.Goals as goal
 
 pub returns-in_err-left-clause-found : goal.returns-in_err-left-clause-found
@@ -21,3 +23,9 @@ pub returns-clause-found : goal.returns-clause-found
 returns-clause-found g c =
     units_read (λ row. row.items) c.args.shape c.loop-left.row c.loop-left.invariant.0 c.requires.sample_width c.units_in_row-left.ensures
     c.loop-left-test.false refl
+
+pub loop-left-init : goal.loop-left-init
+loop-left-init g c = (
+  units_begin Words c.args.shape.maxval c.units_in_row-left.result c.in-Ok.row.items c.args.input.now g.met.R.BytesIn.same_at_once c.in-Ok.ensures.items,
+  subst (All (λ sample. sample ≤ c.args.shape.maxval)) (sym c.in-Ok.ensures.items) (All-nil (λ sample. sample ≤ c.args.shape.maxval)),
+)

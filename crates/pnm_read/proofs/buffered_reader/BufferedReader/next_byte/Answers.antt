@@ -1,7 +1,8 @@
-use Rattle.std.proofs.Common.{◌≡◌, ℕ, List, [], ◌∷◌, ◌++◌, drop, Option, Some, Ok, slice_get, refl, ◌∙◌}
+use Rattle.std.proofs.Common.{◌≡◌, ℕ, List, [], ◌∷◌, ◌++◌, drop, Option, Some, None, Ok, slice_get, refl, ◌∙◌}
 use Rattle.std.proofs.lemmas.Result.{err_from_is_err_and}
 use Rattle.pnm_read.specs.declared.fault.InputFault.TheVariants.{ReadFailed}
-use Rattle.pnm_read.proofs.Turns.{turn_err_so, turn_advance, no_fault}
+use Rattle.pnm_read.proofs.EndSteps.{none_held, end_seen}
+use Rattle.pnm_read.proofs.Turns.{turn_err_so, turn_ok_so, turn_seen, turn_advance, no_fault, nothing_left}
 use Rattle.pnm_read.proofs.buffered_reader.BufferedReader.next_byte.Goals as goal
 
 -- the byte that is held first
@@ -20,3 +21,10 @@ returns-in-Some g c =
     c.advance.ensures.ended c.advance.ensures.held
     (λ b rest can o. o ∙ first_byte c.in-Some.byte.now c.bytes.result.now _ rest c.bytes.ensures c.in-Some.ensures.value)
     c.in_ok-fill.ensures.read_call
+
+pub returns-in-None : goal.returns-in-None
+returns-in-None g c =
+    let none = none_held c.bytes.result.now _ c.bytes.ensures c.in-None.ensures.value in
+    turn_ok_so {A = Unit {0}} {B = Option ℕ} tt (Ok None) (no_fault {A = Option ℕ} None ReadFailed)
+    (λ b a o. let left = nothing_left c.fill.new.self a none (end_seen c.fill.new.self c.in_ok-fill.ensures.enough none) o.1 in (o.0 ∙ left, left))
+    (turn_seen c.in_ok-fill.ensures.read_call)
