@@ -94,3 +94,7 @@ loop-start-init g c =
       line = omega arith;
       buffer = omega arith;
     }
+
+pub returns-in_err-write_all-clause-same_device : goal.returns-in_err-write_all-clause-same_device
+returns-in_err-write_all-clause-same_device g c =
+    g.met.W.BytesOut.same_later _ _ _ c.loop-start.invariant.sending.same_device c.write_all.ensures.same_device

@@ -30,3 +30,7 @@ loop-left-preserved g c =
           (g.met.W.BytesOut.same_later _ _ _ c.loop-left.invariant.sending.same_device c.in_ok-write_all.ensures.same_device);
       enough = omega arith;
     }
+
+pub returns-in_err-write_all-clause-same_device : goal.returns-in_err-write_all-clause-same_device
+returns-in_err-write_all-clause-same_device g c =
+    g.met.W.BytesOut.same_later _ _ _ c.loop-left.invariant.sending.same_device c.write_all.ensures.same_device

@@ -42,3 +42,7 @@ loop-rest-init g c =
           (row_text_left Gray xs fit) start;
       line = omega arith;
     }
+
+pub returns-in_err-write_all-clause-same_device : goal.returns-in_err-write_all-clause-same_device
+returns-in_err-write_all-clause-same_device g c =
+    g.met.W.BytesOut.same_later _ _ _ c.loop-rest.invariant.sending.same_device c.write_all.ensures.same_device

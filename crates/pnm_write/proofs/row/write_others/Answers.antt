@@ -57,3 +57,7 @@ loop-start-preserved g c =
       omega arith,
       omega (arith, length-append c.copy_to.new.buffer (drop n words), length-drop n words, size),
     )
+
+pub returns-in_err-write_all-clause-same_device : goal.returns-in_err-write_all-clause-same_device
+returns-in_err-write_all-clause-same_device g c =
+    g.met.W.BytesOut.same_later _ _ _ c.loop-start.invariant.0.same_device c.write_all.ensures.same_device

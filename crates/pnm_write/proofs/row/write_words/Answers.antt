@@ -38,3 +38,7 @@ loop-rest-preserved g c =
           (g.met.W.BytesOut.same_later _ _ _ c.loop-rest.invariant.0.same_device c.in_ok-write_all.ensures.same_device),
       rw c.split_at.ensures.back (fit_rest c.of-sample_width.result c.min-count.result c.loop-rest.rest.now c.loop-rest.invariant.1),
     )
+
+pub returns-in_err-write_all-clause-same_device : goal.returns-in_err-write_all-clause-same_device
+returns-in_err-write_all-clause-same_device g c =
+    g.met.W.BytesOut.same_later _ _ _ c.loop-rest.invariant.0.same_device c.write_all.ensures.same_device
