@@ -1,7 +1,7 @@
 -- The greatest of the samples that a loop has passed.
-use Rattle.std.proofs.Common.{◌≤◌, ◌<◌, ◌+◌, ◌≡◌, ◌↔◌, ℕ, All, List, take, length, get_or, arith, max, subst}
+use Rattle.std.proofs.Common.{◌≤◌, ◌<◌, ◌+◌, ◌≡◌, ◌↔◌, ℕ, suc, All, List, [], ◌∷◌, take, length, get_or, arith, max, subst}
 use Rattle.std.proofs.lemmas.List.{take_all, get_or-take, length-take}
-use Rattle.std.proofs.lemmas.List.Elements.{All-more}
+use Rattle.std.proofs.lemmas.List.Elements.{All-nil, All-cons, All-more}
 
 -- a bound of one sample more
 pub greatest_more : (xs : List ℕ) (i g r : ℕ) → i < length xs → r ≡ max (get_or xs i 0) g → ((most : ℕ) → (g ≤ most) ↔ All (λ x. x ≤ most) (take i xs))
@@ -25,3 +25,10 @@ greatest_more xs i g r lt e known most = (
 pub greatest_all : (xs : List ℕ) (i g : ℕ) → length xs ≤ i → ((most : ℕ) → (g ≤ most) ↔ All (λ x. x ≤ most) (take i xs)) → (most : ℕ) → (g ≤ most)
     ↔ All (λ x. x ≤ most) xs
 greatest_all xs i g le known most = subst (λ (ys : List ℕ). (g ≤ most) ↔ All (λ x. x ≤ most) ys) (take_all i xs le) (known most)
+
+-- numbers of a width are within any bound that the width's greatest is within
+pub all_of_width : (xs : List ℕ) (bound most : ℕ) → ((k : ℕ) → get_or xs k 0 < bound) → bound ≤ most + 1 → All (λ x. x ≤ most) xs
+all_of_width [] bound most fits le = All-nil (λ x. x ≤ most)
+all_of_width (x ∷ xs) bound most fits le =
+    let first : x < bound = fits 0 in
+    All-cons (λ x. x ≤ most) x xs (omega arith) (all_of_width xs bound most (λ k. fits (suc k)) le)

@@ -1,5 +1,6 @@
 use Rattle.std.proofs.Common.{◌≤◌, arith}
 use Rattle.std.proofs.lemmas.Bool.{leb-true, le-leb}
+use Rattle.pnm_samples.proofs.BoundLaws.{all_of_width}
 use Rattle.pnm_samples.proofs.bounds.are_bytes_within.Goals as goal
 
 pub returns-else-most-ge-GREATEST_BYTE : goal.returns-else-most-ge-GREATEST_BYTE
@@ -11,3 +12,7 @@ returns-else-most-ge-GREATEST_BYTE c = (
       let le = (c.greatest_byte.ensures c.args.most).1 all in
       le-leb _ _ (omega arith),
 )
+
+pub returns-then-most-ge-GREATEST_BYTE : goal.returns-then-most-ge-GREATEST_BYTE
+returns-then-most-ge-GREATEST_BYTE c =
+    (λ t. all_of_width c.args.bytes.now 256 c.args.most (λ k. omega (arith, c.type_inv.bytes k)) (omega arith), λ all. le-leb _ _ (omega arith))

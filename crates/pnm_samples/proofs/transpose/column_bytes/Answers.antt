@@ -44,3 +44,99 @@ loop-beside-preserved c =
     c.requires.width c.loop-beside.invariant in
     subst (HoldsGroups c.args.byte c.args.width c.div_ceil-groups.result rows g (n + 1)) (sym (written_whole old.len new old.items (old.ok.0 ∙ sym put.many)))
     more
+
+pub bytes_from-requires-clause-width : goal.bytes_from-requires-clause-width
+bytes_from-requires-clause-width c = c.requires.width
+
+pub bytes_from-requires-clause-rows : goal.bytes_from-requires-clause-rows
+bytes_from-requires-clause-rows c = c.requires.rows
+
+pub bytes_from-requires-in-loop-group-clause-width : goal.bytes_from-requires-in-loop-group-clause-width
+bytes_from-requires-in-loop-group-clause-width c = c.requires.width
+
+pub bytes_from-requires-in-loop-group-clause-rows : goal.bytes_from-requires-in-loop-group-clause-rows
+bytes_from-requires-in-loop-group-clause-rows c = c.requires.rows
+
+pub bytes_from-requires-in-loop-group-2-clause-width : goal.bytes_from-requires-in-loop-group-2-clause-width
+bytes_from-requires-in-loop-group-2-clause-width c = c.requires.width
+
+pub bytes_from-requires-in-loop-group-2-clause-rows : goal.bytes_from-requires-in-loop-group-2-clause-rows
+bytes_from-requires-in-loop-group-2-clause-rows c = c.requires.rows
+
+pub bytes_from-requires-in-loop-group-3-clause-width : goal.bytes_from-requires-in-loop-group-3-clause-width
+bytes_from-requires-in-loop-group-3-clause-width c = c.requires.width
+
+pub bytes_from-requires-in-loop-group-3-clause-rows : goal.bytes_from-requires-in-loop-group-3-clause-rows
+bytes_from-requires-in-loop-group-3-clause-rows c = c.requires.rows
+
+pub bytes_from-requires-in-loop-group-4-clause-width : goal.bytes_from-requires-in-loop-group-4-clause-width
+bytes_from-requires-in-loop-group-4-clause-width c = c.requires.width
+
+pub bytes_from-requires-in-loop-group-4-clause-rows : goal.bytes_from-requires-in-loop-group-4-clause-rows
+bytes_from-requires-in-loop-group-4-clause-rows c = c.requires.rows
+
+pub bytes_from-requires-in-loop-group-5-clause-width : goal.bytes_from-requires-in-loop-group-5-clause-width
+bytes_from-requires-in-loop-group-5-clause-width c = c.requires.width
+
+pub bytes_from-requires-in-loop-group-5-clause-rows : goal.bytes_from-requires-in-loop-group-5-clause-rows
+bytes_from-requires-in-loop-group-5-clause-rows c = c.requires.rows
+
+pub bytes_from-requires-in-loop-group-6-clause-width : goal.bytes_from-requires-in-loop-group-6-clause-width
+bytes_from-requires-in-loop-group-6-clause-width c = c.requires.width
+
+pub bytes_from-requires-in-loop-group-6-clause-rows : goal.bytes_from-requires-in-loop-group-6-clause-rows
+bytes_from-requires-in-loop-group-6-clause-rows c = c.requires.rows
+
+pub bytes_from-requires-in-loop-group-7-clause-width : goal.bytes_from-requires-in-loop-group-7-clause-width
+bytes_from-requires-in-loop-group-7-clause-width c = c.requires.width
+
+pub bytes_from-requires-in-loop-group-7-clause-rows : goal.bytes_from-requires-in-loop-group-7-clause-rows
+bytes_from-requires-in-loop-group-7-clause-rows c = c.requires.rows
+
+pub bytes_from-requires-in-loop-group-8-clause-width : goal.bytes_from-requires-in-loop-group-8-clause-width
+bytes_from-requires-in-loop-group-8-clause-width c = c.requires.width
+
+pub bytes_from-requires-in-loop-group-8-clause-rows : goal.bytes_from-requires-in-loop-group-8-clause-rows
+bytes_from-requires-in-loop-group-8-clause-rows c = c.requires.rows
+
+pub bytes_from-requires-in-loop-group-9-clause-width : goal.bytes_from-requires-in-loop-group-9-clause-width
+bytes_from-requires-in-loop-group-9-clause-width c = c.requires.width
+
+pub bytes_from-requires-in-loop-group-9-clause-rows : goal.bytes_from-requires-in-loop-group-9-clause-rows
+bytes_from-requires-in-loop-group-9-clause-rows c = c.requires.rows
+
+pub bytes_from-requires-in-loop-group-10-clause-width : goal.bytes_from-requires-in-loop-group-10-clause-width
+bytes_from-requires-in-loop-group-10-clause-width c = c.requires.width
+
+pub bytes_from-requires-in-loop-group-10-clause-rows : goal.bytes_from-requires-in-loop-group-10-clause-rows
+bytes_from-requires-in-loop-group-10-clause-rows c = c.requires.rows
+
+pub bytes_from-requires-in-loop-group-11-clause-width : goal.bytes_from-requires-in-loop-group-11-clause-width
+bytes_from-requires-in-loop-group-11-clause-width c = c.requires.width
+
+pub bytes_from-requires-in-loop-group-11-clause-rows : goal.bytes_from-requires-in-loop-group-11-clause-rows
+bytes_from-requires-in-loop-group-11-clause-rows c = c.requires.rows
+
+pub bytes_from-requires-in-loop-group-12-clause-width : goal.bytes_from-requires-in-loop-group-12-clause-width
+bytes_from-requires-in-loop-group-12-clause-width c = c.requires.width
+
+pub bytes_from-requires-in-loop-group-12-clause-rows : goal.bytes_from-requires-in-loop-group-12-clause-rows
+bytes_from-requires-in-loop-group-12-clause-rows c = c.requires.rows
+
+pub bytes_from-requires-in-loop-group-13-clause-width : goal.bytes_from-requires-in-loop-group-13-clause-width
+bytes_from-requires-in-loop-group-13-clause-width c = c.requires.width
+
+pub bytes_from-requires-in-loop-group-13-clause-rows : goal.bytes_from-requires-in-loop-group-13-clause-rows
+bytes_from-requires-in-loop-group-13-clause-rows c = c.requires.rows
+
+pub bytes_from-requires-in-loop-group-14-clause-width : goal.bytes_from-requires-in-loop-group-14-clause-width
+bytes_from-requires-in-loop-group-14-clause-width c = c.requires.width
+
+pub bytes_from-requires-in-loop-group-14-clause-rows : goal.bytes_from-requires-in-loop-group-14-clause-rows
+bytes_from-requires-in-loop-group-14-clause-rows c = c.requires.rows
+
+pub bytes_from-requires-in-loop-group-15-clause-width : goal.bytes_from-requires-in-loop-group-15-clause-width
+bytes_from-requires-in-loop-group-15-clause-width c = c.requires.width
+
+pub bytes_from-requires-in-loop-group-15-clause-rows : goal.bytes_from-requires-in-loop-group-15-clause-rows
+bytes_from-requires-in-loop-group-15-clause-rows c = c.requires.rows

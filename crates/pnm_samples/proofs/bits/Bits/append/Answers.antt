@@ -1,8 +1,8 @@
-use Rattle.std.proofs.Common.{◌≡◌, ◌+◌, ◌-◌, ◌++◌, ◌∙◌, ℕ, List, length, take, replicate, ap, ap₂, arith}
+use Rattle.std.proofs.Common.{◌≡◌, ◌+◌, ◌-◌, ◌++◌, ◌∙◌, ℕ, List, length, take, replicate, sym, ap, ap₂, subst, arith}
 use Rattle.std.proofs.lemmas.List.{take_all}
 use Rattle.std.proofs.lemmas.Grind.{common_steps}
 use Rattle.std.specs.Vec.{with_items}
-use Rattle.pnm_samples.specs.Pixels.{all_pixels}
+use Rattle.pnm_samples.specs.Pixels.{all_pixels, ArePacked}
 use Rattle.pnm_samples.proofs.PixelRowLaws.{length_of_packed, appended_view}
 use Rattle.pnm_samples.proofs.bits.Bits.append.Goals as goal
 
@@ -37,3 +37,9 @@ returns-clause-appended c =
     (rw c.as_slice.ensures.value at c.place_run.ensures)
     (replicate more 0) grown (omega (arith, c.self.invariant.enough)) c.self.view_is
     (omega (arith, length_of_packed c.from.inside.count c.from.inside.bytes.items c.from.invariant, ap length c.from.view_is)) c.from.view_is
+
+pub invariant_of-self-2 : goal.invariant_of-self-2
+invariant_of-self-2 c =
+    let last : (with_items (with_items c.resize.new.self c.place_run.new.buffer) c.clear_spare.new.bytes).items ≡ c.clear_spare.new.bytes =
+    grind (arith, common_steps) in
+    subst (ArePacked (c.self.inside.count + c.args.count)) (sym last) c.clear_spare.ensures.spare

@@ -1,7 +1,7 @@
-use Rattle.std.proofs.Common.{◌≡◌, ◌*◌, ◌∙◌, min, length, take, ap, arith}
+use Rattle.std.proofs.Common.{◌≡◌, ◌*◌, ◌∙◌, min, length, take, sym, ap, subst, arith}
 use Rattle.std.proofs.lemmas.Grind.{common_steps}
 use Rattle.std.specs.Vec.{with_items}
-use Rattle.pnm_samples.specs.Pixels.{all_pixels}
+use Rattle.pnm_samples.specs.Pixels.{all_pixels, ArePacked}
 use Rattle.pnm_samples.proofs.PixelRowLaws.{prefix_of_bytes}
 use Rattle.pnm_samples.proofs.bits.Bits.new.Goals as goal
 
@@ -14,3 +14,8 @@ returns c =
     ap (λ l. take kept (all_pixels l)) last
     ∙ prefix_of_bytes c.args.bytes.items c.clear_spare.new.bytes c.args.count kept c.div_ceil.result size (omega (arith, c.div_ceil.ensures))
     (c.clear_spare.ensures.kept ∙ ap (λ l. take kept (all_pixels l)) (c.as_mut_slice.ensures.value ∙ c.truncate.ensures.items))
+
+pub invariant_of-result : goal.invariant_of-result
+invariant_of-result c =
+    let last : (with_items c.truncate.new.self c.clear_spare.new.bytes).items ≡ c.clear_spare.new.bytes = grind (arith, common_steps) in
+    subst (ArePacked c.min-count.result) (sym last) c.clear_spare.ensures.spare
