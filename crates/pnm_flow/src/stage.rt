@@ -10,6 +10,9 @@ use pnm_tools::Tool;
 use std::alloc::Global;
 use std::sync::Wait;
 
+/// Passes what comes on `input` through the tool to `output`, message by message, until the stream
+/// has ended. The gate is called once, with the tool's number and lane 0, before the first message is
+/// taken. Where the input's other end is dropped early, or the output's, the stage ends by `PeerGone`;
 /// else only once the end of the stream or Stop was taken.
 pub fn run_stage<R: Wait, G: Gate>(
     rt: &R,

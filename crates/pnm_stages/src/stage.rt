@@ -56,10 +56,6 @@ pub struct StageDone {
     pub end: StageEnd,
 }
 
-/// Passes what comes on `input` through the tool to `output`, message by message, until the stream
-/// has ended. The gate is called once, with the tool's number and lane 0, before the first message is
-/// taken. Where the input's other end is dropped early, or the output's, the stage ends by `PeerGone`;
-
 /// Passes what comes on `input` through a tool at work, or one that has refused, to `output`, as `run_stage` does
 /// behind its gate.
 pub fn run_filter<R: Wait, F: Filter + Drop>(
