@@ -48,8 +48,8 @@ check: toolchain
 	python3 scripts/cases.py
 	tail -n 1 bin/gate
 
-# lines, functions and files that are too long, the stored commands, the scripts, pages and documents: in seconds, and with
-# what is installed
+# what rt fmt would change, lines, functions and files that are too long, the stored commands, the scripts, pages and
+# documents: in seconds, and with what is installed
 BUILT ?= bin/pnmpipe
 scripts:
 	python3 scripts/style.py

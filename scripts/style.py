@@ -1,5 +1,6 @@
 #!/usr/bin/env python3
-"""Wants the layout that rt fmt doesn't keep: lines, functions and files of the crates that are not too long.
+"""Wants the layout of rt fmt, where the toolchain is there, and what rt fmt doesn't keep: lines, functions and files of
+the crates that are not too long.
 
 Code, clauses and definitions have at most 120 columns, proofs at most 160; a line with a text of more than 60
 characters passes, since a text isn't broken. A file has at most 500 lines, a function's body, which is what its braces
@@ -9,6 +10,8 @@ crates.
 
 import os
 import re
+import shutil
+import subprocess
 import sys
 
 ROOT = os.path.dirname(os.path.dirname(os.path.abspath(__file__)))
@@ -76,18 +79,36 @@ def sources(folder):
                 yield os.path.join(at, file)
 
 
+def formatter():
+    """The command by which rt fmt lays out files: it stands beside rt. None where there is no toolchain."""
+    rt = shutil.which("rt")
+    rattle = os.path.join(os.path.dirname(os.path.realpath(rt)), "rattle") if rt else ""
+    return rattle if os.access(rattle, os.X_OK) else None
+
+
+def not_laid_out(rattle, paths):
+    """What rt fmt would change of these files, which stay as they are, or can't read."""
+    made = subprocess.run([rattle, "fmt", "--check", *paths], capture_output=True, text=True, check=False)
+    told = (made.stdout + made.stderr).strip()
+    return told.split("\n") if made.returncode else []
+
+
 def main():
-    folders = sys.argv[1:] or [os.path.join(ROOT, "crates")]
-    files, found = 0, 0
-    for path in (it for folder in folders for it in sources(folder)):
-        files += 1
-        with open(path, encoding="utf-8") as file:
-            for finding in findings(os.path.relpath(path, ROOT), file.read()):
-                print(f"style: {finding}")
-                found += 1
-    if not files:
+    paths = [it for folder in sys.argv[1:] or [os.path.join(ROOT, "crates")] for it in sources(folder)]
+    if not paths:
         sys.exit("style: there is no source to read")
-    print(f"style: {files} files, {found} findings")
+    found = []
+    for path in paths:
+        with open(path, encoding="utf-8") as file:
+            found += findings(os.path.relpath(path, ROOT), file.read())
+    rattle = formatter()
+    if rattle:
+        found += not_laid_out(rattle, paths)
+    else:
+        print("style: there is no toolchain, so the layout of rt fmt isn't looked at")
+    for finding in found:
+        print(f"style: {finding}")
+    print(f"style: {len(paths)} files, {len(found)} findings")
     return 1 if found else 0
 
 

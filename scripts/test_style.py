@@ -1,6 +1,9 @@
 #!/usr/bin/env python3
-"""Tests of style.py: what is just within each limit passes, one line or column more is told. `make scripts` runs it."""
+"""Tests of style.py: what is just within each limit passes, one line or column more is told, and so is a file that rt
+fmt would change, which stays as it is. `make scripts` runs it."""
 
+import os
+import tempfile
 import unittest
 
 import style
@@ -56,6 +59,28 @@ class Limits(unittest.TestCase):
         closure = ["    let it = || -> u8", "        requires { a", "            b }", "        ensures { c }", "    {"]
         self.assertEqual(self.told(RT, function(38, before=closure)), [])
         self.assertEqual(len(self.told(RT, function(39, before=closure))), 1)
+
+
+@unittest.skipUnless(style.formatter(), "there is no toolchain")
+class Layout(unittest.TestCase):
+    def told(self, name, text):
+        with tempfile.TemporaryDirectory() as folder:
+            path = os.path.join(folder, name)
+            with open(path, "w", encoding="utf-8") as file:
+                file.write(text)
+            told = style.not_laid_out(style.formatter(), [path])
+            with open(path, encoding="utf-8") as file:
+                self.assertEqual(file.read(), text)
+        return [it.replace(path, name) for it in told]
+
+    def test_what_rt_fmt_would_change(self):
+        self.assertEqual(self.told("lib.rt", "fn f() {}\n"), [])
+        self.assertEqual(self.told("lib.rt", "fn  f() {}\n"), ["lib.rt is not in the layout"])
+        self.assertEqual(self.told("Lib.antt", "pub mod Rows\n"), [])
+        self.assertEqual(self.told("Lib.antt", "pub  mod Rows\n"), ["Lib.antt is not in the layout"])
+
+    def test_what_rt_fmt_cannot_read(self):
+        self.assertNotEqual(self.told("lib.rt", "fn f( {\n"), [])
 
 
 if __name__ == "__main__":
