@@ -11,6 +11,9 @@ SOURCES = ("src", "specs", "proofs")
 # a library whose tests are of the whole command: those of the program, and the commands stored beside it
 TESTED_IN = {"pnm_command_line": ["pnmpipe"]}
 
+# where tests of want of memory stand, of the crates that it names
+OF_MEMORY = "pnm_image_tests"
+
 SIGNALS = (signal.SIGINT, signal.SIGTERM, signal.SIGHUP)
 
 
@@ -67,6 +70,6 @@ def tests_of(crates, name):
     output is stored beside it."""
     own = [it for it in (f"{name}_tests", f"{name}_cases") if it in crates]
     if own:
-        return own + [it for it in ("pnm_memory_tests",) if name in crates.get(it, ())]
+        return own + [it for it in (OF_MEMORY,) if it not in own and name in crates.get(it, ())]
     named = [it for it in crates if it.endswith(("_tests", "_cases")) and name in crates[it]]
     return named or TESTED_IN.get(name, [name])

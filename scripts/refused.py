@@ -31,7 +31,7 @@ PROGRAM = os.path.join(ROOT, "crates/pnmpipe")
 MEMORY = re.compile(r"pnmpipe: (command line: Memory|chain: Memory|NoStart|input: Memory|tool [0-9]+: Memory)\n")
 
 # crates whose tests are refused, where their names have this word
-TESTED = ["pnm_memory_tests", "pnm_flow_tests", "pnmpipe"]
+TESTED = ["pnm_image_tests", "pnm_flow_tests", "pnmpipe"]
 OF_MEMORY = "memory::"
 
 # no command makes more allocations than this, and none has more tools

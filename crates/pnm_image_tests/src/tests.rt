@@ -1,20 +1,33 @@
-//! What no clause says: the limits in figures, printed names, that calls can succeed, and devices
-//! that fail.
+//! What no clause says: the limits in figures, printed names, that calls can succeed, devices that fail, and what is
+//! answered where memory runs out.
 
 use std::fmt;
 use std::process::Abort;
 
 mod callers;
+mod chain_memory;
 mod devices;
 mod formats;
 mod heads;
+mod memory;
 mod messages;
 mod places;
 mod texts;
+mod tools;
 
-/// Stops the test where the two aren't the same, and shows them. An assertion that shows its values is dear to
-/// prove: this one stands for those of many tests.
-fn same<T: PartialEq + fmt::Debug, P: fmt::Debug>(rt: &impl Abort, given: &T, want: &T, place: &P) {
-    let is_so = given == want;
+/// Stops the test where it isn't so, and shows what is given, what is wanted and where. An assertion that shows its
+/// values is dear to prove: this one stands for those of many tests.
+fn holds<G: fmt::Debug, W: fmt::Debug, P: fmt::Debug>(
+    rt: &impl Abort,
+    is_so: bool,
+    given: &G,
+    want: &W,
+    place: &P,
+) {
     assert!(rt; is_so, "{given:?} in place of {want:?} at {place:?}");
+}
+
+/// Stops the test where the two aren't the same, and shows them.
+fn same<T: PartialEq + fmt::Debug, P: fmt::Debug>(rt: &impl Abort, given: &T, want: &T, place: &P) {
+    holds(rt, given == want, given, want, place);
 }

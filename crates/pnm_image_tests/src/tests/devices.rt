@@ -15,24 +15,33 @@ use std::test::Fail;
 fn reads_to_the_end(rt: HostRuntime) {
     let mut reader = Device::new([1, 2, 3, 4].as_slice());
     let mut buffer = [9; 3];
-    same(&rt, &reader.read(&mut []), &Ok(0), &"an empty buffer");
-    same(&rt, &reader.read(&mut buffer), &Ok(3), &"the first read");
-    same(&rt, &buffer, &[1, 2, 3], &"the first read");
-    same(&rt, &reader.read(&mut buffer), &Ok(1), &"the second read");
-    same(&rt, &buffer, &[4, 2, 3], &"the second read");
-    same(&rt, &reader.read(&mut buffer), &Ok(0), &"the last read");
-    same(&rt, &reader.into_inner(), &[].as_slice(), &"the end");
+    reads(&rt, &mut reader, &mut [], 0, &[]);
+    for (count, held) in [(3, [1, 2, 3]), (1, [4, 2, 3]), (0, [4, 2, 3])] {
+        reads(&rt, &mut reader, &mut buffer, count, &held);
+    }
+    holds_bytes(&rt, reader.into_inner(), &[]);
+}
+
+/// The next read gives so many bytes, and the buffer holds these then.
+fn reads<R: BytesIn>(
+    rt: &impl Abort,
+    reader: &mut R,
+    buffer: &mut [u8],
+    count: usize,
+    held: &[u8],
+) {
+    same(rt, &reader.read(&mut *buffer), &Ok(count), &held);
+    holds_bytes(rt, buffer, held);
 }
 
 /// Several reads of 64 bytes.
 #[test]
 fn reads_in_several_reads(rt: HostRuntime) -> Result<(), Fail> {
     let bytes: Vec<u8> = (0..200).collect(rt.alloc())?;
-    let mut text = [255].to_vec(rt.alloc())?;
+    let mut text = Vec::from_slice(rt.alloc(), &[255])?;
     read_all(&mut Device::new(bytes.as_slice()), &mut text)?;
-    let mut want = [255].to_vec(rt.alloc())?;
-    want.extend_from_slice(bytes.as_slice())?;
-    same(&rt, &text.as_slice(), &want.as_slice(), &"the end");
+    let want = Some((&255, bytes.as_slice()));
+    same(&rt, &text.as_slice().split_first(), &want, &"the end");
     Ok(())
 }
 

@@ -80,14 +80,22 @@ fn keeps_fields(rt: HostRuntime) -> Result<(), Fail> {
         has_fields(&rt, &head, shape, tuple_type);
         let copy = head.copy()?;
         has_fields(&rt, &copy, shape, tuple_type);
-        let none = head.with_height(0);
-        has_fields(&rt, &none, Shape { height: 0, ..shape }, tuple_type);
-        assert!(rt; Place::new().accepts(&Message::Begin(none)));
-        let height = 16_777_216;
-        let most = copy.with_height(height);
-        has_fields(&rt, &most, Shape { height, ..shape }, tuple_type);
+        changes_height(&rt, head, 0, tuple_type);
+        changes_height(&rt, copy, 16_777_216, tuple_type);
     }
     Ok(())
+}
+
+/// Another height changes the height alone, and a stream may begin with the head then.
+fn changes_height(rt: &impl Abort, head: Head, height: u32, tuple_type: &[u8]) {
+    let shape = Shape {
+        height,
+        ..head.shape()
+    };
+    assert!(rt; height <= 16_777_216);
+    let other = head.with_height(height);
+    has_fields(rt, &other, shape, tuple_type);
+    assert!(rt; Place::new().accepts(&Message::Begin(other)));
 }
 
 /// A kind, a depth, a maxval and a tuple type, and whether they suit each other.

@@ -1,24 +1,11 @@
 //! Tools of the tests, and what is wanted of them.
 
-use pnm_filters::ToolState;
+use super::holds;
 use pnm_image::Message;
 use pnm_test_support::Unmade;
 use pnm_tools::{CutBox, Filter, Planes, Tool, ToolFault};
 use std::alloc::Global;
-use std::fmt;
 use std::process::Abort;
-
-/// Stops the test where it isn't so, and shows what is given, what is wanted and under what. An assertion
-/// that shows its values is dear to prove: this one stands for those of many tests.
-pub(super) fn holds<G: fmt::Debug, W: fmt::Debug, U: fmt::Debug>(
-    rt: &impl Abort,
-    is_so: bool,
-    given: &G,
-    want: &W,
-    under: &U,
-) {
-    assert!(rt; is_so, "{given:?} in place of {want:?} under {under:?}");
-}
 
 /// A cut that keeps all.
 pub(super) const WHOLE: CutBox = CutBox {
@@ -50,14 +37,14 @@ pub(super) fn picks(rt: &impl Abort, tool: &Tool, numbers: &[u16], tuple_type: &
 }
 
 /// The state answers nothing but this fault, whatever it is asked.
-pub(super) fn stays(rt: &impl Abort, state: &mut ToolState, fault: ToolFault) {
+pub(super) fn stays<F: Filter>(rt: &impl Abort, state: &mut F, fault: ToolFault) {
     refuses_again(rt, state, Message::StreamEnd, fault);
     refuses_again(rt, state, Message::Stop, fault);
     refuses_again(rt, state, Message::ImageEnd, fault);
 }
 
 /// The state gives nothing but this fault, and answers this message by it.
-fn refuses_again(rt: &impl Abort, state: &mut ToolState, message: Message, fault: ToolFault) {
+fn refuses_again<F: Filter>(rt: &impl Abort, state: &mut F, message: Message, fault: ToolFault) {
     let answer = state.next();
     let is_so = matches!(answer, Err(other) if other == fault);
     holds(rt, is_so, &answer, &fault, &"next");

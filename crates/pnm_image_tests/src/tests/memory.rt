@@ -2,9 +2,10 @@
 //! answers `Memory`, and a tool at work answers it for good though memory is there again.
 //! `scripts/refused.py tests` refuses each allocation of these tests in turn.
 
-use super::tools::{WHOLE, channel, holds, picks, stays};
+use super::holds;
+use super::tools::{WHOLE, channel, picks, stays};
 use pnm_filters::{ToolState, result_head, start_tool};
-use pnm_image::Message;
+use pnm_image::{Head, Message};
 use pnm_test_support::{Part, is_made_of, message};
 use pnm_tools::{CutBox, Filter, FlipWay, Tool, ToolFault};
 use std::alloc::Global;
@@ -164,14 +165,14 @@ fn is_memory(rt: &impl Abort, fault: ToolFault) {
 }
 
 /// Memory ran out, and the tool answers that for good.
-fn has_run_out(rt: &impl Abort, state: &mut ToolState, fault: ToolFault) {
+fn has_run_out<F: Filter>(rt: &impl Abort, state: &mut F, fault: ToolFault) {
     is_memory(rt, fault);
     stays(rt, state, ToolFault::Memory);
 }
 
 /// Takes what the tool gives, which is made of the parts that are next among these. Whether the
 /// tool goes on.
-fn takes(rt: &impl Abort, state: &mut ToolState, wants: &[Part<'_>], given: &mut usize) -> bool {
+fn takes<F: Filter>(rt: &impl Abort, state: &mut F, wants: &[Part<'_>], given: &mut usize) -> bool {
     for _ in 0..wants.len() + 1 {
         match state.next() {
             Ok(Some(message)) => {
@@ -188,37 +189,37 @@ fn takes(rt: &impl Abort, state: &mut ToolState, wants: &[Part<'_>], given: &mut
     panic!(rt; "the answers have no end")
 }
 
-/// The tool answers the image with these parts, or `Memory` from some message on. Whether nothing was
-/// refused.
-fn answers_image(rt: &impl Abort, alloc: Global, tool: &Tool, wants: &[Part<'_>]) -> bool {
+/// The tool, which has to be lawful, at work; none where memory ran out.
+fn start(rt: &impl Abort, alloc: Global, tool: &Tool) -> Option<ToolState> {
     assert!(rt; tool.is_lawful());
     match start_tool(alloc, tool) {
-        Ok(mut state) => answers_parts(rt, alloc, &mut state, wants),
+        Ok(state) => Some(state),
         Err(fault) => {
             is_memory(rt, fault);
-            false
+            None
         }
     }
 }
 
+/// The tool answers the image with these parts, or `Memory` from some message on. Whether nothing was
+/// refused.
+fn answers_image(rt: &impl Abort, alloc: Global, tool: &Tool, wants: &[Part<'_>]) -> bool {
+    match start(rt, alloc, tool) {
+        Some(mut state) => answers_parts(rt, alloc, &mut state, wants),
+        None => false,
+    }
+}
+
 /// The tool at work answers with these parts, or `Memory` from some message on.
-fn answers_parts(
+fn answers_parts<F: Filter>(
     rt: &impl Abort,
     alloc: Global,
-    state: &mut ToolState,
+    state: &mut F,
     wants: &[Part<'_>],
 ) -> bool {
     let mut given = 0;
     for part in IMAGE {
-        // Where no message can be made, the test ends.
-        let Ok(message) = message(alloc, *part) else {
-            return false;
-        };
-        if let Err(fault) = state.feed(message) {
-            has_run_out(rt, state, fault);
-            return false;
-        }
-        if !takes(rt, state, wants, &mut given) {
+        if !feeds(rt, alloc, state, *part) || !takes(rt, state, wants, &mut given) {
             return false;
         }
     }
@@ -226,17 +227,48 @@ fn answers_parts(
     true
 }
 
+/// The tool at work is fed the message that is made of this, or answers `Memory`. Whether it goes on; where no message
+/// can be made, the test ends.
+fn feeds<F: Filter>(rt: &impl Abort, alloc: Global, state: &mut F, part: Part<'_>) -> bool {
+    let Ok(message) = message(alloc, part) else {
+        return false;
+    };
+    match state.feed(message) {
+        Ok(()) => true,
+        Err(fault) => {
+            has_run_out(rt, state, fault);
+            false
+        }
+    }
+}
+
 /// The head rule answers the image's head with this, or with `Memory`, and then with this. Whether
 /// nothing was refused.
 fn answers_head(rt: &impl Abort, alloc: Global, tool: &Tool, want: Part<'_>) -> bool {
-    assert!(rt; tool.is_lawful());
     let Ok(Message::Begin(head)) = message(alloc, Part::Pam(3, 2, 2, 4, "A")) else {
         return false;
     };
-    let (answer, refused) = match result_head(alloc, tool, &head) {
-        Err(ToolFault::Memory) => (result_head(alloc, tool, &head), true),
+    let (answer, refused) = head_by(rt, alloc, tool, &head);
+    is_head(rt, tool, answer, want);
+    !refused
+}
+
+/// What the head rule of the tool answers, asked again where that is `Memory`; and whether it was.
+fn head_by(
+    rt: &impl Abort,
+    alloc: Global,
+    tool: &Tool,
+    head: &Head,
+) -> (Result<Head, ToolFault>, bool) {
+    assert!(rt; tool.is_lawful());
+    match result_head(alloc, tool, head) {
+        Err(ToolFault::Memory) => (result_head(alloc, tool, head), true),
         answer => (answer, false),
-    };
+    }
+}
+
+/// The head rule of the tool has answered this.
+fn is_head(rt: &impl Abort, tool: &Tool, answer: Result<Head, ToolFault>, want: Part<'_>) {
     match answer {
         Ok(head) => {
             let begin = Message::Begin(head);
@@ -244,7 +276,6 @@ fn answers_head(rt: &impl Abort, alloc: Global, tool: &Tool, want: Part<'_>) -> 
         }
         Err(fault) => holds(rt, false, &fault, &want, tool),
     }
-    !refused
 }
 
 #[test]

@@ -1,6 +1,0 @@
-//! Tests of want of memory, of tools and of the text of a chain: `scripts/refused.py tests` refuses each of their
-//! allocations. They stand in a crate of their own since a crate that has tests is proved twice.
-#![tactic(auto)]
-
-#[cfg(test)]
-mod tests;
