@@ -8,8 +8,10 @@ ROOT = os.path.dirname(os.path.dirname(os.path.abspath(__file__)))
 # what a check reads of a crate
 SOURCES = ("src", "specs", "proofs")
 
-# a library whose tests are of the whole command: those of the program, and the commands stored beside it
-TESTED_IN = {"pnm_command_line": ["pnmpipe"]}
+# libraries with no tests of their name: those of runs are of rings, stages, lanes and callers too, and of the command
+# line the whole command is tested, by the program and the commands stored beside it
+OF_RUNS = ["pnm_flow_tests", "pnm_flow_cases"]
+TESTED_IN = {"pnm_stages": OF_RUNS, "pnm_lanes": OF_RUNS, "pnm_serial": OF_RUNS, "pnm_command_line": ["pnmpipe"]}
 
 # where tests of want of memory stand, of the crates that it names
 OF_MEMORY = "pnm_image_tests"
@@ -65,11 +67,13 @@ def above(crates, names):
 
 
 def tests_of(crates, name):
-    """Where a crate's tests stand: in those of its name, with the tests of want of memory that name it; else in those
-    that name it; in the program, as TESTED_IN says; or in itself, as the program's. `NAME_cases` is a program, whose
-    output is stored beside it."""
+    """Where a crate's tests stand: as TESTED_IN says; in those of its name, with the tests of want of memory that name
+    it; else in those that name it; or in itself, as the program's. `NAME_cases` is a program, whose output is stored
+    beside it."""
+    if name in TESTED_IN:
+        return TESTED_IN[name]
     own = [it for it in (f"{name}_tests", f"{name}_cases") if it in crates]
     if own:
         return own + [it for it in (OF_MEMORY,) if it not in own and name in crates.get(it, ())]
     named = [it for it in crates if it.endswith(("_tests", "_cases")) and name in crates[it]]
-    return named or TESTED_IN.get(name, [name])
+    return named or [name]

@@ -1,4 +1,4 @@
-//! Runs over devices of which a call fails.
+//! Devices of runs, and runs over devices of which a call fails.
 
 use super::runs::{Job, tell_input};
 use pnm_image::Form;
@@ -16,6 +16,21 @@ pub struct Calls {
     pub write_size: usize,
     pub writes: usize,
     pub flushes: usize,
+}
+
+/// What a run reads from and writes to.
+#[derive(Clone, Copy)]
+pub enum Devices {
+    /// All bytes are given and taken.
+    Whole,
+    /// Few bytes a call, of which some fail.
+    Failing(Calls),
+    /// Each flush fails.
+    NeverFlushes,
+    /// There is room for so many bytes.
+    Room(usize),
+    /// There is room for so many bytes behind a buffer.
+    Buffered(usize),
 }
 
 impl Calls {
@@ -63,9 +78,13 @@ pub fn tell_failing<R: Threads + Wait + Sync>(
     let calls = calls_of(rest);
     let mut before = String::new(alloc);
     for by in 0..count {
-        let calls = Some(calls.later(name, by));
+        let devices = Devices::Failing(calls.later(name, by));
         let mut answers = String::new(alloc);
-        let job = Job { calls, form, ..job };
+        let job = Job {
+            devices,
+            form,
+            ..job
+        };
         tell_input(rt, alloc, job, &mut answers)?;
         tell_change(told, by, &mut before, answers)?;
     }

@@ -6,23 +6,60 @@
 //! - `reads FORM COUNT SIZE/READS SIZE/WRITES/FLUSHES (CHAIN) INPUT`, and so `writes` and `flushes`: the same over a
 //!   reader and a writer that move so many bytes a call, of which the read, the write and the flush after so many fail,
 //!   and later ones don't; for COUNT numbers of calls of that name, from the given one on
+//! - `never (CHAIN) INPUT`: the same over a writer each of whose flushes fails
+//! - `room SIZE (CHAIN) INPUT`: the same over a writer that has room for so many bytes, and all of these
+//! - `buffered COUNT (CHAIN) INPUT`: the same where the writer stands behind a buffer, of room for 0, 1 and so on
+//! - `stage ROOM GONE (TOOL) MESSAGES`, `deal LANES GONE MESSAGES`, `gather ROOM GONE MESSAGES|MESSAGES`: how a stage
+//!   over rings ends, the dealing to lanes and the gathering from lanes; what is left of what came, and what is sent
+//!   (`rings`); an end of a ring is gone: `input`, `inputs`, `output`, that of a lane by its number, or none of them
+//! - `heights LANES HEIGHT`: how many rows of an image each lane gets
 //!
 //! Each input is run in one thread, and over threads with several rings and lanes (`ways`): where one of these runs
 //! answers or writes something else, that is told, too.
 #![tactic(auto)]
 
 mod failing;
+mod rings;
 mod runs;
 mod ways;
 
-use failing::{form_of, tell_failing};
-use pnm_test_support::{Unmade, cut_at, cut_word, text_of};
-use runs::{Job, tell_cuts, tell_input};
+use failing::{Devices, form_of, tell_failing};
+use pnm_test_support::{Unmade, cut_at, cut_number, cut_word, text_of};
+use runs::{Job, tell_buffered, tell_cuts, tell_input};
 use std::alloc::Global;
 use std::io::{BufRead, BufReader};
 use std::str;
 use std::sync::Wait;
 use std::thread::Threads;
+
+/// What a line is about: a run over whole devices unless its word says otherwise.
+#[derive(Clone, Copy)]
+enum How {
+    Stage,
+    Deal,
+    Gather,
+    Heights,
+    Cuts,
+    Fails,
+    Never,
+    Room,
+    Buffered,
+    Whole,
+}
+
+const WORDS: &[(&[u8], How)] = &[
+    (b"stage", How::Stage),
+    (b"deal", How::Deal),
+    (b"gather", How::Gather),
+    (b"heights", How::Heights),
+    (b"cuts", How::Cuts),
+    (b"reads", How::Fails),
+    (b"writes", How::Fails),
+    (b"flushes", How::Fails),
+    (b"never", How::Never),
+    (b"room", How::Room),
+    (b"buffered", How::Buffered),
+];
 
 fn main(rt: HostRuntime) -> Result<(), Unmade> {
     tell_lines(&rt)
@@ -35,10 +72,19 @@ fn tell_lines<H: AllocGlobal + Input + Print + Threads + Wait + Sync>(
 ) -> Result<(), Unmade> {
     let alloc = rt.alloc();
     for line in BufReader::new(alloc, rt.reader())?.lines(alloc) {
-        let line = line?;
-        let told = told_of(rt, alloc, line.as_str())?;
-        println!(rt; "{told}")?;
+        tell_line(rt, alloc, line?.as_str())?;
     }
+    Ok(())
+}
+
+/// Prints what comes of the case of a line.
+fn tell_line<H: Print + Threads + Wait + Sync>(
+    rt: &H,
+    alloc: Global,
+    line: &str,
+) -> Result<(), Unmade> {
+    let told = told_of(rt, alloc, line)?;
+    println!(rt; "{told}")?;
     Ok(())
 }
 
@@ -65,21 +111,54 @@ fn tell<R: Threads + Wait + Sync>(
     text: &[u8],
     told: &mut String,
 ) -> Result<(), Unmade> {
+    match how_of(word) {
+        How::Stage => rings::tell_stage(rt, alloc, text, told),
+        How::Deal => rings::tell_dealt(rt, alloc, text, told),
+        How::Gather => rings::tell_gathered(rt, alloc, text, told),
+        How::Heights => Ok(rings::tell_heights(text, told)?),
+        how => tell_runs(rt, alloc, how, word, text, told),
+    }
+}
+
+/// What this word is about.
+fn how_of(word: &[u8]) -> How {
+    match WORDS.iter().find(|(name, _)| *name == word) {
+        Some((_, how)) => *how,
+        None => How::Whole,
+    }
+}
+
+/// Adds what comes of runs of the chain that stands in a text.
+fn tell_runs<R: Threads + Wait + Sync>(
+    rt: &R,
+    alloc: Global,
+    how: How,
+    word: &[u8],
+    text: &[u8],
+    told: &mut String,
+) -> Result<(), Unmade> {
     let (facts, written) = cut_at(text, b'(');
     let (chain, rest) = cut_at(written, b')');
     let (_, input) = cut_word(rest);
     let Ok(chain) = str::from_utf8(chain) else {
         return Err(Unmade);
     };
+    let (size, _) = cut_number(facts);
+    let devices = match how {
+        How::Never => Devices::NeverFlushes,
+        How::Room => Devices::Room(size),
+        _ => Devices::Whole,
+    };
     let job = Job {
         chain,
         form: form_of(word),
         input,
-        calls: None,
+        devices,
     };
-    match word {
-        b"cuts" => tell_cuts(rt, alloc, job, told),
-        b"reads" | b"writes" | b"flushes" => tell_failing(rt, alloc, word, facts, job, told),
+    match how {
+        How::Cuts => tell_cuts(rt, alloc, job, told),
+        How::Fails => tell_failing(rt, alloc, word, facts, job, told),
+        How::Buffered => tell_buffered(rt, alloc, size, job, told),
         _ => tell_input(rt, alloc, job, told),
     }
 }

@@ -2,25 +2,25 @@
 
 ghost use Rattle.pnm_tools.specs.Chains.{IsChain};
 
-use super::failing::Calls;
+use super::failing::{Calls, Devices};
 use super::ways::{WAYS, Way, run_by};
 use pnm_chain::parse_chain;
 use pnm_flow::{RunFault, Summary};
-use pnm_image::{Device, Form};
-use pnm_test_support::{Drips, FailsOnce, Sips, Unmade, tell_change, tell_text};
+use pnm_image::{BytesOut, Device, Form};
+use pnm_test_support::{Drips, FailsOnce, NeverFlushes, Sips, Unmade, tell_change, tell_text};
 use pnm_tools::Tool;
 use std::alloc::{AllocError, Global};
+use std::io::BufWriter;
 use std::sync::Wait;
 use std::thread::Threads;
 
-/// The text of a chain, the form in which its runs write, their input, and the calls of their devices, where one of
-/// these fails.
+/// The text of a chain, the form in which its runs write, their input, and their devices.
 #[derive(Clone, Copy)]
 pub struct Job<'a> {
     pub chain: &'a str,
     pub form: Form,
     pub input: &'a [u8],
-    pub calls: Option<Calls>,
+    pub devices: Devices,
 }
 
 /// Adds what runs over this input answer and write.
@@ -88,13 +88,75 @@ fn tell_run<R: Threads + Wait + Sync>(
 ) -> Result<(), Unmade>
     requires { IsChain tools.now }
 {
-    if let Some(calls) = job.calls {
-        return tell_failing_run(rt, alloc, way, tools, job, calls, told);
+    match job.devices {
+        Devices::Whole => {
+            let mut writer = Device::new(Vec::new(alloc));
+            let answer = run_over(rt, alloc, way, tools, job, &mut writer)?;
+            tell_answer(told, answer, writer.into_inner().as_slice())
+        }
+        Devices::Failing(calls) => tell_failing_run(rt, alloc, way, tools, job, calls, told),
+        Devices::NeverFlushes => {
+            let mut writer = Device::new(NeverFlushes::new(alloc));
+            let answer = run_over(rt, alloc, way, tools, job, &mut writer)?;
+            tell_answer(told, answer, writer.into_inner().held())
+        }
+        Devices::Room(size) => tell_run_in_room(rt, alloc, way, tools, job, size, told),
+        Devices::Buffered(size) => tell_buffered_run(rt, alloc, way, tools, job, size, told),
     }
+}
+
+/// The run in this way of a job whose input is all given, and whose output goes to a writer.
+fn run_over<R: Threads + Wait + Sync, W: BytesOut>(
+    rt: &R,
+    alloc: Global,
+    way: Way,
+    tools: &[Tool],
+    job: Job<'_>,
+    writer: &mut W,
+) -> Result<Result<Summary, RunFault>, Unmade>
+    requires { IsChain tools.now }
+{
     let mut reader = Device::new(job.input);
-    let mut writer = Device::new(Vec::new(alloc));
-    let answer = run_by(rt, alloc, way, &mut reader, &mut writer, tools, job.form)?;
-    tell_answer(told, answer, writer.into_inner().as_slice())
+    run_by(rt, alloc, way, &mut reader, writer, tools, job.form)
+}
+
+/// Adds what a run in this way answers whose writer has room for so many bytes, and these bytes.
+fn tell_run_in_room<R: Threads + Wait + Sync>(
+    rt: &R,
+    alloc: Global,
+    way: Way,
+    tools: &[Tool],
+    job: Job<'_>,
+    size: usize,
+    told: &mut String,
+) -> Result<(), Unmade>
+    requires { IsChain tools.now }
+{
+    let mut target = Vec::from_elem(alloc, 0, size)?;
+    let mut writer = Device::new(target.as_mut_slice());
+    let answer = run_over(rt, alloc, way, tools, job, &mut writer)?;
+    tell_answer(told, answer, target.as_slice())
+}
+
+/// Adds the same where a buffer keeps the bytes back until a flush, as before the program's standard output.
+fn tell_buffered_run<R: Threads + Wait + Sync>(
+    rt: &R,
+    alloc: Global,
+    way: Way,
+    tools: &[Tool],
+    job: Job<'_>,
+    size: usize,
+    told: &mut String,
+) -> Result<(), Unmade>
+    requires { IsChain tools.now }
+{
+    let mut target = Vec::from_elem(alloc, 0, size)?;
+    let buffer = BufWriter::with_capacity(alloc, 64, target.as_mut_slice())?;
+    let mut writer = Device::new(buffer);
+    let answer = run_over(rt, alloc, way, tools, job, &mut writer)?;
+    // What is left in the buffer isn't written.
+    let _ = writer.into_inner().into_parts();
+    tell_answer(told, answer, target.as_slice())
 }
 
 /// Adds what a run in this way answers and writes whose devices make these calls.
@@ -118,6 +180,25 @@ fn tell_failing_run<R: Threads + Wait + Sync>(
     let mut writer = Device::new(Sips::new(alloc, calls.write_size, writes, flushes));
     let answer = run_by(rt, alloc, way, &mut reader, &mut writer, tools, job.form)?;
     tell_answer(told, answer, writer.into_inner().held())
+}
+
+/// Adds what runs answer and write whose writer has room for 0 bytes behind a buffer, 1 and so on, below so many; with
+/// the number from which on it is that.
+pub fn tell_buffered<R: Threads + Wait + Sync>(
+    rt: &R,
+    alloc: Global,
+    count: usize,
+    job: Job<'_>,
+    told: &mut String,
+) -> Result<(), Unmade> {
+    let mut before = String::new(alloc);
+    for size in 0..count {
+        let devices = Devices::Buffered(size);
+        let mut answers = String::new(alloc);
+        tell_input(rt, alloc, Job { devices, ..job }, &mut answers)?;
+        tell_change(told, size, &mut before, answers)?;
+    }
+    Ok(())
 }
 
 /// Adds what a run answered, and what it wrote.

@@ -1,4 +1,5 @@
-//! Tests of `pnm_flow`, in a crate of their own since a crate that has tests is proved twice.
+//! Tests of runs, of lanes, and of the rings between threads, in a crate of their own since a crate that has tests is
+//! proved twice.
 #![tactic(auto)]
 
 #[cfg(test)]

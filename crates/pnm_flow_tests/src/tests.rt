@@ -1,4 +1,5 @@
-//! What no clause says: worked examples, that calls can succeed, and devices that fail.
+//! What no clause says: that calls can succeed, which threads there are, when they wait, and what is answered where
+//! memory runs out.
 
 use pnm_flow::{RunFault, Summary};
 use std::fmt;
@@ -6,22 +7,18 @@ use std::process::Abort;
 
 mod arrivals;
 mod chains;
-mod devices;
+mod ends;
 mod gates;
 mod lanes;
 mod limits;
 mod memory;
 mod rings;
-mod run;
-mod stages;
-mod streams;
 mod threads;
+mod waits;
 mod ways;
 
-/// An image of one row, and the image inverted.
+/// An image of one row.
 const IMAGE: &[u8] = b"P5\n2 1\n122\nAB";
-
-const INVERTED: &[u8] = b"P5\n2 1\n122\n98";
 
 /// What a run answers, and what it writes.
 type Outcome<'a> = (Result<Summary, RunFault>, &'a [u8]);

@@ -24,10 +24,20 @@ pub fn tell_lines<H: AllocGlobal + Input + Print, T: Teller>(
 ) -> Result<(), Unmade> {
     let alloc = rt.alloc();
     for line in BufReader::new(alloc, rt.reader())?.lines(alloc) {
-        let line = line?;
-        let told = told_of(alloc, teller, line.as_str())?;
-        println!(rt; "{told}")?;
+        tell_line(rt, alloc, teller, line?.as_str())?;
     }
+    Ok(())
+}
+
+/// Prints what comes of the case of a line.
+fn tell_line<H: Print, T: Teller>(
+    rt: &H,
+    alloc: Global,
+    teller: &mut T,
+    line: &str,
+) -> Result<(), Unmade> {
+    let told = told_of(alloc, teller, line)?;
+    println!(rt; "{told}")?;
     Ok(())
 }
 

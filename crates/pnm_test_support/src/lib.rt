@@ -14,7 +14,9 @@ mod writing;
 pub use cases::{Teller, tell_lines};
 pub use devices::{Drips, FailsOnce, NeverFlushes, ReadOut, Recorded, Sips};
 pub use digest::Crc32;
-pub use messages::{Unmade, cut_head, cut_messages, head_of, held, narrowest, number_of};
+pub use messages::{
+    Unmade, cut_head, cut_messages, head_of, held, messages_of, narrowest, number_of,
+};
 pub use parts::{Part, is_made_of, message};
 pub use sweep::Sweep;
 pub use telling::{tell_change, tell_head, tell_message, tell_row, tell_text};

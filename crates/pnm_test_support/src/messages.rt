@@ -1,6 +1,6 @@
 //! Messages as they are written, which is how they are told, and rows that are held so wide.
 
-use super::writing::{cut_at, cut_number, cut_word};
+use super::writing::{Numbers, cut_at, cut_number, cut_numbers, cut_word};
 use pnm_image::{Bits, Head, HeadFault, Kind, Message, SampleVec, SampleWidth, Samples, Shape};
 use std::alloc::{AllocError, AllocFailed, Global};
 use std::io;
@@ -47,19 +47,46 @@ pub fn cut_messages<'a>(
         add_rows(alloc, samples, is_narrow, messages)?;
         return Ok(rest);
     }
-    let (word, rest) = cut_word(line);
-    let message = match word {
-        b"ImageEnd" => Message::ImageEnd,
-        b"StreamEnd" => Message::StreamEnd,
-        b"Stop" => Message::Stop,
-        _ => {
-            let (head, rest) = cut_head(alloc, line)?;
-            messages.push(Message::Begin(head))?;
-            return Ok(rest);
-        }
-    };
+    let (message, rest) = cut_message(alloc, line)?;
     messages.push(message)?;
     Ok(rest)
+}
+
+/// The message that a line begins with, which is no row, and what follows it.
+fn cut_message(alloc: Global, line: &[u8]) -> Result<(Message, &[u8]), Unmade> {
+    let (word, rest) = cut_word(line);
+    if let Some(message) = end_of(word) {
+        return Ok((message, rest));
+    }
+    let (head, rest) = cut_head(alloc, line)?;
+    Ok((Message::Begin(head), rest))
+}
+
+/// The message of this name, which is an end or Stop.
+fn end_of(word: &[u8]) -> Option<Message> {
+    if word == b"ImageEnd".as_slice() {
+        Some(Message::ImageEnd)
+    } else if word == b"StreamEnd".as_slice() {
+        Some(Message::StreamEnd)
+    } else if word == b"Stop".as_slice() {
+        Some(Message::Stop)
+    } else {
+        None
+    }
+}
+
+/// The messages that are written one after another, with blanks between.
+pub fn messages_of(alloc: Global, text: &[u8], is_narrow: bool) -> Result<Vec<Message>, Unmade> {
+    let mut messages = Vec::new(alloc);
+    let mut rest = text;
+    for _ in 0..text.len() {
+        rest = match rest.split_first() {
+            None => break,
+            Some((b' ', after)) => after,
+            Some(_) => cut_messages(alloc, rest, is_narrow, &mut messages)?,
+        };
+    }
+    Ok(messages)
 }
 
 /// Adds a row of these samples, or rows of so many numbers.
@@ -73,20 +100,21 @@ fn add_rows(
         let samples = samples_of(alloc, written)?;
         return add_row(alloc, samples.as_slice(), is_narrow, messages);
     };
-    let (count, rest) = cut_number(numbers);
-    let (first, rest) = cut_number(rest);
-    let (step, rest) = cut_number(rest);
-    let (modulus, rest) = cut_number(rest);
-    let (length, _) = cut_number(rest);
-    let mut samples = Vec::new(alloc);
-    for k in 0..count {
-        let turned = k.wrapping_mul(step).checked_rem(modulus).unwrap_or(0);
-        samples.push(sample_of(first.wrapping_add(turned))?)?;
-    }
-    for row in samples.as_slice().chunks(length.max(1)) {
+    let (numbers, _) = cut_numbers(numbers);
+    let samples = counted(alloc, numbers)?;
+    for row in samples.as_slice().chunks(numbers.size.max(1)) {
         add_row(alloc, row, is_narrow, messages)?;
     }
     Ok(())
+}
+
+/// The samples that numbers are.
+fn counted(alloc: Global, numbers: Numbers) -> Result<Vec<u16>, Unmade> {
+    let mut samples = Vec::new(alloc);
+    for k in 0..numbers.count {
+        samples.push(sample_of(numbers.at(k))?)?;
+    }
+    Ok(samples)
 }
 
 /// Adds a row.

@@ -107,16 +107,46 @@ fn hexadecimal(digit: u8) -> u8 {
     }
 }
 
-/// Adds the numbers that are written so, and gives what follows them.
-fn add_numbers<'a>(text: &mut Vec<u8>, written: &'a [u8]) -> Result<&'a [u8], AllocError> {
+/// So many numbers, each of this size: the first one plus k times the step modulo the modulus.
+#[derive(Clone, Copy)]
+pub struct Numbers {
+    pub count: usize,
+    first: usize,
+    step: usize,
+    modulus: usize,
+    pub size: usize,
+}
+
+impl Numbers {
+    /// The number in this place.
+    pub fn at(self, k: usize) -> usize {
+        let turned = k.wrapping_mul(self.step).checked_rem(self.modulus);
+        self.first.wrapping_add(turned.unwrap_or(0))
+    }
+}
+
+/// The numbers that are written so, and what follows them.
+pub fn cut_numbers(written: &[u8]) -> (Numbers, &[u8]) {
     let (count, rest) = cut_number(written);
     let (first, rest) = cut_number(rest);
     let (step, rest) = cut_number(rest);
     let (modulus, rest) = cut_number(rest);
-    let (bytes, rest) = cut_number(rest);
-    for k in 0..count {
-        let turned = k.wrapping_mul(step).checked_rem(modulus).unwrap_or(0);
-        add_number(text, first.wrapping_add(turned), bytes)?;
+    let (size, rest) = cut_number(rest);
+    let numbers = Numbers {
+        count,
+        first,
+        step,
+        modulus,
+        size,
+    };
+    (numbers, rest)
+}
+
+/// Adds the numbers that are written so, and gives what follows them.
+fn add_numbers<'a>(text: &mut Vec<u8>, written: &'a [u8]) -> Result<&'a [u8], AllocError> {
+    let (numbers, rest) = cut_numbers(written);
+    for k in 0..numbers.count {
+        add_number(text, numbers.at(k), numbers.size)?;
     }
     Ok(rest)
 }

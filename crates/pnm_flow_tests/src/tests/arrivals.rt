@@ -2,7 +2,7 @@
 
 use super::agrees;
 use super::chains::run_at;
-use super::threads::TURNS;
+use super::rings::TURNS;
 use pnm_flow::{Gate, Summary};
 use pnm_image::Device;
 use pnm_tools::Tool;

@@ -2,7 +2,8 @@
 
 use super::agrees;
 use super::chains::{Chain, run_at};
-use super::threads::{Both, BothLanes, TURNS, has_met};
+use super::rings::TURNS;
+use super::threads::{Both, BothLanes, has_met};
 use pnm_flow::{Gate, OpenGate, RunFault, Summary};
 use pnm_image::Device;
 use pnm_tools::Tool;

@@ -1,13 +1,12 @@
 //! Want of memory. `scripts/refused.py tests` refuses each allocation of these tests in turn.
 
 use super::chains::{LAST_COLUMN, are_lawful, channel};
-use super::rings::{IMAGE, holds};
+use super::rings::{IMAGE, holding, holds, ring};
 use super::threads::{INVERTED, chain};
 use super::ways::{Way, run_by};
 use pnm_flow::{OpenGate, Receiver, RunFault, StageEnd, Summary};
 use pnm_image::{Device, Form};
 use pnm_read::InputFault;
-use pnm_test_rings::{ring, send_all};
 use pnm_test_support::{Part, Unmade, is_made_of};
 use pnm_tools::{FlipWay, Tool, ToolFault};
 use std::alloc::Global;
@@ -188,9 +187,8 @@ fn end_in_threads<R: Threads + Wait + Abort + Sync>(
     tools: &[Tool],
     whole: &[Part<'_>],
 ) -> Result<bool, Unmade> {
-    let (mut producer, input) = ring(alloc, 8)?;
+    let (_producer, input) = holding(alloc, IMAGE, false)?;
     let (output, mut consumer) = ring(alloc, 8)?;
-    send_all(alloc, &mut producer, IMAGE)?;
     match chain(rt, alloc, tools, 1, 1, &OpenGate, input, output) {
         Ok(done) => {
             let is_well = done.ends.iter().all(|end| *end == StageEnd::Well);

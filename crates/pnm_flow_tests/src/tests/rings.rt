@@ -1,10 +1,57 @@
-//! What comes over a ring, and what rings hold.
+//! Rings that hold messages, what comes out of them, and what goes to a thread over one and comes from it, by a counted
+//! number of tries.
 
-use pnm_flow::{Receiver, StageEnd};
+use pnm_flow::{Receiver, Sender, StageEnd, new_ring};
 use pnm_image::Kind;
-use pnm_test_rings::first_missing;
-use pnm_test_support::Part;
+use pnm_test_support::{Part, Unmade, is_made_of, message};
+use std::alloc::Global;
 use std::process::Abort;
+use std::thread;
+
+/// More turns of a wait than any wait of a test takes.
+pub const TURNS: u32 = 10_000_000;
+
+/// A ring for so many messages.
+pub fn ring(alloc: Global, capacity: usize) -> Result<(Sender, Receiver), Unmade> {
+    new_ring(alloc, capacity).ok_or(Unmade)
+}
+
+/// Sends these, for which there is room.
+pub fn send_all(alloc: Global, output: &mut Sender, parts: &[Part<'_>]) -> Result<(), Unmade> {
+    for part in parts {
+        let message = message(alloc, *part)?;
+        if !output.has_room() {
+            return Err(Unmade);
+        }
+        output.send_reserved(message);
+    }
+    Ok(())
+}
+
+/// Receives these from the ring; the index of the first one that isn't there, if any.
+pub fn first_missing(input: &mut Receiver, parts: &[Part<'_>]) -> Option<usize> {
+    for (index, part) in parts.iter().enumerate() {
+        if !input.has_message() || !is_made_of(&input.receive_known(), *part) {
+            return Some(index);
+        }
+    }
+    None
+}
+
+/// A ring of capacity 8 that holds these, and its sending end, unless no more can come.
+pub fn holding(
+    alloc: Global,
+    parts: &[Part<'_>],
+    is_gone: bool,
+) -> Result<(Option<Sender>, Receiver), Unmade> {
+    let (mut sender, receiver) = ring(alloc, 8)?;
+    send_all(alloc, &mut sender, parts)?;
+    if is_gone {
+        drop(sender);
+        return Ok((None, receiver));
+    }
+    Ok((Some(sender), receiver))
+}
 
 /// An image of one row, and the end of the stream.
 pub const IMAGE: &[Part<'static>] = &[
@@ -30,4 +77,28 @@ pub fn holds(rt: &impl Abort, input: &mut Receiver, parts: &[Part<'_>], what: &s
 /// A thread at a ring has ended so.
 pub fn is_end(rt: &impl Abort, end: StageEnd, want: StageEnd, what: &str) {
     assert_eq!(rt; end, want, "{what}");
+}
+
+/// Sends a message to a thread that takes it, by a counted number of tries.
+pub fn sends(alloc: Global, output: &mut Sender, part: Part<'_>) -> Result<bool, Unmade> {
+    let message = message(alloc, part)?;
+    for _ in 0..TURNS {
+        if output.has_room() {
+            output.send_reserved(message);
+            return Ok(true);
+        }
+        thread::yield_now();
+    }
+    Ok(false)
+}
+
+/// Whether the next message that comes, by a counted number of tries, is made of this.
+pub fn comes(input: &mut Receiver, part: Part<'_>) -> bool {
+    for _ in 0..TURNS {
+        if input.has_message() {
+            return is_made_of(&input.receive_known(), part);
+        }
+        thread::yield_now();
+    }
+    false
 }

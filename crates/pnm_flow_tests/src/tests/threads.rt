@@ -1,11 +1,10 @@
 //! Chains of stages, each in a thread of its own.
 
 use super::chains::{FROM_SECOND, are_lawful};
-use super::rings::{IMAGE, begins_with, holds, is_end};
+use super::rings::{IMAGE, TURNS, begins_with, comes, holding, holds, is_end, ring, sends};
 use pnm_flow::{ChainDone, Gate, NoStart, OpenGate, Receiver, Sender, StageEnd, run_chain};
-use pnm_image::{Kind, Message};
-use pnm_test_rings::{ring, send_all};
-use pnm_test_support::{Part, Unmade, is_made_of, message};
+use pnm_image::Kind;
+use pnm_test_support::{Part, Unmade};
 use pnm_tools::{Tool, ToolFault};
 use std::alloc::Global;
 use std::cmp::Ordering;
@@ -16,9 +15,6 @@ use std::sync::atomic::Ordering::SeqCst;
 use std::test::Fail;
 use std::thread;
 use std::thread::Threads;
-
-/// More turns of a wait than any wait of a test takes.
-pub const TURNS: u32 = 10_000_000;
 
 /// What `pnminvert` makes of the image.
 pub const INVERTED: &[Part<'static>] = &[
@@ -90,14 +86,7 @@ fn ended<R: Threads + Wait + Abort + Sync>(
     takes: &[Part<'_>],
     is_gone: bool,
 ) -> Result<Ended, Fail> {
-    let (mut producer, input) = ring(alloc, 8)?;
-    send_all(alloc, &mut producer, takes)?;
-    let producer = if is_gone {
-        drop(producer);
-        None
-    } else {
-        Some(producer)
-    };
+    let (producer, input) = holding(alloc, takes, is_gone)?;
     let (output, consumer) = ring(alloc, 8)?;
     match chain(rt, alloc, tools, capacity, 1, gate, input, output) {
         Ok(done) => Ok((done, producer, consumer)),
@@ -241,8 +230,7 @@ fn sends_stop_after<R: Threads + Wait + Abort + Sync>(
 #[test]
 fn ends_where_its_output_is_gone(rt: HostRuntime) -> Result<(), Fail> {
     let tools = tools_with_cut(rt.alloc(), 64, 64)?;
-    let (mut producer, input) = ring(rt.alloc(), 8)?;
-    send_all(rt.alloc(), &mut producer, IMAGE)?;
+    let (_producer, input) = holding(rt.alloc(), IMAGE, false)?;
     let (output, consumer) = ring(rt.alloc(), 1)?;
     drop(consumer);
     let done = chain(&rt, rt.alloc(), &tools, 1, 1, &OpenGate, input, output);
@@ -328,29 +316,6 @@ fn gives_each_tool_a_thread(rt: HostRuntime) -> Result<(), Fail> {
     Ok(())
 }
 
-/// Sends a message, by a counted number of tries.
-fn sends(producer: &mut Sender, message: Message) -> bool {
-    for _ in 0..TURNS {
-        if producer.has_room() {
-            producer.send_reserved(message);
-            return true;
-        }
-        thread::yield_now();
-    }
-    false
-}
-
-/// The next message, by a counted number of tries.
-fn takes(consumer: &mut Receiver) -> Option<Message> {
-    for _ in 0..TURNS {
-        if consumer.has_message() {
-            return Some(consumer.receive_known());
-        }
-        thread::yield_now();
-    }
-    None
-}
-
 /// A message, and what comes of it.
 type Step<'a> = (Part<'a>, &'a [Part<'a>]);
 
@@ -387,14 +352,12 @@ fn one_by_one(
     steps: &[Step<'_>],
 ) -> Result<bool, Unmade> {
     for (part, answers) in steps {
-        if !sends(producer, message(alloc, *part)?) {
-            return Ok(false);
-        }
+        let mut is_right = sends(alloc, producer, *part)?;
         for answer in *answers {
-            match takes(consumer) {
-                Some(message) if is_made_of(&message, *answer) => {}
-                _ => return Ok(false),
-            }
+            is_right = is_right && comes(consumer, *answer);
+        }
+        if !is_right {
+            return Ok(false);
         }
     }
     Ok(true)

@@ -17,17 +17,6 @@ pub enum Way {
     Threads(usize, usize),
 }
 
-/// In one thread, and over rings of the least room, of two messages and of the most room, with one lane and with three.
-pub const WAYS: [Way; 7] = [
-    Way::OneThread,
-    Way::Threads(1, 1),
-    Way::Threads(2, 1),
-    Way::Threads(1_024, 1),
-    Way::Threads(1, 3),
-    Way::Threads(2, 3),
-    Way::Threads(1_024, 3),
-];
-
 /// The run of these tools that writes in this form, in this way.
 pub fn run_by<H: Threads + Wait + Abort + Sync, R: BytesIn, W: BytesOut>(
     rt: &H,

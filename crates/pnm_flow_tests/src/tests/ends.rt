@@ -1,9 +1,8 @@
 //! The two ends of a ring, without a stage between.
 
-use super::rings::holds;
+use super::rings::{holds, ring, send_all};
 use pnm_image::{Kind, Message, SampleVec, Samples};
 use pnm_stages::{Backoff, Receiver, Sender};
-use pnm_test_rings::{ring, send_all};
 use pnm_test_support::{Part, is_made_of, message};
 use std::alloc::{AllocError, Global};
 use std::process::Abort;

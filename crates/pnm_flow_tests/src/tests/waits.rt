@@ -1,7 +1,7 @@
 //! How a thread waits at an end of a ring.
 
+use super::rings::ring;
 use pnm_stages::{Backoff, Receiver};
-use pnm_test_rings::ring;
 use std::sync::Wait;
 use std::test::Fail;
 use std::time::{Duration, Instant};

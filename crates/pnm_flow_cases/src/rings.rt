@@ -1,0 +1,240 @@
+//! Threads at rings whose messages are there before they begin: a stage, the dealing to lanes, and the gathering from
+//! them.
+
+use pnm_chain::parse_chain;
+use pnm_flow::{
+    MAX_LANES, OpenGate, Receiver, Sender, StageDone, StageEnd, deal, gather, new_ring, run_stage,
+};
+use pnm_lanes::dealt_height;
+use pnm_test_support::{
+    Unmade, cut_at, cut_number, cut_word, messages_of, number_of, tell_message,
+};
+use pnm_tools::Tool;
+use std::alloc::{AllocError, Global};
+use std::str;
+use std::sync::Wait;
+
+/// How many messages a ring has room for.
+const CAPACITY: usize = 8;
+
+/// A ring for so many messages.
+fn ring(alloc: Global, capacity: usize) -> Result<(Sender, Receiver), Unmade> {
+    new_ring(alloc, capacity).ok_or(Unmade)
+}
+
+/// A ring that holds written messages, and its sending end, unless that is gone.
+fn holding(
+    alloc: Global,
+    text: &[u8],
+    is_gone: bool,
+) -> Result<(Option<Sender>, Receiver), Unmade> {
+    let (mut sender, receiver) = ring(alloc, CAPACITY)?;
+    for message in messages_of(alloc, text, false)? {
+        if !sender.has_room() {
+            return Err(Unmade);
+        }
+        sender.send_reserved(message);
+    }
+    if is_gone {
+        drop(sender);
+        return Ok((None, receiver));
+    }
+    Ok((Some(sender), receiver))
+}
+
+/// A ring for so many messages, and its receiving end, unless that is gone.
+fn taking(
+    alloc: Global,
+    capacity: usize,
+    is_gone: bool,
+) -> Result<(Sender, Option<Receiver>), Unmade> {
+    let (sender, receiver) = ring(alloc, capacity)?;
+    if is_gone {
+        drop(receiver);
+        return Ok((sender, None));
+    }
+    Ok((sender, Some(receiver)))
+}
+
+/// Adds all that a ring holds after a word, or nothing where that is nothing.
+fn tell_ring(word: &str, input: &mut Receiver, told: &mut String) -> Result<(), AllocError> {
+    if input.has_message() {
+        told.push_str(word)?;
+    }
+    for _ in 0..CAPACITY {
+        if input.has_message() {
+            tell_message(told, &input.receive_known())?;
+        }
+    }
+    Ok(())
+}
+
+/// Adds how a thread at rings has ended.
+fn tell_end(end: StageEnd, told: &mut String) -> Result<(), AllocError> {
+    write!(told, " {end:?}")
+}
+
+/// The tools that a text names.
+fn tools_of(alloc: Global, text: &[u8]) -> Result<Vec<Tool>, Unmade> {
+    let Ok(chain) = str::from_utf8(text) else {
+        return Err(Unmade);
+    };
+    match parse_chain(alloc, chain) {
+        Ok(tools) => Ok(tools),
+        Err(_) => Err(Unmade),
+    }
+}
+
+/// The stage of the first of these tools, which has to be lawful.
+fn stage<R: Wait>(
+    rt: &R,
+    alloc: Global,
+    tools: &[Tool],
+    input: Receiver,
+    output: Sender,
+) -> Result<StageDone, Unmade> {
+    match tools.first() {
+        Some(tool) if tool.is_lawful() => {
+            Ok(run_stage(rt, alloc, tool, 1, &OpenGate, input, output))
+        }
+        _ => Err(Unmade),
+    }
+}
+
+/// Adds how a stage of a tool ends, what it leaves, and what it sends.
+pub fn tell_stage<R: Wait>(
+    rt: &R,
+    alloc: Global,
+    text: &[u8],
+    told: &mut String,
+) -> Result<(), Unmade> {
+    let (capacity, rest) = cut_number(text);
+    let (gone, rest) = cut_word(rest);
+    let (_, rest) = cut_at(rest, b'(');
+    let (chain, takes) = cut_at(rest, b')');
+    let tools = tools_of(alloc, chain)?;
+    let (_sender, input) = holding(alloc, takes, gone == b"input".as_slice())?;
+    let (output, receiver) = taking(alloc, capacity, gone == b"output".as_slice())?;
+    let mut done = stage(rt, alloc, tools.as_slice(), input, output)?;
+    tell_end(done.end, told)?;
+    tell_ring(" left", &mut done.input, told)?;
+    tell_sent(receiver, told)
+}
+
+/// Adds what was sent, where it is taken.
+fn tell_sent(receiver: Option<Receiver>, told: &mut String) -> Result<(), Unmade> {
+    if let Some(mut receiver) = receiver {
+        tell_ring(" sent", &mut receiver, told)?;
+    }
+    Ok(())
+}
+
+/// So many rings. Of the lane that is gone the sending end alone, with room for the head.
+fn lanes_but(
+    alloc: Global,
+    count: usize,
+    gone: Option<usize>,
+) -> Result<(Vec<Sender>, Vec<Receiver>), Unmade> {
+    let mut outputs = Vec::new(alloc);
+    let mut inputs = Vec::new(alloc);
+    for lane in 0..count {
+        let is_gone = gone == Some(lane);
+        let (output, input) = taking(alloc, if is_gone { 1 } else { CAPACITY }, is_gone)?;
+        outputs.push(output)?;
+        if let Some(input) = input {
+            inputs.push(input)?;
+        }
+    }
+    Ok((outputs, inputs))
+}
+
+/// The number of a lane; none of another word.
+fn lane_of(word: &[u8]) -> Option<usize> {
+    match word.first() {
+        Some(b'0'..=b'9') => {
+            let (lane, _) = cut_number(word);
+            Some(lane)
+        }
+        _ => None,
+    }
+}
+
+/// Adds how the dealing to so many lanes ends, what it leaves, and what each lane is sent.
+pub fn tell_dealt<R: Wait>(
+    rt: &R,
+    alloc: Global,
+    text: &[u8],
+    told: &mut String,
+) -> Result<(), Unmade> {
+    let (count, rest) = cut_number(text);
+    let (gone, takes) = cut_word(rest);
+    let (_sender, input) = holding(alloc, takes, gone == b"input".as_slice())?;
+    let (outputs, mut lanes) = lanes_but(alloc, count, lane_of(gone))?;
+    if outputs.is_empty() || outputs.len() > MAX_LANES {
+        return Err(Unmade);
+    }
+    let mut done = deal(rt, alloc, input, outputs);
+    tell_end(done.end, told)?;
+    tell_ring(" left", &mut done.input, told)?;
+    for lane in lanes.iter_mut() {
+        told.push_str(" |")?;
+        tell_ring("", lane, told)?;
+    }
+    Ok(())
+}
+
+/// Rings that hold what lanes give, which a bar parts, and their sending ends, unless these are gone.
+fn giving(
+    alloc: Global,
+    text: &[u8],
+    are_gone: bool,
+) -> Result<(Vec<Option<Sender>>, Vec<Receiver>), Unmade> {
+    let mut senders = Vec::new(alloc);
+    let mut inputs = Vec::new(alloc);
+    let mut rest = text;
+    for _ in 0..MAX_LANES {
+        if rest.is_empty() {
+            break;
+        }
+        let (gives, after) = cut_at(rest, b'|');
+        let (sender, input) = holding(alloc, gives, are_gone)?;
+        senders.push(sender)?;
+        inputs.push(input)?;
+        rest = after;
+    }
+    Ok((senders, inputs))
+}
+
+/// Adds how the gathering from lanes ends, what it leaves, and what is sent.
+pub fn tell_gathered<R: Wait>(
+    rt: &R,
+    alloc: Global,
+    text: &[u8],
+    told: &mut String,
+) -> Result<(), Unmade> {
+    let (capacity, rest) = cut_number(text);
+    let (gone, gives) = cut_word(rest);
+    let (_senders, inputs) = giving(alloc, gives, gone == b"inputs".as_slice())?;
+    let (output, receiver) = taking(alloc, capacity, gone == b"output".as_slice())?;
+    if inputs.is_empty() || inputs.len() > MAX_LANES {
+        return Err(Unmade);
+    }
+    let mut done = gather(rt, inputs, output);
+    tell_end(done.end, told)?;
+    for input in done.inputs.iter_mut() {
+        tell_ring(" left", input, told)?;
+    }
+    tell_sent(receiver, told)
+}
+
+/// Adds how many rows of an image of a height each of so many lanes gets.
+pub fn tell_heights(text: &[u8], told: &mut String) -> Result<(), AllocError> {
+    let (lanes, rest) = cut_number(text);
+    let (height, _) = cut_number(rest);
+    let lanes = number_of(lanes);
+    for lane in 0..lanes {
+        let rows = dealt_height(number_of(height), lane, lanes);
+        write!(told, " {rows}")?;
+    }
+    Ok(())
+}
