@@ -4,7 +4,7 @@ PROGRAM := crates/pnmpipe
 # where the tests stand: a library's in a crate of their own
 TESTED := pnm_image_tests pnm_flow_tests pnmpipe
 # programs that tell what comes of written cases
-CASES := pnm_samples_cases pnm_read_cases pnm_tools_cases pnm_write_cases pnm_chain_cases pnm_flow_cases
+CASES := pnm_format_cases pnm_tools_cases pnm_flow_cases
 
 .PHONY: all bench bench-files bench-sweep built check controls deb dist help install lanes long-stream near pass pictures recipes refused scripts soak test toolchain uninstall
 

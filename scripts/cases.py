@@ -1,8 +1,8 @@
 #!/usr/bin/env python3
 """Works out slowly, from the manual pages, what the programs of cases have to tell, and wants their stored output to
-say that: all of pnm_samples_cases; of the others each sweep, whatever else is told by a CRC-32, and each text and cut
-of pnm_read_cases. What is left is worked out by hand, as pnm_chain_cases is. A line that begins with an unknown word,
-or has no line of output, is a fault.
+say that: all of rows in pnm_format_cases; of what else it tells, and of pnm_tools_cases, each sweep, whatever else is
+told by a CRC-32, and each text and cut. What is left is worked out by hand, as texts of chains are. A line that begins
+with an unknown word, or has no line of output, is a fault.
 
 With --each the answers of a sweep's cases are printed one by one, for a line that is given with its crate's name.
 """
@@ -107,7 +107,7 @@ def changes(told):
     return out
 
 
-# --- pnm_read_cases
+# --- pnm_format_cases, what is read
 
 
 def said(text):
@@ -148,7 +148,7 @@ def read_line(line, images, stored_line):
     if word == "after":
         text = text_of(rest)
         return Sweep(said(prefix + text) for image in images for prefix in (image, image + image))
-    return by_hand(word, ("long", "fails", "ahead", "held", "width", "names"))
+    return by_hand(word, ("long", "fails", "ahead", "held", "width"))
 
 
 def by_hand(word, words):
@@ -289,7 +289,7 @@ def tools_line(line, tools, axes, stored_line):
     if word in ("run", "lane") and LONG.search(stored_line):
         return run_of(tools, rest)
     if word not in ("images", "types"):
-        return by_hand(word, ("judge", "copy", "tool", "head", "run", "lane", "held", "axis", "names"))
+        return by_hand(word, ("judge", "copy", "tool", "head", "run", "lane", "held", "axis", "chain", "names"))
     sweeps = [sweep_tool(tool, word, rest) for tool in tools]
     if len(sweeps) == 1 and word == "types":
         return sweeps[0]
@@ -298,7 +298,7 @@ def tools_line(line, tools, axes, stored_line):
     return told[0] if len(told) == 1 else changes(told)
 
 
-# --- pnm_write_cases
+# --- pnm_format_cases, what is written
 
 RAW = {"Bit": "P4", "Gray": "P5", "Color": "P6"}
 
@@ -353,7 +353,7 @@ def write_line(line, stored_line):
                 text = f"P{3 if planes == 3 else 2}\n{width} 1\n{maxval}\n{lines_of(map(str, row))}"
                 told += [f" end{tell_text(text.encode())}"] * (2 if maxval < 256 else 1)
         return told
-    if word == "pixels":
+    if word == "bitmaps":
         first = numbers[0]
         for width in range(numbers[1], numbers[2] + 1):
             byte, pixels = first, ""
@@ -365,7 +365,7 @@ def write_line(line, stored_line):
         return told
     if word in ("raw", "plain", "sips") and LONG.search(stored_line):
         raise ValueError("a long text that isn't worked out")
-    return by_hand(word, ("raw", "plain", "sips", "names"))
+    return by_hand(word, ("raw", "plain", "sips"))
 
 
 # --- all of them
@@ -399,13 +399,23 @@ def work_out(crate, line, images, tools, axes, told=""):
     """What is told of a line; none where that is worked out by hand."""
     if line.startswith("#"):
         return line
-    if crate == "pnm_read_cases":
-        return read_line(line, images, told)
-    if crate == "pnm_samples_cases":
-        word, _, rest = line.partition(" ")
+    return tools_line(line, tools, axes, told) if crate == "pnm_tools_cases" else format_line(line, images, told)
+
+
+# the words of pnm_format_cases that are of rows, and of sinks; others are of sources
+OF_ROWS = "bits new invert reverse take append repeat columns words bytes pixels bound left samples parts".split()
+OF_SINKS = "raw plain sips numbers bitmaps".split()
+
+
+def format_line(line, images, stored_line):
+    """What is told of a line; none where that is worked out by hand."""
+    word, _, rest = line.partition(" ")
+    if word in OF_ROWS:
         want = slow_rows.tell_line(word, rest, text_of(rest))
         return Sweep(want) if isinstance(want, list) else want
-    return tools_line(line, tools, axes, told) if crate == "pnm_tools_cases" else write_line(line, told)
+    if word in OF_SINKS:
+        return write_line(line, stored_line)
+    return None if word == "names" else read_line(line, images, stored_line)
 
 
 def main():
@@ -418,7 +428,7 @@ def main():
         for number, answer in enumerate(told if isinstance(told, list) else [told]):
             print(f"{number}:{answer}")
         return 0
-    crates = ["pnm_tools_cases", "pnm_read_cases", "pnm_samples_cases", "pnm_write_cases"]
+    crates = ["pnm_tools_cases", "pnm_format_cases"]
     with concurrent.futures.ProcessPoolExecutor() as pool:
         found = list(pool.map(judge, crates))
     for fault in (fault for _, faults in found for fault in faults):

@@ -1,5 +1,6 @@
-"""What pnm_samples_cases has to tell, worked out slowly from what its lines mean: pixels are 0 where they are black and
-1 where they are white, the first pixel of a byte is its highest bit, and a bit is 1 where the pixel is black."""
+"""What pnm_format_cases has to tell of rows, worked out slowly from what its lines mean: pixels are 0 where they are
+black and 1 where they are white, the first pixel of a byte is its highest bit, and a bit is 1 where the pixel is
+black."""
 
 import re
 

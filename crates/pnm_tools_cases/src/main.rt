@@ -1,6 +1,6 @@
-//! Tells what tools make of written messages. A line of standard input is a word, and what it is about; messages are
-//! written as they are told (`pnm_test_support`), and escapes are those of texts. A line that begins with `#` is given
-//! back.
+//! Tells what tools make of written messages, and which tools the texts of chains name. A line of standard input is a
+//! word, and what it is about; messages are written as they are told (`pnm_test_support`), and escapes are those of
+//! texts. A line that begins with `#` is given back.
 //!
 //! - `judge TOOL`: whether the tool is lawful, and whether row-wise
 //! - `copy TOOL`: the tool, and a copy of it
@@ -13,12 +13,14 @@
 //! - `types FIRST-LAST WIDTH-WIDTHxHEIGHT-HEIGHT`: a sweep over made images of these types and sizes, each by itself
 //! - `axis LENGTH START END SIZE`: what is kept of so many columns, and of so many rows, by these options of a cut
 //! - `axes`: a sweep over the cuts of short images by each of the options so far across and down
-//! - `names`: the printed faults
+//! - `chain TEXT`: the tools that the text of a chain names, or the number of the stage at fault and the fault
+//! - `names tools`, `names chain`: the printed faults of tools, and of texts of chains
 //!
 //! Of several tools the answers are told with the number from which on they are those; of a sweep how many images there
 //! were, and a CRC-32.
 #![tactic(auto)]
 
+mod chains;
 mod cuts;
 mod steps;
 mod sweeps;
@@ -47,6 +49,7 @@ enum How {
     Types,
     Axis,
     Axes,
+    Chain,
     Names,
 }
 
@@ -63,6 +66,7 @@ const WORDS: &[(&[u8], How)] = &[
     (b"types", How::Types),
     (b"axis", How::Axis),
     (b"axes", How::Axes),
+    (b"chain", How::Chain),
     (b"names", How::Names),
 ];
 
@@ -130,7 +134,8 @@ fn tell(
             Ok(named.axes.push(axis)?)
         }
         How::Axes => cuts::tell_axes(alloc, named.axes.as_slice(), told),
-        How::Names => Ok(tell_names(told)?),
+        How::Chain => chains::tell_chain(alloc, text, told),
+        How::Names => Ok(tell_names(text, told)?),
         _ => tell_each(alloc, how, text, named.tools.as_slice(), told),
     }
 }
@@ -177,8 +182,11 @@ fn tell_of_tool(
     }
 }
 
-/// Adds all faults as they are printed.
-fn tell_names(told: &mut String) -> Result<(), AllocError> {
+/// Adds the faults of the texts of chains, or of tools, as they are printed.
+fn tell_names(text: &[u8], told: &mut String) -> Result<(), AllocError> {
+    if text == b"chain".as_slice() {
+        return chains::tell_names(told);
+    }
     for fault in FAULTS {
         write!(told, " {fault}")?;
     }

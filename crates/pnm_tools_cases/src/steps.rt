@@ -4,7 +4,7 @@
 use super::tasks::{Task, tell_at_work};
 use pnm_filters::{RowState, RowWise};
 use pnm_image::{Message, SampleSlice, Samples};
-use pnm_test_support::{Unmade, cut_messages, tell_message};
+use pnm_test_support::{Unmade, cut_messages, messages_of, tell_message};
 use pnm_tools::{Filter, Tool, ToolFault};
 use std::alloc::{AllocError, Global};
 
@@ -178,20 +178,6 @@ fn is_fault(answer: Result<Option<Message>, ToolFault>, fault: ToolFault) -> boo
     }
 }
 
-/// The messages that are written, of rows in few bits.
-fn messages_of(alloc: Global, text: &[u8]) -> Result<Vec<Message>, Unmade> {
-    let mut messages = Vec::new(alloc);
-    let mut rest = text;
-    for _ in 0..text.len() {
-        rest = match rest.split_first() {
-            None => break,
-            Some((b' ', after)) => after,
-            Some(_) => cut_messages(alloc, rest, true, &mut messages)?,
-        };
-    }
-    Ok(messages)
-}
-
 /// Adds how wide the rows are held that a tool at work gives, where those that it gets are held in few bits.
 pub fn tell_held<F: Filter>(
     alloc: Global,
@@ -199,7 +185,7 @@ pub fn tell_held<F: Filter>(
     text: &[u8],
     told: &mut String,
 ) -> Result<(), Unmade> {
-    for message in messages_of(alloc, text)? {
+    for message in messages_of(alloc, text, true)? {
         if state.feed(message).is_err() {
             return Err(Unmade);
         }

@@ -108,7 +108,7 @@ fn pixels_of(alloc: Global, width: usize, first: u8) -> Result<Vec<u16>, AllocEr
 }
 
 /// Adds a sweep over rows of pixels of these widths, held as bits, as bytes and as words.
-pub fn tell_pixels(alloc: Global, text: &[u8], told: &mut String) -> Result<(), Unmade> {
+pub fn tell_bitmaps(alloc: Global, text: &[u8], told: &mut String) -> Result<(), Unmade> {
     let (first, rest) = cut_number(text);
     let (first_width, rest) = cut_number(rest);
     let (last_width, _) = cut_number(rest);

@@ -2,23 +2,9 @@
 
 use super::form_of;
 use pnm_image::{BytesOut, Device, Message};
-use pnm_test_support::{FailsOnce, Sips, Unmade, cut_messages, cut_number, cut_word, tell_text};
+use pnm_test_support::{FailsOnce, Sips, Unmade, cut_number, cut_word, messages_of, tell_text};
 use pnm_write::{Form, Sink, SinkFault, WriteBuffer};
 use std::alloc::{AllocError, Global};
-
-/// The messages that are written.
-fn messages_of(alloc: Global, text: &[u8]) -> Result<Vec<Message>, Unmade> {
-    let mut messages = Vec::new(alloc);
-    let mut rest = text;
-    for _ in 0..text.len() {
-        rest = match rest.split_first() {
-            None => break,
-            Some((b' ', after)) => after,
-            Some(_) => cut_messages(alloc, rest, false, &mut messages)?,
-        };
-    }
-    Ok(messages)
-}
 
 /// Adds the faults of a sink that gets messages, which is flushed after each image where that is asked.
 fn tell_put<W: BytesOut>(
@@ -56,7 +42,7 @@ pub fn tell_written(
     text: &[u8],
     told: &mut String,
 ) -> Result<(), Unmade> {
-    let messages = messages_of(alloc, text)?;
+    let messages = messages_of(alloc, text, false)?;
     let mut sink = Sink::with_buffer(WriteBuffer::new(alloc)?, Device::new(Vec::new(alloc)), form);
     tell_put(&mut sink, messages.as_slice(), false, told)?;
     let (writer, end) = sink.finish();
@@ -83,7 +69,7 @@ pub fn tell_sips(alloc: Global, text: &[u8], told: &mut String) -> Result<(), Un
     let (most, rest) = cut_number(rest);
     let (writes, rest) = cut_failing(rest);
     let (flushes, rest) = cut_failing(rest);
-    let messages = messages_of(alloc, rest)?;
+    let messages = messages_of(alloc, rest, false)?;
     let mut sips = Sips::new(alloc, most, writes, flushes);
     let mut sink = Sink::with_buffer(
         WriteBuffer::new(alloc)?,

@@ -1,0 +1,102 @@
+//! Tells what formats are made of: what rows hold, what is read of texts, and what is written of messages. A line of
+//! standard input is a word, and what it is about; escapes are those of texts, and messages are written as they are
+//! told (`pnm_test_support`). A line that begins with `#` is given back.
+//!
+//! Of rows of bits, bytes and words (`samples`):
+//!
+//! - `bits COUNT BYTES`: what a row of so many pixels holds (`pixels`), made of these bytes
+//! - `new FIRST-LAST`, `invert ..`, `reverse ..`: a sweep over made rows (`made`) of so many pixels, as they are,
+//!   inverted, and reversed
+//! - `take FIRST-LAST`: a sweep over so many pixels of the bytes of 40
+//! - `append HELD-HELD START-START COUNT-COUNT`: a sweep over runs of a made row, after so many pixels
+//! - `repeat FIRST-LAST TIMES-TIMES`: a sweep over made rows whose pixels are repeated
+//! - `columns BYTE COUNT-COUNT HEIGHT-HEIGHT`: a sweep over columns of made images, from a byte on
+//! - `words SAMPLES`, `bytes SAMPLES`, `pixels COUNT BYTES`: the greatest sample, and whether the row is within numbers
+//! - `bound NUMBER`: the greatest sample of a row of the samples 3, 9, 0, of whose samples this number is a bound, and
+//!   whether it is within numbers
+//! - `left MAXVAL SAMPLE`: what is left of the maxval, of bytes where it is one, and of words
+//! - `samples WIDTH FIRST-LAST`, `parts WIDTH`: a sweep over made rows of bits, bytes or words, and over parts of one
+//!   of 20 samples
+//!
+//! Of what a source answers (`read`):
+//!
+//! - `text TEXT`: the answers, which are the same however few bytes a read gives, and no read follows one that gave
+//!   none
+//! - `long TEXT`: the answers to a long text, whole and 4,097 bytes a read
+//! - `cuts TEXT`: the answers to each prefix of the text, by the length from which on they are those
+//! - `fails TEXT`: the answers where a read of a byte each fails, by its number
+//! - `reads MOST FAILING TEXT`: the answers, and what each read asked for and got: at most MOST bytes, and nothing at
+//!   read FAILING
+//! - `ahead COUNT TEXT`: how many reads of a byte each were made before the first answer, and after each
+//! - `held COUNT TEXT`: whether the source tells of each of so many answers that a read will be made for it
+//! - `width TEXT`: how the samples of the first row are held
+//! - `changes SET TEXT`, `inserts SET TEXT`: how many texts, and the CRC-32 of the answers, to all texts with a byte of
+//!   the set in the place of another, or between two others
+//! - `image TEXT`, then `streams`, `after TEXT`: how many texts, and the CRC-32 of the answers, to these images one
+//!   after another, and to them with a text after them
+//!
+//! Of what a sink writes, and which messages it refuses (`write`):
+//!
+//! - `raw MESSAGES`, `plain MESSAGES`: the faults, how the stream ends, and the bytes
+//! - `sips FORM MOST WRITE FLUSH MESSAGES`: the faults, how the stream ends, and the bytes where a write takes up to
+//!   MOST bytes, and those after so many writes and so many flushes fail once, `_` for none; a sink is flushed after
+//!   each image, and told is how often that was, too
+//! - `numbers KIND MAXVAL WIDTH-WIDTH SHIFT-SHIFT`: a sweep over plain images of a made row (`made`), however it is
+//!   held
+//! - `bitmaps FIRST WIDTH-WIDTH`: a sweep over plain images of pixels of a made row
+//!
+//! And `names input`, `names output`: the printed faults of sources, and of sinks.
+#![tactic(auto)]
+
+mod read;
+mod samples;
+mod write;
+
+use pnm_test_support::{Teller, Unmade, tell_lines};
+use std::alloc::Global;
+
+fn main(rt: HostRuntime) -> Result<(), Unmade> {
+    let mut formats = Formats {
+        images: Vec::new(rt.alloc()),
+    };
+    tell_lines(&rt, &mut formats)
+}
+
+/// Tells what formats are made of.
+#[derive(Drop)]
+struct Formats {
+    /// The raw images so far.
+    images: Vec<Vec<u8>>,
+}
+
+impl Teller for Formats {
+    fn tell(
+        &mut self,
+        alloc: Global,
+        word: &[u8],
+        text: &[u8],
+        told: &mut String,
+    ) -> Result<(), Unmade> {
+        if let Some(how) = samples::how_of(word) {
+            return samples::tell(alloc, how, text, told);
+        }
+        if let Some(how) = read::how_of(word) {
+            return Ok(read::tell(alloc, how, text, &mut self.images, told)?);
+        }
+        match write::how_of(word) {
+            Some(how) => write::tell(alloc, how, text, told),
+            None => tell_names(word, text, told),
+        }
+    }
+}
+
+/// Adds the faults of sources or of sinks as they are printed.
+fn tell_names(word: &[u8], text: &[u8], told: &mut String) -> Result<(), Unmade> {
+    if word != b"names".as_slice() {
+        return Err(Unmade);
+    }
+    if text == b"input".as_slice() {
+        return Ok(read::tell_names(told)?);
+    }
+    Ok(write::tell_names(told)?)
+}

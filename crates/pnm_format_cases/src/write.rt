@@ -1,0 +1,68 @@
+//! What a sink writes of written messages, and which it refuses.
+
+mod made;
+mod sinks;
+
+use pnm_test_support::Unmade;
+use pnm_write::{Form, SinkFault};
+use std::alloc::{AllocError, Global};
+
+/// What a line is about.
+#[derive(Clone, Copy)]
+pub enum How {
+    Raw,
+    Plain,
+    Sips,
+    Numbers,
+    Bitmaps,
+}
+
+const WORDS: &[(&[u8], How)] = &[
+    (b"raw", How::Raw),
+    (b"plain", How::Plain),
+    (b"sips", How::Sips),
+    (b"numbers", How::Numbers),
+    (b"bitmaps", How::Bitmaps),
+];
+
+const FAULTS: &[SinkFault] = &[
+    SinkFault::WriteFailed,
+    SinkFault::OutOfOrder,
+    SinkFault::Broken,
+    SinkFault::SecondPlain,
+    SinkFault::PlainPam,
+];
+
+/// What this word is about, where it is a sink.
+pub fn how_of(word: &[u8]) -> Option<How> {
+    let (_, how) = WORDS.iter().find(|(name, _)| *name == word)?;
+    Some(*how)
+}
+
+/// Adds what comes of a case.
+pub fn tell(alloc: Global, how: How, text: &[u8], told: &mut String) -> Result<(), Unmade> {
+    match how {
+        How::Raw => sinks::tell_written(alloc, Form::Raw, text, told),
+        How::Plain => sinks::tell_written(alloc, Form::Plain, text, told),
+        How::Sips => sinks::tell_sips(alloc, text, told),
+        How::Numbers => made::tell_numbers(alloc, text, told),
+        How::Bitmaps => made::tell_bitmaps(alloc, text, told),
+    }
+}
+
+/// The form that is named so: raw by default.
+fn form_of(word: &[u8]) -> Form {
+    if word == b"plain".as_slice() {
+        Form::Plain
+    } else {
+        Form::Raw
+    }
+}
+
+/// Adds all faults as they are printed.
+pub fn tell_names(told: &mut String) -> Result<(), AllocError> {
+    for fault in FAULTS {
+        write!(told, " {fault}")?;
+    }
+    Ok(())
+}

@@ -1,0 +1,48 @@
+//! What the texts of chains name: the tools, or the number of the stage at fault and the fault.
+
+use pnm_chain::{ChainKind, parse_chain};
+use pnm_test_support::Unmade;
+use std::alloc::{AllocError, Global};
+use std::str;
+
+const KINDS: &[ChainKind] = &[
+    ChainKind::Empty,
+    ChainKind::TooLong,
+    ChainKind::TooMany,
+    ChainKind::EmptyStage,
+    ChainKind::UnknownTool,
+    ChainKind::UnknownOption,
+    ChainKind::MissingValue,
+    ChainKind::BadValue,
+    ChainKind::Conflict,
+    ChainKind::MissingArgument,
+    ChainKind::ExtraArgument,
+    ChainKind::Memory,
+];
+
+/// Adds what a text names.
+pub fn tell_chain(alloc: Global, text: &[u8], told: &mut String) -> Result<(), Unmade> {
+    match str::from_utf8(text) {
+        Ok(chain) => Ok(tell_named(alloc, chain, told)?),
+        Err(_) => Err(Unmade),
+    }
+}
+
+/// Adds all faults as they are printed.
+pub fn tell_names(told: &mut String) -> Result<(), AllocError> {
+    for kind in KINDS {
+        write!(told, " {kind}")?;
+    }
+    Ok(())
+}
+
+/// Adds the tools that a text names, or the number of the stage at fault and the fault.
+fn tell_named(alloc: Global, text: &str, told: &mut String) -> Result<(), AllocError> {
+    match parse_chain(alloc, text) {
+        Ok(tools) => write!(told, "{:?}", tools.as_slice()),
+        Err(fault) => {
+            let (stage, kind) = (fault.stage, fault.kind);
+            write!(told, "{stage} {kind}")
+        }
+    }
+}
