@@ -1,6 +1,7 @@
 -- The stages of a chain: one more, what is left between them, and what the chain has answered.
 use Rattle.std.proofs.Common.{◌≡◌, ◌≢◌, ℕ, suc, ◌+◌, ◌≤◌, ◌<◌, List, [], ◌∷◌, ◌++◌, length, Option, Some, Result, Ok, Err, refl, sym, ap, subst, ◌∙◌}
-use Rattle.std.proofs.Common.{append_assoc, append-nil, arith}
+use Rattle.std.proofs.Common.{append_assoc, append-nil, arith, true, ◌==◌}
+use Rattle.std.proofs.lemmas.Bool.Decides.{nat_tests}
 use Rattle.std.specs.Prelude.{IfOk, IfSome, vec_capacity}
 use Rattle.std.specs.List.{AllByRecursion}
 use Rattle.pnm_stages.specs.declared.sender.Sender.{Sender}
@@ -248,6 +249,24 @@ abbrev pub HasRunToolBetween : ℕ → Tool → Receiver → Sender → StageDon
 HasRunToolBetween lanes tool input output done =
     SameReceiver input done.input × SameSender output done.output × HasRunTool lanes tool done.end (received input) (received done.input)
     (known_items done.input) (sent output) (sent done.output)
+
+-- a chain of one tool, over these ring ends
+pub only_stage : (lanes : ℕ) (tools others : List Tool) (tool : Tool) (links_reserved ends_reserved : ℕ) (input : Receiver) (output : Sender)
+    (one : StageDone) (done : ChainDone)
+    → tools ≡ others ++ tool ∷ [] → (length others == 0) ≡ true → HasRunToolBetween lanes tool input output one
+    → (done.input ≡ one.input) × (done.output ≡ one.output) → (done.links.items ≡ []) × (done.ends.items ≡ one.end ∷ [])
+    → (vec_capacity done.links ≡ links_reserved) × (vec_capacity done.ends ≡ ends_reserved)
+    → HasRunBetween lanes tools links_reserved ends_reserved input output done
+only_stage lanes tools [] tool links_reserved ends_reserved input output one done parts none run ends lists reserved = record {
+  same_input = subst (SameReceiver input) (sym ends.0) run.0;
+  same_output = subst (SameSender output) (sym ends.1) run.1;
+  ran = rw (parts, lists.1, lists.0, ends.0, ends.1)
+      (one_stage lanes tool one.end (received input) (received one.input) (known_items one.input) (sent output) (sent one.output) run.2);
+  for_links = reserved.0;
+  for_ends = reserved.1;
+}
+only_stage lanes tools (t ∷ ts) tool links_reserved ends_reserved input output one done parts none run ends lists reserved =
+    absurd (grind (arith, nat_tests))
 
 -- a tool that came back
 pub tool_came_back : (lanes : ℕ) (tool : Tool) (input : Receiver) (output : Sender) (result : Option StageDone) (done : StageDone)

@@ -1,9 +1,29 @@
 use Rattle.std.proofs.Common.{List, length, sym, ap, subst, ◌∙◌, arith, vec_capacity}
 use Rattle.pnm_stages.specs.Rings.{sent, received, known_items, SameSender, SameReceiver}
 use Rattle.pnm_image.specs.declared.message.Message.{Message}
+use Rattle.pnm_stages.proofs.RingSteps.{still_pair}
 use Rattle.pnm_flow.specs.Chains.{HasRunStages}
-use Rattle.pnm_flow.proofs.ChainSteps.{came_back, has_reserved, stages_joined}
+use Rattle.pnm_flow.proofs.ChainSteps.{came_back, has_reserved, stages_joined, only_stage}
 use Rattle.pnm_flow.proofs.chain.+fn-run_stages-Call+run_stages.Goals as goal
+
+-- a chain of one tool
+pub returns-in-Some-all-clause-ran : goal.returns-in-Some-all-clause-ran
+returns-in-Some-all-clause-ran g t c =
+    only_stage c.args.lanes c.args.tools.now c.last_and_others.result.1.now c.last_and_others.result.0.now (vec_capacity c.args.reserved.links)
+    (vec_capacity c.args.reserved.ends) c.args.input c.args.output c.in-Some-all.done c.only.result c.last_and_others.ensures.parts
+    (sym c.is_empty.ensures ∙ c.if-is_empty.true) c.in-Some-all.ensures.ran c.only.ensures.ends c.only.ensures.lists c.only.ensures.reserved
+
+pub returns-in-Some-all-clause-beside : goal.returns-in-Some-all-clause-beside
+returns-in-Some-all-clause-beside g t c = c.in-Some-all.ensures.beside
+
+pub joined-requires-clause-ring : goal.joined-requires-clause-ring
+joined-requires-clause-ring g t c =
+    let chain =
+    (came_back c.args.lanes c.last_and_others.result.1.now (vec_capacity c.args.reserved.links) (vec_capacity c.args.reserved.ends) c.args.input
+    c.in-Some-new_ring.producer _
+    c.in-Some-run_tool.rest c.in-Some-rest.chain c.in-Some-rest.beside c.in-Some-run_tool.ensures.beside c.in-Some-rest.is).0 in
+    still_pair c.in-Some-new_ring.producer c.in-Some-rest.chain.output c.in-Some-new_ring.consumer c.in-Some-run_tool.done.input
+    c.in-Some-new_ring.ensures.pair chain.same_output c.in-Some-run_tool.ensures.ran.0
 
 pub joined-requires-clause-reserved : goal.joined-requires-clause-reserved
 joined-requires-clause-reserved g t c =
@@ -40,3 +60,9 @@ returns-in-Some-rest-clause-ran g t c =
       for_links = c.joined.ensures.reserved.0 ∙ chain.for_links;
       for_ends = c.joined.ensures.reserved.1 ∙ chain.for_ends;
     }
+
+pub returns-in-Some-rest-clause-beside : goal.returns-in-Some-rest-clause-beside
+returns-in-Some-rest-clause-beside g t c =
+    (came_back c.args.lanes c.last_and_others.result.1.now (vec_capacity c.args.reserved.links) (vec_capacity c.args.reserved.ends) c.args.input
+    c.in-Some-new_ring.producer _
+    c.in-Some-run_tool.rest c.in-Some-rest.chain c.in-Some-rest.beside c.in-Some-run_tool.ensures.beside c.in-Some-rest.is).1
