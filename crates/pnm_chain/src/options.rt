@@ -36,7 +36,6 @@ pub(crate) enum ToolOption {
 
 impl ToolName {
     /// The tool of this name.
-    #[tactic(auto, using(crate::proofs::NameLaws::tried_after), unfolding(crate::specs::Options::tool_named))]
     pub(crate) fn named(name: &[u8]) -> Option<ToolName>
         ensures { result ≡ tool_named name.now }
     {
@@ -72,7 +71,6 @@ impl ToolOption {
     }
 }
 
-#[tactic(auto, using(crate::proofs::NameLaws::tried_after), unfolding(crate::specs::Options::cut_option))]
 fn cut_option(name: &[u8]) -> Option<ToolOption>
     ensures { result ≡ cut_option name.now }
 {
@@ -91,14 +89,12 @@ fn channel_option(name: &[u8]) -> Option<ToolOption>
     spelled(name, b"tupletype", ToolOption::TupleType)
 }
 
-#[tactic(auto, using(crate::proofs::NameLaws::tried_after), unfolding(crate::specs::Options::enlarge_option))]
 fn enlarge_option(name: &[u8]) -> Option<ToolOption>
     ensures { result ≡ enlarge_option name.now }
 {
     spelled(name, b"xscale", ToolOption::XScale).or(spelled(name, b"yscale", ToolOption::YScale))
 }
 
-#[tactic(auto, using(crate::proofs::NameLaws::tried_after), unfolding(crate::specs::Options::flip_option))]
 fn flip_option(name: &[u8]) -> Option<ToolOption>
     ensures { result ≡ flip_option name.now }
 {
@@ -111,7 +107,6 @@ fn flip_option(name: &[u8]) -> Option<ToolOption>
         .or(spelled(name, b"transpose", ToolOption::Way(FlipWay::Transpose)))
 }
 
-#[tactic(auto, using(crate::proofs::NameLaws::tried_after), unfolding(crate::specs::Options::turn_option))]
 fn turn_option(name: &[u8]) -> Option<ToolOption>
     ensures { result ≡ turn_option name.now }
 {

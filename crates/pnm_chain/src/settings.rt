@@ -138,18 +138,20 @@ impl<'a> Settings<'a> {
             return self.set_way(option);
         };
         match option {
-            ToolOption::Left => self.cut.left = Some(edge(word)?),
-            ToolOption::Right => self.cut.right = Some(edge(word)?),
-            ToolOption::Top => self.cut.top = Some(edge(word)?),
-            ToolOption::Bottom => self.cut.bottom = Some(edge(word)?),
-            ToolOption::Width => self.cut.width = Some(extent(word)?),
-            ToolOption::Height => self.cut.height = Some(extent(word)?),
-            ToolOption::TupleType if word.len() <= MAX_TUPLE_TYPE_LENGTH => self.tuple_type = value,
-            ToolOption::XScale => self.across = Some(extent(word)?),
-            ToolOption::YScale => self.down = Some(extent(word)?),
-            ToolOption::TupleType | ToolOption::Way(_) => return Err(ChainKind::BadValue),
+            ToolOption::Left => set_edge(&mut self.cut.left, word),
+            ToolOption::Right => set_edge(&mut self.cut.right, word),
+            ToolOption::Top => set_edge(&mut self.cut.top, word),
+            ToolOption::Bottom => set_edge(&mut self.cut.bottom, word),
+            ToolOption::Width => set_extent(&mut self.cut.width, word),
+            ToolOption::Height => set_extent(&mut self.cut.height, word),
+            ToolOption::TupleType if word.len() <= MAX_TUPLE_TYPE_LENGTH => {
+                self.tuple_type = value;
+                Ok(())
+            }
+            ToolOption::XScale => set_extent(&mut self.across, word),
+            ToolOption::YScale => set_extent(&mut self.down, word),
+            ToolOption::TupleType | ToolOption::Way(_) => Err(ChainKind::BadValue),
         }
-        Ok(())
     }
 
     /// Sets the way to flip; any other option wants a value.
@@ -180,18 +182,22 @@ impl<'a> Settings<'a> {
     }
 }
 
-fn edge(word: &[u8]) -> Result<i32, ChainKind>
-    ensures read { IfOk result (λ edge. (spells_offset word.now ≡ true) × (edge ≡ offset_value word.now)) }
+/// Sets an edge of `pamcut`.
+fn set_edge(edge: &mut Option<i32>, word: &[u8]) -> Result<(), ChainKind>
+    ensures set { OnOk result ((spells_offset word.now ≡ true) × (edge.new ≡ Some (offset_value word.now))) }
     ensures refused { IfErr result (λ kind. (spells_offset word.now ≡ false) × (kind ≡ BadValue)) }
 {
-    offset(word).ok_or(ChainKind::BadValue)
+    *edge = Some(offset(word).ok_or(ChainKind::BadValue)?);
+    Ok(())
 }
 
-fn extent(word: &[u8]) -> Result<u32, ChainKind>
-    ensures read { IfOk result (λ extent. (spells_extent word.now ≡ true) × (extent ≡ decimal_value word.now)) }
+/// Sets a size of `pamcut`, or a scale of `pamenlarge`.
+fn set_extent(extent: &mut Option<u32>, word: &[u8]) -> Result<(), ChainKind>
+    ensures set { OnOk result ((spells_extent word.now ≡ true) × (extent.new ≡ Some (decimal_value word.now))) }
     ensures refused { IfErr result (λ kind. (spells_extent word.now ≡ false) × (kind ≡ BadValue)) }
 {
-    number(word, 1, MAX_EXTENT).ok_or(ChainKind::BadValue)
+    *extent = Some(number(word, 1, MAX_EXTENT).ok_or(ChainKind::BadValue)?);
+    Ok(())
 }
 
 /// Fills an argument with a number from 1 to `most`.

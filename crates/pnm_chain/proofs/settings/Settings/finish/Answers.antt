@@ -1,17 +1,21 @@
-use Rattle.std.proofs.Common.{◌≡◌, ◌⊎◌, Some, List, inr, sym, ◌∙◌}
-use Rattle.std.proofs.lemmas.Result.{IfErr-weaker}
-use Rattle.pnm_chain.specs.declared.chain_text.ChainKind.TheVariants.{Memory}
-use Rattle.pnm_chain.specs.declared.options.ToolName.TheVariants.{Enlarge}
-use Rattle.pnm_chain.specs.Items.{Item, end_fault}
-use Rattle.pnm_chain.specs.Settings.{AreSettingsOf, factors_fault}
-use Rattle.pnm_chain.proofs.MeaningLaws.{factors_are}
+use Rattle.pnm_chain.specs.declared.options.ToolName.TheVariants.{Channel, Enlarge, Tile}
+use Rattle.pnm_chain.proofs.MeaningLaws.{enlarge_meant, enlarge_refused, planes_meant, planes_refused, tile_meant, tile_refused}
 use Rattle.pnm_chain.proofs.settings.Settings.finish.Goals as goal
 
+pub returns-in-Channel-clause-meant : goal.returns-in-Channel-clause-meant
+returns-in-Channel-clause-meant c = rw c.in-Channel.is (planes_meant (record c.args.self { tool = Channel }) c.pick.result c.pick.ensures.made)
+
+pub returns-in-Channel-clause-refused : goal.returns-in-Channel-clause-refused
+returns-in-Channel-clause-refused c = rw c.in-Channel.is (planes_refused (record c.args.self { tool = Channel }) c.pick.result c.pick.ensures.refused)
+
+pub returns-in-Enlarge-clause-meant : goal.returns-in-Enlarge-clause-meant
+returns-in-Enlarge-clause-meant c = rw c.in-Enlarge.is (enlarge_meant (record c.args.self { tool = Enlarge }) c.enlarge.result c.enlarge.ensures.made)
+
 pub returns-in-Enlarge-clause-refused : goal.returns-in-Enlarge-clause-refused
-returns-in-Enlarge-clause-refused c =
-    let s = record c.args.self { tool = Enlarge } in
-    rw c.in-Enlarge.is (IfErr-weaker c.enlarge.result
-    (λ kind. factors_fault s.first s.across s.down ≡ Some kind)
-    (λ kind. (items : List Item) → AreSettingsOf Enlarge items s → (kind ≡ Memory) ⊎ (end_fault Enlarge items ≡ Some kind))
-    (λ kind e items h. inr (sym (factors_are items s h) ∙ e))
-    c.enlarge.ensures.refused)
+returns-in-Enlarge-clause-refused c = rw c.in-Enlarge.is (enlarge_refused (record c.args.self { tool = Enlarge }) c.enlarge.result c.enlarge.ensures.refused)
+
+pub returns-clause-meant : goal.returns-clause-meant
+returns-clause-meant c = rw c.in-Tile.is (tile_meant (record c.args.self { tool = Tile }) c.tile.result c.tile.ensures.made)
+
+pub returns-clause-refused : goal.returns-clause-refused
+returns-clause-refused c = rw c.in-Tile.is (tile_refused (record c.args.self { tool = Tile }) c.tile.result c.tile.ensures.refused)
