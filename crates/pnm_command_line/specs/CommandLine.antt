@@ -7,6 +7,7 @@ use Rattle.pnm_image.specs.declared.format.Form.TheVariants.{Raw, Plain}
 pub use Rattle.clap.specs.Words.{Text}
 use Rattle.clap.specs.Words.{App, Rule, IsAmong, fault_of, first_of, matches_of, one_of, new_app, new_rule, with_rule}
 use Rattle.clap.specs.declared.builder.action.ArgAction.TheVariants.{Set, SetTrue}
+use Rattle.clap.specs.declared.builder.value_parser.ValueParser.{ValueParser}
 use Rattle.clap.specs.declared.builder.value_parser.ValueParser.TheVariants.{Signed}
 use Rattle.clap.specs.declared.error.kind.ErrorKind.{ErrorKind}
 use Rattle.clap.specs.declared.error.kind.ErrorKind.TheVariants.{DisplayHelp, OutOfMemory}
@@ -15,15 +16,19 @@ use Rattle.pnm_stages.specs.declared.ring.TheConstants.{MAX_RING_CAPACITY}
 use Rattle.pnm_command_line.specs.declared.command_line.CommandLineFault.{CommandLineFault}
 use Rattle.pnm_command_line.specs.declared.command_line.CommandLineFault.TheVariants.{Help, Usage, Memory}
 
--- an option `--NAME` that takes a number from 1 to this one, where it isn't given that of this text
-abbrev pub number_rule : Text → Text → ℕ → Rule
-number_rule name default high = record (new_rule name) {
+-- an option `--NAME` that takes what this parser does, where it isn't given that of this text
+abbrev pub value_rule : Text → Text → ValueParser → Rule
+value_rule name default parser = record (new_rule name) {
   long = Some name;
   value_names = 1;
   action = Some Set;
   defaults = default ∷ [];
-  parser = Some (Signed (pos 1) (pos high));
+  parser = Some parser;
 }
+
+-- an option that takes a number from 1 to this one
+abbrev pub number_rule : Text → Text → ℕ → Rule
+number_rule name default high = value_rule name default (Signed (pos 1) (pos high))
 
 -- `--ring N`: what a ring may hold, where it isn't given 64
 abbrev pub ring_rule : Rule

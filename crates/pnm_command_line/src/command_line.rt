@@ -1,11 +1,13 @@
 //! The words of the command line, and the help text.
 
-ghost use Rattle.std.specs.Prelude.{◌≡◌, IfOk, IfErr, map, string_bytes};
-ghost use Rattle.clap.specs.Words.{app_of, kind_of, rule_of};
-ghost use Rattle.pnm_command_line.specs.CommandLine.{form_by, lanes_rule, plain_rule, program, ring_rule, FitsKind};
+ghost use Rattle.std.specs.Prelude.{◌≡◌, IfOk, IfErr, codes, map, string_bytes};
+ghost use Rattle.clap.specs.Words.{app_of, kind_of, new_app, rule_of};
+ghost use Rattle.pnm_command_line.specs.CommandLine.{chain_rule, form_by, lanes_rule, plain_rule, program, ring_rule};
+ghost use Rattle.pnm_command_line.specs.CommandLine.{value_rule, FitsKind};
 ghost use Rattle.pnm_command_line.specs.CommandLine.{GivesChain, GivesForm, GivesLanes, GivesRing, IsFaultOfWords};
 ghost use Rattle.pnm_command_line.specs.declared.command_line.CommandLineFault.TheVariants.{Memory};
 
+use clap::builder::ValueParser;
 use clap::error::ErrorKind;
 use clap::{Arg, ArgAction, Command, value_parser};
 use pnm_image::Form;
@@ -112,44 +114,67 @@ fn form_by(is_plain: Option<bool>) -> Form
 fn program<'a>(alloc: Global) -> Result<Command<'a>, AllocError>
     ensures { IfOk result (λ command. app_of command ≡ program) }
 {
-    let chain = Arg::new(alloc, "CHAIN")
-        .required(true)
-        .action(ArgAction::Set)
-        .help(CHAIN_HELP);
+    described(alloc)
+        .arg(ring_option(alloc))?
+        .arg(lanes_option(alloc))?
+        .arg(plain_option(alloc))?
+        .arg(chain_argument(alloc))
+}
+
+/// The command before it has arguments.
+fn described<'a>(alloc: Global) -> Command<'a>
+    ensures { app_of result ≡ new_app (codes "pnmpipe") }
+{
     Command::new(alloc, "pnmpipe")
         .about(ABOUT)
         .override_usage(USAGE)
         .after_help(AFTER_HELP)
-        .arg(ring_option(alloc))?
-        .arg(lanes_option(alloc))?
-        .arg(plain_option(alloc))?
-        .arg(chain)
+}
+
+/// The argument `CHAIN`.
+fn chain_argument<'a>(alloc: Global) -> Arg<'a>
+    ensures { rule_of result ≡ chain_rule }
+{
+    Arg::new(alloc, "CHAIN")
+        .required(true)
+        .action(ArgAction::Set)
+        .help(CHAIN_HELP)
 }
 
 /// The option `--ring`.
 fn ring_option<'a>(alloc: Global) -> Arg<'a>
     ensures { rule_of result ≡ ring_rule }
 {
-    Arg::new(alloc, "ring")
-        .long("ring")
-        .value_name("N")
-        .action(ArgAction::Set)
-        .value_parser(value_parser!(u16).range(1..=MAX_RING_CAPACITY as i64))
-        .default_value("64")
-        .help(RING_HELP)
+    let parser = value_parser!(u16).range(1..=MAX_RING_CAPACITY as i64);
+    number_option(alloc, "ring", "N", parser, "64", RING_HELP)
 }
 
 /// The option `--lanes`.
 fn lanes_option<'a>(alloc: Global) -> Arg<'a>
     ensures { rule_of result ≡ lanes_rule }
 {
-    Arg::new(alloc, "lanes")
-        .long("lanes")
-        .value_name("K")
+    let parser = value_parser!(u8).range(1..=MAX_LANES as i64);
+    number_option(alloc, "lanes", "K", parser, "1", LANES_HELP)
+}
+
+/// An option with a number.
+fn number_option<'a>(
+    alloc: Global,
+    name: &'a str,
+    letter: &'a str,
+    parser: ValueParser<'a>,
+    default: &'a str,
+    help: &'a str,
+) -> Arg<'a>
+    ensures { rule_of result ≡ value_rule name.entry.now default.entry.now parser.entry }
+{
+    Arg::new(alloc, name)
+        .long(name)
+        .value_name(letter)
         .action(ArgAction::Set)
-        .value_parser(value_parser!(u8).range(1..=MAX_LANES as i64))
-        .default_value("1")
-        .help(LANES_HELP)
+        .value_parser(parser)
+        .default_value(default)
+        .help(help)
 }
 
 /// The option `--plain`.
