@@ -1,5 +1,6 @@
 -- The rings of lanes once all have ended: lane by lane from the last on, what has passed over them, and the end of all.
-use Rattle.std.proofs.Common.{◌≡◌, ℕ, suc, ◌+◌, List, [], ◌∷◌, ◌++◌, length, refl, sym, ap, subst, ◌∙◌, append_assoc, append-nil, arith}
+use Rattle.std.proofs.Common.{◌≡◌, ℕ, suc, ◌+◌, Option, Some, Result, Ok, Err, IfOk, List, [], ◌∷◌, ◌++◌, length, refl, sym, ap, subst, ◌∙◌, append_assoc, append-nil, arith}
+use Rattle.std.specs.Result.{result_ok}
 use Rattle.std.proofs.lemmas.List.{length-append}
 use Rattle.pnm_stages.specs.declared.sender.Sender.{Sender}
 use Rattle.pnm_stages.specs.declared.receiver.Receiver.{Receiver}
@@ -15,6 +16,13 @@ one_more : {X : Type 0} (xs : List X) (x : X) → length (xs ++ x ∷ []) ≡ su
 one_more xs x = let both = length-append xs (x ∷ []) in omega (arith, both)
 
 -- ---- rings that are made
+
+-- what a call promises of its value, where its `ok` gave this one
+pub made_so : {T E : Type 0} (P : T → Type 0) (r : Result T E) (given : Option T) (x : T) → given ≡ result_ok r → given ≡ Some x → IfOk r P → P x
+made_so P (Ok y) given x by is made =
+    let same : y ≡ x = cc in
+    subst P same made
+made_so P (Err e) given x by is made = absurd cc
 
 pub counted_more : {X : Type 0} (xs ys : List X) (x : X) (n : ℕ) → ys ≡ xs ++ x ∷ [] → length xs ≡ n → length ys ≡ n + 1
 counted_more xs ys x n is count = ap length is ∙ one_more xs x ∙ omega (arith, count)

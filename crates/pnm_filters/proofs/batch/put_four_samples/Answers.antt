@@ -3,6 +3,7 @@ use Rattle.pnm_tools.specs.Flip.{column_of}
 use Rattle.pnm_filters.proofs.ColumnLaws.{column_stored, looked_up, reach, row_reaches, four_samples, nothing_stored}
 use borrow.Rule.Slice.PartMut.{mid_len}
 use Rattle.pnm_filters.specs.Columns.{HavePixels}
+use Rattle.std.proofs.lemmas.Grind.{common_steps}
 use Rattle.pnm_filters.proofs.batch.put_four_samples.Goals as goal
 
 pub loop-k-preserved : goal.loop-k-preserved
@@ -77,3 +78,21 @@ slice_bounds-copy_from_slice-end g c =
     let v = c.index-columns-k.result in
     let buffer : c.args.at + 4 ≤ vec_len (get_or c.loop-k.columns k v) = omega (arith, c.requires.long k v (omega arith), c.loop-k.invariant.long k v) in
     omega (arith, buffer, ap length c.deref_mut.ensures.value, (get_or c.loop-k.columns k v).ok.0)
+
+pub offset_bounds-deref_mut-at : goal.offset_bounds-deref_mut-at
+offset_bounds-deref_mut-at g c = grind (arith, common_steps)
+
+pub shared_whole_as_slice-copy_from_slice : goal.shared_whole_as_slice-copy_from_slice
+shared_whole_as_slice-copy_from_slice g c = grind (arith, common_steps)
+
+pub offset_bounds-b-x : goal.offset_bounds-b-x
+offset_bounds-b-x g c = grind (arith, common_steps)
+
+pub offset_bounds-d-x : goal.offset_bounds-d-x
+offset_bounds-d-x g c = grind (arith, common_steps)
+
+pub offset_bounds-c-x : goal.offset_bounds-c-x
+offset_bounds-c-x g c = grind (arith, common_steps)
+
+pub offset_bounds-a-x : goal.offset_bounds-a-x
+offset_bounds-a-x g c = grind (arith, common_steps)

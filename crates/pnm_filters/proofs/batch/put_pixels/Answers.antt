@@ -3,6 +3,7 @@ use Rattle.pnm_tools.specs.Pixels.{pixel_of}
 use Rattle.pnm_filters.proofs.ColumnLaws.{column_stored, nothing_stored, within}
 use borrow.Rule.Slice.PartMut.{mid_len}
 use Rattle.pnm_filters.specs.Columns.{HavePixels}
+use Rattle.std.proofs.lemmas.Grind.{common_steps}
 use Rattle.pnm_filters.proofs.batch.put_pixels.Goals as goal
 
 pub loop-k-preserved : goal.loop-k-preserved
@@ -50,3 +51,9 @@ returns g c =
     let all : c.loop-k.k ≡ length c.args.columns.now = omega (arith, c.loop-k.invariant.many) in
     subst (λ (n : ℕ). HavePixels n c.args.at (λ k. pixel_of c.args.depth c.args.row.now (c.args.first + k)) c.args.columns.now c.loop-k.columns) all
     c.loop-k.invariant
+
+pub offset_bounds-deref_mut-at : goal.offset_bounds-deref_mut-at
+offset_bounds-deref_mut-at g c = grind (arith, common_steps)
+
+pub offset_bounds-row-x : goal.offset_bounds-row-x
+offset_bounds-row-x g c = grind (arith, common_steps)

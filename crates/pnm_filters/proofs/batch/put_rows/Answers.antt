@@ -1,5 +1,6 @@
 use Rattle.std.proofs.Common.{length, arith}
 use Rattle.pnm_filters.proofs.ColumnLaws.{row_behind, all_behind, looked_up, within}
+use Rattle.std.proofs.lemmas.Grind.{common_steps}
 use Rattle.pnm_filters.proofs.batch.put_rows.Goals as goal
 
 pub overflow_mul-n : goal.overflow_mul-n
@@ -17,3 +18,9 @@ loop-n-preserved g c =
 pub returns : goal.returns
 returns g c =
     all_behind c.args.first c.args.depth c.loop-n.n c.args.at _ c.args.rows.now c.args.columns.now c.loop-n.columns c.loop-n-test.false c.loop-n.invariant
+
+pub put_pixels-requires-clause-long : goal.put_pixels-requires-clause-long
+put_pixels-requires-clause-long g c = grind (arith, common_steps)
+
+pub put_pixels-requires-clause-row : goal.put_pixels-requires-clause-row
+put_pixels-requires-clause-row g c = grind (arith, common_steps)

@@ -1,6 +1,7 @@
 use Rattle.std.proofs.Common.{◌≡◌, ℕ, ◌+◌, ◌*◌, ◌≤◌, length, drop, map, slice_index_or, ap, ◌∙◌, arith, mul-le-mul}
 use borrow.Rule.Slice.PartMut.{mid_len}
 use Rattle.pnm_tools.proofs.PickLaws.{piece_written, columns_picked, plane_there, columns_end}
+use Rattle.std.proofs.lemmas.Grind.{common_steps}
 use Rattle.pnm_filters.proofs.channel.pick.Goals as goal
 
 pub overflow_mul-width : goal.overflow_mul-width
@@ -75,3 +76,6 @@ slice_bounds-pick_pixel-end g c =
     let size : length c.loop-x.buffer ≡ c.args.shape.width * length c.args.numbers.now =
     omega (arith, c.in_ok-picked.ensures.len, c.in_ok-picked.picked.ok.0, ap length c.as_mut_slice-buffer.ensures.value) in
     omega (arith, size, columns_end c.args.shape.width (length c.args.numbers.now) c.loop-x.x c.loop-x-test.true)
+
+pub offset_bounds-buffer-x : goal.offset_bounds-buffer-x
+offset_bounds-buffer-x g c = grind (arith, common_steps)

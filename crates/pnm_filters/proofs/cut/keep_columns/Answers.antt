@@ -1,6 +1,7 @@
 use Rattle.std.proofs.Common.{◌≤◌, ◌+◌, ◌-◌, ◌*◌, ◌∙◌, All, ap, sym, subst, refl, arith, mul-le-mul}
 use Rattle.pnm_tools.specs.Cut.{columns_of_row}
 use Rattle.pnm_tools.proofs.CutRowLaws.{all_kept, kept_within}
+use Rattle.std.proofs.lemmas.Grind.{common_steps}
 use Rattle.pnm_filters.proofs.cut.keep_columns.Goals as goal
 
 pub within-requires : goal.within-requires
@@ -34,3 +35,18 @@ returns-in-Bytes c = c.within-in-Bytes.ensures ∙ c.keep.ensures ∙ ap (column
 
 pub returns-in-Words : goal.returns-in-Words
 returns-in-Words c = c.within-in-Words.ensures ∙ c.keep-in-Words.ensures ∙ ap (columns_of_row c.args.columns c.args.shape.depth) c.in-Words.ensures
+
+pub within-requires-in-Words : goal.within-requires-in-Words
+within-requires-in-Words c = grind (arith, common_steps)
+
+pub within-requires-in-Bytes : goal.within-requires-in-Bytes
+within-requires-in-Bytes c = grind (arith, common_steps)
+
+pub append-requires : goal.append-requires
+append-requires c = grind (arith, common_steps)
+
+pub keep-requires-in-Words : goal.keep-requires-in-Words
+keep-requires-in-Words c = grind (arith, common_steps)
+
+pub keep-requires : goal.keep-requires
+keep-requires c = grind (arith, common_steps)

@@ -1,6 +1,7 @@
 use Rattle.std.proofs.Common.{◌≡◌, ◌*◌, ◌∙◌, ℕ, ap, drop, reverse, arith}
 use Rattle.pnm_filters.proofs.FlipRowLaws.{pixel_more, one_plane}
 use Rattle.pnm_tools.proofs.PickLaws.{columns_end}
+use Rattle.std.proofs.lemmas.Grind.{common_steps}
 use Rattle.pnm_filters.proofs.flip.reverse_pixels.Goals as goal
 
 pub loop-x-preserved : goal.loop-x-preserved
@@ -28,3 +29,9 @@ loop-x-init g c =
 pub slice_bounds-reverse-end : goal.slice_bounds-reverse-end
 slice_bounds-reverse-end g c =
     omega (arith, columns_end c.args.shape.width c.args.shape.depth c.loop-x.x c.loop-x-test.true, c.requires.row)
+
+pub offset_bounds-samples-x : goal.offset_bounds-samples-x
+offset_bounds-samples-x g c = grind (arith, common_steps)
+
+pub returns-after-loop-x : goal.returns-after-loop-x
+returns-after-loop-x g c = grind (arith, common_steps)

@@ -1,5 +1,6 @@
 use Rattle.std.proofs.Common.{◌<◌, ◌≤◌, ◌+◌, ◌*◌, length, ap, arith}
 use Rattle.pnm_filters.proofs.StripLaws.{next_columns, reach_more}
+use Rattle.std.proofs.lemmas.Grind.{common_steps}
 use Rattle.pnm_filters.proofs.strip.strip_of.Goals as goal
 
 pub add_columns-requires-clause-rows : goal.add_columns-requires-clause-rows
@@ -19,3 +20,15 @@ loop-first-preserved g c =
     (omega arith) (omega (arith, c.truncate.new.self.ok.0)) some c.loop-first.invariant.1 c.as_mut_slice.ensures.value c.in_ok-add_columns.ensures.added
     c.add_columns.ensures.long.0 c.add_columns.ensures.long.1 in
     (within, h.0, h.1, h.2)
+
+pub returns-clause-made : goal.returns-clause-made
+returns-clause-made g c = grind (arith, common_steps)
+
+pub add_columns-requires-clause-long : goal.add_columns-requires-clause-long
+add_columns-requires-clause-long g c = grind (arith, common_steps)
+
+pub loop-first-init : goal.loop-first-init
+loop-first-init g c = grind (arith, common_steps)
+
+pub add_columns-requires-clause-sizes : goal.add_columns-requires-clause-sizes
+add_columns-requires-clause-sizes g c = grind (arith, common_steps)

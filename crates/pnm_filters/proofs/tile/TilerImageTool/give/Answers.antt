@@ -2,6 +2,7 @@ use Rattle.std.proofs.Common.{rules, ◌≡◌, inl, inr, suc, ◌-◌, ◌≤�
 use Rattle.pnm_filters.specs.declared.tile.Tiler.TheInside.{Inside}
 use Rattle.pnm_filters.specs.Keeping.{HasTiles, AreWithin, tiled, tiled_due}
 use Rattle.pnm_filters.proofs.TileRowLaws.{given_of_queue, tiles_left, left_within}
+use Rattle.std.proofs.lemmas.Grind.{common_steps}
 use Rattle.pnm_filters.proofs.tile.TilerImageTool.give.Goals as goal
 use Rattle.pnm_filters.proofs.tile.TilerImageTool.give.Goals.{then-len-left+in_ok-tiled+in_ok-push_back, else-len-left+in_ok-tiled-2}
 
@@ -48,3 +49,24 @@ returns-clause-due c =
           given_of_queue w row c.if-len-left.tiled rest rest (x.left - 1) queue more (v.tiled-is ∙ v.in_ok-tiled-2.ensures.made) (inr (refl, enough))
           ∙ ap back (sym v.self-inside-is)
     ]
+
+pub tile_row-requires-clause-range : goal.tile_row-requires-clause-range
+tile_row-requires-clause-range c = grind (arith, common_steps)
+
+pub tile_last_row-requires-clause-range : goal.tile_last_row-requires-clause-range
+tile_last_row-requires-clause-range c = grind (arith, common_steps)
+
+pub tile_row-requires-clause-fits : goal.tile_row-requires-clause-fits
+tile_row-requires-clause-fits c = grind (arith, common_steps)
+
+pub tile_row-requires-clause-row : goal.tile_row-requires-clause-row
+tile_row-requires-clause-row c = grind (arith, common_steps)
+
+pub tile_last_row-requires-clause-fits : goal.tile_last_row-requires-clause-fits
+tile_last_row-requires-clause-fits c = grind (arith, common_steps)
+
+pub tile_last_row-requires-clause-row : goal.tile_last_row-requires-clause-row
+tile_last_row-requires-clause-row c = grind (arith, common_steps)
+
+pub invariant_of-self : goal.invariant_of-self
+invariant_of-self c = grind (arith, common_steps)

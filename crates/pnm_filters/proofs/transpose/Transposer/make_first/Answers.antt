@@ -4,6 +4,7 @@ use Rattle.pnm_tools.specs.Flip.{turn_of}
 use Rattle.pnm_filters.specs.SampleRows.{row_lists, strip_lists, rows_width}
 use Rattle.pnm_filters.specs.Keeping.{Transposed, transposed, transposed_due}
 use Rattle.pnm_filters.proofs.TransposeLaws.{first_made}
+use Rattle.std.proofs.lemmas.Grind.{common_steps}
 use Rattle.pnm_filters.proofs.transpose.Transposer.make_first.Goals as goal
 
 pub returns-clause-due : goal.returns-clause-due
@@ -17,3 +18,18 @@ returns-clause-due c =
     first_first order within c.in_ok-self-inside.ensures.made
     ∙ ap (λ l. transposed_due (transposed x.way x.depth (rows_width x.rows) (strip_lists x.rows) (row_lists x.rows) l x.next x.columns)) (sym none)
     ∙ ap transposed_due c.self.view_is
+
+pub batch-requires-clause-reach : goal.batch-requires-clause-reach
+batch-requires-clause-reach c = grind (arith, common_steps)
+
+pub returns-clause-some : goal.returns-clause-some
+returns-clause-some c = grind (arith, common_steps)
+
+pub batch-requires-clause-sizes : goal.batch-requires-clause-sizes
+batch-requires-clause-sizes c = grind (arith, common_steps)
+
+pub invariant_of-self : goal.invariant_of-self
+invariant_of-self c = grind (arith, common_steps)
+
+pub batch-requires-clause-bits : goal.batch-requires-clause-bits
+batch-requires-clause-bits c = grind (arith, common_steps)

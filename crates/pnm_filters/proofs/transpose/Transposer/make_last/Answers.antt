@@ -5,6 +5,7 @@ use Rattle.pnm_tools.specs.Flip.{turn_of}
 use Rattle.pnm_filters.specs.SampleRows.{row_lists, strip_lists, rows_width}
 use Rattle.pnm_filters.specs.Keeping.{Transposed, transposed, transposed_due}
 use Rattle.pnm_filters.proofs.TransposeLaws.{last_made}
+use Rattle.std.proofs.lemmas.Grind.{common_steps}
 use Rattle.pnm_filters.proofs.transpose.Transposer.make_last.Goals as goal
 
 pub returns-clause-due : goal.returns-clause-due
@@ -22,3 +23,15 @@ returns-clause-due c =
     c.reverse.new.self.items last_first order (omega arith) (omega arith) c.in_ok-batch.ensures.made c.reverse.ensures.items
     ∙ ap (λ l. transposed_due (transposed x.way x.depth (rows_width x.rows) (strip_lists x.rows) (row_lists x.rows) l x.next x.columns)) (sym none)
     ∙ ap transposed_due c.self.view_is
+
+pub returns-clause-some : goal.returns-clause-some
+returns-clause-some c = grind (arith, common_steps)
+
+pub batch-requires-clause-reach : goal.batch-requires-clause-reach
+batch-requires-clause-reach c = grind (arith, common_steps)
+
+pub batch-requires-clause-sizes : goal.batch-requires-clause-sizes
+batch-requires-clause-sizes c = grind (arith, common_steps)
+
+pub batch-requires-clause-bits : goal.batch-requires-clause-bits
+batch-requires-clause-bits c = grind (arith, common_steps)

@@ -1,4 +1,4 @@
-use Rattle.std.proofs.Common.{ap, ◌∙◌}
+use Rattle.std.proofs.Common.{ap, ◌∙◌, arith}
 use Rattle.std.proofs.lemmas.Result.{on_ok_weaker}
 use Rattle.pnm_tools.specs.declared.flip.FlipWay.{FlipWay}
 use Rattle.pnm_tools.specs.declared.flip.Turn.{Turn}
@@ -7,6 +7,7 @@ use Rattle.pnm_filters.specs.SampleRows.{row_lists, strip_lists, rows_width}
 use Rattle.pnm_filters.specs.Keeping.{Transposed}
 use Rattle.pnm_tools.specs.Tools.{row_answer}
 use Rattle.pnm_filters.proofs.TransposeLaws.{none_made, row_kept}
+use Rattle.std.proofs.lemmas.Grind.{common_steps}
 use Rattle.pnm_filters.proofs.transpose.TransposerImageTool.take.Goals as goal
 
 pub returns-clause-ready : goal.returns-clause-ready
@@ -31,3 +32,6 @@ returns-clause-due c =
     c.self.invariant.way (ap (λ (w : Transposed). w.batch) c.self.view_is ∙ none.0) (ap (λ (w : Transposed). w.columns) c.self.view_is ∙ none.2)
     ∙ ap (λ (way : FlipWay). row_answer (Flip way) c.args.shape c.args._y c.args.row) (ap (λ (w : Transposed). w.way) c.self.view_is) in
     on_ok_weaker c.fill_strip.result (λ _. due) c.fill_strip.ensures.kept
+
+pub fill_strip-requires-clause-sizes : goal.fill_strip-requires-clause-sizes
+fill_strip-requires-clause-sizes c = grind (arith, common_steps)

@@ -1,0 +1,27 @@
+use Rattle.std.proofs.Common.{arith}
+use Rattle.std.proofs.lemmas.Grind.{common_steps}
+use Rattle.pnm_filters.proofs.state.answer.Goals as goal
+
+pub returns-in_ok-take-in-Row : goal.returns-in_ok-take-in-Row
+returns-in_ok-take-in-Row g c = grind (arith, common_steps)
+
+pub returns-in_ok-result-in-Begin : goal.returns-in_ok-result-in-Begin
+returns-in_ok-result-in-Begin g c = grind (arith, common_steps)
+
+pub returns-in-Inside-from : goal.returns-in-Inside-from
+returns-in-Inside-from g c = grind (arith, common_steps)
+
+pub returns-in-StreamEnd : goal.returns-in-StreamEnd
+returns-in-StreamEnd g c = grind (arith, common_steps)
+
+pub returns-in-Stop : goal.returns-in-Stop
+returns-in-Stop g c = grind (arith, common_steps)
+
+pub unreachable-requires : goal.unreachable-requires
+unreachable-requires g c = grind (arith, common_steps)
+
+pub unreachable-requires-in_default-from : goal.unreachable-requires-in_default-from
+unreachable-requires-in_default-from g c = grind (arith, common_steps)
+
+pub take-requires-clause-row : goal.take-requires-clause-row
+take-requires-clause-row g c = grind (arith, common_steps)
