@@ -2,6 +2,7 @@ use Rattle.std.proofs.Common.{◌≡◌, ◌+◌, ◌*◌, ◌-◌, ◌/◌, ◌
 use Rattle.std.proofs.lemmas.List.{drop-replicate}
 use Rattle.std.proofs.lemmas.Bool.{eqb-false}
 use Rattle.pnm_samples.proofs.PackLaws.{groups_step, last_step}
+use Rattle.std.proofs.lemmas.Grind.{common_steps}
 use Rattle.pnm_samples.proofs.packing.pack.Goals as goal
 
 pub loop-i-preserved : goal.loop-i-preserved
@@ -20,3 +21,9 @@ returns-clause-bytes c =
     let below : length c.args.samples.now / 8 < length c.loop-i.buffer = omega (arith, c.split_at.ensures.back_len) in
     last_step c.loop-i.i (length c.args.samples.now / 8) (8 - length rest) c.packed_byte-2.result c.args.samples.now c.loop-i.buffer rest last whole
     c.loop-i.invariant below refl c.split_at.ensures.back some filled c.packed_byte-2.ensures
+
+pub packed_byte-requires-2 : goal.packed_byte-requires-2
+packed_byte-requires-2 c = grind (arith, common_steps)
+
+pub slice_bounds-packed_byte-end-2 : goal.slice_bounds-packed_byte-end-2
+slice_bounds-packed_byte-end-2 c = grind (arith, common_steps)

@@ -3,6 +3,7 @@ use Rattle.std.proofs.lemmas.List.{map-id}
 use Rattle.std.proofs.lemmas.Iterator.Adapters.{YieldsList-from_vec}
 use Rattle.std.proofs.lemmas.Iterator.Consumers.{YieldsList-end}
 use Rattle.pnm_samples.proofs.ColumnLaws.{columns_made, pixels_of_column}
+use Rattle.std.proofs.lemmas.Grind.{common_steps}
 use Rattle.pnm_samples.proofs.transpose.columns.Goals as goal
 
 pub returns : goal.returns
@@ -16,3 +17,6 @@ returns c =
     c.loop-column.invariant ∙ ap (map made) (sym (map-id c.loop-column.yielded) ∙ end.0 ∙ c.truncate.ensures.items)
     ∙ columns_made c.args.byte c.div_ceil.result c.args.count c.args.rows.now columns c.in_ok-columns.ensures (omega (arith, c.div_ceil.ensures))
     c.requires.rows
+
+pub loop-column-preserved : goal.loop-column-preserved
+loop-column-preserved c = grind (arith, common_steps)
