@@ -1,5 +1,6 @@
 -- The rings of lanes once all have ended: lane by lane from the last on, what has passed over them, and the end of all.
-use Rattle.std.proofs.Common.{◌≡◌, ℕ, suc, ◌+◌, Option, Some, Result, Ok, Err, IfOk, List, [], ◌∷◌, ◌++◌, length, refl, sym, ap, subst, ◌∙◌, append_assoc, append-nil, arith}
+use Rattle.std.proofs.Common.{◌≡◌, ℕ, suc, ◌+◌, Option, Some, Result, Ok, Err, IfOk, List}
+use Rattle.std.proofs.Common.{[], ◌∷◌, ◌++◌, length, refl, sym, ap, subst, ◌∙◌, append_assoc, append-nil, arith}
 use Rattle.std.specs.Result.{result_ok}
 use Rattle.std.proofs.lemmas.List.{length-append}
 use Rattle.pnm_stages.specs.declared.sender.Sender.{Sender}
