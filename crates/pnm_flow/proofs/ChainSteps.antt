@@ -28,6 +28,7 @@ use Rattle.pnm_stages.specs.Prefixes.{IsPrefixOfDue}
 use Rattle.pnm_stages.specs.Rings.{IsEnded}
 use Rattle.pnm_flow.specs.Links.{IsWhole, IsDrained}
 use Rattle.pnm_flow.specs.Chains.{IsStageOver, HasRunTool, FirstIsThere, AreStages, HasAnsweredStream, HasRunStages, HasRunChain, HasRunBetween}
+use Rattle.pnm_flow.specs.Chains.{IsReserved, IsToolRun}
 use Rattle.pnm_flow.specs.ThreadedRuns.{HasEndedOver}
 use Rattle.pnm_stages.proofs.EndingLaws.{nothing_follows}
 use Rattle.pnm_stages.proofs.PrefixLaws.{prefix_without_stop}
@@ -244,16 +245,10 @@ pub came_back : {B : Type 0} (lanes : ℕ) (tools : List Tool) (links_reserved e
 came_back {B = B} lanes tools links_reserved ends_reserved input output P result done b has is =
     subst (λ (x : Option (ChainDone × B)). IfSome x (λ r. HasRunBetween lanes tools links_reserved ends_reserved input output r.0 × P r.1)) is has
 
--- what a tool of a chain has passed between these ring ends, which came back
-abbrev pub HasRunToolBetween : ℕ → Tool → Receiver → Sender → StageDone → Type 0
-HasRunToolBetween lanes tool input output done =
-    SameReceiver input done.input × SameSender output done.output × HasRunTool lanes tool done.end (received input) (received done.input)
-    (known_items done.input) (sent output) (sent done.output)
-
 -- a chain of one tool, over these ring ends
 pub only_stage : (lanes : ℕ) (tools others : List Tool) (tool : Tool) (links_reserved ends_reserved : ℕ) (input : Receiver) (output : Sender)
     (one : StageDone) (done : ChainDone)
-    → tools ≡ others ++ tool ∷ [] → (length others == 0) ≡ true → HasRunToolBetween lanes tool input output one
+    → tools ≡ others ++ tool ∷ [] → (length others == 0) ≡ true → IsToolRun lanes tool input output one
     → (done.input ≡ one.input) × (done.output ≡ one.output) → (done.links.items ≡ []) × (done.ends.items ≡ one.end ∷ [])
     → (vec_capacity done.links ≡ links_reserved) × (vec_capacity done.ends ≡ ends_reserved)
     → HasRunBetween lanes tools links_reserved ends_reserved input output done
@@ -268,11 +263,15 @@ only_stage lanes tools [] tool links_reserved ends_reserved input output one don
 only_stage lanes tools (t ∷ ts) tool links_reserved ends_reserved input output one done parts none run ends lists reserved =
     absurd (grind (arith, nat_tests))
 
--- a tool that came back
-pub tool_came_back : (lanes : ℕ) (tool : Tool) (input : Receiver) (output : Sender) (result : Option StageDone) (done : StageDone)
-    → IfSome result (HasRunToolBetween lanes tool input output) → result ≡ Some done
-    → HasRunToolBetween lanes tool input output done
-tool_came_back lanes tool input output result done has is = subst (λ (x : Option StageDone). IfSome x (HasRunToolBetween lanes tool input output)) is has
+-- room for several tools is room for fewer
+pub reserved_for_fewer : (count fewer : ℕ) (links : List Link) (links_reserved : ℕ) (ends : List StageEnd) (ends_reserved : ℕ)
+    → IsReserved count links links_reserved ends ends_reserved → fewer ≤ count → IsReserved fewer links links_reserved ends ends_reserved
+reserved_for_fewer count fewer links links_reserved ends ends_reserved reserved less = record {
+  no_links = reserved.no_links;
+  no_ends = reserved.no_ends;
+  for_links = omega (arith, reserved.for_links);
+  for_ends = omega (arith, reserved.for_ends);
+}
 
 -- there is still room for a link and an end
 pub has_reserved : (count lanes : ℕ) (tools : List Tool) (links_reserved ends_reserved : ℕ) (input : Receiver) (output : Sender) (done : ChainDone)

@@ -1,6 +1,7 @@
 pub mod ToolSteps
 pub mod LaneRefusals
 pub mod ToolOverLaws
+pub mod ToolRunSteps
 pub mod ChainSteps
 pub mod StageEndLaws
 pub mod ThreadedRunSteps

@@ -3,10 +3,15 @@ use Rattle.pnm_stages.specs.Rings.{sent, received, known_items, SameSender, Same
 use Rattle.pnm_image.specs.declared.message.Message.{Message}
 use Rattle.pnm_stages.proofs.RingSteps.{still_pair}
 use Rattle.pnm_flow.specs.Chains.{HasRunStages}
-use Rattle.pnm_flow.proofs.ChainSteps.{came_back, has_reserved, stages_joined, only_stage}
+use Rattle.pnm_flow.proofs.ChainSteps.{came_back, has_reserved, only_stage, reserved_for_fewer, stages_joined}
 use Rattle.pnm_flow.proofs.chain.+fn-run_stages-Call+run_stages.Goals as goal
 
 -- a chain of one tool
+pub only-requires : goal.only-requires
+only-requires g t c =
+    reserved_for_fewer (length c.args.tools.now) 1 c.args.reserved.links.items (vec_capacity c.args.reserved.links) c.args.reserved.ends.items
+    (vec_capacity c.args.reserved.ends) c.requires.reserved c.requires.tools.1
+
 pub returns-in-Some-all-clause-ran : goal.returns-in-Some-all-clause-ran
 returns-in-Some-all-clause-ran g t c =
     only_stage c.args.lanes c.args.tools.now c.last_and_others.result.1.now c.last_and_others.result.0.now (vec_capacity c.args.reserved.links)
@@ -66,3 +71,22 @@ returns-in-Some-rest-clause-beside g t c =
     (came_back c.args.lanes c.last_and_others.result.1.now (vec_capacity c.args.reserved.links) (vec_capacity c.args.reserved.ends) c.args.input
     c.in-Some-new_ring.producer _
     c.in-Some-run_tool.rest c.in-Some-rest.chain c.in-Some-rest.beside c.in-Some-run_tool.ensures.beside c.in-Some-rest.is).1
+
+-- a thread can't be started
+pub returns-in_default-run_tool-clause-ran : goal.returns-in_default-run_tool-clause-ran
+returns-in_default-run_tool-clause-ran g t c = tt
+
+pub returns-in_default-run_tool-clause-beside : goal.returns-in_default-run_tool-clause-beside
+returns-in_default-run_tool-clause-beside g t c = tt
+
+pub returns-in_default-run_tool-clause-not_started : goal.returns-in_default-run_tool-clause-not_started
+returns-in_default-run_tool-clause-not_started g t c = tt
+
+pub returns-in-None-rest-clause-ran : goal.returns-in-None-rest-clause-ran
+returns-in-None-rest-clause-ran g t c = tt
+
+pub returns-in-None-rest-clause-beside : goal.returns-in-None-rest-clause-beside
+returns-in-None-rest-clause-beside g t c = tt
+
+pub returns-in-None-rest-clause-not_started : goal.returns-in-None-rest-clause-not_started
+returns-in-None-rest-clause-not_started g t c = tt

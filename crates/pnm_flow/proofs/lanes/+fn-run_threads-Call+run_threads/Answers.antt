@@ -1,5 +1,7 @@
-use Rattle.std.proofs.Common.{arith, vec_capacity}
+use Rattle.std.proofs.Common.{◌≡◌, arith, length, vec_capacity}
 use Rattle.pnm_lanes.proofs.LaneRunSteps.{as_many_run, came_back, has_run_more}
+use Rattle.pnm_lanes.specs.LaneRuns.{HaveRun}
+use Rattle.pnm_flow.proofs.ToolRunSteps.{both_came_back, none_left}
 use Rattle.pnm_flow.proofs.lanes.+fn-run_threads-Call+run_threads.Goals as goal
 
 pub push_reserved-requires : goal.push_reserved-requires
@@ -20,3 +22,21 @@ returns-clause-ran g t c =
     has_run_more c.args.tool.now c.args.lanes.items c.pop.new.self.items c.args.outer (vec_capacity c.args.reserved) c.in_ok-all.all c.push_reserved.new.self
     c.in-Some.ends c.in_ok-done.done run c.in_ok-done.ensures.0
     c.in-Some.ensures.items c.push_reserved.ensures.items c.push_reserved.ensures.capacity
+
+pub returns-clause-beside : goal.returns-clause-beside
+returns-clause-beside g t c =
+    (both_came_back (HaveRun c.args.tool.now c.pop.new.self.items c.args.outer (vec_capacity c.args.reserved)) (g.T.Task.run_gives c.args.beside)
+    c.in_ok-done.rest c.in_ok-all.all c.in_ok-all.beside c.in_ok-done.ensures.1 c.in_ok-all.was).1
+
+-- a thread can't be started
+pub returns-in_err-all-clause-ran : goal.returns-in_err-all-clause-ran
+returns-in_err-all-clause-ran g t c = rw c.from_residual-in_err-all.ensures tt
+
+pub returns-in_err-all-clause-beside : goal.returns-in_err-all-clause-beside
+returns-in_err-all-clause-beside g t c = rw c.from_residual-in_err-all.ensures tt
+
+-- no lane is left
+pub returns-in_default-clause-ran : goal.returns-in_default-clause-ran
+returns-in_default-clause-ran g t c =
+    let none : length c.args.lanes.items ≡ 0 = omega (arith, c.args.lanes.ok, c.in_default.ensures.cases.0) in
+    none_left c.args.tool.now c.args.lanes.items c.args.outer c.args.reserved c.deal_and_gather.result none c.requires.reserved.0 c.deal_and_gather.ensures.ran

@@ -1,4 +1,4 @@
-use Rattle.std.proofs.Common.{rules, [], inr, refl}
+use Rattle.std.proofs.Common.{rules, [], inl, inr, refl}
 use Rattle.pnm_serial.specs.Jobs.{job_of}
 use Rattle.pnm_serial.specs.Runs.{change}
 use Rattle.pnm_flow.proofs.ThreadedAnswerSteps.{unread_has_run}
@@ -12,6 +12,12 @@ returns-in-Err-clause-ran g c =
     rw c.in-Err.ensures.refused
     (inr (unread_has_run c.args.lanes (job_of c.args.tools.now c.args.form) (change g.R.BytesIn.left g.R.BytesIn.failures reader reader)
     (change g.W.BytesOut.held g.W.BytesOut.failures writer writer) refl refl refl))
+
+pub returns-in-Err-clause-same_reader : goal.returns-in-Err-clause-same_reader
+returns-in-Err-clause-same_reader g c = λ differs. g.met.R.BytesIn.same_at_once c.args.reader.now
+
+pub returns-in-Err-clause-same_writer : goal.returns-in-Err-clause-same_writer
+returns-in-Err-clause-same_writer g c = λ differs. g.met.W.BytesOut.same_at_once c.args.writer.now
 
 pub conclude-read-requires-clause-taken : goal.conclude-read-requires-clause-taken
 conclude-read-requires-clause-taken g c =
@@ -31,3 +37,13 @@ returns-clause-ran g c =
     let chain = rw (c.in-Some-Some.ensures.unused.1, c.in-Some-Some.ensures'.unused.0) at c.in-Some.ensures.ran in
     let ran = c.conclude-read.ensures.ran _ _ c.args.lanes job c.requires.chain.lawful feeding collecting chain in
     inr (search rules)
+
+-- the chain isn't started
+pub returns-in_default-both-clause-ran : goal.returns-in_default-both-clause-ran
+returns-in_default-both-clause-ran g c = inl refl
+
+pub returns-in_default-both-clause-same_reader : goal.returns-in_default-both-clause-same_reader
+returns-in_default-both-clause-same_reader g c = λ differs. absurd (differs refl)
+
+pub returns-in_default-both-clause-same_writer : goal.returns-in_default-both-clause-same_writer
+returns-in_default-both-clause-same_writer g c = λ differs. absurd (differs refl)

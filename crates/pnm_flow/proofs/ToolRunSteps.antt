@@ -1,0 +1,66 @@
+-- What comes of a tool's threads, and of what is done beside them.
+use Rattle.std.proofs.Common.{◌≡◌, ℕ, List, [], ◌∷◌, ◌∙◌, length, Option, Some, None, inl, sym, ap, subst}
+use Rattle.std.specs.Prelude.{IfSome, vec_capacity}
+use Rattle.std.specs.Global.{Vec}
+use Rattle.pnm_tools.specs.declared.tool.Tool.{Tool}
+use Rattle.pnm_stages.specs.declared.sender.Sender.{Sender}
+use Rattle.pnm_stages.specs.declared.receiver.Receiver.{Receiver}
+use Rattle.pnm_stages.specs.declared.stage.StageDone.{StageDone}
+use Rattle.pnm_flow.specs.declared.tool_run.Across.{Across}
+use Rattle.pnm_flow.specs.declared.tool_run.Across.TheVariants.{Lanes}
+use Rattle.pnm_lanes.specs.declared.around.OuterRingEnds.{OuterRingEnds}
+use Rattle.pnm_lanes.specs.declared.joining.LanesDone.{LanesDone}
+use Rattle.pnm_lanes.specs.declared.lane_rings.LaneRingEnds.{LaneRingEnds}
+use Rattle.pnm_lanes.specs.declared.lane_rings.LaneRings.{LaneRings}
+use Rattle.pnm_lanes.specs.LaneRuns.{AreLanesRun, HaveDealtAndGathered, HaveRun}
+use Rattle.pnm_flow.specs.Chains.{RunsInLanes, IsAcross, IsToolRun, IsLanesRun}
+
+-- a tool that has run over several lanes
+lanes_ran : (lanes : ℕ) (tool : Tool) (input : Receiver) (output : Sender) (done : StageDone) → RunsInLanes lanes tool
+    → IsLanesRun tool input output done → IsToolRun lanes tool input output done
+lanes_ran lanes tool input output done several run = (
+  run.0,
+  run.1,
+  record {
+    took = run.2.took;
+    gave = run.2.gave;
+    input = run.2.input;
+    output = run.2.output;
+    seen_taken = run.2.seen_taken;
+    stage = inl (several, run.2.stage);
+  },
+)
+
+-- its threads came back
+pub lanes_came_back : (lanes : ℕ) (tool : Tool) (across : Across) (rings : LaneRings) (tells : Sender) (hears : Receiver) (input : Receiver) (output : Sender)
+    (result : Option StageDone) (done : StageDone)
+    → IsAcross lanes tool across → across ≡ Lanes rings tells hears → IfSome result (IsLanesRun tool input output) → result ≡ Some done
+    → IsToolRun lanes tool input output done
+lanes_came_back lanes tool across rings tells hears input output result done over is has came =
+    lanes_ran lanes tool input output done (subst (IsAcross lanes tool) is over).0
+    (subst (λ (x : Option StageDone). IfSome x (IsLanesRun tool input output)) came has)
+
+-- what was done beside threads came back
+pub beside_came_back : {B : Type 0} (Q : B → Type 0) (result : Option B) (b : B) → IfSome result Q → result ≡ Some b → Q b
+beside_came_back {B = B} Q result b has is = subst (λ (x : Option B). IfSome x Q) is has
+
+-- and so it did, with the threads
+pub both_came_back : {A B : Type 0} (P : A → Type 0) (Q : B → Type 0) (result : Option (A × B)) (a : A) (b : B) → IfSome result (λ r. P r.0 × Q r.1)
+    → result ≡ Some (a, b) → P a × Q b
+both_came_back {A = A} {B = B} P Q result a b has is = subst (λ (x : Option (A × B)). IfSome x (λ r. P r.0 × Q r.1)) is has
+
+-- the threads around lanes came back, of which none is left
+pub none_left : {B : Type 0} (tool : Tool) (lanes : List LaneRingEnds) (outer : OuterRingEnds) (reserved : Vec StageDone) (result : Option (LanesDone × B))
+    → length lanes ≡ 0 → reserved.items ≡ [] → IfSome result (λ r. HaveDealtAndGathered outer reserved r.0)
+    → IfSome result (λ r. HaveRun tool lanes outer (vec_capacity reserved) r.0)
+none_left tool (x ∷ lanes) outer reserved result none empty run = absurd cc
+none_left tool [] outer reserved None none empty run = tt
+none_left tool [] outer reserved (Some (done, b)) none empty run = record {
+  input = run.0.0;
+  dealt = run.0.1;
+  lanes_run = subst (AreLanesRun tool []) (sym (ap (λ (v : Vec StageDone). v.items) run.2 ∙ empty)) tt;
+  inputs = run.1.0;
+  output = run.1.1;
+  gathered = run.1.2;
+  for_lanes = ap (λ (v : Vec StageDone). vec_capacity v) run.2;
+}
