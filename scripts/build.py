@@ -186,18 +186,23 @@ class Build:
             names = [name for name in names if not any(os.path.isdir(left_of(name, part)) for part in LEFT)]
         return sorted(names, key=lambda it: -self.behind[it])
 
-    def jobs(self, place):
-        """How many processors the next check gets: of the free ones its share, where others can begin now, too, and of
-        four and more at least two on the longest chain. A check takes more time of all processors together the more of
-        them it has."""
+    def is_longest(self, name):
+        """Whether no crate that is being proved, or can be now, has a longer chain above it."""
+        others = [it.run.name for it in self.places if it.run] + self.ready()
+        return all(self.behind[name] >= self.behind[it] for it in others)
+
+    def jobs(self, name):
+        """How many processors the crate's check gets: of the free ones its share, where others can begin now, too, and
+        of four and more at least two on the longest chain. A check takes more time of all processors together the more
+        of them it has."""
         busy = [it for it in self.places if it.run]
         free = processors() - sum(it.jobs for it in busy)
         checks = min(len(self.rooms) - len(busy), len(self.ready()))
-        least = 1 if place.is_copy or processors() < 4 else 2
+        least = 2 if self.is_longest(name) and processors() >= 4 else 1
         return max(least, min(MOST_JOBS, -(-free // checks)))
 
     def begin(self, place, name):
-        place.jobs = self.jobs(place)
+        place.jobs = self.jobs(name)
         # (rt chooses by the memory that there is, where one check is all that there is room for)
         chooses = len(self.rooms) == 1 and "RT_JOBS" not in os.environ
         words = ["lib"] if chooses else ["lib", "--jobs", str(place.jobs)]
