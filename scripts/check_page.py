@@ -52,7 +52,7 @@ def fault_names():
     names = set()
     for path in sources():
         names.update(re.findall(r'#\[error\("(\w+)"\)\]', read(path)))
-    own = re.findall(r'"pnmpipe: [^"]*?(\w+)"', read("crates/pnmpipe/src/fault_line.rt"))
+    own = re.findall(r'"pnmpipe: [^"]*?(\w+)"', read("crates/pnm_command_line/src/fault_line.rt"))
     return names | set(own)
 
 

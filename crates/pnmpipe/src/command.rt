@@ -11,9 +11,11 @@ ghost use Rattle.pnm_lanes.specs.Limits.{IsLaneCount};
 ghost use Rattle.pnm_stages.specs.Limits.{IsRingCapacity};
 ghost use Rattle.pnm_tools.specs.Chains.{IsChain};
 
-use crate::fault_line::{print_chain_fault, print_run_fault, print_usage, print_want_of_memory};
 use pnm_chain::parse_chain;
-use pnm_command_line::{CommandLineFault, read_words};
+use pnm_command_line::{
+    CommandLineFault, print_chain_fault, print_run_fault, print_usage, print_want_of_memory,
+    read_words,
+};
 use pnm_flow::{OpenGate, run};
 use pnm_image::{BytesIn, BytesOut, Form, write_all};
 use pnm_tools::Tool;

@@ -1,7 +1,7 @@
 //! The lines that are printed for faults.
 
-use crate::fault_line::{print_chain_fault, print_run_fault, print_want_of_memory};
 use pnm_chain::{ChainFault, ChainKind};
+use pnm_command_line::{print_chain_fault, print_run_fault, print_want_of_memory};
 use pnm_flow::RunFault;
 use pnm_read::InputFault;
 use pnm_tools::ToolFault;

@@ -1,9 +1,9 @@
 //! The lines that are printed for faults. Where one can't be written it is left out.
 
+use crate::command_line::USAGE;
 use itoa::Buffer;
 use pnm_chain::ChainFault;
-use pnm_command_line::USAGE;
-use pnm_flow::RunFault;
+use pnm_serial::RunFault;
 use std::io::Write;
 
 /// The line for words that are no command line.
