@@ -11,7 +11,9 @@ import subprocess
 import sys
 import tempfile
 import time
+import types
 import unittest
+import unittest.mock
 
 import build
 
@@ -168,6 +170,16 @@ class Building(Repository):
         self.assertIn("6 of 6: pnmpipe", printed)
         status, _ = self.run_script("build.py", RT_JOBS="4")
         self.assertEqual((status, [line for line in self.notes() if line.startswith("proves")]), (0, []))
+
+    def test_the_longest_chain_has_two_processors_where_others_have_the_rest(self):
+        with unittest.mock.patch.dict(os.environ, {"RT_JOBS": "4"}):
+            for last, others, jobs in (("pnm_flow", "pnm_command_line", 2), ("pnm_command_line", "pnm_flow", 1)):
+                this = build.Build(["checkout", "copy", "other copy"])
+                this.left = [last]
+                this.proved = set(this.crates) - {last}
+                run = types.SimpleNamespace(name=others)
+                this.places = [types.SimpleNamespace(run=run, jobs=2), types.SimpleNamespace(run=run, jobs=1)]
+                self.assertEqual(this.jobs(last), jobs)
 
     def test_one_processor_makes_no_copy(self):
         status, printed = self.run_script("build.py", RT_JOBS="1")

@@ -16,7 +16,7 @@ use pnm_stages::MAX_RING_CAPACITY;
 use std::alloc::{AllocError, Global};
 
 /// How the program is called.
-pub const USAGE: &str = "pnmpipe [--ring N] [--lanes K] [--plain] CHAIN";
+pub(crate) const USAGE: &str = "pnmpipe [--ring N] [--lanes K] [--plain] CHAIN";
 
 const ABOUT: &str = "Passes a stream of PBM, PGM, PPM or PAM images through a chain of tools, as in
   pnmpipe 'pamcut -width 640 | pamflip -lr' < a.ppm > b.ppm
@@ -146,7 +146,7 @@ fn ring_option<'a>(alloc: Global) -> Arg<'a>
     ensures { rule_of result ≡ ring_rule }
 {
     let parser = value_parser!(u16).range(1..=MAX_RING_CAPACITY as i64);
-    number_option(alloc, "ring", "N", parser, "64", RING_HELP)
+    value_option(alloc, "ring", "N", parser, "64", RING_HELP)
 }
 
 /// The option `--lanes`.
@@ -154,14 +154,14 @@ fn lanes_option<'a>(alloc: Global) -> Arg<'a>
     ensures { rule_of result ≡ lanes_rule }
 {
     let parser = value_parser!(u8).range(1..=MAX_LANES as i64);
-    number_option(alloc, "lanes", "K", parser, "1", LANES_HELP)
+    value_option(alloc, "lanes", "K", parser, "1", LANES_HELP)
 }
 
-/// An option with a number.
-fn number_option<'a>(
+/// An option whose value is given by this parser, and is the default where it isn't given.
+fn value_option<'a>(
     alloc: Global,
     name: &'a str,
-    letter: &'a str,
+    value_name: &'a str,
     parser: ValueParser<'a>,
     default: &'a str,
     help: &'a str,
@@ -170,7 +170,7 @@ fn number_option<'a>(
 {
     Arg::new(alloc, name)
         .long(name)
-        .value_name(letter)
+        .value_name(value_name)
         .action(ArgAction::Set)
         .value_parser(parser)
         .default_value(default)

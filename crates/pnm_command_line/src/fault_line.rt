@@ -1,4 +1,4 @@
-//! The lines that are printed for faults. Where one can't be written it is left out.
+//! The lines that are printed for faults.
 
 use crate::command_line::USAGE;
 use itoa::Buffer;
@@ -6,17 +6,18 @@ use pnm_chain::ChainFault;
 use pnm_serial::RunFault;
 use std::io::Write;
 
-/// The line for words that are no command line.
+/// Prints the usage line, for words that are no command line. Where it can't be written it is left out.
 pub fn print_usage<E: Write>(errors: &mut E) {
     let _ = writeln!(errors, "pnmpipe: usage: {USAGE}");
 }
 
-/// The line for want of memory before the chain is read.
+/// Prints the line for want of memory before the chain is read. Where it can't be written it is left out.
 pub fn print_want_of_memory<E: Write>(errors: &mut E) {
     let _ = writeln!(errors, "pnmpipe: command line: Memory");
 }
 
-/// The line for a text that is no chain.
+/// Prints the line for a text that is no chain: the number of the stage, unless that is 0, and the kind of the fault.
+/// Where it can't be written it is left out.
 pub fn print_chain_fault<E: Write>(errors: &mut E, fault: ChainFault) {
     let ChainFault { stage, kind } = fault;
     let _ = if stage == 0 {
@@ -31,7 +32,7 @@ pub fn print_chain_fault<E: Write>(errors: &mut E, fault: ChainFault) {
     };
 }
 
-/// The line for a run that ended in a fault.
+/// Prints the line for a run that ended in a fault. Where it can't be written it is left out.
 pub fn print_run_fault<E: Write>(errors: &mut E, fault: RunFault) {
     let mut digits = Buffer::new();
     let _ = match fault {

@@ -9,4 +9,4 @@ pub returns : goal.returns
 returns c =
     let parser_is : c.range-parser.result ≡ Signed (pos 1) (pos MAX_LANES) =
     rw (c.value_parser.ensures, c.new.ensures.start, c.new.ensures.end) at c.range-parser.ensures in
-    c.number_option.ensures ∙ ap (λ (parser : ValueParser). value_rule (codes "lanes") (codes "1") parser) parser_is
+    c.value_option.ensures ∙ ap (λ (parser : ValueParser). value_rule (codes "lanes") (codes "1") parser) parser_is

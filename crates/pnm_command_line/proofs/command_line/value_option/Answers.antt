@@ -1,5 +1,5 @@
 use Rattle.std.proofs.Common.{rules, ap, ◌≡◌, ◌∙◌, Some}
-use Rattle.pnm_command_line.proofs.command_line.number_option.Goals as goal
+use Rattle.pnm_command_line.proofs.command_line.value_option.Goals as goal
 
 pub returns : goal.returns
 returns c =
