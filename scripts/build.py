@@ -21,7 +21,7 @@ import time
 from crates import ROOT, SOURCES, Ended, below, copy_lines, end_by_signals, read_crates
 
 PROGRAM = "pnmpipe"
-TOLD = "from nothing 15 minutes on 4 cores with nothing beside"
+TOLD = "from nothing 12 minutes on 4 cores with nothing beside"
 
 # what a check leaves of a crate, how much memory it wants, and how many processors it makes use of
 LEFT = ("incremental", "rlib")
