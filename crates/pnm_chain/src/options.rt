@@ -71,6 +71,7 @@ impl ToolOption {
     }
 }
 
+#[tactic(auto, using(crate::proofs::NameLaws::tried_after), unfolding(crate::specs::Options::cut_option))]
 fn cut_option(name: &[u8]) -> Option<ToolOption>
     ensures { result ≡ cut_option name.now }
 {

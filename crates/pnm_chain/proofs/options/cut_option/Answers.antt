@@ -1,9 +1,0 @@
-use Rattle.std.proofs.Common.{arith}
-use Rattle.std.proofs.lemmas.Grind.{common_steps}
-use Rattle.pnm_chain.specs.Options.{cut_option}
-use Rattle.pnm_chain.proofs.NameLaws.{tried_after}
-use Rattle.pnm_chain.proofs.options.cut_option.Goals as goal
-
-pub returns : goal.returns
-unfolding cut_option
-returns c = grind (arith, common_steps, tried_after)
