@@ -12,7 +12,7 @@ use Rattle.pnm_tools.specs.Channel.{picks}
 use Rattle.pnm_tools.specs.declared.tool.Tool.{Tool}
 use Rattle.pnm_tools.specs.declared.tool.Tool.TheVariants as tools
 use Rattle.pnm_chain.specs.declared.options.ToolName.{ToolName}
-use Rattle.pnm_chain.specs.declared.options.ToolName.TheVariants.{Channel, Depth, Enlarge, Tile}
+use Rattle.pnm_chain.specs.declared.options.ToolName.TheVariants.{Channel, Enlarge, Tile}
 use Rattle.pnm_chain.specs.declared.options.ToolOption.TheVariants.{XScale, YScale}
 use Rattle.pnm_chain.specs.declared.settings.Settings.{Settings}
 use Rattle.pnm_chain.specs.Items.{Item, arguments_of, factor_by, meant_by, numbers_of, option_number, option_value, end_fault}

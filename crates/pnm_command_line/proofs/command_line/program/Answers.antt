@@ -1,5 +1,5 @@
 -- What a parse reads of the command, argument by argument.
-use Rattle.std.proofs.Common.{ap₂, refl, ◌≡◌, ◌∙◌}
+use Rattle.std.proofs.Common.{ap₂, refl, ◌∙◌}
 use Rattle.std.proofs.lemmas.Result.{IfOk-weaker}
 use Rattle.clap.specs.Words.{with_rule}
 use Rattle.pnm_command_line.proofs.CommandLineSteps.{local_by_rule}
