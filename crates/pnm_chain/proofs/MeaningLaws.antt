@@ -1,10 +1,10 @@
 -- The tool that settings mean, and their fault, are those of their items.
-use Rattle.std.proofs.Common.{◌≡◌, ◌<◌, ◌⊎◌, ℕ, suc, Bool, true, false, not, ◌&&◌}
+use Rattle.std.proofs.Common.{◌≡◌, ◌<◌, ◌≤◌, ◌⊎◌, ℕ, suc, Bool, true, false, not, ◌&&◌}
 use Rattle.std.proofs.Common.{◌||◌, nat_lt, if◌then◌else◌, Option, Some, None, is_some, option_map, slice_get, List}
 use Rattle.std.proofs.Common.{Result, IfOk, IfErr, unwrap_or, inl, inr, [], ◌∷◌, length, map, refl, sym, ap, ap₂, subst, ◌∙◌, arith}
-use Rattle.std.specs.List.{slice_index_or}
 use Rattle.std.proofs.lemmas.Result.{IfOk-weaker, IfErr-weaker}
 use Rattle.std.proofs.lemmas.Bool.Decides.{nat_tests}
+use Rattle.std.proofs.lemmas.Option.{unwrap_or-slice_get}
 use Rattle.pnm_image.specs.Texts.{decimal_value}
 use Rattle.pnm_chain.specs.declared.chain_text.ChainKind.{ChainKind}
 use Rattle.pnm_chain.specs.declared.chain_text.ChainKind.TheVariants.{Conflict, Memory, MissingArgument}
@@ -17,6 +17,7 @@ use Rattle.pnm_chain.specs.declared.options.ToolOption.TheVariants.{XScale, YSca
 use Rattle.pnm_chain.specs.declared.settings.Settings.{Settings}
 use Rattle.pnm_chain.specs.Items.{Item, arguments_of, factor_by, meant_by, numbers_of, option_number, option_value, end_fault}
 use Rattle.pnm_chain.specs.Settings.{AreSettingsOf, factors_fault, factors_meant, value_read}
+use Rattle.pnm_chain.specs.ChainText.{IsRefusal}
 use Rattle.pnm_chain.proofs.ItemLaws.{end_by}
 
 -- the fault of a number of arguments, and of whether there is a scale
@@ -53,7 +54,7 @@ IsMeant tool s meaning = (items : List Item) → AreSettingsOf tool items s → 
 
 -- this fault ends them, or it is want of memory
 abbrev pub IsEndFault : ToolName → Settings → ChainKind → Type 0
-IsEndFault tool s kind = (items : List Item) → AreSettingsOf tool items s → (kind ≡ Memory) ⊎ (end_fault tool items ≡ Some kind)
+IsEndFault tool s kind = (items : List Item) → AreSettingsOf tool items s → IsRefusal (end_fault tool items) kind
 
 factors_by : (numbers : List ℕ) (across down : Option ℕ)
     → factors_meant (slice_get numbers 0) across down ≡ tools.Enlarge (factor_by numbers across) (factor_by numbers down)
@@ -81,12 +82,12 @@ enlarge_refused s r = IfErr-weaker r (λ kind. factors_fault s.first s.across s.
 abbrev few_by : ℕ → List (List ℕ) → Option ChainKind
 few_by wanted arguments = end_by false (nat_lt (length arguments) wanted)
 
+enough : (n wanted : ℕ) → wanted ≤ n → end_by false (nat_lt n wanted) ≡ None
+enough n wanted many = grind (arith, nat_tests)
+
 some_there : (arguments : List (List ℕ)) → 0 < length (map decimal_value arguments) → few_by 1 arguments ≡ None
 some_there [] some = absurd (omega arith)
-some_there (word ∷ words) some = refl_by (length words)
-  where
-    refl_by : (n : ℕ) → end_by false (nat_lt (suc n) 1) ≡ None
-    refl_by n = grind (arith, nat_tests)
+some_there (word ∷ words) some = enough (suc (length words)) 1 (omega arith)
 
 none_there : (arguments : List (List ℕ)) → map decimal_value arguments ≡ [] → few_by 1 arguments ≡ Some MissingArgument
 none_there [] none = refl
@@ -118,10 +119,7 @@ two_there : (arguments : List (List ℕ))
     → (is_some (slice_get (map decimal_value arguments) 0) && is_some (slice_get (map decimal_value arguments) 1)) ≡ true → few_by 2 arguments ≡ None
 two_there [] two = absurd cc
 two_there (word ∷ []) two = absurd cc
-two_there (word ∷ other ∷ words) two = refl_by (length words)
-  where
-    refl_by : (n : ℕ) → end_by false (nat_lt (suc (suc n)) 2) ≡ None
-    refl_by n = grind (arith, nat_tests)
+two_there (word ∷ other ∷ words) two = enough (suc (suc (length words))) 2 (omega arith)
 
 one_missing : (arguments : List (List ℕ))
     → (is_some (slice_get (map decimal_value arguments) 0) && is_some (slice_get (map decimal_value arguments) 1)) ≡ false
@@ -129,15 +127,6 @@ one_missing : (arguments : List (List ℕ))
 one_missing [] one = refl
 one_missing (word ∷ []) one = refl
 one_missing (word ∷ other ∷ words) one = absurd cc
-
-numbers_by : (numbers : List ℕ) → unwrap_or (slice_get numbers 0) 0 ≡ slice_index_or numbers 0 0
-numbers_by [] = refl
-numbers_by (n ∷ numbers) = refl
-
-second_by : (numbers : List ℕ) → unwrap_or (slice_get numbers 1) 0 ≡ slice_index_or numbers 1 0
-second_by [] = refl
-second_by (n ∷ []) = refl
-second_by (n ∷ m ∷ numbers) = refl
 
 pub tile_meant : (s : Settings) (r : Result Tool ChainKind)
     → IfOk r (λ tool. ((is_some s.first && is_some s.second) ≡ true) × (tool ≡ tools.Tile (unwrap_or s.first 0) (unwrap_or s.second 0)))
@@ -149,7 +138,7 @@ tile_meant s r =
           (sym (ap₂ (λ (one other : Option ℕ). is_some one && is_some other) h.arguments_are.0 h.arguments_are.1) ∙ made.0),
       made.1
           ∙ ap₂ (λ (one other : Option ℕ). tools.Tile (unwrap_or one 0) (unwrap_or other 0)) h.arguments_are.0 h.arguments_are.1
-          ∙ ap₂ (λ (one other : ℕ). tools.Tile one other) (numbers_by (numbers_of items)) (second_by (numbers_of items)),
+          ∙ ap₂ (λ (one other : ℕ). tools.Tile one other) (unwrap_or-slice_get (numbers_of items) 0 0) (unwrap_or-slice_get (numbers_of items) 1 0),
     ))
 
 pub tile_refused : (s : Settings) (r : Result Tool ChainKind)

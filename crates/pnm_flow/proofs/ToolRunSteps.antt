@@ -15,6 +15,10 @@ use Rattle.pnm_lanes.specs.declared.lane_rings.LaneRings.{LaneRings}
 use Rattle.pnm_lanes.specs.LaneRuns.{AreLanesRun, HaveDealtAndGathered, HaveRun}
 use Rattle.pnm_flow.specs.Chains.{RunsInLanes, IsAcross, IsToolRun, IsLanesRun}
 
+-- what threads, and what was done beside them, came back with
+pub came_so : {B : Type 0} (P : B → Type 0) (result : Option B) (b : B) → IfSome result P → result ≡ Some b → P b
+came_so {B = B} P result b has is = subst (λ (x : Option B). IfSome x P) is has
+
 -- a tool that has run over several lanes
 lanes_ran : (lanes : ℕ) (tool : Tool) (input : Receiver) (output : Sender) (done : StageDone) → RunsInLanes lanes tool
     → IsLanesRun tool input output done → IsToolRun lanes tool input output done
@@ -38,16 +42,7 @@ pub lanes_came_back : (lanes : ℕ) (tool : Tool) (across : Across) (rings : Lan
     → IsToolRun lanes tool input output done
 lanes_came_back lanes tool across rings tells hears input output result done over is has came =
     lanes_ran lanes tool input output done (subst (IsAcross lanes tool) is over).0
-    (subst (λ (x : Option StageDone). IfSome x (IsLanesRun tool input output)) came has)
-
--- what was done beside threads came back
-pub beside_came_back : {B : Type 0} (Q : B → Type 0) (result : Option B) (b : B) → IfSome result Q → result ≡ Some b → Q b
-beside_came_back {B = B} Q result b has is = subst (λ (x : Option B). IfSome x Q) is has
-
--- and so it did, with the threads
-pub both_came_back : {A B : Type 0} (P : A → Type 0) (Q : B → Type 0) (result : Option (A × B)) (a : A) (b : B) → IfSome result (λ r. P r.0 × Q r.1)
-    → result ≡ Some (a, b) → P a × Q b
-both_came_back {A = A} {B = B} P Q result a b has is = subst (λ (x : Option (A × B)). IfSome x (λ r. P r.0 × Q r.1)) is has
+    (came_so (IsLanesRun tool input output) result done has came)
 
 -- the threads around lanes came back, of which none is left
 pub none_left : {B : Type 0} (tool : Tool) (lanes : List LaneRingEnds) (outer : OuterRingEnds) (reserved : Vec StageDone) (result : Option (LanesDone × B))

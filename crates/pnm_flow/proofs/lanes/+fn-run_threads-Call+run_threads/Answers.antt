@@ -1,7 +1,7 @@
 use Rattle.std.proofs.Common.{◌≡◌, arith, length, vec_capacity}
 use Rattle.pnm_lanes.proofs.LaneRunSteps.{as_many_run, came_back, has_run_more}
 use Rattle.pnm_lanes.specs.LaneRuns.{HaveRun}
-use Rattle.pnm_flow.proofs.ToolRunSteps.{both_came_back, none_left}
+use Rattle.pnm_flow.proofs.ToolRunSteps.{came_so, none_left}
 use Rattle.pnm_flow.proofs.lanes.+fn-run_threads-Call+run_threads.Goals as goal
 
 pub push_reserved-requires : goal.push_reserved-requires
@@ -25,8 +25,8 @@ returns-clause-ran g t c =
 
 pub returns-clause-beside : goal.returns-clause-beside
 returns-clause-beside g t c =
-    (both_came_back (HaveRun c.args.tool.now c.pop.new.self.items c.args.outer (vec_capacity c.args.reserved)) (g.T.Task.run_gives c.args.beside)
-    c.in_ok-done.rest c.in_ok-all.all c.in_ok-all.beside c.in_ok-done.ensures.1 c.in_ok-all.was).1
+    (came_so (λ r. HaveRun c.args.tool.now c.pop.new.self.items c.args.outer (vec_capacity c.args.reserved) r.0 × g.T.Task.run_gives c.args.beside r.1)
+    c.in_ok-done.rest (c.in_ok-all.all, c.in_ok-all.beside) c.in_ok-done.ensures.1 c.in_ok-all.was).1
 
 -- a thread can't be started
 pub returns-in_err-all-clause-ran : goal.returns-in_err-all-clause-ran

@@ -1,4 +1,4 @@
-use Rattle.pnm_flow.proofs.ToolRunSteps.{lanes_came_back, beside_came_back}
+use Rattle.pnm_flow.proofs.ToolRunSteps.{lanes_came_back, came_so}
 use Rattle.pnm_flow.proofs.tool_run.run_tool.Goals as goal
 
 -- over several lanes
@@ -9,7 +9,7 @@ returns-in_ok-beside-in-Lanes-clause-ran g c =
 
 pub returns-in_ok-beside-in-Lanes-clause-beside : goal.returns-in_ok-beside-in-Lanes-clause-beside
 returns-in_ok-beside-in-Lanes-clause-beside g c =
-    beside_came_back (g.T.Task.run_gives c.args.beside) c.in_ok-done-in-Lanes.beside c.in_ok-beside-in-Lanes.field-0 c.in_ok-done-in-Lanes.ensures.1
+    came_so (g.T.Task.run_gives c.args.beside) c.in_ok-done-in-Lanes.beside c.in_ok-beside-in-Lanes.field-0 c.in_ok-done-in-Lanes.ensures.1
     c.in_ok-beside-in-Lanes.was
 
 -- a thread can't be started
