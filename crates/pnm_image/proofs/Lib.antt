@@ -1,7 +1,7 @@
 pub mod Heads
 pub mod Lists
 pub mod Places
-pub mod Rows
+pub mod RowLaws
 pub mod Streams
 pub mod BoolLaws
 pub mod Written

@@ -13,7 +13,7 @@ use Rattle.pnm_image.specs.Messages.{IsMessage, EndsStream, without_stop}
 use Rattle.pnm_image.specs.Places.{IsRowOf, IsLawfulFrom, IsLawful}
 use Rattle.pnm_image.specs.Images.{Image, AreImages, rows_of, messages_of_stream}
 use Rattle.pnm_image.specs.Completion.{IsPrefixOf, IsStreamOf}
-use Rattle.pnm_image.proofs.Rows.{AreRowsOf, image_of, IsImage-image_of, rows_of-image_of, image_of-rows_of, length-rows_of, AreRowsOf-rows_of}
+use Rattle.pnm_image.proofs.RowLaws.{AreRowsOf, image_of, IsImage-image_of, rows_of-image_of, image_of-rows_of, length-rows_of, AreRowsOf-rows_of}
 
 -- the rows of an image that are still to come, its end, and what follows the image
 abbrev pub rest_of_image : List (List ℕ) → List Message → List Message

@@ -6,5 +6,6 @@ pub mod Heads
 pub mod SampleWidths
 pub mod Messages
 pub mod Places
+pub mod Rows
 pub mod Images
 pub mod Completion

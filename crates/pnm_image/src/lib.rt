@@ -13,6 +13,7 @@ pub mod laws;
 pub mod limits;
 mod message;
 mod place;
+mod rows;
 mod sample_width;
 mod shape;
 
@@ -22,5 +23,6 @@ pub use head::{Head, HeadFault};
 pub use message::{Ending, Message};
 pub use place::Place;
 pub use pnm_samples::{Bits, SampleSlice, SampleVec, Samples};
+pub use rows::Rows;
 pub use sample_width::SampleWidth;
 pub use shape::{Kind, Shape};

@@ -1,9 +1,12 @@
 //! The place in a stream, and which message may come there.
 
 ghost use Rattle.std.specs.Prelude.{◌≡◌, ◌↔◌, IsTrue};
-ghost use Rattle.pnm_image.specs.Places.{Accepts, IsRowOf, place_after};
+ghost use Rattle.std.specs.List.{AllByRecursion};
+ghost use Rattle.pnm_image.specs.Places.{Accepts, IsRowOf, IsLawfulFrom, place_after, place_of};
+ghost use Rattle.pnm_image.specs.Rows.{row_messages};
 
 use crate::message::Message;
+use crate::rows::Rows;
 use crate::shape::Shape;
 use pnm_samples::Samples;
 
@@ -45,6 +48,30 @@ impl Place {
         }
     }
 
+    /// Whether the rows may come here, one after another.
+    pub fn accepts_rows(&self, rows: &Rows) -> bool
+        ensures { IsTrue result ↔ IsLawfulFrom self.now (row_messages rows.now) }
+    {
+        let count = u64::from(rows.count());
+        if let Place::Inside(shape, y) = self {
+            u64::from(*y) + count <= u64::from(shape.height) && are_rows_of(shape, rows)
+        } else {
+            false
+        }
+    }
+
+    /// Goes on to the place after the rows.
+    pub fn step_rows(&mut self, rows: &Rows)
+        requires { IsLawfulFrom self.old (row_messages rows.now) }
+        ensures { self.new ≡ place_of self.old (row_messages rows.now) }
+    {
+        let count = rows.count();
+        if let Place::Inside(shape, y) = self {
+            prove!(*y < shape.height);
+            *y += count;
+        }
+    }
+
     /// Goes on to the place after the message.
     #[inline(always)]
     pub fn step(&mut self, message: &Message)
@@ -71,4 +98,11 @@ fn is_row_of(shape: &Shape, row: &Samples) -> bool
     ensures { IsTrue result ↔ IsRowOf shape.now row.now }
 {
     row.len() as u64 == shape.row_length() && row.are_within(shape.maxval)
+}
+
+/// Whether each row has so many samples, none of them above the maxval.
+fn are_rows_of(shape: &Shape, rows: &Rows) -> bool
+    ensures { IsTrue result ↔ AllByRecursion (IsRowOf shape.now) rows.now }
+{
+    rows.row_length() as u64 == shape.row_length() && rows.samples().are_within(shape.maxval)
 }

@@ -9,7 +9,7 @@ use Rattle.pnm_image.specs.declared.message.Message.{Message}
 use Rattle.pnm_image.specs.declared.message.Message.TheVariants.{Row}
 use Rattle.pnm_image.specs.Heads.{HeadValue, IsHead, row_length, with_height}
 use Rattle.pnm_image.specs.Images.{Image, IsImage, rows_of}
-use Rattle.pnm_image.proofs.Rows.{AreRowsOf, image_of, IsImage-image_of, rows_of-image_of, AreRowsOf-rows_of, length-rows_of}
+use Rattle.pnm_image.proofs.RowLaws.{AreRowsOf, image_of, IsImage-image_of, rows_of-image_of, AreRowsOf-rows_of, length-rows_of}
 use Rattle.pnm_image.specs.declared.format.Format.{Format}
 use Rattle.pnm_read.specs.Texts.{begins_apart}
 use Rattle.pnm_read.specs.Rasters.{MayFollowSample, SpellsRaw, SpellsPlain}

@@ -13,7 +13,7 @@ use Rattle.pnm_image.specs.declared.message.Message.TheVariants.{Row, ImageEnd}
 use Rattle.pnm_image.specs.Heads.{HeadValue, IsHead, Suits, row_length}
 use Rattle.pnm_image.specs.Images.{Image, cut_rows, rows_of}
 use Rattle.pnm_image.specs.Places.{IsRowOf}
-use Rattle.pnm_image.proofs.Rows.{AreRowsOf, image_of, IsImage-image_of, rows_of-image_of, AreRowsOf-rows_of}
+use Rattle.pnm_image.proofs.RowLaws.{AreRowsOf, image_of, IsImage-image_of, rows_of-image_of, AreRowsOf-rows_of}
 use Rattle.pnm_read.specs.declared.fault.InputFault.{InputFault}
 use Rattle.pnm_image.specs.declared.format.Format.{Format}
 use Rattle.pnm_image.specs.declared.sample_width.SampleWidth.{SampleWidth}

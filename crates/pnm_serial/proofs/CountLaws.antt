@@ -4,7 +4,7 @@ use Rattle.std.proofs.lemmas.List.Sums.{sum_by-cons}
 use Rattle.pnm_image.specs.declared.message.Message.{Message}
 use Rattle.pnm_image.specs.declared.message.Message.TheVariants.{Row, ImageEnd}
 use Rattle.pnm_image.specs.Images.{Image, rows_of, messages_of_stream}
-use Rattle.pnm_image.proofs.Rows.{length-rows_of}
+use Rattle.pnm_image.proofs.RowLaws.{length-rows_of}
 use Rattle.pnm_serial.specs.Counts.{saturate_u64, images_in, rows_in}
 
 -- the messages of an image after its head, and more messages

@@ -10,7 +10,7 @@ use Rattle.pnm_write.specs.declared.fault.SinkFault.TheVariants.{SecondPlain}
 use Rattle.pnm_write.specs.Forms.{plain_kind_fault, plain_images_fault, images_fault}
 use Rattle.pnm_image.specs.Heads.{HeadValue, IsHead}
 use Rattle.pnm_image.specs.Images.{Image, IsImage, AreImages, cut_rows, rows_of}
-use Rattle.pnm_image.proofs.Rows.{AreRowsOf, AreRowsOf-rows_of, length-rows_of}
+use Rattle.pnm_image.proofs.RowLaws.{AreRowsOf, AreRowsOf-rows_of, length-rows_of}
 use Rattle.pnm_read.specs.Rasters.{raw_samples, bytes_in_row, SpellsRaw}
 use Rattle.pnm_read.specs.Spelling.{SpellsRawImage, SpellsRawImages, SpellsPlainAlone, Spells}
 use Rattle.pnm_write.specs.Encoding.{header_text, row_bytes, image_bytes, encoding_of}

@@ -6,7 +6,7 @@ use Rattle.pnm_image.specs.declared.shape.Shape.{Shape}
 use Rattle.pnm_image.specs.Heads.{HeadValue, IsHead}
 use Rattle.pnm_image.specs.Images.{Image, IsImage, rows_of}
 use Rattle.pnm_image.specs.Places.{IsRowOf}
-use Rattle.pnm_image.proofs.Rows.{AreRowsOf, IsImage-image_of, rows_of-image_of, length-rows_of, AreRowsOf-rows_of}
+use Rattle.pnm_image.proofs.RowLaws.{AreRowsOf, IsImage-image_of, rows_of-image_of, length-rows_of, AreRowsOf-rows_of}
 use Rattle.pnm_tools.specs.Dealing.{dealt_height, dealt_row, dealt_rows, dealt_head, dealt_image}
 
 -- ---- how many rows

@@ -6,7 +6,7 @@ use Rattle.std.proofs.lemmas.Bool.{ne_eqb}
 use Rattle.pnm_image.specs.declared.shape.Shape.{Shape}
 use Rattle.pnm_image.specs.Heads.{HeadValue, is_too_large, row_length}
 use Rattle.pnm_image.specs.Images.{Image, IsImage, sample_at, rows_of}
-use Rattle.pnm_image.proofs.Rows.{concat-cut_rows, image_of}
+use Rattle.pnm_image.proofs.RowLaws.{concat-cut_rows, image_of}
 use Rattle.pnm_tools.specs.declared.fault.ToolFault.{ToolFault}
 use Rattle.pnm_tools.specs.declared.fault.ToolFault.TheVariants.{OutOfOrder}
 use Rattle.pnm_tools.specs.declared.flip.FlipWay.{FlipWay}

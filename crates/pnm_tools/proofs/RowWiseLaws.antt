@@ -13,7 +13,7 @@ use Rattle.pnm_image.specs.Heads.{HeadValue, IsHead, with_height, row_length, is
 use Rattle.pnm_image.specs.Images.{Image, IsImage, rows_of, messages_of_image}
 use Rattle.pnm_image.specs.declared.limits.TheConstants.{MAX_DEPTH, MAX_ROW_LENGTH, MAX_SIDE}
 use Rattle.pnm_image.proofs.Lists.{same_first, same_rest}
-use Rattle.pnm_image.proofs.Rows.{concat-cut_rows, image_of}
+use Rattle.pnm_image.proofs.RowLaws.{concat-cut_rows, image_of}
 use Rattle.pnm_tools.specs.declared.fault.ToolFault.{ToolFault}
 use Rattle.pnm_tools.specs.declared.fault.ToolFault.TheVariants.{ChannelOutside, TooLarge, OutOfOrder}
 use Rattle.pnm_tools.specs.declared.flip.FlipWay.{FlipWay}

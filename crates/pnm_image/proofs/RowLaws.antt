@@ -1,8 +1,8 @@
 -- Rows: samples cut into rows, and rows joined into samples.
-use Rattle.std.proofs.Common.{◌≡◌, ℕ, zero, suc, ◌*◌, ◌≤◌, List, [], ◌∷◌, length, take, drop, All, refl, sym, ap, ◌∙◌, arith, zero-mul, suc-mul}
+use Rattle.std.proofs.Common.{◌≡◌, ℕ, zero, suc, ◌*◌, ◌≤◌, List, [], ◌∷◌, ◌++◌, length, take, drop, All, refl, sym, ap, subst, ◌∙◌, arith, zero-mul, suc-mul}
 use Rattle.std.specs.List.{AllByRecursion, concat}
 use Rattle.std.proofs.lemmas.List.{take_at, drop_at, take-append-drop, length-take, length-drop, length-append, nil_from_length}
-use Rattle.std.proofs.lemmas.List.Elements.{All-nil, All-append, All-take, All-drop}
+use Rattle.std.proofs.lemmas.List.Elements.{All-nil, All-head, All-append, All-take, All-drop, recursion_from_All}
 use Rattle.pnm_samples.proofs.CutLaws.{length-cut_rows}
 use Rattle.pnm_image.specs.declared.shape.Shape.{Shape}
 use Rattle.pnm_image.specs.Heads.{HeadValue, IsHead, row_length}
@@ -24,6 +24,14 @@ concat-cut_rows zero each samples h = sym (nil_from_length samples (h ∙ zero-m
 concat-cut_rows (suc count) each samples h =
     let rest : length (drop each samples) ≡ count * each = omega (arith, length-drop each samples, suc-mul count each) in
     rw (concat-cut_rows count each (drop each samples) rest) (take-append-drop each samples)
+
+-- rows that are cut have the length that they are cut to
+pub lengths_of_cut_rows : (count each : ℕ) (samples : List ℕ) → length samples ≡ count * each → AllByRecursion (λ row. length row ≡ each) (cut_rows count each samples)
+lengths_of_cut_rows zero each samples h = tt
+lengths_of_cut_rows (suc count) each samples h =
+    let first : length (take each samples) ≡ each = omega (arith, length-take each samples, suc-mul count each) in
+    let rest : length (drop each samples) ≡ count * each = omega (arith, length-drop each samples, suc-mul count each) in
+    (first, lengths_of_cut_rows count each (drop each samples) rest)
 
 -- the rows that are cut from an image's samples are rows of its shape
 pub AreRowsOf-cut_rows : (s : Shape) (count : ℕ) (samples : List ℕ) → length samples ≡ count * row_length s → All (λ sample. sample ≤ s.maxval) samples
@@ -84,3 +92,27 @@ length-rows_of i = length-cut_rows i.head.shape.height (row_length i.head.shape)
 -- the rows of an image are rows of its shape
 pub AreRowsOf-rows_of : (i : Image) → IsImage i → AreRowsOf i.head.shape (rows_of i)
 AreRowsOf-rows_of i h = AreRowsOf-cut_rows i.head.shape i.head.shape.height i.samples h.count h.range
+
+-- rows of a shape's row length are rows of it where no sample of them is above its maxval
+are_rows : (s : Shape) (rows : List (List ℕ)) → AllByRecursion (λ row. length row ≡ row_length s) rows → All (λ sample. sample ≤ s.maxval) (concat rows) → AreRowsOf s rows
+are_rows s [] long range = tt
+are_rows s (row ∷ rows) long range =
+    let P : ℕ → Type 0 = λ sample. sample ≤ s.maxval in (
+      record {
+        count = long.0;
+        range = subst (All P) (take_at row (concat rows) (row_length s) long.0) (All-take P (row_length s) (row ++ concat rows) range);
+      },
+      are_rows s rows long.1 (subst (All P) (drop_at row (concat rows) (row_length s) long.0) (All-drop P (row_length s) (row ++ concat rows) range)),
+    )
+
+-- so are rows of a length that is known
+pub known_rows : (s : Shape) (each : ℕ) (rows : List (List ℕ)) → All (λ row. length row ≡ each) rows → each ≡ row_length s
+    → All (λ sample. sample ≤ s.maxval) (concat rows) → AreRowsOf s rows
+known_rows s each rows long same range =
+    are_rows s rows (subst (λ (n : ℕ). AllByRecursion (λ (row : List ℕ). length row ≡ n) rows) same (recursion_from_All (λ (row : List ℕ). length row ≡ each) rows long)) range
+
+-- and no other rows
+pub rows_need : (s : Shape) (each : ℕ) (rows : List (List ℕ)) → 1 ≤ length rows → All (λ row. length row ≡ each) rows → AreRowsOf s rows
+    → (each ≡ row_length s) × All (λ sample. sample ≤ s.maxval) (concat rows)
+rows_need s each [] some long are = let no : ⊥ = omega (arith, some) in absurd no
+rows_need s each (row ∷ rows) some long are = (sym (All-head (λ (r : List ℕ). length r ≡ each) row rows long) ∙ are.0.count, range-concat s (row ∷ rows) are)

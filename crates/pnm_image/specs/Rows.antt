@@ -1,0 +1,8 @@
+-- Rows that are handed over together.
+use Rattle.std.specs.Prelude.{ℕ, List, map}
+use Rattle.pnm_image.specs.declared.message.Message.{Message}
+use Rattle.pnm_image.specs.declared.message.Message.TheVariants.{Row}
+
+-- rows as messages
+abbrev pub row_messages : List (List ℕ) → List Message
+row_messages rows = map Row rows

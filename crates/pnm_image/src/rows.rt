@@ -1,0 +1,75 @@
+//! Several rows of an image in one.
+
+ghost use Rattle.std.specs.Prelude.{◌≡◌, ◌≤◌, ◌*◌, All, length};
+ghost use Rattle.std.specs.List.{concat};
+ghost use Rattle.pnm_image.specs.Images.{cut_rows};
+
+use pnm_samples::Samples;
+use std::marker::Model;
+
+/// Rows of one image that follow one another, at least one, held as one long row: each with as many samples as the
+/// others, and none between them. So one message stands for several rows, and a loop over samples goes over all of them.
+#[derive(Debug, Drop)]
+pub struct Rows {
+    samples: Samples,
+    count: u32,
+    row_length: usize,
+}
+
+impl Model for Rows {
+    ghost use Rattle.std.specs.Prelude.{List, ℕ, ◌≡◌, ◌≤◌, ◌*◌, length};
+    ghost use Rattle.pnm_image.specs.Images.{cut_rows};
+
+    ghost Value = { List (List ℕ) };
+
+    ghost view = { λ r. cut_rows r.count r.row_length r.samples };
+
+    ghost invariant = { λ r. (1 ≤ r.count) × (length r.samples ≡ r.count * r.row_length) };
+}
+
+impl Rows {
+    /// So many rows of so many samples each, which are held one after another, without a copy.
+    pub fn new(samples: Samples, count: u32, row_length: usize) -> Rows
+        requires some { 1 ≤ count }
+        requires whole { length samples ≡ count * row_length }
+        ensures { result ≡ cut_rows count row_length samples }
+    {
+        Rows {
+            samples,
+            count,
+            row_length,
+        }
+    }
+
+    /// How many rows these are.
+    pub fn count(&self) -> u32
+        ensures rows { result ≡ length self.now }
+        ensures some { 1 ≤ result }
+    {
+        self.count
+    }
+
+    /// The samples of each row.
+    pub fn row_length(&self) -> usize
+        ensures each { All (λ row. length row ≡ result) self.now }
+        ensures some { 1 ≤ length self.now }
+    {
+        self.row_length
+    }
+
+    /// All samples, those of the first row first.
+    pub fn samples(&self) -> &Samples
+        ensures { result.now ≡ concat self.now }
+    {
+        &self.samples
+    }
+
+    /// All samples, how many rows they are, and how many samples a row has, without a copy.
+    pub fn into_parts(self) -> (Samples, u32, usize)
+        ensures rows { self ≡ cut_rows result.1 result.2 result.0 }
+        ensures some { 1 ≤ result.1 }
+        ensures whole { length result.0 ≡ result.1 * result.2 }
+    {
+        (self.samples, self.count, self.row_length)
+    }
+}
