@@ -1,7 +1,8 @@
 -- Rows: samples cut into rows, and rows joined into samples.
-use Rattle.std.proofs.Common.{◌≡◌, ℕ, zero, suc, ◌*◌, ◌≤◌, List, [], ◌∷◌, ◌++◌, length, take, drop, All, refl, sym, ap, subst, ◌∙◌, arith, zero-mul, suc-mul}
+use Rattle.std.proofs.Common.{◌≡◌, ℕ, zero, suc, ◌*◌, ◌+◌, ◌≤◌, ◌<◌, List, [], ◌∷◌, ◌++◌, length, take, drop, All, refl, sym, ap, subst, ◌∙◌, arith, zero-mul, suc-mul}
+use Rattle.std.proofs.Math.Nat.{mul-le-mul_right}
 use Rattle.std.specs.List.{AllByRecursion, concat}
-use Rattle.std.proofs.lemmas.List.{take_at, drop_at, take-append-drop, length-take, length-drop, length-append, nil_from_length}
+use Rattle.std.proofs.lemmas.List.{take_at, drop_at, drop-drop, take-append-drop, length-take, length-drop, length-append, nil_from_length}
 use Rattle.std.proofs.lemmas.List.Elements.{All-nil, All-head, All-append, All-take, All-drop, recursion_from_All}
 use Rattle.pnm_samples.proofs.CutLaws.{length-cut_rows}
 use Rattle.pnm_image.specs.declared.shape.Shape.{Shape}
@@ -116,3 +117,22 @@ pub rows_need : (s : Shape) (each : ℕ) (rows : List (List ℕ)) → 1 ≤ leng
     → (each ≡ row_length s) × All (λ sample. sample ≤ s.maxval) (concat rows)
 rows_need s each [] some long are = let no : ⊥ = omega (arith, some) in absurd no
 rows_need s each (row ∷ rows) some long are = (sym (All-head (λ (r : List ℕ). length r ≡ each) row rows long) ∙ are.0.count, range-concat s (row ∷ rows) are)
+
+-- a row of those that are cut, and the rows before and behind it
+pub row_at_cut : (count each at : ℕ) (samples : List ℕ) → at < count
+    → cut_rows count each samples ≡ take at (cut_rows count each samples) ++ take each (drop (at * each) samples) ∷ drop (suc at) (cut_rows count each samples)
+row_at_cut zero each at samples below = let no : ⊥ = omega (arith, below) in absurd no
+row_at_cut (suc count) each zero samples below =
+    ap (λ (start : ℕ). take each (drop start samples) ∷ cut_rows count each (drop each samples)) (sym (zero-mul each))
+row_at_cut (suc count) each (suc at) samples below =
+    let later : List (List ℕ) = cut_rows count each (drop each samples) in
+    let place : each + at * each ≡ suc at * each = omega (arith, suc-mul at each) in
+    let start : drop (at * each) (drop each samples) ≡ drop (suc at * each) samples = drop-drop (at * each) each samples ∙ ap (λ (n : ℕ). drop n samples) place in
+    ap (λ (rows : List (List ℕ)). take each samples ∷ rows) (row_at_cut count each at (drop each samples) (omega (arith, below)))
+    ∙ ap (λ (row : List ℕ). take each samples ∷ (take at later ++ take each row ∷ drop (suc at) later)) start
+
+-- and it lies within the samples
+pub row_ends_within : (count each at : ℕ) → at < count → at * each + each ≤ count * each
+row_ends_within count each at below =
+    let next : suc at ≤ count = omega (arith, below) in
+    omega (arith, mul-le-mul_right each next, suc-mul at each)

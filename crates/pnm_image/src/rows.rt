@@ -1,10 +1,11 @@
 //! Several rows of an image in one.
 
-ghost use Rattle.std.specs.Prelude.{◌≡◌, ◌≤◌, ◌*◌, All, length};
+ghost use Rattle.std.specs.Prelude.{◌≡◌, ◌≤◌, ◌<◌, ◌+◌, ◌*◌, All, IfOk, length, take, drop, ◌++◌, ◌∷◌};
 ghost use Rattle.std.specs.List.{concat};
 ghost use Rattle.pnm_image.specs.Images.{cut_rows};
 
-use pnm_samples::Samples;
+use pnm_samples::{Bits, SampleSlice, SampleVec, Samples};
+use std::alloc::{AllocError, Global};
 use std::marker::Model;
 
 /// Rows of one image that follow one another, at least one, held as one long row: each with as many samples as the
@@ -64,6 +65,21 @@ impl Rows {
         &self.samples
     }
 
+    /// A copy of a row, counted from 0.
+    ///
+    /// # Errors
+    ///
+    /// Where there is no memory for it.
+    pub fn row(&self, alloc: Global, at: u32) -> Result<Samples, AllocError>
+        requires { at < length self.now }
+        ensures { IfOk result (λ row. self.now ≡ take at self.now ++ row ∷ drop (at + 1) self.now) }
+    {
+        // No effect at run time: a proof learns of this that no place in the samples is beyond this machine's numbers.
+        let _ = self.samples.len();
+        let start = at as usize * self.row_length;
+        copy_of(alloc, &self.samples, start, self.row_length)
+    }
+
     /// All samples, how many rows they are, and how many samples a row has, without a copy.
     pub fn into_parts(self) -> (Samples, u32, usize)
         ensures rows { self ≡ cut_rows result.1 result.2 result.0 }
@@ -72,4 +88,30 @@ impl Rows {
     {
         (self.samples, self.count, self.row_length)
     }
+}
+
+/// A copy of so many samples, from one on.
+fn copy_of(
+    alloc: Global,
+    samples: &Samples,
+    start: usize,
+    count: usize,
+) -> Result<Samples, AllocError>
+    requires { start + count ≤ length samples.now }
+    ensures { IfOk result (λ copy. copy ≡ take count (drop start samples.now)) }
+{
+    let held = match samples.as_slice() {
+        SampleSlice::Bits(bits) => {
+            let mut copy = Bits::empty(alloc);
+            copy.append(bits, start, count)?;
+            SampleVec::Bits(copy)
+        }
+        SampleSlice::Bytes(bytes) => {
+            SampleVec::Bytes(Vec::from_slice(alloc, &bytes[start..start + count])?)
+        }
+        SampleSlice::Words(words) => {
+            SampleVec::Words(Vec::from_slice(alloc, &words[start..start + count])?)
+        }
+    };
+    Ok(Samples::from_vec(held))
 }
