@@ -1,5 +1,6 @@
 -- How a tool answers message by message: a row by rows at once, and the end of an image by what is left of the result.
-use Rattle.std.specs.Prelude.{◌≡◌, ℕ, List, [], ◌∷◌, ◌++◌, map, Option, Some, None, Ok, Err}
+use Rattle.std.specs.Prelude.{◌≡◌, ℕ, ◌+◌, List, [], ◌∷◌, ◌++◌, map, Option, Some, None, Ok, Err}
+use Rattle.pnm_image.specs.declared.shape.Shape.{Shape}
 use Rattle.pnm_image.specs.declared.message.Message.{Message}
 use Rattle.pnm_image.specs.declared.message.Message.TheVariants.{Begin, Row, ImageEnd, StreamEnd, Stop}
 use Rattle.pnm_image.specs.declared.place.Place.{Place}
@@ -12,6 +13,14 @@ use Rattle.pnm_tools.specs.Tools.{AreTaken, result_head, row_answer, end_answer}
 abbrev pub row_list : Option (List ℕ) → List (List ℕ)
 row_list None = []
 row_list (Some row) = row ∷ []
+
+-- each of the rows of an image of this shape, from row y on, is answered by the row that stands in its place
+abbrev pub AreRowAnswers : Tool → Shape → ℕ → List (List ℕ) → List (List ℕ) → Type 0
+AreRowAnswers tool s y [] [] = Unit {0}
+AreRowAnswers tool s y [] (m ∷ made) = ⊥
+AreRowAnswers tool s y (row ∷ rows) [] = ⊥
+AreRowAnswers tool s y (row ∷ rows) (m ∷ made) = (row_answer tool s y row ≡ m ∷ []) × AreRowAnswers tool s (y + 1) rows
+    made
 
 -- the rows of an image that have come, with a message more
 abbrev pub rows_after : List (List ℕ) → Message → List (List ℕ)

@@ -1,6 +1,7 @@
 //! What a tool is to those who run it: a filter of messages.
 
 ghost use Rattle.std.specs.Prelude.{◌≡◌, ℕ, ◌<◌, List, [], ◌∷◌, ◌++◌, Bool, true, false, Option, Some, None, OnOk};
+ghost use Rattle.std.specs.Prelude.{length};
 ghost use Rattle.std.specs.Prelude.{IfOk, IfErr, IfSome, IfNone, Err};
 ghost use Rattle.pnm_image.specs.declared.message.Message.{Message as MessageValue};
 ghost use Rattle.pnm_image.specs.declared.message.Message.TheVariants.{Stop};
@@ -9,10 +10,11 @@ ghost use Rattle.pnm_tools.specs.declared.fault.ToolFault.TheVariants.{Memory};
 ghost use Rattle.pnm_tools.specs.declared.tool.Tool.{Tool as ToolValue};
 ghost use Rattle.pnm_image.specs.declared.message.Ending.TheVariants.{More, BrokenOff};
 ghost use Rattle.pnm_image.specs.Messages.{EndsBy};
+ghost use Rattle.pnm_image.specs.Rows.{row_messages};
 ghost use Rattle.pnm_tools.specs.Answers.{Answers, AnswersInFull, Judges};
 
 use crate::fault::ToolFault;
-use pnm_image::Message;
+use pnm_image::{Message, Rows};
 
 /// A tool at work: it takes the messages of images one by one, and gives those of their results.
 ///
@@ -84,6 +86,21 @@ pub trait Filter {
             → at self.old t l g → at self.new t l g × AnswersInFull t l g) }
         ensures unknown { result ≡ false → self.new ≡ self.old }
         ensures same { stopped self.new ≡ stopped self.old };
+
+    /// Passes rows of an image that come next, all at once: each is answered by the row that stands in its place, and
+    /// nothing more is owed then.
+    ///
+    /// # Errors
+    ///
+    /// The rows themselves, and nothing has changed, where they are to be fed one by one.
+    fn pass_rows(&mut self, rows: Rows) -> Result<Rows, Rows>
+        ensures passed { IfOk result (λ made. (t : ToolValue) (l g : List MessageValue) → at self.old t l g
+            → at self.new t (l ++ row_messages rows) (g ++ row_messages made)
+            × AnswersInFull t (l ++ row_messages rows) (g ++ row_messages made)) }
+        ensures each { IfOk result (λ made. length made ≡ length rows) }
+        ensures told { OnOk result (all_given self.new ≡ true) }
+        ensures goes_on { OnOk result ((stopped self.old ≡ None) × (stopped self.new ≡ None)) }
+        ensures kept { IfErr result (λ same. (same ≡ rows) × (self.new ≡ self.old)) };
 
     /// What was given answers what was accepted.
     ghost at_answers: { (s : Self) (t : ToolValue) (l g : List MessageValue) → at s t l g → Answers t l g };

@@ -1,13 +1,19 @@
 //! A tool at work: what it is fed, what it gives, and its refusal.
 
 ghost use Rattle.std.specs.Prelude.{◌≡◌, ◌<◌, ◌∷◌, ◌++◌, [], List, true, IfSome, IfNone, IsTrue, IsFalse};
+ghost use Rattle.std.specs.Prelude.{IfOk, IfErr, Some, None, length};
+ghost use Rattle.pnm_image.specs.declared.message.Ending.TheVariants.{More};
 ghost use Rattle.pnm_image.specs.declared.message.Message.{Message as MessageValue};
+ghost use Rattle.pnm_image.specs.Messages.{EndsBy};
+ghost use Rattle.pnm_image.specs.Rows.{row_messages};
+ghost use Rattle.pnm_tools.specs.declared.fault.ToolFault.{ToolFault as Fault};
+ghost use Rattle.pnm_tools.specs.declared.fault.ToolFault.TheVariants.{Memory};
 ghost use Rattle.pnm_tools.specs.declared.tool.Tool.{Tool as ToolValue};
 ghost use Rattle.pnm_tools.specs.FusedFilters.{refusal_in, waiting_at, FilterAt, FilterBusy};
 
 use crate::fault::ToolFault;
 use crate::filter::Filter;
-use pnm_image::Message;
+use pnm_image::{Message, Rows};
 
 /// A filter of a chain, which takes nothing more once it has refused.
 #[derive(Drop)]
@@ -80,6 +86,37 @@ impl<F: Filter + Drop> FusedFilter<F> {
         match self {
             FusedFilter::AtWork(filter) => filter.gave_all(),
             FusedFilter::Refused(_) => true,
+        }
+    }
+    /// Passes the tool rows of an image that come next, all at once: each is answered by the row that stands in its
+    /// place, and the tool has given all then.
+    ///
+    /// # Errors
+    ///
+    /// The rows themselves, and nothing has changed, where they are to be fed one by one; so they are after a refusal.
+    pub fn pass_rows(&mut self, rows: Rows) -> Result<Rows, Rows>
+        ensures passed { IfOk result (λ made. (tool : ToolValue) (l g : List MessageValue)
+            → FilterAt F.at F.all_given F.stopped self.old tool l g
+            → FilterAt F.at F.all_given F.stopped self.new tool (l ++ row_messages rows) (g ++ row_messages made)) }
+        ensures each { IfOk result (λ made. length made ≡ length rows) }
+        ensures kept { IfErr result (λ same. (same ≡ rows) × (self.new ≡ self.old)) }
+    {
+        match self {
+            FusedFilter::AtWork(filter) => filter.pass_rows(rows),
+            FusedFilter::Refused(_) => Err(rows),
+        }
+    }
+
+    /// Refuses what comes next, since there is no memory to feed it. A tool that has refused keeps its fault.
+    pub fn refuse_for_memory(&mut self)
+        ensures dropped { (tool : ToolValue) (l g rest : List MessageValue)
+            → FilterAt F.at F.all_given F.stopped self.old tool l g → EndsBy More l
+            → FilterAt F.at F.all_given F.stopped self.new tool (l ++ rest) g }
+        ensures memory { refusal_in self.old ≡ None → refusal_in self.new ≡ Some Memory }
+        ensures stays { (k : Fault) → refusal_in self.old ≡ Some k → self.new ≡ self.old }
+    {
+        if let FusedFilter::AtWork(_) = self {
+            self.refuse(ToolFault::Memory);
         }
     }
 }
