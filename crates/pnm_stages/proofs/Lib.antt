@@ -1,6 +1,8 @@
 pub mod RingSteps
+pub mod ParcelLaws
 pub mod EndingLaws
 pub mod PrefixLaws
 mod LongestPrefixes
 pub mod SendingSteps
 pub mod StagedSteps
+mod PassingSteps

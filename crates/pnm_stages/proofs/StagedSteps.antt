@@ -5,8 +5,7 @@ use Rattle.std.proofs.Common.{append-nil}
 use Rattle.std.specs.List.{AllByRecursion}
 use Rattle.pnm_image.specs.declared.message.Message.{Message}
 use Rattle.pnm_image.specs.declared.message.Message.TheVariants.{Stop}
-use Rattle.pnm_image.specs.Messages.{IsMessage, ending_of, EndsBy}
-use Rattle.pnm_image.proofs.Lists.{each-push}
+use Rattle.pnm_image.specs.Messages.{IsMessage, EndsBy}
 use Rattle.pnm_image.proofs.Streams.{is_stream_of}
 use Rattle.pnm_tools.specs.declared.fault.ToolFault.{ToolFault}
 use Rattle.pnm_tools.specs.declared.fault.ToolFault.TheVariants.{Memory}
@@ -21,14 +20,17 @@ use Rattle.pnm_tools.specs.declared.fused_filter.FusedFilter.TheVariants.{AtWork
 use Rattle.pnm_stages.specs.declared.stage.StageEnd.{StageEnd}
 use Rattle.pnm_stages.specs.declared.stage.StageEnd.TheVariants.{Well, Broken, PeerGone}
 use Rattle.pnm_stages.specs.Rings.{IsEnded, EndsAtMostOnce, HasDrainedAfter}
-use Rattle.pnm_tools.specs.FusedFilters.{FilterAt, FilterBusy, refusal_in}
+use Rattle.pnm_tools.specs.FusedFilters.{FilterAt, refusal_in}
 use Rattle.pnm_stages.specs.Prefixes.{IsPrefixOfDue}
 use Rattle.pnm_stages.specs.Stages.{HasEndedSo, HasRunStage}
-use Rattle.pnm_stages.specs.StageParts.{HasAnsweredPart, HasSentAnswers, HasBrokenOffAfter}
+use Rattle.pnm_stages.specs.StageParts.{HasAnsweredPart, HasPassed, HasBrokenOffAfter}
 use Rattle.pnm_tools.specs.Tools.{output_due}
 use Rattle.pnm_tools.proofs.InFullLaws.{ends_after}
 use Rattle.pnm_tools.proofs.SoundLaws.{both_all}
-use Rattle.pnm_stages.proofs.RingSteps.{ends_nothing, ends_with}
+use Rattle.pnm_stages.specs.declared.parcel.Parcel.{Parcel}
+use Rattle.pnm_stages.specs.Parcels.{messages_in, ending_of_parcel}
+use Rattle.pnm_stages.proofs.ParcelLaws.{ends_with_parcel}
+use Rattle.pnm_stages.proofs.RingSteps.{ends_nothing}
 use Rattle.pnm_stages.proofs.EndingLaws.{prefix_goes_on, ends_stream}
 use Rattle.pnm_stages.proofs.PrefixLaws.{due_with_stop, due_goes_on}
 
@@ -57,26 +59,22 @@ pub passes_nothing : {F : Type 0} (at : F → Tool → List Message → List Mes
 passes_nothing at all_given stopped stage r s =
     record { took = []; gave = []; received = sym (append-nil r); sent = sym (append-nil s); messages = tt; ends = refl; stage = λ tool is. is }
 
-one_longer : (a b c d : List Message) (m : Message) → b ≡ a ++ c → d ≡ b ++ m ∷ [] → d ≡ a ++ (c ++ m ∷ [])
-one_longer a b c d m before added = added ∙ ap (λ (x : List Message). x ++ m ∷ []) before ∙ append_assoc a c (m ∷ [])
-
 longer_by : (a b c d more : List Message) → b ≡ a ++ c → d ≡ b ++ more → d ≡ a ++ (c ++ more)
 longer_by a b c d more before added = added ∙ ap (λ (x : List Message). x ++ more) before ∙ append_assoc a c more
 
--- a message was received, and all its answers were sent
-pub passes_one : {F : Type 0} (at : F → Tool → List Message → List Message → Type 0) (all_given : F → Bool) (stopped : F → Option ToolFault)
-    (first old fed new : FusedFilter F) (m : Message) (r r1 r2 s s1 s2 : List Message)
-    → IsPassing at all_given stopped More first old r r1 s s1 → r2 ≡ r1 ++ m ∷ [] → IsMessage m
-    → ((tool : Tool) (l g : List Message) → FilterAt at all_given stopped old tool l g → FilterBusy at stopped fed tool (l ++ m ∷ []) g)
-    → HasSentAnswers at all_given stopped true fed new s1 s2 → IsPassing at all_given stopped (ending_of m) first new r r2 s s2
-passes_one at all_given stopped first old fed new m r r1 r2 s s1 s2 passing added is feeds answers = record {
-  took = passing.took ++ m ∷ [];
-  gave = passing.gave ++ answers.more;
-  received = one_longer r r1 passing.took r2 m passing.received added;
-  sent = longer_by s s1 passing.gave s2 answers.more passing.sent answers.added;
-  messages = each-push IsMessage passing.took m passing.messages is;
-  ends = ends_with passing.took m passing.ends;
-  stage = λ tool fresh. answers.full refl tool (passing.took ++ m ∷ []) passing.gave (feeds tool passing.took passing.gave (passing.stage tool fresh));
+-- a parcel was received, and all its answers were sent
+pub passes_parcel : {F : Type 0} (at : F → Tool → List Message → List Message → Type 0) (all_given : F → Bool) (stopped : F → Option ToolFault)
+    (first old new : FusedFilter F) (parcel : Parcel) (r r1 r2 s s1 s2 : List Message)
+    → IsPassing at all_given stopped More first old r r1 s s1 → r2 ≡ r1 ++ messages_in parcel → AllByRecursion IsMessage (messages_in parcel)
+    → HasPassed at all_given stopped true old new (messages_in parcel) s1 s2 → IsPassing at all_given stopped (ending_of_parcel parcel) first new r r2 s s2
+passes_parcel at all_given stopped first old new parcel r r1 r2 s s1 s2 passing added are passed = record {
+  took = passing.took ++ messages_in parcel;
+  gave = passing.gave ++ passed.more;
+  received = longer_by r r1 passing.took r2 (messages_in parcel) passing.received added;
+  sent = longer_by s s1 passing.gave s2 passed.more passing.sent passed.added;
+  messages = both_all IsMessage passing.took (messages_in parcel) passing.messages are;
+  ends = ends_with_parcel passing.took parcel passing.ends;
+  stage = λ tool fresh. passed.full refl tool passing.took passing.gave passing.ends (passing.stage tool fresh);
 }
 
 -- the stream goes on after it
@@ -94,7 +92,7 @@ still_sent {at = at} {all_given = all_given} {stopped = stopped} {e = e} {first 
 
 -- ---- the other end was seen dropped
 
-part_at : {F : Type 0} (at : F → Tool → List Message → List Message → Type 0) (all_given : F → Bool) (stopped : F → Option ToolFault) (stage : FusedFilter F)
+pub part_at : {F : Type 0} (at : F → Tool → List Message → List Message → Type 0) (all_given : F → Bool) (stopped : F → Option ToolFault) (stage : FusedFilter F)
     (tool : Tool) (l g : List Message) → FilterAt at all_given stopped stage tool l g → HasAnsweredPart tool l g
 part_at at all_given stopped (AtWork filter) tool l g idle = record { accepted = l; rest = []; parts = sym (append-nil l); answers = idle.full.answers }
 part_at at all_given stopped (Refused fault) tool l g has = record { accepted = has.accepted; rest = has.rest; parts = has.parts; answers = has.answers }
@@ -178,27 +176,26 @@ drained_by BrokenOff drained took r1 r2 left ends has = nothing_more BrokenOff d
 
 -- the output is gone, and the input was drained
 pub output_gone : {F : Type 0} (at : F → Tool → List Message → List Message → Type 0) (all_given : F → Bool) (stopped : F → Option ToolFault)
-    (first old fed new : FusedFilter F) (m : Message) (a : Ending) (drained : Bool) (r r1 r2 r3 left s s1 s2 : List Message) (tool : Tool)
-    → IsPassing at all_given stopped More first old r r1 s s1 → r2 ≡ r1 ++ m ∷ [] → IsMessage m
-    → ((tool : Tool) (l g : List Message) → FilterAt at all_given stopped old tool l g → FilterBusy at stopped fed tool (l ++ m ∷ []) g)
-    → HasSentAnswers at all_given stopped false fed new s1 s2 → a ≡ ending_of m → HasDrainedAfter a drained r2 r3 left
+    (first old new : FusedFilter F) (parcel : Parcel) (a : Ending) (drained : Bool) (r r1 r2 r3 left s s1 s2 : List Message) (tool : Tool)
+    → IsPassing at all_given stopped More first old r r1 s s1 → r2 ≡ r1 ++ messages_in parcel → AllByRecursion IsMessage (messages_in parcel)
+    → HasPassed at all_given stopped false old new (messages_in parcel) s1 s2 → a ≡ ending_of_parcel parcel → HasDrainedAfter a drained r2 r3 left
     → FilterAt at all_given stopped first tool [] [] → HasRunStage tool PeerGone r r3 left s s2
-output_gone at all_given stopped first old fed new m a drained r r1 r2 r3 left s s1 s2 tool passing added is feeds answers says rest fresh =
-    let took = passing.took ++ m ∷ [] in
-    let ends : EndsBy a took = subst (λ (e : Ending). EndsBy e took) (sym says) (ends_with passing.took m passing.ends) in
+output_gone at all_given stopped first old new parcel a drained r r1 r2 r3 left s s1 s2 tool passing added are passed says rest fresh =
+    let took = passing.took ++ messages_in parcel in
+    let ends : EndsBy a took = subst (λ (e : Ending). EndsBy e took) (sym says) (ends_with_parcel passing.took parcel passing.ends) in
     let by = drained_by a drained took r2 r3 left ends rest in
-    let part = answers.part tool took passing.gave (feeds tool passing.took passing.gave (passing.stage tool fresh)) in
+    let part = passed.part tool passing.took passing.gave passing.ends (passing.stage tool fresh) in
     record {
       took = took ++ by.rest;
-      gave = passing.gave ++ answers.more;
-      input = longer_by r r2 took r3 by.rest (one_longer r r1 passing.took r2 m passing.received added) by.added;
-      output = longer_by s s1 passing.gave s2 answers.more passing.sent answers.added;
+      gave = passing.gave ++ passed.more;
+      input = longer_by r r2 took r3 by.rest (longer_by r r1 passing.took r2 (messages_in parcel) passing.received added) by.added;
+      output = longer_by s s1 passing.gave s2 passed.more passing.sent passed.added;
       seen_taken = by.all;
       stage = record {
         ended = tt;
-        messages = both_all IsMessage took by.rest (each-push IsMessage passing.took m passing.messages is) by.messages;
+        messages = both_all IsMessage took by.rest (both_all IsMessage passing.took (messages_in parcel) passing.messages are) by.messages;
         once = by.once;
-        due = due_goes_on (output_due tool) took (passing.gave ++ answers.more) by.rest (due_by_part tool took (passing.gave ++ answers.more) part);
+        due = due_goes_on (output_due tool) took (passing.gave ++ passed.more) by.rest (due_by_part tool took (passing.gave ++ passed.more) part);
       };
     }
 

@@ -1,3 +1,4 @@
+pub mod Parcels
 pub mod Rings
 pub mod Limits
 pub mod Prefixes

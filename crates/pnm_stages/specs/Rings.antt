@@ -8,24 +8,29 @@ use Rattle.pnm_image.specs.declared.message.Ending.TheVariants.{More, Whole, Bro
 use Rattle.rtrb.specs.Ring.{sent as sent_on, received as received_on, known_items as known_items_on}
 use Rattle.rtrb.specs.Ring.{known_free as known_free_on, IsPair as AreEndsOfRing, SameProducer as IsSameSendingEnd}
 use Rattle.rtrb.specs.Ring.{SameConsumer as IsSameReceivingEnd}
+use Rattle.pnm_stages.specs.declared.parcel.Parcel.{Parcel}
 use Rattle.pnm_stages.specs.declared.sender.Sender.{Sender}
 use Rattle.pnm_stages.specs.declared.receiver.Receiver.{Receiver}
+use Rattle.pnm_stages.specs.Parcels.{messages_of}
 
 -- ---- the two ends of a ring
 
 -- all that was sent by this end, and the room that it knows of
 abbrev pub sent : Sender → List Message
-sent s = sent_on s.ring
+sent s = messages_of (sent_on s.ring)
 
 abbrev pub known_free : Sender → ℕ
 known_free s = known_free_on s.ring
 
 -- all that was received by this end, and what it has seen in the ring and not received
 abbrev pub received : Receiver → List Message
-received r = received_on r.ring
+received r = messages_of (received_on r.ring)
+
+abbrev pub known_parcels : Receiver → List Parcel
+known_parcels r = known_items_on r.ring
 
 abbrev pub known_items : Receiver → List Message
-known_items r = known_items_on r.ring
+known_items r = messages_of (known_parcels r)
 
 -- the two ends of one ring
 abbrev pub IsPair : Sender → Receiver → Type 0

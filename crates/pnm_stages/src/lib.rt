@@ -5,6 +5,7 @@
 mod backoff;
 mod branches;
 pub mod laws;
+mod parcel;
 mod receiver;
 mod ring;
 mod sender;
@@ -13,6 +14,7 @@ mod wakers;
 
 pub use backoff::Backoff;
 pub use branches::{Call, Idle, NoStart, Task, run_both};
+pub use parcel::Parcel;
 pub use receiver::Receiver;
 pub use ring::{AnyMessage, MAX_RING_CAPACITY, new_ring};
 pub use sender::Sender;

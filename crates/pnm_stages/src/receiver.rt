@@ -1,11 +1,15 @@
 //! The receiving end of a ring of messages.
 
 ghost use Rattle.std.specs.Prelude.{◌≡◌, ◌<◌, List, [], ◌∷◌, ◌++◌, length, IfSome, IfNone, IsTrue, IsFalse};
+ghost use Rattle.std.specs.List.{AllByRecursion};
 ghost use Rattle.pnm_image.specs.Messages.{IsMessage};
 ghost use Rattle.pnm_stages.specs.Rings.{sent, received, known_items, IsPair, SameSender, SameReceiver, HasDrained};
-ghost use Rattle.pnm_stages.specs.Rings.{HasDrainedAfter};
+ghost use Rattle.pnm_stages.specs.Rings.{known_parcels, HasDrainedAfter};
+ghost use Rattle.pnm_stages.specs.Parcels.{messages_in};
+ghost use Rattle.pnm_stages.specs.declared.parcel.Parcel.{Parcel as ParcelValue};
 
 use crate::backoff::Backoff;
+use crate::parcel::Parcel;
 use crate::ring::AnyMessage;
 use crate::sender::Sender;
 use crate::wakers::ReceiverWaker;
@@ -18,7 +22,7 @@ use std::sync::Wait;
 #[derive(Drop)]
 pub struct Receiver {
     /// The end itself. It comes first, since it has to be gone before the other thread is woken.
-    pub(crate) ring: Consumer<Message, Global, AnyMessage>,
+    pub(crate) ring: Consumer<Parcel, Global, AnyMessage>,
     waker: ReceiverWaker,
     /// Half of the messages that were seen in the ring at the last look.
     half: usize,
@@ -26,7 +30,7 @@ pub struct Receiver {
 
 impl Receiver {
     /// The end of this ring, with what it has of the ring's wakers.
-    pub(crate) fn new(ring: Consumer<Message, Global, AnyMessage>, waker: ReceiverWaker) -> Receiver
+    pub(crate) fn new(ring: Consumer<Parcel, Global, AnyMessage>, waker: ReceiverWaker) -> Receiver
         ensures { result.ring ≡ ring }
     {
         Receiver {
@@ -40,7 +44,7 @@ impl Receiver {
     pub fn has_message(&mut self) -> bool
         ensures ring { SameReceiver self.old self.new }
         ensures received { received self.new ≡ received self.old }
-        ensures some { IsTrue result → 0 < length (known_items self.new) }
+        ensures some { IsTrue result → 0 < length (known_parcels self.new) }
         ensures none { IsFalse result → known_items self.new ≡ [] }
     {
         self.has_seen_message() || self.look()
@@ -50,7 +54,7 @@ impl Receiver {
     fn look(&mut self) -> bool
         ensures ring { SameReceiver self.old self.new }
         ensures received { received self.new ≡ received self.old }
-        ensures some { IsTrue result → 0 < length (known_items self.new) }
+        ensures some { IsTrue result → 0 < length (known_parcels self.new) }
         ensures none { IsFalse result → known_items self.new ≡ [] }
     {
         let seen = self.ring.slots();
@@ -60,16 +64,16 @@ impl Receiver {
 
     /// Whether a message was seen in the ring that is still there: the next one is received at once then.
     pub fn has_seen_message(&self) -> bool
-        ensures some { IsTrue result → 0 < length (known_items self.now) }
+        ensures some { IsTrue result → 0 < length (known_parcels self.now) }
         ensures none { IsFalse result → known_items self.now ≡ [] }
     {
         self.ring.cached_slots() > 0
     }
 
-    /// The next message, which is there, and stays there.
-    pub fn peek_known(&self) -> &Message
-        requires { 0 < length (known_items self.now) }
-        ensures next { (later : List Message) × (known_items self.now ≡ result.now ∷ later) }
+    /// The next parcel, which is there, and stays there.
+    pub fn peek_known(&self) -> &Parcel
+        requires { 0 < length (known_parcels self.now) }
+        ensures next { (later : List ParcelValue) × (known_parcels self.now ≡ result.now ∷ later) }
     {
         self.ring.peek_known()
     }
@@ -82,24 +86,24 @@ impl Receiver {
         self.ring.is_abandoned()
     }
 
-    /// The next message, which is there. It wakes the thread at the sending end on the edge: where none is left of the
+    /// The next parcel, which is there. It wakes the thread at the sending end on the edge: where none is left of the
     /// messages that were seen at once, or half of them. So that one is woken soon after it found no room, and seldom
     /// while it finds some.
     #[inline(always)]
-    pub fn receive_known(&mut self) -> Message
-        requires { 0 < length (known_items self.old) }
+    pub fn receive_known(&mut self) -> Parcel
+        requires { 0 < length (known_parcels self.old) }
         ensures ring { SameReceiver self.old self.new }
-        ensures received { received self.new ≡ received self.old ++ result ∷ [] }
-        ensures seen { known_items self.old ≡ result ∷ known_items self.new }
-        ensures message { IsMessage result }
+        ensures received { received self.new ≡ received self.old ++ messages_in result }
+        ensures seen { known_parcels self.old ≡ result ∷ known_parcels self.new }
+        ensures messages { AllByRecursion IsMessage (messages_in result) }
     {
-        let message = self.ring.pop_known();
+        let parcel = self.ring.pop_known();
         let left = self.ring.cached_slots();
         if left == 0 || left == self.half {
             self.waker.wake_sender();
         }
-        recognise(&message);
-        message
+        recognise(&parcel);
+        parcel
     }
 
     /// What was received, and what is left of the messages then, are all that was sent, since both ends of the ring are
@@ -113,13 +117,13 @@ impl Receiver {
         self.ring.slots_beside(&mut sender.ring);
     }
 
-    /// The next message, once there is one; none once the ring is empty and its other end was seen dropped. That it is
+    /// The next parcel, once there is one; none once the ring is empty and its other end was seen dropped. That it is
     /// empty is known only of the messages that this end has seen in it.
     #[inline(always)]
-    pub fn receive<R: Wait>(&mut self, rt: &R, backoff: &mut Backoff) -> Option<Message>
+    pub fn receive<R: Wait>(&mut self, rt: &R, backoff: &mut Backoff) -> Option<Parcel>
         ensures ring { SameReceiver self.old self.new }
-        ensures taken { IfSome result (λ m. received self.new ≡ received self.old ++ m ∷ []) }
-        ensures message { IfSome result IsMessage }
+        ensures taken { IfSome result (λ p. received self.new ≡ received self.old ++ messages_in p) }
+        ensures messages { IfSome result (λ p. AllByRecursion IsMessage (messages_in p)) }
         ensures none_seen { IfNone result ((received self.new ≡ received self.old) × (known_items self.new ≡ [])) }
     {
         if self.has_message() || self.wait_for_message(rt, backoff) {
@@ -134,7 +138,7 @@ impl Receiver {
     pub(crate) fn wait_for_message<R: Wait>(&mut self, rt: &R, backoff: &mut Backoff) -> bool
         ensures ring { SameReceiver self.old self.new }
         ensures received { received self.new ≡ received self.old }
-        ensures some { IsTrue result → 0 < length (known_items self.new) }
+        ensures some { IsTrue result → 0 < length (known_parcels self.new) }
         ensures none { IsFalse result → known_items self.new ≡ [] }
     {
         backoff.reset();
@@ -158,11 +162,11 @@ impl Receiver {
         ensures drained { HasDrained result (received self.old) (received self.new) (known_items self.new) }
     {
         for _ in rt.forever() {
-            let Some(message) = self.receive(rt, backoff) else {
+            let Some(parcel) = self.receive(rt, backoff) else {
                 return false;
             };
-            let ending = message.ending();
-            drop(message);
+            let ending = parcel.ending();
+            drop(parcel);
             match ending {
                 Ending::More => {}
                 Ending::Whole | Ending::BrokenOff => return true,
@@ -190,7 +194,17 @@ impl Receiver {
 }
 
 /// No effect. A proof learns that the head of an image keeps the rules of heads.
-fn recognise(message: &Message)
+fn recognise(parcel: &Parcel)
+    ensures { AllByRecursion IsMessage (messages_in parcel.now) }
+{
+    match parcel {
+        Parcel::Message(message) => recognise_message(message),
+        Parcel::Rows(_) => {}
+    }
+}
+
+/// No effect. A proof learns that the head of an image keeps the rules of heads.
+fn recognise_message(message: &Message)
     ensures { IsMessage message.now }
 {
     if let Message::Begin(head) = message {

@@ -1,12 +1,15 @@
 //! The sending end of a ring of messages.
 
 ghost use Rattle.std.specs.Prelude.{◌≡◌, ◌<◌, [], ◌∷◌, ◌++◌, IsTrue, IsFalse};
+ghost use Rattle.pnm_image.specs.Rows.{row_messages};
+ghost use Rattle.pnm_stages.specs.Parcels.{messages_in};
 ghost use Rattle.pnm_stages.specs.Rings.{sent, known_free, SameSender};
 
 use crate::backoff::Backoff;
+use crate::parcel::Parcel;
 use crate::ring::AnyMessage;
 use crate::wakers::SenderWaker;
-use pnm_image::{Message, SampleSlice};
+use pnm_image::{Message, Rows, SampleSlice, Samples};
 use rtrb::Producer;
 use std::alloc::Global;
 use std::sync::Wait;
@@ -30,7 +33,7 @@ const LEAST_ROWS: usize = 2;
 #[derive(Drop)]
 pub struct Sender {
     /// The end itself. It comes first, since it has to be gone before the other thread is woken.
-    pub(crate) ring: Producer<Message, Global, AnyMessage>,
+    pub(crate) ring: Producer<Parcel, Global, AnyMessage>,
     waker: SenderWaker,
     /// The messages that were sent and woke nobody, and for how many short ones somebody is woken.
     unwoken: usize,
@@ -42,7 +45,7 @@ pub struct Sender {
 impl Sender {
     /// The end of this ring, with what it has of the ring's wakers. Each message that it sends wakes the other end's
     /// thread.
-    pub(crate) fn new(ring: Producer<Message, Global, AnyMessage>, waker: SenderWaker) -> Sender
+    pub(crate) fn new(ring: Producer<Parcel, Global, AnyMessage>, waker: SenderWaker) -> Sender
         ensures { result.ring ≡ ring }
     {
         Sender {
@@ -101,8 +104,27 @@ impl Sender {
         ensures ring { SameSender self.old self.new }
         ensures sent { sent self.new ≡ sent self.old ++ message ∷ [] }
     {
-        let bytes = bytes_of(&message);
-        self.ring.push_reserved(message);
+        self.push(Parcel::Message(message));
+    }
+
+    /// Sends the rows together, for which there is room, and wakes the thread at the receiving end.
+    pub fn send_rows_reserved(&mut self, rows: Rows)
+        requires { 0 < known_free self.old }
+        ensures ring { SameSender self.old self.new }
+        ensures sent { sent self.new ≡ sent self.old ++ row_messages rows }
+    {
+        self.push(Parcel::Rows(rows));
+    }
+
+    /// Puts the parcel into the ring, which has room for it, and wakes the thread at the receiving end.
+    #[inline(always)]
+    fn push(&mut self, parcel: Parcel)
+        requires { 0 < known_free self.old }
+        ensures ring { SameSender self.old self.new }
+        ensures sent { sent self.new ≡ sent self.old ++ messages_in parcel }
+    {
+        let bytes = bytes_of(&parcel);
+        self.ring.push_reserved(parcel);
         self.unwoken = self.unwoken.saturating_add(1);
         if let Some(bytes) = bytes {
             self.kept_free = places_beyond(self.ring.capacity(), bytes);
@@ -123,6 +145,20 @@ impl Sender {
     {
         if self.has_room() || self.wait_for_room(rt, backoff) {
             self.send_reserved(message);
+            return true;
+        }
+        false
+    }
+
+    /// Sends the rows together, once there is room; false, and the rows are lost, where there is none and the receiving
+    /// end was seen dropped.
+    pub fn send_rows<R: Wait>(&mut self, rt: &R, rows: Rows, backoff: &mut Backoff) -> bool
+        ensures ring { SameSender self.old self.new }
+        ensures given { IsTrue result → sent self.new ≡ sent self.old ++ row_messages rows }
+        ensures gone { IsFalse result → sent self.new ≡ sent self.old }
+    {
+        if self.has_room() || self.wait_for_room(rt, backoff) {
+            self.send_rows_reserved(rows);
             return true;
         }
         false
@@ -159,16 +195,22 @@ impl Sender {
     }
 }
 
-/// The bytes that a message's samples take; none of one that ends the stream, which is waited for.
-fn bytes_of(message: &Message) -> Option<usize> {
-    match message {
-        Message::Row(row) => Some(match row.as_slice() {
-            SampleSlice::Bits(bits) => bits.as_bytes().len(),
-            SampleSlice::Bytes(bytes) => bytes.len(),
-            SampleSlice::Words(words) => words.len().saturating_mul(2),
-        }),
-        Message::Begin(_) | Message::ImageEnd => Some(0),
-        Message::StreamEnd | Message::Stop => None,
+/// The bytes that a parcel's samples take; none of one that ends the stream, which is waited for.
+fn bytes_of(parcel: &Parcel) -> Option<usize> {
+    match parcel {
+        Parcel::Message(Message::Row(row)) => Some(size_of(row)),
+        Parcel::Rows(rows) => Some(size_of(rows.samples())),
+        Parcel::Message(Message::Begin(_) | Message::ImageEnd) => Some(0),
+        Parcel::Message(Message::StreamEnd | Message::Stop) => None,
+    }
+}
+
+/// The bytes that samples take.
+fn size_of(samples: &Samples) -> usize {
+    match samples.as_slice() {
+        SampleSlice::Bits(bits) => bits.as_bytes().len(),
+        SampleSlice::Bytes(bytes) => bytes.len(),
+        SampleSlice::Words(words) => words.len().saturating_mul(2),
     }
 }
 

@@ -1,18 +1,23 @@
 //! A stage of a chain: a tool in a thread of its own, between two rings.
 
 ghost use Rattle.std.specs.Prelude.{◌≡◌, ◌<◌, [], ◌∷◌, ◌++◌, length, IfSome, IfNone, IsTrue, IsFalse};
+ghost use Rattle.std.specs.List.{AllByRecursion};
 ghost use Rattle.pnm_image.specs.Messages.{IsMessage};
+ghost use Rattle.pnm_image.specs.Rows.{row_messages};
 ghost use Rattle.pnm_tools.specs.declared.tool.Tool.{Tool as ToolValue};
-ghost use Rattle.pnm_stages.specs.Rings.{sent, received, known_items, SameSender, SameReceiver};
+ghost use Rattle.pnm_stages.specs.Parcels.{messages_in};
+ghost use Rattle.pnm_stages.specs.Rings.{sent, received, known_items, known_parcels, SameSender, SameReceiver};
 ghost use Rattle.pnm_tools.specs.FusedFilters.{FilterAt};
 ghost use Rattle.pnm_stages.specs.Stages.{HasRunStage};
-ghost use Rattle.pnm_stages.specs.StageParts.{HasSentAnswers, HasBrokenOffAfter};
+ghost use Rattle.pnm_stages.specs.StageParts.{HasPassed, HasSentAnswers, HasBrokenOffAfter};
 
 use crate::backoff::Backoff;
+use crate::parcel::Parcel;
 use crate::receiver::Receiver;
 use crate::sender::Sender;
-use pnm_image::{Ending, Message};
+use pnm_image::{Ending, Message, Rows};
 use pnm_tools::{Filter, FusedFilter, ToolFault};
+use std::alloc::Global;
 use std::sync::Wait;
 
 /// What each thread that runs a tool calls once, before it takes its first message. Tests hold a
@@ -57,9 +62,11 @@ pub struct StageDone {
 }
 
 /// Passes what comes on `input` through a tool at work, or one that has refused, to `output`, as `run_stage` does
-/// behind its gate.
+/// behind its gate. Rows that come together are passed on together where the tool takes them so. Where it doesn't, each
+/// is copied, and fed by itself: without memory for that the tool refuses by `Memory`.
 pub fn run_filter<R: Wait, F: Filter + Drop>(
     rt: &R,
+    alloc: Global,
     stage: FusedFilter<F>,
     input: Receiver,
     output: Sender,
@@ -74,13 +81,14 @@ pub fn run_filter<R: Wait, F: Filter + Drop>(
     let mut input = input;
     let mut output = output;
     output.hold_back();
-    let end = pass_all(rt, &mut stage, &mut input, &mut output);
+    let end = pass_all(rt, alloc, &mut stage, &mut input, &mut output);
     StageDone { input, output, end }
 }
 
 /// Passes on all messages through to the end of the stream.
 fn pass_all<R: Wait, F: Filter + Drop>(
     rt: &R,
+    alloc: Global,
     stage: &mut FusedFilter<F>,
     input: &mut Receiver,
     output: &mut Sender,
@@ -96,13 +104,12 @@ fn pass_all<R: Wait, F: Filter + Drop>(
         return break_off(rt, fault, Ending::More, input, output, backoff);
     }
     for _ in rt.forever() {
-        let Some(message) = receive(rt, input, output, backoff) else {
+        let Some(parcel) = receive(rt, input, output, backoff) else {
             output.send(rt, Message::Stop, backoff);
             return StageEnd::PeerGone;
         };
-        let ending = message.ending();
-        stage.feed(message);
-        if !send_answers(rt, stage, output, backoff) {
+        let ending = parcel.ending();
+        if !pass(rt, alloc, stage, parcel, output, backoff) {
             input.drain_after(rt, ending, backoff);
             return StageEnd::PeerGone;
         }
@@ -118,7 +125,7 @@ fn pass_all<R: Wait, F: Filter + Drop>(
     unreachable!()
 }
 
-/// The next message, as `Receiver::receive` gives it. Where none is seen yet, the thread behind is told first of all
+/// The next parcel, as `Receiver::receive` gives it. Where none is seen yet, the thread behind is told first of all
 /// that was sent, since the stage may have to wait.
 #[inline(always)]
 fn receive<R: Wait>(
@@ -126,12 +133,12 @@ fn receive<R: Wait>(
     input: &mut Receiver,
     output: &mut Sender,
     backoff: &mut Backoff,
-) -> Option<Message>
+) -> Option<Parcel>
     ensures ring { SameReceiver input.old input.new }
     ensures output { SameSender output.old output.new }
     ensures sent { sent output.new ≡ sent output.old }
-    ensures taken { IfSome result (λ m. received input.new ≡ received input.old ++ m ∷ []) }
-    ensures message { IfSome result IsMessage }
+    ensures taken { IfSome result (λ p. received input.new ≡ received input.old ++ messages_in p) }
+    ensures messages { IfSome result (λ p. AllByRecursion IsMessage (messages_in p)) }
     ensures none_seen { IfNone result ((received input.new ≡ received input.old) × (known_items input.new ≡ [])) }
 {
     if input.has_seen_message() || wait(rt, input, output, backoff) {
@@ -148,11 +155,81 @@ fn wait<R: Wait>(rt: &R, input: &mut Receiver, output: &mut Sender, backoff: &mu
     ensures received { received input.new ≡ received input.old }
     ensures output { SameSender output.old output.new }
     ensures sent { sent output.new ≡ sent output.old }
-    ensures some { IsTrue result → 0 < length (known_items input.new) }
+    ensures some { IsTrue result → 0 < length (known_parcels input.new) }
     ensures none { IsFalse result → known_items input.new ≡ [] }
 {
     output.wake_receiver();
     input.has_message() || input.wait_for_message(rt, backoff)
+}
+
+/// Passes a parcel through the tool, and sends what that makes of it; false where the output's other end was seen dropped
+/// before.
+#[inline(always)]
+fn pass<R: Wait, F: Filter + Drop>(
+    rt: &R,
+    alloc: Global,
+    stage: &mut FusedFilter<F>,
+    parcel: Parcel,
+    output: &mut Sender,
+    backoff: &mut Backoff,
+) -> bool
+    ensures output { SameSender output.old output.new }
+    ensures passed { HasPassed F.at F.all_given F.stopped result stage.old stage.new (messages_in parcel)
+        (sent output.old) (sent output.new) }
+{
+    match parcel {
+        Parcel::Message(message) => {
+            stage.feed(message);
+            send_answers(rt, stage, output, backoff)
+        }
+        Parcel::Rows(rows) => pass_rows(rt, alloc, stage, rows, output, backoff),
+    }
+}
+
+/// Passes rows that came together through the tool, together if it takes them so; false where the output's other end was
+/// seen dropped before.
+fn pass_rows<R: Wait, F: Filter + Drop>(
+    rt: &R,
+    alloc: Global,
+    stage: &mut FusedFilter<F>,
+    rows: Rows,
+    output: &mut Sender,
+    backoff: &mut Backoff,
+) -> bool
+    ensures output { SameSender output.old output.new }
+    ensures passed { HasPassed F.at F.all_given F.stopped result stage.old stage.new (row_messages rows)
+        (sent output.old) (sent output.new) }
+{
+    match stage.pass_rows(rows) {
+        Ok(made) => output.send_rows(rt, made, backoff),
+        Err(rows) => pass_each(rt, alloc, stage, &rows, output, backoff),
+    }
+}
+
+/// Passes each of the rows through the tool by itself; false where the output's other end was seen dropped before.
+fn pass_each<R: Wait, F: Filter + Drop>(
+    rt: &R,
+    alloc: Global,
+    stage: &mut FusedFilter<F>,
+    rows: &Rows,
+    output: &mut Sender,
+    backoff: &mut Backoff,
+) -> bool
+    ensures output { SameSender output.old output.new }
+    ensures passed { HasPassed F.at F.all_given F.stopped result stage.old stage.new (row_messages rows.now)
+        (sent output.old) (sent output.new) }
+{
+    for at in 0..rows.count() {
+        let Ok(row) = rows.row(alloc, at) else {
+            stage.refuse_for_memory();
+            return true;
+        };
+        stage.feed(Message::Row(row));
+        if !send_answers(rt, stage, output, backoff) {
+            return false;
+        }
+    }
+    true
 }
 
 /// Sends what the tool gives, until it has given all, or refused; false where the output's other end
