@@ -25,7 +25,7 @@ use Rattle.pnm_stages.specs.Prefixes.{IsLongestLawfulPrefix}
 use Rattle.pnm_stages.specs.Rings.{IsEnded, EndsAtMostOnce, HasDrainedAfter}
 use Rattle.pnm_stages.proofs.RingSteps.{ends_nothing, ends_with, same_output}
 use Rattle.pnm_lanes.specs.Deals.{AtEach, HasReceivedSo, HasSentSo, HasLane, HasDealt}
-use Rattle.pnm_lanes.specs.DealParts.{part_at, lane_part, IsSentPart, HasSentParts, HasBrokenOffDealing}
+use Rattle.pnm_lanes.specs.DealParts.{part_at, IsSentPart, HasSentParts, HasBrokenOffDealing}
 use Rattle.pnm_lanes.proofs.EachLaws.{each-map, each-then}
 use Rattle.pnm_lanes.proofs.DealtLaws.{dealt_more, before_stop_prefix}
 use Rattle.pnm_lanes.proofs.DealSteps.{HasAll, IsDealing, parts_of, HasPrefix, all_is_prefix, part_is_prefix, IsAccepted, accepted_more, prefix_of_dealt}
@@ -296,21 +296,19 @@ ends_gone place received_old received_now received_new left olds nows news m uns
           (parts_of place m olds nows news took unsent dealing.lanes sent_parts).lanes;
     }
 
--- nothing more came
-pub input_gone : (place : Place) (received_old received_now received_new left : List Message) (olds nows news : List Sender) (untold : Option StageEnd)
-    → IsDealing More place received_old received_now olds nows → (received_new ≡ received_now) × (left ≡ [])
-    → HasSentParts (lane_part (length nows) Stop) untold nows news → HasDealt PeerGone received_old received_new left olds news
-input_gone place received_old received_now received_new left olds nows news untold dealing gone told =
+-- no message can be taken
+pub cut_here : (place : Place) (received_old received_now received_new : List Message) (olds nows : List Sender)
+    → IsDealing More place received_old received_now olds nows → received_new ≡ received_now → IsCut PeerGone More received_old received_new olds nows
+cut_here place received_old received_now received_new olds nows dealing same =
     let took = dealing.took in
     record {
       took = took;
-      input = gone.0 ∙ dealing.input;
-      seen_taken = inr gone.1;
+      accepted = took;
+      all = true;
+      input = same ∙ dealing.input;
       messages = dealing.messages;
-      once = (More, dealing.ends);
-      ended = tt;
-      lanes = each-then (HasPrefix true (length olds) took) (IsSentPart (λ lane. Stop ∷ []) untold) (HasLane PeerGone (length olds) took) 0 olds nows news
-          (lost_lane true (length olds) took took untold (record { rest = []; parts = sym (append-nil took); lawful = dealing.lawful }))
-          (each-map (HasAll (length olds) took) (HasPrefix true (length olds) took) 0 olds nows (all_is_prefix (length olds) took dealing.ends) dealing.lanes)
-          told.lanes;
+      ends = dealing.ends;
+      is = record { rest = []; parts = sym (append-nil took); lawful = dealing.lawful };
+      may = for_reason PeerGone true (length olds) took took (inr refl);
+      lanes = each-map (HasAll (length olds) took) (HasPrefix true (length olds) took) 0 olds nows (all_is_prefix (length olds) took dealing.ends) dealing.lanes;
     }

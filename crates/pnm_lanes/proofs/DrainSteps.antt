@@ -15,7 +15,11 @@ use Rattle.pnm_stages.proofs.RingSteps.{ends_nothing}
 use Rattle.pnm_lanes.specs.declared.lane.LaneState.{LaneState}
 use Rattle.pnm_lanes.specs.declared.lane.LaneState.TheVariants.{Open, Ended, Gone}
 use Rattle.pnm_lanes.specs.Gathers.{at_lane, AreSameInputs}
-use Rattle.pnm_lanes.specs.GatherParts.{state_at, HasDrainedOne, IsLane, CarriesOn}
+use Rattle.std.specs.List.{AllByRecursion}
+use Rattle.pnm_stages.specs.declared.parcel.Parcel.{Parcel}
+use Rattle.pnm_stages.specs.Parcels.{messages_in, ending_of_parcel}
+use Rattle.pnm_stages.proofs.ParcelLaws.{ends_with_parcel}
+use Rattle.pnm_lanes.specs.GatherParts.{state_at, state_by, HasDrainedOne, IsLane, CarriesOn}
 use Rattle.pnm_lanes.proofs.DealtParts.{all_of_both}
 use Rattle.pnm_lanes.proofs.LaneLists.{at_lane-get, at_lane-set, at_lane-others, same_inputs, as_many}
 use Rattle.pnm_lanes.proofs.TakenParts.{by_lane}
@@ -39,6 +43,19 @@ ended_then a b more (inl whole) = inl (ends_then Whole a b more whole)
 ended_then a b more (inr broken) = inr (ends_then BrokenOff a b more broken)
 
 -- ---- one lane
+
+-- what was taken ends so
+taken_by : (e : Ending) (old new left taken : List Message) → new ≡ old ++ taken → AllByRecursion IsMessage taken → EndsBy e taken
+    → HasDrainedOne (Some (state_by e)) old new left
+taken_by More old new left taken added are ends = record { more = taken; added = added; messages = are; holds = (are, ends) }
+taken_by Whole old new left taken added are ends = record { more = taken; added = added; messages = are; holds = (are, inl ends) }
+taken_by BrokenOff old new left taken added are ends = record { more = taken; added = added; messages = are; holds = (are, inr ends) }
+
+-- what a place of the ring held was taken
+pub parcel_taken : (parcel : Parcel) (old new left : List Message) → new ≡ old ++ messages_in parcel → AllByRecursion IsMessage (messages_in parcel)
+    → HasDrainedOne (Some (state_by (ending_of_parcel parcel))) old new left
+parcel_taken parcel old new left added are =
+    taken_by (ending_of_parcel parcel) old new left (messages_in parcel) added are (ends_with_parcel [] parcel refl)
 
 -- one message more, or none
 one_lane : (s : LaneState) (start old new left : List Message) → Extends start old (EndsBy More) → HasDrainedOne (Some s) old new left → IsLane s start new left

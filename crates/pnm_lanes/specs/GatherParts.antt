@@ -152,13 +152,11 @@ HasTakenNext lanes place (Err end) states old new = HasTakenNone lanes place end
 
 -- ---- draining
 
--- the state of a lane after a message
-abbrev pub ending_state : Message → LaneState
-ending_state (Begin head) = Open
-ending_state (Row row) = Open
-ending_state ImageEnd = Open
-ending_state StreamEnd = Ended
-ending_state Stop = Ended
+-- the state of a lane after messages that end its stream so
+abbrev pub state_by : Ending → LaneState
+state_by More = Open
+state_by Whole = Ended
+state_by BrokenOff = Ended
 
 -- one message more was taken of a lane, and leaves it in this state; or none was there; or the ring's other end was
 -- seen dropped, and no message is left of those that were seen

@@ -34,7 +34,7 @@ pub struct DealDone {
 /// The faults are `OutOfOrder`, where a message can't come at its place, and `Memory`, where there is none for the
 /// copy of a head. Each lane is sent Stop then, and the input is taken and dropped through its end or its Stop. Where
 /// the other end of a ring is dropped early, the end is `PeerGone`: each lane whose stream hasn't ended is sent Stop,
-/// and the input is drained.
+/// and the input is drained. So it is where rows come that were sent together: a row is dealt by itself.
 ///
 /// A copy of a head is made by the head's own allocator: `_alloc` says that memory is taken.
 pub fn deal<R: Wait>(rt: &R, _alloc: Global, input: Receiver, outputs: Vec<Sender>) -> DealDone
@@ -64,9 +64,15 @@ fn deal_all<R: Wait>(rt: &R, input: &mut Receiver, outputs: &mut [Sender]) -> St
     let mut place = Place::new();
     let backoff = &mut Backoff::new();
     for _ in rt.forever() {
-        let Some(message) = input.receive(rt, backoff) else {
-            send_each(rt, &Message::Stop, outputs, backoff);
-            return StageEnd::PeerGone;
+        let Some(message) = input.receive_message(rt, backoff) else {
+            return break_off(
+                rt,
+                StageEnd::PeerGone,
+                Ending::More,
+                input,
+                outputs,
+                backoff,
+            );
         };
         let ending = message.ending();
         if !place.accepts(&message) {

@@ -3,13 +3,13 @@
 
 ghost use Rattle.std.specs.Prelude.{◌≡◌, ◌<◌, ◌≤◌, length, IfSome};
 ghost use Rattle.pnm_stages.specs.Rings.{received, known_items, SameReceiver};
-ghost use Rattle.pnm_image.specs.Messages.{IsMessage};
+ghost use Rattle.pnm_stages.specs.Parcels.{ending_of_parcel};
 ghost use Rattle.pnm_lanes.specs.Gathers.{at_lane, AreSameInputs};
-ghost use Rattle.pnm_lanes.specs.GatherParts.{HasDrainedOne, CarriesOn, HasDrainedAll, AreDone, ending_state};
+ghost use Rattle.pnm_lanes.specs.GatherParts.{HasDrainedOne, CarriesOn, HasDrainedAll, AreDone, state_by};
 
 use crate::lane::LaneState;
-use pnm_image::{Ending, Message};
-use pnm_stages::{Backoff, Receiver};
+use pnm_image::Ending;
+use pnm_stages::{Backoff, Parcel, Receiver};
 use std::sync::Wait;
 
 /// Takes and drops what comes from the lanes that haven't ended, each through the end of its stream or Stop. It tries
@@ -97,16 +97,11 @@ fn drain_one(input: &mut Receiver) -> Option<LaneState>
     Some(LaneState::Gone)
 }
 
-/// The state of a lane after its message.
-fn state_after(message: &Message) -> LaneState
-    ensures state { result ≡ ending_state message.now }
-    ensures message { IsMessage message.now }
+/// The state of a lane after what a place of its ring held.
+fn state_after(parcel: &Parcel) -> LaneState
+    ensures { result ≡ state_by (ending_of_parcel parcel.now) }
 {
-    if let Message::Begin(head) = message {
-        // No effect at run time: a proof learns of this that the head keeps the rules of heads.
-        let _ = head.shape();
-    }
-    match message.ending() {
+    match parcel.ending() {
         Ending::More => LaneState::Open,
         Ending::Whole | Ending::BrokenOff => LaneState::Ended,
     }

@@ -24,7 +24,7 @@ pub enum LaneState {
 }
 
 /// The next message of a lane that hasn't ended. `Broken` where it is Stop; `PeerGone` once the lane's ring is empty
-/// and its other end was seen dropped.
+/// and its other end was seen dropped, and where rows that were sent together come next, which no lane sends.
 pub fn receive_from<R: Wait>(
     rt: &R,
     inputs: &mut [Receiver],
@@ -38,7 +38,7 @@ pub fn receive_from<R: Wait>(
     ensures taken { HasTakenFrom lane result states.old states.new (at_lane received inputs.old)
         (at_lane received inputs.new) }
 {
-    let Some(message) = inputs[lane].receive(rt, backoff) else {
+    let Some(message) = inputs[lane].receive_message(rt, backoff) else {
         return Err(StageEnd::PeerGone);
     };
     let ending = message.ending();

@@ -132,6 +132,26 @@ impl Receiver {
         None
     }
 
+    /// The next message, once there is one. None where rows that were sent together come next, which stay there; and once
+    /// the ring is empty and its other end was seen dropped.
+    pub fn receive_message<R: Wait>(&mut self, rt: &R, backoff: &mut Backoff) -> Option<Message>
+        ensures ring { SameReceiver self.old self.new }
+        ensures taken { IfSome result (λ m. received self.new ≡ received self.old ++ m ∷ []) }
+        ensures message { IfSome result IsMessage }
+        ensures none { IfNone result (received self.new ≡ received self.old) }
+    {
+        if !self.has_message() && !self.wait_for_message(rt, backoff) {
+            return None;
+        }
+        if let Parcel::Rows(_) = self.peek_known() {
+            return None;
+        }
+        match self.receive_known() {
+            Parcel::Message(message) => Some(message),
+            Parcel::Rows(_) => unreachable!(),
+        }
+    }
+
     /// Waits until a message is there; false once the ring is empty and its other end was seen dropped. It stands apart
     /// from `receive`, which mostly finds a message.
     #[inline(never)]
