@@ -30,5 +30,5 @@ pub fn run_stage<R: Wait, G: Gate>(
         (sent output) (sent result.output) }
 {
     gate.arrive(number, 0);
-    run_filter(rt, filter_of(alloc, tool), input, output)
+    run_filter(rt, alloc, filter_of(alloc, tool), input, output)
 }

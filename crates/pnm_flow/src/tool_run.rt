@@ -85,7 +85,7 @@ impl<'a, R: Wait, G: Gate> Task for Stage<'a, R, G> {
             output,
         } = self;
         gate.arrive(number, 0);
-        run_filter(rt, filter_of(alloc, tool), input, output)
+        run_filter(rt, alloc, filter_of(alloc, tool), input, output)
     }
 }
 
