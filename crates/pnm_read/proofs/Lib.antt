@@ -23,6 +23,8 @@ pub mod DecimalSteps
 pub mod HeaderSteps
 pub mod MagicSteps
 pub mod HeldRows
+pub mod JoinedRows
+pub mod RowsGiven
 pub mod HeldShapes
 pub mod HeadSteps
 pub mod LineSteps

@@ -21,3 +21,4 @@ pub mod Awaiting
 pub mod Sources
 pub mod Examples
 pub mod Units
+pub mod HeldRows

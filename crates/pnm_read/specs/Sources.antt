@@ -3,6 +3,7 @@ use Rattle.std.specs.Prelude.{◌≡◌, ℕ, ◌⊎◌, Bool, List, [], ◌∷�
 use Rattle.std.specs.Io.KnownBytes.{Consumes}
 use Rattle.pnm_image.specs.declared.message.Message.{Message}
 use Rattle.pnm_image.specs.Completion.{IsPrefixOf}
+use Rattle.pnm_image.specs.Rows.{row_messages}
 use Rattle.pnm_read.specs.declared.fault.InputFault.{InputFault}
 use Rattle.pnm_read.specs.declared.source.Source.{Source}
 use Rattle.pnm_read.specs.Said.{Said, text_said, said_of, fault_of, then_said}
@@ -74,3 +75,8 @@ pub record Tells {R : Type 0} (left : R → Option (List ℕ)) (old : Source R)
   pub consumed : Consumes (left (reader_of old)) (left (reader_of new)) more
   pub told : (read : List ℕ) (given : List Message) → HasGiven old read given
       → AnswerTells new (read ++ more) given result
+
+-- Rows were given that came next of what was to be said, and nothing was read for them.
+abbrev pub TellsRows : {R : Type 0} → Source R → Source R → List (List ℕ) → Type 0
+TellsRows old new rows = (read : List ℕ) (given : List Message) → HasGiven old read given
+    → HasGiven new read (given ++ row_messages rows)

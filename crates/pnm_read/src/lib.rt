@@ -10,6 +10,7 @@ mod decimal;
 mod fault;
 mod fields;
 mod header;
+mod held_rows;
 mod judgement;
 pub mod laws;
 mod leading;

@@ -1,6 +1,6 @@
 //! How far a raster was read.
 
-ghost use Rattle.std.specs.Prelude.{◌≡◌, ◌≤◌, ◌<◌, ◌+◌};
+ghost use Rattle.std.specs.Prelude.{◌≡◌, ◌≤◌, ◌<◌, ◌+◌, ◌-◌};
 ghost use Rattle.pnm_image.specs.declared.limits.TheConstants.{MAX_MAXVAL, MAX_SIDE};
 ghost use Rattle.pnm_image.specs.SampleWidths.{sample_width_of};
 ghost use Rattle.pnm_read.specs.Said.{units_in_row};
@@ -54,6 +54,22 @@ impl Raster {
             format: self.format,
             shape: self.shape,
             y: self.y + 1,
+            sample_width: self.sample_width,
+            units: self.units,
+        }
+    }
+
+    /// The raster after so many rows more.
+    pub fn after_rows(self, count: u32) -> Raster
+        requires { count ≤ self.shape.height - self.y }
+        ensures format { result.format ≡ self.format }
+        ensures shape { result.shape ≡ self.shape }
+        ensures y { result.y ≡ self.y + count }
+    {
+        Raster {
+            format: self.format,
+            shape: self.shape,
+            y: self.y + count,
             sample_width: self.sample_width,
             units: self.units,
         }

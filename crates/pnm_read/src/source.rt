@@ -1,7 +1,7 @@
 //! The source of a stream: the bytes of a reader as messages.
 
 ghost use Rattle.std.specs.Prelude.{◌≡◌, List, ℕ, ◌<◌, ◌-◌, ◌⊎◌, ◌↔◌, IsTrue, true, false, Some, None, Ok, Err};
-ghost use Rattle.std.specs.Prelude.{IfOk, IfErr};
+ghost use Rattle.std.specs.Prelude.{IfOk, IfErr, IfSome};
 ghost use Rattle.pnm_image.specs.Devices.{Failed};
 ghost use Rattle.pnm_image.specs.Formats.{is_plain_form};
 ghost use Rattle.pnm_image.specs.declared.message.Message.TheVariants.{ImageEnd, StreamEnd, Stop};
@@ -16,8 +16,8 @@ use crate::fault::InputFault;
 use crate::header::{is_told, read_format, read_head};
 use crate::raster::Raster;
 use crate::spare_rows::SpareRows;
-use crate::{plain, raw};
-use pnm_image::{BytesIn, Format, Message, Samples};
+use crate::{held_rows, plain, raw};
+use pnm_image::{BytesIn, Format, Message, Rows, Samples};
 use std::alloc::Global;
 
 /// What a source awaits of its input.
@@ -65,7 +65,7 @@ pub struct Source<R> {
 
 impl<R: BytesIn> Source<R> {
     ghost use Rattle.pnm_read.specs.Sources.{IsFreshSource, Tells, MayGive, SeesEnd, MayGiveMore, stopped_by};
-    ghost use Rattle.pnm_read.specs.Sources.{has_ended, reader_of};
+    ghost use Rattle.pnm_read.specs.Sources.{TellsRows, has_ended, reader_of};
 
     /// A source over the reader, with a buffer of its own. It reads nothing. The only fault is
     /// `Memory`, and then the reader is gone: `with_buffer` keeps it.
@@ -123,6 +123,49 @@ impl<R: BytesIn> Source<R> {
             State::Awaits(awaited) => self.go_on(awaited, spares),
             State::Ended => Ok(None),
             State::Failed(fault) => Err(fault),
+        }
+    }
+
+    /// The next rows of a raw image together, which `next` would give one after another: all that are held whole, where
+    /// these are two or more of at most 512 bytes each, and fill their bytes. Otherwise, and where one of them has a
+    /// sample above the maxval, `None`: then `next` tells what comes. It makes no read.
+    ///
+    /// The only fault is `Memory`, which stays as it does for `next`. The memory of the rows is taken from the spares,
+    /// where there is some that they fit in.
+    pub fn next_rows(&mut self, spares: &mut SpareRows) -> Result<Option<Rows>, InputFault>
+        // Rows come in turn; without any nothing has changed.
+        ensures told { IfOk result (λ r. IfSome r (TellsRows self.old self.new)) }
+        ensures none { result ≡ Ok None → self.new ≡ self.old }
+        ensures going { IfOk result (λ r. IfSome r (λ _.
+            (stopped_by self.new ≡ None) × (has_ended self.new ≡ false))) }
+
+        // A fault stays.
+        ensures refused { IfErr result (λ fault. (fault ≡ Memory)
+            × Tells R.left self.old (Err fault) self.new) }
+        ensures stopped { IfErr result (λ fault. stopped_by self.new ≡ Some fault) }
+
+        // The reader, which is as it was.
+        ensures reader { reader_of self.new ≡ reader_of self.old }
+        ensures end { SeesEnd R.left self.old → SeesEnd R.left self.new }
+        ensures comes { (rest : List ℕ) → MayGive self.old rest → MayGive self.new rest }
+        ensures came { (rest : List ℕ) → MayGive self.new rest → MayGive self.old rest }
+    {
+        let Some(raster) = raw_raster(&self.state) else {
+            return Ok(None);
+        };
+        let count = held_rows::count_held(&self.input, &raster);
+        if count == 0 {
+            return Ok(None);
+        }
+        match held_rows::take_rows(&mut self.input, spares, &raster, count) {
+            Ok(rows) => {
+                self.state = State::Awaits(Awaited::RowOrEnd(raster.after_rows(count)));
+                Ok(Some(rows))
+            }
+            Err(found) => {
+                self.state = State::Failed(found);
+                Err(found)
+            }
         }
     }
 
@@ -217,6 +260,17 @@ fn has_row(state: &State) -> bool
         State::Awaits(Awaited::FirstImage | Awaited::ImageOrEnd | Awaited::End)
         | State::Ended
         | State::Failed(_) => false,
+    }
+}
+
+/// The raster that is being read, if it is a raw one.
+fn raw_raster(state: &State) -> Option<Raster>
+    ensures awaited { IfSome result (λ raster. state.now ≡ State.Awaits (Awaited.RowOrEnd raster)) }
+    ensures raw { IfSome result (λ raster. is_plain_form raster.format.form ≡ false) }
+{
+    match state {
+        State::Awaits(Awaited::RowOrEnd(raster)) if !raster.format.is_plain() => Some(*raster),
+        State::Awaits(_) | State::Ended | State::Failed(_) => None,
     }
 }
 
