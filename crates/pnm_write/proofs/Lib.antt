@@ -4,6 +4,7 @@ pub mod PlainLaws
 pub mod EntryLaws
 pub mod PixelLaws
 pub mod NumeralLaws
+pub mod PartLaws
 pub mod RawLaws
 pub mod WordSizes
 pub mod OneText

@@ -1,6 +1,6 @@
 //! The rows of plain images: their samples as words in lines.
 
-ghost use Rattle.std.specs.Prelude.{◌≡◌, ◌+◌, ◌<◌, ◌≤◌, All, ◌++◌, length, OnOk, OnErr};
+ghost use Rattle.std.specs.Prelude.{◌≡◌, ◌+◌, ◌<◌, ◌≤◌, All, ◌++◌, length, take, drop, OnOk, OnErr};
 ghost use Rattle.std.specs.Io.KnownBytes.{Appends};
 ghost use Rattle.pnm_image.specs.Devices.{FailsIn};
 ghost use Rattle.pnm_image.specs.declared.shape.Kind.{Kind};
@@ -43,7 +43,7 @@ pub fn write_lines<W: BytesOut>(
         (Kind::Gray | Kind::Color | Kind::Pam, SampleSlice::Words(words)) => write_words(
             writer, buffer, words,
         ),
-        _ => write_others(writer, buffer, shape, row),
+        _ => write_others(writer, buffer, shape, row, 0, row.len()),
     }
 }
 
@@ -128,35 +128,40 @@ fn write_words<W: BytesOut>(
     Ok(())
 }
 
-/// Writes samples that are held otherwise than their kind is. It stands in no other function's frame, since these would
-/// have room for its samples too.
+/// Writes a row of so many samples from one on, which are held otherwise than their kind is. It stands in no other
+/// function's frame, since these would have room for its samples too.
 #[inline(never)]
 fn write_others<W: BytesOut>(
     writer: &mut W,
     buffer: &mut WriteBuffer,
     shape: Shape,
-    row: &Samples,
+    samples: &Samples,
+    start: usize,
+    count: usize,
 ) -> Result<(), DeviceFailed>
-    requires { All (λ sample. sample ≤ shape.maxval) row.now }
-    ensures written { OnOk result
-        (Appends (W.held writer.old) (W.held writer.new) (plain_row_text shape.kind row.now)) }
+    requires within { start + count ≤ length samples.now }
+    requires range { All (λ sample. sample ≤ shape.maxval) samples.now }
+    ensures written { OnOk result (Appends (W.held writer.old) (W.held writer.new)
+        (plain_row_text shape.kind (take count (drop start samples.now)))) }
     ensures failed { OnErr result
-        (FailsIn (plain_row_text shape.kind row.now) (W.held writer.old) (W.held writer.new)
-        (W.failures writer.old) (W.failures writer.new)) }
+        (FailsIn (plain_row_text shape.kind (take count (drop start samples.now)))
+        (W.held writer.old) (W.held writer.new) (W.failures writer.old) (W.failures writer.new)) }
     ensures count { OnOk result (W.failures writer.new ≡ W.failures writer.old) }
     ensures same_device { W.same writer.old writer.new }
 {
-    // No effect at run time: a proof learns of this that the maxval keeps the rules of shapes.
+    // No effect at run time: a proof learns of these that the maxval keeps the rules of shapes, and that the samples'
+    // length is a number of this machine.
     let _ = shape.maxval;
-    let mut samples = [0; MOST_SAMPLES];
+    let _ = samples.len();
+    let mut words = [0; MOST_SAMPLES];
     let mut column = 0;
-    let mut start = 0;
-    while start < row.len() {
-        let count = (row.len() - start).min(MOST_SAMPLES);
-        row.copy_to(start, &mut samples[..count]);
-        column = set_part(buffer, shape.kind, column, &samples[..count]);
-        start += count;
-        end_row(buffer, start == row.len());
+    let mut done = 0;
+    while done < count {
+        let size = (count - done).min(MOST_SAMPLES);
+        samples.copy_to(start + done, &mut words[..size]);
+        column = set_part(buffer, shape.kind, column, &words[..size]);
+        done += size;
+        end_row(buffer, done == count);
         write_all(writer, buffer.as_slice())?;
     }
     Ok(())

@@ -1,6 +1,6 @@
 //! The rows of images.
 
-ghost use Rattle.std.specs.Prelude.{◌≡◌, ◌≤◌, All, OnOk, OnErr};
+ghost use Rattle.std.specs.Prelude.{◌≡◌, ◌≤◌, ◌+◌, All, OnOk, OnErr, length, take, drop};
 ghost use Rattle.std.specs.Io.KnownBytes.{Appends};
 ghost use Rattle.pnm_write.specs.Encoding.{row_bytes};
 ghost use Rattle.pnm_image.specs.Devices.{FailsIn};
@@ -59,38 +59,48 @@ fn write_raw<W: BytesOut>(
         (SampleWidth::Bytes, SampleSlice::Bytes(bytes)) => write_all(writer, bytes),
         (_, SampleSlice::Words(words)) => write_words(writer, buffer, shape, words),
         (_, SampleSlice::Bits(_) | SampleSlice::Bytes(_)) => write_others(
-            writer, buffer, shape, row,
+            writer,
+            buffer,
+            shape,
+            row,
+            0,
+            row.len(),
         ),
     }
 }
 
-/// Writes samples that are held otherwise than their bytes, some at a time. It stands in no other function's frame,
-/// since these would have room for its samples too.
+/// Writes so many samples from one on, which are held otherwise than their bytes, some at a time. It stands in no other
+/// function's frame, since these would have room for its samples too.
 #[inline(never)]
-fn write_others<W: BytesOut>(
+pub fn write_others<W: BytesOut>(
     writer: &mut W,
     buffer: &mut WriteBuffer,
     shape: Shape,
-    row: &Samples,
+    samples: &Samples,
+    start: usize,
+    count: usize,
 ) -> Result<(), DeviceFailed>
-    requires { All (λ sample. sample ≤ shape.maxval) row.now }
-    ensures written { OnOk result
-        (Appends (W.held writer.old) (W.held writer.new) (row_bytes Form.Raw shape row.now)) }
+    requires within { start + count ≤ length samples.now }
+    requires range { All (λ sample. sample ≤ shape.maxval) samples.now }
+    ensures written { OnOk result (Appends (W.held writer.old) (W.held writer.new)
+        (row_bytes Form.Raw shape (take count (drop start samples.now)))) }
     ensures failed { OnErr result
-        (FailsIn (row_bytes Form.Raw shape row.now) (W.held writer.old) (W.held writer.new)
-        (W.failures writer.old) (W.failures writer.new)) }
+        (FailsIn (row_bytes Form.Raw shape (take count (drop start samples.now)))
+        (W.held writer.old) (W.held writer.new) (W.failures writer.old) (W.failures writer.new)) }
     ensures count { OnOk result (W.failures writer.new ≡ W.failures writer.old) }
     ensures same_device { W.same writer.old writer.new }
 {
+    // No effect at run time: a proof learns of this that the samples' length is a number of this machine.
+    let _ = samples.len();
     let sample_width = SampleWidth::of(shape.kind, shape.maxval);
     let mut words = [0; MOST_SAMPLES];
-    let mut start = 0;
-    while start < row.len() {
-        let count = (row.len() - start).min(MOST_SAMPLES);
-        row.copy_to(start, &mut words[..count]);
-        buffer.fill(sample_width, &words[..count]);
+    let mut done = 0;
+    while done < count {
+        let size = (count - done).min(MOST_SAMPLES);
+        samples.copy_to(start + done, &mut words[..size]);
+        buffer.fill(sample_width, &words[..size]);
         write_all(writer, buffer.as_slice())?;
-        start += count;
+        done += size;
     }
     Ok(())
 }

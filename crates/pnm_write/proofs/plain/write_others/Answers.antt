@@ -1,44 +1,43 @@
 use Rattle.std.proofs.Common.{◌≡◌, ◌≤◌, ◌<◌, ◌^◌, ◌∙◌, ◌++◌, ◌+◌, ◌-◌, ◌==◌, min, Bool, true, false, List, ℕ, length, take, drop, All, ap, sym, subst, rules}
 use Rattle.std.proofs.Common.{arith}
 use Rattle.std.proofs.lemmas.List.{length-drop, length-take, length-append, take_at, drop-drop}
-use Rattle.std.proofs.lemmas.List.Elements.{All-weaker}
+use Rattle.std.proofs.lemmas.List.Elements.{All-weaker, All-take, All-drop}
 use Rattle.std.proofs.lemmas.Bool.Decides.{nat_tests}
 use Rattle.pnm_image.specs.declared.shape.Kind.{Kind}
 use Rattle.pnm_image.proofs.Written.{Sending, at_any_error, sending_part, sending_part_failed}
 use Rattle.pnm_write.specs.PlainRows.{plain_row_text}
 use Rattle.pnm_write.specs.PlainParts.{text_of_part, column_after_part, sample_texts, row_end}
+use Rattle.pnm_write.proofs.PartLaws.{part_of_part, length-part}
 use Rattle.pnm_write.proofs.PlainLaws.{text_left, left_part, row_text_left}
 use Rattle.pnm_write.proofs.plain.write_others.Goals as goal
 
+-- what was copied is a part of the row
+copied_part : (start count done n : ℕ) (samples copied words : List ℕ) → done < count → n ≡ min (count - done) 680 → length words ≡ 680
+    → copied ≡ take (length (take n words)) (drop (start + done) samples)
+    → copied ≡ take n (drop done (take count (drop start samples)))
+copied_part start count done n samples copied words more e buffer same =
+    let size : length (take n words) ≡ n = omega (arith, length-take n words) in
+    same ∙ ap (λ (k : ℕ). take k (drop (start + done) samples)) size ∙ part_of_part start count done n samples (omega arith)
+
 -- what is left is the part that is written now, and the rest
-part_and_rest : (kind : Kind) (column start n : ℕ) (row copied samples written set : List ℕ) (is_end : Bool) (then_column : ℕ) → start < length row
-    → n ≡ min (length row - start) 680 → length samples ≡ 680
-    → copied ≡ take (length (take n samples)) (drop start row) → set ≡ text_of_part column (sample_texts kind (take n (copied ++ drop n samples)))
-    → then_column ≡ column_after_part column (sample_texts kind (take n (copied ++ drop n samples)))
-    → (start + n ≡ length row → is_end ≡ true) → (start + n < length row → is_end ≡ false) → written ≡ set ++ row_end is_end
-    → text_left column kind (drop start row) ≡ written ++ text_left then_column kind (drop (start + n) row)
-part_and_rest kind column start n row copied samples written set is_end then_column more count buffer same text column_is last on whole =
-    let rest : List ℕ = drop start row in
-    let size : length rest ≡ length row - start = length-drop start row in
-    let taken : copied ≡ take n rest = same ∙ ap (λ (k : ℕ). take k rest) (omega (arith, length-take n samples)) in
-    let long : length copied ≡ n = ap length taken ∙ omega (arith, length-take n rest) in
-    let prefix : take n (copied ++ drop n samples) ≡ take n rest = take_at copied (drop n samples) n long ∙ taken in
+part_and_rest : (kind : Kind) (column done n : ℕ) (row copied words written set : List ℕ) (is_end : Bool) (then_column : ℕ) → done < length row
+    → n ≡ min (length row - done) 680 → length copied ≡ n
+    → copied ≡ take n (drop done row) → set ≡ text_of_part column (sample_texts kind (take n (copied ++ drop n words)))
+    → then_column ≡ column_after_part column (sample_texts kind (take n (copied ++ drop n words)))
+    → (done + n ≡ length row → is_end ≡ true) → (done + n < length row → is_end ≡ false) → written ≡ set ++ row_end is_end
+    → text_left column kind (drop done row) ≡ written ++ text_left then_column kind (drop (done + n) row)
+part_and_rest kind column done n row copied words written set is_end then_column more count long taken text column_is last on whole =
+    let rest : List ℕ = drop done row in
+    let size : length rest ≡ length row - done = length-drop done row in
+    let prefix : take n (copied ++ drop n words) ≡ take n rest = take_at copied (drop n words) n long ∙ taken in
     left_part column kind n rest is_end (omega arith) (omega arith) (λ e. last (omega arith)) (λ e. on (omega arith))
     ∙ ap (λ (l : List ℕ). (text_of_part column (sample_texts kind l) ++ row_end is_end) ++ text_left (column_after_part column (sample_texts kind l)) kind
     (drop n rest)) (sym prefix)
-    ∙ ap (λ (l : List ℕ). (l ++ row_end is_end) ++ text_left (column_after_part column (sample_texts kind (take n (copied ++ drop n samples)))) kind
+    ∙ ap (λ (l : List ℕ). (l ++ row_end is_end) ++ text_left (column_after_part column (sample_texts kind (take n (copied ++ drop n words)))) kind
     (drop n rest)) (sym text)
     ∙ ap (λ (k : ℕ). (set ++ row_end is_end) ++ text_left k kind (drop n rest)) (sym column_is)
     ∙ ap (λ (l : List ℕ). l ++ text_left then_column kind (drop n rest)) (sym whole)
-    ∙ ap (λ (l : List ℕ). written ++ text_left then_column kind l) (drop-drop n start row)
-
--- the samples that were copied stand in place of as many
-copied_size : (start n : ℕ) (row copied samples : List ℕ) → n ≡ min (length row - start) 680 → length samples ≡ 680
-    → copied ≡ take (length (take n samples)) (drop start row) → length (copied ++ drop n samples) ≡ 680
-copied_size start n row copied samples count buffer same =
-    let long : length copied ≡ n = ap length same
-    ∙ omega (arith, length-take (length (take n samples)) (drop start row), length-take n samples, length-drop start row) in
-    omega (arith, length-append copied (drop n samples), length-drop n samples)
+    ∙ ap (λ (l : List ℕ). written ++ text_left then_column kind l) (drop-drop n done row)
 
 -- whether the row ends here
 ends : (a b : ℕ) → a ≡ b → (a == b) ≡ true
@@ -49,41 +48,53 @@ goes_on a b h = grind (arith, nat_tests)
 
 pub returns-in_err-write_all-clause-failed : goal.returns-in_err-write_all-clause-failed
 returns-in_err-write_all-clause-failed g c =
-    let row = c.args.row.now in
-    let split = part_and_rest c.args.shape.kind c.loop-start.column c.loop-start.start c.min-count.result row c.copy_to.new.buffer c.loop-start.samples
-    c.as_slice.result.now c.set_part-column.new.buffer _ c.set_part-column.result
-    (omega arith) (omega arith) c.loop-start.invariant.buffer c.copy_to.ensures c.set_part-column.ensures.text c.set_part-column.ensures.column
+    let n = c.min-size.result in
+    let done = c.loop-done.done in
+    let row = take c.args.count (drop c.args.start c.args.samples.now) in
+    let words = c.loop-done.words in
+    let long : length row ≡ c.args.count = length-part c.args.start c.args.count c.args.samples.now c.requires.within in
+    let same = copied_part c.args.start c.args.count done n c.args.samples.now c.copy_to.new.buffer words (omega arith) c.min-size.ensures
+    c.loop-done.invariant.buffer c.copy_to.ensures in
+    let size : length c.copy_to.new.buffer ≡ n = ap length same ∙ omega (arith, length-take n (drop done row), length-drop done row) in
+    let split = part_and_rest c.args.shape.kind c.loop-done.column done n row c.copy_to.new.buffer words c.as_slice.result.now c.set_part-column.new.buffer _
+    c.set_part-column.result (omega arith) (omega arith) size same c.set_part-column.ensures.text c.set_part-column.ensures.column
     (λ e. ends _ _ (omega arith)) (λ h. goes_on _ _ (omega arith)) (c.as_slice.ensures ∙ c.end_row.ensures) in
     at_any_error c.from_residual.result
-    (sending_part_failed g.W.BytesOut.held g.W.BytesOut.failures g.W.BytesOut.same c.args.writer.now c.loop-start.writer c.write_all.new.writer
-    (plain_row_text c.args.shape.kind row) (text_left c.loop-start.column c.args.shape.kind (drop c.loop-start.start row)) c.as_slice.result.now
-    (text_left c.set_part-column.result c.args.shape.kind (drop (c.loop-start.start + c.min-count.result) row)) split c.loop-start.invariant.sending
-    c.in_err-write_all.ensures.failed)
+    (sending_part_failed g.W.BytesOut.held g.W.BytesOut.failures g.W.BytesOut.same c.args.writer.now c.loop-done.writer c.write_all.new.writer
+    (plain_row_text c.args.shape.kind row) (text_left c.loop-done.column c.args.shape.kind (drop done row)) c.as_slice.result.now
+    (text_left c.set_part-column.result c.args.shape.kind (drop (done + n) row)) split c.loop-done.invariant.sending c.in_err-write_all.ensures.failed)
 
-pub loop-start-preserved : goal.loop-start-preserved
-loop-start-preserved g c =
-    let row = c.args.row.now in
-    let split = part_and_rest c.args.shape.kind c.loop-start.column c.loop-start.start c.min-count.result row c.copy_to.new.buffer c.loop-start.samples
-    c.as_slice.result.now c.set_part-column.new.buffer _ c.set_part-column.result
-    (omega arith) (omega arith) c.loop-start.invariant.buffer c.copy_to.ensures c.set_part-column.ensures.text c.set_part-column.ensures.column
+pub loop-done-preserved : goal.loop-done-preserved
+loop-done-preserved g c =
+    let n = c.min-size.result in
+    let done = c.loop-done.done in
+    let row = take c.args.count (drop c.args.start c.args.samples.now) in
+    let words = c.loop-done.words in
+    let long : length row ≡ c.args.count = length-part c.args.start c.args.count c.args.samples.now c.requires.within in
+    let same = copied_part c.args.start c.args.count done n c.args.samples.now c.copy_to.new.buffer words (omega arith) c.min-size.ensures
+    c.loop-done.invariant.buffer c.copy_to.ensures in
+    let size : length c.copy_to.new.buffer ≡ n = ap length same ∙ omega (arith, length-take n (drop done row), length-drop done row) in
+    let split = part_and_rest c.args.shape.kind c.loop-done.column done n row c.copy_to.new.buffer words c.as_slice.result.now c.set_part-column.new.buffer _
+    c.set_part-column.result (omega arith) (omega arith) size same c.set_part-column.ensures.text c.set_part-column.ensures.column
     (λ e. ends _ _ (omega arith)) (λ h. goes_on _ _ (omega arith)) (c.as_slice.ensures ∙ c.end_row.ensures) in
     record {
-      sending = sending_part g.W.BytesOut.held g.W.BytesOut.failures g.W.BytesOut.same c.args.writer.now c.loop-start.writer c.write_all.new.writer
-          (plain_row_text c.args.shape.kind row) (text_left c.loop-start.column c.args.shape.kind (drop c.loop-start.start row)) c.as_slice.result.now
-          (text_left c.set_part-column.result c.args.shape.kind (drop (c.loop-start.start + c.min-count.result) row)) split c.loop-start.invariant.sending
+      sending = sending_part g.W.BytesOut.held g.W.BytesOut.failures g.W.BytesOut.same c.args.writer.now c.loop-done.writer c.write_all.new.writer
+          (plain_row_text c.args.shape.kind row) (text_left c.loop-done.column c.args.shape.kind (drop done row)) c.as_slice.result.now
+          (text_left c.set_part-column.result c.args.shape.kind (drop (done + n) row)) split c.loop-done.invariant.sending
           c.in_ok-write_all.ensures.written c.in_ok-write_all.ensures.count
-          (g.met.W.BytesOut.same_later _ _ _ c.loop-start.invariant.sending.same_device c.in_ok-write_all.ensures.same_device);
+          (g.met.W.BytesOut.same_later _ _ _ c.loop-done.invariant.sending.same_device c.in_ok-write_all.ensures.same_device);
       within = omega arith;
       line = c.set_part-column.ensures.line;
-      buffer = copied_size c.loop-start.start c.min-count.result row c.copy_to.new.buffer c.loop-start.samples (omega arith) c.loop-start.invariant.buffer
-          c.copy_to.ensures;
+      buffer = omega (arith, length-append c.copy_to.new.buffer (drop n words), length-drop n words, size);
     }
 
-pub loop-start-init : goal.loop-start-init
-loop-start-init g c =
-    let row = c.args.row.now in
-    let fit : All (λ sample. sample < 2 ^ 64) row = All-weaker (λ sample. sample ≤ c.args.shape.maxval) (λ sample. sample < 2 ^ 64) (λ n h. omega arith) row
-    c.requires in
+pub loop-done-init : goal.loop-done-init
+loop-done-init g c =
+    let row = take c.args.count (drop c.args.start c.args.samples.now) in
+    let within : ℕ → Type 0 = λ sample. sample ≤ c.args.shape.maxval in
+    let range : All within row = All-take within c.args.count (drop c.args.start c.args.samples.now)
+    (All-drop within c.args.start c.args.samples.now c.requires.range) in
+    let fit : All (λ sample. sample < 2 ^ 64) row = All-weaker within (λ sample. sample < 2 ^ 64) (λ n h. omega arith) row range in
     let start : Sending g.W.BytesOut.held g.W.BytesOut.failures g.W.BytesOut.same c.args.writer.now c.args.writer.now (plain_row_text c.args.shape.kind row)
     (plain_row_text c.args.shape.kind row) = search rules in
     record {
@@ -97,4 +108,4 @@ loop-start-init g c =
 
 pub returns-in_err-write_all-clause-same_device : goal.returns-in_err-write_all-clause-same_device
 returns-in_err-write_all-clause-same_device g c =
-    g.met.W.BytesOut.same_later _ _ _ c.loop-start.invariant.sending.same_device c.write_all.ensures.same_device
+    g.met.W.BytesOut.same_later _ _ _ c.loop-done.invariant.sending.same_device c.write_all.ensures.same_device

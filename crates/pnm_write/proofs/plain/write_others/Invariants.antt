@@ -1,18 +1,19 @@
-use Rattle.std.proofs.Common.{◌≡◌, ◌≤◌, ◌-◌, length, drop}
+use Rattle.std.proofs.Common.{◌≡◌, ◌≤◌, ◌-◌, length, take, drop}
 use Rattle.pnm_image.proofs.Written.{Sending}
 use Rattle.pnm_write.specs.PlainRows.{plain_row_text}
 use Rattle.pnm_write.proofs.PlainLaws.{text_left}
 use Rattle.pnm_write.proofs.plain.write_others.Given as goal
 
 -- what is left is what isn't written
-abbrev pub invariant-loop-start : goal.invariant-loop-start
-invariant-loop-start g l = record {
-  sending : Sending g.W.BytesOut.held g.W.BytesOut.failures g.W.BytesOut.same l.initial.writer l.writer (plain_row_text l.shape.kind l.row)
-      (text_left l.column l.shape.kind (drop l.start l.row));
-  within : l.start ≤ length l.row;
+abbrev pub invariant-loop-done : goal.invariant-loop-done
+invariant-loop-done g l = record {
+  sending : Sending g.W.BytesOut.held g.W.BytesOut.failures g.W.BytesOut.same l.initial.writer l.writer
+      (plain_row_text l.shape.kind (take l.count (drop l.start l.samples)))
+      (text_left l.column l.shape.kind (drop l.done (take l.count (drop l.start l.samples))));
+  within : l.done ≤ l.count;
   line : l.column ≤ 70;
-  buffer : length l.samples ≡ 680;
+  buffer : length l.words ≡ 680;
 }
 
-abbrev pub decreases-loop-start : goal.decreases-loop-start
-decreases-loop-start g l = length l.row - l.start
+abbrev pub decreases-loop-done : goal.decreases-loop-done
+decreases-loop-done g l = l.count - l.done
