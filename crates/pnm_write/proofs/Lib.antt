@@ -5,6 +5,7 @@ pub mod EntryLaws
 pub mod PixelLaws
 pub mod NumeralLaws
 pub mod PartLaws
+pub mod RowsLaws
 pub mod RawLaws
 pub mod WordSizes
 pub mod OneText

@@ -12,6 +12,7 @@ mod pixels;
 mod plain;
 mod raw;
 mod row;
+mod rows;
 mod sink;
 mod write_buffer;
 

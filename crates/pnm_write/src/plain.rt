@@ -47,6 +47,40 @@ pub fn write_lines<W: BytesOut>(
     }
 }
 
+/// Writes a row of so many samples from one on, of samples that hold several rows of an image of this shape.
+pub fn write_lines_from<W: BytesOut>(
+    writer: &mut W,
+    buffer: &mut WriteBuffer,
+    shape: Shape,
+    samples: &Samples,
+    start: usize,
+    count: usize,
+) -> Result<(), DeviceFailed>
+    requires within { start + count ≤ length samples.now }
+    requires range { All (λ sample. sample ≤ shape.maxval) samples.now }
+    ensures written { OnOk result (Appends (W.held writer.old) (W.held writer.new)
+        (plain_row_text shape.kind (take count (drop start samples.now)))) }
+    ensures failed { OnErr result
+        (FailsIn (plain_row_text shape.kind (take count (drop start samples.now)))
+        (W.held writer.old) (W.held writer.new) (W.failures writer.old) (W.failures writer.new)) }
+    ensures count { OnOk result (W.failures writer.new ≡ W.failures writer.old) }
+    ensures same_device { W.same writer.old writer.new }
+{
+    match (shape.kind, samples.as_slice()) {
+        (Kind::Gray | Kind::Color | Kind::Pam, SampleSlice::Bytes(bytes)) => write_bytes(
+            writer,
+            buffer,
+            &bytes[start..start + count],
+        ),
+        (Kind::Gray | Kind::Color | Kind::Pam, SampleSlice::Words(words)) => write_words(
+            writer,
+            buffer,
+            &words[start..start + count],
+        ),
+        _ => write_others(writer, buffer, shape, samples, start, count),
+    }
+}
+
 /// Writes pixels, whole bytes and whole lines of them at a time.
 fn write_pixels<W: BytesOut>(
     writer: &mut W,

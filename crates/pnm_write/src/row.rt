@@ -5,7 +5,7 @@ ghost use Rattle.std.specs.Io.KnownBytes.{Appends};
 ghost use Rattle.pnm_write.specs.Encoding.{row_bytes};
 ghost use Rattle.pnm_image.specs.Devices.{FailsIn};
 
-use crate::plain::write_lines;
+use crate::plain::{write_lines, write_lines_from};
 use crate::raw::most_samples;
 use crate::write_buffer::WriteBuffer;
 use pnm_image::{
@@ -35,6 +35,32 @@ pub fn write_samples<W: BytesOut>(
     match form {
         Form::Raw => write_raw(writer, buffer, shape, row),
         Form::Plain => write_lines(writer, buffer, shape, row),
+    }
+}
+
+/// Writes a row of so many samples from one on, of samples that hold several rows of an image of this shape.
+pub fn write_samples_from<W: BytesOut>(
+    writer: &mut W,
+    buffer: &mut WriteBuffer,
+    form: Form,
+    shape: Shape,
+    samples: &Samples,
+    start: usize,
+    count: usize,
+) -> Result<(), DeviceFailed>
+    requires within { start + count ≤ length samples.now }
+    requires range { All (λ sample. sample ≤ shape.maxval) samples.now }
+    ensures written { OnOk result (Appends (W.held writer.old) (W.held writer.new)
+        (row_bytes form shape (take count (drop start samples.now)))) }
+    ensures failed { OnErr result
+        (FailsIn (row_bytes form shape (take count (drop start samples.now)))
+        (W.held writer.old) (W.held writer.new) (W.failures writer.old) (W.failures writer.new)) }
+    ensures count { OnOk result (W.failures writer.new ≡ W.failures writer.old) }
+    ensures same_device { W.same writer.old writer.new }
+{
+    match form {
+        Form::Raw => write_others(writer, buffer, shape, samples, start, count),
+        Form::Plain => write_lines_from(writer, buffer, shape, samples, start, count),
     }
 }
 
@@ -72,7 +98,7 @@ fn write_raw<W: BytesOut>(
 /// Writes so many samples from one on, which are held otherwise than their bytes, some at a time. It stands in no other
 /// function's frame, since these would have room for its samples too.
 #[inline(never)]
-pub fn write_others<W: BytesOut>(
+fn write_others<W: BytesOut>(
     writer: &mut W,
     buffer: &mut WriteBuffer,
     shape: Shape,
