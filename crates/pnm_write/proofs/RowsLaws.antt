@@ -1,5 +1,6 @@
 -- The bytes of rows that follow one another.
-use Rattle.std.proofs.Common.{◌≡◌, ℕ, ◌+◌, ◌-◌, ◌*◌, ◌/◌, ◌%◌, ◌<◌, ◌≤◌, List, [], ◌∷◌, ◌++◌, length, get_or, take, drop, All, refl, sym, ap, ap₂, subst, ◌∙◌, arith}
+use Rattle.std.proofs.Common.{◌≡◌, ℕ, ◌+◌, ◌-◌, ◌*◌, ◌/◌, ◌%◌, ◌<◌, ◌≤◌, List, [], ◌∷◌, ◌++◌, length, get_or, take, drop, All, refl, sym, ap, ap₂, subst, ◌∙◌}
+use Rattle.std.proofs.Common.{arith}
 use Rattle.std.specs.List.{concat, flat_map, AllByRecursion}
 use Rattle.std.proofs.lemmas.Grind.{flat_map-append}
 use Rattle.std.proofs.lemmas.List.{length-append, length-drop, take_at, drop_at, drop_more, drop-drop}
@@ -61,7 +62,8 @@ next_row each start y rows samples long more within left =
     let here : drop y rows ≡ row ∷ later = drop_more rows y [] more in
     let size : length row ≡ each = long y [] more in
     let parts : drop start samples ≡ row ++ concat later = left ∙ ap concat here in
-    let sizes : length samples - start ≡ length row + length (concat later) = sym (length-drop start samples) ∙ ap length parts ∙ length-append row (concat later) in
+    let sizes : length samples - start ≡ length row + length (concat later) =
+    sym (length-drop start samples) ∙ ap length parts ∙ length-append row (concat later) in
     let first : take each (drop start samples) ≡ row = ap (take each) parts ∙ take_at row (concat later) each size in
     record {
       within = omega (arith, within, sizes, size);

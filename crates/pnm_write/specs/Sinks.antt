@@ -7,11 +7,12 @@ use Rattle.pnm_image.specs.declared.message.Message.{Message}
 use Rattle.pnm_image.specs.declared.message.Message.TheVariants.{Begin, Row, ImageEnd, StreamEnd, Stop}
 use Rattle.pnm_image.specs.declared.place.Place.{Place}
 use Rattle.pnm_image.specs.declared.place.Place.TheVariants.{Between}
-use Rattle.pnm_image.specs.Places.{Accepts, IsLawful, place_of}
+use Rattle.pnm_image.specs.Places.{Accepts, IsLawful, IsLawfulFrom, place_of}
+use Rattle.pnm_image.specs.Rows.{row_messages}
 use Rattle.pnm_write.specs.declared.fault.SinkFault.{SinkFault}
 use Rattle.pnm_write.specs.declared.fault.SinkFault.TheVariants.{WriteFailed, OutOfOrder, Broken, SecondPlain, PlainPam}
 use Rattle.pnm_write.specs.declared.sink.Sink.{Sink}
-use Rattle.pnm_write.specs.Encoding.{bytes_at, bytes_of}
+use Rattle.pnm_write.specs.Encoding.{bytes_at, bytes_from, bytes_of}
 use Rattle.pnm_write.specs.Forms.{has_begun_by, form_fault, form_fault_of}
 use Rattle.pnm_image.specs.Devices.{FailsIn}
 
@@ -86,3 +87,14 @@ Refuses form begun place m PlainPam old new failures_old failures_new = IsInOrde
 Refuses form begun place m WriteFailed old new failures_old failures_new = IsWritable form begun place m
     × FailsIn (bytes_at form place m) old new failures_old failures_new
 Refuses form begun place m Broken old new failures_old failures_new = ⊥
+
+-- Why rows that are handed over together aren't written, where there was no fault before: they don't come in order, and
+-- nothing is written; or the writer failed. No form refuses a row.
+abbrev pub RefusesRows : Form → Place → List (List ℕ) → SinkFault → Option (List ℕ) → Option (List ℕ) → ℕ → ℕ → Type 0
+RefusesRows form place rows OutOfOrder old new failures_old failures_new = (IsLawfulFrom place (row_messages rows) → ⊥)
+    × Keeps old new
+RefusesRows form place rows WriteFailed old new failures_old failures_new = IsLawfulFrom place (row_messages rows)
+    × FailsIn (bytes_from form place (row_messages rows)) old new failures_old failures_new
+RefusesRows form place rows Broken old new failures_old failures_new = ⊥
+RefusesRows form place rows SecondPlain old new failures_old failures_new = ⊥
+RefusesRows form place rows PlainPam old new failures_old failures_new = ⊥

@@ -4,17 +4,19 @@ ghost use Rattle.std.specs.Prelude.{◌≡◌, ◌↔◌, List, [], ◌∷◌, �
 ghost use Rattle.std.specs.Prelude.{OnOk, OnErr, Err, true, false};
 ghost use Rattle.std.specs.Io.KnownBytes.{Appends, Keeps};
 ghost use Rattle.pnm_image.specs.Devices.{Failed, FailsIn};
-ghost use Rattle.pnm_image.specs.Places.{Accepts, place_after};
-ghost use Rattle.pnm_write.specs.Encoding.{bytes_at};
+ghost use Rattle.pnm_image.specs.Places.{Accepts, IsLawfulFrom, place_after, place_of};
+ghost use Rattle.pnm_image.specs.Rows.{row_messages};
+ghost use Rattle.pnm_write.specs.Encoding.{bytes_at, bytes_from};
 ghost use Rattle.pnm_write.specs.Forms.{form_fault, has_begun_after};
 ghost use Rattle.pnm_write.specs.Sinks.{writer_of, form_of, has_begun, next_place, has_failed, HasRows, IsWritable};
-ghost use Rattle.pnm_write.specs.Sinks.{IsRefusedBySink, HasPut, HasWritten, Refuses};
+ghost use Rattle.pnm_write.specs.Sinks.{IsRefusedBySink, HasPut, HasWritten, Refuses, RefusesRows};
 
 use crate::fault::SinkFault;
 use crate::header::write_header;
 use crate::row::write_samples;
+use crate::rows::write_rows;
 use crate::write_buffer::WriteBuffer;
-use pnm_image::{BytesOut, DeviceFailed, Form, Kind, Message, Place};
+use pnm_image::{BytesOut, DeviceFailed, Form, Kind, Message, Place, Rows};
 
 /// Writes the messages of a stream of images as Netpbm images of one form: PBM, PGM, PPM and PAM, by
 /// the kind of each image. In raw form any number of images come one after another; in plain form
@@ -91,6 +93,44 @@ impl<W: BytesOut> Sink<W> {
         ensures same_device { W.same (writer_of self.old) (writer_of self.new) }
     {
         let written = self.write(message);
+        self.has_failed = written.is_err();
+        written
+    }
+
+    /// Writes all bytes of the rows, as if each were put as a message of its own, one after another.
+    ///
+    /// The faults, in order: `Broken` after an earlier fault; `OutOfOrder` where the rows can't all come at
+    /// this place of the stream, and nothing is written; `WriteFailed` where the writer fails, with a prefix
+    /// of their bytes written.
+    pub fn put_rows(&mut self, rows: &Rows) -> Result<(), SinkFault>
+        ensures written { OnOk result
+            (Appends (W.held (writer_of self.old)) (W.held (writer_of self.new))
+            (bytes_from (form_of self.old) (next_place self.old) (row_messages rows.now))) }
+        ensures taken { OnOk result
+            (IsLawfulFrom (next_place self.old) (row_messages rows.now)
+            × (W.failures (writer_of self.new) ≡ W.failures (writer_of self.old))) }
+        ensures sound { OnOk result ((has_failed self.old ≡ false) × (has_failed self.new ≡ false)) }
+        ensures form { form_of self.new ≡ form_of self.old }
+
+        // The messages that were put are more by the rows, or the same after a fault.
+        ensures more { OnOk result ((messages : List _) → HasPut self.old messages
+            → HasPut self.new (messages ++ row_messages rows.now)) }
+        ensures same { OnErr result ((messages : List _) → HasPut self.old messages → HasPut self.new messages) }
+
+        // All that was written is the bytes of the messages that were put.
+        ensures bytes { OnOk result ((start : _) (messages : List _) → HasWritten W.held start self.old messages
+            → HasWritten W.held start self.new (messages ++ row_messages rows.now)) }
+
+        // After a fault nothing more is written.
+        ensures stays { OnErr result (has_failed self.new ≡ true) }
+        ensures broken { has_failed self.old ≡ true → (result ≡ Err SinkFault.Broken) × (self.new ≡ self.old) }
+        ensures refused { has_failed self.old ≡ false
+            → IfErr result (λ fault. RefusesRows (form_of self.old) (next_place self.old) rows.now fault
+            (W.held (writer_of self.old)) (W.held (writer_of self.new))
+            (W.failures (writer_of self.old)) (W.failures (writer_of self.new))) }
+        ensures same_device { W.same (writer_of self.old) (writer_of self.new) }
+    {
+        let written = self.write_rows(rows);
         self.has_failed = written.is_err();
         written
     }
@@ -188,6 +228,41 @@ impl<W: BytesOut> Sink<W> {
         self.has_begun = has_begun_after(self.has_begun, message);
         Ok(())
     }
+
+    fn write_rows(&mut self, rows: &Rows) -> Result<(), SinkFault>
+        ensures written { OnOk result
+            (Appends (W.held (writer_of self.old)) (W.held (writer_of self.new))
+            (bytes_from (form_of self.old) (next_place self.old) (row_messages rows.now))) }
+        ensures taken { OnOk result
+            (IsLawfulFrom (next_place self.old) (row_messages rows.now)
+            × (has_failed self.old ≡ false)
+            × (next_place self.new ≡ place_of (next_place self.old) (row_messages rows.now))
+            × (has_begun self.new ≡ has_begun self.old)) }
+        ensures broken { has_failed self.old ≡ true → (result ≡ Err SinkFault.Broken) × (self.new ≡ self.old) }
+        ensures refused { has_failed self.old ≡ false
+            → IfErr result (λ fault. RefusesRows (form_of self.old) (next_place self.old) rows.now fault
+            (W.held (writer_of self.old)) (W.held (writer_of self.new))
+            (W.failures (writer_of self.old)) (W.failures (writer_of self.new))) }
+        ensures form { form_of self.new ≡ form_of self.old }
+        ensures sound { has_failed self.new ≡ has_failed self.old }
+        ensures count { OnOk result (W.failures (writer_of self.new) ≡ W.failures (writer_of self.old)) }
+        ensures same_device { W.same (writer_of self.old) (writer_of self.new) }
+    {
+        if self.has_failed {
+            return Err(SinkFault::Broken);
+        }
+        if !self.place.accepts_rows(rows) {
+            return Err(SinkFault::OutOfOrder);
+        }
+        let (writer, buffer) = (&mut self.writer, &mut self.buffer);
+        let written = write_row_messages(writer, buffer, self.form, self.place, rows);
+        if written.is_ok() {
+            self.place.step_rows(rows);
+            Ok(())
+        } else {
+            Err(SinkFault::WriteFailed)
+        }
+    }
 }
 
 /// Whether the message doesn't begin an image of height 0.
@@ -246,5 +321,28 @@ fn write_message<W: BytesOut>(
             Place::Between | Place::After => Ok(()),
         },
         Message::ImageEnd | Message::StreamEnd | Message::Stop => Ok(()),
+    }
+}
+
+/// Writes the bytes of rows that come at this place.
+fn write_row_messages<W: BytesOut>(
+    writer: &mut W,
+    buffer: &mut WriteBuffer,
+    form: Form,
+    place: Place,
+    rows: &Rows,
+) -> Result<(), DeviceFailed>
+    requires { IsLawfulFrom place (row_messages rows.now) }
+    ensures written { OnOk result
+        (Appends (W.held writer.old) (W.held writer.new) (bytes_from form place (row_messages rows.now))) }
+    ensures failed { OnErr result
+        (FailsIn (bytes_from form place (row_messages rows.now)) (W.held writer.old) (W.held writer.new)
+        (W.failures writer.old) (W.failures writer.new)) }
+    ensures count { OnOk result (W.failures writer.new ≡ W.failures writer.old) }
+    ensures same_device { W.same writer.old writer.new }
+{
+    match place {
+        Place::Inside(shape, _) => write_rows(writer, buffer, form, shape, rows),
+        Place::Between | Place::After => Ok(()),
     }
 }

@@ -1,8 +1,8 @@
-use Rattle.std.proofs.Common.{◌≡◌, ◌<◌, ◌≤◌, ◌+◌, List, ℕ, length, take, drop, All, sym, subst, arith}
+use Rattle.std.proofs.Common.{◌≤◌, ◌+◌, take, drop, All, sym, subst, arith}
 use Rattle.pnm_image.proofs.RowLaws.{rows_need}
 use Rattle.pnm_image.proofs.Written.{at_any_error, sending_part, sending_part_failed}
 use Rattle.pnm_write.specs.Encoding.{row_bytes, rows_bytes}
-use Rattle.pnm_write.proofs.RowsLaws.{IsNextRow, next_row}
+use Rattle.pnm_write.proofs.RowsLaws.{next_row}
 use Rattle.pnm_write.proofs.rows.write_each.Goals as goal
 
 pub write_samples_from-requires-clause-within : goal.write_samples_from-requires-clause-within
