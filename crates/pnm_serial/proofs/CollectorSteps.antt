@@ -1,5 +1,5 @@
 -- A message that is taken from the ring behind the last tool of a run, and put.
-use Rattle.std.proofs.Common.{◌≡◌, ℕ, Bool, true, false, inl, inr, List, [], ◌∷◌, ◌++◌, Option, length, refl, sym, ap, ◌∙◌, append_assoc}
+use Rattle.std.proofs.Common.{◌≡◌, ℕ, Bool, true, false, inl, inr, List, [], ◌∷◌, ◌++◌, Option, length, refl, sym, ap, subst, ◌∙◌, append_assoc}
 use Rattle.pnm_stages.specs.Rings.{received}
 use Rattle.pnm_image.specs.declared.format.Form.{Form}
 use Rattle.pnm_image.specs.declared.message.Message.{Message}
@@ -8,9 +8,15 @@ use Rattle.pnm_image.specs.Messages.{without_stop, ending_of}
 use Rattle.pnm_image.specs.declared.message.Ending.{Ending}
 use Rattle.pnm_image.specs.declared.message.Ending.TheVariants.{More, Whole, BrokenOff}
 use Rattle.pnm_tools.proofs.SoundLaws.{IsUnbroken, unbroken_keeps_all}
+use Rattle.pnm_image.specs.Rows.{row_messages}
+use Rattle.pnm_tools.proofs.InFullLaws.{ends_after}
+use Rattle.pnm_stages.specs.declared.parcel.Parcel.{Parcel}
 use Rattle.pnm_serial.specs.declared.collector.Collector.{Collector}
+use Rattle.pnm_serial.specs.declared.downstream.Downstream.{Downstream}
+use Rattle.pnm_serial.specs.Downstreams.{HasTaken}
 use Rattle.pnm_serial.specs.Collectors.{EndedBy, HasCollected, IsCollecting}
-use Rattle.pnm_stages.proofs.RingSteps.{ends_as}
+use Rattle.pnm_stages.proofs.ParcelLaws.{rows_end_nothing}
+use Rattle.pnm_stages.proofs.RingSteps.{ends_as, ends_nothing}
 use Rattle.pnm_stages.proofs.PrefixLaws.{stop_is_cut}
 
 -- ---- whether messages have ended, with one more
@@ -46,30 +52,49 @@ cuts_last false l Stop going ended same = unbroken_keeps_all More l tt ended ∙
 
 -- ---- what came from the ring
 
-pub collects_one : {W : Type 0} (held : W → Option (List ℕ)) (failures : W → ℕ) (form : Form) (start : W) (before : List Message) (m : Message)
+pub collects_some : {W : Type 0} (held : W → Option (List ℕ)) (failures : W → ℕ) (form : Form) (start : W) (before some : List Message)
     (old new : Collector W)
-    → received new.input ≡ received old.input ++ m ∷ []
+    → received new.input ≡ received old.input ++ some
     → ((l : List Message) → HasCollected held failures form start l old.has_ended old.downstream
-    → HasCollected held failures form start (l ++ m ∷ []) new.has_ended new.downstream)
+    → HasCollected held failures form start (l ++ some) new.has_ended new.downstream)
     → IsCollecting held failures form start before old → IsCollecting held failures form start before new
-collects_one held failures form start before m old new added puts was = record {
-  took = was.took ++ m ∷ [];
-  came = added ∙ ap (λ (x : List Message). x ++ m ∷ []) was.came ∙ append_assoc before was.took (m ∷ []);
+collects_some held failures form start before some old new added puts was = record {
+  took = was.took ++ some;
+  came = added ∙ ap (λ (x : List Message). x ++ some) was.came ∙ append_assoc before was.took some;
   put = puts was.took was.put;
 }
 
--- one of the messages that were left came
-pub still_all : (old new left now sent : List Message) (m : Message) → old ++ left ≡ sent → new ≡ old ++ m ∷ [] → left ≡ m ∷ now → new ++ now ≡ sent
-still_all old new left now sent m all added first =
-    ap (λ (x : List Message). x ++ now) added ∙ append_assoc old (m ∷ []) now ∙ ap (λ (x : List Message). old ++ x) (sym first) ∙ all
+-- what was left came in part
+pub still_all : (old new left now sent some : List Message) → old ++ left ≡ sent → new ≡ old ++ some → left ≡ some ++ now → new ++ now ≡ sent
+still_all old new left now sent some all added first =
+    ap (λ (x : List Message). x ++ now) added ∙ append_assoc old some now ∙ ap (λ (x : List Message). old ++ x) (sym first) ∙ all
 
 -- what is seen first comes first
-abbrev first_or : Message → List Message → Message
+abbrev first_or : Parcel → List Parcel → Parcel
 first_or m [] = m
 first_or m (n ∷ l) = n
 
-pub first_is : (m n : Message) (k l : List Message) → m ∷ k ≡ n ∷ l → m ≡ n
+pub first_is : (m n : Parcel) (k l : List Parcel) → m ∷ k ≡ n ∷ l → m ≡ n
 first_is m n k l same = ap (first_or m) same
+
+-- ---- rows that came together
+
+-- rows end nothing, and are written
+pub collects_rows : {W : Type 0} (held : W → Option (List ℕ)) (failures : W → ℕ) (form : Form) (start : W) (l : List Message) (rows : List (List ℕ)) (ended : Bool)
+    (old new : Downstream W) → ended ≡ false
+    → ((form : Form) (start : W) (messages : List Message) → HasTaken held failures form start messages old
+    → HasTaken held failures form start (messages ++ row_messages rows) new)
+    → HasCollected held failures form start l ended old → HasCollected held failures form start (l ++ row_messages rows) ended new
+collects_rows held failures form start l rows true old new going takes was = absurd cc
+collects_rows held failures form start l rows false old new going takes was =
+    let ends = ends_after More l (row_messages rows) (ends_nothing l was.ended) (rows_end_nothing rows) in
+    let kept : without_stop l ++ row_messages rows ≡ without_stop (l ++ row_messages rows) =
+        ap (λ (x : List Message). x ++ row_messages rows) (unbroken_keeps_all More l tt was.ended)
+        ∙ sym (unbroken_keeps_all More (l ++ row_messages rows) tt ends) in
+    record {
+      ended = ends;
+      taken = subst (λ (x : List Message). HasTaken held failures form start x new) kept (takes form start (without_stop l) was.taken);
+    }
 
 -- none are left
 pub none_left : (left : List Message) → length left ≡ 0 → left ≡ []

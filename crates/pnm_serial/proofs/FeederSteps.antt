@@ -5,10 +5,13 @@ use Rattle.pnm_stages.specs.declared.sender.Sender.{Sender}
 use Rattle.pnm_image.specs.Devices.{Failed}
 use Rattle.pnm_image.specs.declared.message.Message.{Message}
 use Rattle.pnm_image.specs.declared.message.Message.TheVariants.{Stop}
+use Rattle.std.specs.Io.KnownBytes.{Consumes}
+use Rattle.pnm_image.specs.Rows.{row_messages}
+use Rattle.pnm_serial.specs.Runs.{HasMore}
 use Rattle.pnm_read.specs.declared.fault.InputFault.{InputFault}
 use Rattle.pnm_read.specs.declared.fault.InputFault.TheVariants.{ReadFailed}
 use Rattle.pnm_read.specs.declared.source.Source.{Source}
-use Rattle.pnm_read.specs.Sources.{reader_of, stopped_by, MayGive, SeesEnd, Tells}
+use Rattle.pnm_read.specs.Sources.{reader_of, stopped_by, MayGive, SeesEnd, Tells, TellsRows}
 use Rattle.pnm_read.proofs.Consumed.{consumes_then}
 use Rattle.pnm_read.proofs.Turns.{no_fault}
 use Rattle.pnm_serial.specs.declared.feeder.Feeder.{Feeder}
@@ -32,6 +35,20 @@ asked_more left failures first source next given m asked t end unread count = re
   end = end asked.end;
   unread = unread_after left source next asked.end unread;
   count = count ∙ asked.count;
+}
+
+-- rows were given, for which nothing was read
+asked_rows : {R : Type 0} (left : R → Option (List ℕ)) (failures : R → ℕ) (first source next : Source R) (given : List Message) (rows : List (List ℕ))
+    → HasAsked left failures first source given → TellsRows source next rows → reader_of next ≡ reader_of source
+    → (SeesEnd left source → SeesEnd left next) → ((rest : List ℕ) → MayGive source rest → MayGive next rest)
+    → HasAsked left failures first next (given ++ row_messages rows)
+asked_rows left failures first source next given rows asked tells same end comes = record {
+  read = asked.read;
+  consumed = subst (λ r. Consumes (left (reader_of first)) (left r) asked.read) (sym same) asked.consumed;
+  told = tells asked.read given asked.told;
+  end = end asked.end;
+  unread = λ has rest. comes rest (asked.unread (subst (λ r. HasMore (left r)) same has) rest);
+  count = ap failures same ∙ asked.count;
 }
 
 -- the end of the stream
@@ -101,7 +118,7 @@ pub feeds_more : {R : Type 0} (left : R → Option (List ℕ)) (failures : R →
     → IsUnreadAfter left f.source next
     → failures (reader_of next) ≡ failures (reader_of f.source)
     → IsFeeding left failures first before f
-    → IsFeeding left failures first before (record { source = next; output = output; input = f.input; is_gone = f.is_gone; images = images })
+    → IsFeeding left failures first before (record f { source = next; output = output; images = images })
 feeds_more left failures first before f next m output images input added t end unread count feeding =
     let asked : HasAsked left failures first next (feeding.given ++ m ∷ []) =
     asked_more left failures first f.source next feeding.given m (asked_of left failures first before f input feeding) t end unread count in
@@ -113,6 +130,27 @@ feeds_more left failures first before f next m output images input added t end u
           (sym input);
     }
 
+-- rows were given, and sent together
+pub feeds_rows : {R : Type 0} (left : R → Option (List ℕ)) (failures : R → ℕ) (first : Source R) (before : List Message) (f : Feeder R) (next : Source R)
+    (rows : List (List ℕ)) (output : Sender)
+    → f.input ≡ None
+    → sent output ≡ sent f.output ++ row_messages rows
+    → TellsRows f.source next rows → reader_of next ≡ reader_of f.source
+    → (SeesEnd left f.source → SeesEnd left next) → ((rest : List ℕ) → MayGive f.source rest → MayGive next rest)
+    → IsFeeding left failures first before f
+    → IsFeeding left failures first before (record f { source = next; output = output })
+feeds_rows left failures first before f next rows output input added tells same end comes feeding =
+    let asked : HasAsked left failures first next (feeding.given ++ row_messages rows) =
+    asked_rows left failures first f.source next feeding.given rows (asked_of left failures first before f input feeding) tells same end comes in
+    record {
+      given = feeding.given ++ row_messages rows;
+      asked = subst (HasAskedBy left failures first next (feeding.given ++ row_messages rows)) (sym input) asked;
+      passed = added ∙ ap (λ s. s ++ row_messages rows) (sent_so_far left failures first before f input feeding)
+          ∙ append_assoc before feeding.given (row_messages rows)
+          ∙ ap (λ g. before ++ g) (sym (append-nil (feeding.given ++ row_messages rows)))
+          ∙ ap (λ i. before ++ ((feeding.given ++ row_messages rows) ++ closing_messages i)) (sym input);
+    }
+
 -- the stream has ended
 pub feeds_all : {R : Type 0} (left : R → Option (List ℕ)) (failures : R → ℕ) (first : Source R) (before : List Message) (f : Feeder R) (next : Source R)
     → f.input ≡ None
@@ -120,7 +158,7 @@ pub feeds_all : {R : Type 0} (left : R → Option (List ℕ)) (failures : R → 
     → IsUnreadAfter left f.source next
     → failures (reader_of next) ≡ failures (reader_of f.source)
     → IsFeeding left failures first before f
-    → IsFeeding left failures first before (record { source = next; output = f.output; input = Some (Ok tt); is_gone = f.is_gone; images = f.images })
+    → IsFeeding left failures first before (record f { source = next; input = Some (Ok tt) })
 feeds_all left failures first before f next input t unread count feeding = record {
   given = feeding.given;
   asked = asked_all left failures first f.source next feeding.given (asked_of left failures first before f input feeding) t unread count;
@@ -138,7 +176,7 @@ pub feeds_until : {R : Type 0} (left : R → Option (List ℕ)) (failures : R �
     → (fault ≡ ReadFailed → (stopped_by f.source ≡ Some ReadFailed) ⊎ Failed (failures (reader_of f.source)) (failures (reader_of next)))
     → ((fault_answer fault ≡ Err ReadFailed → ⊥) → failures (reader_of next) ≡ failures (reader_of f.source))
     → IsFeeding left failures first before f
-    → IsFeeding left failures first before (record { source = next; output = output; input = Some (Err fault); is_gone = f.is_gone; images = f.images })
+    → IsFeeding left failures first before (record f { source = next; output = output; input = Some (Err fault) })
 feeds_until left failures first before f next fault output input added t unread anything failed count feeding = record {
   given = feeding.given;
   asked = asked_until left failures first f.source next feeding.given fault (asked_of left failures first before f input feeding) t unread anything failed

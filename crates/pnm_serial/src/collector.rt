@@ -1,6 +1,7 @@
 //! What stands behind the tools of a run: the ring that their results come from, and what is written of them.
 
 ghost use Rattle.std.specs.Prelude.{◌≡◌, ◌⊎◌, [], ◌∷◌, ◌++◌, List, true, false};
+ghost use Rattle.pnm_stages.specs.Parcels.{messages_in};
 ghost use Rattle.pnm_stages.specs.Rings.{received, sent, known_items, IsPair, SameSender, SameReceiver};
 ghost use Rattle.pnm_image.specs.declared.format.Form.{Form as FormValue};
 ghost use Rattle.pnm_image.specs.declared.message.Message.{Message as MessageValue};
@@ -11,7 +12,7 @@ use crate::downstream::Downstream;
 use crate::summary::count_image;
 use pnm_image::{BytesOut, Ending, Form, Message};
 use pnm_read::SpareRows;
-use pnm_stages::{Backoff, Receiver, Sender};
+use pnm_stages::{Backoff, Parcel, Receiver, Sender};
 use pnm_write::WriteBuffer;
 use std::sync::Wait;
 
@@ -87,9 +88,9 @@ impl<W: BytesOut + Drop> Collector<W> {
     {
         while !self.has_ended && self.input.has_seen_message() {
             // It is written out of the ring, and moved once it may go.
-            let message = self.input.peek_known();
-            count_image(&mut self.images, message.ends_image());
-            put(&mut self.downstream, &mut self.has_ended, message);
+            let parcel = self.input.peek_known();
+            count_image(&mut self.images, parcel.ends_image());
+            put(&mut self.downstream, &mut self.has_ended, parcel);
             let_go(self.input.receive_known(), spares);
         }
     }
@@ -114,9 +115,9 @@ impl<W: BytesOut + Drop> Collector<W> {
     {
         self.input.look_beside(sender);
         while !self.has_ended && self.input.has_seen_message() {
-            let message = self.input.receive_known();
-            put(&mut self.downstream, &mut self.has_ended, &message);
-            drop(message);
+            let parcel = self.input.receive_known();
+            put(&mut self.downstream, &mut self.has_ended, &parcel);
+            drop(parcel);
         }
     }
 
@@ -128,8 +129,26 @@ impl<W: BytesOut + Drop> Collector<W> {
     }
 }
 
+/// Writes the message or the rows, unless it is Stop, and sees whether it ends the stream.
+fn put<W: BytesOut + Drop>(downstream: &mut Downstream<W>, has_ended: &mut bool, parcel: &Parcel)
+    requires going { has_ended.old ≡ false }
+    ensures put { (form : FormValue) (start : W) (l : List MessageValue)
+        → HasCollected W.held W.failures form start l has_ended.old downstream.old
+        → HasCollected W.held W.failures form start (l ++ messages_in parcel.now) has_ended.new downstream.new }
+    ensures same_device { W.same (output_of downstream.old) (output_of downstream.new) }
+{
+    match parcel {
+        Parcel::Message(message) => put_message(downstream, has_ended, message),
+        Parcel::Rows(rows) => downstream.put_rows(rows),
+    }
+}
+
 /// Writes the message, unless it is Stop, and sees whether it ends the stream.
-fn put<W: BytesOut + Drop>(downstream: &mut Downstream<W>, has_ended: &mut bool, message: &Message)
+fn put_message<W: BytesOut + Drop>(
+    downstream: &mut Downstream<W>,
+    has_ended: &mut bool,
+    message: &Message,
+)
     requires going { has_ended.old ≡ false }
     ensures put { (form : FormValue) (start : W) (l : List MessageValue)
         → HasCollected W.held W.failures form start l has_ended.old downstream.old
@@ -146,10 +165,14 @@ fn put<W: BytesOut + Drop>(downstream: &mut Downstream<W>, has_ended: &mut bool,
     }
 }
 
-/// Lets the message go; a row is then a spare one.
-fn let_go(message: Message, spares: &mut SpareRows) {
-    match message {
-        Message::Row(row) => spares.keep(row),
+/// Lets the message or the rows go; a row is then a spare one, and so are several together.
+fn let_go(parcel: Parcel, spares: &mut SpareRows) {
+    match parcel {
+        Parcel::Message(Message::Row(row)) => spares.keep(row),
+        Parcel::Rows(rows) => {
+            let (samples, _, _) = rows.into_parts();
+            spares.keep(samples);
+        }
         other => drop(other),
     }
 }

@@ -1,6 +1,6 @@
 //! What stands before the tools of a run: the source, and the ring that its messages go into.
 
-ghost use Rattle.std.specs.Prelude.{◌≡◌, ◌<◌, List, false, Some, None};
+ghost use Rattle.std.specs.Prelude.{◌≡◌, ◌<◌, List, IsTrue, IsFalse, false, Some, None};
 ghost use Rattle.pnm_stages.specs.Rings.{sent, known_free, SameSender};
 ghost use Rattle.pnm_image.specs.declared.message.Message.{Message as MessageValue};
 ghost use Rattle.pnm_read.specs.Sources.{reader_of, IsFreshSource as IsUnread};
@@ -27,14 +27,16 @@ pub struct Feeder<R> {
     is_gone: bool,
     /// The images whose end was sent, up to `u64::MAX`.
     images: u64,
+    /// Rows that the source holds whole are sent together.
+    joins_rows: bool,
 }
 
 impl<R: BytesIn + Drop> Feeder<R> {
     ghost use Rattle.pnm_serial.specs.Feeders.{IsFeeding, feeder_is_over};
 
     /// A feeder that has sent nothing yet. Of short messages it sends a few before it wakes the
-    /// first tool (`wake_receiver`).
-    pub fn new(source: Source<R>, output: Sender) -> Feeder<R>
+    /// first tool (`wake_receiver`). Where it is to join rows, it sends those together that the source holds whole.
+    pub fn new(source: Source<R>, output: Sender, joins_rows: bool) -> Feeder<R>
         requires { IsUnread (reader_of source) source }
         ensures feeding { IsFeeding R.left R.failures source (sent output) result }
         ensures parts { (result.source ≡ source) × SameSender output result.output
@@ -48,6 +50,7 @@ impl<R: BytesIn + Drop> Feeder<R> {
             input: None,
             is_gone: false,
             images: 0,
+            joins_rows,
         }
     }
 
@@ -92,8 +95,8 @@ impl<R: BytesIn + Drop> Feeder<R> {
         self.output.wait(rt, backoff);
     }
 
-    /// Asks the source for its next message and sends it, where there is room for one in the ring; and so on, while
-    /// there is and the source holds the next one, for as many as a turn sends. Short rows are made of spare ones.
+    /// Asks the source for its next message, or for rows, and sends that, where there is room for it in the ring; and so
+    /// on, while there is and the source holds the next one, for as many as a turn sends. Short rows are made of spare ones.
     /// False where there is no room for the first.
     pub fn turn(&mut self, spares: &mut SpareRows) -> bool
         requires going { feeder_is_over self.old ≡ false }
@@ -131,9 +134,48 @@ impl<R: BytesIn + Drop> Feeder<R> {
         }
     }
 
+    /// Asks the source for rows that it holds whole, if they are to be joined, or else for its next message, and sends
+    /// that, for which there is room. After the source's fault Stop is sent.
+    fn send_next(&mut self, spares: &mut SpareRows)
+        requires going { self.old.input ≡ None }
+        requires room { 0 < known_free self.old.output }
+        ensures feeding { (first : Source R) (before : List MessageValue)
+            → IsFeeding R.left R.failures first before self.old
+            → IsFeeding R.left R.failures first before self.new }
+        ensures ring { SameSender self.old.output self.new.output }
+        ensures same_device { R.same (reader_of self.old.source) (reader_of self.new.source) }
+    {
+        if !self.joins_rows || !self.send_rows(spares) {
+            self.send_message(spares);
+        }
+    }
+
+    /// Asks the source for rows that it holds whole, and sends them together. False, and nothing has changed, where it
+    /// holds none so.
+    fn send_rows(&mut self, spares: &mut SpareRows) -> bool
+        requires going { self.old.input ≡ None }
+        requires room { 0 < known_free self.old.output }
+        ensures feeding { IsTrue result → (first : Source R) (before : List MessageValue)
+            → IsFeeding R.left R.failures first before self.old
+            → IsFeeding R.left R.failures first before self.new }
+        ensures ring { SameSender self.old.output self.new.output }
+        ensures reader { reader_of self.new.source ≡ reader_of self.old.source }
+        ensures none { IsFalse result → self.new ≡ self.old }
+    {
+        match self.source.next_rows(spares) {
+            Ok(Some(rows)) => self.output.send_rows_reserved(rows),
+            Ok(None) => return false,
+            Err(fault) => {
+                self.output.send_reserved(Message::Stop);
+                self.input = Some(Err(fault));
+            }
+        }
+        true
+    }
+
     /// Asks the source for its next message and sends it, for which there is room. After the source's fault Stop is
     /// sent.
-    fn send_next(&mut self, spares: &mut SpareRows)
+    fn send_message(&mut self, spares: &mut SpareRows)
         requires going { self.old.input ≡ None }
         requires room { 0 < known_free self.old.output }
         ensures feeding { (first : Source R) (before : List MessageValue)

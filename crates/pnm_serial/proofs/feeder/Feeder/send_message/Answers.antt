@@ -2,7 +2,7 @@ use Rattle.std.proofs.Common.{ap, Err}
 use Rattle.pnm_read.specs.declared.fault.InputFault.TheVariants.{ReadFailed}
 use Rattle.pnm_read.proofs.Turns.{no_fault}
 use Rattle.pnm_serial.proofs.FeederSteps.{feeds_more, feeds_all, feeds_until}
-use Rattle.pnm_serial.proofs.feeder.Feeder.send_next.Goals as goal
+use Rattle.pnm_serial.proofs.feeder.Feeder.send_message.Goals as goal
 
 pub returns-in-Ok-Some-clause-feeding : goal.returns-in-Ok-Some-clause-feeding
 returns-in-Ok-Some-clause-feeding g c first before =
