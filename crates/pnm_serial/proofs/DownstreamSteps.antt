@@ -24,7 +24,7 @@ use Rattle.pnm_serial.proofs.FormSteps.{refused_last, refused_before}
 use Rattle.pnm_serial.proofs.MessageSteps.{images_in-push, rows_in-push, prefix_is_writable, last_is_in_order}
 
 -- a failure after flushes is one since the start
-failed_since : (flush_failed : Bool) (start old new : ℕ) → CountsFlushes flush_failed start old → Failed old new → Failed start new
+pub failed_since : (flush_failed : Bool) (start old new : ℕ) → CountsFlushes flush_failed start old → Failed old new → Failed start new
 failed_since false start old new count failed = subst (λ (n : ℕ). Failed n new) count failed
 failed_since true start old new count failed = fails_again start old new count failed
 
@@ -64,13 +64,13 @@ put_passed_on held failures form start messages old new (Err fault) r-is was pas
 -- ---- a message that was refused
 
 -- how a sink stands that has written messages
-record Stands (sink_form form : Form) (begun : Bool) (place : Place) (messages : List Message) : Type 0 where
-  in_form : sink_form ≡ form
-  none : form_fault_of form messages ≡ None
-  has_begun : begun ≡ has_begun_by false messages
-  here : place ≡ place_of Between messages
+pub record Stands (sink_form form : Form) (begun : Bool) (place : Place) (messages : List Message) : Type 0 where
+  pub in_form : sink_form ≡ form
+  pub none : form_fault_of form messages ≡ None
+  pub has_begun : begun ≡ has_begun_by false messages
+  pub here : place ≡ place_of Between messages
 
-stands : {W : Type 0} (held : W → Option (List ℕ)) (failures : W → ℕ) (form : Form) (start : W) (messages : List Message) (d : Downstream W)
+pub stands : {W : Type 0} (held : W → Option (List ℕ)) (failures : W → ℕ) (form : Form) (start : W) (messages : List Message) (d : Downstream W)
     → AreWritten held failures form start messages d → Stands (form_of d.sink) form (has_begun d.sink) (next_place d.sink) messages
 stands held failures form start messages d was = record {
   in_form = was.in_form;
@@ -86,7 +86,7 @@ fault_is sink_form form begun place messages m found is fault =
     sym (ap (λ (f : Form). form_fault f begun m) is.in_form ∙ ap (λ (b : Bool). form_fault form b m) is.has_begun) ∙ fault
 
 -- the messages that were written, in the form
-written_in_form : {W : Type 0} (held : W → Option (List ℕ)) (failures : W → ℕ) (form : Form) (start : W) (messages : List Message) (d : Downstream W)
+pub written_in_form : {W : Type 0} (held : W → Option (List ℕ)) (failures : W → ℕ) (form : Form) (start : W) (messages : List Message) (d : Downstream W)
     → AreWritten held failures form start messages d → Appends (held start) (held (output_of d)) (bytes_of form messages)
 written_in_form held failures form start messages d was = subst (λ (f : Form). Appends (held start) (held (output_of d)) (bytes_of f messages)) was.in_form
     was.written.bytes

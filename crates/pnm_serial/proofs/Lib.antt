@@ -1,6 +1,7 @@
 pub mod MessageSteps
 pub mod FormSteps
 pub mod DownstreamSteps
+pub mod RowSteps
 pub mod PassingSteps
 pub mod FaultSteps
 pub mod FeedingSteps

@@ -5,11 +5,12 @@ ghost use Rattle.std.specs.Result.{is_err};
 ghost use Rattle.std.specs.Io.KnownBytes.{Keeps};
 ghost use Rattle.pnm_image.specs.declared.format.Form.{Form as FormValue};
 ghost use Rattle.pnm_image.specs.declared.message.Message.{Message as MessageValue};
+ghost use Rattle.pnm_image.specs.Rows.{row_messages};
 ghost use Rattle.pnm_write.specs.declared.fault.SinkFault.{SinkFault as Fault};
 ghost use Rattle.pnm_write.specs.Sinks.{has_failed};
 
 use crate::summary::Summary;
-use pnm_image::{BytesOut, Form, Message};
+use pnm_image::{BytesOut, Form, Message, Rows};
 use pnm_write::{Sink, SinkFault, WriteBuffer};
 
 /// The sink, and what came of it so far.
@@ -53,6 +54,22 @@ impl<W: BytesOut + Drop> Downstream<W> {
             if self.output.is_ok() {
                 self.summary.count(message);
                 self.pass_on(message);
+            }
+        }
+    }
+
+    /// Writes the rows, unless there was a fault of the output before, as if each were put as a message of its own.
+    pub fn put_rows(&mut self, rows: &Rows)
+        ensures taken { (form : FormValue) (start : W) (messages : List MessageValue)
+            → HasTaken W.held W.failures form start messages self.old
+            → HasTaken W.held W.failures form start (messages ++ row_messages rows.now) self.new }
+        ensures same_device { W.same (output_of self.old) (output_of self.new) }
+    {
+        if self.output.is_ok() {
+            self.output = self.sink.put_rows(rows);
+            if self.output.is_ok() {
+                let count = u64::from(rows.count());
+                self.summary.rows = self.summary.rows.saturating_add(count);
             }
         }
     }
