@@ -89,8 +89,8 @@ collects_rows held failures form start l rows true old new going takes was = abs
 collects_rows held failures form start l rows false old new going takes was =
     let ends = ends_after More l (row_messages rows) (ends_nothing l was.ended) (rows_end_nothing rows) in
     let kept : without_stop l ++ row_messages rows ≡ without_stop (l ++ row_messages rows) =
-        ap (λ (x : List Message). x ++ row_messages rows) (unbroken_keeps_all More l tt was.ended)
-        ∙ sym (unbroken_keeps_all More (l ++ row_messages rows) tt ends) in
+    ap (λ (x : List Message). x ++ row_messages rows) (unbroken_keeps_all More l tt was.ended)
+    ∙ sym (unbroken_keeps_all More (l ++ row_messages rows) tt ends) in
     record {
       ended = ends;
       taken = subst (λ (x : List Message). HasTaken held failures form start x new) kept (takes form start (without_stop l) was.taken);

@@ -9,7 +9,7 @@ use Rattle.std.specs.Io.KnownBytes.{Consumes}
 use Rattle.pnm_image.specs.Rows.{row_messages}
 use Rattle.pnm_serial.specs.Runs.{HasMore}
 use Rattle.pnm_read.specs.declared.fault.InputFault.{InputFault}
-use Rattle.pnm_read.specs.declared.fault.InputFault.TheVariants.{ReadFailed}
+use Rattle.pnm_read.specs.declared.fault.InputFault.TheVariants.{Memory, ReadFailed}
 use Rattle.pnm_read.specs.declared.source.Source.{Source}
 use Rattle.pnm_read.specs.Sources.{reader_of, stopped_by, MayGive, SeesEnd, Tells, TellsRows}
 use Rattle.pnm_read.proofs.Consumed.{consumes_then}
@@ -183,3 +183,19 @@ feeds_until left failures first before f next fault output input added t unread 
       count;
   passed = added ∙ ap (λ s. s ++ Stop ∷ []) (sent_so_far left failures first before f input feeding) ∙ append_assoc before feeding.given (Stop ∷ []);
 }
+
+-- there was no memory for rows, and Stop was sent
+pub feeds_until_rows : {R : Type 0} (left : R → Option (List ℕ)) (failures : R → ℕ) (first : Source R) (before : List Message) (f : Feeder R) (next : Source R)
+    (fault : InputFault) (output : Sender)
+    → f.input ≡ None
+    → sent output ≡ sent f.output ++ Stop ∷ []
+    → fault ≡ Memory → Tells left f.source (Err fault) next → reader_of next ≡ reader_of f.source
+    → ((rest : List ℕ) → MayGive f.source rest → MayGive next rest)
+    → IsFeeding left failures first before f
+    → IsFeeding left failures first before (record f { source = next; output = output; input = Some (Err fault) })
+feeds_until_rows left failures first before f next fault output input added memory t same comes feeding =
+    let asked = asked_of left failures first before f input feeding in
+    let no : fault ≡ ReadFailed → ⊥ = λ failed. let e : Memory ≡ ReadFailed = sym memory ∙ failed in absurd cc in
+    feeds_until left failures first before f next fault output input added t
+    (λ sees byte more is rest. comes rest (asked.unread (subst (λ r. HasMore (left r)) same (subst HasMore (sym is) tt)) rest))
+    (λ failed. absurd (no failed)) (λ failed. absurd (no failed)) (λ not. ap failures same) feeding

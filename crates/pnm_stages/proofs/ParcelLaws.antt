@@ -3,6 +3,7 @@ use Rattle.std.specs.Prelude.{IsFalse}
 use Rattle.std.proofs.Common.{◌≡◌, ◌⊎◌, inl, inr, subst, ℕ, nat_lt, length, arith, List, [], ◌∷◌, ◌++◌, refl, sym, ap, ◌∙◌, append-nil, append_assoc}
 use Rattle.std.specs.List.{AllByRecursion}
 use Rattle.std.proofs.lemmas.Grind.{flat_map-append}
+use Rattle.std.proofs.lemmas.List.Concat.{flat_map-cons}
 use Rattle.pnm_image.specs.declared.message.Message.{Message}
 use Rattle.pnm_image.specs.declared.message.Ending.TheVariants.{More, Whole, BrokenOff}
 use Rattle.pnm_image.specs.declared.message.Ending.{Ending}
@@ -81,3 +82,8 @@ pub parcel_says_end : (a : Ending) (parcel : Parcel) → a ≡ ending_of_parcel 
     → (ending_of_parcel parcel ≡ Whole) ⊎ (ending_of_parcel parcel ≡ BrokenOff)
 parcel_says_end a parcel says (inl whole) = inl (sym says ∙ whole)
 parcel_says_end a parcel says (inr broken) = inr (sym says ∙ broken)
+
+-- the first of several parcels, and the others
+pub known_by : {parcel : Parcel} {parcels others : List Parcel} → parcels ≡ parcel ∷ others → messages_of parcels ≡ messages_in parcel ++ messages_of others
+unfolding messages_of
+known_by {parcel = parcel} {others = others} same = ap messages_of same ∙ flat_map-cons messages_in parcel others

@@ -1,4 +1,4 @@
-use Rattle.std.proofs.Common.{sym, subst, ◌∙◌, ◌∷◌, ◌++◌, []}
+use Rattle.std.proofs.Common.{sym, subst, ◌∙◌, ◌++◌}
 use Rattle.pnm_stages.specs.declared.parcel.Parcel.{Parcel}
 use Rattle.pnm_stages.specs.Parcels.{messages_in}
 use Rattle.pnm_serial.specs.Collectors.{HasCollected}
