@@ -14,3 +14,4 @@ pub mod TileRowLaws
 pub mod RepeatedBitLaws
 pub mod RowStateSteps
 pub mod StartSteps
+pub mod RowsLaws

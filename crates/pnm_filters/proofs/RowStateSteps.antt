@@ -1,5 +1,5 @@
 -- A row-wise tool at work in a lane takes and gives messages as the tool does.
-use Rattle.std.proofs.Common.{◌≡◌, Bool, true, List, [], ◌∷◌, ◌++◌, Option, Some, None, Result, Ok, Err, OnOk, IfOk, IfSome, IfNone}
+use Rattle.std.proofs.Common.{◌≡◌, ℕ, Bool, true, List, [], ◌∷◌, ◌++◌, Option, Some, None, Result, Ok, Err, OnOk, IfOk, IfSome, IfNone}
 use Rattle.pnm_image.specs.declared.message.Message.{Message}
 use Rattle.pnm_tools.specs.declared.fault.ToolFault.{ToolFault}
 use Rattle.pnm_filters.specs.declared.row_state.RowState.{RowState}
@@ -7,6 +7,7 @@ use Rattle.pnm_tools.specs.declared.tool.Tool.{Tool}
 use Rattle.pnm_filters.specs.declared.any_tool.AnyTool.{AnyTool}
 use Rattle.pnm_image.specs.declared.message.Ending.TheVariants.{BrokenOff}
 use Rattle.pnm_image.specs.Messages.{EndsBy}
+use Rattle.pnm_image.specs.Rows.{row_messages}
 use Rattle.pnm_tools.specs.Answers.{AnswersInFull}
 use Rattle.pnm_filters.specs.RowStates.{IsRowWiseAt}
 use Rattle.pnm_filters.specs.States.{Standing, IsToolAt, is_all_given}
@@ -54,3 +55,12 @@ pub lane_is_full : (r : Result (Option Message) ToolFault) (old new : Standing A
 lane_is_full (Ok (Some m)) old new full = full
 lane_is_full (Ok None) old new full = (full.0, λ t l g at. let both = full.1 t l g at.state in (record { state = both.0; row_wise = at.row_wise }, both.1))
 lane_is_full (Err fault) old new full = full
+
+-- rows were passed
+pub lane_passes : (r : Result (List (List ℕ)) (List (List ℕ))) (old new : Standing AnyTool) (rows : List (List ℕ))
+    → IfOk r (λ made. (t : Tool) (l g : List Message) → IsToolAt old t l g
+    → IsToolAt new t (l ++ row_messages rows) (g ++ row_messages made) × AnswersInFull t (l ++ row_messages rows) (g ++ row_messages made))
+    → IfOk r (λ made. (t : Tool) (l g : List Message) → IsRowWiseAt (lane_of old) t l g
+    → IsRowWiseAt (lane_of new) t (l ++ row_messages rows) (g ++ row_messages made) × AnswersInFull t (l ++ row_messages rows) (g ++ row_messages made))
+lane_passes (Ok made) old new rows passes = λ t l g at. let both = passes t l g at.state in (record { state = both.0; row_wise = at.row_wise }, both.1)
+lane_passes (Err same) old new rows passes = passes

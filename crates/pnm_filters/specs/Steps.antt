@@ -3,13 +3,15 @@ use Rattle.std.specs.Prelude.{◌≡◌, ◌⊎◌, ℕ, Bool, true, false, List
 use Rattle.pnm_image.specs.declared.shape.Shape.{Shape}
 use Rattle.pnm_image.specs.declared.message.Message.{Message}
 use Rattle.pnm_image.specs.declared.place.Place.{Place}
-use Rattle.pnm_image.specs.Places.{Accepts, place_after}
+use Rattle.pnm_image.specs.declared.place.Place.TheVariants.{Inside}
+use Rattle.pnm_image.specs.Places.{Accepts, IsLawfulFrom, place_after, place_of}
+use Rattle.pnm_image.specs.Rows.{row_messages}
 use Rattle.pnm_tools.specs.declared.fault.ToolFault.{ToolFault}
 use Rattle.pnm_tools.specs.declared.fault.ToolFault.TheVariants.{OutOfOrder, Memory}
 use Rattle.pnm_filters.specs.Pendings.{Pending, AllGiven, Waiting, Rows, RowsAndEnd, Nothing}
 use Rattle.pnm_tools.specs.declared.tool.Tool.{Tool}
 use Rattle.pnm_tools.specs.Answers.{Begins, RefusesHead}
-use Rattle.pnm_tools.specs.Answering.{answers_at, rows_after}
+use Rattle.pnm_tools.specs.Answering.{AreRowAnswers, answers_at, rows_after}
 use Rattle.pnm_filters.specs.States.{is_all_given, waiting_in, IsReadyFor, KeepsNone}
 
 -- ---- a message is fed, at a place
@@ -45,6 +47,20 @@ Answered tool_at ready_for due kept all_given old from m new to pending (Ok _) =
     IsAccepted tool_at ready_for due kept all_given old from m new to pending
 Answered tool_at ready_for due kept all_given old from m new to pending (Err fault) =
     IsRefused tool_at all_given old from m fault × (tool_at new ≡ tool_at old)
+
+-- ---- rows are passed, from a place on
+
+-- each of them is answered by the row that stands in its place, whatever rows of the image have come before them
+pub record ArePassed {W : Type 0} (tool_at : W → Tool) (ready_for : W → Shape → List (List ℕ) → Type 0) (old : W)
+    (from : Place) (rows : List (List ℕ)) (new : W) (to : Place) (made : List (List ℕ)) : Type 0 where
+  pub shape : Shape
+  pub y : ℕ
+  pub inside : from ≡ Inside shape y
+  pub lawful : IsLawfulFrom from (row_messages rows)
+  pub tool : tool_at new ≡ tool_at old
+  pub place : to ≡ place_of from (row_messages rows)
+  pub ready : (come : List (List ℕ)) → ready_for old shape come → ready_for new shape (come ++ rows)
+  pub answers : AreRowAnswers (tool_at old) shape y rows made
 
 -- ---- a message is given
 

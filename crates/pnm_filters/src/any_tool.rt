@@ -9,7 +9,7 @@ use crate::image_tool::ImageTool;
 use crate::invert::Inverter;
 use crate::tile::Tiler;
 use crate::transpose::Transposer;
-use pnm_image::{Head, Samples, Shape};
+use pnm_image::{Head, Rows, Samples, Shape};
 use pnm_tools::{Planes, ToolFault};
 use std::alloc::Global;
 
@@ -71,6 +71,11 @@ impl ImageTool for AnyTool {
 
     fn take(&mut self, alloc: Global, shape: Shape, y: u32, row: Samples) -> Result<(), ToolFault> {
         with_tool!(self, work => work.take(alloc, shape, y, row))
+    }
+
+    #[inline(never)]
+    fn rows(&mut self, shape: Shape, y: u32, rows: Rows) -> Result<Rows, Rows> {
+        with_tool!(self, work => work.rows(shape, y, rows))
     }
 
     #[inline(never)]

@@ -5,7 +5,7 @@ ghost use Rattle.pnm_tools.specs.Answering.{row_list};
 
 use crate::image_tool::ImageTool;
 use crate::row_tool::RowTool;
-use pnm_image::{Head, Samples, Shape};
+use pnm_image::{Head, Rows, Samples, Shape};
 use pnm_tools::ToolFault;
 use std::alloc::Global;
 use std::mem;
@@ -33,6 +33,13 @@ impl<T: RowTool> ImageTool for ByRow<T> {
     fn take(&mut self, alloc: Global, shape: Shape, y: u32, row: Samples) -> Result<(), ToolFault> {
         self.made = self.tool.row(alloc, shape, y, row)?;
         Ok(())
+    }
+
+    fn rows(&mut self, shape: Shape, y: u32, rows: Rows) -> Result<Rows, Rows> {
+        if self.made.is_some() {
+            return Err(rows);
+        }
+        self.tool.rows(shape, y, rows)
     }
 
     fn end(&mut self, _shape: Shape) {

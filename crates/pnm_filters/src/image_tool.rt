@@ -2,15 +2,16 @@
 //! the image has ended.
 
 ghost use Rattle.std.specs.Prelude.{ℕ, false, ◌≡◌, ◌<◌, ◌++◌, ◌∷◌, [], ◌⊎◌, List, length, OnOk, IfOk, IfErr};
-ghost use Rattle.std.specs.Prelude.{IfNone, Ok, Err};
+ghost use Rattle.std.specs.Prelude.{IfNone, Ok, Err, ◌+◌, ◌≤◌};
+ghost use Rattle.std.specs.List.{AllByRecursion};
 ghost use Rattle.pnm_image.specs.Places.{IsRowOf};
 ghost use Rattle.pnm_image.specs.declared.shape.Shape.{Shape as ShapeValue};
-ghost use Rattle.pnm_tools.specs.Answering.{row_list};
+ghost use Rattle.pnm_tools.specs.Answering.{AreRowAnswers, row_list};
 ghost use Rattle.pnm_tools.specs.declared.fault.ToolFault.TheVariants.{Memory};
 ghost use Rattle.pnm_tools.specs.declared.tool.Tool.{Tool as ToolValue};
 ghost use Rattle.pnm_tools.specs.Tools.{IsLawfulTool, TakesHead, result_head, row_answer, end_answer};
 
-use pnm_image::{Head, Samples, Shape};
+use pnm_image::{Head, Rows, Samples, Shape};
 use pnm_tools::ToolFault;
 use std::alloc::Global;
 
@@ -48,6 +49,26 @@ pub trait ImageTool {
             → ready self.old shape rows → ready self.new shape (rows ++ row ∷ [])) }
         ensures due { OnOk result (due self.new ≡ row_answer (tool self.old) shape y row) }
         ensures refused { IfErr result (λ fault. fault ≡ Memory) };
+
+    /// Makes of each row, from row `y` of an image of this shape on, the row of the result, all at once; no row is due
+    /// then.
+    ///
+    /// # Errors
+    ///
+    /// The rows themselves, and nothing has changed, where each is to be taken by itself.
+    fn rows(&mut self, shape: Shape, y: u32, rows: Rows) -> Result<Rows, Rows>
+        requires lawful { IsLawfulTool (tool self.old) }
+        requires rows { (y + length rows ≤ shape.height) × AllByRecursion (IsRowOf shape) rows }
+        requires ready { (before : List (List ℕ)) × (length before ≡ y) × ready self.old shape before }
+        ensures same { tool self.new ≡ tool self.old }
+        ensures ready { OnOk result ((before : List (List ℕ))
+            → ready self.old shape before → ready self.new shape (before ++ rows)) }
+        ensures made { IfOk result (λ made. AreRowAnswers (tool self.old) shape y rows made) }
+        ensures due { OnOk result (due self.new ≡ []) }
+        ensures kept { IfErr result (λ same. (same ≡ rows) × (self.new ≡ self.old)) }
+    {
+        Err(rows)
+    }
 
     /// The image of this shape has ended.
     fn end(&mut self, shape: Shape)

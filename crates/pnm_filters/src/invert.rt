@@ -1,11 +1,11 @@
 //! `pnminvert`: black becomes white and white black, from pnminvert(1).
 
-ghost use Rattle.std.specs.Prelude.{◌≡◌, ◌≤◌, ◌-◌, All, IfOk, map, []};
+ghost use Rattle.std.specs.Prelude.{◌≡◌, ◌≤◌, ◌-◌, All, IfOk, IfErr, map, []};
 ghost use Rattle.pnm_image.specs.declared.limits.TheConstants.{MAX_MAXVAL};
 ghost use Rattle.pnm_tools.specs.declared.tool.Tool.TheVariants.{Invert};
 
 use crate::row_tool::RowTool;
-use pnm_image::{Head, SampleVec, Samples, Shape};
+use pnm_image::{Head, Rows, SampleVec, Samples, Shape};
 use pnm_samples::Sample;
 use pnm_tools::ToolFault;
 use std::alloc::{AllocError, Global};
@@ -25,7 +25,24 @@ fn invert_row(alloc: Global, maxval: u32, row: Samples) -> Result<Samples, Alloc
     requires range { All (λ sample. sample ≤ maxval) row }
     ensures { IfOk result (λ made. made ≡ map (λ sample. maxval - sample) row) }
 {
-    match row.into_vec() {
+    match invert_in_place(maxval, row) {
+        Ok(inverted) => Ok(inverted),
+        Err(held) => Ok(invert_words(maxval, held.into_words(alloc)?)),
+    }
+}
+
+/// The samples, each taken from the maxval, changed in place and held as they were.
+///
+/// # Errors
+///
+/// The samples themselves, where samples up to the maxval can't be held so.
+fn invert_in_place(maxval: u32, samples: Samples) -> Result<Samples, Samples>
+    requires maxval { (1 ≤ maxval) × (maxval ≤ MAX_MAXVAL) }
+    requires range { All (λ sample. sample ≤ maxval) samples }
+    ensures inverted { IfOk result (λ made. made ≡ map (λ sample. maxval - sample) samples) }
+    ensures same { IfErr result (λ same. same ≡ samples) }
+{
+    match samples.into_vec() {
         SampleVec::Bits(mut bits) if maxval == 1 => {
             bits.invert();
             Ok(Samples::within(SampleVec::Bits(bits), maxval))
@@ -34,12 +51,20 @@ fn invert_row(alloc: Global, maxval: u32, row: Samples) -> Result<Samples, Alloc
             invert(bytes.as_mut_slice(), maxval as u8);
             Ok(Samples::within(SampleVec::Bytes(bytes), maxval))
         }
-        held => {
-            let mut words = Samples::within(held, maxval).into_words(alloc)?;
-            invert(words.as_mut_slice(), maxval as u16);
-            Ok(Samples::within(SampleVec::Words(words), maxval))
-        }
+        SampleVec::Words(words) => Ok(invert_words(maxval, words)),
+        held => Err(Samples::within(held, maxval)),
     }
+}
+
+/// The words, each taken from the maxval, changed in place.
+fn invert_words(maxval: u32, words: Vec<u16>) -> Samples
+    requires maxval { maxval ≤ MAX_MAXVAL }
+    requires range { All (λ sample. sample ≤ maxval) words.items }
+    ensures { result ≡ map (λ sample. maxval - sample) words.items }
+{
+    let mut words = words;
+    invert(words.as_mut_slice(), maxval as u16);
+    Samples::within(SampleVec::Words(words), maxval)
 }
 
 /// Takes each sample from the maxval.
@@ -77,5 +102,13 @@ impl RowTool for Inverter {
         row: Samples,
     ) -> Result<Option<Samples>, ToolFault> {
         Ok(Some(invert_row(alloc, shape.maxval, row)?))
+    }
+
+    fn rows(&self, shape: Shape, _y: u32, rows: Rows) -> Result<Rows, Rows> {
+        let (samples, count, row_length) = rows.into_parts();
+        match invert_in_place(shape.maxval, samples) {
+            Ok(inverted) => Ok(Rows::new(inverted, count, row_length)),
+            Err(samples) => Err(Rows::new(samples, count, row_length)),
+        }
     }
 }

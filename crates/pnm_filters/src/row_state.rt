@@ -10,7 +10,7 @@ ghost use Rattle.pnm_filters.specs.States.{is_all_given, waiting_in, due_of};
 ghost use Rattle.pnm_tools.specs.Tools.{IsLawfulTool, is_row_wise};
 
 use crate::tool_state::{ToolState, start_tool};
-use pnm_image::Message;
+use pnm_image::{Message, Rows};
 use pnm_tools::{Filter, FusedFilter, Tool, ToolFault};
 use std::alloc::Global;
 
@@ -48,6 +48,10 @@ impl Filter for RowState {
 
     fn gave_all(&mut self) -> bool {
         self.state.gave_all()
+    }
+
+    fn pass_rows(&mut self, rows: Rows) -> Result<Rows, Rows> {
+        self.state.pass_rows(rows)
     }
 }
 

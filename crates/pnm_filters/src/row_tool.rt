@@ -1,15 +1,16 @@
 //! What a tool is that makes of each row at most one row of the result, and keeps none: its head rule
 //! and its row rule.
 
-ghost use Rattle.std.specs.Prelude.{ℕ, ◌≡◌, ◌<◌, ◌⊎◌, List, [], OnOk, IfOk, IfErr, Ok, Err};
+ghost use Rattle.std.specs.Prelude.{ℕ, ◌≡◌, ◌+◌, ◌<◌, ◌≤◌, ◌⊎◌, List, [], length, OnOk, IfOk, IfErr, Ok, Err};
+ghost use Rattle.std.specs.List.{AllByRecursion};
 ghost use Rattle.pnm_image.specs.Places.{IsRowOf};
 ghost use Rattle.pnm_image.specs.declared.shape.Shape.{Shape as ShapeValue};
 ghost use Rattle.pnm_tools.specs.declared.fault.ToolFault.TheVariants.{Memory};
 ghost use Rattle.pnm_tools.specs.declared.tool.Tool.{Tool as ToolValue};
-ghost use Rattle.pnm_tools.specs.Answering.{row_list};
+ghost use Rattle.pnm_tools.specs.Answering.{AreRowAnswers, row_list};
 ghost use Rattle.pnm_tools.specs.Tools.{IsLawfulTool, TakesHead, result_head, row_answer, end_answer};
 
-use pnm_image::{Head, Samples, Shape};
+use pnm_image::{Head, Rows, Samples, Shape};
 use pnm_tools::ToolFault;
 use std::alloc::Global;
 
@@ -45,6 +46,21 @@ pub trait RowTool {
         requires row { (y < shape.height) × IsRowOf shape row }
         ensures row { IfOk result (λ made. row_answer (tool self.now) shape y row ≡ row_list made) }
         ensures refused { IfErr result (λ fault. fault ≡ Memory) };
+
+    /// Makes of each row, from row `y` of an image of this shape on, the row of the result, all at once.
+    ///
+    /// # Errors
+    ///
+    /// The rows themselves, where each is to be taken by itself.
+    fn rows(&self, shape: Shape, y: u32, rows: Rows) -> Result<Rows, Rows>
+        requires lawful { IsLawfulTool (tool self.now) }
+        requires ready { ready self.now shape }
+        requires rows { (y + length rows ≤ shape.height) × AllByRecursion (IsRowOf shape) rows }
+        ensures made { IfOk result (λ made. AreRowAnswers (tool self.now) shape y rows made) }
+        ensures same { IfErr result (λ same. same ≡ rows) }
+    {
+        Err(rows)
+    }
 
     /// The image's end is answered by no row.
     ghost nothing_at_end: { (s : Self) (shape : ShapeValue) (rows : List (List ℕ))

@@ -1,13 +1,13 @@
 //! A tool at work on a stream: the place, what is still to be given, and the fault that stays.
 
-ghost use Rattle.std.specs.Prelude.{ℕ, ◌≡◌, true, false, Some, None, List, [], length};
+ghost use Rattle.std.specs.Prelude.{ℕ, ◌≡◌, true, false, Some, None, List, [], length, IfOk, IfErr};
 ghost use Rattle.pnm_filters.specs.Pendings.{AllGiven, pending_of, after_one, is_told};
 ghost use Rattle.pnm_filters.specs.States.{waiting_in, is_all_given, IsReadyFor};
 ghost use Rattle.pnm_tools.specs.Tools.{IsLawfulTool};
-ghost use Rattle.pnm_filters.specs.Steps.{Answered, Gave, IsGiven};
+ghost use Rattle.pnm_filters.specs.Steps.{Answered, ArePassed, Gave, IsGiven};
 
 use crate::image_tool::ImageTool;
-use pnm_image::{Message, Place};
+use pnm_image::{Message, Place, Rows};
 use pnm_tools::{Filter, ToolFault};
 use std::alloc::Global;
 use std::marker::Model;
@@ -111,6 +111,13 @@ impl<T: ImageTool> Filter for State<T> {
     fn gave_all(&mut self) -> bool {
         tell(&self.work, &mut self.owed, &self.waiting)
     }
+
+    fn pass_rows(&mut self, rows: Rows) -> Result<Rows, Rows> {
+        if self.fault.is_some() || !is_told(self.owed) {
+            return Err(rows);
+        }
+        pass(&mut self.work, &mut self.place, rows)
+    }
 }
 
 impl<T: ImageTool> State<T> {
@@ -132,6 +139,30 @@ impl<T: ImageTool> State<T> {
             fault: None,
         }
     }
+}
+
+/// Passes rows, if they may come at this place, to the tool, which makes of each of them a row of the result at once.
+///
+/// # Errors
+///
+/// The rows themselves, and nothing has changed, where they may not come or each is to be taken by itself.
+fn pass<T: ImageTool>(work: &mut T, place: &mut Place, rows: Rows) -> Result<Rows, Rows>
+    requires lawful { IsLawfulTool (T.tool work.old) }
+    requires ready { (come : List (List ℕ)) × IsReadyFor T.ready work.old place.old come }
+    ensures passed { IfOk result (ArePassed T.tool T.ready work.old place.old rows work.new place.new) }
+    ensures kept { IfErr result (λ same. (same ≡ rows) × (work.new ≡ work.old) × (place.new ≡ place.old)) }
+{
+    let Place::Inside(shape, y) = *place else {
+        return Err(rows);
+    };
+    let count = rows.count();
+    if !place.accepts_rows(&rows) {
+        return Err(rows);
+    }
+    prove!(y < shape.height);
+    let made = work.rows(shape, y, rows)?;
+    *place = Place::Inside(shape, y + count);
+    Ok(made)
 }
 
 /// Takes a message, if it may come at this place, and sets what is owed for it.

@@ -1,10 +1,13 @@
 -- The rows that answer a row, tool by tool.
-use Rattle.std.proofs.Common.{◌≡◌, ℕ, ◌+◌, ◌<◌, ◌≤◌, List, [], ◌∷◌, ◌++◌, map, length, take, drop, get_or, All, refl, sym, ap, subst, ap₂, ◌∙◌, arith, ◌-◌}
+use Rattle.std.proofs.Common.{◌≡◌, ℕ, zero, suc, ◌+◌, ◌<◌, ◌≤◌, List, [], ◌∷◌, ◌++◌, map, length, take, drop, get_or, All, refl, sym, ap, subst, ap₂, ◌∙◌, arith, ◌-◌}
 use Rattle.std.specs.List.{range_with_len}
-use Rattle.std.proofs.lemmas.List.{take_at, length-map, length-take, drop_more, get_or_at, map-id}
+use Rattle.std.proofs.lemmas.List.{take_at, length-map, length-take, take-map, drop-map, drop_more, get_or_at, map-id}
 use Rattle.std.proofs.lemmas.List.Elements.{All-get_or, All-map}
 use Rattle.std.proofs.lemmas.List.FromFn.{get_or-map-range_with_len, length-map-range_with_len}
 use Rattle.pnm_image.specs.declared.shape.Shape.{Shape}
+use Rattle.pnm_image.specs.Images.{cut_rows}
+use Rattle.pnm_tools.specs.declared.tool.Tool.{Tool}
+use Rattle.pnm_tools.specs.Answering.{AreRowAnswers}
 use Rattle.pnm_tools.specs.declared.cut.CutBox.{CutBox}
 use Rattle.pnm_tools.specs.declared.flip.FlipWay.{FlipWay}
 use Rattle.pnm_tools.specs.declared.tool.Tool.TheVariants.{Invert, Cut, Depth, Channel, Enlarge, Flip}
@@ -39,6 +42,18 @@ row_of_enlarge across down s y row = refl
 pub row_of_flip : (way : FlipWay) (s : Shape) (y : ℕ) (row : List ℕ) → row_answer (Flip way) s y row ≡ turned_rows (turn_of way) s row
 unfolding row_answer
 row_of_flip way s y row = refl
+
+-- rows that are changed sample by sample, all at once, where each is answered by the row so changed
+pub changed_rows : (tool : Tool) (s : Shape) (f : ℕ → ℕ) (y count each : ℕ) (samples : List ℕ)
+    → ((k : ℕ) (row : List ℕ) → row_answer tool s k row ≡ map f row ∷ [])
+    → AreRowAnswers tool s y (cut_rows count each samples) (cut_rows count each (map f samples))
+changed_rows tool s f y zero each samples answers = tt
+changed_rows tool s f y (suc count) each samples answers =
+    let rest : List ℕ = drop each samples in (
+      answers y (take each samples) ∙ ap (λ (row : List ℕ). row ∷ []) (sym (take-map f each samples)),
+      subst (λ (l : List ℕ). AreRowAnswers tool s (y + 1) (cut_rows count each rest) (cut_rows count each l)) (sym (drop-map f each samples))
+          (changed_rows tool s f (y + 1) count each rest answers),
+    )
 
 -- a row that is changed in place, sample by sample
 pub changed_in_place : (g : ℕ → ℕ) (row items lent new : List ℕ) (len : ℕ) → new ≡ map g lent → lent ≡ items → items ≡ row → len ≡ length items
