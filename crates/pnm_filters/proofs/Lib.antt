@@ -15,3 +15,4 @@ pub mod RepeatedBitLaws
 pub mod RowStateSteps
 pub mod StartSteps
 pub mod RowsLaws
+pub mod PassingSteps

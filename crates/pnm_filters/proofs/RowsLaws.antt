@@ -1,34 +1,14 @@
--- Rows that are handed over together: their samples, and a state that passes them.
-use Rattle.std.proofs.Common.{◌≡◌, ℕ, zero, suc, ◌+◌, ◌*◌, ◌≤◌, true, false, List, [], ◌∷◌, ◌++◌, length, take, drop, map, All, Option, Some, None, Result, Ok, Err, IfOk, IfErr, refl, sym, ap, subst, ◌∙◌, append-nil, append_assoc, arith, suc-mul}
+-- Rows that are handed over together: their samples, and the rows that answer them.
+use Rattle.std.proofs.Common.{◌≡◌, ℕ, zero, suc, ◌+◌, ◌*◌, ◌≤◌, List, [], ◌∷◌, length, take, drop, All, refl, sym, ap, subst, arith, suc-mul}
 use Rattle.std.specs.List.{AllByRecursion}
-use Rattle.std.specs.Option.{is_some}
-use Rattle.std.proofs.lemmas.List.{take-append-drop, length-append, length-drop, nil_from_length}
+use Rattle.std.proofs.lemmas.List.{take-append-drop, length-drop, nil_from_length}
 use Rattle.std.proofs.lemmas.List.Elements.{All-nil, All-append}
 use Rattle.pnm_image.specs.declared.shape.Shape.{Shape}
-use Rattle.pnm_image.specs.declared.message.Message.{Message}
-use Rattle.pnm_image.specs.declared.message.Message.TheVariants.{Begin, Row, ImageEnd, StreamEnd, Stop}
-use Rattle.pnm_image.specs.declared.place.Place.{Place}
-use Rattle.pnm_image.specs.declared.place.Place.TheVariants.{Between, Inside, After}
 use Rattle.pnm_image.specs.Images.{cut_rows}
-use Rattle.pnm_image.specs.Places.{IsLawfulFrom, IsRowOf, place_after, place_of}
-use Rattle.pnm_image.specs.Rows.{row_messages}
-use Rattle.pnm_image.proofs.Places.{place_of-append, place_of-rows}
-use Rattle.pnm_tools.specs.declared.fault.ToolFault.{ToolFault}
+use Rattle.pnm_image.specs.Places.{IsRowOf}
 use Rattle.pnm_tools.specs.declared.tool.Tool.{Tool}
-use Rattle.pnm_tools.specs.Answers.{AnswersInFull}
-use Rattle.pnm_tools.specs.Answering.{AreRowAnswers, IsAnswering, answers_from, rows_after, rows_come}
-use Rattle.pnm_tools.specs.Tools.{AreTaken, IsLawfulTool}
-use Rattle.pnm_tools.proofs.AnsweringLaws.{answers_from-append}
-use Rattle.pnm_tools.proofs.AtLaws.{answering_answers}
-use Rattle.pnm_tools.proofs.FullLaws.{answering_in_full}
-use Rattle.pnm_tools.proofs.ToolLaws.{tool_answers_images}
-use Rattle.pnm_filters.specs.declared.state.Owed.{Owed}
-use Rattle.pnm_filters.specs.declared.state.Owed.TheVariants.{Told, One, Rest, RestAndEnd, Untold}
-use Rattle.pnm_filters.specs.Pendings.{Pending, AllGiven, pending_of, is_told}
-use Rattle.pnm_filters.specs.States.{Standing, standing, IsAt, IsReadyFor, IsStanding, KeepsNone, waiting_in}
-use Rattle.pnm_filters.specs.Steps.{ArePassed}
-
--- ---- the samples of rows
+use Rattle.pnm_tools.specs.Answering.{AreRowAnswers}
+use Rattle.pnm_tools.specs.Tools.{row_answer}
 
 -- where each is a row of a shape, none of their samples is above its maxval
 pub range_of_rows : (s : Shape) (count each : ℕ) (samples : List ℕ) → length samples ≡ count * each
@@ -41,169 +21,15 @@ range_of_rows s (suc count) each samples long are =
     subst (All P) (take-append-drop each samples)
     (All-append P (take each samples) (drop each samples) are.0.range (range_of_rows s count each (drop each samples) rest are.1))
 
--- as many rows answer them
+-- as many rows answer rows
 pub answers_are_many : (tool : Tool) (s : Shape) (y : ℕ) (rows made : List (List ℕ)) → AreRowAnswers tool s y rows made → length made ≡ length rows
 answers_are_many tool s y [] [] are = refl
 answers_are_many tool s y [] (m ∷ made) are = absurd are
 answers_are_many tool s y (row ∷ rows) [] are = absurd are
 answers_are_many tool s y (row ∷ rows) (m ∷ made) are = ap suc (answers_are_many tool s (y + 1) rows made are.1)
 
--- ---- messages that follow others
-
-lawful_append : (place : Place) (a b : List Message) → IsLawfulFrom place a → IsLawfulFrom (place_of place a) b → IsLawfulFrom place (a ++ b)
-lawful_append place [] b first then = then
-lawful_append place (m ∷ a) b first then = (first.0, lawful_append (place_after place m) a b first.1 then)
-
-come_append : (rows : List (List ℕ)) (a b : List Message) → rows_come rows (a ++ b) ≡ rows_come (rows_come rows a) b
-come_append rows [] b = refl
-come_append rows (m ∷ a) b = come_append (rows_after rows m) a b
-
--- rows come after those that have come
-rows_have_come : (come rows : List (List ℕ)) → rows_come come (row_messages rows) ≡ come ++ rows
-rows_have_come come [] = sym (append-nil come)
-rows_have_come come (row ∷ rows) = rows_have_come (come ++ row ∷ []) rows ∙ append_assoc come (row ∷ []) rows
-
--- rows are no image that could be refused
-rows_are_taken : (tool : Tool) (rows : List (List ℕ)) → AreTaken tool (row_messages rows)
-rows_are_taken tool [] = tt
-rows_are_taken tool (row ∷ rows) = rows_are_taken tool rows
-
-taken_append : (tool : Tool) (a b : List Message) → AreTaken tool a → AreTaken tool b → AreTaken tool (a ++ b)
-taken_append tool [] b first then = then
-taken_append tool (Begin head ∷ a) b first then = (first.0, taken_append tool a b first.1 then)
-taken_append tool (Row row ∷ a) b first then = taken_append tool a b first then
-taken_append tool (ImageEnd ∷ a) b first then = taken_append tool a b first then
-taken_append tool (StreamEnd ∷ a) b first then = taken_append tool a b first then
-taken_append tool (Stop ∷ a) b first then = taken_append tool a b first then
-
--- ---- a state passes rows
-
--- the rows that stand in their places are the answers to them
-answers_to_rows : (tool : Tool) (s : Shape) (y : ℕ) (come rows made : List (List ℕ)) → AreRowAnswers tool s y rows made
-    → answers_from tool (Inside s y) come (row_messages rows) ≡ row_messages made
-answers_to_rows tool s y come [] [] are = refl
-answers_to_rows tool s y come [] (m ∷ made) are = absurd are
-answers_to_rows tool s y come (row ∷ rows) [] are = absurd are
-answers_to_rows tool s y come (row ∷ rows) (m ∷ made) are =
-    ap (λ (answer : List (List ℕ)). map Row answer ++ answers_from tool (Inside s (y + 1)) (come ++ row ∷ []) (row_messages rows)) are.0
-    ∙ ap (λ (rest : List Message). Row m ∷ rest) (answers_to_rows tool s (y + 1) (come ++ row ∷ []) rows made are.1)
-
--- nothing waited, and nothing waits
-answering_rows : (t : Tool) (l g : List Message) (s : Shape) (y : ℕ) (rows made : List (List ℕ)) → IsAnswering t l g [] → place_of Between l ≡ Inside s y
-    → IsLawfulFrom (Inside s y) (row_messages rows) → AreRowAnswers t s y rows made
-    → IsAnswering t (l ++ row_messages rows) (g ++ row_messages made) []
-answering_rows t l g s y rows made a place lawful are =
-    let come : List (List ℕ) = rows_come [] l in
-    record {
-      lawful = lawful_append Between l (row_messages rows) a.lawful (subst (λ (p : Place). IsLawfulFrom p (row_messages rows)) (sym place) lawful);
-      taken = taken_append t l (row_messages rows) a.taken (rows_are_taken t rows);
-      given = answers_from-append t Between [] l (row_messages rows)
-          ∙ ap (λ (first : List Message). first ++ answers_from t (place_of Between l) come (row_messages rows)) (a.given ∙ append-nil g)
-          ∙ ap (λ (p : Place). g ++ answers_from t p come (row_messages rows)) place
-          ∙ ap (λ (x : List Message). g ++ x) (answers_to_rows t s y come rows made are)
-          ∙ sym (append-nil (g ++ row_messages made));
-    }
-
--- after rows it stands further on in the image
-stands_on : {W : Type 0} (tool_at : W → Tool) (ready_for : W → Shape → List (List ℕ) → Type 0) (old new : W) (from to : Place) (rows made : List (List ℕ))
-    (pass : ArePassed tool_at ready_for old from rows new to made) → to ≡ Inside pass.shape (pass.y + length rows)
-stands_on tool_at ready_for old new from to rows made pass =
-    pass.place ∙ ap (λ (p : Place). place_of p (row_messages rows)) pass.inside ∙ place_of-rows pass.shape pass.y rows
-
--- it is ready for the next of them
-goes_on_ready : {W : Type 0} (tool_at : W → Tool) (ready_for : W → Shape → List (List ℕ) → Type 0) (old new : W) (from to : Place)
-    (rows made come : List (List ℕ)) (pass : ArePassed tool_at ready_for old from rows new to made)
-    → IsReadyFor ready_for old (Inside pass.shape pass.y) come → IsReadyFor ready_for new to (come ++ rows)
-goes_on_ready tool_at ready_for old new from to rows made come pass ready =
-    let next : IsReadyFor ready_for new (Inside pass.shape (pass.y + length rows)) (come ++ rows) =
-    (omega (arith, ready.0, length-append come rows), pass.ready come ready.1) in
-    subst (λ (p : Place). IsReadyFor ready_for new p (come ++ rows)) (sym (stands_on tool_at ready_for old new from to rows made pass)) next
-
--- there it may keep rows
-keeps_on : {W : Type 0} (tool_at : W → Tool) (ready_for : W → Shape → List (List ℕ) → Type 0) (kept : W → List (List ℕ)) (old new : W) (from to : Place)
-    (rows made : List (List ℕ)) → ArePassed tool_at ready_for old from rows new to made → KeepsNone kept new to AllGiven
-keeps_on tool_at ready_for kept old new from to rows made pass =
-    subst (λ (p : Place). KeepsNone kept new p AllGiven) (sym (stands_on tool_at ready_for old new from to rows made pass)) tt
-
-pub passed : {W : Type 0} (tool_at : W → Tool) (ready_for : W → Shape → List (List ℕ) → Type 0) (due kept : W → List (List ℕ)) (old : Standing W) (new : W)
-    (to : Place) (rows made : List (List ℕ)) (fault : Option ToolFault) (t : Tool) (l g : List Message)
-    → IsAt tool_at ready_for due kept old t l g → old.pending ≡ AllGiven → ArePassed tool_at ready_for old.work old.place rows new to made
-    → IsAt tool_at ready_for due kept (standing new to old.pending fault) t (l ++ row_messages rows) (g ++ row_messages made)
-    × AnswersInFull t (l ++ row_messages rows) (g ++ row_messages made)
-passed tool_at ready_for due kept old new to rows made fault t l g at told pass =
-    let s : Shape = pass.shape in
-    let y : ℕ = pass.y in
-    let more : List Message = row_messages rows in
-    let come : List (List ℕ) = rows_come [] l in
-    let given : IsAnswering t l g [] = subst (λ (p : Pending). IsAnswering t l g (waiting_in p (due old.work))) told at.answering in
-    let inside : place_of Between l ≡ Inside s y = sym at.place ∙ pass.inside in
-    let lawful : IsLawfulFrom (Inside s y) more = subst (λ (p : Place). IsLawfulFrom p more) pass.inside pass.lawful in
-    let are : AreRowAnswers t s y rows made = subst (λ (k : Tool). AreRowAnswers k s y rows made) at.tool pass.answers in
-    let all : IsAnswering t (l ++ more) (g ++ row_messages made) [] = answering_rows t l g s y rows made given inside lawful are in
-    let ready : IsReadyFor ready_for old.work (Inside s y) come = subst (λ (p : Place). IsReadyFor ready_for old.work p come) pass.inside at.ready in
-    let next : IsReadyFor ready_for new to (come ++ rows) = goes_on_ready tool_at ready_for old.work new old.place to rows made come pass ready in
-    let has_come : come ++ rows ≡ rows_come [] (l ++ more) = sym (come_append [] l more ∙ rows_have_come come rows) in (
-      record {
-        tool = pass.tool ∙ at.tool;
-        options = at.options;
-        answering = subst (λ (p : Pending). IsAnswering t (l ++ more) (g ++ row_messages made) (waiting_in p (due new))) (sym told) all;
-        place = pass.place ∙ ap (λ (p : Place). place_of p more) at.place ∙ sym (place_of-append Between l more);
-        ready = subst (IsReadyFor ready_for new to) has_come next;
-        none = subst (KeepsNone kept new to) (sym told) (keeps_on tool_at ready_for kept old.work new old.place to rows made pass);
-        answers = answering_answers t (l ++ more) (g ++ row_messages made) [] (tool_answers_images t at.options) all;
-      },
-      answering_in_full t (l ++ more) (g ++ row_messages made) (tool_answers_images t at.options) all,
-    )
-
--- ---- whether rows are passed or not
-
--- where nothing is owed all was given
-pub owes_nothing : (owed : Owed) (waiting : Option Message) → is_told owed ≡ true → pending_of owed waiting ≡ AllGiven
-owes_nothing Told waiting e = refl
-owes_nothing One waiting e = absurd cc
-owes_nothing Rest waiting e = absurd cc
-owes_nothing RestAndEnd waiting e = absurd cc
-owes_nothing Untold waiting e = absurd cc
-
-pub no_fault_yet : (fault : Option ToolFault) → is_some fault ≡ false → fault ≡ None
-no_fault_yet None e = refl
-no_fault_yet (Some fault) e = absurd cc
-
-abbrev PassedRows : Type 0
-PassedRows = Result (List (List ℕ)) (List (List ℕ))
-
-pub passed_by : {W : Type 0} (tool_at : W → Tool) (ready_for : W → Shape → List (List ℕ) → Type 0) (due kept : W → List (List ℕ)) (old : Standing W) (new : W)
-    (to : Place) (rows : List (List ℕ)) (fault : Option ToolFault) (result : PassedRows) → old.pending ≡ AllGiven
-    → IfOk result (ArePassed tool_at ready_for old.work old.place rows new to)
-    → IfOk result (λ made. (t : Tool) (l g : List Message) → IsAt tool_at ready_for due kept old t l g
-    → IsAt tool_at ready_for due kept (standing new to old.pending fault) t (l ++ row_messages rows) (g ++ row_messages made)
-    × AnswersInFull t (l ++ row_messages rows) (g ++ row_messages made))
-passed_by tool_at ready_for due kept old new to rows fault (Ok made) told pass = λ t l g at.
-    passed tool_at ready_for due kept old new to rows made fault t l g at told pass
-passed_by tool_at ready_for due kept old new to rows fault (Err same) told pass = tt
-
--- as many rows are made as come
-pub each_by : {W : Type 0} (tool_at : W → Tool) (ready_for : W → Shape → List (List ℕ) → Type 0) (old new : W) (from to : Place) (rows : List (List ℕ))
-    (result : PassedRows) → IfOk result (ArePassed tool_at ready_for old from rows new to) → IfOk result (λ made. length made ≡ length rows)
-each_by tool_at ready_for old new from to rows (Ok made) pass = answers_are_many (tool_at old) pass.shape pass.y rows made pass.answers
-each_by tool_at ready_for old new from to rows (Err same) pass = tt
-
--- a state stays sound
-pub stands_by : {W : Type 0} (tool_at : W → Tool) (ready_for : W → Shape → List (List ℕ) → Type 0) (kept : W → List (List ℕ)) (old new : W) (from to : Place)
-    (rows : List (List ℕ)) (pending : Pending) (fault : Option ToolFault) (result : PassedRows)
-    → pending ≡ AllGiven → fault ≡ None → IsLawfulTool (tool_at old) × IsStanding ready_for kept old from pending fault
-    → IfOk result (ArePassed tool_at ready_for old from rows new to) → IfErr result (λ same. (same ≡ rows) × (new ≡ old) × (to ≡ from))
-    → IsLawfulTool (tool_at new) × IsStanding ready_for kept new to pending fault
-stands_by {W = W} tool_at ready_for kept old new from to rows pending fault (Ok made) told none sound pass kept_so =
-    let before : IsStanding ready_for kept old from pending None = subst (IsStanding ready_for kept old from pending) none sound.1 in
-    let come : List (List ℕ) = before.0.0 in
-    let ready : IsReadyFor ready_for old (Inside pass.shape pass.y) come = subst (λ (p : Place). IsReadyFor ready_for old p come) pass.inside before.0.1 in
-    let after : IsStanding ready_for kept new to pending None = (
-      (come ++ rows, goes_on_ready tool_at ready_for old new from to rows made come pass ready),
-      subst (KeepsNone kept new to) (sym told) (keeps_on tool_at ready_for kept old new from to rows made pass),
-    ) in
-    (subst IsLawfulTool (sym pass.tool) sound.0, subst (IsStanding ready_for kept new to pending) (sym none) after)
-stands_by {W = W} tool_at ready_for kept old new from to rows pending fault (Err same) told none sound pass kept_so =
-    let work : IsLawfulTool (tool_at new) × IsStanding ready_for kept new from pending fault =
-    subst (λ (w : W). IsLawfulTool (tool_at w) × IsStanding ready_for kept w from pending fault) (sym kept_so.1) sound in
-    (work.0, subst (λ (p : Place). IsStanding ready_for kept new p pending fault) (sym kept_so.2) work.1)
+-- rows that each answer themselves
+pub rows_stay : (tool : Tool) (s : Shape) (y : ℕ) (rows : List (List ℕ)) → ((k : ℕ) (row : List ℕ) → row_answer tool s k row ≡ row ∷ [])
+    → AreRowAnswers tool s y rows rows
+rows_stay tool s y [] stay = tt
+rows_stay tool s y (row ∷ rows) stay = (stay y row, rows_stay tool s (y + 1) rows stay)

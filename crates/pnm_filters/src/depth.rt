@@ -12,7 +12,7 @@ ghost use Rattle.pnm_tools.specs.Tools.{TakesHead, result_head};
 
 use crate::head::head_within_limits;
 use crate::row_tool::RowTool;
-use pnm_image::{Head, Kind, SampleVec, Samples, Shape};
+use pnm_image::{Head, Kind, Rows, SampleVec, Samples, Shape};
 use pnm_tools::ToolFault;
 use std::alloc::{AllocError, Global};
 
@@ -82,6 +82,18 @@ fn rescale_bytes_by_table(bytes: &mut [u8], table: &[u8], new: u32, old: u32)
     }
 }
 
+/// The bytes, each taken from the table, changed in place.
+fn bytes_by_table(bytes: Vec<u8>, table: &[u8], new: u32, old: u32) -> Samples
+    requires old { 1 ≤ old }
+    requires table { table.now ≡ map (nearest_sample new old) (range_with_len 0 (old + 1)) }
+    requires bytes { All (λ sample. sample ≤ old) bytes.items }
+    ensures { result ≡ map (nearest_sample new old) bytes.items }
+{
+    let mut bytes = bytes;
+    rescale_bytes_by_table(bytes.as_mut_slice(), table, new, old);
+    Samples::within(SampleVec::Bytes(bytes), new)
+}
+
 /// The samples, all within this maxval, as bytes where it is at most 255.
 ///
 /// # Errors
@@ -121,15 +133,39 @@ impl Rescaler {
                 held_at(alloc, new, words)
             }
             Table::Bytes(table) => {
-                let mut bytes = row.into_bytes(alloc)?;
-                rescale_bytes_by_table(bytes.as_mut_slice(), table.as_slice(), new, old);
-                Ok(Samples::within(SampleVec::Bytes(bytes), new))
+                let bytes = row.into_bytes(alloc)?;
+                Ok(bytes_by_table(bytes, table.as_slice(), new, old))
             }
             Table::Words(table) => {
                 let mut words = row.into_words(alloc)?;
                 rescale_by_table(words.as_mut_slice(), table.as_slice(), new, old);
                 held_at(alloc, new, words)
             }
+        }
+    }
+}
+
+impl Rescaler {
+    /// The samples of an image of this maxval, with the new one, changed in place.
+    ///
+    /// # Errors
+    ///
+    /// The samples themselves, where they aren't bytes that stay bytes, or there is no table of them.
+    fn rescale_in_place(&self, old: u32, samples: Samples) -> Result<Samples, Samples>
+        requires old { 1 ≤ old }
+        requires table { IsTable self.now.maxval old self.now.table }
+        requires range { All (λ sample. sample ≤ old) samples }
+        ensures rescaled { IfOk result (λ made. made ≡ map (nearest_sample self.now.maxval old) samples) }
+        ensures same { IfErr result (λ same. same ≡ samples) }
+    {
+        let Table::Bytes(table) = &self.table else {
+            return Err(samples);
+        };
+        match samples.into_vec() {
+            SampleVec::Bytes(bytes) => {
+                Ok(bytes_by_table(bytes, table.as_slice(), self.maxval, old))
+            }
+            held => Err(Samples::within(held, old)),
         }
     }
 }
@@ -163,6 +199,14 @@ impl RowTool for Rescaler {
         row: Samples,
     ) -> Result<Option<Samples>, ToolFault> {
         Ok(Some(self.rescale_row(alloc, shape.maxval, row)?))
+    }
+
+    fn rows(&self, shape: Shape, _y: u32, rows: Rows) -> Result<Rows, Rows> {
+        let (samples, count, row_length) = rows.into_parts();
+        match self.rescale_in_place(shape.maxval, samples) {
+            Ok(rescaled) => Ok(Rows::new(rescaled, count, row_length)),
+            Err(samples) => Err(Rows::new(samples, count, row_length)),
+        }
     }
 }
 

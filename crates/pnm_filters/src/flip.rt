@@ -15,7 +15,7 @@ ghost use Rattle.pnm_tools.specs.Tools.{TakesHead, result_head};
 use crate::head::head_within_limits;
 use crate::image_tool::ImageTool;
 use crate::row_tool::RowTool;
-use pnm_image::{Bits, Head, SampleVec, Samples, Shape};
+use pnm_image::{Bits, Head, Rows, SampleVec, Samples, Shape};
 use pnm_tools::{FlipWay, Tool, ToolFault, Turn};
 use std::alloc::{AllocError, Global};
 use std::marker::Model;
@@ -161,6 +161,15 @@ impl RowTool for RowFlipper {
         row: Samples,
     ) -> Result<Option<Samples>, ToolFault> {
         Ok(Some(turn_row(alloc, self.way.turn(), shape, row)?))
+    }
+
+    /// The rows as they are, where the way leaves columns in their places, too.
+    fn rows(&self, _shape: Shape, _y: u32, rows: Rows) -> Result<Rows, Rows> {
+        if self.way.turn().columns_reversed {
+            Err(rows)
+        } else {
+            Ok(rows)
+        }
     }
 }
 

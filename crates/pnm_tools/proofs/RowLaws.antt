@@ -1,5 +1,6 @@
 -- The rows that answer a row, tool by tool.
-use Rattle.std.proofs.Common.{◌≡◌, ℕ, zero, suc, ◌+◌, ◌<◌, ◌≤◌, List, [], ◌∷◌, ◌++◌, map, length, take, drop, get_or, All, refl, sym, ap, subst, ap₂, ◌∙◌, arith, ◌-◌}
+use Rattle.std.proofs.Common.{◌≡◌, ℕ, zero, suc, ◌+◌, ◌<◌, ◌≤◌, List, [], ◌∷◌, ◌++◌, map, length, take, drop, get_or, All}
+use Rattle.std.proofs.Common.{refl, sym, ap, subst, ap₂, ◌∙◌, arith, ◌-◌}
 use Rattle.std.specs.List.{range_with_len}
 use Rattle.std.proofs.lemmas.List.{take_at, length-map, length-take, take-map, drop-map, drop_more, get_or_at, map-id}
 use Rattle.std.proofs.lemmas.List.Elements.{All-get_or, All-map}

@@ -1,4 +1,4 @@
-use Rattle.std.proofs.Common.{rules, ◌≡◌, refl, ◌∙◌, arith}
+use Rattle.std.proofs.Common.{rules, refl, ◌∙◌, arith}
 use Rattle.pnm_tools.proofs.RowLaws.{inverted_in_place, inverted_within}
 use Rattle.pnm_filters.proofs.invert.invert_in_place.Goals as goal
 

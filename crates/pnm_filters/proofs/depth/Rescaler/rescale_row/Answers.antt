@@ -1,4 +1,4 @@
-use Rattle.std.proofs.Common.{◌≡◌, ◌∙◌, ℕ, List, subst}
+use Rattle.std.proofs.Common.{◌≡◌, ℕ, List, subst}
 use Rattle.std.specs.Result.{IfOk}
 use Rattle.pnm_tools.specs.Depth.{nearest_sample}
 use Rattle.pnm_tools.proofs.RowLaws.{changed_in_place}
@@ -11,14 +11,6 @@ held_at-requires c =
     let words = c.in_ok-words-in-Absent.words in
     let made = changed_in_place (nearest_sample new c.args.old) c.args.row words.items c.as_mut_slice.result.now c.rescale.new.samples words.len
     c.rescale.ensures c.as_mut_slice.ensures.value c.in_ok-words-in-Absent.ensures words.ok.0 in
-    rescaled_within new c.args.old c.args.row _ c.requires.old.0 made c.requires.range
-
-pub within-requires : goal.within-requires
-within-requires c =
-    let new : ℕ = c.args.self.now.maxval in
-    let bytes = c.in_ok-bytes-in-Bytes.bytes in
-    let made = changed_in_place (nearest_sample new c.args.old) c.args.row bytes.items c.as_mut_slice-in-Bytes.result.now c.rescale_bytes_by_table.new.bytes
-    bytes.len c.rescale_bytes_by_table.ensures c.as_mut_slice-in-Bytes.ensures.value c.in_ok-bytes-in-Bytes.ensures bytes.ok.0 in
     rescaled_within new c.args.old c.args.row _ c.requires.old.0 made c.requires.range
 
 pub held_at-requires-in-Words : goal.held_at-requires-in-Words
@@ -36,14 +28,6 @@ returns-in_ok-words-in-Absent c =
     let made = changed_in_place (nearest_sample new c.args.old) c.args.row words.items c.as_mut_slice.result.now c.rescale.new.samples words.len
     c.rescale.ensures c.as_mut_slice.ensures.value c.in_ok-words-in-Absent.ensures words.ok.0 in
     subst (λ (made : List ℕ). IfOk c.held_at.result (λ rescaled. rescaled ≡ made)) made c.held_at.ensures
-
-pub returns-in_ok-bytes-in-Bytes : goal.returns-in_ok-bytes-in-Bytes
-returns-in_ok-bytes-in-Bytes c =
-    let new : ℕ = c.args.self.now.maxval in
-    let bytes = c.in_ok-bytes-in-Bytes.bytes in
-    c.within.ensures
-    ∙ changed_in_place (nearest_sample new c.args.old) c.args.row bytes.items c.as_mut_slice-in-Bytes.result.now c.rescale_bytes_by_table.new.bytes
-    bytes.len c.rescale_bytes_by_table.ensures c.as_mut_slice-in-Bytes.ensures.value c.in_ok-bytes-in-Bytes.ensures bytes.ok.0
 
 pub returns-in_ok-words-in-Words : goal.returns-in_ok-words-in-Words
 returns-in_ok-words-in-Words c =

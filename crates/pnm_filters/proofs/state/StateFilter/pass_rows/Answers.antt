@@ -1,7 +1,7 @@
 use Rattle.std.proofs.Common.{sym}
 use Rattle.pnm_filters.specs.Pendings.{pending_of}
 use Rattle.pnm_filters.specs.States.{standing}
-use Rattle.pnm_filters.proofs.RowsLaws.{owes_nothing, no_fault_yet, passed_by, each_by, stands_by}
+use Rattle.pnm_filters.proofs.PassingSteps.{owes_nothing, no_fault_yet, passed_by, each_by, stands_by}
 use Rattle.pnm_filters.proofs.state.StateFilter.pass_rows.Goals as goal
 
 pub invariant_of-self : goal.invariant_of-self
