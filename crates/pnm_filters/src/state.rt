@@ -155,13 +155,15 @@ fn pass<T: ImageTool>(work: &mut T, place: &mut Place, rows: Rows) -> Result<Row
     let Place::Inside(shape, y) = *place else {
         return Err(rows);
     };
-    let count = rows.count();
     if !place.accepts_rows(&rows) {
         return Err(rows);
     }
-    prove!(y < shape.height);
+    let mut after = *place;
+    after.step_rows(&rows);
+    // No rows at all could come at any place.
+    prove!(rows.count() > 0);
     let made = work.rows(shape, y, rows)?;
-    *place = Place::Inside(shape, y + count);
+    *place = after;
     Ok(made)
 }
 
