@@ -25,4 +25,4 @@ mod transpose;
 
 pub use head::result_head;
 pub use row_state::{RowState, RowWise, row_filter_of, start_rows};
-pub use tool_state::{ToolState, filter_of, start_tool};
+pub use tool_state::{ToolState, filter_of, passes_rows, start_tool};

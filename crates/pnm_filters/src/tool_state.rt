@@ -66,6 +66,15 @@ fn flip(alloc: Global, way: FlipWay) -> AnyTool
     }
 }
 
+/// Whether the tool takes rows together, where it can: of each it makes one row by itself, in place.
+pub fn passes_rows(tool: &Tool) -> bool {
+    match tool {
+        Tool::Invert | Tool::Depth(_) | Tool::Flip(FlipWay::Null) => true,
+        Tool::Cut(_) | Tool::Channel(_) | Tool::Enlarge(_, _) | Tool::Flip(_) | Tool::Tile(_, _) =>
+            false,
+    }
+}
+
 /// The tool at work; one for which there is no memory has refused.
 pub fn filter_of(alloc: Global, tool: &Tool) -> FusedFilter<ToolState>
     requires { IsLawfulTool tool.now }

@@ -137,7 +137,13 @@ impl<'a, R: Wait, G: Gate> Task for Lane<'a, R, G> {
             ends,
         } = self;
         gate.arrive(number, lane);
-        run_filter(rt, alloc, row_filter_of(alloc, tool), ends.input, ends.output)
+        run_filter(
+            rt,
+            alloc,
+            row_filter_of(alloc, tool),
+            ends.input,
+            ends.output,
+        )
     }
 }
 

@@ -22,6 +22,7 @@ ghost use Rattle.pnm_flow.specs.Chains.{HasRunChain};
 ghost use Rattle.pnm_flow.specs.ThreadedRuns.{answer_over, fault_of_end, first_fault_from, HasRunOverThreads};
 
 use crate::chain::{ChainDone, run_chain_beside};
+use pnm_filters::passes_rows;
 use pnm_image::{BytesIn, BytesOut, Form};
 use pnm_read::{InputFault, Source};
 use pnm_serial::{Buffers, Collector, Feeder, RunFault, Summary, Turns};
@@ -71,7 +72,7 @@ pub fn run<H: Threads + Wait + Sync, R: BytesIn, W: BytesOut, G: Gate>(
         Err(fault) => return Err(RunFault::Input(fault)),
     };
     let source = Source::with_buffer(read, &mut *reader);
-    let feeder = Feeder::new(source, to_chain);
+    let feeder = Feeder::new(source, to_chain, joins_rows(tools, form, lanes));
     let collector = Collector::new(from_chain, write, &mut *writer, form);
     let both = beside_chain(
         rt, alloc, tools, capacity, lanes, gate, input, output, feeder, collector,
@@ -84,6 +85,12 @@ pub fn run<H: Threads + Wait + Sync, R: BytesIn, W: BytesOut, G: Gate>(
     let _ = &*read;
     let _ = &*written;
     answer
+}
+
+/// Whether short rows are sent together: each tool takes them so, over one lane, and they are written raw. Elsewhere each
+/// would have to be taken out again.
+fn joins_rows(tools: &[Tool], form: Form, lanes: usize) -> bool {
+    lanes == 1 && form == Form::Raw && tools.iter().all(passes_rows)
 }
 
 /// Runs the chain, and the caller's turns beside it, once each of its threads is started; none where one can't be.
