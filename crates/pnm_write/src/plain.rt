@@ -1,9 +1,10 @@
 //! The rows of plain images: their samples as words in lines.
 
-ghost use Rattle.std.specs.Prelude.{◌≡◌, ◌+◌, ◌<◌, ◌≤◌, All, ◌++◌, length, take, drop, OnOk, OnErr};
+ghost use Rattle.std.specs.Prelude.{◌≡◌, ◌+◌, ◌*◌, ◌<◌, ◌≤◌, All, ◌++◌, length, take, drop, OnOk, OnErr};
 ghost use Rattle.std.specs.Io.KnownBytes.{Appends};
 ghost use Rattle.pnm_image.specs.Devices.{FailsIn};
 ghost use Rattle.pnm_image.specs.declared.shape.Kind.{Kind};
+ghost use Rattle.pnm_samples.specs.Pixels.{all_pixels};
 ghost use Rattle.pnm_write.specs.PlainRows.{sample_text, plain_row_text};
 ghost use Rattle.pnm_write.specs.PlainParts.{column_after, word_in_line, text_of_part, column_after_part, sample_texts};
 ghost use Rattle.pnm_write.specs.PlainParts.{row_end};
@@ -11,7 +12,7 @@ ghost use Rattle.pnm_write.specs.PlainParts.{row_end};
 use crate::numerals::MAX_LINE_LENGTH;
 use crate::write_buffer::WriteBuffer;
 use itoa::Buffer;
-use pnm_image::{Bits, BytesOut, DeviceFailed, Kind, SampleSlice, Samples, Shape, write_all};
+use pnm_image::{BytesOut, DeviceFailed, Kind, SampleSlice, Samples, Shape, write_all};
 
 /// The most samples that are written at a time. Each has up to five digits, and a byte before it.
 const MOST_SAMPLES: usize = 680;
@@ -36,7 +37,12 @@ pub fn write_lines<W: BytesOut>(
     ensures same_device { W.same writer.old writer.new }
 {
     match (shape.kind, row.as_slice()) {
-        (Kind::Bit, SampleSlice::Bits(pixels)) => write_pixels(writer, buffer, pixels),
+        (Kind::Bit, SampleSlice::Bits(pixels)) => write_pixels(
+            writer,
+            buffer,
+            pixels.as_bytes(),
+            pixels.len(),
+        ),
         (Kind::Gray | Kind::Color | Kind::Pam, SampleSlice::Bytes(bytes)) => write_bytes(
             writer, buffer, bytes,
         ),
@@ -67,6 +73,12 @@ pub fn write_lines_from<W: BytesOut>(
     ensures same_device { W.same writer.old writer.new }
 {
     match (shape.kind, samples.as_slice()) {
+        (Kind::Bit, SampleSlice::Bits(pixels)) if start % 8 == 0 => write_pixels(
+            writer,
+            buffer,
+            &pixels.as_bytes()[start / 8..],
+            count,
+        ),
         (Kind::Gray | Kind::Color | Kind::Pam, SampleSlice::Bytes(bytes)) => write_bytes(
             writer,
             buffer,
@@ -81,29 +93,31 @@ pub fn write_lines_from<W: BytesOut>(
     }
 }
 
-/// Writes pixels, whole bytes and whole lines of them at a time.
+/// Writes so many pixels, the first of these bytes: whole bytes and whole lines of them at a time.
 fn write_pixels<W: BytesOut>(
     writer: &mut W,
     buffer: &mut WriteBuffer,
-    pixels: &Bits,
+    bytes: &[u8],
+    count: usize,
 ) -> Result<(), DeviceFailed>
-    ensures written { OnOk result
-        (Appends (W.held writer.old) (W.held writer.new) (plain_row_text Kind.Bit pixels.now)) }
+    requires { count ≤ 8 * length bytes.now }
+    ensures written { OnOk result (Appends (W.held writer.old) (W.held writer.new)
+        (plain_row_text Kind.Bit (take count (all_pixels bytes.now)))) }
     ensures failed { OnErr result
-        (FailsIn (plain_row_text Kind.Bit pixels.now) (W.held writer.old) (W.held writer.new)
-        (W.failures writer.old) (W.failures writer.new)) }
+        (FailsIn (plain_row_text Kind.Bit (take count (all_pixels bytes.now)))
+        (W.held writer.old) (W.held writer.new) (W.failures writer.old) (W.failures writer.new)) }
     ensures count { OnOk result (W.failures writer.new ≡ W.failures writer.old) }
     ensures same_device { W.same writer.old writer.new }
 {
-    let mut rest = pixels.as_bytes();
-    let mut left = pixels.len();
+    let mut rest = bytes;
+    let mut left = count;
     while left > 0 {
-        let count = left.min(MOST_PIXELS);
-        let (part, after) = rest.split_at((count + 7) / 8);
-        buffer.set_pixels(part, count);
+        let size = left.min(MOST_PIXELS);
+        let (part, after) = rest.split_at((size + 7) / 8);
+        buffer.set_pixels(part, size);
         write_all(writer, buffer.as_slice())?;
         rest = after;
-        left -= count;
+        left -= size;
     }
     Ok(())
 }
