@@ -14,7 +14,8 @@ returns-in_err-write_all-clause-failed g c =
     ∙ ap (λ (l : List ℕ). l ++ rest) (sym (c.as_slice.ensures ∙ c.set_pixels.ensures)) in
     at_any_error c.from_residual.result
     (sending_part_failed g.W.BytesOut.held g.W.BytesOut.failures g.W.BytesOut.same c.args.writer.now c.loop-left.writer c.write_all.new.writer
-    (plain_row_text Bit (take c.args.count (all_pixels c.args.bytes.now))) (plain_row_text Bit (take c.loop-left.left (all_pixels c.loop-left.rest.now))) c.as_slice.result.now
+    (plain_row_text Bit (take c.args.count (all_pixels c.args.bytes.now)))
+    (plain_row_text Bit (take c.loop-left.left (all_pixels c.loop-left.rest.now))) c.as_slice.result.now
     rest split c.loop-left.invariant.sending c.in_err-write_all.ensures.failed)
 
 pub loop-left-preserved : goal.loop-left-preserved
@@ -25,7 +26,8 @@ loop-left-preserved g c =
     ∙ ap (λ (l : List ℕ). l ++ rest) (sym (c.as_slice.ensures ∙ c.set_pixels.ensures)) in
     record {
       sending = sending_part g.W.BytesOut.held g.W.BytesOut.failures g.W.BytesOut.same c.args.writer.now c.loop-left.writer c.write_all.new.writer
-          (plain_row_text Bit (take c.args.count (all_pixels c.args.bytes.now))) (plain_row_text Bit (take c.loop-left.left (all_pixels c.loop-left.rest.now))) c.as_slice.result.now
+          (plain_row_text Bit (take c.args.count (all_pixels c.args.bytes.now)))
+          (plain_row_text Bit (take c.loop-left.left (all_pixels c.loop-left.rest.now))) c.as_slice.result.now
           rest split c.loop-left.invariant.sending c.in_ok-write_all.ensures.written c.in_ok-write_all.ensures.count
           (g.met.W.BytesOut.same_later _ _ _ c.loop-left.invariant.sending.same_device c.in_ok-write_all.ensures.same_device);
       enough = omega arith;
