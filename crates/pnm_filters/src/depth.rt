@@ -143,9 +143,7 @@ impl Rescaler {
             }
         }
     }
-}
 
-impl Rescaler {
     /// The samples of an image of this maxval, with the new one, changed in place.
     ///
     /// # Errors

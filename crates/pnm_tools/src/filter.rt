@@ -1,8 +1,7 @@
 //! What a tool is to those who run it: a filter of messages.
 
 ghost use Rattle.std.specs.Prelude.{◌≡◌, ℕ, ◌<◌, List, [], ◌∷◌, ◌++◌, Bool, true, false, Option, Some, None, OnOk};
-ghost use Rattle.std.specs.Prelude.{length};
-ghost use Rattle.std.specs.Prelude.{IfOk, IfErr, IfSome, IfNone, Err};
+ghost use Rattle.std.specs.Prelude.{IfOk, IfErr, IfSome, IfNone, Err, length};
 ghost use Rattle.pnm_image.specs.declared.message.Message.{Message as MessageValue};
 ghost use Rattle.pnm_image.specs.declared.message.Message.TheVariants.{Stop};
 ghost use Rattle.pnm_tools.specs.declared.fault.ToolFault.{ToolFault as Fault};
@@ -27,7 +26,7 @@ pub trait Filter {
     ghost at: { Self → ToolValue → List MessageValue → List MessageValue → Type 0 };
 
     /// `next` has answered `None`, or `gave_all` true, since the last message that was accepted, or
-    /// none was accepted.
+    /// none was accepted, or the last that were are rows that were passed.
     ghost all_given: { Self → Bool };
 
     /// The fault that there was, if any.

@@ -88,6 +88,7 @@ impl<F: Filter + Drop> FusedFilter<F> {
             FusedFilter::Refused(_) => true,
         }
     }
+
     /// Passes the tool rows of an image that come next, all at once: each is answered by the row that stands in its
     /// place, and the tool has given all then.
     ///
