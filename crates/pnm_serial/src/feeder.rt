@@ -165,9 +165,9 @@ impl<R: BytesIn + Drop> Feeder<R> {
         match self.source.next_rows(spares) {
             Ok(Some(rows)) => self.output.send_rows_reserved(rows),
             Ok(None) => return false,
-            Err(fault) => {
-                self.output.send_reserved(Message::Stop);
-                self.input = Some(Err(fault));
+            Err(refusal) => {
+                self.input = Some(Err(refusal));
+                self.output.send_reserved(Message::Stop)
             }
         }
         true

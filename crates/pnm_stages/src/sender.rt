@@ -157,11 +157,11 @@ impl Sender {
         ensures given { IsTrue result → sent self.new ≡ sent self.old ++ row_messages rows }
         ensures gone { IsFalse result → sent self.new ≡ sent self.old }
     {
-        if self.has_room() || self.wait_for_room(rt, backoff) {
-            self.send_rows_reserved(rows);
-            return true;
+        if !self.has_room() && !self.wait_for_room(rt, backoff) {
+            return false;
         }
-        false
+        self.send_rows_reserved(rows);
+        true
     }
 
     /// Waits until there is room; false where there is none and the receiving end was seen dropped. It stands apart

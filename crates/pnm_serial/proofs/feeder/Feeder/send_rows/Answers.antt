@@ -9,6 +9,6 @@ returns-in-Ok-Some-clause-feeding g c joined first before =
 
 pub returns-in-Err-clause-feeding : goal.returns-in-Err-clause-feeding
 returns-in-Err-clause-feeding g c joined first before =
-    feeds_until_rows g.R.BytesIn.left g.R.BytesIn.failures first before c.args.self.now c.next_rows.new.self c.in-Err.fault c.send_reserved.new.self
+    feeds_until_rows g.R.BytesIn.left g.R.BytesIn.failures first before c.args.self.now c.next_rows.new.self c.in-Err.refusal c.send_reserved.new.self
     c.requires.going c.send_reserved.ensures.sent c.in-Err.ensures.refused.0 c.in-Err.ensures.refused.1 c.next_rows.ensures.reader
     c.next_rows.ensures.comes
