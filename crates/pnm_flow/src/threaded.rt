@@ -87,8 +87,8 @@ pub fn run<H: Threads + Wait + Sync, R: BytesIn, W: BytesOut, G: Gate>(
     answer
 }
 
-/// Whether short rows are sent together: each tool takes them so, over one lane, and they are written raw. Elsewhere each
-/// would have to be taken out again.
+/// Whether short rows are sent together: each tool takes them so, over one lane, and they are written raw. Elsewhere
+/// each would have to be taken out again.
 fn joins_rows(tools: &[Tool], form: Form, lanes: usize) -> bool {
     lanes == 1 && form == Form::Raw && tools.iter().all(passes_rows)
 }

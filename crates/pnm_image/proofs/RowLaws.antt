@@ -1,5 +1,6 @@
 -- Rows: samples cut into rows, and rows joined into samples.
-use Rattle.std.proofs.Common.{◌≡◌, ℕ, zero, suc, ◌*◌, ◌+◌, ◌≤◌, ◌<◌, List, [], ◌∷◌, ◌++◌, length, take, drop, All, refl, sym, ap, subst, ◌∙◌, arith, zero-mul, suc-mul}
+use Rattle.std.proofs.Common.{◌≡◌, ℕ, zero, suc, ◌*◌, ◌+◌, ◌≤◌, ◌<◌, List, [], ◌∷◌, ◌++◌}
+use Rattle.std.proofs.Common.{length, take, drop, All, refl, sym, ap, subst, ◌∙◌, arith, zero-mul, suc-mul}
 use Rattle.std.proofs.Math.Nat.{mul-le-mul_right}
 use Rattle.std.specs.List.{AllByRecursion, concat}
 use Rattle.std.proofs.lemmas.List.{take_at, drop_at, drop-drop, take-append-drop, length-take, length-drop, length-append, nil_from_length}
@@ -27,7 +28,8 @@ concat-cut_rows (suc count) each samples h =
     rw (concat-cut_rows count each (drop each samples) rest) (take-append-drop each samples)
 
 -- rows that are cut have the length that they are cut to
-pub lengths_of_cut_rows : (count each : ℕ) (samples : List ℕ) → length samples ≡ count * each → AllByRecursion (λ row. length row ≡ each) (cut_rows count each samples)
+pub lengths_of_cut_rows : (count each : ℕ) (samples : List ℕ) → length samples ≡ count * each
+    → AllByRecursion (λ row. length row ≡ each) (cut_rows count each samples)
 lengths_of_cut_rows zero each samples h = tt
 lengths_of_cut_rows (suc count) each samples h =
     let first : length (take each samples) ≡ each = omega (arith, length-take each samples, suc-mul count each) in
@@ -95,7 +97,8 @@ pub AreRowsOf-rows_of : (i : Image) → IsImage i → AreRowsOf i.head.shape (ro
 AreRowsOf-rows_of i h = AreRowsOf-cut_rows i.head.shape i.head.shape.height i.samples h.count h.range
 
 -- rows of a shape's row length are rows of it where no sample of them is above its maxval
-are_rows : (s : Shape) (rows : List (List ℕ)) → AllByRecursion (λ row. length row ≡ row_length s) rows → All (λ sample. sample ≤ s.maxval) (concat rows) → AreRowsOf s rows
+are_rows : (s : Shape) (rows : List (List ℕ)) → AllByRecursion (λ row. length row ≡ row_length s) rows
+    → All (λ sample. sample ≤ s.maxval) (concat rows) → AreRowsOf s rows
 are_rows s [] long range = tt
 are_rows s (row ∷ rows) long range =
     let P : ℕ → Type 0 = λ sample. sample ≤ s.maxval in (
@@ -110,7 +113,8 @@ are_rows s (row ∷ rows) long range =
 pub known_rows : (s : Shape) (each : ℕ) (rows : List (List ℕ)) → All (λ row. length row ≡ each) rows → each ≡ row_length s
     → All (λ sample. sample ≤ s.maxval) (concat rows) → AreRowsOf s rows
 known_rows s each rows long same range =
-    are_rows s rows (subst (λ (n : ℕ). AllByRecursion (λ (row : List ℕ). length row ≡ n) rows) same (recursion_from_All (λ (row : List ℕ). length row ≡ each) rows long)) range
+    let lengths = recursion_from_All (λ (row : List ℕ). length row ≡ each) rows long in
+    are_rows s rows (subst (λ (n : ℕ). AllByRecursion (λ (row : List ℕ). length row ≡ n) rows) same lengths) range
 
 -- and no other rows
 pub rows_need : (s : Shape) (each : ℕ) (rows : List (List ℕ)) → 1 ≤ length rows → All (λ row. length row ≡ each) rows → AreRowsOf s rows
@@ -127,7 +131,8 @@ row_at_cut (suc count) each zero samples below =
 row_at_cut (suc count) each (suc at) samples below =
     let later : List (List ℕ) = cut_rows count each (drop each samples) in
     let place : each + at * each ≡ suc at * each = omega (arith, suc-mul at each) in
-    let start : drop (at * each) (drop each samples) ≡ drop (suc at * each) samples = drop-drop (at * each) each samples ∙ ap (λ (n : ℕ). drop n samples) place in
+    let start : drop (at * each) (drop each samples) ≡ drop (suc at * each) samples =
+    drop-drop (at * each) each samples ∙ ap (λ (n : ℕ). drop n samples) place in
     ap (λ (rows : List (List ℕ)). take each samples ∷ rows) (row_at_cut count each at (drop each samples) (omega (arith, below)))
     ∙ ap (λ (row : List ℕ). take each samples ∷ (take at later ++ take each row ∷ drop (suc at) later)) start
 

@@ -9,7 +9,8 @@ use std::alloc::{AllocError, Global};
 use std::marker::Model;
 
 /// Rows of one image that follow one another, at least one, held as one long row: each with as many samples as the
-/// others, and none between them. So one message stands for several rows, and a loop over samples goes over all of them.
+/// others, and none between them. So one message stands for several rows, and a loop over samples goes over all of
+/// them.
 #[derive(Debug, Drop)]
 pub struct Rows {
     samples: Samples,

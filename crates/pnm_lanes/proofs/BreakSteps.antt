@@ -310,5 +310,6 @@ cut_here place received_old received_now received_new olds nows dealing same =
       ends = dealing.ends;
       is = record { rest = []; parts = sym (append-nil took); lawful = dealing.lawful };
       may = for_reason PeerGone true (length olds) took took (inr refl);
-      lanes = each-map (HasAll (length olds) took) (HasPrefix true (length olds) took) 0 olds nows (all_is_prefix (length olds) took dealing.ends) dealing.lanes;
+      lanes = each-map (HasAll (length olds) took) (HasPrefix true (length olds) took) 0 olds nows (all_is_prefix
+          (length olds) took dealing.ends) dealing.lanes;
     }

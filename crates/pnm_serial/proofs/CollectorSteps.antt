@@ -80,7 +80,8 @@ first_is m n k l same = ap (first_or m) same
 -- ---- rows that came together
 
 -- rows end nothing, and are written
-pub collects_rows : {W : Type 0} (held : W → Option (List ℕ)) (failures : W → ℕ) (form : Form) (start : W) (l : List Message) (rows : List (List ℕ)) (ended : Bool)
+pub collects_rows : {W : Type 0} (held : W → Option (List ℕ)) (failures : W
+    → ℕ) (form : Form) (start : W) (l : List Message) (rows : List (List ℕ)) (ended : Bool)
     (old new : Downstream W) → ended ≡ false
     → ((form : Form) (start : W) (messages : List Message) → HasTaken held failures form start messages old
     → HasTaken held failures form start (messages ++ row_messages rows) new)

@@ -95,9 +95,9 @@ impl<R: BytesIn + Drop> Feeder<R> {
         self.output.wait(rt, backoff);
     }
 
-    /// Asks the source for its next message, or for rows, and sends that, where there is room for it in the ring; and so
-    /// on, while there is and the source holds the next one, for as many as a turn sends. Short rows are made of spare ones.
-    /// False where there is no room for the first.
+    /// Asks the source for its next message, or for rows, and sends that, where there is room for it in the ring; and
+    /// so on, while there is and the source holds the next one, for as many as a turn sends. Short rows are made of
+    /// spare ones. False where there is no room for the first.
     pub fn turn(&mut self, spares: &mut SpareRows) -> bool
         requires going { feeder_is_over self.old ≡ false }
         ensures feeding { (first : Source R) (before : List MessageValue)

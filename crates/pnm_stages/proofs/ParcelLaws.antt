@@ -30,7 +30,8 @@ none_known (parcel ∷ parcels) count same none = let no : ⊥ = grind (arith, s
 -- one parcel more
 pub one_more : (parcels : List Parcel) (parcel : Parcel) → messages_of (parcels ++ parcel ∷ []) ≡ messages_of parcels ++ messages_in parcel
 unfolding messages_of
-one_more parcels parcel = flat_map-append messages_in parcels (parcel ∷ []) ∙ ap (λ (l : List Message). messages_of parcels ++ l) (append-nil (messages_in parcel))
+one_more parcels parcel = flat_map-append messages_in parcels (parcel ∷ [])
+    ∙ ap (λ (l : List Message). messages_of parcels ++ l) (append-nil (messages_in parcel))
 
 -- those of two lists
 pub of_both : (a b : List Parcel) → messages_of (a ++ b) ≡ messages_of a ++ messages_of b

@@ -28,7 +28,8 @@ part_of_more tool l g more part = record {
 }
 
 -- nothing was passed
-pub passes_none : {F : Type 0} (at : F → Tool → List Message → List Message → Type 0) (all_given : F → Bool) (stopped : F → Option ToolFault) (stage : FusedFilter F)
+pub passes_none : {F : Type 0} (at : F → Tool → List Message → List Message → Type 0) (all_given : F → Bool) (stopped : F
+    → Option ToolFault) (stage : FusedFilter F)
     (s : List Message) → HasPassed at all_given stopped true stage stage [] s s
 passes_none at all_given stopped stage s = record {
   more = [];
@@ -90,8 +91,10 @@ passes_more at all_given stopped all old now new first second s s1 s2 goes befor
 }
 
 -- the rest was lost, since the other end is gone
-pub loses_rest : {F : Type 0} (at : F → Tool → List Message → List Message → Type 0) (all_given : F → Bool) (stopped : F → Option ToolFault) (old new : FusedFilter F)
-    (passed rest s s1 : List Message) → HasPassed at all_given stopped false old new passed s s1 → HasPassed at all_given stopped false old new (passed ++ rest) s s1
+pub loses_rest : {F : Type 0} (at : F → Tool → List Message → List Message → Type 0) (all_given : F → Bool) (stopped : F
+    → Option ToolFault) (old new : FusedFilter F)
+    (passed rest s s1 : List Message) → HasPassed at all_given stopped false old new passed s s1
+    → HasPassed at all_given stopped false old new (passed ++ rest) s s1
 loses_rest at all_given stopped old new passed rest s s1 has = record {
   more = has.more;
   added = has.added;
@@ -102,9 +105,11 @@ loses_rest at all_given stopped old new passed rest s s1 has = record {
 }
 
 -- the tool refused, and the rest was dropped
-pub drops_rest : {F : Type 0} (at : F → Tool → List Message → List Message → Type 0) (all_given : F → Bool) (stopped : F → Option ToolFault) (old now new : FusedFilter F)
+pub drops_rest : {F : Type 0} (at : F → Tool → List Message → List Message → Type 0) (all_given : F → Bool) (stopped : F
+    → Option ToolFault) (old now new : FusedFilter F)
     (passed rest s s1 : List Message) → EndsBy More passed → HasPassed at all_given stopped true old now passed s s1
-    → ((tool : Tool) (l g more : List Message) → FilterAt at all_given stopped now tool l g → EndsBy More l → FilterAt at all_given stopped new tool (l ++ more) g)
+    → ((tool : Tool) (l g more : List Message) → FilterAt at all_given stopped now tool l g → EndsBy More l
+    → FilterAt at all_given stopped new tool (l ++ more) g)
     → HasPassed at all_given stopped true old new (passed ++ rest) s s1
 drops_rest at all_given stopped old now new passed rest s s1 goes has drops =
     let full : (tool : Tool) (l g : List Message) → EndsBy More l → FilterAt at all_given stopped old tool l g
@@ -144,7 +149,8 @@ passes_row at all_given stopped all old now new index rows row s s1 s2 below par
     (passes_more at all_given stopped all old now new (row_messages (take index rows)) (Row row ∷ []) s s1 s2 (rows_end_nothing (take index rows)) before after)
 
 -- the rows behind were lost, since the other end is gone
-pub loses_rows : {F : Type 0} (at : F → Tool → List Message → List Message → Type 0) (all_given : F → Bool) (stopped : F → Option ToolFault) (old new : FusedFilter F)
+pub loses_rows : {F : Type 0} (at : F → Tool → List Message → List Message → Type 0) (all_given : F → Bool) (stopped : F
+    → Option ToolFault) (old new : FusedFilter F)
     (index : ℕ) (rows : List (List ℕ)) (s s1 : List Message) → HasPassed at all_given stopped false old new (row_messages (take index rows)) s s1
     → HasPassed at all_given stopped false old new (row_messages rows) s s1
 loses_rows at all_given stopped old new index rows s s1 has =
@@ -152,9 +158,11 @@ loses_rows at all_given stopped old new index rows s s1 has =
     (loses_rest at all_given stopped old new (row_messages (take index rows)) (row_messages (drop index rows)) s s1 has)
 
 -- the rows behind were dropped, since the tool refused
-pub drops_rows : {F : Type 0} (at : F → Tool → List Message → List Message → Type 0) (all_given : F → Bool) (stopped : F → Option ToolFault) (old now new : FusedFilter F)
+pub drops_rows : {F : Type 0} (at : F → Tool → List Message → List Message → Type 0) (all_given : F → Bool) (stopped : F
+    → Option ToolFault) (old now new : FusedFilter F)
     (index : ℕ) (rows : List (List ℕ)) (s s1 : List Message) → HasPassed at all_given stopped true old now (row_messages (take index rows)) s s1
-    → ((tool : Tool) (l g more : List Message) → FilterAt at all_given stopped now tool l g → EndsBy More l → FilterAt at all_given stopped new tool (l ++ more) g)
+    → ((tool : Tool) (l g more : List Message) → FilterAt at all_given stopped now tool l g → EndsBy More l
+    → FilterAt at all_given stopped new tool (l ++ more) g)
     → HasPassed at all_given stopped true old new (row_messages rows) s s1
 drops_rows at all_given stopped old now new index rows s s1 has drops =
     subst (λ (l : List Message). HasPassed at all_given stopped true old new l s s1) (sym (rows_from index rows))

@@ -92,7 +92,8 @@ still_sent {at = at} {all_given = all_given} {stopped = stopped} {e = e} {first 
 
 -- ---- the other end was seen dropped
 
-pub part_at : {F : Type 0} (at : F → Tool → List Message → List Message → Type 0) (all_given : F → Bool) (stopped : F → Option ToolFault) (stage : FusedFilter F)
+pub part_at : {F : Type 0} (at : F → Tool → List Message → List Message → Type 0) (all_given : F → Bool) (stopped : F
+    → Option ToolFault) (stage : FusedFilter F)
     (tool : Tool) (l g : List Message) → FilterAt at all_given stopped stage tool l g → HasAnsweredPart tool l g
 part_at at all_given stopped (AtWork filter) tool l g idle = record { accepted = l; rest = []; parts = sym (append-nil l); answers = idle.full.answers }
 part_at at all_given stopped (Refused fault) tool l g has = record { accepted = has.accepted; rest = has.rest; parts = has.parts; answers = has.answers }

@@ -38,7 +38,8 @@ pub record HasPassed {F : Type 0} (at : F → Tool → List Message → List Mes
     : Type 0 where
   pub more : List Message
   pub added : sent_new ≡ sent_old ++ more
-  pub full : all ≡ true → (tool : Tool) (l g : List Message) → EndsBy More l → FilterAt at all_given stopped old tool l g
+  pub full : all ≡ true → (tool : Tool) (l g : List Message) → EndsBy More l
+      → FilterAt at all_given stopped old tool l g
       → FilterAt at all_given stopped new tool (l ++ passed) (g ++ more)
   pub part : (tool : Tool) (l g : List Message) → EndsBy More l → FilterAt at all_given stopped old tool l g
       → HasAnsweredPart tool (l ++ passed) (g ++ more)

@@ -132,8 +132,8 @@ impl Receiver {
         None
     }
 
-    /// The next message, once there is one. None where rows that were sent together come next, which stay there; and once
-    /// the ring is empty and its other end was seen dropped.
+    /// The next message, once there is one. None where rows that were sent together come next, which stay there; and
+    /// once the ring is empty and its other end was seen dropped.
     pub fn receive_message<R: Wait>(&mut self, rt: &R, backoff: &mut Backoff) -> Option<Message>
         ensures ring { SameReceiver self.old self.new }
         ensures taken { IfSome result (λ m. received self.new ≡ received self.old ++ m ∷ []) }

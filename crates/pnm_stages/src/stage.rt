@@ -162,8 +162,8 @@ fn wait<R: Wait>(rt: &R, input: &mut Receiver, output: &mut Sender, backoff: &mu
     input.has_message() || input.wait_for_message(rt, backoff)
 }
 
-/// Passes a parcel through the tool, and sends what that makes of it; false where the output's other end was seen dropped
-/// before.
+/// Passes a parcel through the tool, and sends what that makes of it; false where the output's other end was seen
+/// dropped before.
 #[inline(always)]
 fn pass<R: Wait, F: Filter + Drop>(
     rt: &R,
@@ -186,8 +186,8 @@ fn pass<R: Wait, F: Filter + Drop>(
     }
 }
 
-/// Passes rows that came together through the tool, together if it takes them so; false where the output's other end was
-/// seen dropped before.
+/// Passes rows that came together through the tool, together if it takes them so; false where the output's other end
+/// was seen dropped before.
 fn pass_rows<R: Wait, F: Filter + Drop>(
     rt: &R,
     alloc: Global,

@@ -10,5 +10,6 @@ returns-then-row_length c =
     let within : List ℕ → Type 0 = All (λ (sample : ℕ). sample ≤ s.maxval) in
     let same : c.row_length.result ≡ row_length s = c.if-row_length.true ∙ c.row_length-2.ensures in (
       λ yes. known_rows s c.row_length.result rows c.row_length.ensures.each same (subst within c.samples.ensures (c.are_within.ensures.0 yes)),
-      λ are. c.are_within.ensures.1 (subst within (sym c.samples.ensures) (rows_need s c.row_length.result rows c.row_length.ensures.some c.row_length.ensures.each are).1),
+      λ are. c.are_within.ensures.1 (subst within (sym c.samples.ensures)
+          (rows_need s c.row_length.result rows c.row_length.ensures.some c.row_length.ensures.each are).1),
     )

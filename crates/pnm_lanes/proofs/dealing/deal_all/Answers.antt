@@ -34,8 +34,10 @@ returns-then-not-accepts-clause-dealt g c =
     let dealing = c.loop.invariant.2 in
     let refused : Accepts c.loop.place m → ⊥ = λ a. let yes : c.accepts.result ≡ true = c.accepts.ensures.1 a in let no : c.accepts.result ≡ false =
     c.if-not-accepts.true in absurd cc in
-    breaks_off (Fault OutOfOrder) c.break_off-then-not-accepts.result c.ending-ending.result (ending_of m) (received c.args.input.now) (received c.receive_message.new.self)
-    (received c.break_off-then-not-accepts.new.input) (known_items c.break_off-then-not-accepts.new.input) c.args.outputs.now c.loop.outputs c.break_off-then-not-accepts.new.outputs
+    breaks_off (Fault OutOfOrder) c.break_off-then-not-accepts.result c.ending-ending.result (ending_of m) (received c.args.input.now)
+    (received c.receive_message.new.self)
+    (received c.break_off-then-not-accepts.new.input)
+    (known_items c.break_off-then-not-accepts.new.input) c.args.outputs.now c.loop.outputs c.break_off-then-not-accepts.new.outputs
     (cut_at c.loop.place (received c.args.input.now) (received c.loop.input) (received c.receive_message.new.self) c.args.outputs.now c.loop.outputs m dealing
     c.in-Some-receive_message.ensures.taken c.in-Some-receive_message.ensures.message refused)
     c.ending-ending.ensures c.break_off-then-not-accepts.ensures.broken
@@ -59,7 +61,8 @@ pub returns-in-Whole : goal.returns-in-Whole
 returns-in-Whole g c =
     let m = c.in-Some-receive_message.message in record {
       input = same_input c.args.input.now c.loop.input c.receive_message.new.self c.loop.invariant.0 c.receive_message.ensures.ring;
-      dealt = ends_gone c.loop.place (received c.args.input.now) (received c.loop.input) (received c.receive_message.new.self) (known_items c.receive_message.new.self)
+      dealt = ends_gone c.loop.place (received c.args.input.now) (received c.loop.input) (received c.receive_message.new.self)
+          (known_items c.receive_message.new.self)
           c.args.outputs.now c.loop.outputs c.send_parts.new.outputs m c.send_parts.result
           c.loop.invariant.2 c.in-Some-receive_message.ensures.taken c.in-Some-receive_message.ensures.message (c.accepts.ensures.0 c.if-not-accepts.false)
           (says_end c.ending-ending.result m c.ending-ending.ensures c.in-Whole.is) c.send_parts.ensures;
@@ -70,9 +73,11 @@ loop-preserved g c =
     let m = c.in-Some-receive_message.message in (
       same_input c.args.input.now c.loop.input c.receive_message.new.self c.loop.invariant.0 c.receive_message.ensures.ring,
       subst IsLaneCount (sym c.send_parts.auto.outputs) c.loop.invariant.1,
-      subst (λ (place : Place). IsDealing More place (received c.args.input.now) (received c.receive_message.new.self) c.args.outputs.now c.send_parts.new.outputs)
+      subst (λ (place : Place). IsDealing More place (received c.args.input.now)
+          (received c.receive_message.new.self) c.args.outputs.now c.send_parts.new.outputs)
           (sym c.step.ensures)
-          (deals_on More c.loop.place (received c.args.input.now) (received c.loop.input) (received c.receive_message.new.self) c.args.outputs.now c.loop.outputs
+          (deals_on More c.loop.place (received c.args.input.now) (received c.loop.input)
+          (received c.receive_message.new.self) c.args.outputs.now c.loop.outputs
           c.send_parts.new.outputs m c.send_parts.result c.loop.invariant.2
           c.in-Some-receive_message.ensures.taken c.in-Some-receive_message.ensures.message (c.accepts.ensures.0 c.if-not-accepts.false)
           (sym c.ending-ending.ensures ∙ c.in-More-ending.is) c.send_parts.ensures c.in_default-send_parts.is),
@@ -81,7 +86,8 @@ loop-preserved g c =
 pub returns-in-Whole-ending-clause-dealt : goal.returns-in-Whole-ending-clause-dealt
 returns-in-Whole-ending-clause-dealt g c =
     let m = c.in-Some-receive_message.message in
-    ends_whole (place_after c.loop.place m) (received c.args.input.now) (received c.receive_message.new.self) (known_items c.receive_message.new.self) c.args.outputs.now
+    ends_whole (place_after c.loop.place m) (received c.args.input.now) (received c.receive_message.new.self)
+    (known_items c.receive_message.new.self) c.args.outputs.now
     c.send_parts.new.outputs
     (deals_on Whole c.loop.place (received c.args.input.now) (received c.loop.input) (received c.receive_message.new.self) c.args.outputs.now c.loop.outputs
     c.send_parts.new.outputs m c.send_parts.result c.loop.invariant.2
@@ -91,7 +97,8 @@ returns-in-Whole-ending-clause-dealt g c =
 pub returns-in-BrokenOff-clause-dealt : goal.returns-in-BrokenOff-clause-dealt
 returns-in-BrokenOff-clause-dealt g c =
     let m = c.in-Some-receive_message.message in
-    ends_broken (place_after c.loop.place m) (received c.args.input.now) (received c.receive_message.new.self) (known_items c.receive_message.new.self) c.args.outputs.now
+    ends_broken (place_after c.loop.place m) (received c.args.input.now) (received c.receive_message.new.self)
+    (known_items c.receive_message.new.self) c.args.outputs.now
     c.send_parts.new.outputs
     (deals_on BrokenOff c.loop.place (received c.args.input.now) (received c.loop.input) (received c.receive_message.new.self) c.args.outputs.now c.loop.outputs
     c.send_parts.new.outputs m c.send_parts.result c.loop.invariant.2

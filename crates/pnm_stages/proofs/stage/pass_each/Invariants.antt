@@ -8,4 +8,5 @@ use Rattle.pnm_stages.proofs.stage.pass_each.Given as goal
 abbrev pub invariant-loop-at : goal.invariant-loop-at
 invariant-loop-at g l =
     SameSender l.fn.output l.output
-    × HasPassed g.F.Filter.at g.F.Filter.all_given g.F.Filter.stopped true l.fn.stage l.stage (row_messages (take l.at l.fn.rows)) (sent l.fn.output) (sent l.output)
+    × HasPassed g.F.Filter.at g.F.Filter.all_given g.F.Filter.stopped true l.fn.stage l.stage (row_messages (take l.at l.fn.rows)) (sent l.fn.output)
+    (sent l.output)

@@ -8,7 +8,8 @@ use Rattle.pnm_serial.proofs.collector.Collector.receive_rest.Goals as goal
 pub loop-self-preserved : goal.loop-self-preserved
 loop-self-preserved g c =
     let added = c.receive_known-parcel.ensures.received in (
-      λ form start before was. collects_some g.W.BytesOut.held g.W.BytesOut.failures form start before (messages_in c.receive_known-parcel.result) c.loop-self.self
+      λ form start before was. collects_some g.W.BytesOut.held g.W.BytesOut.failures form start before
+          (messages_in c.receive_known-parcel.result) c.loop-self.self
           _ added (λ l put. c.put.ensures.put form start l (record { ended = put.ended; taken = put.taken })) (c.loop-self.invariant.0 form start before was),
       still_all (received c.loop-self.self.input) (received c.receive_known-parcel.new.self) (known_items c.loop-self.self.input)
           (known_items c.receive_known-parcel.new.self) (sent c.look_beside.new.sender) (messages_in c.receive_known-parcel.result)
