@@ -43,6 +43,7 @@ impl SpareRows {
     }
 
     /// Keeps the row's memory, where it serves for a row like the one that was asked for last, and otherwise drops it.
+    #[inline(always)]
     pub fn keep(&mut self, row: Samples) {
         match row.into_vec() {
             SampleVec::Bits(bits) => self.keep_bytes(bits.into_bytes()),
@@ -65,6 +66,7 @@ impl SpareRows {
     /// # Errors
     ///
     /// Where there is no memory for them.
+    #[inline(always)]
     pub fn copy_of(&mut self, alloc: Global, bytes: &[u8]) -> Result<Vec<u8>, AllocError>
         ensures { IfOk result (λ row. row.items ≡ bytes.now) }
     {

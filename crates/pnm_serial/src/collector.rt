@@ -130,6 +130,7 @@ impl<W: BytesOut + Drop> Collector<W> {
 }
 
 /// Writes the message or the rows, unless it is Stop, and sees whether it ends the stream.
+#[inline(always)]
 fn put<W: BytesOut + Drop>(downstream: &mut Downstream<W>, has_ended: &mut bool, parcel: &Parcel)
     requires going { has_ended.old ≡ false }
     ensures put { (form : FormValue) (start : W) (l : List MessageValue)
@@ -144,6 +145,7 @@ fn put<W: BytesOut + Drop>(downstream: &mut Downstream<W>, has_ended: &mut bool,
 }
 
 /// Writes the message, unless it is Stop, and sees whether it ends the stream.
+#[inline(always)]
 fn put_message<W: BytesOut + Drop>(
     downstream: &mut Downstream<W>,
     has_ended: &mut bool,
@@ -167,12 +169,13 @@ fn put_message<W: BytesOut + Drop>(
 
 /// Lets the message or the rows go; a row is then a spare one, and so are several together.
 fn let_go(parcel: Parcel, spares: &mut SpareRows) {
-    match parcel {
-        Parcel::Message(Message::Row(row)) => spares.keep(row),
-        Parcel::Rows(rows) => {
-            let (samples, _, _) = rows.into_parts();
-            spares.keep(samples);
+    let samples = match parcel {
+        Parcel::Message(Message::Row(row)) => row,
+        Parcel::Rows(rows) => rows.into_parts().0,
+        other => {
+            drop(other);
+            return;
         }
-        other => drop(other),
-    }
+    };
+    spares.keep(samples);
 }

@@ -59,6 +59,7 @@ impl<W: BytesOut + Drop> Downstream<W> {
     }
 
     /// Writes the rows, unless there was a fault of the output before, as if each were put as a message of its own.
+    #[inline(never)]
     pub fn put_rows(&mut self, rows: &Rows)
         ensures taken { (form : FormValue) (start : W) (messages : List MessageValue)
             → HasTaken W.held W.failures form start messages self.old

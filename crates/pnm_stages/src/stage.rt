@@ -188,6 +188,7 @@ fn pass<R: Wait, F: Filter + Drop>(
 
 /// Passes rows that came together through the tool, together if it takes them so; false where the output's other end
 /// was seen dropped before.
+#[inline(never)]
 fn pass_rows<R: Wait, F: Filter + Drop>(
     rt: &R,
     alloc: Global,
@@ -234,6 +235,7 @@ fn pass_each<R: Wait, F: Filter + Drop>(
 
 /// Sends what the tool gives, until it has given all, or refused; false where the output's other end
 /// was seen dropped before.
+#[inline(always)]
 fn send_answers<R: Wait, F: Filter + Drop>(
     rt: &R,
     stage: &mut FusedFilter<F>,

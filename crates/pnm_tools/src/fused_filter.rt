@@ -36,6 +36,8 @@ impl<F: Filter + Drop> FusedFilter<F> {
     }
 
     /// Feeds the tool a message. After its refusal the message is dropped.
+    // Here and in `next` and `gave_all`: what one stores the other finds in registers, in a stage's loop.
+    #[inline(always)]
     pub fn feed(&mut self, message: Message)
         ensures { (tool : ToolValue) (l g : List MessageValue) → FilterAt F.at F.all_given F.stopped self.old tool l g
             → FilterBusy F.at F.stopped self.new tool (l ++ message ∷ []) g }
@@ -48,6 +50,7 @@ impl<F: Filter + Drop> FusedFilter<F> {
     }
 
     /// The next message that the tool gives, until it has given all, or refused.
+    #[inline(always)]
     pub fn next(&mut self) -> Option<Message>
         ensures given { IfSome result (λ m. (tool : ToolValue) (l g : List MessageValue)
             → FilterBusy F.at F.stopped self.old tool l g
@@ -78,6 +81,7 @@ impl<F: Filter + Drop> FusedFilter<F> {
     }
 
     /// Whether the tool has given all, or refused, as far as a look shows. Where it answers false `next` tells.
+    #[inline(always)]
     pub fn gave_all(&mut self) -> bool
         ensures full { IsTrue result → (tool : ToolValue) (l g : List MessageValue)
             → FilterBusy F.at F.stopped self.old tool l g → FilterAt F.at F.all_given F.stopped self.new tool l g }

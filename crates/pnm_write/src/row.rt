@@ -16,6 +16,7 @@ use pnm_image::{
 const MOST_SAMPLES: usize = 2048;
 
 /// Writes the samples of a row of an image of this shape.
+#[inline(always)]
 pub fn write_samples<W: BytesOut>(
     writer: &mut W,
     buffer: &mut WriteBuffer,
@@ -65,6 +66,7 @@ pub fn write_samples_from<W: BytesOut>(
 }
 
 /// Writes the samples of a raw row: as they are, where they are as wide as their bytes.
+#[inline(always)]
 fn write_raw<W: BytesOut>(
     writer: &mut W,
     buffer: &mut WriteBuffer,

@@ -14,6 +14,7 @@ use crate::write_buffer::WriteBuffer;
 use pnm_image::{BytesOut, DeviceFailed, Form, Rows, SampleWidth, Shape};
 
 /// Writes rows of an image of this shape: all at once, where their bytes are those of their samples in one row.
+#[inline(never)]
 pub fn write_rows<W: BytesOut>(
     writer: &mut W,
     buffer: &mut WriteBuffer,
