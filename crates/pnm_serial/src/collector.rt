@@ -10,7 +10,7 @@ ghost use Rattle.pnm_serial.specs.Downstreams.{output_of};
 
 use crate::downstream::Downstream;
 use crate::summary::count_image;
-use pnm_image::{BytesOut, Ending, Form, Message};
+use pnm_image::{BytesOut, Ending, Form, Message, Rows};
 use pnm_read::SpareRows;
 use pnm_stages::{Backoff, Parcel, Receiver, Sender};
 use pnm_write::WriteBuffer;
@@ -169,13 +169,16 @@ fn put_message<W: BytesOut + Drop>(
 
 /// Lets the message or the rows go; a row is then a spare one, and so are several together.
 fn let_go(parcel: Parcel, spares: &mut SpareRows) {
-    let samples = match parcel {
-        Parcel::Message(Message::Row(row)) => row,
-        Parcel::Rows(rows) => rows.into_parts().0,
-        other => {
-            drop(other);
-            return;
-        }
-    };
+    match parcel {
+        Parcel::Message(Message::Row(row)) => spares.keep(row),
+        Parcel::Rows(rows) => let_rows_go(rows, spares),
+        other => drop(other),
+    }
+}
+
+/// Lets the rows go: they are a spare row then. It stands apart, since a message alone is let go most often.
+#[inline(never)]
+fn let_rows_go(rows: Rows, spares: &mut SpareRows) {
+    let (samples, _, _) = rows.into_parts();
     spares.keep(samples);
 }

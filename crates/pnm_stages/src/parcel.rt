@@ -16,6 +16,7 @@ pub enum Parcel {
 
 impl Parcel {
     /// How the parcel's last message ends its stream.
+    #[inline(always)]
     pub fn ending(&self) -> Ending
         ensures { result ≡ ending_of_parcel self.now }
     {
@@ -26,6 +27,7 @@ impl Parcel {
     }
 
     /// Whether the parcel ends an image.
+    #[inline(always)]
     pub fn ends_image(&self) -> bool {
         match self {
             Parcel::Message(message) => message.ends_image(),

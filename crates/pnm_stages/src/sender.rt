@@ -206,6 +206,7 @@ fn bytes_of(parcel: &Parcel) -> Option<usize> {
 }
 
 /// The bytes that samples take.
+#[inline(always)]
 fn size_of(samples: &Samples) -> usize {
     match samples.as_slice() {
         SampleSlice::Bits(bits) => bits.as_bytes().len(),
