@@ -16,3 +16,5 @@ pub mod RowStateSteps
 pub mod StartSteps
 pub mod RowsLaws
 pub mod PassingSteps
+pub mod EachRowLaws
+pub mod CutRowsLaws

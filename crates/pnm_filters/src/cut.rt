@@ -1,6 +1,9 @@
 //! `pamcut`: a rectangle of the image, from pamcut(1).
 
-ghost use Rattle.std.specs.Prelude.{◌≡◌, ◌≤◌, All, IfOk, [], ◌<◌};
+ghost use Rattle.std.specs.Prelude.{◌≡◌, ◌≤◌, ◌+◌, ◌*◌, All, IfOk, IfErr, [], ◌<◌, length, map, take, drop};
+ghost use Rattle.std.specs.List.{AllByRecursion, concat};
+ghost use Rattle.pnm_image.specs.Images.{cut_rows};
+ghost use Rattle.pnm_image.specs.Places.{IsRowOf};
 ghost use Rattle.pnm_image.specs.declared.limits.TheConstants.{MAX_SIDE};
 ghost use Rattle.pnm_tools.specs.Cut.{IsLawfulAxis, KeepsWithin, columns_of_row, span_of, first_kept, last_kept};
 ghost use Rattle.pnm_tools.specs.Cut.{edge_of, IsLawfulBox, columns_kept, rows_kept, span_count};
@@ -8,7 +11,7 @@ ghost use Rattle.pnm_tools.specs.declared.tool.Tool.TheVariants.{Cut};
 
 use crate::head::head_within_limits;
 use crate::row_tool::RowTool;
-use pnm_image::{Bits, Head, SampleVec, Samples, Shape};
+use pnm_image::{Bits, Head, Rows, SampleVec, Samples, Shape};
 use pnm_tools::{CutBox, Span, ToolFault};
 use std::alloc::{AllocError, Global};
 
@@ -64,6 +67,48 @@ fn keep<T: Copy>(row: &mut Vec<T>, columns: Span, depth: usize)
     }
 }
 
+/// These columns of each of the rows of an image of this shape, moved to the front in place.
+///
+/// # Errors
+///
+/// The rows themselves, where they are cut and aren't held as bytes.
+fn keep_columns_of_rows(columns: Span, shape: Shape, rows: Rows) -> Result<Rows, Rows>
+    requires columns { (columns.first ≤ columns.last) × (columns.last < shape.width) }
+    requires rows { AllByRecursion (IsRowOf shape) rows }
+    ensures kept { IfOk result (λ kept. kept ≡ map (columns_of_row columns shape.depth) rows) }
+    ensures same { IfErr result (λ same. same ≡ rows) }
+{
+    let (samples, count, row_length) = rows.into_parts();
+    let depth = shape.depth as usize;
+    let kept = (columns.last as usize - columns.first as usize + 1) * depth;
+    if kept == row_length {
+        return Ok(Rows::new(samples, count, row_length));
+    }
+    match samples.into_vec() {
+        SampleVec::Bytes(mut bytes) => {
+            let first = columns.first as usize * depth;
+            keep_of_each(&mut bytes, count as usize, row_length, first, kept);
+            let samples = Samples::within(SampleVec::Bytes(bytes), shape.maxval);
+            Ok(Rows::new(samples, count, kept))
+        }
+        held => Err(Rows::new(Samples::within(held, shape.maxval), count, row_length)),
+    }
+}
+
+/// Keeps of each of so many rows so many bytes, from one on, those of the first row first, in place.
+fn keep_of_each(bytes: &mut Vec<u8>, count: usize, row_length: usize, first: usize, kept: usize)
+    requires rows { length bytes.old.items ≡ count * row_length }
+    requires within { first + kept ≤ row_length }
+    ensures { bytes.new.items
+        ≡ concat (map (λ row. take kept (drop first row)) (cut_rows count row_length bytes.old.items)) }
+{
+    for i in 0..count {
+        let start = i * row_length + first;
+        bytes.copy_within(start..start + kept, i * kept);
+    }
+    bytes.truncate(count * kept);
+}
+
 /// Cuts the rows of images.
 #[derive(Clone, Copy)]
 pub struct Cutter {
@@ -116,6 +161,15 @@ impl RowTool for Cutter {
         }
         let kept = keep_columns(alloc, self.columns, shape, row)?;
         Ok(Some(kept))
+    }
+
+    /// Moves the columns that are kept of each row to the front, where all of the rows are kept.
+    fn rows(&self, shape: Shape, y: u32, rows: Rows) -> Result<Rows, Rows> {
+        let last = y + (rows.count() - 1);
+        if y < self.rows.first || self.rows.last < last {
+            return Err(rows);
+        }
+        keep_columns_of_rows(self.columns, shape, rows)
     }
 }
 

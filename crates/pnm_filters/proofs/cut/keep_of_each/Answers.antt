@@ -1,0 +1,10 @@
+use Rattle.std.proofs.Common.{ℕ, ◌+◌, ◌*◌, refl}
+use Rattle.pnm_filters.proofs.EachRowLaws.{part_moved}
+use Rattle.pnm_filters.proofs.cut.keep_of_each.Goals as goal
+
+pub loop-i-preserved : goal.loop-i-preserved
+loop-i-preserved c =
+    let from : ℕ = c.loop-i.i * c.args.row_length + c.args.first in
+    part_moved c.args.first c.args.kept c.args.row_length c.loop-i.i c.args.count from (from + c.args.kept) (c.loop-i.i * c.args.kept)
+    c.args.bytes.now.items c.loop-i.bytes.items c.copy_within.new.self.items c.requires.within c.loop-i-test.true c.requires.rows c.loop-i.invariant
+    refl refl refl c.copy_within.ensures.items
