@@ -109,10 +109,10 @@ part_among start size each at samples fits =
     ∙ take-take size left (drop start row) (omega (arith, fits))
 
 -- the part of one row more is moved
-pub part_moved : (start size each i count from to dest : ℕ) (old now new : List ℕ) → start + size ≤ each → i < count → length old ≡ count * each
-    → AreMoved start size each i old now → from ≡ i * each + start → to ≡ from + size → dest ≡ i * size → new ≡ copy_within now from to dest
+pub part_moved : (start size each i count from to dest : ℕ) (old now new : List ℕ) → new ≡ copy_within now from to dest → from ≡ i * each + start
+    → to ≡ from + size → dest ≡ i * size → start + size ≤ each → i < count → length old ≡ count * each → AreMoved start size each i old now
     → AreMoved start size each (i + 1) old new
-part_moved start size each i count from to dest old now new fits below count_is moved from_is to_is dest_is made =
+part_moved start size each i count from to dest old now new made from_is to_is dest_is fits below count_is moved =
     let at : ℕ = i * each in
     let to_front : ℕ = i * size in
     let next : suc i ≡ i + 1 = omega arith in

@@ -18,3 +18,4 @@ pub mod RowsLaws
 pub mod PassingSteps
 pub mod EachRowLaws
 pub mod CutRowsLaws
+pub mod FlipRowsLaws

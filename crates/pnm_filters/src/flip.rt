@@ -2,9 +2,11 @@
 //! is reversed or not, and that of the rows, and then columns and rows are exchanged or not. Where they
 //! are, `transpose` does it.
 
-ghost use Rattle.std.specs.Prelude.{◌≡◌, ◌⊎◌, if◌then◌else◌, length, reverse, false, [], None, OnOk, IfOk, IfErr};
-ghost use Rattle.std.specs.Prelude.{Ok, Err};
+ghost use Rattle.std.specs.Prelude.{◌≡◌, ◌*◌, ◌⊎◌, if◌then◌else◌, length, map, reverse, false, [], None, OnOk, IfOk};
+ghost use Rattle.std.specs.Prelude.{IfErr, Ok, Err};
+ghost use Rattle.std.specs.List.{AllByRecursion, concat};
 ghost use Rattle.pnm_image.specs.Heads.{IsWithinLimits, row_length};
+ghost use Rattle.pnm_image.specs.Images.{cut_rows};
 ghost use Rattle.pnm_image.specs.Places.{IsRowOf};
 ghost use Rattle.pnm_tools.specs.declared.fault.ToolFault.TheVariants.{Memory};
 ghost use Rattle.pnm_tools.specs.declared.tool.Tool.TheVariants.{Flip};
@@ -122,6 +124,41 @@ fn reverse_three<T: Copy>(samples: &mut [T])
     samples[2] = first;
 }
 
+/// These rows of an image of this shape, each the last pixel first, changed in place.
+///
+/// # Errors
+///
+/// The rows themselves, where they aren't held as bytes.
+fn mirror_rows(shape: Shape, rows: Rows) -> Result<Rows, Rows>
+    requires limits { IsWithinLimits shape }
+    requires rows { AllByRecursion (IsRowOf shape) rows }
+    ensures mirrored { IfOk result (λ mirrored. mirrored ≡ map (mirrored_row shape) rows) }
+    ensures same { IfErr result (λ same. same ≡ rows) }
+{
+    let (samples, count, row_length) = rows.into_parts();
+    match samples.into_vec() {
+        SampleVec::Bytes(mut bytes) => {
+            reverse_each(bytes.as_mut_slice(), shape, count as usize, row_length);
+            let samples = Samples::within(SampleVec::Bytes(bytes), shape.maxval);
+            Ok(Rows::new(samples, count, row_length))
+        }
+        held => Err(Rows::new(Samples::within(held, shape.maxval), count, row_length)),
+    }
+}
+
+/// So many rows, each the last pixel first.
+fn reverse_each(bytes: &mut [u8], shape: Shape, count: usize, each: usize)
+    requires limits { IsWithinLimits shape }
+    requires row { each ≡ row_length shape }
+    requires rows { length bytes.old ≡ count * each }
+    ensures { bytes.new ≡ concat (map (mirrored_row shape) (cut_rows count each bytes.old)) }
+{
+    for i in 0..count {
+        let start = i * each;
+        reverse_pixels(&mut bytes[start..start + each], shape);
+    }
+}
+
 /// Passes the rows of images on, the last pixel first or as they are: any way that leaves rows in their
 /// places.
 #[derive(Drop)]
@@ -163,10 +200,10 @@ impl RowTool for RowFlipper {
         Ok(Some(turn_row(alloc, self.way.turn(), shape, row)?))
     }
 
-    /// The rows as they are, where the way leaves columns in their places, too.
-    fn rows(&self, _shape: Shape, _y: u32, rows: Rows) -> Result<Rows, Rows> {
+    /// Changes the rows in place.
+    fn rows(&self, shape: Shape, _y: u32, rows: Rows) -> Result<Rows, Rows> {
         if self.way.turn().columns_reversed {
-            Err(rows)
+            mirror_rows(shape, rows)
         } else {
             Ok(rows)
         }

@@ -69,7 +69,8 @@ fn flip(alloc: Global, way: FlipWay) -> AnyTool
 /// Whether the tool takes rows together, where it can: of each it makes one row by itself, in place.
 pub fn passes_rows(tool: &Tool) -> bool {
     match tool {
-        Tool::Invert | Tool::Cut(_) | Tool::Depth(_) | Tool::Flip(FlipWay::Null) => true,
+        Tool::Invert | Tool::Cut(_) | Tool::Depth(_) => true,
+        Tool::Flip(FlipWay::Null | FlipWay::LeftRight) => true,
         Tool::Channel(_) | Tool::Enlarge(_, _) | Tool::Flip(_) | Tool::Tile(_, _) => false,
     }
 }

@@ -6,5 +6,5 @@ pub loop-i-preserved : goal.loop-i-preserved
 loop-i-preserved c =
     let from : ℕ = c.loop-i.i * c.args.row_length + c.args.first in
     part_moved c.args.first c.args.kept c.args.row_length c.loop-i.i c.args.count from (from + c.args.kept) (c.loop-i.i * c.args.kept)
-    c.args.bytes.now.items c.loop-i.bytes.items c.copy_within.new.self.items c.requires.within c.loop-i-test.true c.requires.rows c.loop-i.invariant
-    refl refl refl c.copy_within.ensures.items
+    c.args.bytes.now.items c.loop-i.bytes.items c.copy_within.new.self.items c.copy_within.ensures.items refl refl refl c.requires.within
+    c.loop-i-test.true c.requires.rows c.loop-i.invariant

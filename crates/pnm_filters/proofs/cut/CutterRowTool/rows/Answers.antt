@@ -1,3 +1,4 @@
+use Rattle.std.proofs.Common.{arith}
 use Rattle.pnm_filters.proofs.CutRowsLaws.{rows_answered}
 use Rattle.pnm_filters.proofs.cut.CutterRowTool.rows.Goals as goal
 
@@ -5,4 +6,5 @@ pub returns-clause-made : goal.returns-clause-made
 returns-clause-made c =
     let w = c.args.self.now in
     rows_answered w.cut c.args.shape w.columns w.rows c.args.y c.count.result c.args.rows c.keep_columns_of_rows.result c.requires.ready.columns
-    c.requires.ready.rows c.if-y-self.false c.count.ensures.rows c.count.ensures.some c.if-self-last.false c.keep_columns_of_rows.ensures.kept
+    c.requires.ready.rows c.if-y-self.false c.count.ensures.rows c.count.ensures.some (omega (arith, c.if-self-last.false))
+    c.keep_columns_of_rows.ensures.kept
