@@ -14,8 +14,8 @@ pub use lanes::run_lanes;
 pub use pnm_lanes::{DealDone, GatherDone, MAX_LANES, deal, gather};
 pub use pnm_serial::{RunFault, Summary};
 pub use pnm_stages::{
-    AnyMessage, Gate, MAX_RING_CAPACITY, NoStart, OpenGate, Receiver, Sender, StageDone, StageEnd,
-    new_ring,
+    AnyMessage, Gate, MAX_RING_CAPACITY, NoStart, OpenGate, Parcel, Receiver, Sender, StageDone,
+    StageEnd, new_ring,
 };
 pub use serial::run_serial;
 pub use stage::run_stage;

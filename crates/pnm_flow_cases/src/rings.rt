@@ -3,11 +3,13 @@
 
 use pnm_chain::parse_chain;
 use pnm_flow::{
-    MAX_LANES, OpenGate, Receiver, Sender, StageDone, StageEnd, deal, gather, new_ring, run_stage,
+    MAX_LANES, OpenGate, Parcel, Receiver, Sender, StageDone, StageEnd, deal, gather, new_ring,
+    run_stage,
 };
+use pnm_image::Rows;
 use pnm_lanes::dealt_height;
 use pnm_test_support::{
-    Unmade, cut_at, cut_number, cut_word, messages_of, number_of, tell_message,
+    Unmade, cut_at, cut_number, cut_word, messages_of, number_of, tell_message, tell_row,
 };
 use pnm_tools::Tool;
 use std::alloc::{AllocError, Global};
@@ -57,14 +59,36 @@ fn taking(
 }
 
 /// Adds all that a ring holds after a word, or nothing where that is nothing.
-fn tell_ring(word: &str, input: &mut Receiver, told: &mut String) -> Result<(), AllocError> {
+fn tell_ring(
+    alloc: Global,
+    word: &str,
+    input: &mut Receiver,
+    told: &mut String,
+) -> Result<(), AllocError> {
     if input.has_message() {
         told.push_str(word)?;
     }
     for _ in 0..CAPACITY {
         if input.has_message() {
-            tell_message(told, &input.receive_known())?;
+            tell_parcel(alloc, told, &input.receive_known())?;
         }
+    }
+    Ok(())
+}
+
+/// Adds the messages of a parcel: of rows that came together each, as if they had come one by one.
+fn tell_parcel(alloc: Global, told: &mut String, parcel: &Parcel) -> Result<(), AllocError> {
+    match parcel {
+        Parcel::Message(message) => tell_message(told, message),
+        Parcel::Rows(rows) => tell_rows(alloc, told, rows),
+    }
+}
+
+/// Adds each of these rows.
+fn tell_rows(alloc: Global, told: &mut String, rows: &Rows) -> Result<(), AllocError> {
+    for at in 0..rows.count() {
+        let row = rows.row(alloc, at)?;
+        tell_row(told, &row)?;
     }
     Ok(())
 }
@@ -117,14 +141,14 @@ pub fn tell_stage<R: Wait>(
     let (output, receiver) = taking(alloc, capacity, gone == b"output".as_slice())?;
     let mut done = stage(rt, alloc, tools.as_slice(), input, output)?;
     tell_end(done.end, told)?;
-    tell_ring(" left", &mut done.input, told)?;
-    tell_sent(receiver, told)
+    tell_ring(alloc, " left", &mut done.input, told)?;
+    tell_sent(alloc, receiver, told)
 }
 
 /// Adds what was sent, where it is taken.
-fn tell_sent(receiver: Option<Receiver>, told: &mut String) -> Result<(), Unmade> {
+fn tell_sent(alloc: Global, receiver: Option<Receiver>, told: &mut String) -> Result<(), Unmade> {
     if let Some(mut receiver) = receiver {
-        tell_ring(" sent", &mut receiver, told)?;
+        tell_ring(alloc, " sent", &mut receiver, told)?;
     }
     Ok(())
 }
@@ -175,10 +199,10 @@ pub fn tell_dealt<R: Wait>(
     }
     let mut done = deal(rt, alloc, input, outputs);
     tell_end(done.end, told)?;
-    tell_ring(" left", &mut done.input, told)?;
+    tell_ring(alloc, " left", &mut done.input, told)?;
     for lane in lanes.iter_mut() {
         told.push_str(" |")?;
-        tell_ring("", lane, told)?;
+        tell_ring(alloc, "", lane, told)?;
     }
     Ok(())
 }
@@ -222,9 +246,9 @@ pub fn tell_gathered<R: Wait>(
     let mut done = gather(rt, inputs, output);
     tell_end(done.end, told)?;
     for input in done.inputs.iter_mut() {
-        tell_ring(" left", input, told)?;
+        tell_ring(alloc, " left", input, told)?;
     }
-    tell_sent(receiver, told)
+    tell_sent(alloc, receiver, told)
 }
 
 /// Adds how many rows of an image of a height each of so many lanes gets.

@@ -1,9 +1,9 @@
 //! The two ends of a ring, without a stage between.
 
-use super::rings::{holds, ring, send_all};
+use super::rings::{holds, is_one_of, ring, send_all};
 use pnm_image::{Kind, Message, SampleVec, Samples};
 use pnm_stages::{Backoff, Receiver, Sender};
-use pnm_test_support::{Part, is_made_of, message};
+use pnm_test_support::{Part, message};
 use std::alloc::{AllocError, Global};
 use std::process::Abort;
 use std::sync::Wait;
@@ -41,7 +41,7 @@ fn receives(
     part: Option<Part<'_>>,
 ) {
     let is_right = match (receiver.receive(rt, backoff), part) {
-        (Some(message), Some(part)) => is_made_of(&message, part),
+        (Some(parcel), Some(part)) => is_one_of(&parcel, part),
         (None, None) => true,
         _ => false,
     };

@@ -1,13 +1,13 @@
 //! Want of memory. `scripts/refused.py tests` refuses each allocation of these tests in turn.
 
 use super::chains::{LAST_COLUMN, are_lawful, channel};
-use super::rings::{IMAGE, holding, holds, ring};
+use super::rings::{IMAGE, holding, holds, is_one_of, ring};
 use super::threads::{INVERTED, chain};
 use super::ways::{Way, run_by};
 use pnm_flow::{OpenGate, Receiver, RunFault, StageEnd, Summary};
 use pnm_image::{Device, Form};
 use pnm_read::InputFault;
-use pnm_test_support::{Part, Unmade, is_made_of};
+use pnm_test_support::{Part, Unmade};
 use pnm_tools::{FlipWay, Tool, ToolFault};
 use std::alloc::Global;
 use std::process::Abort;
@@ -166,12 +166,12 @@ fn ends_by_stop(rt: &impl Abort, input: &mut Receiver, whole: &[Part<'_>]) -> bo
         if !input.has_message() {
             return false;
         }
-        let message = input.receive_known();
-        if is_made_of(&message, Part::Stop) {
+        let parcel = input.receive_known();
+        if is_one_of(&parcel, Part::Stop) {
             holds(rt, input, &[], "nothing after Stop");
             return true;
         }
-        let is_next = is_made_of(&message, *part);
+        let is_next = is_one_of(&parcel, *part);
         assert!(rt; is_next, "a prefix of the answer");
     }
     holds(rt, input, &[], "nothing after the answer");

@@ -1,7 +1,7 @@
 //! Rings that hold messages, what comes out of them, and what goes to a thread over one and comes from it, by a counted
 //! number of tries.
 
-use pnm_flow::{Receiver, Sender, StageEnd, new_ring};
+use pnm_flow::{Parcel, Receiver, Sender, StageEnd, new_ring};
 use pnm_image::Kind;
 use pnm_test_support::{Part, Unmade, is_made_of, message};
 use std::alloc::Global;
@@ -28,10 +28,18 @@ pub fn send_all(alloc: Global, output: &mut Sender, parts: &[Part<'_>]) -> Resul
     Ok(())
 }
 
+/// Whether the parcel is a message that is made of this: rows that came together are none.
+pub fn is_one_of(parcel: &Parcel, part: Part<'_>) -> bool {
+    match parcel {
+        Parcel::Message(message) => is_made_of(message, part),
+        Parcel::Rows(_) => false,
+    }
+}
+
 /// Receives these from the ring; the index of the first one that isn't there, if any.
 pub fn first_missing(input: &mut Receiver, parts: &[Part<'_>]) -> Option<usize> {
     for (index, part) in parts.iter().enumerate() {
-        if !input.has_message() || !is_made_of(&input.receive_known(), *part) {
+        if !input.has_message() || !is_one_of(&input.receive_known(), *part) {
             return Some(index);
         }
     }
@@ -96,7 +104,7 @@ pub fn sends(alloc: Global, output: &mut Sender, part: Part<'_>) -> Result<bool,
 pub fn comes(input: &mut Receiver, part: Part<'_>) -> bool {
     for _ in 0..TURNS {
         if input.has_message() {
-            return is_made_of(&input.receive_known(), part);
+            return is_one_of(&input.receive_known(), part);
         }
         thread::yield_now();
     }
