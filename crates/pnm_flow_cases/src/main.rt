@@ -11,7 +11,8 @@
 //! - `buffered COUNT (CHAIN) INPUT`: the same where the writer stands behind a buffer, of room for 0, 1 and so on
 //! - `stage ROOM GONE (TOOL) MESSAGES`, `deal LANES GONE MESSAGES`, `gather ROOM GONE MESSAGES|MESSAGES`: how a stage
 //!   over rings ends, the dealing to lanes and the gathering from lanes; what is left of what came, and what is sent
-//!   (`rings`); an end of a ring is gone: `input`, `inputs`, `output`, that of a lane by its number, or none of them
+//!   (`rings`); an end of a ring is gone: `input`, `inputs`, `output`, that of a lane by its number, or none of them.
+//!   Rows between braces lie in a ring together
 //! - `heights LANES HEIGHT`: how many rows of an image each lane gets
 //!
 //! Each input is run in one thread, and over threads with several rings and lanes (`ways`): where one of these runs

@@ -1,15 +1,14 @@
 //! Threads at rings whose messages are there before they begin: a stage, the dealing to lanes, and the gathering from
-//! them.
+//! them. Rows between braces lie in a ring together.
 
 use pnm_chain::parse_chain;
 use pnm_flow::{
     MAX_LANES, OpenGate, Parcel, Receiver, Sender, StageDone, StageEnd, deal, gather, new_ring,
     run_stage,
 };
-use pnm_image::Rows;
 use pnm_lanes::dealt_height;
 use pnm_test_support::{
-    Unmade, cut_at, cut_number, cut_word, messages_of, number_of, tell_message, tell_row,
+    Handed, Unmade, cut_at, cut_number, cut_word, handed_of, number_of, tell_message, tell_rows,
 };
 use pnm_tools::Tool;
 use std::alloc::{AllocError, Global};
@@ -31,11 +30,14 @@ fn holding(
     is_gone: bool,
 ) -> Result<(Option<Sender>, Receiver), Unmade> {
     let (mut sender, receiver) = ring(alloc, CAPACITY)?;
-    for message in messages_of(alloc, text, false)? {
+    for handed in handed_of(alloc, text, true)? {
         if !sender.has_room() {
             return Err(Unmade);
         }
-        sender.send_reserved(message);
+        match handed {
+            Handed::Message(message) => sender.send_reserved(message),
+            Handed::Rows(rows) => sender.send_rows_reserved(rows),
+        }
     }
     if is_gone {
         drop(sender);
@@ -76,21 +78,12 @@ fn tell_ring(
     Ok(())
 }
 
-/// Adds the messages of a parcel: of rows that came together each, as if they had come one by one.
+/// Adds a message, or rows that came together.
 fn tell_parcel(alloc: Global, told: &mut String, parcel: &Parcel) -> Result<(), AllocError> {
     match parcel {
         Parcel::Message(message) => tell_message(told, message),
         Parcel::Rows(rows) => tell_rows(alloc, told, rows),
     }
-}
-
-/// Adds each of these rows.
-fn tell_rows(alloc: Global, told: &mut String, rows: &Rows) -> Result<(), AllocError> {
-    for at in 0..rows.count() {
-        let row = rows.row(alloc, at)?;
-        tell_row(told, &row)?;
-    }
-    Ok(())
 }
 
 /// Adds how a thread at rings has ended.

@@ -9,6 +9,7 @@ mod messages;
 mod parts;
 mod sweep;
 mod telling;
+mod together;
 mod writing;
 
 pub use cases::{Teller, tell_lines};
@@ -20,4 +21,5 @@ pub use messages::{
 pub use parts::{Part, is_made_of, message};
 pub use sweep::Sweep;
 pub use telling::{tell_change, tell_head, tell_message, tell_row, tell_text};
+pub use together::{Handed, handed_of, rows_of, tell_rows};
 pub use writing::{cut_at, cut_number, cut_word, text_of};

@@ -1,0 +1,100 @@
+//! Rows that are handed over together. They are written, and told, one after another between braces.
+
+use super::messages::{Unmade, held, messages_of, narrowest};
+use super::telling::tell_row;
+use super::writing::cut_at;
+use pnm_image::{Message, Rows, SampleWidth, Samples};
+use std::alloc::{AllocError, Global};
+
+/// What is handed over at once.
+#[derive(Debug, Drop)]
+pub enum Handed {
+    /// A message.
+    Message(Message),
+    /// Rows that are handed over together.
+    Rows(Rows),
+}
+
+/// What is handed over by messages that are written one after another: at once those rows that stand between braces.
+/// Rows are held in as few bits as hold their samples, or in words.
+pub fn handed_of(alloc: Global, text: &[u8], is_narrow: bool) -> Result<Vec<Handed>, Unmade> {
+    let mut handed = Vec::new(alloc);
+    let mut rest = text;
+    for _ in 0..text.len() {
+        if rest.is_empty() {
+            break;
+        }
+        let (alone, after) = cut_at(rest, b'{');
+        for message in messages_of(alloc, alone, is_narrow)? {
+            handed.push(Handed::Message(message))?;
+        }
+        let (together, after) = cut_at(after, b'}');
+        if !together.is_empty() {
+            handed.push(Handed::Rows(rows_of(alloc, together, is_narrow)?))?;
+        }
+        rest = after;
+    }
+    Ok(handed)
+}
+
+/// The rows that are written one after another, to be handed over together: at least one, each as long as the others.
+pub fn rows_of(alloc: Global, text: &[u8], is_narrow: bool) -> Result<Rows, Unmade> {
+    let messages = messages_of(alloc, text, is_narrow)?;
+    let row_length = length_of(messages.first())?;
+    let mut samples = Vec::new(alloc);
+    for message in messages.iter() {
+        add_samples(message, row_length, &mut samples)?;
+    }
+    let sample_width = if is_narrow {
+        narrowest(samples.as_slice())
+    } else {
+        SampleWidth::Words
+    };
+    let samples = held(alloc, samples.as_slice(), sample_width)?;
+    cut_into(samples, messages.len(), row_length)
+}
+
+/// How long a row is.
+fn length_of(message: Option<&Message>) -> Result<usize, Unmade> {
+    match message {
+        Some(Message::Row(row)) => Ok(row.len()),
+        _ => Err(Unmade),
+    }
+}
+
+/// Adds the samples of a row that is so long.
+fn add_samples(message: &Message, row_length: usize, samples: &mut Vec<u16>) -> Result<(), Unmade> {
+    let Message::Row(row) = message else {
+        return Err(Unmade);
+    };
+    if row.len() != row_length {
+        return Err(Unmade);
+    }
+    for at in 0..row.len() {
+        samples.push(row.sample(at))?;
+    }
+    Ok(())
+}
+
+/// The samples as so many rows of this length.
+fn cut_into(samples: Samples, count: usize, row_length: usize) -> Result<Rows, Unmade> {
+    let Ok(count) = u32::try_from(count) else {
+        return Err(Unmade);
+    };
+    match (count as usize).checked_mul(row_length) {
+        Some(size) if count > 0 && size == samples.len() => {
+            Ok(Rows::new(samples, count, row_length))
+        }
+        _ => Err(Unmade),
+    }
+}
+
+/// Adds the rows, between braces.
+pub fn tell_rows(alloc: Global, told: &mut String, rows: &Rows) -> Result<(), AllocError> {
+    told.push_str(" {")?;
+    for at in 0..rows.count() {
+        let row = rows.row(alloc, at)?;
+        tell_row(told, &row)?;
+    }
+    told.push_str(" }")
+}
