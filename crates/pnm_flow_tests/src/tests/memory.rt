@@ -1,11 +1,11 @@
 //! Want of memory. `scripts/refused.py tests` refuses each allocation of these tests in turn.
 
 use super::chains::{LAST_COLUMN, are_lawful, channel};
-use super::rings::{IMAGE, holding, holds, is_one_of, ring};
+use super::rings::{IMAGE, holding, holding_written, holds, is_one_of, ring};
 use super::threads::{INVERTED, chain};
 use super::ways::{Way, run_by};
-use pnm_flow::{OpenGate, Receiver, RunFault, StageEnd, Summary};
-use pnm_image::{Device, Form};
+use pnm_flow::{OpenGate, Receiver, RunFault, StageEnd, Summary, run_stage};
+use pnm_image::{Device, Form, Kind};
 use pnm_read::InputFault;
 use pnm_test_support::{Part, Unmade};
 use pnm_tools::{FlipWay, Tool, ToolFault};
@@ -224,5 +224,46 @@ fn ends_well_in_threads_with_memory(rt: HostRuntime) {
     let is_well = end_in_threads(&rt, rt.alloc(), &THREE, IMAGE).unwrap_or(false);
     assert!(rt; is_well);
     let is_well = end_in_threads(&rt, rt.alloc(), &[Tool::Invert], INVERTED).unwrap_or(false);
+    assert!(rt; is_well);
+}
+
+/// An image whose rows come together, and what `pamflip -leftright` makes of it: it takes each row by itself.
+const TOGETHER: &[u8] = b"Gray 2 3 1 9 {[1 2] [3 4] [5 6]} ImageEnd StreamEnd";
+
+const TURNED: &[Part<'static>] = &[
+    Part::Begin(Kind::Gray, 2, 3, 9),
+    Part::Row(&[2, 1]),
+    Part::Row(&[4, 3]),
+    Part::Row(&[6, 5]),
+    Part::ImageEnd,
+    Part::StreamEnd,
+];
+
+/// Whether the stage ends well. Where it doesn't memory ran out, and a prefix of the answer is sent before Stop.
+fn takes_rows_apart<R: Wait + Abort>(rt: &R, alloc: Global) -> Result<bool, Unmade> {
+    let (_producer, input) = holding_written(alloc, TOGETHER)?;
+    let (output, mut consumer) = ring(alloc, 8)?;
+    let tool = Tool::Flip(FlipWay::LeftRight);
+    if !tool.is_lawful() {
+        return Err(Unmade);
+    }
+    let done = run_stage(rt, alloc, &tool, 1, &OpenGate, input, output);
+    let is_stopped = ends_by_stop(rt, &mut consumer, TURNED);
+    let is_well = done.end == StageEnd::Well;
+    let is_short = done.end == StageEnd::Fault(ToolFault::Memory);
+    assert!(rt; is_well != is_stopped && is_short == is_stopped);
+    Ok(is_well)
+}
+
+/// Each growth of a stage that copies the rows which came together may be refused.
+#[test]
+fn takes_rows_apart_or_runs_out(rt: HostRuntime) {
+    let _ = takes_rows_apart(&rt, rt.alloc());
+}
+
+/// Where no growth is refused each of the rows is turned.
+#[test]
+fn takes_rows_apart_with_memory(rt: HostRuntime) {
+    let is_well = takes_rows_apart(&rt, rt.alloc()).unwrap_or(false);
     assert!(rt; is_well);
 }

@@ -3,7 +3,7 @@
 
 use pnm_flow::{Parcel, Receiver, Sender, StageEnd, new_ring};
 use pnm_image::Kind;
-use pnm_test_support::{Part, Unmade, is_made_of, message};
+use pnm_test_support::{Handed, Part, Unmade, handed_of, is_made_of, message};
 use std::alloc::Global;
 use std::process::Abort;
 use std::thread;
@@ -59,6 +59,21 @@ pub fn holding(
         return Ok((None, receiver));
     }
     Ok((Some(sender), receiver))
+}
+
+/// A ring of capacity 8 that holds what is written, together the rows between braces, and its sending end.
+pub fn holding_written(alloc: Global, text: &[u8]) -> Result<(Sender, Receiver), Unmade> {
+    let (mut sender, receiver) = ring(alloc, 8)?;
+    for handed in handed_of(alloc, text, true)? {
+        if !sender.has_room() {
+            return Err(Unmade);
+        }
+        match handed {
+            Handed::Message(message) => sender.send_reserved(message),
+            Handed::Rows(rows) => sender.send_rows_reserved(rows),
+        }
+    }
+    Ok((sender, receiver))
 }
 
 /// An image of one row, and the end of the stream.
