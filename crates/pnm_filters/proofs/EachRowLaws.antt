@@ -164,3 +164,9 @@ pub part_within : (start size : ℕ) (s : Shape) (row : List ℕ) → IsRowOf s 
 part_within start size s row is =
     let P : ℕ → Type 0 = λ sample. sample ≤ s.maxval in
     All-take P size (drop start row) (All-drop P start row is.range)
+
+-- once the parts of all rows are moved, and the rest is cut off
+pub all_moved : (start size each i count : ℕ) (old now new : List ℕ) → i ≡ count → AreMoved start size each i old now → new ≡ take (count * size) now
+    → new ≡ changed (part start size) count each old
+all_moved start size each i count old now new all moved is =
+    is ∙ ap (λ (n : ℕ). take (n * size) now) (sym all) ∙ moved.front ∙ ap (λ (n : ℕ). changed (part start size) n each old) all

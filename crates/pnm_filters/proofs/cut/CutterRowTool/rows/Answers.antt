@@ -1,6 +1,11 @@
-use Rattle.std.proofs.Common.{arith}
+use Rattle.std.proofs.Common.{sym, arith}
+use Rattle.pnm_tools.proofs.CutRowLaws.{columns_lie}
 use Rattle.pnm_filters.proofs.CutRowsLaws.{rows_answered}
 use Rattle.pnm_filters.proofs.cut.CutterRowTool.rows.Goals as goal
+
+pub keep_columns_of_rows-requires-clause-columns : goal.keep_columns_of_rows-requires-clause-columns
+keep_columns_of_rows-requires-clause-columns c =
+    columns_lie c.args.self.now.cut c.args.shape c.args.self.now.columns (sym c.requires.ready.columns)
 
 pub returns-clause-made : goal.returns-clause-made
 returns-clause-made c =
