@@ -1,8 +1,9 @@
 #!/usr/bin/env python3
 """Works out slowly, from the manual pages, what the programs of cases have to tell, and wants their stored output to
 say that: all of rows in pnm_format_cases; of what else it tells, and of pnm_tools_cases, each sweep, whatever else is
-told by a CRC-32, and each text and cut. What is left is worked out by hand, as texts of chains are. A line that begins
-with an unknown word, or has no line of output, is a fault.
+told by a CRC-32, each text and cut, and what is read, made and written of whole images by rows that are handed over
+together, but for which of them are. What is left is worked out by hand, as texts of chains are. A line that begins with
+an unknown word, or has no line of output, is a fault.
 
 With --each the answers of a sweep's cases are printed one by one, for a line that is given with its crate's name.
 """
@@ -37,9 +38,16 @@ class Sweep(list):
         return f" {len(self)} cases {zlib.crc32(''.join(self).encode()):08x}"
 
 
+class Apart(str):
+    """What a line tells, but for the braces around rows that are handed over together."""
+
+
 class Front(str):
     """What a line begins to tell; what follows is worked out by hand."""
 
+
+# around rows that are handed over together, where that is told
+BRACES = re.compile(r" [{}]")
 
 # told by a CRC-32, which nobody works out by hand
 LONG = re.compile(r"\d (samples|bytes) [0-9a-f]{8}")
@@ -85,7 +93,7 @@ def samples_in(rows):
 
 def images_in(written):
     """The whole images that written messages begin with, each with its tuple type and its samples; and what follows."""
-    text, images, at = text_of(written).decode("latin-1") + " ", [], 0
+    text, images, at = re.sub(r"[{}]", "", text_of(written).decode("latin-1")) + " ", [], 0
     while found := IMAGE.match(text, at):
         kind, *numbers, tuple_type, rows = found.groups()
         width, height, depth, maxval = map(int, numbers)
@@ -131,6 +139,9 @@ def read_line(line, images, stored_line):
     if word == "reads":
         _, failing, text = rest.split(" ", 2)
         return Front(f"{said(text_of(text))} by ") if failing == "0" else None
+    if word == "joins":
+        _, failing, text = rest.split(" ", 2)
+        return Apart(said(text_of(text))) if failing == "0" else None
     if word == "cuts":
         text = text_of(rest)
         return changes([said(text[:length]) for length in range(len(text) + 1)])
@@ -210,7 +221,9 @@ def result(tool, kind, maxval, width, height, depth, tuple_type, samples):
         picked = numbers_in(options[: options.index("(")])
         planes, change = len(picked), lambda pixel: [pixel[plane] for plane in picked]
     elif name == "cut":
-        sizes, shown = (width - numbers[0], height), lambda x, y: (x + numbers[0], y)
+        left, right, top, bottom, *size = (None if it == "_" else int(it) for it in options.split())
+        columns, rows = kept(width, left, right, size[0]), kept(height, top, bottom, size[1])
+        sizes, shown = (columns[1], rows[1]), lambda x, y: (x + columns[0], y + rows[0])
     elif name == "enlarge":
         sizes, shown = (width * numbers[0], height * numbers[1]), lambda x, y: (x // numbers[0], y // numbers[1])
     elif name == "tile":
@@ -273,6 +286,14 @@ def run_of(tools, rest):
     return Front(f"{told} ") if behind else told
 
 
+def run_together(tools, rest):
+    """What a tool gives for whole images whose rows are passed together; none for others."""
+    images, behind = images_in(rest)
+    if not images or behind != "StreamEnd":
+        return None
+    return Apart("".join(result(tools[0], *image) for image in images) + " StreamEnd")
+
+
 def tools_line(line, tools, axes, stored_line):
     """What is told of a line; none where that is worked out by hand."""
     word, _, rest = line.partition(" ")
@@ -288,6 +309,8 @@ def tools_line(line, tools, axes, stored_line):
         return Sweep(cut_image(across, down) for across in short for down in short)
     if word in ("run", "lane") and LONG.search(stored_line):
         return run_of(tools, rest)
+    if word in ("run", "lane") and "{" in rest:
+        return run_together(tools, rest)
     if word not in ("images", "types"):
         return by_hand(word, ("judge", "copy", "tool", "head", "run", "lane", "held", "axis", "chain", "names"))
     sweeps = [sweep_tool(tool, word, rest) for tool in tools]
@@ -301,6 +324,7 @@ def tools_line(line, tools, axes, stored_line):
 # --- pnm_format_cases, what is written
 
 RAW = {"Bit": "P4", "Gray": "P5", "Color": "P6"}
+PLAIN = {"Bit": "P1", "Gray": "P2", "Color": "P3"}
 
 NUMBERS = [7, 65_535, 42, 255, 0, 4096, 10, 999, 9, 10_000, 100, 256, 1000]
 
@@ -336,9 +360,29 @@ def raw_image(kind, maxval, width, height, depth, tuple_type, samples):
     return head + b"".join(raw_row(kind, maxval, samples[y * wide : (y + 1) * wide]) for y in range(height))
 
 
+def plain_image(kind, maxval, width, height, depth, _, samples):
+    """An image in plain form."""
+    last = "" if kind == "Bit" else f"{maxval}\n"
+    words = [str(1 - sample if kind == "Bit" else sample) for sample in samples]
+    wide = width * depth
+    rows = [lines_of(words[y * wide : (y + 1) * wide]) for y in range(height)]
+    return f"{PLAIN[kind]}\n{width} {height}\n{last}{''.join(rows)}".encode()
+
+
+def written_together(form, rest):
+    """What is written of whole images whose rows are put together; none of others."""
+    images, behind = images_in(rest)
+    if behind != "StreamEnd":
+        return None
+    image_of = raw_image if form == "raw" else plain_image
+    return f" end{tell_text(b''.join(image_of(*image) for image in images))}"
+
+
 def write_line(line, stored_line):
     """What is told of a line; none where that is worked out by hand."""
     word, _, rest = line.partition(" ")
+    if word in ("raw", "plain") and "{" in rest:
+        return written_together(word, rest)
     if word == "raw" and LONG.search(stored_line):
         images, behind = images_in(rest)
         if behind not in ("", "StreamEnd"):
@@ -390,6 +434,8 @@ def judge(crate):
             faults.append(f"{crate}: line {number}: {line}\n  {fault}")
             continue
         count += want is not None and not line.startswith("#")
+        if isinstance(want, Apart):
+            told = BRACES.sub("", told)
         if want is not None and str(want) != (told[: len(want)] if isinstance(want, Front) else told):
             faults.append(f"{crate}: line {number}: {line}\n  {told}\n  is stored in place of\n  {want}")
     return count, faults

@@ -27,6 +27,8 @@
 //! - `fails TEXT`: the answers where a read of a byte each fails, by its number
 //! - `reads MOST FAILING TEXT`: the answers, and what each read asked for and got: at most MOST bytes, and nothing at
 //!   read FAILING
+//! - `joins MOST FAILING TEXT`: the answers where the source is asked for rows together before each message, between
+//!   braces those that come so: a read gives at most MOST bytes, and read FAILING fails, none for 0
 //! - `ahead COUNT TEXT`: how many reads of a byte each were made before the first answer, and after each
 //! - `held COUNT TEXT`: whether the source tells of each of so many answers that a read will be made for it
 //! - `width TEXT`: how the samples of the first row are held
@@ -35,9 +37,9 @@
 //! - `image TEXT`, then `streams`, `after TEXT`: how many texts, and the CRC-32 of the answers, to these images one
 //!   after another, and to them with a text after them
 //!
-//! Of what a sink writes, and which messages it refuses (`write`):
+//! Of what a sink writes, and which messages it refuses (`write`); rows between braces are put together:
 //!
-//! - `raw MESSAGES`, `plain MESSAGES`: the faults, how the stream ends, and the bytes
+//! - `raw MESSAGES`, `plain MESSAGES`: the faults, how the stream ends, and the bytes, however wide rows are held
 //! - `sips FORM MOST WRITE FLUSH MESSAGES`: the faults, how the stream ends, and the bytes where a write takes up to
 //!   MOST bytes, and those after so many writes and so many flushes fail once, `_` for none; a sink is flushed after
 //!   each image, and told is how often that was, too

@@ -1,6 +1,7 @@
 //! What a source answers to written texts.
 
 mod answers;
+mod joins;
 mod reads;
 mod streams;
 mod sweeps;
@@ -16,6 +17,7 @@ pub enum How {
     Cuts,
     Fails,
     Reads,
+    Joins,
     Ahead,
     Held,
     Width,
@@ -32,6 +34,7 @@ const WORDS: &[(&[u8], How)] = &[
     (b"cuts", How::Cuts),
     (b"fails", How::Fails),
     (b"reads", How::Reads),
+    (b"joins", How::Joins),
     (b"ahead", How::Ahead),
     (b"held", How::Held),
     (b"width", How::Width),
@@ -82,6 +85,7 @@ pub fn tell(
         How::Cuts => answers::tell_cuts(alloc, text, told),
         How::Fails => reads::tell_fails(alloc, text, told),
         How::Reads => reads::tell_reads(alloc, text, told),
+        How::Joins => joins::tell_joined(alloc, text, told),
         How::Ahead => reads::tell_ahead(alloc, text, told),
         How::Held => reads::tell_held(alloc, text, told),
         How::Width => answers::tell_width(alloc, text, told),

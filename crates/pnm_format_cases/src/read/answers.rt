@@ -45,7 +45,7 @@ pub fn tell_answers<R: BytesIn>(
 }
 
 /// Lets the message go; a row is then a spare one.
-fn let_go(message: Message, spares: &mut SpareRows) {
+pub fn let_go(message: Message, spares: &mut SpareRows) {
     match message {
         Message::Row(row) => spares.keep(row),
         other => drop(other),

@@ -9,6 +9,14 @@ use std::alloc::{AllocError, Global};
 /// The bytes that a read may give where the source tells what it holds.
 const FEW: [usize; 9] = [1, 2, 3, 5, 13, 64, 1000, 4096, 65_536];
 
+/// Says that the call with this number fails, from 1 on; none for 0.
+pub fn failing_at(number: usize) -> FailsOnce {
+    match number {
+        0 => FailsOnce::never(),
+        _ => FailsOnce::after(number - 1),
+    }
+}
+
 /// Adds the answers to a text of which a read gives up to so many bytes, and fails where it has this number, from 1 on.
 /// Gives what each read asked for and got.
 fn tell_recorded(
@@ -17,11 +25,7 @@ fn tell_recorded(
     (most, failing): (usize, usize),
     told: &mut String,
 ) -> Result<Vec<(usize, usize)>, AllocError> {
-    let fails = match failing {
-        0 => FailsOnce::never(),
-        _ => FailsOnce::after(failing - 1),
-    };
-    let mut reader = Recorded::new(alloc, Drips::new(text, most, fails));
+    let mut reader = Recorded::new(alloc, Drips::new(text, most, failing_at(failing)));
     let mut source = source_of(alloc, Device::new(&mut reader))?;
     tell_answers(alloc, &mut source, told)?;
     let _ = source.into_reader();

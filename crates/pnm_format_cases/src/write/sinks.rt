@@ -2,28 +2,38 @@
 
 use super::form_of;
 use pnm_image::{BytesOut, Device, Message};
-use pnm_test_support::{FailsOnce, Sips, Unmade, cut_number, cut_word, messages_of, tell_text};
+use pnm_test_support::{
+    FailsOnce, Handed, Sips, Unmade, cut_number, cut_word, handed_of, tell_text,
+};
 use pnm_write::{Form, Sink, SinkFault, WriteBuffer};
 use std::alloc::{AllocError, Global};
 
-/// Adds the faults of a sink that gets messages, which is flushed after each image where that is asked.
+/// Adds the faults of a sink that gets messages and rows, which is flushed after each image where that is asked.
 fn tell_put<W: BytesOut>(
     sink: &mut Sink<W>,
-    messages: &[Message],
+    all: &[Handed],
     is_flushed: bool,
     told: &mut String,
 ) -> Result<(), AllocError> {
-    for message in messages {
-        if let Err(fault) = sink.put(message) {
+    for handed in all {
+        if let Err(fault) = put(sink, handed) {
             write!(told, " {fault}")?;
         }
-        if is_flushed && matches!(message, Message::ImageEnd) {
+        if is_flushed && matches!(handed, Handed::Message(Message::ImageEnd)) {
             if let Err(fault) = sink.flush() {
                 write!(told, " flush {fault}")?;
             }
         }
     }
     Ok(())
+}
+
+/// Puts a message, or rows together.
+fn put<W: BytesOut>(sink: &mut Sink<W>, handed: &Handed) -> Result<(), SinkFault> {
+    match handed {
+        Handed::Message(message) => sink.put(message),
+        Handed::Rows(rows) => sink.put_rows(rows),
+    }
 }
 
 /// Adds how a stream ends.
@@ -35,16 +45,35 @@ pub fn tell_end(told: &mut String, end: Result<(), SinkFault>) -> Result<(), All
     }
 }
 
-/// Adds the faults of messages, how their stream ends, and the bytes.
+/// Adds the faults of messages, how their stream ends, and the bytes; and whether these are others where rows are held in
+/// few bits.
 pub fn tell_written(
     alloc: Global,
     form: Form,
     text: &[u8],
     told: &mut String,
 ) -> Result<(), Unmade> {
-    let messages = messages_of(alloc, text, false)?;
+    let mut narrow = String::new(alloc);
+    tell_held(alloc, form, text, false, told)?;
+    tell_held(alloc, form, text, true, &mut narrow)?;
+    if narrow.as_str() != told.as_str() {
+        told.push_str(" but narrow")?;
+        told.push_str(narrow.as_str())?;
+    }
+    Ok(())
+}
+
+/// Adds what comes of messages whose rows are held in as few bits as hold their samples, or in words.
+fn tell_held(
+    alloc: Global,
+    form: Form,
+    text: &[u8],
+    is_narrow: bool,
+    told: &mut String,
+) -> Result<(), Unmade> {
+    let all = handed_of(alloc, text, is_narrow)?;
     let mut sink = Sink::with_buffer(WriteBuffer::new(alloc)?, Device::new(Vec::new(alloc)), form);
-    tell_put(&mut sink, messages.as_slice(), false, told)?;
+    tell_put(&mut sink, all.as_slice(), false, told)?;
     let (writer, end) = sink.finish();
     tell_end(told, end)?;
     let bytes = writer.into_inner();
@@ -69,14 +98,14 @@ pub fn tell_sips(alloc: Global, text: &[u8], told: &mut String) -> Result<(), Un
     let (most, rest) = cut_number(rest);
     let (writes, rest) = cut_failing(rest);
     let (flushes, rest) = cut_failing(rest);
-    let messages = messages_of(alloc, rest, false)?;
+    let all = handed_of(alloc, rest, true)?;
     let mut sips = Sips::new(alloc, most, writes, flushes);
     let mut sink = Sink::with_buffer(
         WriteBuffer::new(alloc)?,
         Device::new(&mut sips),
         form_of(form),
     );
-    tell_put(&mut sink, messages.as_slice(), true, told)?;
+    tell_put(&mut sink, all.as_slice(), true, told)?;
     let (_, end) = sink.finish();
     tell_end(told, end)?;
     tell_text(told, sips.held())?;
