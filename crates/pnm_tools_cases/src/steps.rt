@@ -1,10 +1,14 @@
 //! Steps of a tool at work. A message is fed, and all is taken that the tool gives then. With a `~` before it, no
 //! message is told; with a `!`, nothing is taken. `?` takes one answer. A fault is told, and whether it doesn't stay.
+//! Rows between braces, in as few bits as hold their samples, are passed together: if the tool takes them so, what it
+//! makes of them stands between braces too, and else they are fed one by one.
 
 use super::tasks::{Task, tell_at_work};
 use pnm_filters::{RowState, RowWise};
-use pnm_image::{Message, SampleSlice, Samples};
-use pnm_test_support::{Unmade, cut_messages, messages_of, tell_message};
+use pnm_image::{Message, Rows, SampleSlice, Samples};
+use pnm_test_support::{
+    Unmade, cut_at, cut_messages, messages_of, rows_of, tell_message, tell_rows,
+};
 use pnm_tools::{Filter, Tool, ToolFault};
 use std::alloc::{AllocError, Global};
 
@@ -78,6 +82,11 @@ pub fn go<F: Filter>(
                 tell_next(state, told)?;
                 after
             }
+            Some((b'{', after)) => {
+                let (together, after) = cut_at(after, b'}');
+                pass_together(alloc, state, together, told)?;
+                after
+            }
             Some((b'~', after)) => pass(alloc, state, Step::Drops, after, is_narrow, told)?,
             Some((b'!', after)) => pass(alloc, state, Step::Takes, after, is_narrow, told)?,
             Some(_) => pass(alloc, state, Step::Passes, rest, is_narrow, told)?,
@@ -98,17 +107,57 @@ fn pass<'a, F: Filter>(
     let mut messages = Vec::new(alloc);
     let rest = cut_messages(alloc, text, is_narrow, &mut messages)?;
     for message in messages {
-        match state.feed(message) {
-            Ok(()) if step == Step::Passes => take_all(state, told)?,
-            Ok(()) if step == Step::Drops => drop_all(state, told)?,
-            Ok(()) => {}
-            Err(fault) => {
-                write!(told, " {fault}")?;
-                tell_stays(state, fault, told)?;
-            }
-        }
+        pass_one(state, step, message, told)?;
     }
     Ok(rest)
+}
+
+/// Passes on a message.
+fn pass_one<F: Filter>(
+    state: &mut F,
+    step: Step,
+    message: Message,
+    told: &mut String,
+) -> Result<(), AllocError> {
+    match state.feed(message) {
+        Ok(()) if step == Step::Passes => take_all(state, told),
+        Ok(()) if step == Step::Drops => drop_all(state, told),
+        Ok(()) => Ok(()),
+        Err(fault) => {
+            write!(told, " {fault}")?;
+            tell_stays(state, fault, told)
+        }
+    }
+}
+
+/// Passes on rows together, or one by one where the tool doesn't take them so.
+fn pass_together<F: Filter>(
+    alloc: Global,
+    state: &mut F,
+    text: &[u8],
+    told: &mut String,
+) -> Result<(), Unmade> {
+    match state.pass_rows(rows_of(alloc, text, true)?) {
+        Ok(made) => {
+            tell_rows(alloc, told, &made)?;
+            Ok(take_all(state, told)?)
+        }
+        Err(rows) => Ok(pass_each(alloc, state, &rows, told)?),
+    }
+}
+
+/// Passes on the rows one by one.
+fn pass_each<F: Filter>(
+    alloc: Global,
+    state: &mut F,
+    rows: &Rows,
+    told: &mut String,
+) -> Result<(), AllocError> {
+    for at in 0..rows.count() {
+        let row = rows.row(alloc, at)?;
+        pass_one(state, Step::Passes, Message::Row(row), told)?;
+    }
+    Ok(())
 }
 
 /// Adds the next answer.
