@@ -18,8 +18,8 @@ pub enum Way {
 }
 
 /// In one thread, and over rings of the least room, of two messages and of the most room, with one lane and with three;
-/// and with two lanes and with the most.
-pub const WAYS: [Way; 9] = [
+/// with two lanes and with the most; and over rings of the room that the program gives them, with one lane.
+pub const WAYS: [Way; 10] = [
     Way::OneThread,
     Way::Threads(1, 1),
     Way::Threads(2, 1),
@@ -29,6 +29,7 @@ pub const WAYS: [Way; 9] = [
     Way::Threads(1_024, 3),
     Way::Threads(1, 2),
     Way::Threads(1, 8),
+    Way::Threads(64, 1),
 ];
 
 /// The run of these tools that writes in this form, in this way.

@@ -45,8 +45,8 @@ pub fn tell_end(told: &mut String, end: Result<(), SinkFault>) -> Result<(), All
     }
 }
 
-/// Adds the faults of messages, how their stream ends, and the bytes; and whether these are others where rows are held in
-/// few bits.
+/// Adds the faults of messages, how their stream ends, and the bytes; and the same of rows that are held in few bits,
+/// if that is something else.
 pub fn tell_written(
     alloc: Global,
     form: Form,
