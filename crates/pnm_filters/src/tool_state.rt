@@ -16,6 +16,7 @@ use crate::invert::Inverter;
 use crate::state::State;
 use crate::tile::Tiler;
 use crate::transpose::Transposer;
+use pnm_image::SampleWidth;
 use pnm_tools::{FlipWay, FusedFilter, Tool, ToolFault};
 use std::alloc::Global;
 
@@ -66,11 +67,13 @@ fn flip(alloc: Global, way: FlipWay) -> AnyTool
     }
 }
 
-/// Whether the tool takes rows together, where it can: of each it makes one row by itself, in place.
-pub fn passes_rows(tool: &Tool) -> bool {
+/// Whether the tool passes rows together that are held so, as far as can be told beforehand: of each it makes one row by
+/// itself, in place.
+pub fn passes_rows(tool: &Tool, sample_width: SampleWidth) -> bool {
     match tool {
-        Tool::Invert | Tool::Cut(_) | Tool::Depth(_) => true,
-        Tool::Flip(FlipWay::Null | FlipWay::LeftRight) => true,
+        Tool::Invert | Tool::Flip(FlipWay::Null) => true,
+        Tool::Cut(_) | Tool::Flip(FlipWay::LeftRight) => sample_width == SampleWidth::Bytes,
+        Tool::Depth(maxval) => sample_width == SampleWidth::Bytes && *maxval <= 255,
         Tool::Channel(_) | Tool::Enlarge(_, _) | Tool::Flip(_) | Tool::Tile(_, _) => false,
     }
 }

@@ -23,9 +23,9 @@ ghost use Rattle.pnm_flow.specs.ThreadedRuns.{answer_over, fault_of_end, first_f
 
 use crate::chain::{ChainDone, run_chain_beside};
 use pnm_filters::passes_rows;
-use pnm_image::{BytesIn, BytesOut, Form};
+use pnm_image::{BytesIn, BytesOut, Form, SampleWidth};
 use pnm_read::{InputFault, Source};
-use pnm_serial::{Buffers, Collector, Feeder, RunFault, Summary, Turns};
+use pnm_serial::{Buffers, Collector, Feeder, JoinedRows, RunFault, Summary, Turns};
 use pnm_stages::{Gate, Receiver, Sender, StageEnd, new_ring};
 use pnm_tools::Tool;
 use pnm_write::SinkFault;
@@ -72,7 +72,7 @@ pub fn run<H: Threads + Wait + Sync, R: BytesIn, W: BytesOut, G: Gate>(
         Err(fault) => return Err(RunFault::Input(fault)),
     };
     let source = Source::with_buffer(read, &mut *reader);
-    let feeder = Feeder::new(source, to_chain, joins_rows(tools, form, lanes));
+    let feeder = Feeder::new(source, to_chain, joined_rows(tools, form, lanes));
     let collector = Collector::new(from_chain, write, &mut *writer, form);
     let both = beside_chain(
         rt, alloc, tools, capacity, lanes, gate, input, output, feeder, collector,
@@ -87,10 +87,20 @@ pub fn run<H: Threads + Wait + Sync, R: BytesIn, W: BytesOut, G: Gate>(
     answer
 }
 
-/// Whether short rows are sent together: each tool takes them so, over one lane, and they are written raw. Elsewhere
-/// each would have to be taken out again.
-fn joins_rows(tools: &[Tool], form: Form, lanes: usize) -> bool {
-    lanes == 1 && form == Form::Raw && tools.iter().all(passes_rows)
+/// Which short rows are sent together: those that each tool passes so, over one lane, and that are written raw. Others
+/// would have to be taken out again.
+fn joined_rows(tools: &[Tool], form: Form, lanes: usize) -> JoinedRows {
+    let may_join = lanes == 1 && form == Form::Raw;
+    JoinedRows {
+        bits: may_join
+            && tools
+                .iter()
+                .all(|tool| passes_rows(tool, SampleWidth::Bits)),
+        bytes: may_join
+            && tools
+                .iter()
+                .all(|tool| passes_rows(tool, SampleWidth::Bytes)),
+    }
 }
 
 /// Runs the chain, and the caller's turns beside it, once each of its threads is started; none where one can't be.

@@ -1,5 +1,5 @@
 -- What a feeder has sent, once it has asked its source for one message more.
-use Rattle.std.proofs.Common.{◌≡◌, ◌⊎◌, ℕ, List, [], ◌∷◌, ◌++◌, Option, Some, None, Ok, Err, refl, sym, ap, subst, ◌∙◌, append_assoc, append-nil}
+use Rattle.std.proofs.Common.{◌≡◌, ◌⊎◌, ℕ, Bool, List, [], ◌∷◌, ◌++◌, Option, Some, None, Ok, Err, refl, sym, ap, subst, ◌∙◌, append_assoc, append-nil}
 use Rattle.pnm_stages.specs.Rings.{sent}
 use Rattle.pnm_stages.specs.declared.sender.Sender.{Sender}
 use Rattle.pnm_image.specs.Devices.{Failed}
@@ -110,7 +110,7 @@ asked_of left failures first before f input feeding = subst (HasAskedBy left fai
 
 -- a message was given, and sent
 pub feeds_more : {R : Type 0} (left : R → Option (List ℕ)) (failures : R → ℕ) (first : Source R) (before : List Message) (f : Feeder R) (next : Source R)
-    (m : Message) (output : Sender) (images : ℕ)
+    (m : Message) (output : Sender) (images : ℕ) (joins_rows : Bool)
     → f.input ≡ None
     → sent output ≡ sent f.output ++ m ∷ []
     → Tells left f.source (Ok (Some m)) next
@@ -118,8 +118,8 @@ pub feeds_more : {R : Type 0} (left : R → Option (List ℕ)) (failures : R →
     → IsUnreadAfter left f.source next
     → failures (reader_of next) ≡ failures (reader_of f.source)
     → IsFeeding left failures first before f
-    → IsFeeding left failures first before (record f { source = next; output = output; images = images })
-feeds_more left failures first before f next m output images input added t end unread count feeding =
+    → IsFeeding left failures first before (record f { source = next; output = output; images = images; joins_rows = joins_rows })
+feeds_more left failures first before f next m output images joins_rows input added t end unread count feeding =
     let asked : HasAsked left failures first next (feeding.given ++ m ∷ []) =
     asked_more left failures first f.source next feeding.given m (asked_of left failures first before f input feeding) t end unread count in
     record {

@@ -6,13 +6,22 @@ ghost use Rattle.pnm_image.specs.declared.message.Message.{Message as MessageVal
 ghost use Rattle.pnm_read.specs.Sources.{reader_of, IsFreshSource as IsUnread};
 
 use crate::summary::count_image;
-use pnm_image::{BytesIn, Message};
+use pnm_image::{BytesIn, Message, SampleWidth};
 use pnm_read::{InputFault, Source, SpareRows};
 use pnm_stages::{Backoff, Sender};
 use std::sync::Wait;
 
 /// So many messages are sent in a turn at most, beside the first.
 const MOST_MESSAGES: u32 = 64;
+
+/// Of which images a feeder sends the rows together that its source holds whole, by how they are held.
+#[derive(Clone, Copy)]
+pub struct JoinedRows {
+    /// Of those of bits.
+    pub bits: bool,
+    /// Of those of bytes.
+    pub bytes: bool,
+}
 
 /// The source of a run, and the ring that its messages go into.
 #[derive(Drop)]
@@ -27,7 +36,8 @@ pub struct Feeder<R> {
     is_gone: bool,
     /// The images whose end was sent, up to `u64::MAX`.
     images: u64,
-    /// Rows that the source holds whole are sent together.
+    /// Which rows are sent together, and whether those of this image are.
+    joined: JoinedRows,
     joins_rows: bool,
 }
 
@@ -35,8 +45,9 @@ impl<R: BytesIn + Drop> Feeder<R> {
     ghost use Rattle.pnm_serial.specs.Feeders.{IsFeeding, feeder_is_over};
 
     /// A feeder that has sent nothing yet. Of short messages it sends a few before it wakes the
-    /// first tool (`wake_receiver`). Where it is to join rows, it sends those together that the source holds whole.
-    pub fn new(source: Source<R>, output: Sender, joins_rows: bool) -> Feeder<R>
+    /// first tool (`wake_receiver`). Of the images that are named it sends those rows together that the source holds
+    /// whole.
+    pub fn new(source: Source<R>, output: Sender, joined: JoinedRows) -> Feeder<R>
         requires { IsUnread (reader_of source) source }
         ensures feeding { IsFeeding R.left R.failures source (sent output) result }
         ensures parts { (result.source ≡ source) × SameSender output result.output
@@ -50,7 +61,8 @@ impl<R: BytesIn + Drop> Feeder<R> {
             input: None,
             is_gone: false,
             images: 0,
-            joins_rows,
+            joined,
+            joins_rows: false,
         }
     }
 
@@ -187,6 +199,7 @@ impl<R: BytesIn + Drop> Feeder<R> {
         match self.source.next(spares) {
             Ok(Some(message)) => {
                 let is_end = message.ends_image();
+                self.joins_rows = joins_next(self.joined, self.joins_rows, &message);
                 self.output.send_reserved(message);
                 count_image(&mut self.images, is_end);
             }
@@ -210,5 +223,23 @@ impl<R: BytesIn + Drop> Feeder<R> {
             ..
         } = self;
         (source.into_reader(), output, input)
+    }
+}
+
+/// Whether the rows that come after the message are sent together, where those before it are or not: of an image that
+/// has several.
+fn joins_next(joined: JoinedRows, joins_rows: bool, message: &Message) -> bool {
+    match message {
+        Message::Begin(head) => {
+            let shape = head.shape();
+            shape.height > 1
+                && match SampleWidth::of(shape.kind, shape.maxval) {
+                    SampleWidth::Bits => joined.bits,
+                    SampleWidth::Bytes => joined.bytes,
+                    SampleWidth::Words => false,
+                }
+        }
+        Message::Row(_) => joins_rows,
+        Message::ImageEnd | Message::StreamEnd | Message::Stop => false,
     }
 }

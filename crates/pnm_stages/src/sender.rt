@@ -9,7 +9,7 @@ use crate::backoff::Backoff;
 use crate::parcel::Parcel;
 use crate::ring::AnyMessage;
 use crate::wakers::SenderWaker;
-use pnm_image::{Message, Rows, SampleSlice, Samples};
+use pnm_image::{Message, Rows, SampleSlice};
 use rtrb::Producer;
 use std::alloc::Global;
 use std::sync::Wait;
@@ -195,23 +195,18 @@ impl Sender {
     }
 }
 
-/// The bytes that a parcel's samples take; none of one that ends the stream, which is waited for.
+/// The bytes that a message's samples take, and 0 of rows together, which are soon made, as their bytes are copied alone;
+/// none of one that ends the stream, which is waited for.
 fn bytes_of(parcel: &Parcel) -> Option<usize> {
     match parcel {
-        Parcel::Message(Message::Row(row)) => Some(size_of(row)),
-        Parcel::Rows(rows) => Some(size_of(rows.samples())),
+        Parcel::Message(Message::Row(row)) => Some(match row.as_slice() {
+            SampleSlice::Bits(bits) => bits.as_bytes().len(),
+            SampleSlice::Bytes(bytes) => bytes.len(),
+            SampleSlice::Words(words) => words.len().saturating_mul(2),
+        }),
+        Parcel::Rows(_) => Some(0),
         Parcel::Message(Message::Begin(_) | Message::ImageEnd) => Some(0),
         Parcel::Message(Message::StreamEnd | Message::Stop) => None,
-    }
-}
-
-/// The bytes that samples take.
-#[inline(always)]
-fn size_of(samples: &Samples) -> usize {
-    match samples.as_slice() {
-        SampleSlice::Bits(bits) => bits.as_bytes().len(),
-        SampleSlice::Bytes(bytes) => bytes.len(),
-        SampleSlice::Words(words) => words.len().saturating_mul(2),
     }
 }
 

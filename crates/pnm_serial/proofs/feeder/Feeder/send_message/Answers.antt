@@ -7,7 +7,7 @@ use Rattle.pnm_serial.proofs.feeder.Feeder.send_message.Goals as goal
 pub returns-in-Ok-Some-clause-feeding : goal.returns-in-Ok-Some-clause-feeding
 returns-in-Ok-Some-clause-feeding g c first before =
     let told = rw c.in-Ok-Some.field-0-is at c.in-Ok-Some.ensures.told in
-    feeds_more g.R.BytesIn.left g.R.BytesIn.failures first before c.args.self.now c.next.new.self c.in-Ok-Some.message c.send_reserved.new.self _
+    feeds_more g.R.BytesIn.left g.R.BytesIn.failures first before c.args.self.now c.next.new.self c.in-Ok-Some.message c.send_reserved.new.self _ _
     c.requires.going c.send_reserved.ensures.sent told c.next.ensures.end c.next.ensures.unread (c.in-Ok-Some.ensures.count (no_fault _ ReadFailed))
 
 pub returns-in-Ok-None-clause-feeding : goal.returns-in-Ok-None-clause-feeding
