@@ -67,8 +67,8 @@ fn flip(alloc: Global, way: FlipWay) -> AnyTool
     }
 }
 
-/// Whether the tool passes rows together that are held so, as far as can be told beforehand: of each it makes one row by
-/// itself, in place.
+/// Whether the tool passes rows together that are held so, as far as can be told beforehand: of each it makes one row
+/// by itself, in place.
 pub fn passes_rows(tool: &Tool, sample_width: SampleWidth) -> bool {
     match tool {
         Tool::Invert | Tool::Flip(FlipWay::Null) => true,

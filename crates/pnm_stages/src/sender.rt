@@ -195,8 +195,8 @@ impl Sender {
     }
 }
 
-/// The bytes that a message's samples take, and 0 of rows together, which are soon made, as their bytes are copied alone;
-/// none of one that ends the stream, which is waited for.
+/// The bytes that a message's samples take, and 0 of rows together, which are soon made, as their bytes are copied
+/// alone; none of one that ends the stream, which is waited for.
 fn bytes_of(parcel: &Parcel) -> Option<usize> {
     match parcel {
         Parcel::Message(Message::Row(row)) => Some(match row.as_slice() {
