@@ -87,8 +87,8 @@ pub fn run<H: Threads + Wait + Sync, R: BytesIn, W: BytesOut, G: Gate>(
     answer
 }
 
-/// Which short rows are sent together: those that each tool passes so, over one lane, and that are written raw. Others
-/// would have to be taken out again.
+/// Which short rows are sent together: those that each tool passes so, as far as its options tell, over one lane, and
+/// that are written raw. Others would have to be taken out again.
 fn joined_rows(tools: &[Tool], form: Form, lanes: usize) -> JoinedRows {
     let may_join = lanes == 1 && form == Form::Raw;
     JoinedRows {

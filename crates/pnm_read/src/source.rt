@@ -130,8 +130,8 @@ impl<R: BytesIn> Source<R> {
     /// these are two or more of at most 512 bytes each, and fill their bytes. Otherwise, and where one of them has a
     /// sample above the maxval, `None`: then `next` tells what comes. It makes no read.
     ///
-    /// The only fault is `Memory`, which stays as it does for `next`. The memory of the rows is taken from the spares,
-    /// where there is some that they fit in.
+    /// The only fault is `Memory`, after which this answers `None` and `next` the fault. The memory of the rows is
+    /// taken from the spares, where there is some that they fit in.
     pub fn next_rows(&mut self, spares: &mut SpareRows) -> Result<Option<Rows>, InputFault>
         // Rows come in turn; without any nothing has changed.
         ensures told { IfOk result (λ r. IfSome r (TellsRows self.old self.new)) }
@@ -139,7 +139,10 @@ impl<R: BytesIn> Source<R> {
         ensures going { IfOk result (λ r. IfSome r (λ _.
             (stopped_by self.new ≡ None) × (has_ended self.new ≡ false))) }
 
-        // A fault stays.
+        // The end and a fault stay.
+        ensures for_good { has_ended self.old ≡ true → (result ≡ Ok None) × (self.new ≡ self.old) }
+        ensures stays { (fault : Fault) → stopped_by self.old ≡ Some fault
+            → (result ≡ Ok None) × (self.new ≡ self.old) }
         ensures refused { IfErr result (λ fault. (fault ≡ Memory)
             × Tells R.left self.old (Err fault) self.new) }
         ensures stopped { IfErr result (λ fault. stopped_by self.new ≡ Some fault) }

@@ -18,6 +18,12 @@ messages_in (Together rows) = row_messages rows
 unfoldable pub messages_of : List Parcel → List Message
 messages_of parcels = flat_map messages_in parcels
 
+-- no message comes first: nothing does, or rows together
+abbrev pub BeginsByNoMessage : List Parcel → Type 0
+BeginsByNoMessage [] = Unit {0}
+BeginsByNoMessage (One message ∷ parcels) = ⊥
+BeginsByNoMessage (Together rows ∷ parcels) = Unit {0}
+
 -- how the last message of a parcel ends the stream
 abbrev pub ending_of_parcel : Parcel → Ending
 ending_of_parcel (One message) = ending_of message

@@ -5,7 +5,7 @@ ghost use Rattle.std.specs.List.{AllByRecursion};
 ghost use Rattle.pnm_image.specs.Messages.{IsMessage};
 ghost use Rattle.pnm_stages.specs.Rings.{sent, received, known_items, IsPair, SameSender, SameReceiver, HasDrained};
 ghost use Rattle.pnm_stages.specs.Rings.{known_parcels, HasDrainedAfter};
-ghost use Rattle.pnm_stages.specs.Parcels.{messages_in};
+ghost use Rattle.pnm_stages.specs.Parcels.{messages_in, BeginsByNoMessage};
 ghost use Rattle.pnm_stages.specs.declared.parcel.Parcel.{Parcel as ParcelValue};
 
 use crate::backoff::Backoff;
@@ -46,6 +46,7 @@ impl Receiver {
         ensures received { received self.new ≡ received self.old }
         ensures some { IsTrue result → 0 < length (known_parcels self.new) }
         ensures none { IsFalse result → known_items self.new ≡ [] }
+        ensures empty { IsFalse result → known_parcels self.new ≡ [] }
     {
         self.has_seen_message() || self.look()
     }
@@ -56,6 +57,7 @@ impl Receiver {
         ensures received { received self.new ≡ received self.old }
         ensures some { IsTrue result → 0 < length (known_parcels self.new) }
         ensures none { IsFalse result → known_items self.new ≡ [] }
+        ensures empty { IsFalse result → known_parcels self.new ≡ [] }
     {
         let seen = self.ring.slots();
         self.half = seen / 2;
@@ -66,6 +68,7 @@ impl Receiver {
     pub fn has_seen_message(&self) -> bool
         ensures some { IsTrue result → 0 < length (known_parcels self.now) }
         ensures none { IsFalse result → known_items self.now ≡ [] }
+        ensures empty { IsFalse result → known_parcels self.now ≡ [] }
     {
         self.ring.cached_slots() > 0
     }
@@ -95,6 +98,7 @@ impl Receiver {
         ensures ring { SameReceiver self.old self.new }
         ensures received { received self.new ≡ received self.old ++ messages_in result }
         ensures seen { known_parcels self.old ≡ result ∷ known_parcels self.new }
+        ensures some { 0 < length (messages_in result) }
         ensures messages { AllByRecursion IsMessage (messages_in result) }
     {
         let parcel = self.ring.pop_known();
@@ -123,6 +127,7 @@ impl Receiver {
     pub fn receive<R: Wait>(&mut self, rt: &R, backoff: &mut Backoff) -> Option<Parcel>
         ensures ring { SameReceiver self.old self.new }
         ensures taken { IfSome result (λ p. received self.new ≡ received self.old ++ messages_in p) }
+        ensures some { IfSome result (λ p. 0 < length (messages_in p)) }
         ensures messages { IfSome result (λ p. AllByRecursion IsMessage (messages_in p)) }
         ensures none_seen { IfNone result ((received self.new ≡ received self.old) × (known_items self.new ≡ [])) }
     {
@@ -138,7 +143,8 @@ impl Receiver {
         ensures ring { SameReceiver self.old self.new }
         ensures taken { IfSome result (λ m. received self.new ≡ received self.old ++ m ∷ []) }
         ensures message { IfSome result IsMessage }
-        ensures none { IfNone result (received self.new ≡ received self.old) }
+        ensures none { IfNone result
+            ((received self.new ≡ received self.old) × BeginsByNoMessage (known_parcels self.new)) }
     {
         if !self.has_message() && !self.wait_for_message(rt, backoff) {
             return None;
@@ -160,6 +166,7 @@ impl Receiver {
         ensures received { received self.new ≡ received self.old }
         ensures some { IsTrue result → 0 < length (known_parcels self.new) }
         ensures none { IsFalse result → known_items self.new ≡ [] }
+        ensures empty { IsFalse result → known_parcels self.new ≡ [] }
     {
         backoff.reset();
         for _ in rt.forever() {
@@ -213,13 +220,17 @@ impl Receiver {
     }
 }
 
-/// No effect. A proof learns that the head of an image keeps the rules of heads.
+/// No effect. A proof learns that a parcel is a message at least, and that the head of an image keeps the rules of
+/// heads.
 fn recognise(parcel: &Parcel)
-    ensures { AllByRecursion IsMessage (messages_in parcel.now) }
+    ensures some { 0 < length (messages_in parcel.now) }
+    ensures messages { AllByRecursion IsMessage (messages_in parcel.now) }
 {
     match parcel {
         Parcel::Message(message) => recognise_message(message),
-        Parcel::Rows(_) => {}
+        Parcel::Rows(rows) => {
+            let _ = rows.count();
+        }
     }
 }
 

@@ -45,7 +45,8 @@ pub enum StageEnd {
     /// The tool refused so; Stop was sent, and the input was taken and dropped through its end or its
     /// Stop.
     Fault(ToolFault),
-    /// The other end of a ring was seen dropped. Where it was the output's, the input was drained
+    /// The other end of a ring was seen dropped; or rows came together where messages alone are taken, before lanes and
+    /// behind them. Where it was the output's, the input was drained
     /// first; where it was the input's, Stop was sent.
     PeerGone,
 }

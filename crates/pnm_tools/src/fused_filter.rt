@@ -1,7 +1,7 @@
 //! A tool at work: what it is fed, what it gives, and its refusal.
 
 ghost use Rattle.std.specs.Prelude.{◌≡◌, ◌<◌, ◌∷◌, ◌++◌, [], List, true, IfSome, IfNone, IsTrue, IsFalse};
-ghost use Rattle.std.specs.Prelude.{IfOk, IfErr, Some, None, length};
+ghost use Rattle.std.specs.Prelude.{OnOk, IfOk, IfErr, Some, None, length};
 ghost use Rattle.pnm_image.specs.declared.message.Ending.TheVariants.{More};
 ghost use Rattle.pnm_image.specs.declared.message.Message.{Message as MessageValue};
 ghost use Rattle.pnm_image.specs.Messages.{EndsBy};
@@ -104,6 +104,7 @@ impl<F: Filter + Drop> FusedFilter<F> {
             → FilterAt F.at F.all_given F.stopped self.old tool l g
             → FilterAt F.at F.all_given F.stopped self.new tool (l ++ row_messages rows) (g ++ row_messages made)) }
         ensures each { IfOk result (λ made. length made ≡ length rows) }
+        ensures goes_on { OnOk result ((refusal_in self.old ≡ None) × (refusal_in self.new ≡ None)) }
         ensures kept { IfErr result (λ same. (same ≡ rows) × (self.new ≡ self.old)) }
     {
         match self {

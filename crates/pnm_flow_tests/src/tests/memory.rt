@@ -227,14 +227,14 @@ fn ends_well_in_threads_with_memory(rt: HostRuntime) {
     assert!(rt; is_well);
 }
 
-/// An image whose rows come together, and what `pamflip -leftright` makes of it: it takes each row by itself.
+/// An image whose rows come together, and what `pamenlarge -xscale 2` makes of it: it takes each row by itself.
 const TOGETHER: &[u8] = b"Gray 2 3 1 9 {[1 2] [3 4] [5 6]} ImageEnd StreamEnd";
 
-const TURNED: &[Part<'static>] = &[
-    Part::Begin(Kind::Gray, 2, 3, 9),
-    Part::Row(&[2, 1]),
-    Part::Row(&[4, 3]),
-    Part::Row(&[6, 5]),
+const WIDENED: &[Part<'static>] = &[
+    Part::Begin(Kind::Gray, 4, 3, 9),
+    Part::Row(&[1, 1, 2, 2]),
+    Part::Row(&[3, 3, 4, 4]),
+    Part::Row(&[5, 5, 6, 6]),
     Part::ImageEnd,
     Part::StreamEnd,
 ];
@@ -243,12 +243,12 @@ const TURNED: &[Part<'static>] = &[
 fn takes_rows_apart<R: Wait + Abort>(rt: &R, alloc: Global) -> Result<bool, Unmade> {
     let (_producer, input) = holding_written(alloc, TOGETHER)?;
     let (output, mut consumer) = ring(alloc, 8)?;
-    let tool = Tool::Flip(FlipWay::LeftRight);
+    let tool = Tool::Enlarge(2, 1);
     if !tool.is_lawful() {
         return Err(Unmade);
     }
     let done = run_stage(rt, alloc, &tool, 1, &OpenGate, input, output);
-    let is_stopped = ends_by_stop(rt, &mut consumer, TURNED);
+    let is_stopped = ends_by_stop(rt, &mut consumer, WIDENED);
     let is_well = done.end == StageEnd::Well;
     let is_short = done.end == StageEnd::Fault(ToolFault::Memory);
     assert!(rt; is_well != is_stopped && is_short == is_stopped);
@@ -261,7 +261,7 @@ fn takes_rows_apart_or_runs_out(rt: HostRuntime) {
     let _ = takes_rows_apart(&rt, rt.alloc());
 }
 
-/// Where no growth is refused each of the rows is turned.
+/// Where no growth is refused each of the rows is widened.
 #[test]
 fn takes_rows_apart_with_memory(rt: HostRuntime) {
     let is_well = takes_rows_apart(&rt, rt.alloc()).unwrap_or(false);

@@ -26,7 +26,7 @@ returns-in_default-clause-dealt g c =
     breaks_off PeerGone c.break_off.result More More (received c.args.input.now) (received c.receive_message.new.self)
     (received c.break_off.new.input) (known_items c.break_off.new.input) c.args.outputs.now c.loop.outputs c.break_off.new.outputs
     (cut_here c.loop.place (received c.args.input.now) (received c.loop.input) (received c.receive_message.new.self) c.args.outputs.now c.loop.outputs
-    c.loop.invariant.2 c.in_default.ensures.none) refl c.break_off.ensures.broken
+    c.loop.invariant.2 c.in_default.ensures.none.0) refl c.break_off.ensures.broken
 
 pub returns-then-not-accepts-clause-dealt : goal.returns-then-not-accepts-clause-dealt
 returns-then-not-accepts-clause-dealt g c =

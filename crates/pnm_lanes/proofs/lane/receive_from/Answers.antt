@@ -15,7 +15,7 @@ pub returns-in_default-clause-taken : goal.returns-in_default-clause-taken
 returns-in_default-clause-taken g c = (
   refl,
   λ other. has_given_none c.args.inputs.now c.args.lane c.receive_message.new.self c.index-inputs-lane.result other c.requires.lane
-      c.in_default.ensures.none,
+      c.in_default.ensures.none.0,
 )
 
 pub returns-in-More-clause-inputs : goal.returns-in-More-clause-inputs
