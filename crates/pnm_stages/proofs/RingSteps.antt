@@ -1,14 +1,13 @@
 -- What a ring has passed, message by message.
-use Rattle.std.proofs.Common.{◌≡◌, ◌⊎◌, inl, inr, List, [], ◌∷◌, ◌++◌, refl, sym, ap, subst, ◌∙◌, append_assoc}
+use Rattle.std.proofs.Common.{◌≡◌, ◌⊎◌, inl, inr, List, [], ◌∷◌, ◌++◌, refl, sym, subst, ◌∙◌}
 use Rattle.pnm_image.specs.declared.message.Message.{Message}
-use Rattle.pnm_image.specs.Messages.{IsMessage, ending_of, EndsBy}
-use Rattle.pnm_image.proofs.Lists.{each-push}
+use Rattle.pnm_image.specs.Messages.{ending_of, EndsBy}
 use Rattle.pnm_image.specs.declared.message.Ending.{Ending}
 use Rattle.pnm_image.specs.declared.message.Ending.TheVariants.{More, Whole, BrokenOff}
 use Rattle.pnm_stages.specs.declared.sender.Sender.{Sender}
 use Rattle.pnm_stages.specs.declared.receiver.Receiver.{Receiver}
 use Rattle.pnm_tools.proofs.InFullLaws.{EndNothing, ends_after}
-use Rattle.pnm_stages.specs.Rings.{Extends, IsEnded, IsPair, SameSender, SameReceiver}
+use Rattle.pnm_stages.specs.Rings.{IsPair, SameSender, SameReceiver}
 
 -- no message of a list that goes on ends it
 pub ends_nothing : (l : List Message) → EndsBy More l → EndNothing l
@@ -22,27 +21,6 @@ ends_with l m more = ends_after (ending_of m) l (m ∷ []) (ends_nothing l more)
 
 pub ends_as : (e : Ending) (l : List Message) (m : Message) → EndsBy More l → ending_of m ≡ e → EndsBy e (l ++ m ∷ [])
 ends_as e l m more same = subst (λ (x : Ending). EndsBy x (l ++ m ∷ [])) same (ends_with l m more)
-
--- a message was added
-extends_by_one : (P : List Message → Type 0) (l now new : List Message) (m : Message) (extends : Extends l now (EndsBy More)) → new ≡ now ++ m ∷ []
-    → IsMessage m → P (extends.more ++ m ∷ []) → Extends l new P
-extends_by_one P l now new m extends added is holds = record {
-  more = extends.more ++ m ∷ [];
-  added = added ∙ ap (λ (x : List Message). x ++ m ∷ []) extends.added ∙ append_assoc l extends.more (m ∷ []);
-  messages = each-push IsMessage extends.more m extends.messages is;
-  holds = holds;
-}
-
-pub goes_on : (e : Ending) (l now new : List Message) (m : Message) → Extends l now (EndsBy More) → new ≡ now ++ m ∷ [] → IsMessage m → ending_of m ≡ e
-    → Extends l new (EndsBy e)
-goes_on e l now new m extends added is same = extends_by_one (EndsBy e) l now new m extends added is (ends_as e extends.more m extends.holds same)
-
-pub drains_to_end : (l now new : List Message) (m : Message) → Extends l now (EndsBy More) → new ≡ now ++ m ∷ [] → IsMessage m → (ending_of m ≡ Whole)
-    ⊎ (ending_of m ≡ BrokenOff) → Extends l new IsEnded
-drains_to_end l now new m extends added is (inl whole) =
-    extends_by_one IsEnded l now new m extends added is (inl (ends_as Whole extends.more m extends.holds whole))
-drains_to_end l now new m extends added is (inr broken) =
-    extends_by_one IsEnded l now new m extends added is (inr (ends_as BrokenOff extends.more m extends.holds broken))
 
 -- by how a message ends the stream, as a function answers it
 pub says_end : (a : Ending) (m : Message) → a ≡ ending_of m → (a ≡ Whole) ⊎ (a ≡ BrokenOff) → (ending_of m ≡ Whole)

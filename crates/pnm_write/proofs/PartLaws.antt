@@ -1,6 +1,6 @@
 -- Parts of samples, and parts of these.
 use Rattle.std.proofs.Common.{◌≡◌, ℕ, ◌+◌, ◌-◌, ◌≤◌, List, length, take, drop, sym, ap, ◌∙◌, arith}
-use Rattle.std.proofs.lemmas.List.{take_all, take-take, drop-take, drop-drop, length-take, length-drop}
+use Rattle.std.proofs.lemmas.List.{take-take, drop-take, drop-drop, length-take, length-drop}
 
 -- a part of a part is a part of all samples
 pub part_of_part : (start count done size : ℕ) (samples : List ℕ) → done + size ≤ count
@@ -16,7 +16,3 @@ part_of_part start count done size samples within =
 -- a part has as many samples as were asked for
 pub length-part : (start count : ℕ) (samples : List ℕ) → start + count ≤ length samples → length (take count (drop start samples)) ≡ count
 length-part start count samples within = omega (arith, within, length-take count (drop start samples), length-drop start samples)
-
--- all samples are a part
-pub whole_part : (count : ℕ) (samples : List ℕ) → count ≡ length samples → take count (drop 0 samples) ≡ samples
-whole_part count samples all = take_all count samples (omega (arith, all))
