@@ -12,12 +12,17 @@ import tempfile
 
 from bench import median_of, same_bytes, shown
 
+PAGE_CHAIN = "pamcut -left 8 -right -9 | pamflip -lr | pnminvert"
+LETTER_CHAIN = "pamcut -left 75 -right -76 | pamflip -lr | pnminvert"
+ICON_CHAINS = ["pamcut -left 8", "pamcut -left 8 | pamdepth 127"]
+
 # the name, the header and the bytes of the raster of an image, how many there are, and the chains
 STREAMS = [
-    ("page", b"P4\n2480 56128\n", 310 * 56128, 1, ["pnminvert", "pamcut -left 8 -right -9 | pamflip -lr | pnminvert"]),
+    ("page", b"P4\n2480 56128\n", 310 * 56128, 1, ["pnminvert", PAGE_CHAIN]),
+    ("letter", b"P4\n2550 56128\n", 319 * 56128, 1, ["pnminvert", LETTER_CHAIN]),
     ("label", b"P4\n384 400000\n", 48 * 400000, 1, ["pnminvert"]),
     ("narrow", b"P5\n64 500000\n255\n", 64 * 500000, 1, ["pamcut -left 8 | pamdepth 127"]),
-    ("icons", b"P5\n64 64\n255\n", 64 * 64, 20000, ["pamcut -left 8", "pamcut -left 8 | pamdepth 127"]),
+    ("icons", b"P5\n64 64\n255\n", 64 * 64, 20000, ICON_CHAINS),
     ("dots", b"P5\n1 1\n255\n", 1, 100000, ["pamcut | pamcut | pamcut"]),
 ]
 

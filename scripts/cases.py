@@ -136,6 +136,8 @@ def read_line(line, images, stored_line):
     word, _, rest = line.partition(" ")
     if word == "text" or word == "long" and LONG.search(stored_line):
         return said(text_of(rest))
+    if word in ("reads_by", "joins_by"):
+        word, rest = word[:-3], rest.partition(" ")[2]
     if word == "reads":
         _, failing, text = rest.split(" ", 2)
         return Front(f"{said(text_of(text))} by ") if failing == "0" else None

@@ -147,6 +147,19 @@ part_moved start size each i count from to dest old now new made from_is to_is d
       long = ap length is ∙ length-paste now to_front source size ends enough ∙ moved.long;
     }
 
+-- the part of one row more is appended
+pub part_appended : (start size each i from : ℕ) (samples old new : List ℕ) → start + size ≤ each → old ≡ changed (part start size) i each samples
+    → new ≡ old ++ take size (drop from samples) → from ≡ start + i * each → new ≡ changed (part start size) (i + 1) each samples
+part_appended start size each i from samples old new fits before made is =
+    let at : ℕ = i * each in
+    let next : suc i ≡ i + 1 = omega arith in
+    let run : drop from samples ≡ drop start (drop at samples) = ap (λ (n : ℕ). drop n samples) (omega (arith, is)) ∙ sym (drop-drop start at samples) in
+    made ∙ ap (λ (l : List ℕ). l ++ take size (drop from samples)) before
+    ∙ ap (λ (l : List ℕ). changed (part start size) i each samples ++ take size l) run
+    ∙ ap (λ (l : List ℕ). changed (part start size) i each samples ++ l) (sym (part_among start size each at samples fits))
+    ∙ sym (one_row_more (part start size) each i samples)
+    ∙ ap (λ (n : ℕ). changed (part start size) n each samples) next
+
 -- before the first
 pub none_moved : (start size each : ℕ) (old : List ℕ) → AreMoved start size each 0 old old
 none_moved start size each old = record {

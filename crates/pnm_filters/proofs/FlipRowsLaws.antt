@@ -1,11 +1,12 @@
 -- Rows that are held one after another, each turned the last pixel first.
 use Rattle.std.proofs.Common.{◌≡◌, ℕ, suc, ◌+◌, ◌-◌, ◌*◌, ◌<◌, ◌≤◌, Bool, true, false, if◌then◌else◌, Result, Ok, Err, IfOk, List, [], ◌∷◌}
 use Rattle.std.proofs.Common.{◌++◌, length, map, take, drop, All, refl, sym, ap, subst, ◌∙◌, arith, mul-le-mul, append-nil, append_assoc}
-use Rattle.std.proofs.Common.{length-take-le, length-drop, zero-mul}
+use Rattle.std.proofs.Common.{length-take-le, length-drop, reverse, suc-mul, zero-mul}
 use Rattle.std.specs.List.{AllByRecursion}
 use borrow.Rule.Slice.PartMut.{put_mid}
-use Rattle.std.proofs.lemmas.List.{drop_all, drop_at, drop-drop, take_at}
+use Rattle.std.proofs.lemmas.List.{drop_all, drop_at, drop-drop, reverse-append, take_at}
 use Rattle.pnm_image.specs.declared.shape.Shape.{Shape}
+use Rattle.pnm_image.proofs.RowLaws.{row_ends_within}
 use Rattle.pnm_image.specs.Heads.{row_length}
 use Rattle.pnm_image.specs.Images.{cut_rows}
 use Rattle.pnm_image.specs.Places.{IsRowOf}
@@ -18,7 +19,7 @@ use Rattle.pnm_tools.proofs.PickLaws.{columns_end}
 use Rattle.pnm_tools.proofs.RangeLaws.{length_of_equals}
 use Rattle.pnm_tools.proofs.TurnLaws.{row_stays}
 use Rattle.pnm_filters.proofs.EachRowLaws.{changed, changed_within, cut_again, each_answered, length-changed, one_row_more}
-use Rattle.pnm_filters.proofs.FlipRowLaws.{mirrored_within}
+use Rattle.pnm_filters.proofs.FlipRowLaws.{mirrored_within, one_plane}
 
 -- a pixel of a row has a sample of each plane
 pixel_long : (width depth x : ℕ) (row : List ℕ) → x < width → length row ≡ width * depth → length (pixel_of depth row x) ≡ depth
@@ -76,6 +77,50 @@ all_mirrored s each i count old now all long mirrored =
     mirrored.is ∙ ap (λ (n : ℕ). changed (mirrored_row s) n each old ++ drop (n * each) old) all
     ∙ ap (λ (l : List ℕ). changed (mirrored_row s) count each old ++ l) none ∙ append-nil (changed (mirrored_row s) count each old)
 
+-- ---- the same of rows that are copied in the other order, and then turned round as one
+
+-- so many of the last rows are copied, the last one first
+pub record AreCopied (s : Shape) (count each i : ℕ) (old copy : List ℕ) : Type 0 where
+  pub is : reverse copy ≡ changed (mirrored_row s) i each (drop ((count - i) * each) old)
+
+-- before the first
+pub none_copied : (s : Shape) (count each : ℕ) (old copy : List ℕ) → copy ≡ [] → AreCopied s count each 0 old copy
+none_copied s count each old copy none = record { is = ap (λ (l : List ℕ). reverse l) none }
+
+-- one row more
+pub row_copied : (s : Shape) (count each i last : ℕ) (old copy new : List ℕ) → s.depth ≡ 1 → each ≡ row_length s → i < count → length old ≡ count * each
+    → AreCopied s count each i old copy → new ≡ copy ++ take each (drop (last * each) old) → last ≡ count - 1 - i → AreCopied s count each (i + 1) old new
+row_copied s count each i last old copy new plane is_each below long copied made is =
+    let from : ℕ = last * each in
+    let f : List ℕ → List ℕ = mirrored_row s in
+    let rest : List ℕ = drop from old in
+    let row : List ℕ = take each rest in
+    let place : (count - (i + 1)) * each ≡ from = ap (λ (n : ℕ). n * each) (omega (arith, is)) in
+    let counts : suc last ≡ count - i = omega (arith, below, is) in
+    let behind : from + each ≡ (count - i) * each = omega (arith, suc-mul last each, ap (λ (n : ℕ). n * each) counts) in
+    let enough : each ≤ length rest =
+    omega (arith, length-drop from old, long, row_ends_within count each last (omega (arith, below, is))) in
+    let whole : length row ≡ s.width * s.depth = length-take-le each rest enough ∙ is_each in
+    let turned : reverse row ≡ f row = one_plane s row (reverse row) (omega (arith, plane)) (omega (arith, plane)) whole refl in
+    let next : suc i ≡ i + 1 = omega arith in
+    record {
+      is = ap (λ (l : List ℕ). reverse l) made ∙ reverse-append copy row
+          ∙ ap (λ (l : List ℕ). l ++ reverse copy) turned
+          ∙ ap (λ (l : List ℕ). f row ++ l) copied.is
+          ∙ ap (λ (n : ℕ). f row ++ changed f i each (drop n old)) (sym behind)
+          ∙ ap (λ (l : List ℕ). f row ++ changed f i each l) (sym (drop-drop each from old))
+          ∙ ap (λ (n : ℕ). changed f n each rest) next
+          ∙ ap (λ (n : ℕ). changed f (i + 1) each (drop n old)) (sym place);
+    }
+
+-- once all rows are copied, and the copy is turned round
+pub all_copied : (s : Shape) (count each i : ℕ) (old copy new : List ℕ) → i ≡ count → AreCopied s count each i old copy → new ≡ reverse copy
+    → new ≡ changed (mirrored_row s) count each old
+all_copied s count each i old copy new all copied made =
+    let none : (count - i) * each ≡ 0 = ap (λ (n : ℕ). n * each) (omega (arith, all)) ∙ zero-mul each in
+    made ∙ copied.is ∙ ap (λ (n : ℕ). changed (mirrored_row s) i each (drop n old)) none
+    ∙ ap (λ (n : ℕ). changed (mirrored_row s) n each old) all
+
 -- a mirrored row has no sample above the maxval
 each_within : (s : Shape) (row : List ℕ) → IsRowOf s row → All (λ sample. sample ≤ s.maxval) (mirrored_row s row)
 each_within s row is = mirrored_within s row (mirrored_row s row) refl is.range
@@ -93,6 +138,12 @@ pub rows_within : (s : Shape) (count each : ℕ) (samples new : List ℕ) → ne
     → AllByRecursion (IsRowOf s) (cut_rows count each samples) → All (λ sample. sample ≤ s.maxval) new
 rows_within s count each samples new is are =
     subst (All (λ sample. sample ≤ s.maxval)) (sym is) (changed_within (mirrored_row s) s (each_within s) (cut_rows count each samples) are)
+
+-- they are as many samples
+pub rows_long : (s : Shape) (count each : ℕ) (samples : List ℕ) → 0 < s.width → each ≡ row_length s → length samples ≡ count * each
+    → length (changed (mirrored_row s) count each samples) ≡ count * each
+rows_long s count each samples some is long =
+    length-changed (mirrored_row s) each each (λ row whole. mirrored_long s some row (whole ∙ is) ∙ sym is) count samples (omega (arith, long))
 
 -- cut again they are the mirrored rows
 pub rows_cut_again : (s : Shape) (count each : ℕ) (samples : List ℕ) → 0 < s.width → each ≡ row_length s → length samples ≡ count * each

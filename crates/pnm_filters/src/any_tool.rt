@@ -74,8 +74,8 @@ impl ImageTool for AnyTool {
     }
 
     #[inline(never)]
-    fn rows(&mut self, shape: Shape, y: u32, rows: Rows) -> Result<Rows, Rows> {
-        with_tool!(self, work => work.rows(shape, y, rows))
+    fn rows(&mut self, alloc: Global, shape: Shape, y: u32, rows: Rows) -> Result<Rows, Rows> {
+        with_tool!(self, work => work.rows(alloc, shape, y, rows))
     }
 
     #[inline(never)]

@@ -35,11 +35,11 @@ impl<T: RowTool> ImageTool for ByRow<T> {
         Ok(())
     }
 
-    fn rows(&mut self, shape: Shape, y: u32, rows: Rows) -> Result<Rows, Rows> {
+    fn rows(&mut self, alloc: Global, shape: Shape, y: u32, rows: Rows) -> Result<Rows, Rows> {
         if self.made.is_some() {
             return Err(rows);
         }
-        self.tool.rows(shape, y, rows)
+        self.tool.rows(alloc, shape, y, rows)
     }
 
     fn end(&mut self, _shape: Shape) {

@@ -9,6 +9,7 @@ ghost use Rattle.pnm_tools.specs.Cut.{IsLawfulAxis, KeepsWithin, columns_of_row,
 ghost use Rattle.pnm_tools.specs.Cut.{edge_of, IsLawfulBox, columns_kept, rows_kept, span_count};
 ghost use Rattle.pnm_tools.specs.declared.tool.Tool.TheVariants.{Cut};
 
+use crate::bit_rows::{room_for_pixels, rows_of_bits};
 use crate::head::head_within_limits;
 use crate::row_tool::RowTool;
 use pnm_image::{Bits, Head, Rows, SampleVec, Samples, Shape};
@@ -67,12 +68,17 @@ fn keep<T: Copy>(row: &mut Vec<T>, columns: Span, depth: usize)
     }
 }
 
-/// These columns of each of the rows of an image of this shape, moved to the front in place.
+/// These columns of each of the rows of an image of this shape: bytes are moved to the front in place, bits copied.
 ///
 /// # Errors
 ///
-/// The rows themselves, where they are cut and aren't held as bytes.
-fn keep_columns_of_rows(columns: Span, shape: Shape, rows: Rows) -> Result<Rows, Rows>
+/// The rows themselves, where they are cut and are held as words, or as bits and there is no memory for these columns.
+fn keep_columns_of_rows(
+    alloc: Global,
+    columns: Span,
+    shape: Shape,
+    rows: Rows,
+) -> Result<Rows, Rows>
     requires columns { (columns.first ≤ columns.last) × (columns.last < shape.width) }
     requires rows { AllByRecursion (IsRowOf shape) rows }
     ensures kept { IfOk result (λ kept. kept ≡ map (columns_of_row columns shape.depth) rows) }
@@ -84,9 +90,15 @@ fn keep_columns_of_rows(columns: Span, shape: Shape, rows: Rows) -> Result<Rows,
     if kept == row_length {
         return Ok(Rows::new(samples, count, row_length));
     }
+    let first = columns.first as usize * depth;
     match samples.into_vec() {
+        SampleVec::Bits(bits) => {
+            match keep_bits_of_each(alloc, &bits, count as usize, row_length, first, kept) {
+                Ok(made) => Ok(rows_of_bits(made, count, kept)),
+                Err(_) => Err(rows_of_bits(bits, count, row_length)),
+            }
+        }
         SampleVec::Bytes(mut bytes) => {
-            let first = columns.first as usize * depth;
             keep_of_each(&mut bytes, count as usize, row_length, first, kept);
             let samples = Samples::within(SampleVec::Bytes(bytes), shape.maxval);
             Ok(Rows::new(samples, count, kept))
@@ -107,6 +119,33 @@ fn keep_of_each(bytes: &mut Vec<u8>, count: usize, row_length: usize, first: usi
         bytes.copy_within(start..start + kept, i * kept);
     }
     bytes.truncate(count * kept);
+}
+
+/// Of each of so many rows so many pixels, from one on, those of the first row first.
+///
+/// # Errors
+///
+/// Where there is no memory for them.
+fn keep_bits_of_each(
+    alloc: Global,
+    bits: &Bits,
+    count: usize,
+    row_length: usize,
+    first: usize,
+    kept: usize,
+) -> Result<Bits, AllocError>
+    requires rows { length bits.now ≡ count * row_length }
+    requires within { first + kept ≤ row_length }
+    ensures { IfOk result (λ made. made
+        ≡ concat (map (λ row. take kept (drop first row)) (cut_rows count row_length bits.now))) }
+{
+    // No effect at run time: a proof learns of this that no place in the rows is beyond this machine's numbers.
+    let _ = bits.len();
+    let mut made = room_for_pixels(alloc, count * kept)?;
+    for i in 0..count {
+        made.append(bits, first + i * row_length, kept)?;
+    }
+    Ok(made)
 }
 
 /// Cuts the rows of images.
@@ -163,13 +202,14 @@ impl RowTool for Cutter {
         Ok(Some(kept))
     }
 
-    /// Moves the columns that are kept of each row to the front, where all of the rows are kept.
-    fn rows(&self, shape: Shape, y: u32, rows: Rows) -> Result<Rows, Rows> {
+    /// Keeps the columns of each row, where all of the rows are kept: those of bytes are moved to the front, and those
+    /// of bits to bytes of their own.
+    fn rows(&self, alloc: Global, shape: Shape, y: u32, rows: Rows) -> Result<Rows, Rows> {
         let last = y + (rows.count() - 1);
         if y < self.rows.first || self.rows.last < last {
             return Err(rows);
         }
-        keep_columns_of_rows(self.columns, shape, rows)
+        keep_columns_of_rows(alloc, self.columns, shape, rows)
     }
 }
 

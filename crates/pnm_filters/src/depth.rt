@@ -199,7 +199,7 @@ impl RowTool for Rescaler {
         Ok(Some(self.rescale_row(alloc, shape.maxval, row)?))
     }
 
-    fn rows(&self, shape: Shape, _y: u32, rows: Rows) -> Result<Rows, Rows> {
+    fn rows(&self, _alloc: Global, shape: Shape, _y: u32, rows: Rows) -> Result<Rows, Rows> {
         let (samples, count, row_length) = rows.into_parts();
         match self.rescale_in_place(shape.maxval, samples) {
             Ok(rescaled) => Ok(Rows::new(rescaled, count, row_length)),

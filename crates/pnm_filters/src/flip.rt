@@ -14,6 +14,7 @@ ghost use Rattle.pnm_tools.specs.Flip.{mirrored_row, moved_rows, moves_rows, tur
 ghost use Rattle.pnm_filters.specs.Keeping.{FlipsInRows, IsReversingRows, reversed_due};
 ghost use Rattle.pnm_tools.specs.Tools.{TakesHead, result_head};
 
+use crate::bit_rows::{room_for_pixels, rows_of_bits};
 use crate::head::head_within_limits;
 use crate::image_tool::ImageTool;
 use crate::row_tool::RowTool;
@@ -124,12 +125,12 @@ fn reverse_three<T: Copy>(samples: &mut [T])
     samples[2] = first;
 }
 
-/// These rows of an image of this shape, each the last pixel first, changed in place.
+/// These rows of an image of this shape, each the last pixel first: bytes are changed in place, bits copied.
 ///
 /// # Errors
 ///
-/// The rows themselves, where they aren't held as bytes.
-fn mirror_rows(shape: Shape, rows: Rows) -> Result<Rows, Rows>
+/// The rows themselves, where they are held as words, or as bits of several planes, or there is no memory for the copy.
+fn mirror_rows(alloc: Global, shape: Shape, rows: Rows) -> Result<Rows, Rows>
     requires limits { IsWithinLimits shape }
     requires rows { AllByRecursion (IsRowOf shape) rows }
     ensures mirrored { IfOk result (λ mirrored. mirrored ≡ map (mirrored_row shape) rows) }
@@ -137,6 +138,15 @@ fn mirror_rows(shape: Shape, rows: Rows) -> Result<Rows, Rows>
 {
     let (samples, count, row_length) = rows.into_parts();
     match samples.into_vec() {
+        SampleVec::Bits(bits) => {
+            if shape.depth != 1 {
+                return Err(rows_of_bits(bits, count, row_length));
+            }
+            match mirror_each(alloc, &bits, shape, count as usize, row_length) {
+                Ok(mirrored) => Ok(rows_of_bits(mirrored, count, row_length)),
+                Err(_) => Err(rows_of_bits(bits, count, row_length)),
+            }
+        }
         SampleVec::Bytes(mut bytes) => {
             reverse_each(bytes.as_mut_slice(), shape, count as usize, row_length);
             let samples = Samples::within(SampleVec::Bytes(bytes), shape.maxval);
@@ -157,6 +167,34 @@ fn reverse_each(bytes: &mut [u8], shape: Shape, count: usize, each: usize)
         let start = i * each;
         reverse_pixels(&mut bytes[start..start + each], shape);
     }
+}
+
+/// So many rows of one plane, each the last pixel first. They are copied in the other order, the last row first, and
+/// then all pixels are turned round.
+///
+/// # Errors
+///
+/// Where there is no memory for the copy.
+fn mirror_each(
+    alloc: Global,
+    bits: &Bits,
+    shape: Shape,
+    count: usize,
+    each: usize,
+) -> Result<Bits, AllocError>
+    requires limits { IsWithinLimits shape }
+    requires plane { shape.depth ≡ 1 }
+    requires row { each ≡ row_length shape }
+    requires rows { length bits.now ≡ count * each }
+    ensures { IfOk result (λ made. made ≡ concat (map (mirrored_row shape) (cut_rows count each bits.now))) }
+{
+    let mut made = room_for_pixels(alloc, bits.len())?;
+    for copied in 0..count {
+        let last = count - 1 - copied;
+        made.append(bits, last * each, each)?;
+    }
+    made.reverse();
+    Ok(made)
 }
 
 /// Passes the rows of images on, the last pixel first or as they are: any way that leaves rows in their
@@ -200,10 +238,10 @@ impl RowTool for RowFlipper {
         Ok(Some(turn_row(alloc, self.way.turn(), shape, row)?))
     }
 
-    /// Changes the rows in place.
-    fn rows(&self, shape: Shape, _y: u32, rows: Rows) -> Result<Rows, Rows> {
+    /// Changes bytes in place, and copies bits.
+    fn rows(&self, alloc: Global, shape: Shape, _y: u32, rows: Rows) -> Result<Rows, Rows> {
         if self.way.turn().columns_reversed {
-            mirror_rows(shape, rows)
+            mirror_rows(alloc, shape, rows)
         } else {
             Ok(rows)
         }

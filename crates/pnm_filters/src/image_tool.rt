@@ -55,8 +55,9 @@ pub trait ImageTool {
     ///
     /// # Errors
     ///
-    /// The rows themselves, and nothing has changed, where each is to be taken by itself.
-    fn rows(&mut self, shape: Shape, y: u32, rows: Rows) -> Result<Rows, Rows>
+    /// The rows themselves, and nothing has changed, where each is to be taken by itself, as where there is no memory
+    /// to make all at once.
+    fn rows(&mut self, alloc: Global, shape: Shape, y: u32, rows: Rows) -> Result<Rows, Rows>
         requires lawful { IsLawfulTool (tool self.old) }
         requires rows { (y + length rows ≤ shape.height) × AllByRecursion (IsRowOf shape) rows }
         requires ready { (before : List (List ℕ)) × (length before ≡ y) × ready self.old shape before }

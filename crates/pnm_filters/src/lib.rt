@@ -3,6 +3,7 @@
 
 mod any_tool;
 mod batch;
+mod bit_rows;
 mod by_row;
 mod channel;
 mod color;

@@ -51,8 +51,8 @@ pub trait RowTool {
     ///
     /// # Errors
     ///
-    /// The rows themselves, where each is to be taken by itself.
-    fn rows(&self, shape: Shape, y: u32, rows: Rows) -> Result<Rows, Rows>
+    /// The rows themselves, where each is to be taken by itself, as where there is no memory to make all at once.
+    fn rows(&self, alloc: Global, shape: Shape, y: u32, rows: Rows) -> Result<Rows, Rows>
         requires lawful { IsLawfulTool (tool self.now) }
         requires ready { ready self.now shape }
         requires rows { (y + length rows ≤ shape.height) × AllByRecursion (IsRowOf shape) rows }

@@ -116,7 +116,7 @@ impl<T: ImageTool> Filter for State<T> {
         if self.fault.is_some() || !is_told(self.owed) {
             return Err(rows);
         }
-        pass(&mut self.work, &mut self.place, rows)
+        pass(self.alloc, &mut self.work, &mut self.place, rows)
     }
 }
 
@@ -146,7 +146,12 @@ impl<T: ImageTool> State<T> {
 /// # Errors
 ///
 /// The rows themselves, and nothing has changed, where they may not come or each is to be taken by itself.
-fn pass<T: ImageTool>(work: &mut T, place: &mut Place, rows: Rows) -> Result<Rows, Rows>
+fn pass<T: ImageTool>(
+    alloc: Global,
+    work: &mut T,
+    place: &mut Place,
+    rows: Rows,
+) -> Result<Rows, Rows>
     requires lawful { IsLawfulTool (T.tool work.old) }
     requires ready { (come : List (List ℕ)) × IsReadyFor T.ready work.old place.old come }
     ensures passed { IfOk result (ArePassed T.tool T.ready work.old place.old rows work.new place.new) }
@@ -162,7 +167,7 @@ fn pass<T: ImageTool>(work: &mut T, place: &mut Place, rows: Rows) -> Result<Row
     after.step_rows(&rows);
     // No rows at all could come at any place.
     prove!(rows.count() > 0);
-    let made = work.rows(shape, y, rows)?;
+    let made = work.rows(alloc, shape, y, rows)?;
     *place = after;
     Ok(made)
 }

@@ -68,11 +68,12 @@ fn flip(alloc: Global, way: FlipWay) -> AnyTool
 }
 
 /// Whether the tool passes rows together that are held so, as far as can be told beforehand: of each it makes one row
-/// by itself, in place.
+/// by itself. It takes them one by one all the same where some are cut off, where they are bits of several planes that
+/// it would turn round, and where there is no memory for the bits that it makes of bits.
 pub fn passes_rows(tool: &Tool, sample_width: SampleWidth) -> bool {
     match tool {
         Tool::Invert | Tool::Flip(FlipWay::Null) => true,
-        Tool::Cut(_) | Tool::Flip(FlipWay::LeftRight) => sample_width == SampleWidth::Bytes,
+        Tool::Cut(_) | Tool::Flip(FlipWay::LeftRight) => sample_width != SampleWidth::Words,
         Tool::Depth(maxval) => sample_width == SampleWidth::Bytes && *maxval <= 255,
         Tool::Channel(_) | Tool::Enlarge(_, _) | Tool::Flip(_) | Tool::Tile(_, _) => false,
     }

@@ -27,10 +27,10 @@ use std::thread::Threads;
 /// calls the gate with the tool's number and its own, from 0, before it takes its first message; the threads that deal
 /// and gather don't.
 ///
-/// It ends as `run_stage` does, with the same messages in the same order, where each comes by itself: where rows come
-/// together its end is `PeerGone`. So it is where it is that of one of its threads; else the first fault of the
-/// thread that deals, of the lanes in their order and of the one that gathers. `NoStart` is answered where there is
-/// no memory for a ring or a list, or a thread can't be started.
+/// It ends as `run_stage` does, with the same messages in the same order; rows that come together are dealt each by
+/// itself, as a copy. Its end is `PeerGone` where it is that of one of its threads; else the first fault of the thread
+/// that deals, of the lanes in their order and of the one that gathers. `NoStart` is answered where there is no memory
+/// for a ring or a list, or a thread can't be started.
 pub fn run_lanes<R: Threads + Wait + Sync, G: Gate>(
     rt: &R,
     alloc: Global,

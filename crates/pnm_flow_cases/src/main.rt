@@ -13,6 +13,8 @@
 //!   over rings ends, the dealing to lanes and the gathering from lanes; what is left of what came, and what is sent
 //!   (`rings`); an end of a ring is gone: `input`, `inputs`, `output`, that of a lane by its number, or none of them.
 //!   Rows between braces lie in a ring together
+//! - `chain LANES (CHAIN) MESSAGES`: how each tool of a chain over so many lanes ends; what is left of what came, and
+//!   what is sent
 //! - `heights LANES HEIGHT`: how many rows of an image each lane gets
 //!
 //! Each input is run in one thread, and over threads with several rings and lanes (`ways`): where one of these runs
@@ -39,6 +41,7 @@ enum How {
     Stage,
     Deal,
     Gather,
+    Chain,
     Heights,
     Cuts,
     Fails,
@@ -52,6 +55,7 @@ const WORDS: &[(&[u8], How)] = &[
     (b"stage", How::Stage),
     (b"deal", How::Deal),
     (b"gather", How::Gather),
+    (b"chain", How::Chain),
     (b"heights", How::Heights),
     (b"cuts", How::Cuts),
     (b"reads", How::Fails),
@@ -116,6 +120,7 @@ fn tell<R: Threads + Wait + Sync>(
         How::Stage => rings::tell_stage(rt, alloc, text, told),
         How::Deal => rings::tell_dealt(rt, alloc, text, told),
         How::Gather => rings::tell_gathered(rt, alloc, text, told),
+        How::Chain => rings::tell_chain(rt, alloc, text, told),
         How::Heights => Ok(rings::tell_heights(text, told)?),
         how => tell_runs(rt, alloc, how, word, text, told),
     }

@@ -1,10 +1,13 @@
-//! Threads at rings whose messages are there before they begin: a stage, the dealing to lanes, and the gathering from
-//! them. Rows between braces lie in a ring together.
+//! Threads at rings whose messages are there before they begin: a stage, the dealing to lanes, the gathering from them,
+//! and a chain over lanes. Rows between braces lie in a ring together.
+
+ghost use Rattle.std.specs.Prelude.{IfOk};
+ghost use Rattle.pnm_tools.specs.Chains.{IsChain};
 
 use pnm_chain::parse_chain;
 use pnm_flow::{
     MAX_LANES, OpenGate, Parcel, Receiver, Sender, StageDone, StageEnd, deal, gather, new_ring,
-    run_stage,
+    run_chain, run_stage,
 };
 use pnm_lanes::dealt_height;
 use pnm_test_support::{
@@ -14,6 +17,7 @@ use pnm_tools::Tool;
 use std::alloc::{AllocError, Global};
 use std::str;
 use std::sync::Wait;
+use std::thread::Threads;
 
 /// How many messages a ring has room for.
 const CAPACITY: usize = 8;
@@ -92,7 +96,9 @@ fn tell_end(end: StageEnd, told: &mut String) -> Result<(), AllocError> {
 }
 
 /// The tools that a text names.
-fn tools_of(alloc: Global, text: &[u8]) -> Result<Vec<Tool>, Unmade> {
+fn tools_of(alloc: Global, text: &[u8]) -> Result<Vec<Tool>, Unmade>
+    ensures { IfOk result (λ tools. IsChain tools.items) }
+{
     let Ok(chain) = str::from_utf8(text) else {
         return Err(Unmade);
     };
@@ -242,6 +248,35 @@ pub fn tell_gathered<R: Wait>(
         tell_ring(alloc, " left", input, told)?;
     }
     tell_sent(alloc, receiver, told)
+}
+
+/// Adds how each tool of a chain over so many lanes ends, what the first one leaves, and what the last one sends.
+pub fn tell_chain<R: Threads + Wait + Sync>(
+    rt: &R,
+    alloc: Global,
+    text: &[u8],
+    told: &mut String,
+) -> Result<(), Unmade> {
+    let (lanes, rest) = cut_number(text);
+    let (_, rest) = cut_at(rest, b'(');
+    let (chain, takes) = cut_at(rest, b')');
+    let tools = tools_of(alloc, chain)?;
+    if lanes < 1 || lanes > MAX_LANES {
+        return Err(Unmade);
+    }
+    let (_sender, input) = holding(alloc, takes, false)?;
+    let (output, receiver) = ring(alloc, CAPACITY)?;
+    let tools = tools.as_slice();
+    match run_chain(rt, alloc, tools, CAPACITY, lanes, &OpenGate, input, output) {
+        Ok(mut done) => {
+            for end in done.ends.iter() {
+                tell_end(*end, told)?;
+            }
+            tell_ring(alloc, " left", &mut done.input, told)?;
+            tell_sent(alloc, Some(receiver), told)
+        }
+        Err(_) => Err(Unmade),
+    }
 }
 
 /// Adds how many rows of an image of a height each of so many lanes gets.

@@ -29,6 +29,7 @@
 //!   read FAILING
 //! - `joins MOST FAILING TEXT`: the answers where the source is asked for rows together before each message, between
 //!   braces those that come so: a read gives at most MOST bytes, and read FAILING fails, none for 0
+//! - `reads_by SIZE MOST FAILING TEXT`, `joins_by SIZE MOST FAILING TEXT`: the same through a buffer of SIZE bytes
 //! - `ahead COUNT TEXT`: how many reads of a byte each were made before the first answer, and after each
 //! - `held COUNT TEXT`: whether the source tells of each of so many answers that a read will be made for it
 //! - `width TEXT`: how the samples of the first row are held

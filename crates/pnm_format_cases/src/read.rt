@@ -7,6 +7,7 @@ mod streams;
 mod sweeps;
 
 use pnm_read::InputFault;
+use pnm_test_support::cut_number;
 use std::alloc::{AllocError, Global};
 
 /// How a case is told.
@@ -17,7 +18,9 @@ pub enum How {
     Cuts,
     Fails,
     Reads,
+    ReadsBy,
     Joins,
+    JoinsBy,
     Ahead,
     Held,
     Width,
@@ -34,7 +37,9 @@ const WORDS: &[(&[u8], How)] = &[
     (b"cuts", How::Cuts),
     (b"fails", How::Fails),
     (b"reads", How::Reads),
+    (b"reads_by", How::ReadsBy),
     (b"joins", How::Joins),
+    (b"joins_by", How::JoinsBy),
     (b"ahead", How::Ahead),
     (b"held", How::Held),
     (b"width", How::Width),
@@ -84,8 +89,16 @@ pub fn tell(
         How::Long => answers::tell_text(alloc, text, &[4097], told),
         How::Cuts => answers::tell_cuts(alloc, text, told),
         How::Fails => reads::tell_fails(alloc, text, told),
-        How::Reads => reads::tell_reads(alloc, text, told),
-        How::Joins => joins::tell_joined(alloc, text, told),
+        How::Reads => reads::tell_reads(alloc, None, text, told),
+        How::ReadsBy => {
+            let (size, rest) = cut_number(text);
+            reads::tell_reads(alloc, Some(size), rest, told)
+        }
+        How::Joins => joins::tell_joined(alloc, None, text, told),
+        How::JoinsBy => {
+            let (size, rest) = cut_number(text);
+            joins::tell_joined(alloc, Some(size), rest, told)
+        }
         How::Ahead => reads::tell_ahead(alloc, text, told),
         How::Held => reads::tell_held(alloc, text, told),
         How::Width => answers::tell_width(alloc, text, told),

@@ -1,35 +1,37 @@
 -- How dealing is broken off.
-use Rattle.std.proofs.Common.{◌≡◌, ◌⊎◌, inl, inr, ℕ, Bool, true, false, List, [], ◌∷◌, ◌++◌, length, Option, None, refl, sym, ap, subst, ◌∙◌, append_assoc}
-use Rattle.std.proofs.Common.{append-nil}
+use Rattle.std.proofs.Common.{◌≡◌, ◌⊎◌, inl, inr, ℕ, Bool, true, false, List, [], ◌∷◌, ◌++◌, length, Option, None, Some, refl, sym, ap, subst, ◌∙◌}
+use Rattle.std.proofs.Common.{append_assoc, append-nil}
 use Rattle.std.specs.List.{AllByRecursion}
+use Rattle.pnm_stages.specs.declared.parcel.Parcel.{Parcel}
 use Rattle.pnm_stages.specs.declared.sender.Sender.{Sender}
+use Rattle.pnm_stages.specs.Parcels.{messages_in, ending_of_parcel}
 use Rattle.pnm_stages.specs.Rings.{sent}
 use Rattle.pnm_image.specs.declared.message.Message.{Message}
 use Rattle.pnm_image.specs.declared.message.Message.TheVariants.{Stop}
 use Rattle.pnm_image.specs.declared.place.Place.{Place}
 use Rattle.pnm_image.specs.declared.place.Place.TheVariants.{Between}
-use Rattle.pnm_image.specs.Messages.{IsMessage, without_stop, ending_of, EndsBy}
+use Rattle.pnm_image.specs.Messages.{IsMessage, ending_of, EndsBy}
 use Rattle.pnm_image.specs.Places.{Accepts, IsLawful, place_of}
-use Rattle.pnm_image.proofs.Lists.{each-push, same_first}
-use Rattle.pnm_image.proofs.Places.{lawful_more, next_may_come}
+use Rattle.pnm_image.proofs.Lists.{same_first}
+use Rattle.pnm_image.proofs.Places.{lawful_more, next_may_come, place_of-append}
 use Rattle.pnm_tools.specs.declared.fault.ToolFault.TheVariants.{OutOfOrder, Memory}
 use Rattle.pnm_image.specs.declared.message.Ending.{Ending}
 use Rattle.pnm_image.specs.declared.message.Ending.TheVariants.{More, Whole, BrokenOff}
 use Rattle.pnm_tools.specs.Dealing.{dealt_message, dealt}
-use Rattle.pnm_tools.proofs.FullLaws.{prefix_of_prefix}
 use Rattle.pnm_tools.proofs.SoundLaws.{both_all}
-use Rattle.pnm_tools.proofs.InFullLaws.{ends_after}
+use Rattle.pnm_tools.proofs.InFullLaws.{EndNothing, ends_after}
 use Rattle.pnm_stages.specs.declared.stage.StageEnd.{StageEnd}
 use Rattle.pnm_stages.specs.declared.stage.StageEnd.TheVariants.{Fault, PeerGone}
 use Rattle.pnm_stages.specs.Prefixes.{IsLongestLawfulPrefix}
 use Rattle.pnm_stages.specs.Rings.{IsEnded, EndsAtMostOnce, HasDrainedAfter}
-use Rattle.pnm_stages.proofs.RingSteps.{ends_nothing, ends_with, same_output}
+use Rattle.pnm_stages.proofs.EndingLaws.{prefix_goes_on}
+use Rattle.pnm_stages.proofs.RingSteps.{ends_nothing, same_output}
 use Rattle.pnm_lanes.specs.Deals.{AtEach, HasReceivedSo, HasSentSo, HasLane, HasDealt}
-use Rattle.pnm_lanes.specs.DealParts.{part_at, IsSentPart, HasSentParts, HasBrokenOffDealing}
+use Rattle.pnm_lanes.specs.DealParts.{part_at, IsSentPart, HasBrokenOffDealing, HasDealtAll, IsReason, HasLeftOff, HasDealtMessages}
 use Rattle.pnm_lanes.proofs.EachLaws.{each-map, each-then}
-use Rattle.pnm_lanes.proofs.DealtLaws.{dealt_more, before_stop_prefix}
-use Rattle.pnm_lanes.proofs.DealSteps.{HasAll, IsDealing, parts_of, HasPrefix, all_is_prefix, part_is_prefix, IsAccepted, accepted_more, prefix_of_dealt}
-use Rattle.pnm_lanes.proofs.DealSteps.{told_lane, lost_lane}
+use Rattle.pnm_lanes.proofs.MessageSteps.{all_then, dealt_then}
+use Rattle.pnm_lanes.proofs.DealSteps.{HasAll, IsDealing, parcel_ends_so, parts_of, HasPrefix, all_is_prefix, part_is_prefix, IsAccepted, all_accepted}
+use Rattle.pnm_lanes.proofs.DealSteps.{accepted_more, whole_lane, told_lane, lost_lane}
 
 -- ---- why it was broken off
 
@@ -41,25 +43,30 @@ pub record MayEndSo (end : StageEnd) (all : Bool) (lanes : ℕ) (accepted took :
       → HasSentSo end lane lanes (took ++ more) (g ++ Stop ∷ [])
 
 -- a message can't come after what was accepted
-longest_prefix : (place : Place) (took : List Message) (m : Message) (more : List Message) → IsLawful took → place ≡ place_of Between took
-    → (Accepts place m → ⊥) → IsLongestLawfulPrefix took ((took ++ m ∷ []) ++ more)
-longest_prefix place took m more lawful here refused = record {
+longest_prefix : (took : List Message) (m : Message) (more : List Message) → IsLawful took → (Accepts (place_of Between took) m → ⊥)
+    → IsLongestLawfulPrefix took (took ++ m ∷ more)
+longest_prefix took m more lawful refused = record {
   rest = m ∷ more;
-  parts = append_assoc took (m ∷ []) more;
+  parts = refl;
   lawful = lawful;
-  longest = λ n ns same accepts.
-      refused (subst (λ (p : Place). Accepts p m) (sym here) (subst (Accepts (place_of Between took)) (sym (same_first m n more ns same)) accepts));
+  longest = λ n ns same accepts. refused (subst (Accepts (place_of Between took)) (sym (same_first m n more ns same)) accepts);
 }
 
-out_of_order : (lanes : ℕ) (place : Place) (took : List Message) (m : Message) → IsLawful took → place ≡ place_of Between took → (Accepts place m → ⊥)
-    → MayEndSo (Fault OutOfOrder) true lanes took (took ++ m ∷ [])
-out_of_order lanes place took m lawful here refused = record {
-  input = λ more ended. (
-    ended,
-    λ whole. refused (subst (λ (p : Place). Accepts p m) (sym here)
-        (next_may_come Between took m more (subst IsLawful (append_assoc took (m ∷ []) more) whole))),
+out_of_order : (lanes : ℕ) (took : List Message) (m : Message) (after : List Message) → IsLawful took → (Accepts (place_of Between took) m → ⊥)
+    → MayEndSo (Fault OutOfOrder) true lanes took (took ++ m ∷ after)
+out_of_order lanes took m after lawful refused = record {
+  input = λ more ended.
+      (ended, λ whole. refused (next_may_come Between took m (after ++ more) (subst IsLawful (append_assoc took (m ∷ after) more) whole)));
+  output = λ lane more g goes_on full. (
+    g,
+    refl,
+    goes_on,
+    (
+      took,
+      subst (IsLongestLawfulPrefix took) (sym (append_assoc took (m ∷ after) more)) (longest_prefix took m (after ++ more) lawful refused),
+      full refl,
+    ),
   );
-  output = λ lane more g goes_on full. (g, refl, goes_on, (took, longest_prefix place took m more lawful here refused, full refl));
 }
 
 -- there was no memory, or the other end of a ring was seen dropped
@@ -196,104 +203,173 @@ breaks_off end answer ending e received_old received_now received_new left olds 
 
 -- ---- where it is broken off
 
--- at a message that can't come
-pub cut_at : (place : Place) (received_old received_now received_new : List Message) (olds nows : List Sender) (m : Message)
-    (dealing : IsDealing More place received_old received_now olds nows)
-    → received_new ≡ received_now ++ m ∷ [] → IsMessage m → (Accepts place m → ⊥) → IsCut (Fault OutOfOrder) (ending_of m) received_old received_new olds nows
-cut_at place received_old received_now received_new olds nows m dealing added is refused =
+-- messages were received that end so, those before one of them were dealt, and that one wasn't, or not to each lane
+pub record IsInterrupted (end : StageEnd) (ending : Ending) (received_old received_now : List Message) (olds news : List Sender) : Type 0 where
+  pub took : List Message
+  pub before : List Message
+  pub at : Message
+  pub after : List Message
+  pub input : received_now ≡ received_old ++ took
+  pub messages : AllByRecursion IsMessage took
+  pub ends : EndsBy ending took
+  pub parts : took ≡ before ++ at ∷ after
+  pub goes : EndsBy More before
+  pub nows : List Sender
+  pub dealt : HasDealtAll Between before olds nows
+  pub reason : IsReason end (place_of Between before) at nows news
+
+interrupts : (end : StageEnd) (ending : Ending) (place : Place) (received_old received_now received_new l : List Message) (olds nows news : List Sender)
+    → IsDealing More place received_old received_now olds nows → received_new ≡ received_now ++ l → AllByRecursion IsMessage l → EndsBy ending l
+    → HasLeftOff end place l nows news → IsInterrupted end ending received_old received_new olds news
+interrupts end ending place received_old received_now received_new l olds nows news dealing added are ends left =
     let took = dealing.took in
+    let first = left.before in
+    let rest : List Message = left.at ∷ left.after in
+    let goes : EndsBy More first = prefix_goes_on ending first left.at left.after (subst (EndsBy ending) left.parts ends) in
+    let here : place_of place first ≡ place_of Between (took ++ first) =
+    ap (λ (p : Place). place_of p first) dealing.here ∙ sym (place_of-append Between took first) in
     record {
-      took = took ++ m ∷ [];
-      accepted = took;
-      all = true;
-      input = added ∙ ap (λ (x : List Message). x ++ m ∷ []) dealing.input ∙ append_assoc received_old took (m ∷ []);
-      messages = each-push IsMessage took m dealing.messages is;
-      ends = ends_with took m dealing.ends;
-      is = record { rest = m ∷ []; parts = refl; lawful = dealing.lawful };
-      may = out_of_order (length olds) place took m dealing.lawful dealing.here refused;
-      lanes = each-map (HasAll (length olds) took) (HasPrefix true (length olds) took) 0 olds nows (all_is_prefix (length olds) took dealing.ends)
-          dealing.lanes;
+      took = took ++ l;
+      before = took ++ first;
+      at = left.at;
+      after = left.after;
+      input = added ∙ ap (λ (x : List Message). x ++ l) dealing.input ∙ append_assoc received_old took l;
+      messages = both_all IsMessage took l dealing.messages are;
+      ends = ends_after ending took l (ends_nothing took dealing.ends) ends;
+      parts = ap (λ (x : List Message). took ++ x) left.parts ∙ sym (append_assoc took first rest);
+      goes = ends_after More took first (ends_nothing took dealing.ends) goes;
+      nows = left.nows;
+      dealt = dealt_then Between took first olds nows left.nows (dealing.lawful, dealing.lanes)
+          (subst (λ (p : Place). HasDealtAll p first nows left.nows) dealing.here left.dealt);
+      reason = subst (λ (p : Place). IsReason end p left.at left.nows news) here left.reason;
     }
 
--- after a message that not each lane could be sent its part of
-pub cut_after : (end : StageEnd) (place : Place) (received_old received_now received_new : List Message) (olds nows news : List Sender) (m : Message)
-    (unsent : Option StageEnd) (dealing : IsDealing More place received_old received_now olds nows)
-    → received_new ≡ received_now ++ m ∷ [] → IsMessage m → Accepts place m → ending_of m ≡ More → HasSentParts (part_at (length nows) place m) unsent nows news
-    → (end ≡ Fault Memory) ⊎ (end ≡ PeerGone) → IsCut end (ending_of m) received_old received_new olds news
-cut_after end place received_old received_now received_new olds nows news m unsent dealing added is accepts goes sent_parts reason =
-    let took = dealing.took in
+-- at a parcel of which not all was dealt
+pub interrupts_parcel : (end : StageEnd) (ending : Ending) (place here : Place) (received_old received_now received_new : List Message)
+    (olds nows news : List Sender) (parcel : Parcel) (unsent : Option StageEnd)
+    → IsDealing More place received_old received_now olds nows → received_new ≡ received_now ++ messages_in parcel
+    → AllByRecursion IsMessage (messages_in parcel) → ending_of_parcel parcel ≡ ending
+    → HasDealtMessages place here (messages_in parcel) unsent nows news → unsent ≡ Some end
+    → IsInterrupted end ending received_old received_new olds news
+interrupts_parcel end ending place here received_old received_now received_new olds nows news parcel unsent dealing added are ends left some =
+    interrupts end ending place received_old received_now received_new (messages_in parcel) olds nows news dealing added are
+    (parcel_ends_so ending parcel ends)
+    (subst (λ (u : Option StageEnd). HasDealtMessages place here (messages_in parcel) u nows news) some left)
+
+goes_within : (before : List Message) (m : Message) (after : List Message) → EndNothing (before ++ m ∷ after) → ending_of m ≡ More
+goes_within [] m after nothing = nothing.0
+goes_within (n ∷ before) m after nothing = goes_within before m after nothing.1
+
+with_message : (took before : List Message) (m : Message) (after : List Message) → took ≡ before ++ m ∷ after → IsLawful before
+    → Accepts (place_of Between before) m → IsAccepted (before ++ m ∷ []) took
+with_message took before m after parts lawful accepts = record {
+  rest = after;
+  parts = parts ∙ sym (append_assoc before (m ∷ []) after);
+  lawful = lawful_more Between before m lawful accepts;
+}
+
+-- it may end so before the message
+before_message : (end : StageEnd) (lanes : ℕ) (before : List Message) (m : Message) (after : List Message) → IsLawful before
+    → ((end ≡ Fault OutOfOrder) × (Accepts (place_of Between before) m → ⊥)) ⊎ (end ≡ Fault Memory) → MayEndSo end true lanes before (before ++ m ∷ after)
+before_message end lanes before m after lawful (inl (same, refused)) =
+    subst (λ (e : StageEnd). MayEndSo e true lanes before (before ++ m ∷ after)) (sym same) (out_of_order lanes before m after lawful refused)
+before_message end lanes before m after lawful (inr memory) = for_reason end true lanes before (before ++ m ∷ after) (inl memory)
+
+not_of_order : (end : StageEnd) → end ≡ Fault OutOfOrder → (end ≡ Fault Memory) ⊎ (end ≡ PeerGone) → ⊥
+not_of_order end same (inl memory) = let e : Fault OutOfOrder ≡ Fault Memory = sym same ∙ memory in absurd cc
+not_of_order end same (inr gone) = let e : Fault OutOfOrder ≡ PeerGone = sym same ∙ gone in absurd cc
+
+goes_on_there : (end : StageEnd) (ending : Ending) (took before : List Message) (m : Message) (after : List Message) → EndsBy ending took
+    → took ≡ before ++ m ∷ after → (end ≡ Fault Memory) ⊎ (end ≡ PeerGone) → (end ≡ Fault OutOfOrder) ⊎ (ending ≡ More) → ending_of m ≡ More
+goes_on_there end ending took before m after ends parts reason (inl same) = absurd (not_of_order end same reason)
+goes_on_there end ending took before m after ends parts reason (inr more) =
+    goes_within before m after (subst EndNothing parts (ends_nothing took (subst (λ (e : Ending). EndsBy e took) more ends)))
+
+-- nothing was sent of the message; or not each lane was sent its part
+cut_by : (end : StageEnd) (ending : Ending) (received_old received_new : List Message) (olds news : List Sender)
+    (i : IsInterrupted end ending received_old received_new olds news) → (end ≡ Fault OutOfOrder) ⊎ (ending ≡ More)
+    → IsReason end (place_of Between i.before) i.at i.nows news → IsCut end ending received_old received_new olds news
+cut_by end ending received_old received_new olds news i goes (inl (same, why)) = record {
+  took = i.took;
+  accepted = i.before;
+  all = true;
+  input = i.input;
+  messages = i.messages;
+  ends = i.ends;
+  is = record { rest = i.at ∷ i.after; parts = i.parts; lawful = i.dealt.0 };
+  may = subst (MayEndSo end true (length olds) i.before) (sym i.parts) (before_message end (length olds) i.before i.at i.after i.dealt.0 why);
+  lanes = subst (λ (l : List Sender). AtEach (HasPrefix true (length olds) i.before) olds l) (sym same)
+      (each-map (HasAll (length olds) i.before) (HasPrefix true (length olds) i.before) 0 olds i.nows (all_is_prefix (length olds) i.before i.goes) i.dealt.1);
+}
+cut_by end ending received_old received_new olds news i goes (inr (accepts, parts)) =
+    let place = place_of Between i.before in
+    let accepted : List Message = i.before ++ i.at ∷ [] in
+    let goes_on : ending_of i.at ≡ More = goes_on_there end ending i.took i.before i.at i.after i.ends i.parts parts.reason goes in
     record {
-      took = took ++ m ∷ [];
-      accepted = took ++ m ∷ [];
+      took = i.took;
+      accepted = accepted;
       all = false;
-      input = added ∙ ap (λ (x : List Message). x ++ m ∷ []) dealing.input ∙ append_assoc received_old took (m ∷ []);
-      messages = each-push IsMessage took m dealing.messages is;
-      ends = ends_with took m dealing.ends;
-      is = record {
-        rest = [];
-        parts = sym (append-nil (took ++ m ∷ []));
-        lawful = lawful_more Between took m dealing.lawful (subst (λ (p : Place). Accepts p m) dealing.here accepts);
-      };
-      may = for_reason end false (length olds) (took ++ m ∷ []) (took ++ m ∷ []) reason;
-      lanes = each-then (HasAll (length olds) took) (IsSentPart (part_at (length olds) place m) unsent) (HasPrefix false (length olds) (took ++ m ∷ [])) 0 olds
-          nows news
-          (part_is_prefix place (length olds) took m unsent dealing.ends goes dealing.here) dealing.lanes
-          (parts_of place m olds nows news took unsent dealing.lanes sent_parts).lanes;
+      input = i.input;
+      messages = i.messages;
+      ends = i.ends;
+      is = with_message i.took i.before i.at i.after i.parts i.dealt.0 accepts;
+      may = for_reason end false (length olds) accepted i.took parts.reason;
+      lanes = each-then (HasAll (length olds) i.before) (IsSentPart (part_at (length olds) place i.at) (Some end)) (HasPrefix false (length olds) accepted) 0
+          olds i.nows news (part_is_prefix place (length olds) i.before i.at (Some end) i.goes goes_on refl) i.dealt.1
+          (parts_of place i.at olds i.nows news i.before (Some end) i.dealt.1 parts).lanes;
     }
+
+-- at a message that can't come, or in an image
+pub cuts : (end : StageEnd) (ending : Ending) (received_old received_new : List Message) (olds news : List Sender)
+    → IsInterrupted end ending received_old received_new olds news → (end ≡ Fault OutOfOrder) ⊎ (ending ≡ More)
+    → IsCut end ending received_old received_new olds news
+cuts end ending received_old received_new olds news i goes = cut_by end ending received_old received_new olds news i goes i.reason
 
 -- ---- where the other end of a ring was seen dropped
 
--- the end of the stream was dealt to those lanes that it could be sent to
-last_lane : (place : Place) (lanes : ℕ) (took : List Message) (m : Message) (unsent : Option StageEnd) → IsAccepted (took ++ m ∷ []) (took ++ m ∷ [])
-    → place ≡ place_of Between took → (lane : ℕ) (old now new : Sender)
-    → HasAll lanes took lane old now → IsSentPart (part_at lanes place m) unsent lane now new → HasLane PeerGone lanes (took ++ m ∷ []) lane old new
-last_lane place lanes took m unsent is here lane old now new all (same, inl added) =
-    let gave = dealt lane lanes (took ++ m ∷ []) in
-    record {
-      ring = same_output old now new all.0 same;
-      gave = gave;
-      output = added ∙ ap (λ (x : List Message). x ++ dealt_message lane lanes place m) all.1
-          ∙ append_assoc (sent old) (dealt lane lanes took) (dealt_message lane lanes place m)
-          ∙ ap (λ (x : List Message). sent old ++ x) (sym (dealt_more lane lanes place took m here));
-      ended = tt;
-      prefix = prefix_of_dealt lane lanes (took ++ m ∷ []) (took ++ m ∷ []) gave is (before_stop_prefix gave);
-    }
-last_lane place lanes took m unsent is here lane old now new all (same, inr lost) =
-    let gave = dealt lane lanes took in
-    record {
-      ring = same_output old now new all.0 same;
-      gave = gave;
-      output = lost.0 ∙ all.1;
-      ended = tt;
-      prefix = prefix_of_dealt lane lanes (took ++ m ∷ []) (took ++ m ∷ []) gave is
-          (prefix_of_prefix (without_stop gave) gave (dealt lane lanes (took ++ m ∷ [])) (before_stop_prefix gave)
-          (dealt_message lane lanes place m, dealt_more lane lanes place took m here));
-    }
+-- the message was dealt to those lanes that it could be sent to
+last_lane : (lanes : ℕ) (before : List Message) (m : Message) (l : List Message) (end : StageEnd) → IsAccepted before l → IsAccepted (before ++ m ∷ []) l
+    → (lane : ℕ) (old now new : Sender)
+    → HasAll lanes before lane old now → IsSentPart (part_at lanes (place_of Between before) m) (Some end) lane now new → HasLane PeerGone lanes l lane old new
+last_lane lanes before m l end without is lane old now new all (same, inl added) =
+    whole_lane PeerGone lanes (before ++ m ∷ []) l is (λ n. tt) lane old new
+    (all_then Between before (m ∷ []) lanes lane old now new all
+    (same, added ∙ ap (λ (x : List Message). sent now ++ x) (sym (append-nil (dealt_message lane lanes (place_of Between before) m)))))
+last_lane lanes before m l end without is lane old now new all (same, inr lost) =
+    whole_lane PeerGone lanes before l without (λ n. tt) lane old new (same_output old now new all.0 same, lost.0 ∙ all.1)
 
-is_ended_by : (l : List Message) (m : Message) → EndsBy (ending_of m) l → (ending_of m ≡ Whole) ⊎ (ending_of m ≡ BrokenOff) → IsEnded l
-is_ended_by l m ends (inl whole) = inl (subst (λ (e : Ending). EndsBy e l) whole ends)
-is_ended_by l m ends (inr broken) = inr (subst (λ (e : Ending). EndsBy e l) broken ends)
+last_lanes : (end : StageEnd) (ending : Ending) (received_old received_new : List Message) (olds news : List Sender)
+    (i : IsInterrupted end ending received_old received_new olds news) → IsReason end (place_of Between i.before) i.at i.nows news
+    → AtEach (HasLane PeerGone (length olds) i.took) olds news
+last_lanes end ending received_old received_new olds news i (inl (same, why)) =
+    subst (λ (l : List Sender). AtEach (HasLane PeerGone (length olds) i.took) olds l) (sym same)
+    (each-map (HasAll (length olds) i.before) (HasLane PeerGone (length olds) i.took) 0 olds i.nows
+    (whole_lane PeerGone (length olds) i.before i.took (record { rest = i.at ∷ i.after; parts = i.parts; lawful = i.dealt.0 }) (λ n. tt)) i.dealt.1)
+last_lanes end ending received_old received_new olds news i (inr (accepts, parts)) =
+    let place = place_of Between i.before in
+    each-then (HasAll (length olds) i.before) (IsSentPart (part_at (length olds) place i.at) (Some end)) (HasLane PeerGone (length olds) i.took) 0
+    olds i.nows news
+    (last_lane (length olds) i.before i.at i.took end (record { rest = i.at ∷ i.after; parts = i.parts; lawful = i.dealt.0 })
+    (with_message i.took i.before i.at i.after i.parts i.dealt.0 accepts)) i.dealt.1
+    (parts_of place i.at olds i.nows news i.before (Some end) i.dealt.1 parts).lanes
 
-pub ends_gone : (place : Place) (received_old received_now received_new left : List Message) (olds nows news : List Sender) (m : Message)
-    (unsent : Option StageEnd)
-    → IsDealing More place received_old received_now olds nows → received_new ≡ received_now ++ m ∷ [] → IsMessage m → Accepts place m → (ending_of m ≡ Whole)
-    ⊎ (ending_of m ≡ BrokenOff)
-    → HasSentParts (part_at (length nows) place m) unsent nows news → HasDealt PeerGone received_old received_new left olds news
-ends_gone place received_old received_now received_new left olds nows news m unsent dealing added is accepts ends sent_parts =
-    let took = dealing.took in
-    let all = took ++ m ∷ [] in
-    let lawful : IsLawful all = lawful_more Between took m dealing.lawful (subst (λ (p : Place). Accepts p m) dealing.here accepts) in
-    let ended : IsEnded all = is_ended_by all m (ends_with took m dealing.ends) ends in
+is_ended_so : (ending : Ending) (l : List Message) → EndsBy ending l → (ending ≡ Whole) ⊎ (ending ≡ BrokenOff) → IsEnded l
+is_ended_so ending l ends (inl whole) = inl (subst (λ (e : Ending). EndsBy e l) whole ends)
+is_ended_so ending l ends (inr broken) = inr (subst (λ (e : Ending). EndsBy e l) broken ends)
+
+pub ends_gone : (end : StageEnd) (ending : Ending) (received_old received_new left : List Message) (olds news : List Sender)
+    → IsInterrupted end ending received_old received_new olds news → (ending ≡ Whole) ⊎ (ending ≡ BrokenOff)
+    → HasDealt PeerGone received_old received_new left olds news
+ends_gone end ending received_old received_new left olds news i so =
+    let ended : IsEnded i.took = is_ended_so ending i.took i.ends so in
     record {
-      took = all;
-      input = added ∙ ap (λ (x : List Message). x ++ m ∷ []) dealing.input ∙ append_assoc received_old took (m ∷ []);
+      took = i.took;
+      input = i.input;
       seen_taken = inl ended;
-      messages = each-push IsMessage took m dealing.messages is;
-      once = once_ended all ended;
+      messages = i.messages;
+      once = once_ended i.took ended;
       ended = tt;
-      lanes = each-then (HasAll (length olds) took) (IsSentPart (part_at (length olds) place m) unsent) (HasLane PeerGone (length olds) all) 0 olds nows news
-          (last_lane place (length olds) took m unsent (record { rest = []; parts = sym (append-nil all); lawful = lawful }) dealing.here) dealing.lanes
-          (parts_of place m olds nows news took unsent dealing.lanes sent_parts).lanes;
+      lanes = last_lanes end ending received_old received_new olds news i i.reason;
     }
 
 -- no message can be taken
@@ -308,7 +384,7 @@ cut_here place received_old received_now received_new olds nows dealing same =
       input = same ∙ dealing.input;
       messages = dealing.messages;
       ends = dealing.ends;
-      is = record { rest = []; parts = sym (append-nil took); lawful = dealing.lawful };
+      is = all_accepted took dealing.lawful;
       may = for_reason PeerGone true (length olds) took took (inr refl);
       lanes = each-map (HasAll (length olds) took) (HasPrefix true (length olds) took) 0 olds nows (all_is_prefix
           (length olds) took dealing.ends) dealing.lanes;

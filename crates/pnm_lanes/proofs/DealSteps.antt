@@ -2,35 +2,40 @@
 use Rattle.std.proofs.Common.{◌≡◌, inl, inr, ℕ, Bool, true, false, List, [], ◌∷◌, ◌++◌, length, Option, None, Some, refl, sym, ap, subst, ◌∙◌, append_assoc}
 use Rattle.std.proofs.Common.{append-nil}
 use Rattle.std.specs.List.{AllByRecursion}
+use Rattle.pnm_stages.specs.declared.parcel.Parcel.{Parcel}
 use Rattle.pnm_stages.specs.declared.sender.Sender.{Sender}
+use Rattle.pnm_stages.specs.Parcels.{messages_in, ending_of_parcel}
 use Rattle.pnm_stages.specs.Rings.{sent, SameSender}
 use Rattle.pnm_image.specs.declared.message.Message.{Message}
 use Rattle.pnm_image.specs.declared.message.Message.TheVariants.{Stop}
 use Rattle.pnm_image.specs.declared.place.Place.{Place}
 use Rattle.pnm_image.specs.declared.place.Place.TheVariants.{Between}
 use Rattle.pnm_image.specs.Messages.{IsMessage, without_stop, ending_of, EndsBy}
-use Rattle.pnm_image.specs.Places.{Accepts, IsLawful, place_after, place_of}
+use Rattle.pnm_image.specs.Places.{IsLawful, place_of}
 use Rattle.pnm_image.specs.Completion.{IsPrefixOf}
-use Rattle.pnm_image.proofs.Lists.{each-push}
-use Rattle.pnm_image.proofs.Places.{lawful_more, place_of-append}
+use Rattle.pnm_image.proofs.Places.{place_of-append}
 use Rattle.pnm_image.specs.declared.message.Ending.{Ending}
 use Rattle.pnm_image.specs.declared.message.Ending.TheVariants.{More, Whole, BrokenOff}
 use Rattle.pnm_tools.specs.Dealing.{dealt_message, dealt}
 use Rattle.pnm_tools.proofs.FullLaws.{prefix_of_prefix}
+use Rattle.pnm_tools.proofs.InFullLaws.{ends_after}
+use Rattle.pnm_tools.proofs.SoundLaws.{both_all}
 use Rattle.pnm_stages.specs.declared.stage.StageEnd.{StageEnd}
 use Rattle.pnm_stages.specs.declared.stage.StageEnd.TheVariants.{Well, Broken, PeerGone}
-use Rattle.pnm_stages.proofs.RingSteps.{ends_as, same_output, itself_output}
+use Rattle.pnm_stages.proofs.ParcelLaws.{ends_with_parcel}
+use Rattle.pnm_stages.proofs.RingSteps.{ends_nothing, same_output}
 use Rattle.pnm_stages.proofs.PrefixLaws.{stop_is_cut}
 use Rattle.pnm_lanes.specs.Deals.{AtEach, HasSentSo, IsPrefixOfDealt, HasLane, HasDealt}
-use Rattle.pnm_lanes.specs.DealParts.{part_at, IsSentPart, HasSentParts}
-use Rattle.pnm_lanes.proofs.EachLaws.{each-map, each-itself, each-then, each-count}
+use Rattle.pnm_lanes.specs.DealParts.{part_at, IsSentPart, HasSentParts, IsSentAll, HasDealtAll, HasDealtMessages}
+use Rattle.pnm_lanes.proofs.EachLaws.{each-map, each-count}
 use Rattle.pnm_lanes.proofs.DealtLaws.{dealt_more, dealt_goes_on, dealt_part_goes_on, itself_prefix, before_stop_prefix}
+use Rattle.pnm_lanes.proofs.MessageSteps.{none_dealt, dealt_then}
 
 -- ---- what has been dealt
 
 -- a lane was sent all that is dealt to it of these messages
 abbrev pub HasAll : ℕ → List Message → ℕ → Sender → Sender → Type 0
-HasAll lanes took lane old now = SameSender old now × (sent now ≡ sent old ++ dealt lane lanes took)
+HasAll lanes took lane old now = IsSentAll Between lanes took lane old now
 
 -- messages were received that end so, and all of them were dealt
 pub record IsDealing (ending : Ending) (place : Place) (received_old received_now : List Message) (olds nows : List Sender) : Type 0 where
@@ -51,7 +56,7 @@ deals_nothing l outputs = record {
   lawful = tt;
   ends = refl;
   here = refl;
-  lanes = each-itself (HasAll (length outputs) []) 0 outputs (λ n x. (itself_output x, sym (append-nil (sent x))));
+  lanes = (none_dealt Between outputs).1;
 }
 
 -- the parts of the lanes, by the number of lanes at the beginning
@@ -61,50 +66,61 @@ pub parts_of : (place : Place) (m : Message) (olds nows news : List Sender) (too
 parts_of place m olds nows news took unsent all parts =
     subst (λ (n : ℕ). HasSentParts (part_at n place m) unsent nows news) (each-count (HasAll (length olds) took) 0 olds nows all) parts
 
--- a lane was sent all, and its part of one more
-one_more_lane : (place : Place) (lanes : ℕ) (took : List Message) (m : Message) (unsent : Option StageEnd) → unsent ≡ None → place ≡ place_of Between took
-    → (lane : ℕ) (old now new : Sender)
-    → HasAll lanes took lane old now → IsSentPart (part_at lanes place m) unsent lane now new → HasAll lanes (took ++ m ∷ []) lane old new
-one_more_lane place lanes took m unsent none here lane old now new all (same, inl is) = (
-  same_output old now new all.0 same,
-  is ∙ ap (λ (x : List Message). x ++ dealt_message lane lanes place m) all.1
-      ∙ append_assoc (sent old) (dealt lane lanes took) (dealt_message lane lanes place m)
-      ∙ ap (λ (x : List Message). sent old ++ x) (sym (dealt_more lane lanes place took m here)),
-)
-one_more_lane place lanes took m None none here lane old now new all (same, inr lost) = let lost_one = lost.1 in absurd cc
-one_more_lane place lanes took m (Some end) none here lane old now new all (same, inr lost) = absurd cc
-
--- a message was dealt
-pub deals_on : (ending : Ending) (place : Place) (received_old received_now received_new : List Message) (olds nows news : List Sender) (m : Message)
-    (unsent : Option StageEnd)
-    → IsDealing More place received_old received_now olds nows → received_new ≡ received_now ++ m ∷ [] → IsMessage m → Accepts place m → ending_of m ≡ ending
-    → HasSentParts (part_at (length nows) place m) unsent nows news → unsent ≡ None → IsDealing ending (place_after place m) received_old received_new olds news
-deals_on ending place received_old received_now received_new olds nows news m unsent dealing added is accepts ends sent_parts none =
+-- messages were dealt
+deals_on : (ending : Ending) (place : Place) (received_old received_now received_new l : List Message) (olds nows news : List Sender)
+    → IsDealing More place received_old received_now olds nows → received_new ≡ received_now ++ l → AllByRecursion IsMessage l → EndsBy ending l
+    → HasDealtAll place l nows news → IsDealing ending (place_of place l) received_old received_new olds news
+deals_on ending place received_old received_now received_new l olds nows news dealing added are ends dealt_here =
     let took = dealing.took in
+    let all : HasDealtAll Between (took ++ l) olds news =
+    dealt_then Between took l olds nows news (dealing.lawful, dealing.lanes) (subst (λ (p : Place). HasDealtAll p l nows news) dealing.here dealt_here) in
     record {
-      took = took ++ m ∷ [];
-      input = added ∙ ap (λ (x : List Message). x ++ m ∷ []) dealing.input ∙ append_assoc received_old took (m ∷ []);
-      messages = each-push IsMessage took m dealing.messages is;
-      lawful = lawful_more Between took m dealing.lawful (subst (λ (p : Place). Accepts p m) dealing.here accepts);
-      ends = ends_as ending took m dealing.ends ends;
-      here = ap (λ (p : Place). place_after p m) dealing.here ∙ sym (place_of-append Between took (m ∷ []));
-      lanes = each-then (HasAll (length olds) took) (IsSentPart (part_at (length olds) place m) unsent) (HasAll (length olds) (took ++ m ∷ [])) 0 olds nows news
-          (one_more_lane place (length olds) took m unsent none dealing.here) dealing.lanes
-          (parts_of place m olds nows news took unsent dealing.lanes sent_parts).lanes;
+      took = took ++ l;
+      input = added ∙ ap (λ (x : List Message). x ++ l) dealing.input ∙ append_assoc received_old took l;
+      messages = both_all IsMessage took l dealing.messages are;
+      lawful = all.0;
+      ends = ends_after ending took l (ends_nothing took dealing.ends) ends;
+      here = ap (λ (p : Place). place_of p l) dealing.here ∙ sym (place_of-append Between took l);
+      lanes = all.1;
     }
+
+-- as a parcel does
+pub parcel_ends_so : (ending : Ending) (parcel : Parcel) → ending_of_parcel parcel ≡ ending → EndsBy ending (messages_in parcel)
+parcel_ends_so ending parcel same = subst (λ (e : Ending). EndsBy e (messages_in parcel)) same (ends_with_parcel [] parcel refl)
+
+-- a parcel was dealt
+pub deals_parcel : (ending : Ending) (place here : Place) (received_old received_now received_new : List Message) (olds nows news : List Sender)
+    (parcel : Parcel) (unsent : Option StageEnd)
+    → IsDealing More place received_old received_now olds nows → received_new ≡ received_now ++ messages_in parcel
+    → AllByRecursion IsMessage (messages_in parcel) → ending_of_parcel parcel ≡ ending
+    → HasDealtMessages place here (messages_in parcel) unsent nows news → unsent ≡ None → IsDealing ending here received_old received_new olds news
+deals_parcel ending place here received_old received_now received_new olds nows news parcel None dealing added are ends parts none =
+    subst (λ (p : Place). IsDealing ending p received_old received_new olds news) (sym parts.0)
+    (deals_on ending place received_old received_now received_new (messages_in parcel) olds nows news dealing added are (parcel_ends_so ending parcel ends)
+    parts.1)
+deals_parcel ending place here received_old received_now received_new olds nows news parcel (Some end) dealing added are ends parts none = absurd cc
 
 -- ---- the end of the stream
 
--- all was dealt to the lane
-whole_lane : (end : StageEnd) (lanes : ℕ) (took : List Message) → IsLawful took → ((lane : ℕ) → HasSentSo end lane lanes took (dealt lane lanes took))
-    → (lane : ℕ) (old new : Sender)
-    → HasAll lanes took lane old new → HasLane end lanes took lane old new
-whole_lane end lanes took lawful so lane old new all = record {
+-- what was accepted of what was received
+pub record IsAccepted (accepted l : List Message) : Type 0 where
+  pub rest : List Message
+  pub parts : l ≡ accepted ++ rest
+  pub lawful : IsLawful accepted
+
+pub all_accepted : (l : List Message) → IsLawful l → IsAccepted l l
+all_accepted l lawful = record { rest = []; parts = sym (append-nil l); lawful = lawful }
+
+-- all of what was accepted was dealt to the lane
+pub whole_lane : (end : StageEnd) (lanes : ℕ) (accepted l : List Message) → IsAccepted accepted l
+    → ((lane : ℕ) → HasSentSo end lane lanes l (dealt lane lanes accepted)) → (lane : ℕ) (old new : Sender)
+    → HasAll lanes accepted lane old new → HasLane end lanes l lane old new
+whole_lane end lanes accepted l is so lane old new all = record {
   ring = all.0;
-  gave = dealt lane lanes took;
+  gave = dealt lane lanes accepted;
   output = all.1;
   ended = so lane;
-  prefix = record { accepted = took; rest = []; parts = sym (append-nil took); lawful = lawful; prefix = before_stop_prefix (dealt lane lanes took) };
+  prefix = record { accepted = accepted; rest = is.rest; parts = is.parts; lawful = is.lawful; prefix = before_stop_prefix (dealt lane lanes accepted) };
 }
 
 pub ends_whole : (place : Place) (received_old received_new left : List Message) (olds news : List Sender)
@@ -117,7 +133,7 @@ ends_whole place received_old received_new left olds news dealing = record {
   once = (Whole, dealing.ends);
   ended = (dealing.lawful, dealing.ends);
   lanes = each-map (HasAll (length olds) dealing.took) (HasLane Well (length olds) dealing.took) 0 olds news
-      (whole_lane Well (length olds) dealing.took dealing.lawful (λ lane. refl)) dealing.lanes;
+      (whole_lane Well (length olds) dealing.took dealing.took (all_accepted dealing.took dealing.lawful) (λ lane. refl)) dealing.lanes;
 }
 
 pub ends_broken : (place : Place) (received_old received_new left : List Message) (olds news : List Sender)
@@ -130,7 +146,7 @@ ends_broken place received_old received_new left olds news dealing = record {
   once = (BrokenOff, dealing.ends);
   ended = (dealing.lawful, dealing.ends);
   lanes = each-map (HasAll (length olds) dealing.took) (HasLane Broken (length olds) dealing.took) 0 olds news
-      (whole_lane Broken (length olds) dealing.took dealing.lawful (λ lane. refl)) dealing.lanes;
+      (whole_lane Broken (length olds) dealing.took dealing.took (all_accepted dealing.took dealing.lawful) (λ lane. refl)) dealing.lanes;
 }
 
 -- ---- a lane that is sent Stop
@@ -173,12 +189,6 @@ part_is_prefix place lanes took m unsent more goes here lane old now new all (sa
     λ e. absurd cc,
   ),
 )
-
--- what was accepted of what was received
-pub record IsAccepted (accepted l : List Message) : Type 0 where
-  pub rest : List Message
-  pub parts : l ≡ accepted ++ rest
-  pub lawful : IsLawful accepted
 
 pub accepted_more : (accepted took more : List Message) → IsAccepted accepted took → IsAccepted accepted (took ++ more)
 accepted_more accepted took more is = record {

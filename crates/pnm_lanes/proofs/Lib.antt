@@ -2,6 +2,7 @@ pub mod HeightLaws
 pub mod EachLaws
 pub mod DealtLaws
 pub mod SendSteps
+pub mod MessageSteps
 pub mod DealSteps
 pub mod BreakSteps
 pub mod HeightSums

@@ -1,17 +1,22 @@
 //! Dealing: the rows of each image go to lanes in turn, and each lane gets a stream of images of its own.
 
-ghost use Rattle.std.specs.Prelude.{◌≡◌, ◌<◌, ◌≤◌, ◌∷◌, [], length, IfSome};
+ghost use Rattle.std.specs.Prelude.{◌≡◌, ◌⊎◌, ◌<◌, ◌≤◌, ◌∷◌, [], length, IfSome, IsTrue, IsFalse};
+ghost use Rattle.pnm_image.specs.declared.message.Ending.TheVariants.{More, Whole, BrokenOff};
+ghost use Rattle.pnm_image.specs.Rows.{row_messages};
+ghost use Rattle.pnm_stages.specs.Parcels.{messages_in};
 ghost use Rattle.pnm_stages.specs.Rings.{sent, received, known_items, SameReceiver};
 ghost use Rattle.pnm_image.specs.Places.{Accepts};
+ghost use Rattle.pnm_tools.specs.declared.fault.ToolFault.TheVariants.{OutOfOrder};
 ghost use Rattle.pnm_tools.specs.Dealing.{dealt_height};
+ghost use Rattle.pnm_stages.specs.declared.stage.StageEnd.TheVariants.{Fault};
 ghost use Rattle.pnm_lanes.specs.Limits.{IsLaneCount};
 ghost use Rattle.pnm_lanes.specs.Deals.{HasDealt};
 ghost use Rattle.pnm_lanes.specs.DealParts.{IsRow, part_at, row_part, lane_part, HasSentParts};
-ghost use Rattle.pnm_lanes.specs.DealParts.{HasBrokenOffDealing};
+ghost use Rattle.pnm_lanes.specs.DealParts.{HasDealtMessages, HasBrokenOffDealing};
 ghost use Rattle.pnm_lanes.specs.declared.lane.TheConstants.{MAX_LANES};
 
-use pnm_image::{Ending, Message, Place, Samples};
-use pnm_stages::{Backoff, Receiver, Sender, StageEnd};
+use pnm_image::{Ending, Message, Place, Rows, Samples};
+use pnm_stages::{Backoff, Parcel, Receiver, Sender, StageEnd};
 use pnm_tools::ToolFault;
 use std::alloc::Global;
 use std::sync::Wait;
@@ -28,16 +33,14 @@ pub struct DealDone {
 }
 
 /// Deals what comes on `input` to as many lanes as there are outputs, 1 to 8. Row y of an image goes to lane y mod
-/// the number of lanes, all counted from 0; it is moved. Each lane gets a copy of each head, with the number of the
-/// lane's rows as the height, and each end of an image and of the stream.
+/// the number of lanes, all counted from 0; it is moved, or copied where it comes together with others. Each lane gets
+/// a copy of each head, with the number of the lane's rows as the height, and each end of an image and of the stream.
 ///
 /// The faults are `OutOfOrder`, where a message can't come at its place, and `Memory`, where there is none for the
-/// copy of a head. Each lane is sent Stop then, and the input is taken and dropped through its end or its Stop. Where
-/// the other end of a ring is dropped early, the end is `PeerGone`: each lane whose stream hasn't ended is sent Stop,
-/// and the input is drained. So it is where rows come that were sent together: a row is dealt by itself.
-///
-/// A copy of a head is made by the head's own allocator: `_alloc` says that memory is taken.
-pub fn deal<R: Wait>(rt: &R, _alloc: Global, input: Receiver, outputs: Vec<Sender>) -> DealDone
+/// copy of a head or a row. Each lane is sent Stop then, and the input is taken and dropped through its end or its
+/// Stop. Where the other end of a ring is dropped early, the end is `PeerGone`: each lane whose stream hasn't ended is
+/// sent Stop, and the input is drained.
+pub fn deal<R: Wait>(rt: &R, alloc: Global, input: Receiver, outputs: Vec<Sender>) -> DealDone
     requires { IsLaneCount (length outputs.items) }
     ensures input { SameReceiver input result.input }
     ensures count { length result.outputs.items ≡ length outputs.items }
@@ -46,7 +49,7 @@ pub fn deal<R: Wait>(rt: &R, _alloc: Global, input: Receiver, outputs: Vec<Sende
 {
     let mut input = input;
     let mut outputs = outputs;
-    let end = deal_all(rt, &mut input, outputs.as_mut_slice());
+    let end = deal_all(rt, alloc, &mut input, outputs.as_mut_slice());
     DealDone {
         input,
         outputs,
@@ -55,7 +58,12 @@ pub fn deal<R: Wait>(rt: &R, _alloc: Global, input: Receiver, outputs: Vec<Sende
 }
 
 /// Deals all messages through to the end of the stream.
-fn deal_all<R: Wait>(rt: &R, input: &mut Receiver, outputs: &mut [Sender]) -> StageEnd
+fn deal_all<R: Wait>(
+    rt: &R,
+    alloc: Global,
+    input: &mut Receiver,
+    outputs: &mut [Sender],
+) -> StageEnd
     requires { IsLaneCount (length outputs.old) }
     ensures input { SameReceiver input.old input.new }
     ensures dealt { HasDealt result (received input.old) (received input.new) (known_items input.new)
@@ -64,29 +72,16 @@ fn deal_all<R: Wait>(rt: &R, input: &mut Receiver, outputs: &mut [Sender]) -> St
     let mut place = Place::new();
     let backoff = &mut Backoff::new();
     for _ in rt.forever() {
-        let Some(message) = input.receive_message(rt, backoff) else {
-            return break_off(
-                rt,
-                StageEnd::PeerGone,
-                Ending::More,
-                input,
-                outputs,
-                backoff,
-            );
+        let Some(parcel) = input.receive(rt, backoff) else {
+            let end = StageEnd::PeerGone;
+            return break_off(rt, end, Ending::More, input, outputs, backoff);
         };
-        let ending = message.ending();
-        if !place.accepts(&message) {
-            drop(message);
-            let end = StageEnd::Fault(ToolFault::OutOfOrder);
-            return break_off(rt, end, ending, input, outputs, backoff);
-        }
-        let here = place;
-        place.step(&message);
-        if let Some(end) = send_parts(rt, here, message, outputs, backoff) {
-            match ending {
-                Ending::More => return break_off(rt, end, ending, input, outputs, backoff),
-                Ending::Whole | Ending::BrokenOff => return StageEnd::PeerGone,
+        let ending = parcel.ending();
+        if let Some(end) = deal_parcel(rt, alloc, &mut place, parcel, outputs, backoff) {
+            if is_end_dealt(end, ending) {
+                return StageEnd::PeerGone;
             }
+            return break_off(rt, end, ending, input, outputs, backoff);
         }
         match ending {
             Ending::More => {}
@@ -95,6 +90,79 @@ fn deal_all<R: Wait>(rt: &R, input: &mut Receiver, outputs: &mut [Sender]) -> St
         }
     }
     unreachable!()
+}
+
+/// Where the dealing ends so at a parcel with this ending: whether the end of the stream, or Stop, was dealt to each
+/// lane whose other end wasn't gone.
+fn is_end_dealt(end: StageEnd, ending: Ending) -> bool
+    ensures yes { IsTrue result → (ending ≡ Whole) ⊎ (ending ≡ BrokenOff) }
+    ensures no { IsFalse result → (end ≡ Fault OutOfOrder) ⊎ (ending ≡ More) }
+{
+    match ending {
+        Ending::More => false,
+        Ending::Whole | Ending::BrokenOff => end != StageEnd::Fault(ToolFault::OutOfOrder),
+    }
+}
+
+/// Deals a message, or rows that came together, and goes on to the place after them. Where not all can be dealt, some
+/// may have been, and it answers how the dealing ends.
+fn deal_parcel<R: Wait>(
+    rt: &R,
+    alloc: Global,
+    place: &mut Place,
+    parcel: Parcel,
+    outputs: &mut [Sender],
+    backoff: &mut Backoff,
+) -> Option<StageEnd>
+    requires { IsLaneCount (length outputs.old) }
+    ensures { HasDealtMessages place.old place.new (messages_in parcel) result outputs.old outputs.new }
+{
+    match parcel {
+        Parcel::Message(message) => deal_message(rt, place, message, outputs, backoff),
+        Parcel::Rows(rows) => deal_rows(rt, alloc, place, &rows, outputs, backoff),
+    }
+}
+
+/// Deals each of the rows by itself, as a copy.
+fn deal_rows<R: Wait>(
+    rt: &R,
+    alloc: Global,
+    place: &mut Place,
+    rows: &Rows,
+    outputs: &mut [Sender],
+    backoff: &mut Backoff,
+) -> Option<StageEnd>
+    requires { IsLaneCount (length outputs.old) }
+    ensures { HasDealtMessages place.old place.new (row_messages rows.now) result outputs.old outputs.new }
+{
+    for at in 0..rows.count() {
+        let Ok(row) = rows.row(alloc, at) else {
+            return Some(StageEnd::Fault(ToolFault::Memory));
+        };
+        if let Some(end) = deal_message(rt, place, Message::Row(row), outputs, backoff) {
+            return Some(end);
+        }
+    }
+    None
+}
+
+/// Deals a message, if it may come at its place, and goes on to the place after it.
+fn deal_message<R: Wait>(
+    rt: &R,
+    place: &mut Place,
+    message: Message,
+    outputs: &mut [Sender],
+    backoff: &mut Backoff,
+) -> Option<StageEnd>
+    requires { IsLaneCount (length outputs.old) }
+    ensures { HasDealtMessages place.old place.new (message ∷ []) result outputs.old outputs.new }
+{
+    if !place.accepts(&message) {
+        return Some(StageEnd::Fault(ToolFault::OutOfOrder));
+    }
+    let here = *place;
+    place.step(&message);
+    send_parts(rt, here, message, outputs, backoff)
 }
 
 /// Sends each lane its part of a message at this place. Where not each can be sent its own, some may have been, and it

@@ -29,7 +29,8 @@ pub struct GatherDone {
 /// which each lane gives; `Broken` where a lane gives Stop; and by `Fault(OutOfOrder)` where the lanes don't agree, or
 /// a message is out of place. After these two Stop is sent, and all lanes are drained, tried in turn and none waited
 /// for alone. Where the other end of a ring was seen dropped it ends by `PeerGone`, and has sent Stop, where there is
-/// someone to take it, and drained the lanes. No memory is taken.
+/// someone to take it, and drained the lanes. No memory is taken: it ends so, too, where rows come together, which no
+/// lane sends.
 pub fn gather<R: Wait>(rt: &R, inputs: Vec<Receiver>, output: Sender) -> GatherDone
     requires { IsLaneCount (length inputs.items) }
     ensures inputs { AreSameInputs inputs.items result.inputs.items }

@@ -16,7 +16,7 @@ use std::sync::Wait;
 const OUT_OF_ORDER: StageEnd = StageEnd::Fault(ToolFault::OutOfOrder);
 
 /// The next message of the whole stream. `Broken` where a lane gives Stop; `Fault` where the lanes don't agree on it,
-/// or it is out of place; `PeerGone` where a lane's other end was seen dropped before.
+/// or it is out of place; `PeerGone` where a lane's other end was seen dropped before, or rows come together.
 pub fn receive_next<R: Wait>(
     rt: &R,
     inputs: &mut [Receiver],

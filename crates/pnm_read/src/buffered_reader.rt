@@ -9,22 +9,32 @@ use crate::fault::InputFault;
 use pnm_image::BytesIn;
 use std::alloc::Global;
 
-/// The bytes that a buffer holds.
-const BUFFER_BYTES: usize = 4096;
+/// The bytes of the smallest buffer, and of the smallest target that is read into past a buffer of any size.
+const LEAST_BYTES: usize = 4096;
 
-/// A buffer of 4,096 bytes for what is read of an input.
+/// A buffer of 4,096 bytes or more for what is read of an input.
 #[derive(Drop)]
 pub struct ReadBuffer {
     bytes: Vec<u8>,
-    ghost size: { vec_len bytes ≡ 4096 },
+    ghost size: { 4096 ≤ vec_len bytes },
 }
 
 impl ReadBuffer {
-    /// A buffer that holds nothing yet. The only fault is `Memory`.
+    /// A buffer of 4,096 bytes that holds nothing yet. The only fault is `Memory`.
     pub fn new(alloc: Global) -> Result<ReadBuffer, InputFault>
+        ensures size { IfOk result (λ buffer. vec_len buffer.bytes ≡ 4096) }
         ensures refused { IfErr result (λ fault. fault ≡ Memory) }
     {
-        match Vec::from_elem(alloc, 0, BUFFER_BYTES) {
+        ReadBuffer::with_capacity(alloc, LEAST_BYTES)
+    }
+
+    /// A buffer of so many bytes that holds nothing yet. The only fault is `Memory`.
+    pub fn with_capacity(alloc: Global, capacity: usize) -> Result<ReadBuffer, InputFault>
+        requires { 4096 ≤ capacity }
+        ensures size { IfOk result (λ buffer. vec_len buffer.bytes ≡ capacity) }
+        ensures refused { IfErr result (λ fault. fault ≡ Memory) }
+    {
+        match Vec::from_elem(alloc, 0, capacity) {
             Ok(bytes) => Ok(ReadBuffer { bytes }),
             Err(_) => Err(InputFault::Memory),
         }
@@ -41,9 +51,9 @@ pub struct BufferedReader<R> {
     end: usize,
     /// The reader's end was seen.
     ended: bool,
-    ghost size: { vec_len buffer ≡ 4096 },
+    ghost size: { 4096 ≤ vec_len buffer },
     ghost order: { at ≤ end },
-    ghost within: { end ≤ 4096 },
+    ghost within: { end ≤ vec_len buffer },
 }
 
 impl<R: BytesIn> BufferedReader<R> {
@@ -145,14 +155,14 @@ impl<R: BytesIn> BufferedReader<R> {
 
     /// Takes the next bytes into the front of the target, and answers how many came: 0 only at the end of
     /// the input. They are those that are held, or where none is, those of one read, straight into a
-    /// target of at least as many bytes as the buffer has. The only fault is `ReadFailed`.
+    /// target of at least 4,096 bytes. The only fault is `ReadFailed`.
     pub fn read(&mut self, target: &mut [u8]) -> Result<usize, InputFault>
         requires { 0 < length target.old }
         ensures read_call { ReadCall R.left R.failures R.same self.old self.new result (Reads target.new result) }
         ensures bound { IfOk result (λ count. count ≤ length target.new) }
         ensures failed { IfErr result (λ fault. fault ≡ ReadFailed) }
     {
-        if self.at == self.end && target.len() >= BUFFER_BYTES {
+        if self.at == self.end && target.len() >= LEAST_BYTES {
             return self.read_past(target);
         }
         self.fill(1)?;

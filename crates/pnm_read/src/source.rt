@@ -56,7 +56,7 @@ struct Step {
 /// ignored where it begins with white space or `#`.
 ///
 /// A read is made only where a byte is needed that isn't held, and none after one that gave no byte.
-/// At most 4,096 bytes and a row are held.
+/// At most a buffer full of bytes and a row are held: 4,096 of the buffer that `new` makes.
 #[derive(Drop)]
 pub struct Source<R> {
     input: BufferedReader<R>,
@@ -126,9 +126,9 @@ impl<R: BytesIn> Source<R> {
         }
     }
 
-    /// The next rows of a raw image together, which `next` would give one after another: all that are held whole, where
-    /// these are two or more of at most 512 bytes each, and fill their bytes. Otherwise, and where one of them has a
-    /// sample above the maxval, `None`: then `next` tells what comes. It makes no read.
+    /// The next rows of a raw image together, which `next` would give one after another: all that are held whole, up to
+    /// 4,096 bytes, where these are two or more of at most 512 bytes each, of bits or of a byte a sample. Otherwise,
+    /// and where one of them has a sample above the maxval, `None`: then `next` tells what comes. It makes no read.
     ///
     /// The only fault is `Memory`, after which this answers `None` and `next` the fault. The memory of the rows is
     /// taken from the spares, where there is some that they fit in.

@@ -92,6 +92,20 @@ impl Bits {
         bytes
     }
 
+    /// Fills the buffer with the bytes of a run of so many pixels, from the start on, with white spare bits.
+    pub fn copy_run(&self, start: usize, count: usize, buffer: &mut [u8])
+        requires run { start + count ≤ length self.now }
+        requires buffer { length buffer.old ≡ (count + 7) / 8 }
+        ensures { buffer.new ≡ packed_bytes (take count (drop start self.now)) }
+    {
+        // No effect at run time: a proof learns of this that the pixels are as many as this machine can count.
+        let _ = self.len();
+        fill_run(buffer, self.bytes.as_slice(), start, count);
+        clear_spare(buffer, count);
+        // No effect at run time: a proof learns of this that each byte is below 256.
+        let _ = bytes_of(buffer);
+    }
+
     /// A pixel.
     pub fn pixel(&self, at: usize) -> u16
         requires { at < length self.now }

@@ -13,11 +13,12 @@ use Rattle.std.specs.Io.KnownBytes.{Appends, Keeps}
 use Rattle.std.proofs.KnownBytes.{Appends-kept}
 use Rattle.pnm_write.specs.Encoding.{bytes_at, bytes_of, written_of}
 use Rattle.pnm_write.specs.Forms.{has_begun_by, form_fault, form_fault_of}
-use Rattle.pnm_write.specs.Sinks.{form_of, has_begun, next_place, has_failed, IsInOrder, IsWritable, HasWritten, Refuses}
+use Rattle.pnm_write.specs.Sinks.{writer_of, form_of, has_begun, next_place, has_failed, IsInOrder, IsWritable, HasWritten, Refuses}
 use Rattle.pnm_write.proofs.FormLaws.{form_fault-more}
 use Rattle.pnm_write.proofs.MessageLaws.{bytes_of_more, written_all, written_prefix}
 use Rattle.pnm_image.proofs.Written.{fails_again, prefix-more, then_prefix}
 use Rattle.pnm_serial.specs.declared.downstream.Downstream.{Downstream}
+use Rattle.pnm_serial.specs.declared.summary.Summary.{Summary}
 use Rattle.pnm_serial.specs.Counts.{image_count_after, row_count_after}
 use Rattle.pnm_serial.specs.Downstreams.{output_of, AreInOrder, CountsFlushes, AreWritten, CutsOff, HasTakenWith}
 use Rattle.pnm_serial.proofs.FormSteps.{refused_last, refused_before}
@@ -50,6 +51,20 @@ put_written held failures form start messages m old new (Ok x) (Ok y) o-is r-is 
   sound = sound.1;
   images = images ∙ ap (λ (k : ℕ). image_count_after k m) was.images ∙ sym (images_in-push 0 messages m);
   rows = rows ∙ ap (λ (k : ℕ). row_count_after k m) was.rows ∙ sym (rows_in-push 0 messages m);
+}
+
+-- it stays so where only what is kept back is told anew
+pub still_written : {W : Type 0} (held : W → Option (List ℕ)) (failures : W → ℕ) (form : Form) (start : W) (messages : List Message) (old new : Downstream W)
+    → new.sink ≡ old.sink → new.summary ≡ old.summary → new.flush_failed ≡ old.flush_failed
+    → AreWritten held failures form start messages old → AreWritten held failures form start messages new
+still_written held failures form start messages old new sink summary flushes was = record {
+  in_form = ap form_of sink ∙ was.in_form;
+  written = subst (λ (s : _). HasWritten held (held start) s messages) (sym sink) was.written;
+  count = subst (λ (b : Bool). CountsFlushes b (failures start) (failures (output_of new))) (sym flushes)
+      (subst (λ (s : _). CountsFlushes old.flush_failed (failures start) (failures (writer_of s))) (sym sink) was.count);
+  sound = ap has_failed sink ∙ was.sound;
+  images = ap (λ (s : Summary). s.images) summary ∙ was.images;
+  rows = ap (λ (s : Summary). s.rows) summary ∙ was.rows;
 }
 
 -- it was passed on then

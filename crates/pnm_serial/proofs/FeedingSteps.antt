@@ -5,6 +5,7 @@ use Rattle.std.specs.Io.KnownBytes.{Consumes}
 use Rattle.std.specs.List.{AllByRecursion}
 use Rattle.std.proofs.lemmas.List.{append-nil, length-append}
 use Rattle.pnm_image.specs.Devices.{Failed}
+use Rattle.pnm_image.specs.declared.format.Form.{Form}
 use Rattle.pnm_image.specs.declared.message.Message.{Message}
 use Rattle.pnm_image.specs.Completion.{IsPrefixOf}
 use Rattle.pnm_read.specs.declared.fault.InputFault.{InputFault}
@@ -22,6 +23,7 @@ use Rattle.pnm_tools.specs.ChainAnswers.{IsSound, AreSound}
 use Rattle.pnm_tools.proofs.ChainLaws.{sound_prefix}
 use Rattle.pnm_serial.specs.declared.downstream.Downstream.{Downstream}
 use Rattle.pnm_tools.specs.declared.fused_filter.FusedFilter.{FusedFilter}
+use Rattle.pnm_serial.specs.Downstreams.{HasTaken}
 use Rattle.pnm_serial.specs.SerialChains.{FeedsThrough}
 use Rattle.pnm_serial.specs.Runs.{change, HasMore, IsReadFailure, MayFollowRead, OutlastsRun}
 use Rattle.pnm_serial.specs.Feeding.{HaveTaken, HasFed}
@@ -141,6 +143,30 @@ going_more left reader_failures at all_given stopped held writer_failures first 
       sound = sound ∙ going.sound;
       output = have_taken_more at all_given stopped held writer_failures going.given m old now after start d new going.output passes;
     }
+
+-- what has passed stays so where the sink has taken what it had
+pub going_flushed : {R F W : Type 0} (left : R → Option (List ℕ)) (reader_failures : R → ℕ) (at : F → Tool → List Message → List Message → Type 0)
+    (all_given : F → Bool) (stopped : F → Option ToolFault) (held : W → Option (List ℕ)) (writer_failures : W → ℕ) (first source : Source R)
+    (old now : List (FusedFilter F)) (start d new : Downstream W) (count : ℕ)
+    → Going left reader_failures at all_given stopped held writer_failures first source old now start d count
+    → ((form : Form) (begun : W) (messages : List Message) → HasTaken held writer_failures form begun messages d
+    → HasTaken held writer_failures form begun messages new)
+    → Going left reader_failures at all_given stopped held writer_failures first source old now start new count
+going_flushed left reader_failures at all_given stopped held writer_failures first source old now start d new count going same = record {
+  read = going.read;
+  given = going.given;
+  consumed = going.consumed;
+  told = going.told;
+  end = going.end;
+  unread = going.unread;
+  many = going.many;
+  sound = going.sound;
+  output = record {
+    out = going.output.out;
+    stages = going.output.stages;
+    taken = λ form begun was. same form begun going.output.out (going.output.taken form begun was);
+  };
+}
 
 -- the end of the stream
 pub fed_all : {R F W : Type 0} (left : R → Option (List ℕ)) (reader_failures : R → ℕ) (at : F → Tool → List Message → List Message → Type 0)

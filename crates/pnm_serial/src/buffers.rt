@@ -7,6 +7,10 @@ use pnm_read::{InputFault, ReadBuffer};
 use pnm_write::WriteBuffer;
 use std::alloc::Global;
 
+/// The bytes that a run reads at a time at most. Where images are small these are of several, and before each read the
+/// result of each image that was sent whole is taken and written.
+const READ_BYTES: usize = 65_536;
+
 /// What a run reads into, and what it encodes into. Both are made before it takes its reader and its writer, so that a
 /// run for which there is no memory leaves these as they were.
 #[derive(Drop)]
@@ -20,7 +24,7 @@ impl Buffers {
     pub fn new(alloc: Global) -> Result<Buffers, InputFault>
         ensures refused { IfErr result (λ fault. fault ≡ Memory) }
     {
-        let read = ReadBuffer::new(alloc)?;
+        let read = ReadBuffer::with_capacity(alloc, READ_BYTES)?;
         match WriteBuffer::new(alloc) {
             Ok(write) => Ok(Buffers { read, write }),
             Err(_) => Err(InputFault::Memory),

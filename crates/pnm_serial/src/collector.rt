@@ -95,6 +95,18 @@ impl<W: BytesOut + Drop> Collector<W> {
         }
     }
 
+    /// Flushes the writer, where an image has ended since the last flush, so that none is kept back while the source
+    /// waits for its reader.
+    pub fn flush_images(&mut self)
+        ensures collecting { (form : FormValue) (start : W) (before : List MessageValue)
+            → IsCollecting W.held W.failures form start before self.old
+            → IsCollecting W.held W.failures form start before self.new }
+        ensures ring { SameReceiver self.old.input self.new.input }
+        ensures same_device { W.same (output_of self.old.downstream) (output_of self.new.downstream) }
+    {
+        self.downstream.flush_images();
+    }
+
     /// One turn of waiting for a message.
     pub fn wait<R: Wait>(&self, rt: &R, backoff: &mut Backoff) {
         self.input.wait(rt, backoff);

@@ -21,7 +21,11 @@ pub struct Downstream<W> {
     summary: Summary,
     /// The fault of the output, once there is one.
     pub output: Result<(), SinkFault>,
-    /// A flush at an image's end has failed.
+    /// It writes in plain form: after one image another is refused, and after that nothing is flushed.
+    is_plain: bool,
+    /// An image has ended since the last flush.
+    keeps_image: bool,
+    /// A flush has failed.
     flush_failed: bool,
 }
 
@@ -37,12 +41,14 @@ impl<W: BytesOut + Drop> Downstream<W> {
             sink: Sink::with_buffer(buffer, writer, form),
             summary: Summary { images: 0, rows: 0 },
             output: Ok(()),
+            is_plain: form == Form::Plain,
+            keeps_image: false,
             flush_failed: false,
         }
     }
 
-    /// Writes the message, unless there was a fault of the output before, and flushes the writer at an image's end, so
-    /// that the image isn't kept back until the next one comes.
+    /// Writes the message, unless there was a fault of the output before. What the writer keeps back of an image that
+    /// has ended is passed on by `flush_images`, but in plain form at once.
     pub fn put(&mut self, message: &Message)
         ensures taken { (form : FormValue) (start : W) (messages : List MessageValue)
             → HasTaken W.held W.failures form start messages self.old
@@ -75,7 +81,7 @@ impl<W: BytesOut + Drop> Downstream<W> {
         }
     }
 
-    /// Flushes the writer at an image's end. Where that fails more is written, and `finish` answers so.
+    /// Notes that an image has ended, if it has, and in plain form flushes the writer then.
     fn pass_on(&mut self, message: &Message)
         ensures written { (form : FormValue) (start : W) (messages : List MessageValue)
             → AreWritten W.held W.failures form start messages self.old
@@ -84,15 +90,44 @@ impl<W: BytesOut + Drop> Downstream<W> {
         ensures same_device { W.same (output_of self.old) (output_of self.new) }
     {
         if message.ends_image() {
-            match self.sink.flush() {
-                Ok(()) => {}
-                Err(_) => self.flush_failed = true,
+            self.keeps_image = true;
+            if self.is_plain {
+                self.flush();
             }
         }
     }
 
+    /// Flushes the writer, where an image has ended since the last flush and there was no fault of the output, so that
+    /// the image isn't kept back. Where that fails more is written, and `finish` answers so.
+    pub fn flush_images(&mut self)
+        ensures taken { (form : FormValue) (start : W) (messages : List MessageValue)
+            → HasTaken W.held W.failures form start messages self.old
+            → HasTaken W.held W.failures form start messages self.new }
+        ensures same_device { W.same (output_of self.old) (output_of self.new) }
+    {
+        if self.keeps_image && self.output.is_ok() {
+            self.flush();
+        }
+    }
+
+    /// Flushes the writer.
+    #[inline(never)]
+    fn flush(&mut self)
+        ensures written { (form : FormValue) (start : W) (messages : List MessageValue)
+            → AreWritten W.held W.failures form start messages self.old
+            → AreWritten W.held W.failures form start messages self.new }
+        ensures output { self.new.output ≡ self.old.output }
+        ensures same_device { W.same (output_of self.old) (output_of self.new) }
+    {
+        match self.sink.flush() {
+            Ok(()) => {}
+            Err(_) => self.flush_failed = true,
+        }
+        self.keeps_image = false;
+    }
+
     /// Flushes the writer, unless there was a fault of the output before, which is then answered. Else a flush that
-    /// fails is, and so is one that has failed at an image's end.
+    /// fails is, and so is one that has failed before.
     pub fn finish(self) -> (W, Result<Summary, SinkFault>)
         requires { has_failed self.sink ≡ is_err self.output }
         ensures bytes { Keeps (W.held (output_of self)) (W.held result.0) }
@@ -106,6 +141,7 @@ impl<W: BytesOut + Drop> Downstream<W> {
             summary,
             output,
             flush_failed,
+            ..
         } = self;
         let (writer, flushed) = sink.finish();
         match output.and(flushed) {

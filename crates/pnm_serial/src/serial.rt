@@ -1,10 +1,12 @@
 //! A run in one thread, over filters that are given: read, pass through them, write.
 
 ghost use Rattle.std.specs.Prelude.{◌≡◌, List, []};
+ghost use Rattle.pnm_image.specs.declared.format.Form.{Form as FormValue};
+ghost use Rattle.pnm_image.specs.declared.message.Message.{Message as MessageValue};
 ghost use Rattle.pnm_read.specs.Sources.{reader_of, IsFreshSource as IsUnread};
 ghost use Rattle.pnm_tools.specs.declared.tool.Tool.{Tool as ToolValue};
 ghost use Rattle.pnm_tools.specs.Chains.{AreLawfulTools};
-ghost use Rattle.pnm_serial.specs.Downstreams.{output_of};
+ghost use Rattle.pnm_serial.specs.Downstreams.{output_of, HasTaken};
 ghost use Rattle.pnm_serial.specs.Jobs.{job_of};
 ghost use Rattle.pnm_serial.specs.Runs.{answer_by, change, HasRunInOneThread, IsFirstRefusal};
 ghost use Rattle.pnm_serial.specs.SerialChains.{refusals_in, FiltersAt};
@@ -96,10 +98,26 @@ fn feed_all<R: BytesIn, F: Filter + Drop, W: BytesOut + Drop>(
 {
     let mut spares = SpareRows::none(alloc);
     for _ in 0..u64::MAX {
+        flush_before_read(source, downstream);
         match source.next(&mut spares)? {
             Some(message) => feed_through(stages, message, downstream),
             None => return Ok(()),
         }
     }
     Err(InputFault::ReadFailed)
+}
+
+/// Passes the images on that have ended, where the source may have to wait for its reader.
+fn flush_before_read<R: BytesIn, W: BytesOut + Drop>(
+    source: &Source<R>,
+    downstream: &mut Downstream<W>,
+)
+    ensures taken { (form : FormValue) (start : W) (messages : List MessageValue)
+        → HasTaken W.held W.failures form start messages downstream.old
+        → HasTaken W.held W.failures form start messages downstream.new }
+    ensures same_device { W.same (output_of downstream.old) (output_of downstream.new) }
+{
+    if !source.holds_next() {
+        downstream.flush_images();
+    }
 }

@@ -171,17 +171,24 @@ fn send_or_take<R: BytesIn + Drop, W: BytesOut + Drop>(
     take(collector, spares)
 }
 
-/// Sends a message, if there is more to be sent and room for it.
+/// Sends a message, if there is more to be sent and room for it. Where the source may have to wait for its reader the
+/// images that have ended are passed on first.
 #[inline(always)]
 fn send<R: BytesIn + Drop, W: BytesOut + Drop>(
     feeder: &mut Feeder<R>,
-    collector: &Collector<W>,
+    collector: &mut Collector<W>,
     spares: &mut SpareRows,
 ) -> bool
-    ensures turned { HaveTurned R.left R.failures R.same W.held W.failures W.same feeder.old collector.now feeder.new
-        collector.now }
+    ensures turned { HaveTurned R.left R.failures R.same W.held W.failures W.same feeder.old collector.old feeder.new
+        collector.new }
 {
-    may_feed(feeder, collector) && feeder.turn(spares)
+    if !may_feed(feeder, collector) {
+        return false;
+    }
+    if feeder.would_read() {
+        collector.flush_images();
+    }
+    feeder.turn(spares)
 }
 
 /// Takes a message and writes it, if one is there.

@@ -1,5 +1,5 @@
 -- What a ring has passed, message by message.
-use Rattle.std.proofs.Common.{◌≡◌, ◌⊎◌, inl, inr, List, [], ◌∷◌, ◌++◌, refl, sym, subst, ◌∙◌}
+use Rattle.std.proofs.Common.{◌≡◌, ◌⊎◌, inl, inr, List, [], ◌∷◌, ◌++◌, ap, refl, sym, subst, ◌∙◌}
 use Rattle.pnm_image.specs.declared.message.Message.{Message}
 use Rattle.pnm_image.specs.Messages.{ending_of, EndsBy}
 use Rattle.pnm_image.specs.declared.message.Ending.{Ending}
@@ -22,11 +22,9 @@ ends_with l m more = ends_after (ending_of m) l (m ∷ []) (ends_nothing l more)
 pub ends_as : (e : Ending) (l : List Message) (m : Message) → EndsBy More l → ending_of m ≡ e → EndsBy e (l ++ m ∷ [])
 ends_as e l m more same = subst (λ (x : Ending). EndsBy x (l ++ m ∷ [])) same (ends_with l m more)
 
--- by how a message ends the stream, as a function answers it
-pub says_end : (a : Ending) (m : Message) → a ≡ ending_of m → (a ≡ Whole) ⊎ (a ≡ BrokenOff) → (ending_of m ≡ Whole)
-    ⊎ (ending_of m ≡ BrokenOff)
-says_end a m says (inl whole) = inl (sym says ∙ whole)
-says_end a m says (inr broken) = inr (sym says ∙ broken)
+-- what was received after a look that received nothing
+pub arrived : (m : List Message) {r r1 r2 : List Message} → r1 ≡ r → r2 ≡ r1 ++ m → r2 ≡ r ++ m
+arrived m same added = added ∙ ap (λ (l : List Message). l ++ m) same
 
 -- both ends of one ring, still
 pub same_input : (a b c : Receiver) → SameReceiver a b → SameReceiver b c → SameReceiver a c

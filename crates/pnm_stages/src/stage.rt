@@ -1,8 +1,6 @@
 //! A stage of a chain: a tool in a thread of its own, between two rings.
 
-ghost use Rattle.std.specs.Prelude.{◌≡◌, ◌<◌, [], ◌∷◌, ◌++◌, length, IfSome, IfNone, IsTrue, IsFalse};
-ghost use Rattle.std.specs.List.{AllByRecursion};
-ghost use Rattle.pnm_image.specs.Messages.{IsMessage};
+ghost use Rattle.std.specs.Prelude.{◌≡◌, ◌<◌, [], length, IsTrue, IsFalse};
 ghost use Rattle.pnm_image.specs.Rows.{row_messages};
 ghost use Rattle.pnm_tools.specs.declared.tool.Tool.{Tool as ToolValue};
 ghost use Rattle.pnm_stages.specs.Parcels.{messages_in};
@@ -45,9 +43,8 @@ pub enum StageEnd {
     /// The tool refused so; Stop was sent, and the input was taken and dropped through its end or its
     /// Stop.
     Fault(ToolFault),
-    /// The other end of a ring was seen dropped; or rows came together where messages alone are taken, before lanes and
-    /// behind them. Where it was the output's, the input was drained
-    /// first; where it was the input's, Stop was sent.
+    /// The other end of a ring was seen dropped. Where it was the output's, the input was drained first; where it was
+    /// the input's, Stop was sent. Where lanes are gathered, rows that come together in a lane's ring end it so, too.
     PeerGone,
 }
 
@@ -105,10 +102,11 @@ fn pass_all<R: Wait, F: Filter + Drop>(
         return break_off(rt, fault, Ending::More, input, output, backoff);
     }
     for _ in rt.forever() {
-        let Some(parcel) = receive(rt, input, output, backoff) else {
+        if !has_next(rt, input, output, backoff) {
             output.send(rt, Message::Stop, backoff);
             return StageEnd::PeerGone;
-        };
+        }
+        let parcel = input.receive_known();
         let ending = parcel.ending();
         if !pass(rt, alloc, stage, parcel, output, backoff) {
             input.drain_after(rt, ending, backoff);
@@ -126,30 +124,27 @@ fn pass_all<R: Wait, F: Filter + Drop>(
     unreachable!()
 }
 
-/// The next parcel, as `Receiver::receive` gives it. Where none is seen yet, the thread behind is told first of all
-/// that was sent, since the stage may have to wait.
+/// Whether a message is there, which is waited for; false once the ring is empty and its other end was seen dropped.
 #[inline(always)]
-fn receive<R: Wait>(
+fn has_next<R: Wait>(
     rt: &R,
     input: &mut Receiver,
     output: &mut Sender,
     backoff: &mut Backoff,
-) -> Option<Parcel>
+) -> bool
     ensures ring { SameReceiver input.old input.new }
+    ensures received { received input.new ≡ received input.old }
     ensures output { SameSender output.old output.new }
     ensures sent { sent output.new ≡ sent output.old }
-    ensures taken { IfSome result (λ p. received input.new ≡ received input.old ++ messages_in p) }
-    ensures messages { IfSome result (λ p. AllByRecursion IsMessage (messages_in p)) }
-    ensures none_seen { IfNone result ((received input.new ≡ received input.old) × (known_items input.new ≡ [])) }
+    ensures some { IsTrue result → 0 < length (known_parcels input.new) }
+    ensures none { IsFalse result → known_items input.new ≡ [] }
 {
-    if input.has_seen_message() || wait(rt, input, output, backoff) {
-        return Some(input.receive_known());
-    }
-    None
+    input.has_seen_message() || wait(rt, input, output, backoff)
 }
 
-/// Waits until a message is there, once the thread behind is told of all that was sent; false once the ring is empty
-/// and its other end was seen dropped. It stands apart from `receive`, which mostly finds a message.
+/// Waits until a message is there, once the thread behind is told of all that was sent, since the stage may have to
+/// wait; false once the ring is empty and its other end was seen dropped. It stands apart from `has_next`, which mostly
+/// finds a message.
 #[inline(never)]
 fn wait<R: Wait>(rt: &R, input: &mut Receiver, output: &mut Sender, backoff: &mut Backoff) -> bool
     ensures ring { SameReceiver input.old input.new }

@@ -6,6 +6,7 @@ pub mod PixelLaws
 pub mod NumeralLaws
 pub mod PartLaws
 pub mod RowsLaws
+pub mod RunLaws
 pub mod RowMessages
 pub mod RawLaws
 pub mod WordSizes

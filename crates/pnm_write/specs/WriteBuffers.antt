@@ -1,5 +1,6 @@
 -- What fits into a fixed buffer.
-use Rattle.std.specs.Prelude.{ℕ, ◌≤◌, List, All}
+use Rattle.std.specs.Prelude.{◌≡◌, ℕ, ◌≤◌, List, ◌++◌, All, Option}
+use Rattle.std.specs.Io.KnownBytes.{Appends}
 use Rattle.pnm_image.specs.declared.sample_width.SampleWidth.{SampleWidth}
 use Rattle.pnm_image.specs.declared.sample_width.SampleWidth.TheVariants.{Bits, Bytes, Words}
 
@@ -14,3 +15,9 @@ abbrev pub FitIn : SampleWidth → List ℕ → Type 0
 FitIn Bits samples = Unit {0}
 FitIn Bytes samples = All (λ sample. sample ≤ 255) samples
 FitIn Words samples = Unit {0}
+
+-- of the bytes that a buffer held the first were written, and these are left
+pub record PassesOn (old now : Option (List ℕ)) (held left : List ℕ) : Type 0 where
+  pub bytes : List ℕ
+  pub parts : held ≡ bytes ++ left
+  pub appended : Appends old now bytes

@@ -13,6 +13,7 @@ mod plain;
 mod raw;
 mod row;
 mod rows;
+mod runs;
 mod sink;
 mod write_buffer;
 

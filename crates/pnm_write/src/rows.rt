@@ -10,10 +10,12 @@ ghost use Rattle.pnm_image.specs.SampleWidths.{sample_width_of};
 ghost use Rattle.pnm_write.specs.Encoding.{rows_bytes, AreWholeBytes};
 
 use crate::row::{write_samples, write_samples_from};
+use crate::runs::{MOST_PIXELS, write_runs};
 use crate::write_buffer::WriteBuffer;
-use pnm_image::{BytesOut, DeviceFailed, Form, Rows, SampleWidth, Shape};
+use pnm_image::{BytesOut, DeviceFailed, Form, Rows, SampleSlice, SampleWidth, Shape};
 
-/// Writes rows of an image of this shape: all at once, where their bytes are those of their samples in one row.
+/// Writes rows of an image of this shape: all at once, where their bytes are those of their samples in one row, and
+/// rows of pixels as many at a time as fit into the buffer.
 #[inline(never)]
 pub fn write_rows<W: BytesOut>(
     writer: &mut W,
@@ -33,9 +35,12 @@ pub fn write_rows<W: BytesOut>(
 {
     let sample_width = SampleWidth::of(shape.kind, shape.maxval);
     if form == Form::Raw && are_whole_bytes(sample_width, rows.row_length()) {
-        write_joined(writer, buffer, shape, rows)
-    } else {
-        write_each(writer, buffer, form, shape, rows)
+        return write_joined(writer, buffer, shape, rows);
+    }
+    match (form, sample_width, rows.samples().as_slice()) {
+        (Form::Raw, SampleWidth::Bits, SampleSlice::Bits(bits))
+            if rows.row_length() <= MOST_PIXELS => { write_runs(writer, buffer, shape, rows, bits) }
+        _ => write_each(writer, buffer, form, shape, rows),
     }
 }
 

@@ -1,8 +1,8 @@
 //! A fixed buffer for bytes.
 
-ghost use Rattle.std.specs.Prelude.{◌≡◌, ◌+◌, ◌*◌, ◌<◌, ◌≤◌, [], ◌++◌, length, take, IfOk};
+ghost use Rattle.std.specs.Prelude.{◌≡◌, ◌+◌, ◌*◌, ◌<◌, ◌≤◌, ◌/◌, [], ◌++◌, length, take, drop, IfOk};
 ghost use Rattle.pnm_image.specs.declared.shape.Kind.{Kind};
-ghost use Rattle.pnm_samples.specs.Pixels.{all_pixels};
+ghost use Rattle.pnm_samples.specs.Pixels.{all_pixels, packed_bytes};
 ghost use Rattle.pnm_write.specs.PlainRows.{plain_row_text};
 ghost use Rattle.pnm_write.specs.PlainParts.{text_of_part, column_after_part, sample_texts};
 ghost use Rattle.pnm_write.specs.Encoding.{bytes_in};
@@ -11,12 +11,12 @@ ghost use Rattle.pnm_write.specs.WriteBuffers.{most_samples, FitIn};
 use crate::numerals::{append_bytes, append_words};
 use crate::pixels::put_pixels;
 use crate::raw::encode;
-use pnm_image::SampleWidth;
+use pnm_image::{Bits, SampleWidth};
 use std::alloc::{AllocError, Global};
 use std::marker::Model;
 
 /// The most bytes that are held.
-const BUFFER_BYTES: usize = 4096;
+pub const BUFFER_BYTES: usize = 4096;
 
 /// Up to 4,096 bytes, which are encoded here before they are written. Memory is taken for them once.
 #[derive(Drop)]
@@ -66,6 +66,18 @@ impl WriteBuffer {
     {
         let end = self.length + part.len();
         self.bytes[self.length..end].copy_from_slice(part);
+        self.length = end;
+    }
+
+    /// Appends the bytes of a run of so many pixels of a row, from the start on.
+    pub fn push_run(&mut self, bits: &Bits, start: usize, count: usize)
+        requires run { start + count ≤ length bits.now }
+        requires room { length self.old + (count + 7) / 8 ≤ 4096 }
+        ensures bytes { self.new ≡ self.old ++ packed_bytes (take count (drop start bits.now)) }
+        ensures count { length self.new ≡ length self.old + (count + 7) / 8 }
+    {
+        let end = self.length + count.div_ceil(8);
+        bits.copy_run(start, count, &mut self.bytes[self.length..end]);
         self.length = end;
     }
 

@@ -1,7 +1,7 @@
 //! What a source answers to a text, and to each prefix of it.
 
 use pnm_image::{BytesIn, Device, Message, SampleSlice};
-use pnm_read::{InputFault, Source, SpareRows};
+use pnm_read::{InputFault, ReadBuffer, Source, SpareRows};
 use pnm_test_support::{Drips, FailsOnce, ReadOut, tell_change, tell_message};
 use std::alloc::{AllocError, Global};
 
@@ -12,6 +12,21 @@ const MOST_ANSWERS: usize = 100_000;
 pub fn source_of<R: BytesIn + Drop>(alloc: Global, reader: R) -> Result<Source<R>, AllocError> {
     match Source::new(alloc, reader) {
         Ok(source) => Ok(source),
+        Err(_) => Err(AllocError),
+    }
+}
+
+/// A source over the reader, through a buffer of so many bytes, 4,096 at least; none says that it makes its own.
+pub fn source_by<R: BytesIn + Drop>(
+    alloc: Global,
+    size: Option<usize>,
+    reader: R,
+) -> Result<Source<R>, AllocError> {
+    let Some(size) = size else {
+        return source_of(alloc, reader);
+    };
+    match ReadBuffer::with_capacity(alloc, size.max(4096)) {
+        Ok(buffer) => Ok(Source::with_buffer(buffer, reader)),
         Err(_) => Err(AllocError),
     }
 }

@@ -1,6 +1,6 @@
 //! What a source answers that is asked for rows together before each message.
 
-use super::answers::{let_go, source_of};
+use super::answers::{let_go, source_by};
 use super::reads::failing_at;
 use pnm_image::{BytesIn, Device, Message, Rows};
 use pnm_read::{Source, SpareRows};
@@ -11,12 +11,17 @@ use std::alloc::{AllocError, Global};
 const MOST_ANSWERS: usize = 100_000;
 
 /// Adds the answers to a text of which a read gives up to so many bytes, and fails where it has this number, from 1 on.
-/// Rows that come together stand between braces.
-pub fn tell_joined(alloc: Global, line: &[u8], told: &mut String) -> Result<(), AllocError> {
+/// Rows that come together stand between braces. It reads through a buffer of so many bytes, if that is told.
+pub fn tell_joined(
+    alloc: Global,
+    size: Option<usize>,
+    line: &[u8],
+    told: &mut String,
+) -> Result<(), AllocError> {
     let (most, rest) = cut_number(line);
     let (failing, text) = cut_number(rest);
     let reader = Device::new(Drips::new(text, most, failing_at(failing)));
-    let mut source = source_of(alloc, reader)?;
+    let mut source = source_by(alloc, size, reader)?;
     tell_answers(alloc, &mut source, told)
 }
 

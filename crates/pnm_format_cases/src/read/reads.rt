@@ -1,6 +1,6 @@
 //! When a source reads, how much it asks for, and what it answers where a read fails.
 
-use super::answers::{source_of, tell_answers};
+use super::answers::{source_by, source_of, tell_answers};
 use pnm_image::Device;
 use pnm_read::SpareRows;
 use pnm_test_support::{Drips, FailsOnce, Recorded, cut_number, tell_change};
@@ -18,25 +18,31 @@ pub fn failing_at(number: usize) -> FailsOnce {
 }
 
 /// Adds the answers to a text of which a read gives up to so many bytes, and fails where it has this number, from 1 on.
-/// Gives what each read asked for and got.
+/// Gives what each read asked for and got, through a buffer of so many bytes, if it is told.
 fn tell_recorded(
     alloc: Global,
+    size: Option<usize>,
     text: &[u8],
     (most, failing): (usize, usize),
     told: &mut String,
 ) -> Result<Vec<(usize, usize)>, AllocError> {
     let mut reader = Recorded::new(alloc, Drips::new(text, most, failing_at(failing)));
-    let mut source = source_of(alloc, Device::new(&mut reader))?;
+    let mut source = source_by(alloc, size, Device::new(&mut reader))?;
     tell_answers(alloc, &mut source, told)?;
     let _ = source.into_reader();
     Ok(Vec::from_slice(alloc, reader.calls())?)
 }
 
-/// Adds the answers, and what each read asked for and got.
-pub fn tell_reads(alloc: Global, line: &[u8], told: &mut String) -> Result<(), AllocError> {
+/// Adds the answers, and what each read asked for and got, through a buffer of so many bytes, if it is told.
+pub fn tell_reads(
+    alloc: Global,
+    size: Option<usize>,
+    line: &[u8],
+    told: &mut String,
+) -> Result<(), AllocError> {
     let (most, rest) = cut_number(line);
     let (failing, text) = cut_number(rest);
-    let calls = tell_recorded(alloc, text, (most, failing), told)?;
+    let calls = tell_recorded(alloc, size, text, (most, failing), told)?;
     told.push_str(" by")?;
     for (asked, got) in calls.as_slice() {
         write!(told, " {asked}:{got}")?;
@@ -50,7 +56,7 @@ pub fn tell_fails(alloc: Global, text: &[u8], told: &mut String) -> Result<(), A
     let mut before = String::new(alloc);
     for read in 0..=text.len() {
         let mut answers = String::new(alloc);
-        let calls = tell_recorded(alloc, text, (1, read + 1), &mut answers)?;
+        let calls = tell_recorded(alloc, None, text, (1, read + 1), &mut answers)?;
         if calls.len() != read + 1 {
             write!(told, " but {read}")?;
         }

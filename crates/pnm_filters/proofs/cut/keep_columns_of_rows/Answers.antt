@@ -17,6 +17,41 @@ returns-then-kept-row_length-clause-kept c =
     let each : parts.result.2 ≡ row_length s = each_of_shape s parts.result.1 parts.result.2 parts.result.0 parts.ensures.some parts.ensures.whole are in
     c.new.ensures ∙ sym parts.ensures.rows ∙ all_columns c.args.columns s c.args.rows c.requires.columns (c.if-kept-row_length.true ∙ each) c.requires.rows
 
+pub keep_bits_of_each-requires-clause-within : goal.keep_bits_of_each-requires-clause-within
+keep_bits_of_each-requires-clause-within c =
+    let parts = c.into_parts-samples in
+    let s = c.args.shape in
+    let are = subst (AllByRecursion (IsRowOf s)) parts.ensures.rows c.requires.rows in
+    kept_fit c.args.columns s parts.result.2 c.requires.columns
+    (each_of_shape s parts.result.1 parts.result.2 parts.result.0 parts.ensures.some parts.ensures.whole are)
+
+pub rows_of_bits-requires-clause-whole : goal.rows_of_bits-requires-clause-whole
+rows_of_bits-requires-clause-whole c =
+    let parts = c.into_parts-samples in
+    let s = c.args.shape in
+    let start = kept_from c.args.columns s in
+    let size = kept_size c.args.columns s in
+    let are = subst (AllByRecursion (IsRowOf s)) parts.ensures.rows c.requires.rows in
+    let fits = kept_fit c.args.columns s parts.result.2 c.requires.columns
+    (each_of_shape s parts.result.1 parts.result.2 parts.result.0 parts.ensures.some parts.ensures.whole are) in
+    let made = c.in-Ok.ensures ∙ ap (λ (l : List ℕ). changed (part start size) parts.result.1 parts.result.2 l) c.in-Bits.ensures in
+    ap length made
+    ∙ length-changed (part start size) parts.result.2 size (part_long start size parts.result.2 fits) parts.result.1 parts.result.0
+    (omega (arith, parts.ensures.whole))
+
+pub returns-in-Ok-clause-kept : goal.returns-in-Ok-clause-kept
+returns-in-Ok-clause-kept c =
+    let parts = c.into_parts-samples in
+    let s = c.args.shape in
+    let columns = c.args.columns in
+    let start = kept_from columns s in
+    let size = kept_size columns s in
+    let are = subst (AllByRecursion (IsRowOf s)) parts.ensures.rows c.requires.rows in
+    let made = c.in-Ok.ensures ∙ ap (λ (l : List ℕ). changed (part start size) parts.result.1 parts.result.2 l) c.in-Bits.ensures in
+    subst (λ (rows : List (List ℕ)). c.rows_of_bits.result ≡ map (columns_of_row columns s.depth) rows) (sym parts.ensures.rows)
+    (c.rows_of_bits.ensures ∙ ap (λ (l : List ℕ). cut_rows parts.result.1 size l) made
+    ∙ columns_of_rows columns s parts.result.1 parts.result.2 parts.result.0 c.requires.columns parts.ensures.some parts.ensures.whole are)
+
 pub keep_of_each-requires-clause-within : goal.keep_of_each-requires-clause-within
 keep_of_each-requires-clause-within c =
     let parts = c.into_parts-samples in

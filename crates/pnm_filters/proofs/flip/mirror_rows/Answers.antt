@@ -3,10 +3,37 @@ use Rattle.std.specs.List.{AllByRecursion}
 use Rattle.pnm_image.specs.Images.{cut_rows}
 use Rattle.pnm_image.specs.Places.{IsRowOf}
 use Rattle.pnm_tools.specs.Flip.{mirrored_row}
-use Rattle.pnm_filters.proofs.EachRowLaws.{each_of_shape}
-use Rattle.pnm_filters.proofs.FlipRowsLaws.{rows_cut_again, rows_in_place, rows_within}
+use Rattle.pnm_filters.proofs.EachRowLaws.{changed, each_of_shape}
+use Rattle.pnm_filters.proofs.FlipRowsLaws.{rows_cut_again, rows_in_place, rows_long, rows_within}
 use Rattle.pnm_filters.proofs.RowsLaws.{range_of_rows}
 use Rattle.pnm_filters.proofs.flip.mirror_rows.Goals as goal
+
+pub mirror_each-requires-clause-row : goal.mirror_each-requires-clause-row
+mirror_each-requires-clause-row c =
+    let parts = c.into_parts-samples in
+    each_of_shape c.args.shape parts.result.1 parts.result.2 parts.result.0 parts.ensures.some parts.ensures.whole
+    (subst (AllByRecursion (IsRowOf c.args.shape)) parts.ensures.rows c.requires.rows)
+
+pub rows_of_bits-requires-in-Ok-clause-whole : goal.rows_of_bits-requires-in-Ok-clause-whole
+rows_of_bits-requires-in-Ok-clause-whole c =
+    let parts = c.into_parts-samples in
+    let s = c.args.shape in
+    let made = c.in-Ok.ensures ∙ ap (λ (l : List ℕ). changed (mirrored_row s) parts.result.1 parts.result.2 l) c.in-Bits.ensures in
+    ap length made
+    ∙ rows_long s parts.result.1 parts.result.2 parts.result.0 c.requires.limits.width_low
+    (each_of_shape s parts.result.1 parts.result.2 parts.result.0 parts.ensures.some parts.ensures.whole
+    (subst (AllByRecursion (IsRowOf s)) parts.ensures.rows c.requires.rows)) parts.ensures.whole
+
+pub returns-in-Ok-clause-mirrored : goal.returns-in-Ok-clause-mirrored
+returns-in-Ok-clause-mirrored c =
+    let parts = c.into_parts-samples in
+    let s = c.args.shape in
+    let are = subst (AllByRecursion (IsRowOf s)) parts.ensures.rows c.requires.rows in
+    let made = c.in-Ok.ensures ∙ ap (λ (l : List ℕ). changed (mirrored_row s) parts.result.1 parts.result.2 l) c.in-Bits.ensures in
+    subst (λ (rows : List (List ℕ)). c.rows_of_bits-in-Ok.result ≡ map (mirrored_row s) rows) (sym parts.ensures.rows)
+    (c.rows_of_bits-in-Ok.ensures ∙ ap (λ (l : List ℕ). cut_rows parts.result.1 parts.result.2 l) made
+    ∙ rows_cut_again s parts.result.1 parts.result.2 parts.result.0 c.requires.limits.width_low
+    (each_of_shape s parts.result.1 parts.result.2 parts.result.0 parts.ensures.some parts.ensures.whole are) parts.ensures.whole)
 
 pub reverse_each-requires-clause-row : goal.reverse_each-requires-clause-row
 reverse_each-requires-clause-row c =

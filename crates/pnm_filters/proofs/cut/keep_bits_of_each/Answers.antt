@@ -1,0 +1,16 @@
+use Rattle.std.proofs.Common.{◌≡◌, ◌∙◌, ℕ, ap, arith}
+use Rattle.pnm_filters.proofs.EachRowLaws.{changed, part, part_appended}
+use Rattle.pnm_filters.proofs.cut.keep_bits_of_each.Goals as goal
+
+pub loop-i-init : goal.loop-i-init
+loop-i-init c = c.in_ok-made.ensures
+
+pub loop-i-preserved : goal.loop-i-preserved
+loop-i-preserved c =
+    part_appended c.args.first c.args.kept c.args.row_length c.loop-i.i _ c.args.bits.now c.loop-i.made c.append.new.self c.requires.within
+    c.loop-i.invariant c.in_ok-append.ensures.appended (omega arith)
+
+pub returns : goal.returns
+returns c =
+    let all : c.loop-i.i ≡ c.args.count = omega (arith, c.loop-i-test.false, c.loop-i.auto.i-end) in
+    c.loop-i.invariant ∙ ap (λ (n : ℕ). changed (part c.args.first c.args.kept) n c.args.row_length c.args.bits.now) all
