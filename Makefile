@@ -1,12 +1,12 @@
 # pnmpipe: `make` proves and builds, `make check` is the whole gate.
 
 PROGRAM := crates/pnmpipe
-# where the tests stand: a library's in a crate of their own
-TESTED := pnm_image_tests pnm_flow_tests pnmpipe
+# where the tests stand, in crates of their own
+TESTED := pnm_image_tests pnm_flow_tests
 # programs that tell what comes of written cases
 CASES := pnm_format_cases pnm_tools_cases pnm_flow_cases
 
-.PHONY: all bench bench-files bench-sweep built check controls deb dist help install lanes long-stream near pass pictures recipes refused scripts soak test toolchain uninstall
+.PHONY: all bench bench-files bench-sweep built check controls deb dist gate help install lanes long-stream near pass pictures recipes refused scripts soak test toolchain uninstall
 
 # where `make install` puts things, below DESTDIR
 PREFIX ?= /usr/local
@@ -19,7 +19,7 @@ HELPERS := pnmpipe-files pnmpipe-split
 SHIMS := pnminvert pamcut pamdepth pamchannel pamenlarge pamflip pnmtile pnmcut pnmdepth pnmenlarge pnmflip
 
 # crates whose tests of want of memory are refused each allocation
-REFUSED := pnm_image_tests pnm_flow_tests pnmpipe
+REFUSED := pnm_image_tests pnm_flow_tests
 
 # how long `make soak` starts runs
 SECONDS ?= 60
@@ -33,10 +33,15 @@ all: toolchain
 near pass: toolchain
 	python3 scripts/change.py $@ $(CRATES)
 
+# the whole gate, and how long it took. The last line is that of `rt ci`
+check: toolchain
+	python3 scripts/timed.py $(MAKE) --no-print-directory gate
+	tail -n 1 bin/gate
+
 # one check a processor, each of at most 4 GB; then each allocation and each start of a thread is refused in turn, of the
 # program and the tests that the gate has left, the program's input is silent, its stack is small, and the scripts, pages and
-# documents are checked. The gate's own last line comes last
-check: toolchain
+# documents are checked
+gate:
 	mkdir -p bin
 	rm -f bin/gate-failed
 	(RT_JOBS=$${RT_JOBS:-$$(nproc)} rt ci || touch bin/gate-failed) | tee bin/gate
@@ -46,7 +51,6 @@ check: toolchain
 	python3 scripts/room.py --program $(PROGRAM)/out/pnmpipe
 	$(MAKE) --no-print-directory scripts BUILT=$(PROGRAM)/out/pnmpipe
 	python3 scripts/cases.py
-	tail -n 1 bin/gate
 
 # what rt fmt would change, lines, functions and files that are too long, the stored commands, the scripts, pages and
 # documents: in seconds, and with what is installed

@@ -8,10 +8,15 @@ ROOT = os.path.dirname(os.path.dirname(os.path.abspath(__file__)))
 # what a check reads of a crate
 SOURCES = ("src", "specs", "proofs")
 
-# libraries with no tests of their name: those of runs are of rings, stages, lanes and callers too, and of the command
-# line the whole command is tested, by the program and the commands stored beside it
+# libraries with no tests of their name: those of runs are of rings, stages, lanes, callers and the command line too,
+# and of the latter are the commands that are stored beside the program
 OF_RUNS = ["pnm_flow_tests", "pnm_flow_cases"]
-TESTED_IN = {"pnm_stages": OF_RUNS, "pnm_lanes": OF_RUNS, "pnm_serial": OF_RUNS, "pnm_command_line": ["pnmpipe"]}
+TESTED_IN = {
+    "pnm_stages": OF_RUNS,
+    "pnm_lanes": OF_RUNS,
+    "pnm_serial": OF_RUNS,
+    "pnm_command_line": ["pnm_flow_tests", "pnmpipe"],
+}
 
 # where tests of want of memory stand, of the crates that it names
 OF_MEMORY = "pnm_image_tests"

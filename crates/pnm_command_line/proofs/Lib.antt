@@ -1,2 +1,3 @@
 pub mod DefaultReads
 pub mod CommandLineSteps
+pub mod HelpSteps

@@ -4,46 +4,59 @@ use crate::command_line::USAGE;
 use itoa::Buffer;
 use pnm_chain::ChainFault;
 use pnm_serial::RunFault;
+use std::fmt::Display;
 use std::io::Write;
 
 /// Prints the usage line, for words that are no command line. Where it can't be written it is left out.
 pub fn print_usage<E: Write>(errors: &mut E) {
-    let _ = writeln!(errors, "pnmpipe: usage: {USAGE}");
+    print_fault(errors, "usage", &USAGE);
 }
 
 /// Prints the line for want of memory before the chain is read. Where it can't be written it is left out.
 pub fn print_want_of_memory<E: Write>(errors: &mut E) {
-    let _ = writeln!(errors, "pnmpipe: command line: Memory");
+    print_fault(errors, "command line", &"Memory");
 }
 
 /// Prints the line for a text that is no chain: the number of the stage, unless that is 0, and the kind of the fault.
 /// Where it can't be written it is left out.
 pub fn print_chain_fault<E: Write>(errors: &mut E, fault: ChainFault) {
     let ChainFault { stage, kind } = fault;
-    let _ = if stage == 0 {
-        writeln!(errors, "pnmpipe: chain: {kind}")
+    if stage == 0 {
+        print_fault(errors, "chain", &kind);
     } else {
-        let mut digits = Buffer::new();
-        writeln!(
-            errors,
-            "pnmpipe: chain: stage {}: {kind}",
-            digits.format(stage)
-        )
-    };
+        print_numbered_fault(errors, "chain: stage", stage, &kind);
+    }
 }
 
 /// Prints the line for a run that ended in a fault. Where it can't be written it is left out.
 pub fn print_run_fault<E: Write>(errors: &mut E, fault: RunFault) {
+    match fault {
+        RunFault::NoStart => print_line(errors, "NoStart"),
+        RunFault::Input(fault) => print_fault(errors, "input", &fault),
+        RunFault::Tool(number, fault) => print_numbered_fault(errors, "tool", number, &fault),
+        RunFault::Output(fault) => print_fault(errors, "output", &fault),
+        RunFault::PeerGone(number) => print_numbered_fault(errors, "tool", number, &"PeerGone"),
+    }
+}
+
+/// Prints a line about a place's fault.
+fn print_fault<E: Write, F: Display>(errors: &mut E, place: &str, fault: &F) {
+    let _ = writeln!(errors, "pnmpipe: {place}: {fault}");
+}
+
+/// Prints a line about the fault of the place with this number.
+fn print_numbered_fault<E: Write, F: Display>(
+    errors: &mut E,
+    place: &str,
+    number: usize,
+    fault: &F,
+) {
     let mut digits = Buffer::new();
-    let _ = match fault {
-        RunFault::NoStart => writeln!(errors, "pnmpipe: NoStart"),
-        RunFault::Input(fault) => writeln!(errors, "pnmpipe: input: {fault}"),
-        RunFault::Tool(number, fault) => {
-            writeln!(errors, "pnmpipe: tool {}: {fault}", digits.format(number))
-        }
-        RunFault::Output(fault) => writeln!(errors, "pnmpipe: output: {fault}"),
-        RunFault::PeerGone(number) => {
-            writeln!(errors, "pnmpipe: tool {}: PeerGone", digits.format(number))
-        }
-    };
+    let number = digits.format(number);
+    let _ = writeln!(errors, "pnmpipe: {place} {number}: {fault}");
+}
+
+/// Prints a line that is no more than this text.
+fn print_line<E: Write>(errors: &mut E, text: &str) {
+    let _ = writeln!(errors, "pnmpipe: {text}");
 }

@@ -1,10 +1,14 @@
-//! The words of the command line: what they name, as `clap` reads them, and the help text; and the lines that are
-//! printed for faults.
+//! The words of the command line: what they name, as `clap` reads them, and the help text; the lines that are printed
+//! for faults; and what the program does with its words, whatever runs the tools.
 #![tactic(auto)]
 
 mod command_line;
 mod fault_line;
 pub mod laws;
+mod named_run;
+mod runner;
 
 pub use command_line::{CommandLine, CommandLineFault, read_words};
 pub use fault_line::{print_chain_fault, print_run_fault, print_usage, print_want_of_memory};
+pub use named_run::{COMMAND_LINE_FAULT, command};
+pub use runner::Runner;

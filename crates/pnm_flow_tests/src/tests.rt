@@ -12,6 +12,7 @@ mod gates;
 mod lanes;
 mod limits;
 mod memory;
+mod program;
 mod rings;
 mod threads;
 mod waits;

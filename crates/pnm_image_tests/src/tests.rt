@@ -9,9 +9,11 @@ mod chain_memory;
 mod devices;
 mod formats;
 mod heads;
+mod interrupted;
 mod memory;
 mod messages;
 mod places;
+mod rows_memory;
 mod texts;
 mod tools;
 

@@ -14,7 +14,7 @@ use std::test::Fail;
 use std::thread;
 
 /// Deals to the outputs, of which there have to be 1 to 8.
-fn dealt(
+pub fn dealt(
     rt: &(impl Wait + Abort),
     alloc: Global,
     input: Receiver,

@@ -1,6 +1,7 @@
 //! Want of memory. `scripts/refused.py tests` refuses each allocation of these tests in turn.
 
 use super::chains::{LAST_COLUMN, are_lawful, channel};
+use super::lanes::dealt;
 use super::rings::{IMAGE, holding, holding_written, holds, is_one_of, ring};
 use super::threads::{INVERTED, chain};
 use super::ways::{Way, run_by};
@@ -265,5 +266,54 @@ fn takes_rows_apart_or_runs_out(rt: HostRuntime) {
 #[test]
 fn takes_rows_apart_with_memory(rt: HostRuntime) {
     let is_well = takes_rows_apart(&rt, rt.alloc()).unwrap_or(false);
+    assert!(rt; is_well);
+}
+
+/// What the first of two lanes is dealt of that image, and the second.
+const FIRST_LANE: &[Part<'static>] = &[
+    Part::Begin(Kind::Gray, 2, 2, 9),
+    Part::Row(&[1, 2]),
+    Part::Row(&[5, 6]),
+    Part::ImageEnd,
+    Part::StreamEnd,
+];
+
+const SECOND_LANE: &[Part<'static>] = &[
+    Part::Begin(Kind::Gray, 2, 1, 9),
+    Part::Row(&[3, 4]),
+    Part::ImageEnd,
+    Part::StreamEnd,
+];
+
+/// Whether the dealing ends well. Where it doesn't memory ran out, and each lane is sent a prefix of what is dealt to
+/// it before Stop. All that came is taken.
+fn deals_rows_apart<R: Wait + Abort>(rt: &R, alloc: Global) -> Result<bool, Unmade> {
+    let (_producer, input) = holding_written(alloc, TOGETHER)?;
+    let (first, mut to_first) = ring(alloc, 8)?;
+    let (second, mut to_second) = ring(alloc, 8)?;
+    let mut outputs = Vec::new(alloc);
+    outputs.push(first)?;
+    outputs.push(second)?;
+    let mut done = dealt(rt, alloc, input, outputs);
+    holds(rt, &mut done.input, &[], "nothing is left");
+    let is_first_stopped = ends_by_stop(rt, &mut to_first, FIRST_LANE);
+    let is_second_stopped = ends_by_stop(rt, &mut to_second, SECOND_LANE);
+    let is_well = done.end == StageEnd::Well;
+    let is_short = done.end == StageEnd::Fault(ToolFault::Memory);
+    assert!(rt; is_well != is_short);
+    assert!(rt; is_first_stopped == is_short && is_second_stopped == is_short);
+    Ok(is_well)
+}
+
+/// Each growth of dealing that copies the heads, and the rows which came together, may be refused.
+#[test]
+fn deals_rows_apart_or_runs_out(rt: HostRuntime) {
+    let _ = deals_rows_apart(&rt, rt.alloc());
+}
+
+/// Where no growth is refused each lane is dealt its rows.
+#[test]
+fn deals_rows_apart_with_memory(rt: HostRuntime) {
+    let is_well = deals_rows_apart(&rt, rt.alloc()).unwrap_or(false);
     assert!(rt; is_well);
 }

@@ -6,20 +6,28 @@ use super::callers::{
 use super::same;
 use pnm_image::{BytesIn, BytesOut, Device, DeviceFailed};
 use pnm_test_support::{Drips, FailsOnce, Sips};
-use std::alloc::Global;
+use std::alloc::{AllocError, Global};
 use std::process::Abort;
 use std::test::Fail;
+
+/// What devices are asked to give and to take.
+const BYTES: &[u8] = &[1, 2, 3, 4, 5];
 
 /// A device over memory gives all its bytes, and then none.
 #[test]
 fn reads_to_the_end(rt: HostRuntime) {
     let mut reader = Device::new([1, 2, 3, 4].as_slice());
-    let mut buffer = [9; 3];
-    reads(&rt, &mut reader, &mut [], 0, &[]);
-    for (count, held) in [(3, [1, 2, 3]), (1, [4, 2, 3]), (0, [4, 2, 3])] {
-        reads(&rt, &mut reader, &mut buffer, count, &held);
-    }
+    reads_by_threes(&rt, &mut reader);
     holds_bytes(&rt, reader.into_inner(), &[]);
+}
+
+/// Reads of no byte, and then of three each, of a reader of four.
+fn reads_by_threes<R: BytesIn>(rt: &impl Abort, reader: &mut R) {
+    let mut buffer = [9; 3];
+    reads(rt, reader, &mut [], 0, &[]);
+    reads(rt, reader, &mut buffer, 3, &[1, 2, 3]);
+    reads(rt, reader, &mut buffer, 1, &[4, 2, 3]);
+    reads(rt, reader, &mut buffer, 0, &[4, 2, 3]);
 }
 
 /// The next read gives so many bytes, and the buffer holds these then.
@@ -34,27 +42,79 @@ fn reads<R: BytesIn>(
     holds_bytes(rt, buffer, held);
 }
 
+/// All that the reader gives is read, or some call fails, and the text holds these bytes then.
+fn reads_all<R: BytesIn>(
+    rt: &impl Abort,
+    reader: &mut R,
+    text: &mut Vec<u8>,
+    want: Result<(), ReadFault>,
+    held: &[u8],
+) {
+    same(rt, &read_all(reader, text), &want, &held);
+    holds_bytes(rt, text.as_slice(), held);
+}
+
 /// Several reads of 64 bytes.
 #[test]
 fn reads_in_several_reads(rt: HostRuntime) -> Result<(), Fail> {
-    let bytes: Vec<u8> = (0..200).collect(rt.alloc())?;
+    let bytes = numbers(rt.alloc())?;
     let mut text = Vec::from_slice(rt.alloc(), &[255])?;
-    read_all(&mut Device::new(bytes.as_slice()), &mut text)?;
-    let want = Some((&255, bytes.as_slice()));
-    same(&rt, &text.as_slice().split_first(), &want, &"the end");
+    appends(
+        &rt,
+        &mut Device::new(bytes.as_slice()),
+        &mut text,
+        bytes.as_slice(),
+    );
     Ok(())
+}
+
+/// The numbers below 200.
+fn numbers(alloc: Global) -> Result<Vec<u8>, AllocError> {
+    (0..200).collect(alloc)
+}
+
+/// The text holds a byte, and then these too, which the reader gives.
+fn appends<R: BytesIn>(rt: &impl Abort, reader: &mut R, text: &mut Vec<u8>, bytes: &[u8]) {
+    same(rt, &read_all(reader, text), &Ok(()), &"the end");
+    let want = Some((&255, bytes));
+    same(rt, &text.as_slice().split_first(), &want, &"the end");
+}
+
+/// A call has answered this.
+fn answers(
+    rt: &impl Abort,
+    given: Result<(), DeviceFailed>,
+    want: Result<(), DeviceFailed>,
+    place: &str,
+) {
+    same(rt, &given, &want, &place);
+}
+
+/// A write answers this.
+fn writes<W: BytesOut>(
+    rt: &impl Abort,
+    writer: &mut W,
+    bytes: &[u8],
+    want: Result<usize, DeviceFailed>,
+) {
+    same(rt, &writer.write(bytes), &want, &bytes);
 }
 
 /// A device over a vector holds all that was written.
 #[test]
 fn writes_all(rt: HostRuntime) -> Result<(), Fail> {
     let mut writer = Device::new([1].to_vec(rt.alloc())?);
-    same(&rt, &writer.write(&[2, 3]), &Ok(2), &"two bytes");
-    same(&rt, &writer.write(&[]), &Ok(0), &"no byte");
-    write_all(&mut writer, &[4, 5, 6])?;
-    flush(&mut writer)?;
+    writes_more(&rt, &mut writer);
     holds_bytes(&rt, writer.into_inner().as_slice(), &[1, 2, 3, 4, 5, 6]);
     Ok(())
+}
+
+/// Two bytes are written, none, and three more.
+fn writes_more<W: BytesOut>(rt: &impl Abort, writer: &mut W) {
+    writes(rt, writer, &[2, 3], Ok(2));
+    writes(rt, writer, &[], Ok(0));
+    answers(rt, write_all(writer, &[4, 5, 6]), Ok(()), "three bytes");
+    answers(rt, flush(writer), Ok(()), "a flush");
 }
 
 /// What is held are these bytes.
@@ -64,127 +124,127 @@ fn holds_bytes(rt: &impl Abort, held: &[u8], bytes: &[u8]) {
 
 /// A device that is lent is the same device.
 #[test]
-fn lends_readers(rt: HostRuntime) -> Result<(), Fail> {
+fn lends_readers(rt: HostRuntime) {
     let mut reader = Device::new([1, 2, 3].as_slice());
-    let mut buffer = [0; 1];
-    let mut text = Vec::new(rt.alloc());
-    same(&rt, &(&mut reader).read(&mut buffer), &Ok(1), &"a byte");
-    read_through(&mut reader, &mut text)?;
-    holds_bytes(&rt, text.as_slice(), &[2, 3]);
-    same(
-        &rt,
-        &read_all(&mut &mut reader, &mut text),
-        &Ok(()),
-        &"the end",
-    );
-    holds_bytes(&rt, text.as_slice(), &[2, 3]);
-    Ok(())
+    reads(&rt, &mut reader, &mut [0], 1, &[1]);
+    lends_reader(&rt, rt.alloc(), &mut reader, &[2, 3]);
+}
+
+/// A part that is lent the reader reads these bytes, and a further one none.
+fn lends_reader<R: BytesIn>(rt: &impl Abort, alloc: Global, reader: &mut R, rest: &[u8]) {
+    let mut text = Vec::new(alloc);
+    same(rt, &read_through(reader, &mut text), &Ok(()), &rest);
+    holds_bytes(rt, text.as_slice(), rest);
+    reads_all(rt, &mut &mut *reader, &mut text, Ok(()), rest);
 }
 
 #[test]
-fn lends_writers(rt: HostRuntime) -> Result<(), Fail> {
+fn lends_writers(rt: HostRuntime) {
     let mut writer = Device::new(Vec::new(rt.alloc()));
-    write_through(&mut writer, &[1, 2])?;
-    write_all(&mut &mut writer, &[3])?;
-    write_bytewise(&mut writer, &[4, 5])?;
-    flush(&mut &mut writer)?;
-    holds_bytes(&rt, writer.into_inner().as_slice(), &[1, 2, 3, 4, 5]);
-    Ok(())
+    lends_writer(&rt, &mut writer);
+    holds_bytes(&rt, writer.into_inner().as_slice(), BYTES);
+}
+
+/// Parts that are lent the writer write five bytes.
+fn lends_writer<W: BytesOut>(rt: &impl Abort, writer: &mut W) {
+    answers(rt, write_through(writer, &[1, 2]), Ok(()), "a part");
+    answers(rt, write_all(&mut &mut *writer, &[3]), Ok(()), "a loan");
+    answers(rt, write_bytewise(writer, &[4, 5]), Ok(()), "bytes alone");
+    answers(rt, flush(&mut &mut *writer), Ok(()), "a flush");
 }
 
 /// A read that fails takes no byte, and the next read goes on.
 #[test]
-fn goes_on_after_a_failed_read(rt: HostRuntime) -> Result<(), Fail> {
-    for (before, prefix) in [
-        (0, [].as_slice()),
-        (1, [1, 2].as_slice()),
-        (2, [1, 2, 3, 4].as_slice()),
-        (3, [1, 2, 3, 4, 5].as_slice()),
-    ] {
-        fails_at_a_read(&rt, rt.alloc(), before, prefix)?;
-    }
-    Ok(())
+fn goes_on_after_a_failed_read(rt: HostRuntime) {
+    let alloc = rt.alloc();
+    fails_at_a_read(&rt, alloc, 0, &[]);
+    fails_at_a_read(&rt, alloc, 1, &[1, 2]);
+    fails_at_a_read(&rt, alloc, 2, &[1, 2, 3, 4]);
+    fails_at_a_read(&rt, alloc, 3, &[1, 2, 3, 4, 5]);
 }
 
 /// The read after so many fails; the bytes before it are this prefix.
-fn fails_at_a_read(
-    rt: &impl Abort,
-    alloc: Global,
-    before: usize,
-    prefix: &[u8],
-) -> Result<(), Fail> {
-    let bytes = [1, 2, 3, 4, 5];
-    let mut reader = Device::new(Drips::new(&bytes, 2, FailsOnce::after(before)));
+fn fails_at_a_read(rt: &impl Abort, alloc: Global, before: usize, prefix: &[u8]) {
+    let drips = Drips::new(BYTES, 2, FailsOnce::after(before));
+    reads_after_a_fault(rt, alloc, &mut Device::new(drips), prefix);
+}
+
+/// A read fails after this prefix, and then the reader gives what is left.
+fn reads_after_a_fault<R: BytesIn>(rt: &impl Abort, alloc: Global, reader: &mut R, prefix: &[u8]) {
     let mut text = Vec::new(alloc);
-    let first = read_all(&mut reader, &mut text);
-    same(rt, &first, &Err(ReadFault::Device), &before);
-    holds_bytes(rt, text.as_slice(), prefix);
-    read_all(&mut reader, &mut text)?;
-    holds_bytes(rt, text.as_slice(), &bytes);
-    Ok(())
+    reads_all(rt, reader, &mut text, Err(ReadFault::Device), prefix);
+    reads_all(rt, reader, &mut text, Ok(()), BYTES);
 }
 
 /// A write that fails takes no byte, and the next goes on.
 #[test]
-fn goes_on_after_a_failed_write(rt: HostRuntime) -> Result<(), Fail> {
-    for (before, prefix, rest) in [
-        (0, [].as_slice(), [1, 2, 3, 4, 5].as_slice()),
-        (1, [1, 2].as_slice(), [3, 4, 5].as_slice()),
-        (2, [1, 2, 3, 4].as_slice(), [5].as_slice()),
-    ] {
-        fails_at_a_write(&rt, rt.alloc(), before, prefix, rest)?;
-    }
-    Ok(())
+fn goes_on_after_a_failed_write(rt: HostRuntime) {
+    let alloc = rt.alloc();
+    fails_at_a_write(&rt, alloc, 0, &[], &[1, 2, 3, 4, 5]);
+    fails_at_a_write(&rt, alloc, 1, &[1, 2], &[3, 4, 5]);
+    fails_at_a_write(&rt, alloc, 2, &[1, 2, 3, 4], &[5]);
 }
 
 /// The write after so many fails; the bytes before it are this prefix, and the others this rest.
-fn fails_at_a_write(
-    rt: &impl Abort,
-    alloc: Global,
-    before: usize,
-    prefix: &[u8],
-    rest: &[u8],
-) -> Result<(), Fail> {
+fn fails_at_a_write(rt: &impl Abort, alloc: Global, before: usize, prefix: &[u8], rest: &[u8]) {
     let mut sips = Sips::new(alloc, 2, FailsOnce::after(before), FailsOnce::never());
-    let first = write_through(&mut Device::new(&mut sips), &[1, 2, 3, 4, 5]);
-    same(rt, &first, &Err(DeviceFailed), &before);
-    holds_bytes(rt, sips.held(), prefix);
-    write_through(&mut Device::new(&mut sips), rest)?;
-    holds_bytes(rt, sips.held(), &[1, 2, 3, 4, 5]);
-    Ok(())
+    writes_sips(rt, &mut sips, BYTES, Err(DeviceFailed), prefix);
+    writes_sips(rt, &mut sips, rest, Ok(()), BYTES);
+}
+
+/// A write of these bytes answers this, and these are held then.
+fn writes_sips(
+    rt: &impl Abort,
+    sips: &mut Sips,
+    bytes: &[u8],
+    want: Result<(), DeviceFailed>,
+    held: &[u8],
+) {
+    let answer = write_through(&mut Device::new(&mut *sips), bytes);
+    answers(rt, answer, want, "sips");
+    holds_bytes(rt, sips.held(), held);
+}
+
+/// A writer whose first flush fails.
+fn flushes_late(alloc: Global) -> Sips {
+    Sips::new(alloc, 2, FailsOnce::never(), FailsOnce::after(0))
+}
+
+/// A flush fails, and the next one doesn't.
+fn flushes_again<W: BytesOut>(rt: &impl Abort, writer: &mut W) {
+    answers(rt, flush(writer), Err(DeviceFailed), "a flush");
+    answers(rt, flush(writer), Ok(()), "the next flush");
 }
 
 /// A device goes on after a failed flush.
 #[test]
-fn goes_on_after_a_failed_flush(rt: HostRuntime) -> Result<(), Fail> {
-    let sips = Sips::new(rt.alloc(), 2, FailsOnce::never(), FailsOnce::after(0));
-    let mut writer = Device::new(sips);
-    write_all(&mut writer, &[1, 2, 3])?;
-    same(&rt, &flush(&mut writer), &Err(DeviceFailed), &"a flush");
-    flush(&mut writer)?;
+fn goes_on_after_a_failed_flush(rt: HostRuntime) {
+    let mut writer = Device::new(flushes_late(rt.alloc()));
+    answers(&rt, write_all(&mut writer, &[1, 2, 3]), Ok(()), "bytes");
+    flushes_again(&rt, &mut writer);
     holds_bytes(&rt, writer.into_inner().held(), &[1, 2, 3]);
-    Ok(())
 }
 
 /// A lent device passes a flush on.
 #[test]
-fn lends_flushes(rt: HostRuntime) -> Result<(), Fail> {
-    let sips = Sips::new(rt.alloc(), 2, FailsOnce::never(), FailsOnce::after(0));
-    let mut lent = Device::new(sips);
-    same(&rt, &flush(&mut &mut lent), &Err(DeviceFailed), &"a flush");
-    flush(&mut &mut lent)?;
-    Ok(())
+fn lends_flushes(rt: HostRuntime) {
+    let mut lent = Device::new(flushes_late(rt.alloc()));
+    flushes_again(&rt, &mut &mut lent);
 }
 
 /// A writer that takes none of its bytes has failed.
 #[test]
 fn fails_where_no_byte_is_taken(rt: HostRuntime) {
     let mut buffer = [0; 3];
-    let mut writer = Device::new(buffer.as_mut_slice());
-    let answer = write_all(&mut writer, &[1, 2, 3, 4]);
-    same(&rt, &answer, &Err(DeviceFailed), &"four bytes");
-    same(&rt, &writer.write(&[]), &Ok(0), &"no byte");
-    same(&rt, &writer.write(&[5]), &Err(DeviceFailed), &"a byte");
-    same(&rt, &flush(&mut writer), &Ok(()), &"a flush");
-    same(&rt, &buffer, &[1, 2, 3], &"what is held");
+    takes_three(&rt, &mut Device::new(buffer.as_mut_slice()));
+    holds_bytes(&rt, &buffer, &[1, 2, 3]);
+}
+
+/// The writer takes three bytes, and no more.
+fn takes_three<W: BytesOut>(rt: &impl Abort, writer: &mut W) {
+    let answer = write_all(writer, &[1, 2, 3, 4]);
+    answers(rt, answer, Err(DeviceFailed), "four bytes");
+    writes(rt, writer, &[], Ok(0));
+    writes(rt, writer, &[5], Err(DeviceFailed));
+    answers(rt, flush(writer), Ok(()), "a flush");
 }

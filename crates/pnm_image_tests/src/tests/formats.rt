@@ -2,10 +2,10 @@
 
 use super::same;
 use pnm_image::{Form, Format, Kind};
-use std::test::Fail;
+use std::process::Abort;
 
 /// The second byte of each magic, the magic, and what it names, from the manual pages.
-const MAGICS: [(u8, &[u8], Kind, Form); 7] = [
+const MAGICS: &[(u8, &[u8], Kind, Form)] = &[
     (b'1', b"P1", Kind::Bit, Form::Plain),
     (b'2', b"P2", Kind::Gray, Form::Plain),
     (b'3', b"P3", Kind::Color, Form::Plain),
@@ -16,20 +16,24 @@ const MAGICS: [(u8, &[u8], Kind, Form); 7] = [
 ];
 
 #[test]
-fn magics_name_formats(rt: HostRuntime) -> Result<(), Fail> {
+fn magics_name_formats(rt: HostRuntime) {
     for (byte, magic, kind, form) in MAGICS {
-        let format = Format { kind, form };
-        same(&rt, &Format::of(byte), &Some(format), &magic);
-        same(&rt, &format.magic(), &magic, &magic);
-        same(&rt, &format.is_plain(), &(form == Form::Plain), &magic);
+        let (kind, form) = (*kind, *form);
+        names(&rt, *byte, magic, Format { kind, form });
     }
-    Ok(())
+}
+
+/// The magic, whose second byte this is, names the format.
+fn names(rt: &impl Abort, byte: u8, magic: &[u8], format: Format) {
+    same(rt, &Format::of(byte), &Some(format), &magic);
+    same(rt, &format.magic(), &magic, &magic);
+    let is_plain = format.form == Form::Plain;
+    same(rt, &format.is_plain(), &is_plain, &magic);
 }
 
 #[test]
-fn other_bytes_name_none(rt: HostRuntime) -> Result<(), Fail> {
-    for byte in [0, b'0', b'8', b'P', 255] {
-        same(&rt, &Format::of(byte), &None, &byte);
+fn other_bytes_name_none(rt: HostRuntime) {
+    for byte in &[0, b'0', b'8', b'P', 255] {
+        same(&rt, &Format::of(*byte), &None, byte);
     }
-    Ok(())
 }

@@ -4,11 +4,14 @@ use super::same;
 use pnm_image::HeadFault::{BadMaxval, TooLarge, ZeroSize};
 use pnm_image::Kind::{Bit, Color, Gray, Pam};
 use pnm_image::{Head, HeadFault, Kind, Message, Place, Shape};
+use std::alloc::Global;
 use std::process::Abort;
 use std::test::Fail;
 
 /// The width, the height, the depth and the maxval, and what is wrong with them.
-const NUMBERS: &[(u32, u32, u32, u32, Option<HeadFault>)] = &[
+type Numbers = (u32, u32, u32, u32, Option<HeadFault>);
+
+const NUMBERS: &[Numbers] = &[
     (1, 1, 1, 9, None),
     (1_000_000, 1_000_000, 1, 65_535, None),
     (1_000_001, 1, 1, 9, None),
@@ -34,18 +37,29 @@ const NUMBERS: &[(u32, u32, u32, u32, Option<HeadFault>)] = &[
 /// The limits and the order of faults, from the numbers alone.
 #[test]
 fn judges_numbers_in_order(rt: HostRuntime) {
-    for (width, height, depth, maxval, fault) in NUMBERS {
-        let shape = Shape {
-            kind: Kind::Pam,
-            width: *width,
-            height: *height,
-            depth: *depth,
-            maxval: *maxval,
-        };
-        assert!(rt; Head::suits(shape.kind, shape.depth, shape.maxval, &[]));
-        let head = Head::new(rt.alloc(), shape, &[]);
-        same(&rt, &head.err(), fault, &shape);
+    for numbers in NUMBERS {
+        judges(&rt, rt.alloc(), numbers);
     }
+}
+
+/// What is wrong with the numbers of a PAM image.
+fn judges(rt: &impl Abort, alloc: Global, numbers: &Numbers) {
+    let (width, height, depth, maxval, fault) = *numbers;
+    let shape = Shape {
+        kind: Kind::Pam,
+        width,
+        height,
+        depth,
+        maxval,
+    };
+    is_judged(rt, alloc, shape, fault);
+}
+
+/// What is wrong with the shape is this.
+fn is_judged(rt: &impl Abort, alloc: Global, shape: Shape, fault: Option<HeadFault>) {
+    assert!(rt; Head::suits(shape.kind, shape.depth, shape.maxval, &[]));
+    let given = Head::new(alloc, shape, &[]).err();
+    same(rt, &given, &fault, &shape);
 }
 
 /// The kind, the depth, the maxval and the tuple type of heads.
@@ -74,32 +88,39 @@ fn keeps_fields(rt: HostRuntime) -> Result<(), Fail> {
             depth: *depth,
             maxval: *maxval,
         };
-        let tuple_type = tuple_type.as_bytes();
-        assert!(rt; Head::suits(shape.kind, shape.depth, shape.maxval, tuple_type));
-        let head = Head::new(rt.alloc(), shape, tuple_type)?;
-        has_fields(&rt, &head, shape, tuple_type);
-        let copy = head.copy()?;
-        has_fields(&rt, &copy, shape, tuple_type);
-        changes_height(&rt, head, 0, tuple_type);
-        changes_height(&rt, copy, 16_777_216, tuple_type);
+        keeps(&rt, rt.alloc(), shape, tuple_type.as_bytes())?;
     }
     Ok(())
 }
 
-/// Another height changes the height alone, and a stream may begin with the head then.
-fn changes_height(rt: &impl Abort, head: Head, height: u32, tuple_type: &[u8]) {
-    let shape = Shape {
-        height,
-        ..head.shape()
-    };
+/// A new head has the fields that were asked for, and so has its copy.
+fn keeps(rt: &impl Abort, alloc: Global, shape: Shape, tuple_type: &[u8]) -> Result<(), HeadFault> {
+    assert!(rt; Head::suits(shape.kind, shape.depth, shape.maxval, tuple_type));
+    let head = Head::new(alloc, shape, tuple_type)?;
+    let copy = head.copy();
+    has_changed(rt, head, shape, 0, tuple_type);
+    has_changed(rt, copy?, shape, 16_777_216, tuple_type);
+    Ok(())
+}
+
+/// The head has these fields, and another height changes the height alone.
+fn has_changed(rt: &impl Abort, head: Head, shape: Shape, height: u32, tuple_type: &[u8]) {
+    has_fields(rt, &head, shape, tuple_type);
     assert!(rt; height <= 16_777_216);
     let other = head.with_height(height);
-    has_fields(rt, &other, shape, tuple_type);
-    assert!(rt; Place::new().accepts(&Message::Begin(other)));
+    has_fields(rt, &other, Shape { height, ..shape }, tuple_type);
+    begins_stream(rt, other);
+}
+
+/// A stream may begin with the head.
+fn begins_stream(rt: &impl Abort, head: Head) {
+    assert!(rt; Place::new().accepts(&Message::Begin(head)));
 }
 
 /// A kind, a depth, a maxval and a tuple type, and whether they suit each other.
-const SUITS: &[(Kind, u32, u32, &[u8], bool)] = &[
+type Fields = (Kind, u32, u32, &'static [u8], bool);
+
+const SUITS: &[Fields] = &[
     (Bit, 1, 1, b"", true),
     (Bit, 1, 2, b"", false),
     (Bit, 2, 1, b"", false),
@@ -132,8 +153,14 @@ const SUITS: &[(Kind, u32, u32, &[u8], bool)] = &[
 /// What the kinds ask, whatever the limits say.
 #[test]
 fn kinds_suit(rt: HostRuntime) {
-    for (kind, depth, maxval, tuple_type, suits) in SUITS {
-        let answer = Head::suits(*kind, *depth, *maxval, tuple_type);
-        same(&rt, &answer, suits, &(*kind, *depth, *maxval, *tuple_type));
+    for fields in SUITS {
+        suits(&rt, fields);
     }
+}
+
+/// Whether the fields suit each other.
+fn suits(rt: &impl Abort, fields: &Fields) {
+    let (kind, depth, maxval, tuple_type, suits) = fields;
+    let answer = Head::suits(*kind, *depth, *maxval, tuple_type);
+    same(rt, &answer, suits, fields);
 }

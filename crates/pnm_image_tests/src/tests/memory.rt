@@ -2,14 +2,24 @@
 //! answers `Memory`, and a tool at work answers it for good though memory is there again.
 //! `scripts/refused.py tests` refuses each allocation of these tests in turn.
 
-use super::holds;
 use super::tools::{WHOLE, channel, picks, stays};
+use super::{holds, same};
 use pnm_filters::{ToolState, result_head, start_tool};
-use pnm_image::{Head, Message};
-use pnm_test_support::{Part, is_made_of, message};
+use pnm_image::{Head, Kind, Message, Shape};
+use pnm_test_support::{Part, head_of, is_made_of, message};
 use pnm_tools::{CutBox, Filter, FlipWay, Tool, ToolFault};
 use std::alloc::Global;
+use std::fmt;
 use std::process::Abort;
+
+/// The shape of the image.
+const SHAPE: Shape = Shape {
+    kind: Kind::Pam,
+    width: 3,
+    height: 2,
+    depth: 2,
+    maxval: 4,
+};
 
 /// A PAM image of three columns, two rows and two planes.
 const IMAGE: &[Part<'static>] = &[
@@ -148,20 +158,27 @@ const REPEATED: &[Part<'static>] = &[
 ];
 
 /// All but the first column.
-const REST: CutBox = CutBox {
+pub(super) const REST: CutBox = CutBox {
     left: Some(1),
     ..WHOLE
 };
 
+/// The message is made of this part.
+fn is_part<P: fmt::Debug>(rt: &impl Abort, message: &Message, want: Part<'_>, place: &P) {
+    holds(rt, is_made_of(message, want), message, &want, place);
+}
+
 /// What the tool gives is made of this part, if there is one.
 fn is_wanted(rt: &impl Abort, message: &Message, want: Option<&Part<'_>>) {
-    let is_so = want.is_some_and(|want| is_made_of(message, *want));
-    holds(rt, is_so, message, &want, &"a tool");
+    match want {
+        Some(want) => is_part(rt, message, *want, &"a tool"),
+        None => holds(rt, false, message, &"no answer", &"a tool"),
+    }
 }
 
 /// Memory ran out.
 fn is_memory(rt: &impl Abort, fault: ToolFault) {
-    assert_eq!(rt; fault, ToolFault::Memory);
+    same(rt, &fault, &ToolFault::Memory, &"a tool");
 }
 
 /// Memory ran out, and the tool answers that for good.
@@ -174,23 +191,31 @@ fn has_run_out<F: Filter>(rt: &impl Abort, state: &mut F, fault: ToolFault) {
 /// tool goes on.
 fn takes<F: Filter>(rt: &impl Abort, state: &mut F, wants: &[Part<'_>], given: &mut usize) -> bool {
     for _ in 0..wants.len() + 1 {
-        match state.next() {
-            Ok(Some(message)) => {
-                is_wanted(rt, &message, wants.get(*given));
-                *given = given.wrapping_add(1);
-            }
-            Ok(None) => return true,
-            Err(fault) => {
-                has_run_out(rt, state, fault);
-                return false;
-            }
+        if let Some(goes_on) = takes_next(rt, state, wants.get(*given)) {
+            return goes_on;
         }
+        *given = given.wrapping_add(1);
     }
     panic!(rt; "the answers have no end")
 }
 
+/// Takes what the tool gives next, which is made of this part. Whether the tool goes on, where it gives nothing.
+fn takes_next<F: Filter>(rt: &impl Abort, state: &mut F, want: Option<&Part<'_>>) -> Option<bool> {
+    match state.next() {
+        Ok(Some(message)) => {
+            is_wanted(rt, &message, want);
+            None
+        }
+        Ok(None) => Some(true),
+        Err(fault) => {
+            has_run_out(rt, state, fault);
+            Some(false)
+        }
+    }
+}
+
 /// The tool, which has to be lawful, at work; none where memory ran out.
-fn start(rt: &impl Abort, alloc: Global, tool: &Tool) -> Option<ToolState> {
+pub(super) fn start(rt: &impl Abort, alloc: Global, tool: &Tool) -> Option<ToolState> {
     assert!(rt; tool.is_lawful());
     match start_tool(alloc, tool) {
         Ok(state) => Some(state),
@@ -204,26 +229,53 @@ fn start(rt: &impl Abort, alloc: Global, tool: &Tool) -> Option<ToolState> {
 /// The tool answers the image with these parts, or `Memory` from some message on. Whether nothing was
 /// refused.
 fn answers_image(rt: &impl Abort, alloc: Global, tool: &Tool, wants: &[Part<'_>]) -> bool {
-    match start(rt, alloc, tool) {
-        Some(mut state) => answers_parts(rt, alloc, &mut state, wants),
+    answers_at_work(rt, alloc, start(rt, alloc, tool), wants)
+}
+
+/// The tool at work, if there is one, answers the image with these parts, or `Memory` from some message on. A function
+/// that knows what such a tool is made of is dear to prove, so that one that doesn't keeps it.
+fn answers_at_work<F: Filter + Drop>(
+    rt: &impl Abort,
+    alloc: Global,
+    state: Option<F>,
+    wants: &[Part<'_>],
+) -> bool {
+    match state {
+        Some(mut state) => answers_all(rt, alloc, &mut state, wants),
         None => false,
     }
 }
 
-/// The tool at work answers with these parts, or `Memory` from some message on.
-fn answers_parts<F: Filter>(
+/// The tool at work answers the image with all these parts, or `Memory` from some message on.
+fn answers_all<F: Filter>(
     rt: &impl Abort,
     alloc: Global,
     state: &mut F,
     wants: &[Part<'_>],
 ) -> bool {
     let mut given = 0;
-    for part in IMAGE {
-        if !feeds(rt, alloc, state, *part) || !takes(rt, state, wants, &mut given) {
+    let goes_on = answers_parts(rt, alloc, state, IMAGE, wants, &mut given);
+    if goes_on {
+        holds(rt, given == wants.len(), &given, &wants, &"a tool");
+    }
+    goes_on
+}
+
+/// The tool at work answers messages that are made of these parts with those that are next among the wanted ones, or
+/// `Memory` from some message on. Whether it goes on.
+pub(super) fn answers_parts<F: Filter>(
+    rt: &impl Abort,
+    alloc: Global,
+    state: &mut F,
+    parts: &[Part<'_>],
+    wants: &[Part<'_>],
+    given: &mut usize,
+) -> bool {
+    for part in parts {
+        if !feeds(rt, alloc, state, *part) || !takes(rt, state, wants, given) {
             return false;
         }
     }
-    holds(rt, given == wants.len(), &given, &wants, &"a tool");
     true
 }
 
@@ -245,35 +297,31 @@ fn feeds<F: Filter>(rt: &impl Abort, alloc: Global, state: &mut F, part: Part<'_
 /// The head rule answers the image's head with this, or with `Memory`, and then with this. Whether
 /// nothing was refused.
 fn answers_head(rt: &impl Abort, alloc: Global, tool: &Tool, want: Part<'_>) -> bool {
-    let Ok(Message::Begin(head)) = message(alloc, Part::Pam(3, 2, 2, 4, "A")) else {
-        return false;
-    };
-    let (answer, refused) = head_by(rt, alloc, tool, &head);
-    is_head(rt, tool, answer, want);
-    !refused
+    match head_of(alloc, SHAPE, b"A") {
+        Ok(head) => makes_head(rt, alloc, tool, &head, want),
+        Err(_) => false,
+    }
 }
 
-/// What the head rule of the tool answers, asked again where that is `Memory`; and whether it was.
-fn head_by(
-    rt: &impl Abort,
-    alloc: Global,
-    tool: &Tool,
-    head: &Head,
-) -> (Result<Head, ToolFault>, bool) {
+/// The head rule of the tool answers the head with this, asked again where that is `Memory`. Whether it wasn't.
+fn makes_head(rt: &impl Abort, alloc: Global, tool: &Tool, head: &Head, want: Part<'_>) -> bool {
     assert!(rt; tool.is_lawful());
     match result_head(alloc, tool, head) {
-        Err(ToolFault::Memory) => (result_head(alloc, tool, head), true),
-        answer => (answer, false),
+        Err(ToolFault::Memory) => {
+            is_head(rt, tool, result_head(alloc, tool, head), want);
+            false
+        }
+        answer => {
+            is_head(rt, tool, answer, want);
+            true
+        }
     }
 }
 
 /// The head rule of the tool has answered this.
 fn is_head(rt: &impl Abort, tool: &Tool, answer: Result<Head, ToolFault>, want: Part<'_>) {
     match answer {
-        Ok(head) => {
-            let begin = Message::Begin(head);
-            holds(rt, is_made_of(&begin, want), &begin, &want, tool);
-        }
+        Ok(head) => is_part(rt, &Message::Begin(head), want, tool),
         Err(fault) => holds(rt, false, &fault, &want, tool),
     }
 }
@@ -389,17 +437,23 @@ fn plain_tool(number: usize) -> (Tool, Part<'static>) {
 
 /// Whether nothing was refused.
 fn gives_heads(rt: &impl Abort, alloc: Global) -> bool {
-    let mut refused = false;
+    let plain = gives_plain_heads(rt, alloc);
+    match channel(alloc, &[1, 0, 1], "B") {
+        Ok(tool) => answers_head(rt, alloc, &tool, Part::Pam(3, 2, 3, 4, "B")) && plain,
+        Err(_) => false,
+    }
+}
+
+/// Whether nothing was refused of the tools that hold no list.
+fn gives_plain_heads(rt: &impl Abort, alloc: Global) -> bool {
+    let mut goes_on = true;
     for number in 0..PLAIN_TOOLS {
         let (tool, want) = plain_tool(number);
         if !answers_head(rt, alloc, &tool, want) {
-            refused = true;
+            goes_on = false;
         }
     }
-    match channel(alloc, &[1, 0, 1], "B") {
-        Ok(tool) => answers_head(rt, alloc, &tool, Part::Pam(3, 2, 3, 4, "B")) && !refused,
-        Err(_) => false,
-    }
+    goes_on
 }
 
 #[test]
@@ -416,15 +470,23 @@ fn gives_heads_with_memory(rt: HostRuntime) {
 /// A copy that was refused can be asked for again.
 #[test]
 fn copies_or_runs_out(rt: HostRuntime) {
-    let Ok(tool) = channel(rt.alloc(), &[1, 0, 1], "B") else {
-        return;
-    };
-    let answer = match tool.copy(rt.alloc()) {
-        Err(ToolFault::Memory) => tool.copy(rt.alloc()),
-        answer => answer,
-    };
+    if let Ok(tool) = channel(rt.alloc(), &[1, 0, 1], "B") {
+        copies(&rt, rt.alloc(), &tool);
+    }
+}
+
+/// The copy of a tool, asked for again where memory ran out, picks the same planes.
+fn copies(rt: &impl Abort, alloc: Global, tool: &Tool) {
+    match tool.copy(alloc) {
+        Err(ToolFault::Memory) => is_copy(rt, tool.copy(alloc)),
+        answer => is_copy(rt, answer),
+    }
+}
+
+/// The answer is a tool that picks these planes.
+fn is_copy(rt: &impl Abort, answer: Result<Tool, ToolFault>) {
     match answer {
-        Ok(copy) => picks(&rt, &copy, &[1, 0, 1], "B"),
-        Err(fault) => panic!(rt; "{fault:?} in place of a copy"),
+        Ok(copy) => picks(rt, &copy, &[1, 0, 1], "B"),
+        Err(fault) => holds(rt, false, &fault, &"a copy", &"a tool"),
     }
 }

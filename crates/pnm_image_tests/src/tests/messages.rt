@@ -1,6 +1,7 @@
 //! Messages: one may go to another thread.
 
 use pnm_image::{Message, Samples};
+use std::alloc::{AllocError, Global};
 use std::test::Fail;
 
 /// Hands a value on, as a channel between threads does.
@@ -16,10 +17,14 @@ fn is_row_of(message: &Message, sample: u16) -> bool {
     }
 }
 
+/// A row of one sample.
+fn row_of(alloc: Global, sample: u16) -> Result<Message, AllocError> {
+    Ok(Message::Row(Samples::new(vec![in alloc; sample]?)))
+}
+
 #[test]
 fn messages_go_between_threads(rt: HostRuntime) -> Result<(), Fail> {
-    let row = Samples::new(vec![in rt.alloc(); 7]?);
-    let message = handed_on(Message::Row(row));
+    let message = handed_on(row_of(rt.alloc(), 7)?);
     assert!(rt; is_row_of(&message, 7), "the message is another");
     Ok(())
 }

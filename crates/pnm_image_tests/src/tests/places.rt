@@ -2,7 +2,10 @@
 
 use super::same;
 use pnm_image::{Kind, Message, Place, Shape};
-use pnm_test_support::{Part, message};
+use pnm_test_support::{Part, Unmade, message};
+use std::alloc::Global;
+use std::fmt;
+use std::process::Abort;
 use std::test::Fail;
 
 /// Two columns and one row of grays up to 9.
@@ -44,12 +47,23 @@ fn passes_two_images(rt: HostRuntime) -> Result<(), Fail> {
     let mut place = Place::new();
     same(&rt, &place, &Place::Between, &"the start");
     for (part, next) in STREAM {
-        let message = message(rt.alloc(), *part)?;
-        assert!(rt; place.accepts(&message), "at {part:?}");
-        place.step(&message);
+        passes(&rt, rt.alloc(), &mut place, *part)?;
         same(&rt, &place, next, part);
     }
     Ok(())
+}
+
+/// The message that is made of this may come.
+fn passes(rt: &impl Abort, alloc: Global, place: &mut Place, part: Part<'_>) -> Result<(), Unmade> {
+    let message = message(alloc, part)?;
+    steps(rt, place, &message, &part);
+    Ok(())
+}
+
+/// The message may come, and is stepped over.
+fn steps<P: fmt::Debug>(rt: &impl Abort, place: &mut Place, message: &Message, part: &P) {
+    assert!(rt; place.accepts(message), "at {part:?}");
+    place.step(message);
 }
 
 const START: Place = Place::Inside(SMALL, 0);
@@ -89,19 +103,28 @@ const MAY_COME: &[(Place, Part<'static>, bool)] = &[
 fn refuses_what_may_not_come(rt: HostRuntime) -> Result<(), Fail> {
     for (place, part, accepts) in MAY_COME {
         let message = message(rt.alloc(), *part)?;
-        same(&rt, &place.accepts(&message), accepts, &(*place, *part));
+        may_come(&rt, *place, &message, *accepts);
     }
     Ok(())
+}
+
+/// Whether the message may come at this place.
+fn may_come(rt: &impl Abort, place: Place, message: &Message, accepts: bool) {
+    same(rt, &place.accepts(message), &accepts, &(place, message));
 }
 
 /// Nothing may come once the stream has ended or was broken off.
 #[test]
 fn nothing_comes_after_the_end(rt: HostRuntime) {
-    for message in [Message::StreamEnd, Message::Stop] {
-        let mut place = Place::new();
-        place.step(&message);
-        same(&rt, &place, &Place::After, &message);
-        same(&rt, &place.accepts(&Message::StreamEnd), &false, &message);
-        same(&rt, &place.accepts(&Message::Stop), &false, &message);
-    }
+    ends(&rt, &Message::StreamEnd);
+    ends(&rt, &Message::Stop);
+}
+
+/// Nothing may come after this message.
+fn ends(rt: &impl Abort, message: &Message) {
+    let mut place = Place::new();
+    steps(rt, &mut place, message, message);
+    same(rt, &place, &Place::After, message);
+    may_come(rt, place, &Message::StreamEnd, false);
+    may_come(rt, place, &Message::Stop, false);
 }

@@ -1,6 +1,6 @@
 //! Tools of the tests, and what is wanted of them.
 
-use super::holds;
+use super::{holds, same};
 use pnm_image::Message;
 use pnm_test_support::Unmade;
 use pnm_tools::{CutBox, Filter, Planes, Tool, ToolFault};
@@ -27,13 +27,13 @@ pub(super) fn channel(alloc: Global, numbers: &[u16], tuple_type: &str) -> Resul
 
 /// The tool picks these planes.
 pub(super) fn picks(rt: &impl Abort, tool: &Tool, numbers: &[u16], tuple_type: &str) {
-    let is_so = match tool {
+    match tool {
         Tool::Channel(planes) => {
-            planes.numbers() == numbers && planes.tuple_type() == tuple_type.as_bytes()
+            same(rt, &planes.numbers(), &numbers, tool);
+            same(rt, &planes.tuple_type(), &tuple_type.as_bytes(), tool);
         }
-        _ => false,
-    };
-    holds(rt, is_so, tool, &numbers, &tuple_type);
+        _ => holds(rt, false, tool, &numbers, &tuple_type),
+    }
 }
 
 /// The state answers nothing but this fault, whatever it is asked.
@@ -45,9 +45,12 @@ pub(super) fn stays<F: Filter>(rt: &impl Abort, state: &mut F, fault: ToolFault)
 
 /// The state gives nothing but this fault, and answers this message by it.
 fn refuses_again<F: Filter>(rt: &impl Abort, state: &mut F, message: Message, fault: ToolFault) {
-    let answer = state.next();
-    let is_so = matches!(answer, Err(other) if other == fault);
+    gives_fault(rt, state.next(), fault);
+    same(rt, &state.feed(message), &Err(fault), &"feed");
+}
+
+/// The answer is this fault.
+fn gives_fault(rt: &impl Abort, answer: Result<Option<Message>, ToolFault>, fault: ToolFault) {
+    let is_so = matches!(&answer, Err(other) if *other == fault);
     holds(rt, is_so, &answer, &fault, &"next");
-    let answer = state.feed(message);
-    holds(rt, answer == Err(fault), &answer, &fault, &"feed");
 }

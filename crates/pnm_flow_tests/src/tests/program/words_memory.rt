@@ -1,0 +1,93 @@
+//! Want of memory in the program. `scripts/refused.py tests` refuses each allocation of these
+//! tests in turn.
+
+use super::super::IMAGE;
+use super::help::HELP;
+use super::{INVERTED, OverThreads, words_of};
+use pnm_command_line::command;
+use pnm_image::Device;
+use std::process::Abort;
+use std::sync::Wait;
+use std::thread::Threads;
+
+/// The lines for want of memory before a run, and in one.
+const BEFORE: [&[u8]; 2] = [
+    b"pnmpipe: command line: Memory\n",
+    b"pnmpipe: chain: Memory\n",
+];
+
+const IN_A_RUN: [&[u8]; 3] = [
+    b"pnmpipe: NoStart\n",
+    b"pnmpipe: tool 1: Memory\n",
+    b"pnmpipe: input: Memory\n",
+];
+
+/// Whether want of memory alone is at fault, and is printed, and what was written is a prefix of the whole output, and
+/// all of it where the status is 0.
+fn is_answer(status: u8, written: &[u8], printed: &[u8], whole: &[u8]) -> bool {
+    match status {
+        0 => written == whole && printed.is_empty(),
+        1 => whole.starts_with(written) && IN_A_RUN.contains(&printed),
+        _ => written.is_empty() && BEFORE.contains(&printed),
+    }
+}
+
+/// The program's status, or none where there is no memory for the words. Whatever it is, it is so answered.
+fn status<H: Abort + AllocGlobal + Threads + Wait + Sync>(
+    rt: &H,
+    texts: &[&str],
+    whole: &[u8],
+) -> Option<u8> {
+    let Ok(words) = words_of(rt.alloc(), texts) else {
+        return None;
+    };
+    let mut buffer = [0; 2000];
+    let mut line = [0; 100];
+    let mut output = Device::new(buffer.as_mut_slice());
+    let mut errors = line.as_mut_slice();
+    let mut input = Device::new(IMAGE);
+    let words = words.as_slice();
+    let status = command(
+        rt,
+        &OverThreads,
+        words,
+        &mut input,
+        &mut output,
+        &mut errors,
+    );
+    let (left, unused) = (output.into_inner().len(), errors.len());
+    assert!(rt; left <= buffer.len() && unused <= line.len());
+    let written = &buffer[..buffer.len() - left];
+    let printed = &line[..line.len() - unused];
+    let is_right = is_answer(status, written, printed, whole);
+    assert!(rt; is_right, "status {status}");
+    Some(status)
+}
+
+/// Each growth of a call for help may be refused.
+#[test]
+fn answers_want_of_memory_for_help(rt: HostRuntime) {
+    let _ = status(&rt, ["pnmpipe", "--help"].as_slice(), HELP.as_bytes());
+}
+
+/// Where no growth is refused the help is printed.
+#[test]
+fn helps_with_memory(rt: HostRuntime) {
+    let status = status(&rt, ["pnmpipe", "--help"].as_slice(), HELP.as_bytes());
+    assert_eq!(rt; status, Some(0));
+}
+
+/// Each growth of a run may be refused.
+#[test]
+fn answers_want_of_memory_for_a_run(rt: HostRuntime) {
+    let texts = ["pnmpipe", "--ring", "7", "pnminvert"];
+    let _ = status(&rt, texts.as_slice(), INVERTED);
+}
+
+/// Where no growth is refused the run ends well.
+#[test]
+fn runs_with_memory(rt: HostRuntime) {
+    let texts = ["pnmpipe", "--ring", "7", "pnminvert"];
+    let status = status(&rt, texts.as_slice(), INVERTED);
+    assert_eq!(rt; status, Some(0));
+}

@@ -1,0 +1,67 @@
+//! Calls that a signal interrupts, made again.
+
+ghost use Rattle.std.specs.Prelude.{◌≡◌};
+
+use std::io;
+use std::io::{ErrorKind, Read, Write};
+
+/// A reader or writer each of whose calls is made again where a signal has interrupted it (signal(7)), so that a
+/// process that was stopped and goes on loses nothing. Any other error is handed on.
+#[derive(Debug, Drop)]
+pub struct Uninterrupted<D> {
+    inner: D,
+}
+
+impl<D> Uninterrupted<D> {
+    /// Makes interrupted calls of this reader or writer again.
+    pub fn new(inner: D) -> Uninterrupted<D>
+        ensures { result.inner ≡ inner }
+    {
+        Uninterrupted { inner }
+    }
+
+    /// The reader or writer.
+    pub fn into_inner(self) -> D
+        ensures { result ≡ self.inner }
+    {
+        self.inner
+    }
+}
+
+impl<R: Read> Read for Uninterrupted<R> {
+    ghost remaining = { λ d. R.remaining d.inner };
+
+    fn read(&mut self, buffer: &mut [u8]) -> io::Result<usize> {
+        for _ in 0..u64::MAX {
+            match self.inner.read(buffer) {
+                Err(error) if error.kind() == ErrorKind::Interrupted => {}
+                answer => return answer,
+            }
+        }
+        Err(io::Error::from(ErrorKind::Interrupted))
+    }
+}
+
+impl<W: Write> Write for Uninterrupted<W> {
+    ghost contents = { λ d. W.contents d.inner };
+
+    fn write(&mut self, bytes: &[u8]) -> io::Result<usize> {
+        for _ in 0..u64::MAX {
+            match self.inner.write(bytes) {
+                Err(error) if error.kind() == ErrorKind::Interrupted => {}
+                answer => return answer,
+            }
+        }
+        Err(io::Error::from(ErrorKind::Interrupted))
+    }
+
+    fn flush(&mut self) -> io::Result<()> {
+        for _ in 0..u64::MAX {
+            match self.inner.flush() {
+                Err(error) if error.kind() == ErrorKind::Interrupted => {}
+                answer => return answer,
+            }
+        }
+        Err(io::Error::from(ErrorKind::Interrupted))
+    }
+}

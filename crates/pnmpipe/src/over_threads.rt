@@ -1,0 +1,45 @@
+//! How the program runs the tools: a thread for each.
+
+ghost use Rattle.std.specs.Prelude.{◌≡◌, ◌⊎◌, Err};
+ghost use Rattle.pnm_flow.specs.ThreadedRuns.{HasRunOverThreads};
+ghost use Rattle.pnm_serial.specs.declared.fault.RunFault.TheVariants.{NoStart};
+
+use pnm_command_line::Runner;
+use pnm_flow::{OpenGate, RunFault, Summary, run};
+use pnm_image::{BytesIn, BytesOut, Form};
+use pnm_tools::Tool;
+use std::sync::Wait;
+use std::thread::Threads;
+
+/// Runs the tools over threads of this process.
+#[derive(Clone, Copy)]
+pub struct OverThreads;
+
+impl Runner for OverThreads {
+    // the run couldn't be started, or all that is promised of it holds
+    ghost has_run = { λ lanes job answer reader writer.
+        (answer ≡ Err NoStart) ⊎ HasRunOverThreads lanes job answer reader writer };
+
+    fn run<H: AllocGlobal + Threads + Wait + Sync, R: BytesIn, W: BytesOut>(
+        &self,
+        rt: &H,
+        reader: &mut R,
+        writer: &mut W,
+        tools: &[Tool],
+        form: Form,
+        capacity: usize,
+        lanes: usize,
+    ) -> Result<Summary, RunFault> {
+        run(
+            rt,
+            rt.alloc(),
+            reader,
+            writer,
+            tools,
+            form,
+            capacity,
+            lanes,
+            &OpenGate,
+        )
+    }
+}
