@@ -21,12 +21,15 @@ import time
 from crates import ROOT, SOURCES, Ended, below, copy_lines, end_by_signals, read_crates
 
 PROGRAM = "pnmpipe"
-TOLD = "from nothing 12 minutes on 4 cores with nothing beside"
+TOLD = "from nothing 12 to 18 minutes on 4 cores with nothing beside, by the machine"
 
 # what a check leaves of a crate, how much memory it wants, and how many processors it makes use of
 LEFT = ("incremental", "rlib")
 MEMORY_OF_ONE = 4 << 30
 MOST_JOBS = 4
+
+# a crate with a chain above it that is shorter than such a part of the longest one takes no processor from that
+SHORT = 0.05
 
 # lines of rt that are shown at once, and that tell how far a check is
 SHOWN = re.compile(r"rt: (waiting|warning)\b")
@@ -186,20 +189,27 @@ class Build:
             names = [name for name in names if not any(os.path.isdir(left_of(name, part)) for part in LEFT)]
         return sorted(names, key=lambda it: -self.behind[it])
 
-    def is_longest(self, name):
-        """Whether no crate that is being proved, or can be now, has a longer chain above it."""
-        others = [it.run.name for it in self.places if it.run] + self.ready()
-        return all(self.behind[name] >= self.behind[it] for it in others)
+    def longest(self):
+        """How long the longest chain is above a crate that is being proved, or can be now."""
+        return max(self.behind[it] for it in [it.run.name for it in self.places if it.run] + self.ready())
+
+    def is_short(self, name):
+        """Whether the crate can wait, since its chain is next to nothing beside the longest one."""
+        return self.behind[name] < SHORT * self.longest()
+
+    def free(self):
+        """How many processors no check was given."""
+        return processors() - sum(it.jobs for it in self.places if it.run)
 
     def jobs(self, name):
         """How many processors the crate's check gets: of the free ones its share, where others can begin now, too, and
         of four and more at least two on the longest chain. A check takes more time of all processors together the more
         of them it has."""
-        busy = [it for it in self.places if it.run]
-        free = processors() - sum(it.jobs for it in busy)
-        checks = min(len(self.rooms) - len(busy), len(self.ready()))
-        least = 2 if self.is_longest(name) and processors() >= 4 else 1
-        return max(least, min(MOST_JOBS, -(-free // checks)))
+        busy = sum(bool(it.run) for it in self.places)
+        others = [it for it in self.ready() if it != name and not self.is_short(it)]
+        checks = min(len(self.rooms) - busy, 1 + len(others))
+        least = 2 if self.behind[name] >= self.longest() and processors() >= 4 else 1
+        return max(least, min(MOST_JOBS, -(-self.free() // checks)))
 
     def begin(self, place, name):
         place.jobs = self.jobs(name)
@@ -216,6 +226,8 @@ class Build:
         """Gives each place that is free a crate that can be proved; a copy is made where it is first wanted."""
         for index, room in enumerate(self.rooms):
             ready = self.ready(is_for_copy=index > 0)
+            if index and self.free() < 1:
+                ready = [name for name in ready if not self.is_short(name)]
             if ready and index == len(self.places):
                 self.places.append(Place(room, self.crates))
             if ready and index < len(self.places) and not self.places[index].run:

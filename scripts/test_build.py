@@ -181,6 +181,28 @@ class Building(Repository):
                 this.places = [types.SimpleNamespace(run=run, jobs=2), types.SimpleNamespace(run=run, jobs=1)]
                 self.assertEqual(this.jobs(last), jobs)
 
+    def test_a_crate_of_a_short_chain_takes_no_processor_from_the_longest(self):
+        four_processors = unittest.mock.patch.dict(os.environ, {"RT_JOBS": "4"})
+        # (a copy takes none that was ever proved in the checkout)
+        nothing_left = unittest.mock.patch.object(build, "left_of", lambda name, part: self.path("nothing"))
+        with four_processors, nothing_left:
+            this = build.Build(["checkout", "copy", "other copy"])
+            begun = []
+
+            def begin(place, name):
+                place.run, place.jobs = types.SimpleNamespace(name=name), this.jobs(name)
+                this.left.remove(name)
+                begun.append((name, place.jobs))
+
+            places = [types.SimpleNamespace(run=None, jobs=0) for _ in this.rooms]
+            this.places = places
+            this.begin = begin
+            this.fill()
+            self.assertEqual(begun, [("pnm_samples", 4)])
+            places[0].jobs = 3
+            this.fill()
+            self.assertEqual(begun[1:], [("pnm_streams", 1)])
+
     def test_one_processor_makes_no_copy(self):
         status, printed = self.run_script("build.py", RT_JOBS="1")
         self.assertEqual(status, 0, printed)
