@@ -1,39 +1,38 @@
 #!/usr/bin/env python3
 """Proves the crates that the program stands on, and no more, and builds it as bin/pnmpipe.
 
-Crates that don't stand on one another are proved side by side. Two runs of `rt` in one checkout wait for each other,
-so the longest chain of crates is proved in the checkout, and beside it what has never been proved in temporary
-copies, below TMPDIR. A copy gets what was built of the crates below, and gives back what it makes. What is proved
-stands in crates/NAME/out, so that the next call takes all that is the same. What each crate printed stands in
-bin/log. RT_JOBS says on how many processors, by default all that there are.
+Each crate is checked from nothing by `rattle build`, over the statements of the crates below it, as the gate checks it:
+the proofs of libraries aren't loaded, as `rt check` loads them to begin with what it kept. Crates that don't stand on
+one another are checked side by side. What is proved stands in bin/proved beside the sum of all that its check has read,
+so that the next call takes what is the same; what each check printed stands in bin/log. RT_JOBS says on how many
+processors, by default all that there are.
 """
 
 import contextlib
 import fcntl
+import hashlib
 import os
-import re
 import shutil
+import signal
 import subprocess
 import sys
-import tempfile
 import time
 
-from crates import ROOT, SOURCES, Ended, below, copy_lines, end_by_signals, read_crates
+from crates import ROOT, SOURCES, Ended, below, end_by_signals, read_crates, read_lines
 
 PROGRAM = "pnmpipe"
-TOLD = "from nothing 12 to 18 minutes on 4 cores with nothing beside, by the machine"
+PROVED = os.path.join(ROOT, "bin/proved")
+TOLD = "from nothing 10 minutes on 4 cores with nothing beside, 16 on 2, by the machine"
 
-# what a check leaves of a crate, how much memory it wants, and how many processors it makes use of
-LEFT = ("incremental", "rlib")
+# how much memory a check wants, and how many processors it makes use of
 MEMORY_OF_ONE = 4 << 30
 MOST_JOBS = 4
 
-# a crate with a chain above it that is shorter than such a part of the longest one takes no processor from that
+# parts of the longest chain of crates: with a chain above it of at least the first one a crate has two processors where
+# there are four; with less than the second one it takes none from others
+LONG = 0.6
 SHORT = 0.05
 
-# lines of rt that are shown at once, and that tell how far a check is
-SHOWN = re.compile(r"rt: (waiting|warning)\b")
-SO_FAR = re.compile(r"so far: (\d+ of \d+) functions")
 EVERY = 60
 LAST_LINES = 30
 
@@ -52,114 +51,120 @@ def free_memory():
         return next(1024 * int(line.split()[1]) for line in file if line.startswith("MemAvailable"))
 
 
+def told_by_rt(word):
+    return subprocess.run(["rt", word], stdout=subprocess.PIPE, check=True, text=True).stdout.strip()
+
+
+def files_of(name):
+    """The files that a check reads of the crate."""
+    folder = os.path.join(ROOT, "crates", name)
+    walked = [it for part in SOURCES for it in os.walk(os.path.join(folder, part))]
+    return sorted(os.path.join(at, file) for at, _, files in walked for file in files)
+
+
 def lines_of(name):
     """How many lines of code the crate has: a check's time goes by these, and not by those of its proofs."""
     count = 0
-    for at, _, files in os.walk(os.path.join(ROOT, "crates", name, "src")):
-        for file in files:
-            with open(os.path.join(at, file), "rb") as text:
+    for path in files_of(name):
+        if path.endswith(".rt"):
+            with open(path, "rb") as text:
                 count += text.read().count(b"\n")
     return count
 
 
-def put(source, target):
-    """Copies a folder so that it is there whole or not at all."""
-    if os.path.isdir(source):
-        shutil.rmtree(target + ".part", ignore_errors=True)
-        shutil.copytree(source, target + ".part")
-        shutil.rmtree(target, ignore_errors=True)
-        os.rename(target + ".part", target)
+def proved(file):
+    return os.path.join(PROVED, file)
+
+
+def text_of(path):
+    with contextlib.suppress(OSError), open(path, encoding="utf-8") as file:
+        return file.read()
+    return None
 
 
 @contextlib.contextmanager
-def kept_alone(folder):
-    """Waits until no rt works on this crate, and keeps others from it, as rt does."""
-    held = os.open(folder, os.O_RDONLY)
+def alone():
+    """Waits until no other call builds in this checkout."""
+    os.makedirs(PROVED, exist_ok=True)
+    folder = os.open(PROVED, os.O_RDONLY)
     try:
-        fcntl.flock(held, fcntl.LOCK_EX)
+        try:
+            fcntl.flock(folder, fcntl.LOCK_EX | fcntl.LOCK_NB)
+        except BlockingIOError:
+            say("waits until another build in this checkout has ended")
+            fcntl.flock(folder, fcntl.LOCK_EX)
         yield
     finally:
-        os.close(held)
+        os.close(folder)
 
 
-def left_of(name, part):
-    """What is left in the checkout of a crate's earlier checks."""
-    return os.path.join(ROOT, "crates", name, "out", part)
+class Toolchain:
+    """Where the toolchain stands, and its commands for a crate."""
 
+    def __init__(self):
+        self.folder = os.path.dirname(told_by_rt("doc"))
+        self.version = told_by_rt("version")
+        self.lines = read_lines()
 
-class Place:
-    """A folder in which one crate is proved at a time: the checkout, or a copy of it."""
+    def path(self, file):
+        return os.path.join(self.folder, file)
 
-    def __init__(self, folder, crates):
-        self.folder = folder
-        self.is_copy = folder != ROOT
-        self.run = None
-        self.jobs = 0
-        if self.is_copy:
-            shutil.copy(os.path.join(ROOT, "HANDLES"), folder)
-            copy_lines(crates, folder)
-            for name in crates:
-                for part in SOURCES:
-                    put(os.path.join(ROOT, "crates", name, part), os.path.join(folder, "crates", name, part))
+    def sum(self, name, sums):
+        """A sum of all that the crate's check reads, given those of the crates that it names."""
+        words = self.lines[name]
+        made = hashlib.sha256(repr((self.version, name, words, [sums.get(it) for it in words])).encode())
+        for path in files_of(name):
+            with open(path, "rb") as file:
+                made.update(repr((os.path.relpath(path, ROOT), file.read())).encode())
+        return made.hexdigest()
 
-    def out(self, name, part):
-        return os.path.join(self.folder, "crates", name, "out", part)
+    def build(self, name, jobs):
+        """Checks the crate and writes its statements, or the program's object file."""
+        is_program = name == PROGRAM
+        words = [self.path("bin/rattle"), "build", "--crate-name", name]
+        words += ["src/main.rt" if is_program else "src/lib.rt"]
+        for library in ["std", *self.lines[name]]:
+            own = library in self.lines
+            folder = proved(f"{library}.rlib") if own else self.path(f"rlibs/{library}.rlib")
+            words += ["--extern", f"{library}={folder}"]
+        words += ["-L", f"dependency={PROVED}", "-L", f"dependency={self.path('rlibs')}"]
+        words += ["--antt-project", self.path("rattle/logic/antt-project.json")]
+        words += ["--logic-built", self.path("logic_built"), "--jobs", str(jobs), "--links", f"{name}="]
+        if is_program:
+            return [*words, "--toolchain", self.path("toolchain"), "-o", proved(f"{name}.o")]
+        return [*words, "--statements", "-o", proved(f"{name}.rlib")]
 
-    def fetch(self, names):
-        """Takes from the checkout what was built there of these crates and isn't here."""
-        for name in names if self.is_copy else ():
-            if not os.path.isdir(self.out(name, "rlib")):
-                put(left_of(name, "rlib"), self.out(name, "rlib"))
-
-    def give_back(self, name):
-        if self.is_copy:
-            with kept_alone(os.path.join(ROOT, "crates", name)):
-                for part in LEFT:
-                    put(self.out(name, part), left_of(name, part))
+    def link(self, program):
+        """Links the program's object file with what the standard library needs of C."""
+        words = [self.path("bin/rattle-link"), "--target", "x86_64-unknown-linux-gnu"]
+        words += ["--toolchain", self.path("toolchain"), "-o", program, proved(f"{PROGRAM}.o")]
+        return [*words, self.path("c/libos_c.a"), self.path("c/liblibc_c.a")]
 
 
 class Run:
-    """A call of rt for a crate, its output in a file of bin/log."""
+    """A command for a crate, with processes of its own, its output in a file of bin/log."""
 
-    def __init__(self, name, folder, words, **streams):
+    def __init__(self, name, words, jobs=1, **streams):
         self.name = name
-        self.start = self.told = time.monotonic()
+        self.jobs = jobs
+        self.start = time.monotonic()
         self.path = os.path.join(ROOT, "bin/log", name)
-        self.log = open(self.path, "w+", encoding="utf-8", errors="replace")
-        self.so_far = "nothing yet"
-        streams = {"stdout": self.log, "stderr": self.log, **streams}
-        # (rt's own commands end when it does)
-        self.child = subprocess.Popen(["rt", *words], cwd=os.path.join(folder, "crates", name), **streams)
-        self.reader = open(self.path, encoding="utf-8", errors="replace")
+        with open(self.path, "w", encoding="utf-8") as log:
+            streams = {"stdin": subprocess.DEVNULL, "stdout": log, "stderr": log, **streams}
+            folder = os.path.join(ROOT, "crates", name)
+            self.child = subprocess.Popen(words, cwd=folder, start_new_session=True, **streams)
 
     def seconds(self):
         return time.monotonic() - self.start
 
-    def has_ended(self):
-        """Whether it has, and shows what has to be seen of what it printed."""
-        status = self.child.poll()
-        for line in self.reader:
-            if SHOWN.match(line):
-                say(f"{self.name}: {line.rstrip()}")
-            found = SO_FAR.match(line)
-            self.so_far = f"{found[1]} functions" if found else self.so_far
-        if status is None and time.monotonic() - self.told > EVERY:
-            self.told = time.monotonic()
-            say(f"{self.name}: {self.so_far}, after {self.seconds():.0f} s")
-        return status is not None
-
     def stop(self):
         if self.child.poll() is None:
-            self.child.terminate()
-            try:
-                self.child.wait(5)
-            except subprocess.TimeoutExpired:
-                self.child.kill()
-                self.child.wait()
+            with contextlib.suppress(ProcessLookupError):
+                os.killpg(self.child.pid, signal.SIGKILL)
+            self.child.wait()
 
     def fault(self):
         """Says that it failed, with what it printed last."""
-        self.log.flush()
         with open(self.path, encoding="utf-8", errors="replace") as log:
             last = log.read().splitlines()[-LAST_LINES:]
         print("\n".join(last), flush=True)
@@ -168,121 +173,136 @@ class Run:
 
 
 class Build:
-    """The crates that are left, and the places where they are proved."""
+    """The crates that are left, and the checks that run."""
 
-    def __init__(self, rooms):
+    def __init__(self, toolchain, most):
         crates = read_crates()
-        self.crates = {name: below(crates, name) for name in crates if name in below(crates, PROGRAM)}
-        self.rooms = rooms
-        self.places = []
-        self.left = list(self.crates)
-        self.proved = set()
+        self.toolchain = toolchain
+        # how many checks may run at a time
+        self.most = most
+        self.crates = {name: below(crates, name) for name in crates if name in below(crates, PROGRAM) | {PROGRAM}}
+        self.sums = {}
+        for name in self.crates:
+            self.sums[name] = toolchain.sum(name, self.sums)
+        self.done = set()
+        for name in self.crates:
+            if self.crates[name] <= self.done and self.is_proved(name):
+                self.done.add(name)
+        self.left = [name for name in self.crates if name not in self.done]
+        self.begun = len(self.done)
+        self.runs = []
         self.behind = {}
-        for name in reversed(self.left):
+        for name in reversed(self.crates):
             above = [self.behind[it] for it in self.crates if name in self.crates[it]]
             self.behind[name] = lines_of(name) + max(above, default=0)
 
-    def ready(self, is_for_copy=False):
-        """What can be proved now, first what the longest chain stands on; for a copy, what has never been proved."""
-        names = [name for name in self.left if self.crates[name] <= self.proved]
-        if is_for_copy:
-            names = [name for name in names if not any(os.path.isdir(left_of(name, part)) for part in LEFT)]
+    def is_proved(self, name):
+        """Whether what an earlier call made of the crate is there, and still the same would be made."""
+        made = proved(name if name == PROGRAM else f"{name}.rlib")
+        return os.path.exists(made) and text_of(proved(f"{name}.sum")) == self.sums[name]
+
+    def ready(self):
+        """What can be checked now, first what the longest chain stands on."""
+        names = [name for name in self.left if self.crates[name] <= self.done]
         return sorted(names, key=lambda it: -self.behind[it])
 
-    def longest(self):
-        """How long the longest chain is above a crate that is being proved, or can be now."""
-        return max(self.behind[it] for it in [it.run.name for it in self.places if it.run] + self.ready())
-
-    def is_short(self, name):
-        """Whether the crate can wait, since its chain is next to nothing beside the longest one."""
-        return self.behind[name] < SHORT * self.longest()
+    def part(self, name):
+        """The chain above the crate, as a part of the longest one above a crate that is being checked or can be now."""
+        return self.behind[name] / max(self.behind[it] for it in [*(run.name for run in self.runs), *self.ready()])
 
     def free(self):
-        """How many processors no check was given."""
-        return processors() - sum(it.jobs for it in self.places if it.run)
+        """How many processors no check was given; fewer than none where the longest chains have one too many."""
+        return processors() - sum(run.jobs for run in self.runs)
 
     def jobs(self, name):
-        """How many processors the crate's check gets: of the free ones its share, where others can begin now, too, and
-        of four and more at least two on the longest chain. A check takes more time of all processors together the more
-        of them it has."""
-        busy = sum(bool(it.run) for it in self.places)
-        others = [it for it in self.ready() if it != name and not self.is_short(it)]
-        checks = min(len(self.rooms) - busy, 1 + len(others))
-        least = 2 if self.behind[name] >= self.longest() and processors() >= 4 else 1
-        return max(least, min(MOST_JOBS, -(-self.free() // checks)))
-
-    def begin(self, place, name):
-        place.jobs = self.jobs(name)
-        # (rt chooses by the memory that there is, where one check is all that there is room for)
-        chooses = len(self.rooms) == 1 and "RT_JOBS" not in os.environ
-        words = ["lib"] if chooses else ["lib", "--jobs", str(place.jobs)]
-        place.fetch(self.crates[name])
-        self.left.remove(name)
-        place.run = Run(name, place.folder, words)
-        number = len(self.crates) - len(self.left)
-        say(f"{number} of {len(self.crates) + 1}: {name}" + (", beside" if place.is_copy else ""))
+        """How many processors the crate's check gets: what others that can begin now leave it. A check takes more time
+        of all processors together the more of them it has."""
+        if self.part(name) < SHORT:
+            return 1
+        others = [it for it in self.ready() if it != name and self.part(it) >= SHORT]
+        others = others[: max(0, self.most - len(self.runs) - 1)]
+        least = 2 if processors() >= 4 and self.part(name) >= LONG else 1
+        return max(least, min(MOST_JOBS, self.free() - len(others)))
 
     def fill(self):
-        """Gives each place that is free a crate that can be proved; a copy is made where it is first wanted."""
-        for index, room in enumerate(self.rooms):
-            ready = self.ready(is_for_copy=index > 0)
-            if index and self.free() < 1:
-                ready = [name for name in ready if not self.is_short(name)]
-            if ready and index == len(self.places):
-                self.places.append(Place(room, self.crates))
-            if ready and index < len(self.places) and not self.places[index].run:
-                self.begin(self.places[index], ready[0])
+        """Begins what can be. A check makes use of one processor at its ends, so of four processors one is given out
+        twice."""
+        over = 1 if processors() >= 4 else 0
+        for name in self.ready():
+            may_wait = self.part(name) < SHORT
+            if len(self.runs) < self.most and self.free() + (0 if may_wait else over) > 0:
+                self.begin(name, self.jobs(name))
+
+    def begin(self, name, jobs):
+        self.left.remove(name)
+        self.begun += 1
+        for file in (f"{name}.sum", f"{name}.o"):
+            with contextlib.suppress(FileNotFoundError):
+                os.remove(proved(file))
+        self.runs.append(Run(name, self.toolchain.build(name, jobs), jobs))
+        say(f"{self.begun} of {len(self.crates)}: {name}" + (f", on {jobs} processors" if jobs > 1 else ""))
+
+    def note(self, name):
+        """Notes that what was made of the crate is whole, and from which files, if these are still as they were."""
+        if self.toolchain.sum(name, self.sums) == self.sums[name]:
+            with open(proved(f"{name}.sum"), "w", encoding="utf-8") as file:
+                file.write(self.sums[name])
 
     def prove(self):
-        """Proves the crates. Gives the status."""
-        while self.left or any(place.run for place in self.places):
+        """Proves the crates, the program last. Gives the status."""
+        told = time.monotonic()
+        while self.left or self.runs:
             self.fill()
-            time.sleep(0.2)
-            for place in self.places:
-                if place.run and place.run.has_ended():
-                    run = place.run
-                    if run.child.returncode:
-                        return run.fault()
-                    place.run = None
-                    place.give_back(run.name)
-                    self.proved.add(run.name)
-                    say(f"{run.name} is proved, {run.seconds():.0f} s")
+            time.sleep(0.1)
+            for run in [it for it in self.runs if it.child.poll() is not None]:
+                self.runs.remove(run)
+                if run.child.returncode:
+                    return run.fault()
+                self.done.add(run.name)
+                if run.name != PROGRAM:
+                    self.note(run.name)
+                say(f"{run.name} is proved, {run.seconds():.0f} s")
+            if self.runs and time.monotonic() - told > EVERY:
+                told = time.monotonic()
+                say("at work: " + ", ".join(f"{run.name} for {run.seconds():.0f} s" for run in self.runs))
         return 0
 
-    def build_program(self):
-        """Proves the program, and has it pass its stored run. Gives the status."""
-        folder = os.path.join(ROOT, "crates", PROGRAM)
-        say(f"{len(self.crates) + 1} of {len(self.crates) + 1}: {PROGRAM}")
+    def link(self):
+        """Links the program where it was built anew, and has it pass its stored run. Gives the status."""
+        folder, program = os.path.join(ROOT, "crates", PROGRAM), proved(PROGRAM)
+        if text_of(proved(f"{PROGRAM}.sum")) != self.sums[PROGRAM]:
+            run = Run(PROGRAM, self.toolchain.link(program))
+            if run.child.wait():
+                return run.fault()
+            self.note(PROGRAM)
         written = os.path.join(ROOT, "bin/stored-run")
         with open(os.path.join(folder, "stdin"), "rb") as given, open(written, "wb") as made:
-            run = Run(PROGRAM, ROOT, ["run", "--", "pnminvert"], stdin=given, stdout=made)
-        self.places[0].run = run
-        while not run.has_ended():
-            time.sleep(0.2)
-        if run.child.returncode:
-            return run.fault()
+            run = Run(PROGRAM, [program, "pnminvert"], stdin=given, stdout=made)
+            if run.child.wait():
+                return run.fault()
         with open(written, "rb") as made, open(os.path.join(folder, "stdout"), "rb") as wanted:
             if made.read() != wanted.read():
                 say(f"{PROGRAM} FAILED: bin/stored-run isn't crates/{PROGRAM}/stdout")
                 return 1
         os.remove(written)
-        shutil.copy(os.path.join(folder, "out", PROGRAM), os.path.join(ROOT, "bin/new"))
+        shutil.copy(program, os.path.join(ROOT, "bin/new"))
         os.replace(os.path.join(ROOT, "bin/new"), os.path.join(ROOT, "bin", PROGRAM))
         return 0
 
     def stop(self):
-        for place in self.places:
-            if place.run:
-                place.run.stop()
+        for run in self.runs:
+            run.stop()
 
 
-def build(copies):
+def build():
     start = time.monotonic()
-    this = Build([ROOT, *copies])
-    say(f"{len(this.crates)} crates and the program, on {processors()} processors; what was proved before is taken")
-    say(TOLD)
+    this = Build(Toolchain(), max(1, min(processors(), free_memory() // MEMORY_OF_ONE)))
+    taken = f"; {len(this.done)} were proved before" if this.done else ""
+    say(f"{len(this.crates)} crates, the program among them, on {processors()} processors{taken}")
+    if not this.done:
+        say(TOLD)
     try:
-        status = this.prove() or this.build_program()
+        status = this.prove() or this.link()
     finally:
         this.stop()
     if not status:
@@ -294,13 +314,9 @@ def build(copies):
 def main():
     end_by_signals()
     os.makedirs(os.path.join(ROOT, "bin/log"), exist_ok=True)
-    count = max(1, min(1 if processors() < 2 else 2 if processors() < 4 else 3, free_memory() // MEMORY_OF_ONE))
     try:
-        with tempfile.TemporaryDirectory(prefix="pnmpipe-build-") as folder:
-            copies = [os.path.join(folder, str(number)) for number in range(1, count)]
-            for copy in copies:
-                os.mkdir(copy)
-            return build(copies)
+        with alone():
+            return build()
     except Ended as ended:
         say("ended by a signal; a next call goes on with what is proved")
         return 128 + ended.args[0]

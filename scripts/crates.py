@@ -40,14 +40,20 @@ def end_by_signals():
         signal.signal(number, end)
 
 
-def read_crates():
-    """Each crate with the crates of this repository that its line names, those that others stand on before these."""
+def read_lines():
+    """Each crate with the words of its line: the crates that it names, of this repository and of the toolchain."""
     lines = {}
     with open(os.path.join(ROOT, "crates.txt"), encoding="utf-8") as file:
         for line in file:
             name, bar, words = line.partition("#")[0].partition(":")
             if bar:
                 lines[name.split()[0]] = words.split()
+    return lines
+
+
+def read_crates():
+    """Each crate with the crates of this repository that its line names, those that others stand on before these."""
+    lines = read_lines()
     named = {name: [word for word in words if word in lines] for name, words in lines.items()}
     return {name: named[name] for name in sorted(named, key=lambda it: len(below(named, it)))}
 

@@ -1,7 +1,7 @@
 #!/usr/bin/env python3
-"""Tests of build.py and change.py, over a small repository and a stand-in for rt that proves nothing.
+"""Tests of build.py and change.py, over a small repository and stand-ins for rt and rattle that prove nothing.
 
-The stand-in notes each call, holds the crates' folders as rt does, and leaves what rt leaves. `make scripts` runs this.
+The stand-ins note each call and leave what the toolchain leaves. `make scripts` runs this.
 """
 
 import os
@@ -31,9 +31,9 @@ right_tests: right
 right_cases: right low
 """
 
-# FAULT is the crate, or the command of rt, that fails; SECONDS how long a proof takes, but of the lowest crate
-STAND_IN = r'''#!/usr/bin/env python3
-import fcntl, os, sys, time
+# FAULT is the crate, or rt's command, or `link`, that fails; SECONDS how long a proof takes, but of the lowest crate
+RT = r'''#!/usr/bin/env python3
+import os, sys
 sys.path.insert(0, os.environ["SCRIPTS"])
 import crates
 
@@ -47,50 +47,59 @@ def note(line):
 
 
 def build(crate):
-    out = f"{root}/crates/{crate}/out"
-    if os.path.exists(f"{out}/rlib/stamp"):
-        return
-    note(f"proves {crate} in the {'checkout' if root == os.environ['CHECKOUT'] else 'copy'}")
-    time.sleep(float(os.environ.get("SECONDS", "0")) if crate != "low" else 0)
-    os.makedirs(f"{out}/incremental", exist_ok=True)
-    os.makedirs(f"{out}/rlib", exist_ok=True)
-    if fault == crate:
-        print("a goal is open")
-        sys.exit(1)
-    with open(f"{out}/rlib/stamp", "w") as stamp:
-        stamp.write(crate)
+    out = f"{root}/crates/{crate}/out/rlib"
+    if not os.path.exists(out):
+        note(f"proves {crate} in the {'checkout' if root == os.environ['CHECKOUT'] else 'copy'}")
+        os.makedirs(out)
 
 
-def named_without_folder():
-    """The crates that lines of crates.txt name and that have none, at which rt stops."""
-    with open(f"{root}/crates.txt") as file:
-        lines = dict(line.split(":") for line in file.read().splitlines() if ":" in line)
-    named = " ".join(lines.values()).split()
-    return [it for it in lines if it in named and not os.path.isdir(f"{root}/crates/{it}")]
-
-
+if words[0] in ("doc", "version"):
+    print(os.path.join(os.environ["KIT"], "START-HERE.md") if words[0] == "doc" else "the version of a stand-in")
+    sys.exit(0)
 note(" ".join(words) + (f" ({name})" if os.path.basename(os.path.dirname(os.getcwd())) == "crates" else ""))
-if words[0] in ("lib", "run"):
-    if named_without_folder():
-        print("there is no folder of " + " ".join(named_without_folder()))
-        sys.exit(2)
-    known = crates.read_crates()
-    below = crates.below(known, name)
-    held = [os.open(f"{root}/crates/{it}", os.O_RDONLY) for it in sorted(below | {name})]
-    for folder in held:
-        fcntl.flock(folder, fcntl.LOCK_EX)
-    for crate in known:
-        if crate in below or (crate == name and words[0] == "lib"):
-            build(crate)
 if words[0] == "run":
-    os.makedirs("out", exist_ok=True)
-    with open("out/pnmpipe", "w") as program:
-        program.write("built")
+    known = crates.read_crates()
+    for crate in known:
+        if crate in crates.below(known, name):
+            build(crate)
     print(sys.stdin.read().upper(), end="")
 if words[0] == "ci":
     note("ci sees " + " ".join(sorted(os.listdir("crates"))))
     note("edits of " + " ".join(it for it in sorted(os.listdir("crates")) if os.path.isdir(f"crates/{it}/must-fail")))
 sys.exit(1 if fault == words[0] else 0)
+'''
+
+RATTLE = r'''#!/usr/bin/env python3
+import os, sys, time
+
+words = sys.argv[1:]
+given = {flag: [words[at + 1] for at, it in enumerate(words) if it == flag] for flag in words if flag.startswith("-")}
+name, made = given["--crate-name"][0], given["-o"][0]
+libraries = dict(it.split("=") for it in given["--extern"])
+with open(os.environ["NOTES"], "a") as notes:
+    notes.write(f"{name} over {' '.join(libraries)}, {given['--jobs'][0]} jobs\n")
+for library, folder in libraries.items():
+    if not os.path.isdir(folder):
+        print(f"there is no {library} at {folder}")
+        sys.exit(2)
+if not os.path.isfile(words[words.index("--crate-name") + 2]) or words[0] != "build":
+    print("there is no such crate")
+    sys.exit(2)
+time.sleep(float(os.environ.get("SECONDS", "0")) if name != "low" else 0)
+if os.environ.get("FAULT") == name:
+    print("a goal is open")
+    sys.exit(1)
+if "--statements" in words:
+    os.makedirs(made, exist_ok=True)
+else:
+    with open(made, "w") as code:
+        code.write("#!/bin/sh\ntr a-z A-Z\n")
+'''
+
+LINK = r'''#!/bin/sh
+[ "$FAULT" != link ] || exit 1
+while [ "$1" != -o ]; do shift; done
+cp "$3" "$2" && chmod 755 "$2"
 '''
 
 
@@ -107,13 +116,17 @@ class Repository(unittest.TestCase):
         for line in CRATES.splitlines():
             name = line.partition(":")[0]
             # (the lines say which chain is the longest)
-            self.write(f"root/crates/{name}/src/lib.rt", "#[test]\n" * (9 if name.endswith("_tests") else 2))
+            file = "main" if name in ("pnmpipe", "right_cases") else "lib"
+            self.write(f"root/crates/{name}/src/{file}.rt", "#[test]\n" * (9 if name.endswith("_tests") else 2))
             self.write(f"root/crates/{name}/must-fail/one.edit", "")
         for name in ("pnmpipe", "right_cases"):
             self.write(f"root/crates/{name}/stdin", "given")
             self.write(f"root/crates/{name}/stdout", "GIVEN")
-        self.write("bin/rt", STAND_IN)
-        os.chmod(self.path("bin/rt"), 0o755)
+        for file, text in (("bin/rt", RT), ("kit/bin/rattle", RATTLE), ("kit/bin/rattle-link", LINK)):
+            self.write(file, text)
+            os.chmod(self.path(file), 0o755)
+        for library in ("std", "thiserror", "clap"):
+            os.makedirs(self.path(f"kit/rlibs/{library}.rlib"))
         os.mkdir(self.path("tmp"))
 
     def path(self, name):
@@ -136,6 +149,7 @@ class Repository(unittest.TestCase):
     def start(self, *words, **variables):
         path = f"{self.path('bin')}:{os.path.dirname(sys.executable)}:{os.environ['PATH']}"
         own = {"PATH": path, "TMPDIR": self.path("tmp"), "NOTES": self.path("notes"), "CHECKOUT": self.root}
+        own["KIT"] = self.path("kit")
         environment = {**os.environ, **own, "SCRIPTS": self.path("root/scripts"), "PYTHONDONTWRITEBYTECODE": "1"}
         environment.pop("RT_JOBS", None)
         return subprocess.Popen(
@@ -155,60 +169,96 @@ class Repository(unittest.TestCase):
 
 
 class Building(Repository):
-    def test_each_crate_is_proved_once_and_the_copy_gives_back(self):
-        status, printed = self.run_script("build.py", RT_JOBS="4", SECONDS="0.5")
+    def proved(self):
+        """The crates that were checked since the last call, in their order."""
+        return [line.split()[0] for line in self.notes()]
+
+    def test_each_crate_is_proved_once_over_what_it_names(self):
+        status, printed = self.run_script("build.py", RT_JOBS="4", SECONDS="0.3")
         self.assertEqual(status, 0, printed)
         notes = self.notes()
-        proved = [line.split()[1:] for line in notes if line.startswith("proves")]
-        self.assertEqual(sorted(it[0] for it in proved), ["left", "longest", "low", "right", "top"])
-        if build.free_memory() > 3 * build.MEMORY_OF_ONE:
-            self.assertEqual([it[0] for it in proved if it[-1] == "copy"], ["right"])
-            for call in ("lib --jobs 4 (low)", "lib --jobs 2 (left)", "lib --jobs 2 (right)"):
-                self.assertIn(call, notes)
+        self.assertEqual(sorted(it.split()[0] for it in notes), ["left", "longest", "low", "pnmpipe", "right", "top"])
+        self.assertEqual(notes[0], "low over std, 4 jobs")
+        self.assertEqual(notes[-1], "pnmpipe over std top right clap, 4 jobs")
         with open(self.path("root/bin/pnmpipe"), encoding="utf-8") as program:
-            self.assertEqual(program.read(), "built")
+            self.assertEqual(program.read(), "#!/bin/sh\ntr a-z A-Z\n")
         self.assertIn("6 of 6: pnmpipe", printed)
-        status, _ = self.run_script("build.py", RT_JOBS="4")
-        self.assertEqual((status, [line for line in self.notes() if line.startswith("proves")]), (0, []))
+        status, printed = self.run_script("build.py", RT_JOBS="4")
+        self.assertEqual((status, self.proved()), (0, []))
+        self.assertIn("6 were proved before", printed)
 
-    def test_the_longest_chain_has_two_processors_where_others_have_the_rest(self):
-        with unittest.mock.patch.dict(os.environ, {"RT_JOBS": "4"}):
-            for last, others, jobs in (("pnm_flow", "pnm_command_line", 2), ("pnm_command_line", "pnm_flow", 1)):
-                this = build.Build(["checkout", "copy", "other copy"])
-                this.left = [last]
-                this.proved = set(this.crates) - {last}
-                run = types.SimpleNamespace(name=others)
-                this.places = [types.SimpleNamespace(run=run, jobs=2), types.SimpleNamespace(run=run, jobs=1)]
-                self.assertEqual(this.jobs(last), jobs)
+    def test_what_was_changed_is_proved_again_with_what_stands_on_it(self):
+        self.assertEqual(self.run_script("build.py", RT_JOBS="2")[0], 0)
+        self.proved()
+        self.write("root/crates/right/specs/Lib.antt", "another specification")
+        self.assertEqual(self.run_script("build.py", RT_JOBS="2")[0], 0)
+        self.assertEqual(self.proved(), ["right", "top", "pnmpipe"])
+        self.write("root/crates.txt", CRATES.replace("top: longest right", "top: longest right thiserror"))
+        self.assertEqual(self.run_script("build.py", RT_JOBS="2")[0], 0)
+        self.assertEqual(self.proved(), ["top", "pnmpipe"])
+        shutil.rmtree(self.path("root/bin/proved/longest.rlib"))
+        self.assertEqual(self.run_script("build.py", RT_JOBS="2")[0], 0)
+        self.assertEqual(self.proved(), ["longest", "top", "pnmpipe"])
 
-    def test_a_crate_of_a_short_chain_takes_no_processor_from_the_longest(self):
-        four_processors = unittest.mock.patch.dict(os.environ, {"RT_JOBS": "4"})
-        # (a copy takes none that was ever proved in the checkout)
-        nothing_left = unittest.mock.patch.object(build, "left_of", lambda name, part: self.path("nothing"))
-        with four_processors, nothing_left:
-            this = build.Build(["checkout", "copy", "other copy"])
-            begun = []
+    def test_what_was_changed_while_it_was_proved_is_proved_again(self):
+        child = self.start("build.py", RT_JOBS="1", SECONDS="0.5")
+        self.wait_for_note("right over")
+        self.write("root/crates/right/src/lib.rt", "other code")
+        printed, _ = child.communicate(timeout=60)
+        self.assertEqual(child.returncode, 0, printed)
+        self.proved()
+        self.assertEqual(self.run_script("build.py", RT_JOBS="1")[0], 0)
+        self.assertEqual(self.proved(), ["right", "top", "pnmpipe"])
 
-            def begin(place, name):
-                place.run, place.jobs = types.SimpleNamespace(name=name), this.jobs(name)
+    def test_a_second_build_waits(self):
+        first = self.start("build.py", RT_JOBS="1", SECONDS="0.3")
+        self.wait_for_note("low over")
+        status, printed = self.run_script("build.py", RT_JOBS="1")
+        self.assertEqual((status, first.wait(10)), (0, 0), printed)
+        self.assertIn("waits until another build", printed)
+        self.assertIn("6 were proved before", printed)
+        first.communicate()
+
+    def begun(self, proved, at_work=(), number=4, most=4):
+        """What a build of this repository begins once these are proved, on how many processors, beside others."""
+        toolchain = types.SimpleNamespace(sum=lambda name, sums: f"no sum of {name}")
+        with unittest.mock.patch.dict(os.environ, {"RT_JOBS": str(number)}):
+            this = build.Build(toolchain, most)
+            this.done = set(proved)
+            this.runs = [types.SimpleNamespace(name=name, jobs=jobs) for name, jobs in at_work]
+            this.left = [name for name in this.crates if name not in {*proved, *(name for name, _ in at_work)}]
+            found = []
+
+            def begin(name, jobs):
                 this.left.remove(name)
-                begun.append((name, place.jobs))
+                this.runs.append(types.SimpleNamespace(name=name, jobs=jobs))
+                found.append((name, jobs))
 
-            places = [types.SimpleNamespace(run=None, jobs=0) for _ in this.rooms]
-            this.places = places
             this.begin = begin
             this.fill()
-            self.assertEqual(begun, [("pnm_samples", 4)])
-            places[0].jobs = 3
-            this.fill()
-            self.assertEqual(begun[1:], [("pnm_streams", 1)])
+            return found
 
-    def test_one_processor_makes_no_copy(self):
+    def test_a_crate_of_a_short_chain_takes_no_processor_from_the_longest(self):
+        self.assertEqual(self.begun([]), [("pnm_samples", 4)])
+        self.assertEqual(self.begun([], [("pnm_samples", 3)]), [("pnm_streams", 1)])
+
+    def test_long_chains_have_two_processors_where_there_are_four(self):
+        low = ["pnm_streams", "pnm_samples", "pnm_image"]
+        names = ["pnm_tools", "pnm_read", "pnm_write"]
+        self.assertEqual(self.begun(low), [(name, 2) for name in names])
+        self.assertEqual(self.begun(low, number=2), [(name, 1) for name in names[:2]])
+        self.assertEqual(self.begun(low, number=1), [("pnm_tools", 1)])
+        self.assertEqual(self.begun(low, most=1), [("pnm_tools", 4)])
+
+    def test_the_longest_chain_has_what_others_leave(self):
+        last = ["pnm_flow", "pnm_command_line", "pnmpipe"]
+        low = [name for name in build.read_crates() if name not in last]
+        self.assertEqual(self.begun(low), [("pnm_flow", 3), ("pnm_command_line", 1)])
+
+    def test_one_processor_proves_one_at_a_time(self):
         status, printed = self.run_script("build.py", RT_JOBS="1")
         self.assertEqual(status, 0, printed)
-        notes = self.notes()
-        self.assertNotIn("copy", " ".join(notes))
-        self.assertIn("lib --jobs 1 (low)", notes)
+        self.assertEqual([it for it in self.notes() if not it.endswith(", 1 jobs")], [])
 
     def test_faults_are_told_and_end_the_build(self):
         for fault in ("right", "longest"):
@@ -216,21 +266,22 @@ class Building(Repository):
             self.assertEqual(status, 1)
             self.assertIn("a goal is open\n", printed)
             self.assertIn(f"{fault} FAILED, status 1", printed)
-        self.assertNotIn("lib (top)", self.notes())
+        self.assertNotIn("top", self.proved())
+        self.assertEqual(self.run_script("build.py", RT_JOBS="2", FAULT="link")[0], 1)
         self.write("root/crates/pnmpipe/stdout", "other")
-        self.assertEqual(self.run_script("build.py", RT_JOBS="2")[0], 1)
-        self.assertEqual(self.run_script("build.py", RT_JOBS="2", FAULT="run")[0], 1)
+        status, printed = self.run_script("build.py", RT_JOBS="2")
+        self.assertEqual((status, "bin/stored-run isn't" in printed), (1, True), printed)
         self.assertFalse(os.path.exists(self.path("root/bin/pnmpipe")))
 
-    @unittest.skipIf(build.free_memory() < 2 * build.MEMORY_OF_ONE, "there is no memory for two checks")
     def test_signals_end_what_was_started(self):
         for number in (signal.SIGINT, signal.SIGTERM):
             child = self.start("build.py", RT_JOBS="2", SECONDS="30")
-            self.wait_for_note("proves right")
+            self.wait_for_note("left over")
             child.send_signal(number)
             printed, _ = child.communicate(timeout=10)
             self.assertEqual(child.returncode, 128 + number, printed)
-            self.assertEqual(os.listdir(self.path("tmp")), [])
+            at_work = subprocess.run(["pgrep", "-f", self.path("kit/bin/rattle")], stdout=subprocess.PIPE)
+            self.assertEqual(at_work.stdout, b"")
 
     def wait_for_note(self, text):
         for _ in range(200):
