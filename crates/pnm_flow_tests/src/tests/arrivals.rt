@@ -1,8 +1,8 @@
 //! Which threads come to the gate of a run: each stage and lane once, by its number, and before it takes a message.
 
-use super::agrees;
-use super::chains::run_at;
+use super::chains::outcome_of;
 use super::rings::TURNS;
+use super::{agrees, is_so};
 use pnm_flow::{Gate, Summary};
 use pnm_image::Device;
 use pnm_tools::Tool;
@@ -138,26 +138,16 @@ fn comes_before_it_takes<R: Threads + Wait + Abort + Sync>(
         seen: &seen,
     };
     let mut reader = Device::new(ByteByByte(NINE_ROWS, &seen));
-    let mut writer = Device::new(Vec::new(alloc));
-    let answer = run_at(
-        rt,
-        alloc,
-        (tools, 1, lanes),
-        &gate,
-        &mut reader,
-        &mut writer,
-    );
+    let (answer, written) = outcome_of(rt, alloc, (tools, 1, lanes), &gate, &mut reader);
     let want = (Ok(Summary { images: 1, rows: 9 }), NINE_ROWS_INVERTED);
-    let written = writer.into_inner();
     agrees(rt, (answer, written.as_slice()), want, &(stage, lane));
     has_come(rt, &seen, came);
 }
 
 /// These have come, none was waited for in vain, and nothing was read too early.
 fn has_come(rt: &impl Abort, seen: &Seen, came: [u64; 5]) {
-    let (missed, early) = (seen.missed.load(SeqCst), seen.early.load(SeqCst));
-    let is_so = seen.came() == came && missed == 0 && early == 0;
-    assert!(rt; is_so, "{missed} {early}");
+    let late = [seen.missed.load(SeqCst), seen.early.load(SeqCst)];
+    is_so(rt, seen.came() == came && late == [0, 0], &late);
 }
 
 /// Over rings of one message each ring before the stage that is held holds one, and each stage before it one: the

@@ -3,7 +3,6 @@
 ghost use Rattle.std.specs.Prelude.{IsTrue};
 ghost use Rattle.pnm_tools.specs.Chains.{AreLawfulTools};
 
-use super::ways::{Way, run_by};
 use pnm_flow::{Gate, RunFault, Summary, run};
 use pnm_image::{BytesIn, BytesOut, Device, Form};
 use pnm_tools::{CutBox, Planes, Tool};
@@ -11,21 +10,6 @@ use std::alloc::{AllocError, Global};
 use std::process::Abort;
 use std::sync::Wait;
 use std::thread::Threads;
-
-/// What a run of the tools answers in this way, and what it writes, in raw form.
-pub fn run_chain_by<R: Threads + Wait + Abort + Sync>(
-    rt: &R,
-    alloc: Global,
-    way: Way,
-    tools: &[Tool],
-    input: &[u8],
-) -> (Result<Summary, RunFault>, Vec<u8>) {
-    assert!(rt; 1 <= tools.len() && tools.len() <= 64 && are_lawful(tools));
-    let mut writer = Device::new(Vec::new(alloc));
-    let mut reader = Device::new(input);
-    let answer = run_by(rt, alloc, way, &mut reader, &mut writer, tools, Form::Raw);
-    (answer, writer.into_inner())
-}
 
 /// Tools, how many messages a ring between them holds, and over how many lanes they are.
 pub type Chain<'a> = (&'a [Tool], usize, usize);
@@ -53,6 +37,19 @@ pub fn run_at<H: Threads + Wait + Abort + Sync, R: BytesIn, W: BytesOut>(
         lanes,
         gate,
     )
+}
+
+/// What the run of this chain at the gate answers, and what it writes.
+pub fn outcome_of<H: Threads + Wait + Abort + Sync, R: BytesIn>(
+    rt: &H,
+    alloc: Global,
+    chain: Chain<'_>,
+    gate: &impl Gate,
+    reader: &mut R,
+) -> (Result<Summary, RunFault>, Vec<u8>) {
+    let mut writer = Device::new(Vec::new(alloc));
+    let answer = run_at(rt, alloc, chain, gate, reader, &mut writer);
+    (answer, writer.into_inner())
 }
 
 /// Whether each tool's options are in their ranges.

@@ -1,11 +1,11 @@
 //! Runs whose threads are held at their gate, and the order in which they read and write.
 
-use super::agrees;
-use super::chains::{Chain, run_at};
+use super::chains::{Chain, outcome_of, run_at};
 use super::rings::TURNS;
 use super::threads::{Both, BothLanes, has_met};
+use super::{agrees, is_so};
 use pnm_flow::{Gate, OpenGate, RunFault, Summary};
-use pnm_image::Device;
+use pnm_image::{BytesOut, Device};
 use pnm_tools::Tool;
 use std::alloc::Global;
 use std::io::{Read, Write};
@@ -28,6 +28,8 @@ const TWO_ROWS: &[u8] = b"P5\n1 2\n9\n\x01\x02";
 
 const TWO_ROWS_INVERTED: &[u8] = b"P5\n1 2\n9\n\x08\x07";
 
+const TWO_ROWS_PASSED: Result<Summary, RunFault> = Ok(Summary { images: 1, rows: 2 });
+
 /// Tools over so many lanes, an input, and the image of two rows that they make of it.
 type HeldRun<'a> = (&'a [Tool], usize, &'a [u8], &'a [u8]);
 
@@ -39,12 +41,14 @@ fn meets<R: Threads + Wait + Abort + Sync>(
     gate: &impl Gate,
 ) {
     let (tools, lanes, input, made) = held;
-    let mut writer = Device::new(Vec::new(alloc));
     let mut reader = Device::new(input);
-    let answer = run_at(rt, alloc, (tools, 1, lanes), gate, &mut reader, &mut writer);
-    let want = (Ok(Summary { images: 1, rows: 2 }), made);
-    let written = writer.into_inner();
-    agrees(rt, (answer, written.as_slice()), want, &lanes);
+    let (answer, written) = outcome_of(rt, alloc, (tools, 1, lanes), gate, &mut reader);
+    agrees(
+        rt,
+        (answer, written.as_slice()),
+        (TWO_ROWS_PASSED, made),
+        &lanes,
+    );
 }
 
 /// Each of two tools waits at the gate for the other, so both have a thread.
@@ -146,33 +150,40 @@ impl Gate for HoldsFirst<'_> {
 /// The input is read while the gate holds the first tool back, or the first lane of it, once, and nothing is written
 /// without it.
 fn reads_and_writes<R: Threads + Wait + Abort + Sync>(rt: &R, alloc: Global, held: HeldRun<'_>) {
-    let (tools, lanes, input, made) = held;
     let seen = Seen::new();
-    let mut reader = Device::new(SeenReader(input, &seen));
     let mut writer = Device::new(SeenWriter(Vec::new(alloc), &seen));
-    let gate = HoldsFirst(&seen);
-    let answer = run_at(
-        rt,
-        alloc,
-        (tools, 1, lanes),
-        &gate,
-        &mut reader,
-        &mut writer,
-    );
-    let want = (Ok(Summary { images: 1, rows: 2 }), made);
+    let answer = run_held(rt, alloc, held, &seen, &mut writer);
     let written = writer.into_inner().0;
-    agrees(rt, (answer, written.as_slice()), want, &lanes);
+    agrees(
+        rt,
+        (answer, written.as_slice()),
+        (TWO_ROWS_PASSED, held.3),
+        &held.1,
+    );
     has_held(rt, &seen);
+}
+
+/// That run, which is seen to read.
+fn run_held<R: Threads + Wait + Abort + Sync, W: BytesOut>(
+    rt: &R,
+    alloc: Global,
+    held: HeldRun<'_>,
+    seen: &Seen,
+    writer: &mut W,
+) -> Result<Summary, RunFault> {
+    let mut reader = Device::new(SeenReader(held.2, seen));
+    let gate = HoldsFirst(seen);
+    run_at(rt, alloc, (held.0, 1, held.1), &gate, &mut reader, writer)
 }
 
 /// The gate has held once, not in vain, and nothing was written by then.
 fn has_held(rt: &impl Abort, seen: &Seen) {
-    let held = seen.held.load(SeqCst);
-    let (missed, early) = (seen.missed.load(SeqCst), seen.early.load(SeqCst));
-    assert!(rt;
-        held == 1 && missed == 0 && early == 0,
-        "{held} {missed} {early}"
-    );
+    let counts = [
+        seen.held.load(SeqCst),
+        seen.missed.load(SeqCst),
+        seen.early.load(SeqCst),
+    ];
+    is_so(rt, counts == [1, 0, 0], &counts);
 }
 
 #[test]
@@ -226,19 +237,29 @@ fn writes_before_reads<R: Threads + Wait + Abort + Sync>(
     lanes: usize,
 ) {
     let seen = Seen::new();
-    let images = ImageByImage {
-        more: 200,
-        given: 0,
-        seen: &seen,
-    };
-    let mut reader = Device::new(images);
     let mut writer = Device::new(SeenWriter(Vec::new(alloc), &seen));
     let chain: Chain<'_> = (&TOOLS, capacity, lanes);
-    let answer = run_at(rt, alloc, chain, &OpenGate, &mut reader, &mut writer);
+    let answer = run_images(rt, alloc, chain, &seen, &mut writer);
     let written = writer.into_inner().0.len();
-    let is_whole = is_summary(answer, 200, 400) && written == 200 * MADE.len();
     let early = seen.early.load(SeqCst);
-    assert!(rt; is_whole && early == 0, "{written} bytes, {early} early");
+    let is_right = is_summary(answer, 200, 400) && written == 200 * MADE.len() && early == 0;
+    is_so(rt, is_right, &(written, early));
+}
+
+/// The run of this chain that is given 200 images, one after another.
+fn run_images<R: Threads + Wait + Abort + Sync, W: BytesOut>(
+    rt: &R,
+    alloc: Global,
+    chain: Chain<'_>,
+    seen: &Seen,
+    writer: &mut W,
+) -> Result<Summary, RunFault> {
+    let mut reader = Device::new(ImageByImage {
+        more: 200,
+        given: 0,
+        seen,
+    });
+    run_at(rt, alloc, chain, &OpenGate, &mut reader, writer)
 }
 
 /// Whether this many images and rows were passed.

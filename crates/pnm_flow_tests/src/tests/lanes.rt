@@ -1,8 +1,10 @@
 //! Lanes: what is dealt to them, what is gathered from them, and a tool over them.
 
-use super::rings::{comes, holds, is_end, ring, send_all, sends};
+use super::is_so;
+use super::rings::{comes, holding, holds, is_end, passes, ring, sends};
 use pnm_flow::{
-    DealDone, GatherDone, OpenGate, Receiver, Sender, StageEnd, deal, gather, run_lanes,
+    DealDone, GatherDone, NoStart, OpenGate, Receiver, Sender, StageDone, StageEnd, deal, gather,
+    run_lanes,
 };
 use pnm_image::Kind;
 use pnm_test_support::{Part, Unmade};
@@ -12,6 +14,7 @@ use std::process::Abort;
 use std::sync::Wait;
 use std::test::Fail;
 use std::thread;
+use std::thread::Threads;
 
 /// Deals to the outputs, of which there have to be 1 to 8.
 pub fn dealt(
@@ -31,19 +34,29 @@ fn gathered(rt: &(impl Wait + Abort), inputs: Vec<Receiver>, output: Sender) -> 
 }
 
 /// So many rings of this capacity.
-fn rings(
+pub fn rings(
     alloc: Global,
     count: usize,
     capacity: usize,
-) -> Result<(Vec<Sender>, Vec<Receiver>), Fail> {
-    let mut outputs = Vec::with_capacity(alloc, count)?;
-    let mut inputs = Vec::with_capacity(alloc, count)?;
+) -> Result<(Vec<Sender>, Vec<Receiver>), Unmade> {
+    let mut ends = (Vec::new(alloc), Vec::new(alloc));
     for _ in 0..count {
-        let (output, input) = ring(alloc, capacity)?;
-        outputs.push(output)?;
-        inputs.push(input)?;
+        add_ring(alloc, capacity, &mut ends.0, &mut ends.1)?;
     }
-    Ok((outputs, inputs))
+    Ok(ends)
+}
+
+/// Adds the ends of a ring of this capacity.
+fn add_ring(
+    alloc: Global,
+    capacity: usize,
+    outputs: &mut Vec<Sender>,
+    inputs: &mut Vec<Receiver>,
+) -> Result<(), Unmade> {
+    let (output, input) = ring(alloc, capacity)?;
+    outputs.push(output)?;
+    inputs.push(input)?;
+    Ok(())
 }
 
 /// How many of so many rows go to the lane.
@@ -67,96 +80,133 @@ fn each_gets(lanes: &mut [Receiver], part: Part<'_>) -> bool {
     true
 }
 
+/// Sends the head of an image of this height, whose parts come to the lanes.
+fn begins(alloc: Global, producer: &mut Sender, lanes: &mut [Receiver], height: u32) -> bool {
+    let count = lanes.len();
+    if !sends(alloc, producer, Part::Begin(Kind::Gray, 1, height, 9)) {
+        return false;
+    }
+    for (lane, input) in lanes.iter_mut().enumerate() {
+        let rows = rows_of(height, lane, count);
+        if !comes(input, Part::Begin(Kind::Gray, 1, rows, 9)) {
+            return false;
+        }
+    }
+    true
+}
+
+/// Sends so many rows, each only once the one before has come to its lane.
+fn deals_rows(alloc: Global, producer: &mut Sender, lanes: &mut [Receiver], height: u16) -> bool {
+    let count = lanes.len();
+    for y in 0..height {
+        if count == 0
+            || !passes(
+                alloc,
+                producer,
+                &mut lanes[y as usize % count],
+                Part::Row(&[y]),
+            )
+        {
+            return false;
+        }
+    }
+    true
+}
+
 /// Sends an image of this height, each message only once its parts have come to the lanes.
-fn one_by_one(
+fn one_by_one(alloc: Global, producer: &mut Sender, lanes: &mut [Receiver], height: u16) -> bool {
+    begins(alloc, producer, lanes, u32::from(height))
+        && deals_rows(alloc, producer, lanes, height)
+        && sends(alloc, producer, Part::ImageEnd)
+        && each_gets(lanes, Part::ImageEnd)
+        && sends(alloc, producer, Part::StreamEnd)
+        && each_gets(lanes, Part::StreamEnd)
+}
+
+/// Whether each message of an image of this height is dealt to so many lanes before the next one is there.
+fn deals_at_once<R: Threads + Wait + Abort + Sync>(
+    rt: &R,
     alloc: Global,
-    producer: &mut Sender,
-    lanes: &mut [Receiver],
+    count: usize,
     height: u16,
 ) -> Result<bool, Unmade> {
-    let count = lanes.len();
-    let rows = u32::from(height);
-    let mut is_right = sends(alloc, producer, Part::Begin(Kind::Gray, 1, rows, 9))?;
-    for (lane, input) in lanes.iter_mut().enumerate() {
-        is_right = is_right
-            && comes(
-                input,
-                Part::Begin(Kind::Gray, 1, rows_of(rows, lane, count), 9),
-            );
-    }
-    for y in 0..height {
-        is_right = is_right && count != 0 && sends(alloc, producer, Part::Row(&[y]))?;
-        is_right = is_right && comes(&mut lanes[y as usize % count], Part::Row(&[y]));
-    }
-    for part in [Part::ImageEnd, Part::StreamEnd] {
-        is_right = is_right && sends(alloc, producer, part)? && each_gets(lanes, part);
-    }
-    Ok(is_right)
+    let (mut producer, input) = ring(alloc, 1)?;
+    let (outputs, mut lanes) = rings(alloc, count, 1)?;
+    let both = thread::join(
+        rt,
+        move || dealt(rt, alloc, input, outputs).end == StageEnd::Well,
+        move || one_by_one(alloc, &mut producer, &mut lanes, height),
+    );
+    Ok(both.0 && both.1)
 }
 
 /// 1 to 8 lanes, and heights 0 to 9: each message is dealt before the next one is there, over rings of capacity 1.
 #[test]
 fn deals_each_message_at_once(rt: HostRuntime) -> Result<(), Fail> {
-    let alloc = rt.alloc();
     for count in 1..9 {
         for height in 0..10 {
-            let (mut producer, input) = ring(alloc, 1)?;
-            let (outputs, mut lanes) = rings(alloc, count, 1)?;
-            let here = &rt;
-            let both = thread::join(
-                &rt,
-                move || dealt(here, alloc, input, outputs).end == StageEnd::Well,
-                move || one_by_one(alloc, &mut producer, &mut lanes, height).unwrap_or(false),
-            );
-            assert!(&rt; both.0 && both.1, "{count} lanes, height {height}");
+            let is_right = deals_at_once(&rt, rt.alloc(), count, height)?;
+            is_so(&rt, is_right, &(count, height));
         }
     }
     Ok(())
 }
 
+/// Sends so many rows, each only once the one before has come at the other end.
+fn passes_rows(alloc: Global, producer: &mut Sender, consumer: &mut Receiver, height: u16) -> bool {
+    for y in 0..height {
+        if !passes(alloc, producer, consumer, Part::Row(&[y])) {
+            return false;
+        }
+    }
+    true
+}
+
 /// Sends an image of this height, each message only once the one before it has come at the other end.
-fn passes(
+fn passes_image(
     alloc: Global,
     producer: &mut Sender,
     consumer: &mut Receiver,
     height: u16,
-) -> Result<bool, Unmade> {
+) -> bool {
     let begin = Part::Begin(Kind::Gray, 1, u32::from(height), 9);
-    let mut is_right = sends(alloc, producer, begin)? && comes(consumer, begin);
-    for y in 0..height {
-        is_right = is_right && sends(alloc, producer, Part::Row(&[y]))?;
-        is_right = is_right && comes(consumer, Part::Row(&[y]));
-    }
-    for part in [Part::ImageEnd, Part::StreamEnd] {
-        is_right = is_right && sends(alloc, producer, part)? && comes(consumer, part);
-    }
-    Ok(is_right)
+    passes(alloc, producer, consumer, begin)
+        && passes_rows(alloc, producer, consumer, height)
+        && passes(alloc, producer, consumer, Part::ImageEnd)
+        && passes(alloc, producer, consumer, Part::StreamEnd)
+}
+
+/// Whether an image of this height that is dealt to so many lanes is gathered as it was, message by message.
+fn gathers_again<R: Threads + Wait + Abort + Sync>(
+    rt: &R,
+    alloc: Global,
+    count: usize,
+    height: u16,
+) -> Result<bool, Unmade> {
+    let (mut producer, input) = ring(alloc, 1)?;
+    let (outputs, inputs) = rings(alloc, count, 1)?;
+    let (output, mut consumer) = ring(alloc, 1)?;
+    let both = thread::join(
+        rt,
+        move || dealt(rt, alloc, input, outputs).end == StageEnd::Well,
+        move || {
+            thread::join(
+                rt,
+                move || gathered(rt, inputs, output).end == StageEnd::Well,
+                move || passes_image(alloc, &mut producer, &mut consumer, height),
+            )
+        },
+    );
+    Ok(both.0 && both.1.0 && both.1.1)
 }
 
 /// 1 to 8 lanes, and heights 0 to 9: what is dealt is gathered as it was, message by message, over rings of capacity 1.
 #[test]
 fn gathers_what_is_dealt(rt: HostRuntime) -> Result<(), Fail> {
-    let alloc = rt.alloc();
     for count in 1..9 {
         for height in 0..10 {
-            let (mut producer, input) = ring(alloc, 1)?;
-            let (outputs, inputs) = rings(alloc, count, 1)?;
-            let (output, mut consumer) = ring(alloc, 1)?;
-            let here = &rt;
-            let both = thread::join(
-                &rt,
-                move || dealt(here, alloc, input, outputs).end == StageEnd::Well,
-                move || {
-                    thread::join(
-                        here,
-                        move || gathered(here, inputs, output).end == StageEnd::Well,
-                        move || passes(alloc, &mut producer, &mut consumer, height).unwrap_or(
-                            false,
-                        ),
-                    )
-                },
-            );
-            assert!(&rt; both.0 && both.1.0 && both.1.1, "{count} lanes, height {height}");
+            let is_right = gathers_again(&rt, rt.alloc(), count, height)?;
+            is_so(&rt, is_right, &(count, height));
         }
     }
     Ok(())
@@ -179,19 +229,25 @@ const INVERTED: &[Part<'static>] = &[
     Part::StreamEnd,
 ];
 
+/// The lanes were started and have ended well, have taken all, and have sent the image inverted.
+fn has_inverted(rt: &impl Abort, done: &mut Result<StageDone, NoStart>, consumer: &mut Receiver) {
+    match done {
+        Ok(done) => {
+            is_end(rt, done.end, StageEnd::Well, "an image of two rows");
+            holds(rt, &mut done.input, &[], "nothing is left");
+        }
+        Err(_) => is_so(rt, false, &"not started"),
+    }
+    holds(rt, consumer, INVERTED, "its rows inverted");
+}
+
 /// More lanes than rows, and all messages are there before: what comes of them is in their order.
 #[test]
 fn inverts_over_three_lanes(rt: HostRuntime) -> Result<(), Fail> {
     let alloc = rt.alloc();
-    let (mut producer, input) = ring(alloc, 8)?;
+    let (_producer, input) = holding(alloc, TWO_ROWS, false)?;
     let (output, mut consumer) = ring(alloc, 8)?;
-    send_all(alloc, &mut producer, TWO_ROWS)?;
-    let done = run_lanes(&rt, alloc, &Tool::Invert, 1, 3, 8, &OpenGate, input, output);
-    let Ok(mut done) = done else {
-        return Err(Fail::new("not started"));
-    };
-    is_end(&rt, done.end, StageEnd::Well, "an image of two rows");
-    holds(&rt, &mut done.input, &[], "nothing is left");
-    holds(&rt, &mut consumer, INVERTED, "its rows inverted");
+    let mut done = run_lanes(&rt, alloc, &Tool::Invert, 1, 3, 8, &OpenGate, input, output);
+    has_inverted(&rt, &mut done, &mut consumer);
     Ok(())
 }

@@ -1,35 +1,42 @@
 //! A run at the limits: the most tools over the most lanes.
 
-use super::chains::run_chain_by;
-use super::ways::Way;
+use super::chains::{Chain, outcome_of};
+use super::threads::tools_with_cut;
 use super::{IMAGE, agrees};
-use pnm_flow::{RunFault, Summary};
-use pnm_tools::Tool;
+use pnm_flow::{OpenGate, RunFault, Summary};
+use pnm_image::Device;
 use std::alloc::Global;
+use std::process::Abort;
+use std::sync::Wait;
 use std::test::Fail;
+use std::thread::Threads;
 
 /// One image of one row.
 const ONE_ROW: Summary = Summary { images: 1, rows: 1 };
-
-/// So many tools that invert.
-fn inverters(alloc: Global, count: usize) -> Result<Vec<Tool>, Fail> {
-    let mut tools = Vec::with_capacity(alloc, count)?;
-    for _ in 0..count {
-        tools.push(Tool::Invert)?;
-    }
-    Ok(tools)
-}
 
 /// The most tools over the most lanes, each in a thread of its own; where so many threads can't be started,
 /// that is answered.
 #[test]
 fn inverts_by_the_most_tools_over_lanes(rt: HostRuntime) -> Result<(), Fail> {
-    let tools = inverters(rt.alloc(), 64)?;
-    let way = Way::Threads(1, 8);
-    let (answer, written) = run_chain_by(&rt, rt.alloc(), way, tools.as_slice(), IMAGE);
-    if answer != Err(RunFault::NoStart) {
-        let want = (Ok(ONE_ROW), IMAGE);
-        agrees(&rt, (answer, written.as_slice()), want, &way);
-    }
+    let tools = tools_with_cut(rt.alloc(), 64, 64)?;
+    inverts_or_is_not_started(&rt, rt.alloc(), (tools.as_slice(), 1, 8));
     Ok(())
+}
+
+/// So does this chain of tools that invert, an even number of them.
+fn inverts_or_is_not_started<H: Threads + Wait + Abort + Sync>(
+    rt: &H,
+    alloc: Global,
+    chain: Chain<'_>,
+) {
+    let mut reader = Device::new(IMAGE);
+    let (answer, written) = outcome_of(rt, alloc, chain, &OpenGate, &mut reader);
+    if answer != Err(RunFault::NoStart) {
+        agrees(
+            rt,
+            (answer, written.as_slice()),
+            (Ok(ONE_ROW), IMAGE),
+            &chain.2,
+        );
+    }
 }

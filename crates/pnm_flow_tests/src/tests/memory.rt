@@ -1,11 +1,15 @@
 //! Want of memory. `scripts/refused.py tests` refuses each allocation of these tests in turn.
 
 use super::chains::{LAST_COLUMN, are_lawful, channel};
-use super::lanes::dealt;
-use super::rings::{IMAGE, holding, holding_written, holds, is_one_of, ring};
-use super::threads::{INVERTED, chain};
+use super::is_so;
+use super::lanes::{dealt, rings};
+use super::rings::{IMAGE, holding_written, holds, is_one_of, ring};
+use super::threads::{INVERTED, ran};
 use super::ways::{Way, run_by};
-use pnm_flow::{OpenGate, Receiver, RunFault, StageEnd, Summary, run_stage};
+use pnm_flow::{
+    ChainDone, NoStart, OpenGate, Receiver, RunFault, Sender, StageDone, StageEnd, Summary,
+    run_stage,
+};
 use pnm_image::{Device, Form, Kind};
 use pnm_read::InputFault;
 use pnm_test_support::{Part, Unmade};
@@ -57,18 +61,29 @@ fn make_short_of_memory<H: Threads + Wait + Abort + Sync>(
     tools: &[Tool],
     run: Written<'_>,
 ) -> Option<Summary> {
-    let (form, input, whole) = run;
-    assert!(rt; 1 <= tools.len() && tools.len() <= 64 && are_lawful(tools));
     let mut target = [0; 200];
-    let mut writer = Device::new(target.as_mut_slice());
-    let mut reader = Device::new(input);
-    let answer = run_by(rt, alloc, way, &mut reader, &mut writer, tools, form);
-    let rest = writer.into_inner().len();
+    let (answer, rest) = run_into(rt, alloc, way, tools, run, target.as_mut_slice());
     assert!(rt; rest <= target.len());
     let written = &target[..target.len() - rest];
-    let is_right = is_answer(answer, way, written, whole);
-    assert!(rt; is_right, "{answer:?}");
+    let is_right = is_answer(answer, way, written, run.2);
+    is_so(rt, is_right, &answer);
     answer.ok()
+}
+
+/// What a run over these tools answers that writes into the target, and how much of this is left.
+fn run_into<H: Threads + Wait + Abort + Sync>(
+    rt: &H,
+    alloc: Global,
+    way: Way,
+    tools: &[Tool],
+    run: Written<'_>,
+    target: &mut [u8],
+) -> (Result<Summary, RunFault>, usize) {
+    assert!(rt; 1 <= tools.len() && tools.len() <= 64 && are_lawful(tools));
+    let mut writer = Device::new(target);
+    let mut reader = Device::new(run.1);
+    let answer = run_by(rt, alloc, way, &mut reader, &mut writer, tools, run.0);
+    (answer, writer.into_inner().len())
 }
 
 /// Whether all is written, or want of memory alone is at fault and a prefix is: nothing where a thread isn't started.
@@ -161,22 +176,60 @@ fn writes_plain_with_memory(rt: HostRuntime) {
     }
 }
 
+/// Receives a message, if there is one; whether it is Stop, and whether it is made of this.
+fn next_is(input: &mut Receiver, part: Part<'_>) -> Option<(bool, bool)> {
+    if !input.has_message() {
+        return None;
+    }
+    let parcel = input.receive_known();
+    Some((is_one_of(&parcel, Part::Stop), is_one_of(&parcel, part)))
+}
+
 /// Whether Stop is the last that the ring holds. Before it there is a prefix of these, and after it nothing.
 fn ends_by_stop(rt: &impl Abort, input: &mut Receiver, whole: &[Part<'_>]) -> bool {
     for part in whole {
-        if !input.has_message() {
+        let Some((is_stop, is_next)) = next_is(input, *part) else {
             return false;
-        }
-        let parcel = input.receive_known();
-        if is_one_of(&parcel, Part::Stop) {
+        };
+        if is_stop {
             holds(rt, input, &[], "nothing after Stop");
             return true;
         }
-        let is_next = is_one_of(&parcel, *part);
-        assert!(rt; is_next, "a prefix of the answer");
+        is_so(rt, is_next, &"a prefix of the answer");
     }
     holds(rt, input, &[], "nothing after the answer");
     false
+}
+
+/// Whether each stage has ended well.
+fn are_well(ends: &[StageEnd]) -> bool {
+    ends.iter().all(|end| *end == StageEnd::Well)
+}
+
+/// Whether the stages of a chain have ended well. If so all of the answer was sent, and else a prefix of it and Stop.
+fn has_run_well(
+    rt: &impl Abort,
+    done: &ChainDone,
+    consumer: &mut Receiver,
+    whole: &[Part<'_>],
+) -> bool {
+    let is_well = are_well(done.ends.as_slice());
+    let is_stopped = ends_by_stop(rt, consumer, whole);
+    assert!(rt; is_stopped != is_well);
+    is_well
+}
+
+/// The ends of its rings, where a chain that wasn't started gives them back, are as they were.
+fn is_left(rt: &impl Abort, refused: &mut NoStart, consumer: &mut Receiver, whole: &[Part<'_>]) {
+    match &mut refused.ends {
+        Some((input, _output)) => {
+            holds(rt, input, IMAGE, "nothing was taken");
+            holds(rt, consumer, &[], "nothing was sent");
+        }
+        None => {
+            let _ = ends_by_stop(rt, consumer, whole);
+        }
+    }
 }
 
 /// Whether all of these tools in threads end well with an image; not where memory ran out. Whatever they do, a prefix
@@ -188,25 +241,14 @@ fn end_in_threads<R: Threads + Wait + Abort + Sync>(
     tools: &[Tool],
     whole: &[Part<'_>],
 ) -> Result<bool, Unmade> {
-    let (_producer, input) = holding(alloc, IMAGE, false)?;
-    let (output, mut consumer) = ring(alloc, 8)?;
-    match chain(rt, alloc, tools, 1, 1, &OpenGate, input, output) {
-        Ok(done) => {
-            let is_well = done.ends.iter().all(|end| *end == StageEnd::Well);
-            let is_stopped = ends_by_stop(rt, &mut consumer, whole);
-            assert!(rt; is_stopped != is_well);
-            Ok(is_well)
-        }
+    let mut ran = ran(rt, alloc, tools, 1, &OpenGate, IMAGE, false)?;
+    Ok(match &mut ran.0 {
+        Ok(done) => has_run_well(rt, done, &mut ran.2, whole),
         Err(refused) => {
-            if let Some((mut input, _output)) = refused.ends {
-                holds(rt, &mut input, IMAGE, "nothing was taken");
-                holds(rt, &mut consumer, &[], "nothing was sent");
-            } else {
-                let _ = ends_by_stop(rt, &mut consumer, whole);
-            }
-            Ok(false)
+            is_left(rt, refused, &mut ran.2, whole);
+            false
         }
-    }
+    })
 }
 
 /// Three tools, which make the image anew.
@@ -244,16 +286,29 @@ const WIDENED: &[Part<'static>] = &[
 fn takes_rows_apart<R: Wait + Abort>(rt: &R, alloc: Global) -> Result<bool, Unmade> {
     let (_producer, input) = holding_written(alloc, TOGETHER)?;
     let (output, mut consumer) = ring(alloc, 8)?;
-    let tool = Tool::Enlarge(2, 1);
-    if !tool.is_lawful() {
-        return Err(Unmade);
-    }
-    let done = run_stage(rt, alloc, &tool, 1, &OpenGate, input, output);
+    let done = widens(rt, alloc, &Tool::Enlarge(2, 1), input, output);
     let is_stopped = ends_by_stop(rt, &mut consumer, WIDENED);
-    let is_well = done.end == StageEnd::Well;
-    let is_short = done.end == StageEnd::Fault(ToolFault::Memory);
+    Ok(is_well_or_short(rt, done.end, is_stopped))
+}
+
+/// The stage of this tool, which has to be lawful.
+fn widens<R: Wait + Abort>(
+    rt: &R,
+    alloc: Global,
+    tool: &Tool,
+    input: Receiver,
+    output: Sender,
+) -> StageDone {
+    assert!(rt; tool.is_lawful());
+    run_stage(rt, alloc, tool, 1, &OpenGate, input, output)
+}
+
+/// Whether it has ended well. If not it has sent Stop, and memory ran out.
+fn is_well_or_short(rt: &impl Abort, end: StageEnd, is_stopped: bool) -> bool {
+    let is_well = end == StageEnd::Well;
+    let is_short = end == StageEnd::Fault(ToolFault::Memory);
     assert!(rt; is_well != is_stopped && is_short == is_stopped);
-    Ok(is_well)
+    is_well
 }
 
 /// Each growth of a stage that copies the rows which came together may be refused.
@@ -289,20 +344,21 @@ const SECOND_LANE: &[Part<'static>] = &[
 /// it before Stop. All that came is taken.
 fn deals_rows_apart<R: Wait + Abort>(rt: &R, alloc: Global) -> Result<bool, Unmade> {
     let (_producer, input) = holding_written(alloc, TOGETHER)?;
-    let (first, mut to_first) = ring(alloc, 8)?;
-    let (second, mut to_second) = ring(alloc, 8)?;
-    let mut outputs = Vec::new(alloc);
-    outputs.push(first)?;
-    outputs.push(second)?;
+    let (outputs, mut lanes) = rings(alloc, 2, 8)?;
     let mut done = dealt(rt, alloc, input, outputs);
     holds(rt, &mut done.input, &[], "nothing is left");
-    let is_first_stopped = ends_by_stop(rt, &mut to_first, FIRST_LANE);
-    let is_second_stopped = ends_by_stop(rt, &mut to_second, SECOND_LANE);
-    let is_well = done.end == StageEnd::Well;
-    let is_short = done.end == StageEnd::Fault(ToolFault::Memory);
-    assert!(rt; is_well != is_short);
-    assert!(rt; is_first_stopped == is_short && is_second_stopped == is_short);
-    Ok(is_well)
+    are_dealt(rt, lanes.as_mut_slice(), done.end);
+    Ok(done.end == StageEnd::Well)
+}
+
+/// The dealing has ended so, and each of two lanes holds a prefix of what is dealt to it, before Stop where it is short
+/// of memory.
+fn are_dealt(rt: &impl Abort, lanes: &mut [Receiver], end: StageEnd) {
+    for (lane, input) in lanes.iter_mut().enumerate() {
+        let whole = if lane == 0 { FIRST_LANE } else { SECOND_LANE };
+        let is_stopped = ends_by_stop(rt, input, whole);
+        let _ = is_well_or_short(rt, end, is_stopped);
+    }
 }
 
 /// Each growth of dealing that copies the heads, and the rows which came together, may be refused.

@@ -1,6 +1,7 @@
 //! Rings that hold messages, what comes out of them, and what goes to a thread over one and comes from it, by a counted
 //! number of tries.
 
+use super::is_so;
 use pnm_flow::{Parcel, Receiver, Sender, StageEnd, new_ring};
 use pnm_image::Kind;
 use pnm_test_support::{Handed, Part, Unmade, handed_of, is_made_of, message};
@@ -16,14 +17,19 @@ pub fn ring(alloc: Global, capacity: usize) -> Result<(Sender, Receiver), Unmade
     new_ring(alloc, capacity).ok_or(Unmade)
 }
 
+/// Sends this, for which there is room.
+fn send_one(alloc: Global, output: &mut Sender, part: Part<'_>) -> Result<(), Unmade> {
+    if !output.has_room() {
+        return Err(Unmade);
+    }
+    output.send_reserved(message(alloc, part)?);
+    Ok(())
+}
+
 /// Sends these, for which there is room.
 pub fn send_all(alloc: Global, output: &mut Sender, parts: &[Part<'_>]) -> Result<(), Unmade> {
     for part in parts {
-        let message = message(alloc, *part)?;
-        if !output.has_room() {
-            return Err(Unmade);
-        }
-        output.send_reserved(message);
+        send_one(alloc, output, *part)?;
     }
     Ok(())
 }
@@ -36,10 +42,15 @@ pub fn is_one_of(parcel: &Parcel, part: Part<'_>) -> bool {
     }
 }
 
+/// Receives a message, if there is one; whether there was, and it is made of this.
+fn has_next(input: &mut Receiver, part: Part<'_>) -> bool {
+    input.has_message() && is_one_of(&input.receive_known(), part)
+}
+
 /// Receives these from the ring; the index of the first one that isn't there, if any.
 pub fn first_missing(input: &mut Receiver, parts: &[Part<'_>]) -> Option<usize> {
     for (index, part) in parts.iter().enumerate() {
-        if !input.has_message() || !is_one_of(&input.receive_known(), *part) {
+        if !has_next(input, *part) {
             return Some(index);
         }
     }
@@ -63,17 +74,23 @@ pub fn holding(
 
 /// A ring of capacity 8 that holds what is written, together the rows between braces, and its sending end.
 pub fn holding_written(alloc: Global, text: &[u8]) -> Result<(Sender, Receiver), Unmade> {
-    let (mut sender, receiver) = ring(alloc, 8)?;
+    let mut ends = ring(alloc, 8)?;
     for handed in handed_of(alloc, text, true)? {
-        if !sender.has_room() {
-            return Err(Unmade);
-        }
-        match handed {
-            Handed::Message(message) => sender.send_reserved(message),
-            Handed::Rows(rows) => sender.send_rows_reserved(rows),
-        }
+        send_handed(&mut ends.0, handed)?;
     }
-    Ok((sender, receiver))
+    Ok(ends)
+}
+
+/// Sends what is handed over, for which there is room.
+fn send_handed(output: &mut Sender, handed: Handed) -> Result<(), Unmade> {
+    if !output.has_room() {
+        return Err(Unmade);
+    }
+    match handed {
+        Handed::Message(message) => output.send_reserved(message),
+        Handed::Rows(rows) => output.send_rows_reserved(rows),
+    }
+    Ok(())
 }
 
 /// An image of one row, and the end of the stream.
@@ -87,41 +104,44 @@ pub const IMAGE: &[Part<'static>] = &[
 /// Receives these from the ring, which has to hold them.
 pub fn begins_with(rt: &impl Abort, input: &mut Receiver, parts: &[Part<'_>], what: &str) {
     let missing = first_missing(input, parts);
-    assert_eq!(rt; missing, None, "{what}");
+    is_so(rt, missing.is_none(), &(missing, what));
 }
 
 /// The ring holds these, and nothing more.
 pub fn holds(rt: &impl Abort, input: &mut Receiver, parts: &[Part<'_>], what: &str) {
     begins_with(rt, input, parts, what);
     let is_empty = !input.has_message();
-    assert!(rt; is_empty, "nothing more: {what}");
+    is_so(rt, is_empty, &("nothing more", what));
 }
 
 /// A thread at a ring has ended so.
 pub fn is_end(rt: &impl Abort, end: StageEnd, want: StageEnd, what: &str) {
-    assert_eq!(rt; end, want, "{what}");
+    is_so(rt, end == want, &(end, want, what));
 }
 
-/// Sends a message to a thread that takes it, by a counted number of tries.
-pub fn sends(alloc: Global, output: &mut Sender, part: Part<'_>) -> Result<bool, Unmade> {
-    let message = message(alloc, part)?;
+/// Sends a message to a thread that takes it, by a counted number of tries; whether it could be made, and was sent.
+pub fn sends(alloc: Global, output: &mut Sender, part: Part<'_>) -> bool {
     for _ in 0..TURNS {
         if output.has_room() {
-            output.send_reserved(message);
-            return Ok(true);
+            return send_one(alloc, output, part).is_ok();
         }
         thread::yield_now();
     }
-    Ok(false)
+    false
 }
 
 /// Whether the next message that comes, by a counted number of tries, is made of this.
 pub fn comes(input: &mut Receiver, part: Part<'_>) -> bool {
     for _ in 0..TURNS {
         if input.has_message() {
-            return is_one_of(&input.receive_known(), part);
+            return has_next(input, part);
         }
         thread::yield_now();
     }
     false
+}
+
+/// Sends a message by a thread, and takes it behind it; whether it came as it was sent.
+pub fn passes(alloc: Global, output: &mut Sender, input: &mut Receiver, part: Part<'_>) -> bool {
+    sends(alloc, output, part) && comes(input, part)
 }

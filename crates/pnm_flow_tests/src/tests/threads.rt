@@ -1,6 +1,7 @@
 //! Chains of stages, each in a thread of its own.
 
 use super::chains::{FROM_SECOND, are_lawful};
+use super::is_so;
 use super::rings::{IMAGE, TURNS, begins_with, comes, holding, holds, is_end, ring, sends};
 use pnm_flow::{ChainDone, Gate, NoStart, OpenGate, Receiver, Sender, StageEnd, run_chain};
 use pnm_image::Kind;
@@ -52,8 +53,8 @@ pub fn chain<R: Threads + Wait + Abort + Sync>(
 }
 
 /// So many tools that invert, but for one that cuts, if there is one in this place.
-fn tools_with_cut(alloc: Global, count: usize, place: usize) -> Result<Vec<Tool>, Fail> {
-    let mut tools = Vec::with_capacity(alloc, count)?;
+pub fn tools_with_cut(alloc: Global, count: usize, place: usize) -> Result<Vec<Tool>, Unmade> {
+    let mut tools = Vec::new(alloc);
     for index in 0..count {
         tools.push(if index == place {
             Tool::Cut(FROM_SECOND)
@@ -73,11 +74,11 @@ struct Run<'a> {
     takes: &'a [Part<'a>],
 }
 
-/// A chain that has ended, the first end of the ring before it, and the last one of that behind it.
-type Ended = (ChainDone, Option<Sender>, Receiver);
+/// What came of a chain, the first end of the ring before it, and the last one of that behind it.
+pub type Ran = (Result<ChainDone, NoStart>, Option<Sender>, Receiver);
 
 /// The chain of these tools over rings of this capacity takes these messages. Where the input is gone no more can come.
-fn ended<R: Threads + Wait + Abort + Sync>(
+pub fn ran<R: Threads + Wait + Abort + Sync>(
     rt: &R,
     alloc: Global,
     tools: &[Tool],
@@ -85,13 +86,11 @@ fn ended<R: Threads + Wait + Abort + Sync>(
     gate: &impl Gate,
     takes: &[Part<'_>],
     is_gone: bool,
-) -> Result<Ended, Fail> {
+) -> Result<Ran, Unmade> {
     let (producer, input) = holding(alloc, takes, is_gone)?;
     let (output, consumer) = ring(alloc, 8)?;
-    match chain(rt, alloc, tools, capacity, 1, gate, input, output) {
-        Ok(done) => Ok((done, producer, consumer)),
-        Err(_) => Err(Fail::new("not started")),
-    }
+    let done = chain(rt, alloc, tools, capacity, 1, gate, input, output);
+    Ok((done, producer, consumer))
 }
 
 /// The chain runs to its end: its stages have ended so, up to one and after it, and it has sent these.
@@ -101,35 +100,42 @@ fn ends_so<R: Threads + Wait + Abort + Sync>(
     run: &Run<'_>,
     ends: (StageEnd, StageEnd, StageEnd),
     sends: &[Part<'_>],
-) -> Result<(), Fail> {
+) -> Result<(), Unmade> {
     let tools = tools_with_cut(alloc, run.count, run.cut_at)?;
     let tools = tools.as_slice();
-    let (mut done, _producer, mut consumer) = ended(
-        rt,
-        alloc,
-        tools,
-        run.capacity,
-        &OpenGate,
-        run.takes,
-        false,
-    )?;
-    have_ended(rt, &done, run, ends);
-    let what = "what the chain took and sent";
-    holds(rt, &mut done.input, &[], what);
-    holds(rt, &mut consumer, sends, what);
+    let mut ran = ran(rt, alloc, tools, run.capacity, &OpenGate, run.takes, false)?;
+    have_ended(rt, &mut ran.0, run, ends);
+    holds(rt, &mut ran.2, sends, "what the chain sent");
     Ok(())
 }
 
-/// Each stage of the run has ended so.
+/// The chain was started, has taken all, and each of its stages has ended so.
 fn have_ended(
     rt: &impl Abort,
-    done: &ChainDone,
+    done: &mut Result<ChainDone, NoStart>,
     run: &Run<'_>,
     ends: (StageEnd, StageEnd, StageEnd),
 ) {
-    let counts = done.ends.len() == run.count && done.links.len() == run.count.saturating_sub(1);
-    assert!(rt; counts);
-    for (index, end) in done.ends.iter().enumerate() {
+    match done {
+        Ok(done) => {
+            let links = done.links.len();
+            is_so(rt, links == run.count.saturating_sub(1), &"links");
+            stages_have_ended(rt, done.ends.as_slice(), run, ends);
+            holds(rt, &mut done.input, &[], "what the chain took");
+        }
+        Err(_) => is_so(rt, false, &"not started"),
+    }
+}
+
+/// Each stage of the run has ended so.
+fn stages_have_ended(
+    rt: &impl Abort,
+    stages: &[StageEnd],
+    run: &Run<'_>,
+    ends: (StageEnd, StageEnd, StageEnd),
+) {
+    is_so(rt, stages.len() == run.count, &"stages");
+    for (index, end) in stages.iter().enumerate() {
         let want = match index.cmp(&run.cut_at) {
             Ordering::Less => ends.0,
             Ordering::Equal => ends.1,
@@ -155,48 +161,77 @@ fn passes_a_stream_through_all_tools(rt: HostRuntime) -> Result<(), Fail> {
     Ok(())
 }
 
-/// The tools before the one that refuses end well, and those after it are broken off: at its first
-/// message, and at a later one.
-#[test]
-fn breaks_off_after_a_refusal(rt: HostRuntime) -> Result<(), Fail> {
+/// An image of a single column.
+const ONE_COLUMN: &[Part<'static>] = &[
+    Part::Begin(Kind::Gray, 1, 1, 122),
+    Part::Row(&[7]),
+    Part::ImageEnd,
+    Part::StreamEnd,
+];
+
+/// What comes of the second column of an image before Stop, as it was and inverted.
+const SECOND_COLUMN: &[Part<'static>] = &[
+    Part::Begin(Kind::Gray, 1, 1, 122),
+    Part::Row(&[66]),
+    Part::ImageEnd,
+    Part::Stop,
+];
+
+const SECOND_COLUMN_INVERTED: &[Part<'static>] = &[
+    Part::Begin(Kind::Gray, 1, 1, 122),
+    Part::Row(&[56]),
+    Part::ImageEnd,
+    Part::Stop,
+];
+
+/// So many tools, of which this one refuses an image of one column, are broken off by it.
+fn breaks_off<R: Threads + Wait + Abort + Sync>(
+    rt: &R,
+    alloc: Global,
+    count: usize,
+    cut_at: usize,
+) -> Result<(), Unmade> {
     let ends = (
         StageEnd::Well,
         StageEnd::Fault(ToolFault::CutOutside),
         StageEnd::Broken,
     );
-    let one_column = [
-        Part::Begin(Kind::Gray, 1, 1, 122),
-        Part::Row(&[7]),
-        Part::ImageEnd,
-        Part::StreamEnd,
-    ];
+    let capacity = 1;
+    let takes = ONE_COLUMN;
+    let run = Run {
+        count,
+        cut_at,
+        capacity,
+        takes,
+    };
+    ends_so(rt, alloc, &run, ends, &[Part::Stop])?;
+    let takes = NARROW;
+    let run = Run { takes, ..run };
+    let sends = if count % 2 == 1 {
+        SECOND_COLUMN
+    } else {
+        SECOND_COLUMN_INVERTED
+    };
+    ends_so(rt, alloc, &run, ends, sends)
+}
+
+/// The tools before the one that refuses end well, and those after it are broken off: at its first
+/// message, and at a later one.
+#[test]
+fn breaks_off_after_a_refusal(rt: HostRuntime) -> Result<(), Fail> {
     for (count, cut_at) in [(1, 0), (2, 0), (2, 1), (64, 0), (64, 31), (64, 63)] {
-        let run = Run {
-            count,
-            cut_at,
-            capacity: 1,
-            takes: &one_column,
-        };
-        ends_so(&rt, rt.alloc(), &run, ends, &[Part::Stop])?;
-        let run = Run {
-            takes: NARROW,
-            ..run
-        };
-        let row: &[u16] = if count % 2 == 1 { &[66] } else { &[56] };
-        let sends = [
-            Part::Begin(Kind::Gray, 1, 1, 122),
-            Part::Row(row),
-            Part::ImageEnd,
-            Part::Stop,
-        ];
-        ends_so(&rt, rt.alloc(), &run, ends, &sends)?;
+        breaks_off(&rt, rt.alloc(), count, cut_at)?;
     }
     Ok(())
 }
 
-/// The last tool has ended so.
-fn is_last(rt: &impl Abort, done: &ChainDone, want: StageEnd) {
-    match done.ends.last() {
+/// The chain was started, and its last tool has ended so.
+fn is_last(rt: &impl Abort, done: &Result<ChainDone, NoStart>, want: StageEnd) {
+    let end = match done {
+        Ok(done) => done.ends.last(),
+        Err(_) => None,
+    };
+    match end {
         Some(end) => is_end(rt, *end, want, "the last tool"),
         None => panic!(rt; "no end"),
     }
@@ -218,27 +253,47 @@ fn sends_stop_after<R: Threads + Wait + Abort + Sync>(
     alloc: Global,
     tools: &[Tool],
     takes: &[Part<'_>],
-) -> Result<(), Fail> {
-    let (done, _, mut consumer) = ended(rt, alloc, tools, 1, &OpenGate, takes, true)?;
-    is_last(rt, &done, StageEnd::Broken);
-    begins_with(rt, &mut consumer, takes, "what came");
-    holds(rt, &mut consumer, &[Part::Stop], "Stop at last");
+) -> Result<(), Unmade> {
+    let mut ran = ran(rt, alloc, tools, 1, &OpenGate, takes, true)?;
+    is_last(rt, &ran.0, StageEnd::Broken);
+    begins_with(rt, &mut ran.2, takes, "what came");
+    holds(rt, &mut ran.2, &[Part::Stop], "Stop at last");
     Ok(())
+}
+
+/// An end of a ring for one message whose other end is gone.
+fn unheard(alloc: Global) -> Result<Sender, Unmade> {
+    let (output, _) = ring(alloc, 1)?;
+    Ok(output)
+}
+
+/// The chain has taken all that came.
+fn has_taken_all(rt: &impl Abort, done: &mut Result<ChainDone, NoStart>) {
+    match done {
+        Ok(done) => holds(rt, &mut done.input, &[], "all is taken"),
+        Err(_) => is_so(rt, false, &"not started"),
+    }
 }
 
 /// Where nobody takes what is sent, all stages end, and all that came is taken.
 #[test]
 fn ends_where_its_output_is_gone(rt: HostRuntime) -> Result<(), Fail> {
     let tools = tools_with_cut(rt.alloc(), 64, 64)?;
-    let (_producer, input) = holding(rt.alloc(), IMAGE, false)?;
-    let (output, consumer) = ring(rt.alloc(), 1)?;
-    drop(consumer);
-    let done = chain(&rt, rt.alloc(), &tools, 1, 1, &OpenGate, input, output);
-    let Ok(mut done) = done else {
-        return Err(Fail::new("not started"));
-    };
-    is_last(&rt, &done, StageEnd::PeerGone);
-    holds(&rt, &mut done.input, &[], "all is taken");
+    goes_unheard(&rt, rt.alloc(), tools.as_slice())?;
+    Ok(())
+}
+
+/// So do these tools, and the last one sees that the other end of its ring is gone.
+fn goes_unheard<R: Threads + Wait + Abort + Sync>(
+    rt: &R,
+    alloc: Global,
+    tools: &[Tool],
+) -> Result<(), Unmade> {
+    let (_producer, input) = holding(alloc, IMAGE, false)?;
+    let output = unheard(alloc)?;
+    let mut done = chain(rt, alloc, tools, 1, 1, &OpenGate, input, output);
+    is_last(rt, &done, StageEnd::PeerGone);
+    has_taken_all(rt, &mut done);
     Ok(())
 }
 
@@ -297,12 +352,12 @@ impl Gate for BothLanes {
 
 /// Both have come, each once, and neither waited in vain.
 pub fn has_met(rt: &impl Abort, both: &Both) {
-    let (first, second) = (both.first.load(SeqCst), both.second.load(SeqCst));
-    let missed = both.missed.load(SeqCst);
-    assert!(rt;
-        first == 1 && second == 1 && missed == 0,
-        "{first} {second} {missed}"
-    );
+    let counts = [
+        both.first.load(SeqCst),
+        both.second.load(SeqCst),
+        both.missed.load(SeqCst),
+    ];
+    is_so(rt, counts == [1, 1, 0], &counts);
 }
 
 /// Each of two tools waits at the gate for the other, and both pass it once.
@@ -310,9 +365,21 @@ pub fn has_met(rt: &impl Abort, both: &Both) {
 fn gives_each_tool_a_thread(rt: HostRuntime) -> Result<(), Fail> {
     let both = Both::new();
     let tools = tools_with_cut(rt.alloc(), 2, 2)?;
-    let (_, _, mut consumer) = ended(&rt, rt.alloc(), tools.as_slice(), 1, &both, IMAGE, false)?;
+    meets_in_chain(&rt, rt.alloc(), tools.as_slice(), &both)?;
     has_met(&rt, &both);
-    holds(&rt, &mut consumer, IMAGE, "inverted twice");
+    Ok(())
+}
+
+/// So do these tools, and what they send is the image inverted twice.
+fn meets_in_chain<R: Threads + Wait + Abort + Sync>(
+    rt: &R,
+    alloc: Global,
+    tools: &[Tool],
+    both: &Both,
+) -> Result<(), Unmade> {
+    let mut ran = ran(rt, alloc, tools, 1, both, IMAGE, false)?;
+    is_so(rt, ran.0.is_ok(), &"started");
+    holds(rt, &mut ran.2, IMAGE, "inverted twice");
     Ok(())
 }
 
@@ -344,23 +411,32 @@ const DOUBLED: &[Step<'static>] = &[
     (Part::StreamEnd, &[Part::StreamEnd]),
 ];
 
+/// Sends a message, and takes all that comes of it; whether it all came.
+fn gives(alloc: Global, producer: &mut Sender, consumer: &mut Receiver, step: &Step<'_>) -> bool {
+    if !sends(alloc, producer, step.0) {
+        return false;
+    }
+    for answer in step.1 {
+        if !comes(consumer, *answer) {
+            return false;
+        }
+    }
+    true
+}
+
 /// Sends each message only once all that comes of the one before was taken; whether it all came.
 fn one_by_one(
     alloc: Global,
     producer: &mut Sender,
     consumer: &mut Receiver,
     steps: &[Step<'_>],
-) -> Result<bool, Unmade> {
-    for (part, answers) in steps {
-        let mut is_right = sends(alloc, producer, *part)?;
-        for answer in *answers {
-            is_right = is_right && comes(consumer, *answer);
-        }
-        if !is_right {
-            return Ok(false);
+) -> bool {
+    for step in steps {
+        if !gives(alloc, producer, consumer, step) {
+            return false;
         }
     }
-    Ok(true)
+    true
 }
 
 /// What comes of each message passes through two tools before the next one is there, over rings of capacity 1, and over
@@ -368,28 +444,32 @@ fn one_by_one(
 #[test]
 fn passes_each_message_on_at_once(rt: HostRuntime) -> Result<(), Fail> {
     for lanes in [1, 2] {
-        passes_on(&rt, rt.alloc(), &[Tool::Invert, Tool::Invert], lanes, TWICE)?;
-        let doubling = [Tool::Enlarge(2, 2), Tool::Invert];
-        passes_on(&rt, rt.alloc(), &doubling, lanes, DOUBLED)?;
+        let is_right = passes_on(&rt, rt.alloc(), &INVERTING, lanes, TWICE)?;
+        is_so(&rt, is_right, &lanes);
+        let is_right = passes_on(&rt, rt.alloc(), &DOUBLING, lanes, DOUBLED)?;
+        is_so(&rt, is_right, &lanes);
     }
     Ok(())
 }
 
-/// So do these messages through these tools.
+const INVERTING: [Tool; 2] = [Tool::Invert, Tool::Invert];
+
+const DOUBLING: [Tool; 2] = [Tool::Enlarge(2, 2), Tool::Invert];
+
+/// Whether these messages pass so through these tools.
 fn passes_on<R: Threads + Wait + Abort + Sync>(
     rt: &R,
     alloc: Global,
     tools: &[Tool],
     lanes: usize,
     steps: &[Step<'_>],
-) -> Result<(), Fail> {
+) -> Result<bool, Unmade> {
     let (mut producer, input) = ring(alloc, 1)?;
     let (output, mut consumer) = ring(alloc, 1)?;
     let both = thread::join(
         rt,
         move || chain(rt, alloc, tools, 1, lanes, &OpenGate, input, output).is_ok(),
-        move || { one_by_one(alloc, &mut producer, &mut consumer, steps).unwrap_or(false) },
+        move || one_by_one(alloc, &mut producer, &mut consumer, steps),
     );
-    assert!(rt; both.0 && both.1, "{lanes} lanes");
-    Ok(())
+    Ok(both.0 && both.1)
 }

@@ -10,6 +10,18 @@ use std::sync::Wait;
 use std::test::Fail;
 use std::thread::Threads;
 
+/// The status of the program with these words over these devices, and the line that it prints.
+fn answer_of<H: AllocGlobal + Threads + Wait + Sync, R: BytesIn, W: BytesOut>(
+    rt: &H,
+    words: &[String],
+    input: &mut R,
+    output: &mut W,
+) -> (u8, Vec<u8>) {
+    let mut errors = Vec::new(rt.alloc());
+    let status = command(rt, &OverThreads, words, input, output, &mut errors);
+    (status, errors)
+}
+
 /// Whether the program ends well with these words over these devices, and prints nothing.
 fn ends_well<H: AllocGlobal + Threads + Wait + Sync, R: BytesIn, W: BytesOut>(
     rt: &H,
@@ -18,16 +30,19 @@ fn ends_well<H: AllocGlobal + Threads + Wait + Sync, R: BytesIn, W: BytesOut>(
     output: &mut W,
 ) -> Result<bool, AllocError> {
     let words = words_of(rt.alloc(), texts)?;
-    let mut errors = Vec::new(rt.alloc());
-    let status = command(
-        rt,
-        &OverThreads,
-        words.as_slice(),
-        input,
-        output,
-        &mut errors,
-    );
+    let (status, errors) = answer_of(rt, words.as_slice(), input, output);
     Ok(status == 0 && errors.is_empty())
+}
+
+/// Without words the program is refused, and says how it is used.
+fn is_refused<H: AllocGlobal + Threads + Wait + Sync, R: BytesIn, W: BytesOut>(
+    rt: &H,
+    input: &mut R,
+    output: &mut W,
+) -> bool {
+    let (status, errors) = answer_of(rt, &[], input, output);
+    let usage = b"pnmpipe: usage: pnmpipe [--ring N] [--lanes K] [--plain] CHAIN\n".as_slice();
+    status == 2 && errors.as_slice() == usage
 }
 
 /// No words at all, not even the program's name, are no command line: nothing is read or written.
@@ -35,23 +50,31 @@ fn ends_well<H: AllocGlobal + Threads + Wait + Sync, R: BytesIn, W: BytesOut>(
 fn refuses_no_words(rt: HostRuntime) {
     let mut input = Device::new(IMAGE);
     let mut output = Device::new(Vec::new(rt.alloc()));
-    let mut errors = Vec::new(rt.alloc());
-    let status = command(&rt, &OverThreads, &[], &mut input, &mut output, &mut errors);
-    let usage = b"pnmpipe: usage: pnmpipe [--ring N] [--lanes K] [--plain] CHAIN\n".as_slice();
-    assert!(&rt; status == 2 && errors.as_slice() == usage);
-    assert!(&rt; input.into_inner() == IMAGE && output.into_inner().is_empty());
+    let is_refused = is_refused(&rt, &mut input, &mut output);
+    assert!(&rt; is_refused);
+    let is_untouched = input.into_inner() == IMAGE && output.into_inner().is_empty();
+    assert!(&rt; is_untouched);
+}
+
+/// Whether a call for help ends well over this output, and a run after it.
+fn helps_and_runs<H: AllocGlobal + Threads + Wait + Sync, W: BytesOut>(
+    rt: &H,
+    output: &mut W,
+) -> Result<bool, AllocError> {
+    let mut input = Device::new(IMAGE);
+    let helps = ends_well(rt, &["pnmpipe", "--help"], &mut input, output)?;
+    let runs = ends_well(rt, &["pnmpipe", "pnminvert"], &mut input, output)?;
+    Ok(helps && runs)
 }
 
 /// After a call for help the output still takes a run.
 #[test]
 fn helps_between_runs(rt: HostRuntime) -> Result<(), Fail> {
-    let mut input = Device::new(IMAGE);
     let mut output = Device::new(Vec::new(rt.alloc()));
-    let helps = ends_well(&rt, &["pnmpipe", "--help"], &mut input, &mut output)?;
-    let runs = ends_well(&rt, &["pnmpipe", "pnminvert"], &mut input, &mut output)?;
+    let are_well = helps_and_runs(&rt, &mut output)?;
     let written = output.into_inner();
     let written = written.as_slice();
     let is_whole = written.starts_with(HELP.as_bytes()) && written.ends_with(INVERTED);
-    assert!(&rt; helps && runs && is_whole);
+    assert!(&rt; are_well && is_whole);
     Ok(())
 }

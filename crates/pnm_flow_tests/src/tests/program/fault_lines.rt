@@ -1,5 +1,6 @@
 //! The lines that are printed for faults.
 
+use super::super::is_so;
 use pnm_chain::{ChainFault, ChainKind};
 use pnm_command_line::{print_chain_fault, print_run_fault, print_want_of_memory};
 use pnm_flow::RunFault;
@@ -10,39 +11,46 @@ use std::process::Abort;
 
 /// What is printed is this line.
 fn is_line(rt: &impl Abort, printed: &[u8], want: &str) {
-    let is_so = printed == want.as_bytes();
-    assert!(rt; is_so, "{want}");
+    let is_right = printed == want.as_bytes();
+    is_so(rt, is_right, &want);
 }
+
+/// Faults of a chain's text, and the line that each is printed as.
+const CHAIN_FAULTS: &[(usize, ChainKind, &str)] = &[
+    (0, ChainKind::Memory, "pnmpipe: chain: Memory\n"),
+    (
+        1,
+        ChainKind::UnknownTool,
+        "pnmpipe: chain: stage 1: UnknownTool\n",
+    ),
+    (
+        64,
+        ChainKind::UnknownTool,
+        "pnmpipe: chain: stage 64: UnknownTool\n",
+    ),
+    (
+        usize::MAX,
+        ChainKind::UnknownTool,
+        "pnmpipe: chain: stage 18446744073709551615: UnknownTool\n",
+    ),
+];
 
 /// A fault of a chain's text has the number of its stage, where it has one.
 #[test]
 fn names_stages(rt: HostRuntime) {
-    for (stage, kind, want) in [
-        (0, ChainKind::Memory, "pnmpipe: chain: Memory\n"),
-        (
-            1,
-            ChainKind::UnknownTool,
-            "pnmpipe: chain: stage 1: UnknownTool\n",
-        ),
-        (
-            64,
-            ChainKind::UnknownTool,
-            "pnmpipe: chain: stage 64: UnknownTool\n",
-        ),
-        (
-            usize::MAX,
-            ChainKind::UnknownTool,
-            "pnmpipe: chain: stage 18446744073709551615: UnknownTool\n",
-        ),
-    ] {
+    for (stage, kind, want) in CHAIN_FAULTS {
         let mut errors = Vec::new(rt.alloc());
-        print_chain_fault(&mut errors, ChainFault { stage, kind });
+        let fault = ChainFault {
+            stage: *stage,
+            kind: *kind,
+        };
+        print_chain_fault(&mut errors, fault);
         is_line(&rt, errors.as_slice(), want);
     }
 }
 
 /// Faults of a run, and the line that each is printed as.
-const FAULTS: [(RunFault, &str); 10] = [
+const FAULTS: &[(RunFault, &str)] = &[
     (
         RunFault::Tool(1, ToolFault::CutOutside),
         "pnmpipe: tool 1: CutOutside\n",
@@ -84,7 +92,7 @@ const FAULTS: [(RunFault, &str); 10] = [
 fn names_tools(rt: HostRuntime) {
     for (fault, want) in FAULTS {
         let mut errors = Vec::new(rt.alloc());
-        print_run_fault(&mut errors, fault);
+        print_run_fault(&mut errors, *fault);
         is_line(&rt, errors.as_slice(), want);
     }
 }

@@ -1,7 +1,7 @@
 //! Want of memory in the program. `scripts/refused.py tests` refuses each allocation of these
 //! tests in turn.
 
-use super::super::IMAGE;
+use super::super::{IMAGE, is_so};
 use super::help::HELP;
 use super::{INVERTED, OverThreads, words_of};
 use pnm_command_line::command;
@@ -38,15 +38,39 @@ fn status<H: Abort + AllocGlobal + Threads + Wait + Sync>(
     texts: &[&str],
     whole: &[u8],
 ) -> Option<u8> {
-    let Ok(words) = words_of(rt.alloc(), texts) else {
-        return None;
-    };
+    match words_of(rt.alloc(), texts) {
+        Ok(words) => Some(status_of(rt, words.as_slice(), whole)),
+        Err(_) => None,
+    }
+}
+
+/// The program's status with these words, which is so answered.
+fn status_of<H: Abort + AllocGlobal + Threads + Wait + Sync>(
+    rt: &H,
+    words: &[String],
+    whole: &[u8],
+) -> u8 {
     let mut buffer = [0; 2000];
     let mut line = [0; 100];
-    let mut output = Device::new(buffer.as_mut_slice());
-    let mut errors = line.as_mut_slice();
+    let (status, left, unused) = run_into(rt, words, buffer.as_mut_slice(), line.as_mut_slice());
+    assert!(rt; left <= buffer.len() && unused <= line.len());
+    let written = &buffer[..buffer.len() - left];
+    let printed = &line[..line.len() - unused];
+    let is_right = is_answer(status, written, printed, whole);
+    is_so(rt, is_right, &status);
+    status
+}
+
+/// The program's status with these words, and how much is left of the room for its output and for its line.
+fn run_into<H: AllocGlobal + Threads + Wait + Sync>(
+    rt: &H,
+    words: &[String],
+    buffer: &mut [u8],
+    line: &mut [u8],
+) -> (u8, usize, usize) {
+    let mut output = Device::new(buffer);
+    let mut errors = line;
     let mut input = Device::new(IMAGE);
-    let words = words.as_slice();
     let status = command(
         rt,
         &OverThreads,
@@ -55,13 +79,7 @@ fn status<H: Abort + AllocGlobal + Threads + Wait + Sync>(
         &mut output,
         &mut errors,
     );
-    let (left, unused) = (output.into_inner().len(), errors.len());
-    assert!(rt; left <= buffer.len() && unused <= line.len());
-    let written = &buffer[..buffer.len() - left];
-    let printed = &line[..line.len() - unused];
-    let is_right = is_answer(status, written, printed, whole);
-    assert!(rt; is_right, "status {status}");
-    Some(status)
+    (status, output.into_inner().len(), errors.len())
 }
 
 /// Each growth of a call for help may be refused.
@@ -74,7 +92,7 @@ fn answers_want_of_memory_for_help(rt: HostRuntime) {
 #[test]
 fn helps_with_memory(rt: HostRuntime) {
     let status = status(&rt, ["pnmpipe", "--help"].as_slice(), HELP.as_bytes());
-    assert_eq!(rt; status, Some(0));
+    is_so(&rt, status == Some(0), &status);
 }
 
 /// Each growth of a run may be refused.
@@ -89,5 +107,5 @@ fn answers_want_of_memory_for_a_run(rt: HostRuntime) {
 fn runs_with_memory(rt: HostRuntime) {
     let texts = ["pnmpipe", "--ring", "7", "pnminvert"];
     let status = status(&rt, texts.as_slice(), INVERTED);
-    assert_eq!(rt; status, Some(0));
+    is_so(&rt, status == Some(0), &status);
 }
