@@ -20,6 +20,10 @@ const NINE_ROWS: &[u8] = b"P5\n1 9\n9\n\x01\x02\x03\x04\x05\x06\x07\x08\x09";
 
 const NINE_ROWS_INVERTED: &[u8] = b"P5\n1 9\n9\n\x08\x07\x06\x05\x04\x03\x02\x01\x00";
 
+const INVERT: [Tool; 1] = [Tool::Invert];
+
+const INVERT_THRICE: [Tool; 3] = [Tool::Invert, Tool::Invert, Tool::Invert];
+
 /// What a run has read so far, who has come to its gate, and whether that was waited for in vain or too long.
 #[derive(Drop)]
 struct Seen {
@@ -155,12 +159,11 @@ fn has_come(rt: &impl Abort, seen: &Seen, came: [u64; 5]) {
 /// one.
 #[test]
 fn each_stage_comes_before_it_takes(rt: HostRuntime) {
-    let tools = [Tool::Invert, Tool::Invert, Tool::Invert];
     for (stage, most) in [(1, 9), (2, 11), (3, 13)] {
         comes_before_it_takes(
             &rt,
             rt.alloc(),
-            &tools,
+            &INVERT_THRICE,
             1,
             (stage, 0),
             most,
@@ -175,6 +178,6 @@ fn each_stage_comes_before_it_takes(rt: HostRuntime) {
 fn each_lane_comes_before_it_takes(rt: HostRuntime) {
     for (lane, most) in [(0, 11), (1, 12)] {
         let came = [1, 0, 0, 1, 0];
-        comes_before_it_takes(&rt, rt.alloc(), &[Tool::Invert], 2, (1, lane), most, came);
+        comes_before_it_takes(&rt, rt.alloc(), &INVERT, 2, (1, lane), most, came);
     }
 }

@@ -1,7 +1,7 @@
 //! Chains of several tools, and runs over them.
 
-ghost use Rattle.std.specs.Prelude.{IsTrue};
-ghost use Rattle.pnm_tools.specs.Chains.{AreLawfulTools};
+ghost use Rattle.std.specs.Prelude.{◌≤◌, IsTrue};
+ghost use Rattle.pnm_tools.specs.Chains.{AreLawfulTools, IsChain};
 
 use pnm_flow::{Gate, RunFault, Summary, run};
 use pnm_image::{BytesIn, BytesOut, Device, Form};
@@ -14,32 +14,25 @@ use std::thread::Threads;
 /// Tools, how many messages a ring between them holds, and over how many lanes they are.
 pub type Chain<'a> = (&'a [Tool], usize, usize);
 
-/// The run of this chain at the gate, in raw form.
+/// The run of this chain at the gate that writes in this form.
 pub fn run_at<H: Threads + Wait + Abort + Sync, R: BytesIn, W: BytesOut>(
     rt: &H,
     alloc: Global,
     chain: Chain<'_>,
+    form: Form,
     gate: &impl Gate,
     reader: &mut R,
     writer: &mut W,
 ) -> Result<Summary, RunFault> {
     let (tools, capacity, lanes) = chain;
-    assert!(rt; 1 <= tools.len() && tools.len() <= 64 && are_lawful(tools));
-    assert!(rt; 1 <= capacity && capacity <= 1_024 && 1 <= lanes && lanes <= 8);
+    assert!(rt; is_chain(tools));
+    assert!(rt; are_limits(capacity, lanes));
     run(
-        rt,
-        alloc,
-        reader,
-        writer,
-        tools,
-        Form::Raw,
-        capacity,
-        lanes,
-        gate,
+        rt, alloc, reader, writer, tools, form, capacity, lanes, gate,
     )
 }
 
-/// What the run of this chain at the gate answers, and what it writes.
+/// What the run of this chain at the gate answers, and what it writes in raw form.
 pub fn outcome_of<H: Threads + Wait + Abort + Sync, R: BytesIn>(
     rt: &H,
     alloc: Global,
@@ -48,12 +41,27 @@ pub fn outcome_of<H: Threads + Wait + Abort + Sync, R: BytesIn>(
     reader: &mut R,
 ) -> (Result<Summary, RunFault>, Vec<u8>) {
     let mut writer = Device::new(Vec::new(alloc));
-    let answer = run_at(rt, alloc, chain, gate, reader, &mut writer);
+    let answer = run_at(rt, alloc, chain, Form::Raw, gate, reader, &mut writer);
     (answer, writer.into_inner())
 }
 
+/// Whether these are as many tools as a chain may have, each lawful.
+pub fn is_chain(tools: &[Tool]) -> bool
+    ensures { IsTrue result → IsChain tools.now }
+{
+    1 <= tools.len() && tools.len() <= 64 && are_lawful(tools)
+}
+
+/// Whether a ring may be for so many messages, and a tool over so many lanes.
+pub fn are_limits(capacity: usize, lanes: usize) -> bool
+    ensures capacity { IsTrue result → (1 ≤ capacity) × (capacity ≤ 1024) }
+    ensures lanes { IsTrue result → (1 ≤ lanes) × (lanes ≤ 8) }
+{
+    1 <= capacity && capacity <= 1_024 && 1 <= lanes && lanes <= 8
+}
+
 /// Whether each tool's options are in their ranges.
-pub fn are_lawful(tools: &[Tool]) -> bool
+fn are_lawful(tools: &[Tool]) -> bool
     ensures { IsTrue result → AreLawfulTools tools.now }
 {
     match tools {

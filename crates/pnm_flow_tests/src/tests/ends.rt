@@ -1,14 +1,14 @@
 //! The two ends of a ring, without a stage between.
 
 use super::is_so;
-use super::rings::{holds, is_one_of, ring, send_all};
+use super::rings::{holds, is_one_of, send_all};
+use pnm_flow::new_ring;
 use pnm_image::{Kind, Message, SampleVec, Samples};
 use pnm_stages::{Backoff, Parcel, Receiver, Sender};
-use pnm_test_support::{Part, Unmade, message};
-use std::alloc::{AllocError, Global};
+use pnm_test_support::{Part, message};
+use std::alloc::Global;
 use std::process::Abort;
 use std::sync::Wait;
-use std::test::Fail;
 
 const PARTS: &[Part<'static>] = &[
     Part::Begin(Kind::Gray, 2, 1, 9),
@@ -19,32 +19,22 @@ const PARTS: &[Part<'static>] = &[
 
 /// What was sent is received in order, one by one and as many at a time as there is room for, and no more.
 #[test]
-fn passes_messages_in_order(rt: HostRuntime) -> Result<(), Fail> {
-    for capacity in [1, 3, 4] {
-        let (mut sender, mut receiver) = ring(rt.alloc(), capacity)?;
-        let most = &PARTS[..capacity];
-        passes_in_order(&rt, rt.alloc(), &mut sender, &mut receiver, most)?;
+fn passes_messages_in_order(rt: HostRuntime) {
+    for most in [&PARTS[..1], &PARTS[..3], &PARTS[..4]] {
+        passes_in_order(&rt, rt.alloc(), most);
     }
-    Ok(())
 }
 
 /// So it is over a ring that has room for so many.
-fn passes_in_order(
-    rt: &impl Abort,
-    alloc: Global,
-    sender: &mut Sender,
-    receiver: &mut Receiver,
-    most: &[Part<'_>],
-) -> Result<(), Unmade> {
+fn passes_in_order(rt: &impl Abort, alloc: Global, most: &[Part<'_>]) {
+    let (mut sender, mut receiver) = new_ring(alloc, most.len()).expect(rt, "a ring");
     for part in PARTS {
-        send_all(alloc, sender, &[*part])?;
-        holds(rt, receiver, &[*part], "one by one");
+        is_so(rt, send_all(alloc, &mut sender, &[*part]), &"sent");
+        holds(rt, &mut receiver, &[*part], "one by one");
     }
-    send_all(alloc, sender, most)?;
-    let has_room = sender.has_room();
-    is_so(rt, !has_room, &most.len());
-    holds(rt, receiver, most, "all at once");
-    Ok(())
+    is_so(rt, send_all(alloc, &mut sender, most), &"sent");
+    is_so(rt, !sender.has_room(), &most.len());
+    holds(rt, &mut receiver, most, "all at once");
 }
 
 /// Whether the parcel is a message that is made of this, or there is none.
@@ -67,71 +57,52 @@ fn receives(
     is_so(rt, is_right, &part);
 }
 
-/// The receiving end of a ring for so many messages that holds these, and whose sending end went.
-fn left_behind(alloc: Global, capacity: usize, parts: &[Part<'_>]) -> Result<Receiver, Unmade> {
-    let mut ends = ring(alloc, capacity)?;
-    send_all(alloc, &mut ends.0, parts)?;
-    Ok(ends.1)
+/// A ring for so many messages that holds these.
+fn ring_of(
+    rt: &impl Abort,
+    alloc: Global,
+    capacity: usize,
+    parts: &[Part<'_>],
+) -> (Sender, Receiver) {
+    let mut ends = new_ring(alloc, capacity).expect(rt, "a ring");
+    is_so(rt, send_all(alloc, &mut ends.0, parts), &"sent");
+    ends
 }
 
 /// What was sent before the sending end went is still there.
 #[test]
-fn gives_all_that_was_sent_before_the_end_went(rt: HostRuntime) -> Result<(), Fail> {
-    let mut receiver = left_behind(rt.alloc(), 4, &PARTS[..2])?;
+fn gives_all_that_was_sent_before_the_end_went(rt: HostRuntime) {
+    let (sender, mut receiver) = ring_of(&rt, rt.alloc(), 4, &PARTS[..2]);
+    drop(sender);
     let backoff = &mut Backoff::new();
     for part in [Some(PARTS[0]), Some(PARTS[1]), None] {
         receives(&rt, &mut receiver, backoff, part);
     }
-    Ok(())
-}
-
-/// The sending end of a ring for so many messages that holds these, and whose receiving end went.
-fn left_alone(alloc: Global, capacity: usize, parts: &[Part<'_>]) -> Result<Sender, Unmade> {
-    let mut ends = ring(alloc, capacity)?;
-    send_all(alloc, &mut ends.0, parts)?;
-    Ok(ends.0)
 }
 
 /// A full ring whose receiving end went takes nothing more.
 #[test]
-fn sends_nothing_where_nobody_receives(rt: HostRuntime) -> Result<(), Fail> {
-    let mut sender = left_alone(rt.alloc(), 1, &PARTS[..1])?;
-    let is_sent = takes(&rt, rt.alloc(), &mut sender, PARTS[1])?;
+fn sends_nothing_where_nobody_receives(rt: HostRuntime) {
+    let (mut sender, receiver) = ring_of(&rt, rt.alloc(), 1, &PARTS[..1]);
+    drop(receiver);
+    let message = message(rt.alloc(), PARTS[1]).expect(&rt, "a message");
+    let is_sent = sender.send(&rt, message, &mut Backoff::new());
     assert!(rt; !is_sent);
-    Ok(())
-}
-
-/// Whether the ring takes a message that is made of this.
-fn takes(
-    rt: &impl Wait,
-    alloc: Global,
-    sender: &mut Sender,
-    part: Part<'_>,
-) -> Result<bool, Unmade> {
-    let message = message(alloc, part)?;
-    Ok(sender.send(rt, message, &mut Backoff::new()))
-}
-
-/// Sends a row of so many bytes, where there is room for it; whether there is.
-fn sends_row(alloc: Global, sender: &mut Sender, bytes: usize) -> Result<bool, AllocError> {
-    if !sender.has_room() {
-        return Ok(false);
-    }
-    let row = SampleVec::Bytes(Vec::from_elem(alloc, 0, bytes)?);
-    sender.send_reserved(Message::Row(Samples::from_vec(row)));
-    Ok(true)
 }
 
 /// How many rows of so many bytes an empty ring has room for, up to nine. They are sent and dropped.
 fn count_rows(
+    rt: &impl Abort,
     alloc: Global,
     sender: &mut Sender,
     receiver: &mut Receiver,
     bytes: usize,
-) -> Result<u32, AllocError> {
+) -> u32 {
     let mut count = 0_u32;
     for _ in 0..9 {
-        if sends_row(alloc, sender, bytes)? {
+        if sender.has_room() {
+            let row = Vec::from_elem(alloc, 0, bytes).expect(rt, "a row");
+            sender.send_reserved(Message::Row(Samples::from_vec(SampleVec::Bytes(row))));
             count = count.saturating_add(1);
         }
     }
@@ -140,7 +111,7 @@ fn count_rows(
             drop(receiver.receive_known());
         }
     }
-    Ok(count)
+    count
 }
 
 /// Sizes of rows, and how many of them a ring of capacity 8 has room for.
@@ -155,22 +126,10 @@ const ROOMS: &[(usize, u32)] = &[
 
 /// Of rows of more than 16,384 bytes no more than come to so many a place of the ring, and two at least.
 #[test]
-fn leaves_room_beside_wide_rows(rt: HostRuntime) -> Result<(), Fail> {
-    let mut ends = ring(rt.alloc(), 8)?;
-    leaves_room(&rt, rt.alloc(), &mut ends.0, &mut ends.1)?;
-    Ok(())
-}
-
-/// So it is over this ring.
-fn leaves_room(
-    rt: &impl Abort,
-    alloc: Global,
-    sender: &mut Sender,
-    receiver: &mut Receiver,
-) -> Result<(), AllocError> {
+fn leaves_room_beside_wide_rows(rt: HostRuntime) {
+    let (mut sender, mut receiver) = new_ring(rt.alloc(), 8).expect(&rt, "a ring");
     for (bytes, most) in ROOMS {
-        let count = count_rows(alloc, sender, receiver, *bytes)?;
-        is_so(rt, count == *most, &(*bytes, count));
+        let count = count_rows(&rt, rt.alloc(), &mut sender, &mut receiver, *bytes);
+        is_so(&rt, count == *most, &(*bytes, count));
     }
-    Ok(())
 }

@@ -5,7 +5,7 @@ use super::rings::TURNS;
 use super::threads::{Both, BothLanes, has_met};
 use super::{agrees, is_so};
 use pnm_flow::{Gate, OpenGate, RunFault, Summary};
-use pnm_image::{BytesOut, Device};
+use pnm_image::{BytesOut, Device, Form};
 use pnm_tools::Tool;
 use std::alloc::Global;
 use std::io::{Read, Write};
@@ -20,6 +20,8 @@ use std::{io, thread};
 const SAMPLE: &[u8] = b"P5\n1 1\n9\n\x07";
 
 const TOOLS: [Tool; 2] = [Tool::Enlarge(2, 2), Tool::Invert];
+
+const INVERT: [Tool; 1] = [Tool::Invert];
 
 const MADE: &[u8] = b"P5\n2 2\n9\n\x02\x02\x02\x02";
 
@@ -63,7 +65,7 @@ fn gives_each_tool_of_a_run_a_thread(rt: HostRuntime) {
 #[test]
 fn gives_each_lane_of_a_run_a_thread(rt: HostRuntime) {
     let lanes = BothLanes(Both::new());
-    let held: HeldRun<'_> = (&[Tool::Invert], 2, TWO_ROWS, TWO_ROWS_INVERTED);
+    let held: HeldRun<'_> = (&INVERT, 2, TWO_ROWS, TWO_ROWS_INVERTED);
     meets(&rt, rt.alloc(), held, &lanes);
     has_met(&rt, &lanes.0);
 }
@@ -173,7 +175,8 @@ fn run_held<R: Threads + Wait + Abort + Sync, W: BytesOut>(
 ) -> Result<Summary, RunFault> {
     let mut reader = Device::new(SeenReader(held.2, seen));
     let gate = HoldsFirst(seen);
-    run_at(rt, alloc, (held.0, 1, held.1), &gate, &mut reader, writer)
+    let chain = (held.0, 1, held.1);
+    run_at(rt, alloc, chain, Form::Raw, &gate, &mut reader, writer)
 }
 
 /// The gate has held once, not in vain, and nothing was written by then.
@@ -193,7 +196,7 @@ fn reads_and_writes_beside_the_tools(rt: HostRuntime) {
 
 #[test]
 fn reads_and_writes_beside_the_lanes(rt: HostRuntime) {
-    let held: HeldRun<'_> = (&[Tool::Invert], 2, TWO_ROWS, TWO_ROWS_INVERTED);
+    let held: HeldRun<'_> = (&INVERT, 2, TWO_ROWS, TWO_ROWS_INVERTED);
     reads_and_writes(&rt, rt.alloc(), held);
 }
 
@@ -259,7 +262,7 @@ fn run_images<R: Threads + Wait + Abort + Sync, W: BytesOut>(
         given: 0,
         seen,
     });
-    run_at(rt, alloc, chain, &OpenGate, &mut reader, writer)
+    run_at(rt, alloc, chain, Form::Raw, &OpenGate, &mut reader, writer)
 }
 
 /// Whether this many images and rows were passed.

@@ -1,18 +1,17 @@
 //! Lanes: what is dealt to them, what is gathered from them, and a tool over them.
 
 use super::is_so;
-use super::rings::{comes, holding, holds, is_end, passes, ring, sends};
+use super::rings::{comes, holding, holds, is_end, passes, sends};
 use pnm_flow::{
     DealDone, GatherDone, NoStart, OpenGate, Receiver, Sender, StageDone, StageEnd, deal, gather,
-    run_lanes,
+    new_ring, run_lanes,
 };
 use pnm_image::Kind;
-use pnm_test_support::{Part, Unmade};
+use pnm_test_support::Part;
 use pnm_tools::Tool;
 use std::alloc::Global;
 use std::process::Abort;
 use std::sync::Wait;
-use std::test::Fail;
 use std::thread;
 use std::thread::Threads;
 
@@ -33,30 +32,27 @@ fn gathered(rt: &(impl Wait + Abort), inputs: Vec<Receiver>, output: Sender) -> 
     gather(rt, inputs, output)
 }
 
-/// So many rings of this capacity.
-pub fn rings(
-    alloc: Global,
-    count: usize,
-    capacity: usize,
-) -> Result<(Vec<Sender>, Vec<Receiver>), Unmade> {
+/// So many rings of this capacity; none where there is no memory.
+pub fn rings(alloc: Global, count: usize, capacity: usize) -> Option<(Vec<Sender>, Vec<Receiver>)> {
     let mut ends = (Vec::new(alloc), Vec::new(alloc));
+    let mut are_made = true;
     for _ in 0..count {
-        add_ring(alloc, capacity, &mut ends.0, &mut ends.1)?;
+        are_made = add_ring(alloc, capacity, &mut ends.0, &mut ends.1).is_some() && are_made;
     }
-    Ok(ends)
+    are_made.then_some(ends)
 }
 
-/// Adds the ends of a ring of this capacity.
+/// Adds the ends of a ring of this capacity; none where there is no memory.
 fn add_ring(
     alloc: Global,
     capacity: usize,
     outputs: &mut Vec<Sender>,
     inputs: &mut Vec<Receiver>,
-) -> Result<(), Unmade> {
-    let (output, input) = ring(alloc, capacity)?;
-    outputs.push(output)?;
-    inputs.push(input)?;
-    Ok(())
+) -> Option<()> {
+    let (output, input) = new_ring(alloc, capacity)?;
+    let output = outputs.push(output).ok();
+    let input = inputs.push(input).ok();
+    output.and(input)
 }
 
 /// How many of so many rows go to the lane.
@@ -129,27 +125,26 @@ fn deals_at_once<R: Threads + Wait + Abort + Sync>(
     alloc: Global,
     count: usize,
     height: u16,
-) -> Result<bool, Unmade> {
-    let (mut producer, input) = ring(alloc, 1)?;
-    let (outputs, mut lanes) = rings(alloc, count, 1)?;
+) -> bool {
+    let (mut producer, input) = new_ring(alloc, 1).expect(rt, "a ring");
+    let (outputs, mut lanes) = rings(alloc, count, 1).expect(rt, "rings");
     let both = thread::join(
         rt,
         move || dealt(rt, alloc, input, outputs).end == StageEnd::Well,
         move || one_by_one(alloc, &mut producer, &mut lanes, height),
     );
-    Ok(both.0 && both.1)
+    both.0 && both.1
 }
 
 /// 1 to 8 lanes, and heights 0 to 9: each message is dealt before the next one is there, over rings of capacity 1.
 #[test]
-fn deals_each_message_at_once(rt: HostRuntime) -> Result<(), Fail> {
+fn deals_each_message_at_once(rt: HostRuntime) {
     for count in 1..9 {
         for height in 0..10 {
-            let is_right = deals_at_once(&rt, rt.alloc(), count, height)?;
+            let is_right = deals_at_once(&rt, rt.alloc(), count, height);
             is_so(&rt, is_right, &(count, height));
         }
     }
-    Ok(())
 }
 
 /// Sends so many rows, each only once the one before has come at the other end.
@@ -182,10 +177,10 @@ fn gathers_again<R: Threads + Wait + Abort + Sync>(
     alloc: Global,
     count: usize,
     height: u16,
-) -> Result<bool, Unmade> {
-    let (mut producer, input) = ring(alloc, 1)?;
-    let (outputs, inputs) = rings(alloc, count, 1)?;
-    let (output, mut consumer) = ring(alloc, 1)?;
+) -> bool {
+    let (mut producer, input) = new_ring(alloc, 1).expect(rt, "a ring");
+    let (outputs, inputs) = rings(alloc, count, 1).expect(rt, "rings");
+    let (output, mut consumer) = new_ring(alloc, 1).expect(rt, "a ring");
     let both = thread::join(
         rt,
         move || dealt(rt, alloc, input, outputs).end == StageEnd::Well,
@@ -197,19 +192,18 @@ fn gathers_again<R: Threads + Wait + Abort + Sync>(
             )
         },
     );
-    Ok(both.0 && both.1.0 && both.1.1)
+    both.0 && both.1.0 && both.1.1
 }
 
 /// 1 to 8 lanes, and heights 0 to 9: what is dealt is gathered as it was, message by message, over rings of capacity 1.
 #[test]
-fn gathers_what_is_dealt(rt: HostRuntime) -> Result<(), Fail> {
+fn gathers_what_is_dealt(rt: HostRuntime) {
     for count in 1..9 {
         for height in 0..10 {
-            let is_right = gathers_again(&rt, rt.alloc(), count, height)?;
+            let is_right = gathers_again(&rt, rt.alloc(), count, height);
             is_so(&rt, is_right, &(count, height));
         }
     }
-    Ok(())
 }
 
 /// An image of two rows, and the end of the stream.
@@ -243,11 +237,10 @@ fn has_inverted(rt: &impl Abort, done: &mut Result<StageDone, NoStart>, consumer
 
 /// More lanes than rows, and all messages are there before: what comes of them is in their order.
 #[test]
-fn inverts_over_three_lanes(rt: HostRuntime) -> Result<(), Fail> {
+fn inverts_over_three_lanes(rt: HostRuntime) {
     let alloc = rt.alloc();
-    let (_producer, input) = holding(alloc, TWO_ROWS, false)?;
-    let (output, mut consumer) = ring(alloc, 8)?;
+    let (_producer, input) = holding(alloc, TWO_ROWS, false).expect(&rt, "a ring");
+    let (output, mut consumer) = new_ring(alloc, 8).expect(&rt, "a ring");
     let mut done = run_lanes(&rt, alloc, &Tool::Invert, 1, 3, 8, &OpenGate, input, output);
     has_inverted(&rt, &mut done, &mut consumer);
-    Ok(())
 }

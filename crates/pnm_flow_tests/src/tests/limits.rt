@@ -8,7 +8,6 @@ use pnm_image::Device;
 use std::alloc::Global;
 use std::process::Abort;
 use std::sync::Wait;
-use std::test::Fail;
 use std::thread::Threads;
 
 /// One image of one row.
@@ -17,10 +16,9 @@ const ONE_ROW: Summary = Summary { images: 1, rows: 1 };
 /// The most tools over the most lanes, each in a thread of its own; where so many threads can't be started,
 /// that is answered.
 #[test]
-fn inverts_by_the_most_tools_over_lanes(rt: HostRuntime) -> Result<(), Fail> {
-    let tools = tools_with_cut(rt.alloc(), 64, 64)?;
+fn inverts_by_the_most_tools_over_lanes(rt: HostRuntime) {
+    let tools = tools_with_cut(&rt, rt.alloc(), 64, 64);
     inverts_or_is_not_started(&rt, rt.alloc(), (tools.as_slice(), 1, 8));
-    Ok(())
 }
 
 /// So does this chain of tools that invert, an even number of them.

@@ -1,18 +1,18 @@
 //! Want of memory. `scripts/refused.py tests` refuses each allocation of these tests in turn.
 
-use super::chains::{LAST_COLUMN, are_lawful, channel};
+use super::chains::{LAST_COLUMN, channel, is_chain};
 use super::is_so;
 use super::lanes::{dealt, rings};
-use super::rings::{IMAGE, holding_written, holds, is_one_of, ring};
+use super::rings::{IMAGE, holding_written, holds, next_is};
 use super::threads::{INVERTED, ran};
 use super::ways::{Way, run_by};
 use pnm_flow::{
     ChainDone, NoStart, OpenGate, Receiver, RunFault, Sender, StageDone, StageEnd, Summary,
-    run_stage,
+    new_ring, run_stage,
 };
 use pnm_image::{Device, Form, Kind};
 use pnm_read::InputFault;
-use pnm_test_support::{Part, Unmade};
+use pnm_test_support::Part;
 use pnm_tools::{FlipWay, Tool, ToolFault};
 use std::alloc::Global;
 use std::process::Abort;
@@ -79,7 +79,7 @@ fn run_into<H: Threads + Wait + Abort + Sync>(
     run: Written<'_>,
     target: &mut [u8],
 ) -> (Result<Summary, RunFault>, usize) {
-    assert!(rt; 1 <= tools.len() && tools.len() <= 64 && are_lawful(tools));
+    assert!(rt; is_chain(tools));
     let mut writer = Device::new(target);
     let mut reader = Device::new(run.1);
     let answer = run_by(rt, alloc, way, &mut reader, &mut writer, tools, run.0);
@@ -142,47 +142,45 @@ fn ends_well_over_lanes_with_memory(rt: HostRuntime) {
     has_passed(&rt, summary, 2, 3);
 }
 
+/// What a run over two tools answers.
+fn double_short_of_memory<H: Threads + Wait + Abort + Sync>(
+    rt: &H,
+    alloc: Global,
+    way: Way,
+    run: Written<'_>,
+) -> Option<Summary> {
+    let tools = [Tool::Enlarge(2, 2), Tool::Invert];
+    make_short_of_memory(rt, alloc, way, &tools, run)
+}
+
 /// Each growth of a run over two tools in one thread may be refused.
 #[test]
 fn doubles_in_one_thread_or_runs_out(rt: HostRuntime) {
-    let tools = [Tool::Enlarge(2, 2), Tool::Invert];
-    let _ = make_short_of_memory(&rt, rt.alloc(), Way::OneThread, &tools, SAMPLE_DOUBLED);
+    let _ = double_short_of_memory(&rt, rt.alloc(), Way::OneThread, SAMPLE_DOUBLED);
 }
 
 /// Where no growth is refused the run in one thread ends well.
 #[test]
 fn doubles_in_one_thread_with_memory(rt: HostRuntime) {
-    let tools = [Tool::Enlarge(2, 2), Tool::Invert];
-    let summary = make_short_of_memory(&rt, rt.alloc(), Way::OneThread, &tools, SAMPLE_DOUBLED);
+    let summary = double_short_of_memory(&rt, rt.alloc(), Way::OneThread, SAMPLE_DOUBLED);
     has_passed(&rt, summary, 1, 2);
 }
 
 /// Each growth of a run that writes in plain form may be refused.
 #[test]
 fn writes_plain_or_runs_out(rt: HostRuntime) {
-    let tools = [Tool::Enlarge(2, 2), Tool::Invert];
     for way in [Way::OneThread, Way::Threads(1, 1), Way::Threads(1, 2)] {
-        let _ = make_short_of_memory(&rt, rt.alloc(), way, &tools, PLAIN_DOUBLED);
+        let _ = double_short_of_memory(&rt, rt.alloc(), way, PLAIN_DOUBLED);
     }
 }
 
 /// Where no growth is refused the plain image is written.
 #[test]
 fn writes_plain_with_memory(rt: HostRuntime) {
-    let tools = [Tool::Enlarge(2, 2), Tool::Invert];
     for way in [Way::OneThread, Way::Threads(1, 1), Way::Threads(1, 2)] {
-        let summary = make_short_of_memory(&rt, rt.alloc(), way, &tools, PLAIN_DOUBLED);
+        let summary = double_short_of_memory(&rt, rt.alloc(), way, PLAIN_DOUBLED);
         has_passed(&rt, summary, 1, 2);
     }
-}
-
-/// Receives a message, if there is one; whether it is Stop, and whether it is made of this.
-fn next_is(input: &mut Receiver, part: Part<'_>) -> Option<(bool, bool)> {
-    if !input.has_message() {
-        return None;
-    }
-    let parcel = input.receive_known();
-    Some((is_one_of(&parcel, Part::Stop), is_one_of(&parcel, part)))
 }
 
 /// Whether Stop is the last that the ring holds. Before it there is a prefix of these, and after it nothing.
@@ -240,12 +238,12 @@ fn end_in_threads<R: Threads + Wait + Abort + Sync>(
     alloc: Global,
     tools: &[Tool],
     whole: &[Part<'_>],
-) -> Result<bool, Unmade> {
+) -> Option<bool> {
     let mut ran = ran(rt, alloc, tools, 1, &OpenGate, IMAGE, false)?;
-    Ok(match &mut ran.0 {
-        Ok(done) => has_run_well(rt, done, &mut ran.2, whole),
+    Some(match &mut ran.done {
+        Ok(done) => has_run_well(rt, done, &mut ran.consumer, whole),
         Err(refused) => {
-            is_left(rt, refused, &mut ran.2, whole);
+            is_left(rt, refused, &mut ran.consumer, whole);
             false
         }
     })
@@ -254,11 +252,13 @@ fn end_in_threads<R: Threads + Wait + Abort + Sync>(
 /// Three tools, which make the image anew.
 const THREE: [Tool; 3] = [Tool::Invert, Tool::Flip(FlipWay::TopBottom), Tool::Invert];
 
+const INVERT: [Tool; 1] = [Tool::Invert];
+
 /// Each growth of three tools, and of one, may be refused.
 #[test]
 fn ends_in_threads_short_of_memory(rt: HostRuntime) {
     let _ = end_in_threads(&rt, rt.alloc(), &THREE, IMAGE);
-    let _ = end_in_threads(&rt, rt.alloc(), &[Tool::Invert], INVERTED);
+    let _ = end_in_threads(&rt, rt.alloc(), &INVERT, INVERTED);
 }
 
 /// Where no growth is refused each stage ends well.
@@ -266,7 +266,7 @@ fn ends_in_threads_short_of_memory(rt: HostRuntime) {
 fn ends_well_in_threads_with_memory(rt: HostRuntime) {
     let is_well = end_in_threads(&rt, rt.alloc(), &THREE, IMAGE).unwrap_or(false);
     assert!(rt; is_well);
-    let is_well = end_in_threads(&rt, rt.alloc(), &[Tool::Invert], INVERTED).unwrap_or(false);
+    let is_well = end_in_threads(&rt, rt.alloc(), &INVERT, INVERTED).unwrap_or(false);
     assert!(rt; is_well);
 }
 
@@ -283,12 +283,12 @@ const WIDENED: &[Part<'static>] = &[
 ];
 
 /// Whether the stage ends well. Where it doesn't memory ran out, and a prefix of the answer is sent before Stop.
-fn takes_rows_apart<R: Wait + Abort>(rt: &R, alloc: Global) -> Result<bool, Unmade> {
+fn takes_rows_apart<R: Wait + Abort>(rt: &R, alloc: Global) -> Option<bool> {
     let (_producer, input) = holding_written(alloc, TOGETHER)?;
-    let (output, mut consumer) = ring(alloc, 8)?;
+    let (output, mut consumer) = new_ring(alloc, 8)?;
     let done = widens(rt, alloc, &Tool::Enlarge(2, 1), input, output);
     let is_stopped = ends_by_stop(rt, &mut consumer, WIDENED);
-    Ok(is_well_or_short(rt, done.end, is_stopped))
+    Some(is_well_or_short(rt, done.end, is_stopped))
 }
 
 /// The stage of this tool, which has to be lawful.
@@ -342,18 +342,19 @@ const SECOND_LANE: &[Part<'static>] = &[
 
 /// Whether the dealing ends well. Where it doesn't memory ran out, and each lane is sent a prefix of what is dealt to
 /// it before Stop. All that came is taken.
-fn deals_rows_apart<R: Wait + Abort>(rt: &R, alloc: Global) -> Result<bool, Unmade> {
+fn deals_rows_apart<R: Wait + Abort>(rt: &R, alloc: Global) -> Option<bool> {
     let (_producer, input) = holding_written(alloc, TOGETHER)?;
     let (outputs, mut lanes) = rings(alloc, 2, 8)?;
     let mut done = dealt(rt, alloc, input, outputs);
     holds(rt, &mut done.input, &[], "nothing is left");
     are_dealt(rt, lanes.as_mut_slice(), done.end);
-    Ok(done.end == StageEnd::Well)
+    Some(done.end == StageEnd::Well)
 }
 
 /// The dealing has ended so, and each of two lanes holds a prefix of what is dealt to it, before Stop where it is short
 /// of memory.
 fn are_dealt(rt: &impl Abort, lanes: &mut [Receiver], end: StageEnd) {
+    assert!(rt; lanes.len() == 2);
     for (lane, input) in lanes.iter_mut().enumerate() {
         let whole = if lane == 0 { FIRST_LANE } else { SECOND_LANE };
         let is_stopped = ends_by_stop(rt, input, whole);

@@ -4,7 +4,7 @@
 use super::is_so;
 use pnm_flow::{Parcel, Receiver, Sender, StageEnd, new_ring};
 use pnm_image::Kind;
-use pnm_test_support::{Handed, Part, Unmade, handed_of, is_made_of, message};
+use pnm_test_support::{Handed, Part, handed_of, is_made_of, message};
 use std::alloc::Global;
 use std::process::Abort;
 use std::thread;
@@ -12,26 +12,26 @@ use std::thread;
 /// More turns of a wait than any wait of a test takes.
 pub const TURNS: u32 = 10_000_000;
 
-/// A ring for so many messages.
-pub fn ring(alloc: Global, capacity: usize) -> Result<(Sender, Receiver), Unmade> {
-    new_ring(alloc, capacity).ok_or(Unmade)
-}
-
-/// Sends this, for which there is room.
-fn send_one(alloc: Global, output: &mut Sender, part: Part<'_>) -> Result<(), Unmade> {
+/// Sends this, where it can be made and there is room for it; whether so.
+fn send_one(alloc: Global, output: &mut Sender, part: Part<'_>) -> bool {
     if !output.has_room() {
-        return Err(Unmade);
+        return false;
     }
-    output.send_reserved(message(alloc, part)?);
-    Ok(())
+    let Ok(message) = message(alloc, part) else {
+        return false;
+    };
+    output.send_reserved(message);
+    true
 }
 
-/// Sends these, for which there is room.
-pub fn send_all(alloc: Global, output: &mut Sender, parts: &[Part<'_>]) -> Result<(), Unmade> {
+/// Sends these; whether each could be made, and there was room for it.
+pub fn send_all(alloc: Global, output: &mut Sender, parts: &[Part<'_>]) -> bool {
     for part in parts {
-        send_one(alloc, output, *part)?;
+        if !send_one(alloc, output, *part) {
+            return false;
+        }
     }
-    Ok(())
+    true
 }
 
 /// Whether the parcel is a message that is made of this: rows that came together are none.
@@ -42,9 +42,21 @@ pub fn is_one_of(parcel: &Parcel, part: Part<'_>) -> bool {
     }
 }
 
+/// Receives a message, if there is one; whether it is Stop, and whether it is made of this.
+pub fn next_is(input: &mut Receiver, part: Part<'_>) -> Option<(bool, bool)> {
+    if !input.has_message() {
+        return None;
+    }
+    let parcel = input.receive_known();
+    Some((is_one_of(&parcel, Part::Stop), is_one_of(&parcel, part)))
+}
+
 /// Receives a message, if there is one; whether there was, and it is made of this.
 fn has_next(input: &mut Receiver, part: Part<'_>) -> bool {
-    input.has_message() && is_one_of(&input.receive_known(), part)
+    match next_is(input, part) {
+        Some((_, is_so)) => is_so,
+        None => false,
+    }
 }
 
 /// Receives these from the ring; the index of the first one that isn't there, if any.
@@ -57,40 +69,40 @@ pub fn first_missing(input: &mut Receiver, parts: &[Part<'_>]) -> Option<usize> 
     None
 }
 
-/// A ring of capacity 8 that holds these, and its sending end, unless no more can come.
+/// A ring of capacity 8 that holds these, and its sending end, unless no more can come; none where there is no memory.
 pub fn holding(
     alloc: Global,
     parts: &[Part<'_>],
     is_gone: bool,
-) -> Result<(Option<Sender>, Receiver), Unmade> {
-    let (mut sender, receiver) = ring(alloc, 8)?;
-    send_all(alloc, &mut sender, parts)?;
-    if is_gone {
-        drop(sender);
-        return Ok((None, receiver));
-    }
-    Ok((Some(sender), receiver))
+) -> Option<(Option<Sender>, Receiver)> {
+    let (mut sender, receiver) = new_ring(alloc, 8)?;
+    let are_sent = send_all(alloc, &mut sender, parts);
+    let sender = if is_gone { None } else { Some(sender) };
+    are_sent.then_some((sender, receiver))
 }
 
-/// A ring of capacity 8 that holds what is written, together the rows between braces, and its sending end.
-pub fn holding_written(alloc: Global, text: &[u8]) -> Result<(Sender, Receiver), Unmade> {
-    let mut ends = ring(alloc, 8)?;
-    for handed in handed_of(alloc, text, true)? {
-        send_handed(&mut ends.0, handed)?;
+/// A ring of capacity 8 that holds what is written, together the rows between braces, and its sending end; none where
+/// there is no memory.
+pub fn holding_written(alloc: Global, text: &[u8]) -> Option<(Sender, Receiver)> {
+    let written = handed_of(alloc, text, true).ok()?;
+    let mut ends = new_ring(alloc, 8)?;
+    let mut are_sent = true;
+    for handed in written {
+        are_sent = send_handed(&mut ends.0, handed) && are_sent;
     }
-    Ok(ends)
+    are_sent.then_some(ends)
 }
 
-/// Sends what is handed over, for which there is room.
-fn send_handed(output: &mut Sender, handed: Handed) -> Result<(), Unmade> {
+/// Sends what is handed over; whether there was room for it.
+fn send_handed(output: &mut Sender, handed: Handed) -> bool {
     if !output.has_room() {
-        return Err(Unmade);
+        return false;
     }
     match handed {
         Handed::Message(message) => output.send_reserved(message),
         Handed::Rows(rows) => output.send_rows_reserved(rows),
     }
-    Ok(())
+    true
 }
 
 /// An image of one row, and the end of the stream.
@@ -123,7 +135,7 @@ pub fn is_end(rt: &impl Abort, end: StageEnd, want: StageEnd, what: &str) {
 pub fn sends(alloc: Global, output: &mut Sender, part: Part<'_>) -> bool {
     for _ in 0..TURNS {
         if output.has_room() {
-            return send_one(alloc, output, part).is_ok();
+            return send_one(alloc, output, part);
         }
         thread::yield_now();
     }

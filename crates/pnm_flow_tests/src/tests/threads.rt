@@ -1,11 +1,13 @@
 //! Chains of stages, each in a thread of its own.
 
-use super::chains::{FROM_SECOND, are_lawful};
+use super::chains::{FROM_SECOND, are_limits, is_chain};
 use super::is_so;
-use super::rings::{IMAGE, TURNS, begins_with, comes, holding, holds, is_end, ring, sends};
-use pnm_flow::{ChainDone, Gate, NoStart, OpenGate, Receiver, Sender, StageEnd, run_chain};
+use super::rings::{IMAGE, TURNS, begins_with, comes, holding, holds, is_end, sends};
+use pnm_flow::{
+    ChainDone, Gate, NoStart, OpenGate, Receiver, Sender, StageEnd, new_ring, run_chain,
+};
 use pnm_image::Kind;
-use pnm_test_support::{Part, Unmade};
+use pnm_test_support::Part;
 use pnm_tools::{Tool, ToolFault};
 use std::alloc::Global;
 use std::cmp::Ordering;
@@ -13,7 +15,6 @@ use std::process::Abort;
 use std::sync::Wait;
 use std::sync::atomic::AtomicU64;
 use std::sync::atomic::Ordering::SeqCst;
-use std::test::Fail;
 use std::thread;
 use std::thread::Threads;
 
@@ -47,22 +48,23 @@ pub fn chain<R: Threads + Wait + Abort + Sync>(
     input: Receiver,
     output: Sender,
 ) -> Result<ChainDone, NoStart> {
-    assert!(rt; 1 <= tools.len() && tools.len() <= 64 && are_lawful(tools));
-    assert!(rt; 1 <= capacity && capacity <= 1024 && 1 <= lanes && lanes <= 8);
+    assert!(rt; is_chain(tools));
+    assert!(rt; are_limits(capacity, lanes));
     run_chain(rt, alloc, tools, capacity, lanes, gate, input, output)
 }
 
 /// So many tools that invert, but for one that cuts, if there is one in this place.
-pub fn tools_with_cut(alloc: Global, count: usize, place: usize) -> Result<Vec<Tool>, Unmade> {
+pub fn tools_with_cut(rt: &impl Abort, alloc: Global, count: usize, place: usize) -> Vec<Tool> {
     let mut tools = Vec::new(alloc);
     for index in 0..count {
-        tools.push(if index == place {
+        let tool = if index == place {
             Tool::Cut(FROM_SECOND)
         } else {
             Tool::Invert
-        })?;
+        };
+        tools.push(tool).expect(rt, "room for a tool");
     }
-    Ok(tools)
+    tools
 }
 
 /// What came of so many tools over rings of this capacity, which take these messages.
@@ -74,10 +76,16 @@ struct Run<'a> {
     takes: &'a [Part<'a>],
 }
 
-/// What came of a chain, the first end of the ring before it, and the last one of that behind it.
-pub type Ran = (Result<ChainDone, NoStart>, Option<Sender>, Receiver);
+/// What came of a chain, the first end of the ring before it, unless it is gone, and the last one of that behind it.
+#[derive(Drop)]
+pub struct Ended {
+    pub done: Result<ChainDone, NoStart>,
+    pub producer: Option<Sender>,
+    pub consumer: Receiver,
+}
 
 /// The chain of these tools over rings of this capacity takes these messages. Where the input is gone no more can come.
+/// None where there is no memory for its outer rings.
 pub fn ran<R: Threads + Wait + Abort + Sync>(
     rt: &R,
     alloc: Global,
@@ -86,11 +94,14 @@ pub fn ran<R: Threads + Wait + Abort + Sync>(
     gate: &impl Gate,
     takes: &[Part<'_>],
     is_gone: bool,
-) -> Result<Ran, Unmade> {
+) -> Option<Ended> {
     let (producer, input) = holding(alloc, takes, is_gone)?;
-    let (output, consumer) = ring(alloc, 8)?;
-    let done = chain(rt, alloc, tools, capacity, 1, gate, input, output);
-    Ok((done, producer, consumer))
+    let (output, consumer) = new_ring(alloc, 8)?;
+    Some(Ended {
+        done: chain(rt, alloc, tools, capacity, 1, gate, input, output),
+        producer,
+        consumer,
+    })
 }
 
 /// The chain runs to its end: its stages have ended so, up to one and after it, and it has sent these.
@@ -100,13 +111,13 @@ fn ends_so<R: Threads + Wait + Abort + Sync>(
     run: &Run<'_>,
     ends: (StageEnd, StageEnd, StageEnd),
     sends: &[Part<'_>],
-) -> Result<(), Unmade> {
-    let tools = tools_with_cut(alloc, run.count, run.cut_at)?;
+) {
+    let tools = tools_with_cut(rt, alloc, run.count, run.cut_at);
     let tools = tools.as_slice();
-    let mut ran = ran(rt, alloc, tools, run.capacity, &OpenGate, run.takes, false)?;
-    have_ended(rt, &mut ran.0, run, ends);
-    holds(rt, &mut ran.2, sends, "what the chain sent");
-    Ok(())
+    let ran = ran(rt, alloc, tools, run.capacity, &OpenGate, run.takes, false);
+    let mut ran = ran.expect(rt, "rings");
+    have_ended(rt, &mut ran.done, run, ends);
+    holds(rt, &mut ran.consumer, sends, "what the chain sent");
 }
 
 /// The chain was started, has taken all, and each of its stages has ended so.
@@ -146,7 +157,7 @@ fn stages_have_ended(
 }
 
 #[test]
-fn passes_a_stream_through_all_tools(rt: HostRuntime) -> Result<(), Fail> {
+fn passes_a_stream_through_all_tools(rt: HostRuntime) {
     let well = (StageEnd::Well, StageEnd::Well, StageEnd::Well);
     for (count, capacity) in [(1, 1), (2, 1), (3, 1024), (64, 1), (64, 8)] {
         let run = Run {
@@ -156,9 +167,8 @@ fn passes_a_stream_through_all_tools(rt: HostRuntime) -> Result<(), Fail> {
             takes: IMAGE,
         };
         let sends = if count % 2 == 0 { IMAGE } else { INVERTED };
-        ends_so(&rt, rt.alloc(), &run, well, sends)?;
+        ends_so(&rt, rt.alloc(), &run, well, sends);
     }
-    Ok(())
 }
 
 /// An image of a single column.
@@ -190,7 +200,7 @@ fn breaks_off<R: Threads + Wait + Abort + Sync>(
     alloc: Global,
     count: usize,
     cut_at: usize,
-) -> Result<(), Unmade> {
+) {
     let ends = (
         StageEnd::Well,
         StageEnd::Fault(ToolFault::CutOutside),
@@ -204,7 +214,7 @@ fn breaks_off<R: Threads + Wait + Abort + Sync>(
         capacity,
         takes,
     };
-    ends_so(rt, alloc, &run, ends, &[Part::Stop])?;
+    ends_so(rt, alloc, &run, ends, &[Part::Stop]);
     let takes = NARROW;
     let run = Run { takes, ..run };
     let sends = if count % 2 == 1 {
@@ -212,17 +222,16 @@ fn breaks_off<R: Threads + Wait + Abort + Sync>(
     } else {
         SECOND_COLUMN_INVERTED
     };
-    ends_so(rt, alloc, &run, ends, sends)
+    ends_so(rt, alloc, &run, ends, sends);
 }
 
 /// The tools before the one that refuses end well, and those after it are broken off: at its first
 /// message, and at a later one.
 #[test]
-fn breaks_off_after_a_refusal(rt: HostRuntime) -> Result<(), Fail> {
+fn breaks_off_after_a_refusal(rt: HostRuntime) {
     for (count, cut_at) in [(1, 0), (2, 0), (2, 1), (64, 0), (64, 31), (64, 63)] {
-        breaks_off(&rt, rt.alloc(), count, cut_at)?;
+        breaks_off(&rt, rt.alloc(), count, cut_at);
     }
-    Ok(())
 }
 
 /// The chain was started, and its last tool has ended so.
@@ -239,12 +248,11 @@ fn is_last(rt: &impl Abort, done: &Result<ChainDone, NoStart>, want: StageEnd) {
 
 /// Where no more can come, all stages end, and what came is sent before Stop.
 #[test]
-fn ends_where_its_input_is_gone(rt: HostRuntime) -> Result<(), Fail> {
-    let tools = tools_with_cut(rt.alloc(), 64, 64)?;
+fn ends_where_its_input_is_gone(rt: HostRuntime) {
+    let tools = tools_with_cut(&rt, rt.alloc(), 64, 64);
     for taken in 0..4 {
-        sends_stop_after(&rt, rt.alloc(), tools.as_slice(), &IMAGE[..taken])?;
+        sends_stop_after(&rt, rt.alloc(), tools.as_slice(), &IMAGE[..taken]);
     }
-    Ok(())
 }
 
 /// So do these tools after these messages.
@@ -253,18 +261,17 @@ fn sends_stop_after<R: Threads + Wait + Abort + Sync>(
     alloc: Global,
     tools: &[Tool],
     takes: &[Part<'_>],
-) -> Result<(), Unmade> {
-    let mut ran = ran(rt, alloc, tools, 1, &OpenGate, takes, true)?;
-    is_last(rt, &ran.0, StageEnd::Broken);
-    begins_with(rt, &mut ran.2, takes, "what came");
-    holds(rt, &mut ran.2, &[Part::Stop], "Stop at last");
-    Ok(())
+) {
+    let ran = ran(rt, alloc, tools, 1, &OpenGate, takes, true);
+    let mut ran = ran.expect(rt, "rings");
+    is_last(rt, &ran.done, StageEnd::Broken);
+    begins_with(rt, &mut ran.consumer, takes, "what came");
+    holds(rt, &mut ran.consumer, &[Part::Stop], "Stop at last");
 }
 
-/// An end of a ring for one message whose other end is gone.
-fn unheard(alloc: Global) -> Result<Sender, Unmade> {
-    let (output, _) = ring(alloc, 1)?;
-    Ok(output)
+/// The sending end of a ring for one message whose other end is gone.
+fn unheard(rt: &impl Abort, alloc: Global) -> Sender {
+    new_ring(alloc, 1).expect(rt, "a ring").0
 }
 
 /// The chain has taken all that came.
@@ -277,24 +284,18 @@ fn has_taken_all(rt: &impl Abort, done: &mut Result<ChainDone, NoStart>) {
 
 /// Where nobody takes what is sent, all stages end, and all that came is taken.
 #[test]
-fn ends_where_its_output_is_gone(rt: HostRuntime) -> Result<(), Fail> {
-    let tools = tools_with_cut(rt.alloc(), 64, 64)?;
-    goes_unheard(&rt, rt.alloc(), tools.as_slice())?;
-    Ok(())
+fn ends_where_its_output_is_gone(rt: HostRuntime) {
+    let tools = tools_with_cut(&rt, rt.alloc(), 64, 64);
+    goes_unheard(&rt, rt.alloc(), tools.as_slice());
 }
 
 /// So do these tools, and the last one sees that the other end of its ring is gone.
-fn goes_unheard<R: Threads + Wait + Abort + Sync>(
-    rt: &R,
-    alloc: Global,
-    tools: &[Tool],
-) -> Result<(), Unmade> {
-    let (_producer, input) = holding(alloc, IMAGE, false)?;
-    let output = unheard(alloc)?;
+fn goes_unheard<R: Threads + Wait + Abort + Sync>(rt: &R, alloc: Global, tools: &[Tool]) {
+    let (_producer, input) = holding(alloc, IMAGE, false).expect(rt, "a ring");
+    let output = unheard(rt, alloc);
     let mut done = chain(rt, alloc, tools, 1, 1, &OpenGate, input, output);
     is_last(rt, &done, StageEnd::PeerGone);
     has_taken_all(rt, &mut done);
-    Ok(())
 }
 
 /// Holds each of two threads back until the other has come.
@@ -362,25 +363,13 @@ pub fn has_met(rt: &impl Abort, both: &Both) {
 
 /// Each of two tools waits at the gate for the other, and both pass it once.
 #[test]
-fn gives_each_tool_a_thread(rt: HostRuntime) -> Result<(), Fail> {
+fn gives_each_tool_a_thread(rt: HostRuntime) {
     let both = Both::new();
-    let tools = tools_with_cut(rt.alloc(), 2, 2)?;
-    meets_in_chain(&rt, rt.alloc(), tools.as_slice(), &both)?;
+    let ran = ran(&rt, rt.alloc(), &INVERTING, 1, &both, IMAGE, false);
+    let mut ran = ran.expect(&rt, "rings");
     has_met(&rt, &both);
-    Ok(())
-}
-
-/// So do these tools, and what they send is the image inverted twice.
-fn meets_in_chain<R: Threads + Wait + Abort + Sync>(
-    rt: &R,
-    alloc: Global,
-    tools: &[Tool],
-    both: &Both,
-) -> Result<(), Unmade> {
-    let mut ran = ran(rt, alloc, tools, 1, both, IMAGE, false)?;
-    is_so(rt, ran.0.is_ok(), &"started");
-    holds(rt, &mut ran.2, IMAGE, "inverted twice");
-    Ok(())
+    is_so(&rt, ran.done.is_ok(), &"started");
+    holds(&rt, &mut ran.consumer, IMAGE, "inverted twice");
 }
 
 /// A message, and what comes of it.
@@ -439,37 +428,35 @@ fn one_by_one(
     true
 }
 
-/// What comes of each message passes through two tools before the next one is there, over rings of capacity 1, and over
-/// two lanes too.
-#[test]
-fn passes_each_message_on_at_once(rt: HostRuntime) -> Result<(), Fail> {
-    for lanes in [1, 2] {
-        let is_right = passes_on(&rt, rt.alloc(), &INVERTING, lanes, TWICE)?;
-        is_so(&rt, is_right, &lanes);
-        let is_right = passes_on(&rt, rt.alloc(), &DOUBLING, lanes, DOUBLED)?;
-        is_so(&rt, is_right, &lanes);
-    }
-    Ok(())
-}
-
 const INVERTING: [Tool; 2] = [Tool::Invert, Tool::Invert];
 
 const DOUBLING: [Tool; 2] = [Tool::Enlarge(2, 2), Tool::Invert];
 
-/// Whether these messages pass so through these tools.
+/// What comes of each message passes through two tools before the next one is there, over rings of capacity 1, and over
+/// two lanes too.
+#[test]
+fn passes_each_message_on_at_once(rt: HostRuntime) {
+    let (inverting, doubling) = (INVERTING, DOUBLING);
+    for lanes in 1..3 {
+        passes_on(&rt, rt.alloc(), &inverting, lanes, TWICE);
+        passes_on(&rt, rt.alloc(), &doubling, lanes, DOUBLED);
+    }
+}
+
+/// So do these messages through these tools.
 fn passes_on<R: Threads + Wait + Abort + Sync>(
     rt: &R,
     alloc: Global,
     tools: &[Tool],
     lanes: usize,
     steps: &[Step<'_>],
-) -> Result<bool, Unmade> {
-    let (mut producer, input) = ring(alloc, 1)?;
-    let (output, mut consumer) = ring(alloc, 1)?;
+) {
+    let (mut producer, input) = new_ring(alloc, 1).expect(rt, "a ring");
+    let (output, mut consumer) = new_ring(alloc, 1).expect(rt, "a ring");
     let both = thread::join(
         rt,
         move || chain(rt, alloc, tools, 1, lanes, &OpenGate, input, output).is_ok(),
         move || one_by_one(alloc, &mut producer, &mut consumer, steps),
     );
-    Ok(both.0 && both.1)
+    is_so(rt, both.0 && both.1, &lanes);
 }

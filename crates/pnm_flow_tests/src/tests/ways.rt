@@ -2,7 +2,8 @@
 
 ghost use Rattle.pnm_tools.specs.Chains.{IsChain};
 
-use pnm_flow::{OpenGate, RunFault, Summary, run, run_serial};
+use super::chains::run_at;
+use pnm_flow::{OpenGate, RunFault, Summary, run_serial};
 use pnm_image::{BytesIn, BytesOut, Form};
 use pnm_tools::Tool;
 use std::alloc::Global;
@@ -32,10 +33,8 @@ pub fn run_by<H: Threads + Wait + Abort + Sync, R: BytesIn, W: BytesOut>(
     match way {
         Way::OneThread => run_serial(alloc, reader, writer, tools, form),
         Way::Threads(capacity, lanes) => {
-            assert!(rt; 1 <= capacity && capacity <= 1_024 && 1 <= lanes && lanes <= 8);
-            run(
-                rt, alloc, reader, writer, tools, form, capacity, lanes, &OpenGate,
-            )
+            let chain = (tools, capacity, lanes);
+            run_at(rt, alloc, chain, form, &OpenGate, reader, writer)
         }
     }
 }

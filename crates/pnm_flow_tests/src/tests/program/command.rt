@@ -5,9 +5,8 @@ use super::help::HELP;
 use super::{INVERTED, OverThreads, words_of};
 use pnm_command_line::command;
 use pnm_image::{BytesIn, BytesOut, Device};
-use std::alloc::AllocError;
+use std::process::Abort;
 use std::sync::Wait;
-use std::test::Fail;
 use std::thread::Threads;
 
 /// The status of the program with these words over these devices, and the line that it prints.
@@ -23,15 +22,15 @@ fn answer_of<H: AllocGlobal + Threads + Wait + Sync, R: BytesIn, W: BytesOut>(
 }
 
 /// Whether the program ends well with these words over these devices, and prints nothing.
-fn ends_well<H: AllocGlobal + Threads + Wait + Sync, R: BytesIn, W: BytesOut>(
+fn ends_well<H: AllocGlobal + Threads + Wait + Abort + Sync, R: BytesIn, W: BytesOut>(
     rt: &H,
     texts: &[&str],
     input: &mut R,
     output: &mut W,
-) -> Result<bool, AllocError> {
-    let words = words_of(rt.alloc(), texts)?;
+) -> bool {
+    let words = words_of(rt.alloc(), texts).expect(rt, "words");
     let (status, errors) = answer_of(rt, words.as_slice(), input, output);
-    Ok(status == 0 && errors.is_empty())
+    status == 0 && errors.is_empty()
 }
 
 /// Without words the program is refused, and says how it is used.
@@ -52,29 +51,28 @@ fn refuses_no_words(rt: HostRuntime) {
     let mut output = Device::new(Vec::new(rt.alloc()));
     let is_refused = is_refused(&rt, &mut input, &mut output);
     assert!(&rt; is_refused);
-    let is_untouched = input.into_inner() == IMAGE && output.into_inner().is_empty();
-    assert!(&rt; is_untouched);
+    let (left, written) = (input.into_inner(), output.into_inner());
+    assert!(&rt; left == IMAGE && written.is_empty());
 }
 
 /// Whether a call for help ends well over this output, and a run after it.
-fn helps_and_runs<H: AllocGlobal + Threads + Wait + Sync, W: BytesOut>(
+fn helps_and_runs<H: AllocGlobal + Threads + Wait + Abort + Sync, W: BytesOut>(
     rt: &H,
     output: &mut W,
-) -> Result<bool, AllocError> {
+) -> bool {
     let mut input = Device::new(IMAGE);
-    let helps = ends_well(rt, &["pnmpipe", "--help"], &mut input, output)?;
-    let runs = ends_well(rt, &["pnmpipe", "pnminvert"], &mut input, output)?;
-    Ok(helps && runs)
+    let helps = ends_well(rt, &["pnmpipe", "--help"], &mut input, output);
+    let runs = ends_well(rt, &["pnmpipe", "pnminvert"], &mut input, output);
+    helps && runs
 }
 
 /// After a call for help the output still takes a run.
 #[test]
-fn helps_between_runs(rt: HostRuntime) -> Result<(), Fail> {
+fn helps_between_runs(rt: HostRuntime) {
     let mut output = Device::new(Vec::new(rt.alloc()));
-    let are_well = helps_and_runs(&rt, &mut output)?;
+    let are_well = helps_and_runs(&rt, &mut output);
     let written = output.into_inner();
     let written = written.as_slice();
     let is_whole = written.starts_with(HELP.as_bytes()) && written.ends_with(INVERTED);
     assert!(&rt; are_well && is_whole);
-    Ok(())
 }

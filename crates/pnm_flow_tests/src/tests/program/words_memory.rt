@@ -82,30 +82,33 @@ fn run_into<H: AllocGlobal + Threads + Wait + Sync>(
     (status, output.into_inner().len(), errors.len())
 }
 
+/// The words of a call for help, and those of a run.
+const ASKING_FOR_HELP: &[&str] = &["pnmpipe", "--help"];
+
+const INVERTING: &[&str] = &["pnmpipe", "--ring", "7", "pnminvert"];
+
 /// Each growth of a call for help may be refused.
 #[test]
 fn answers_want_of_memory_for_help(rt: HostRuntime) {
-    let _ = status(&rt, ["pnmpipe", "--help"].as_slice(), HELP.as_bytes());
+    let _ = status(&rt, ASKING_FOR_HELP, HELP.as_bytes());
 }
 
 /// Where no growth is refused the help is printed.
 #[test]
 fn helps_with_memory(rt: HostRuntime) {
-    let status = status(&rt, ["pnmpipe", "--help"].as_slice(), HELP.as_bytes());
+    let status = status(&rt, ASKING_FOR_HELP, HELP.as_bytes());
     is_so(&rt, status == Some(0), &status);
 }
 
 /// Each growth of a run may be refused.
 #[test]
 fn answers_want_of_memory_for_a_run(rt: HostRuntime) {
-    let texts = ["pnmpipe", "--ring", "7", "pnminvert"];
-    let _ = status(&rt, texts.as_slice(), INVERTED);
+    let _ = status(&rt, INVERTING, INVERTED);
 }
 
 /// Where no growth is refused the run ends well.
 #[test]
 fn runs_with_memory(rt: HostRuntime) {
-    let texts = ["pnmpipe", "--ring", "7", "pnminvert"];
-    let status = status(&rt, texts.as_slice(), INVERTED);
+    let status = status(&rt, INVERTING, INVERTED);
     is_so(&rt, status == Some(0), &status);
 }
