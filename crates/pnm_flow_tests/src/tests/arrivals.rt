@@ -154,30 +154,36 @@ fn has_come(rt: &impl Abort, seen: &Seen, came: [u64; 5]) {
     is_so(rt, seen.came() == came && late == [0, 0], &late);
 }
 
+/// Stages, and how many reads are made while each is held.
+const READ_BEFORE_STAGES: &[(usize, u64)] = &[(1, 9), (2, 11), (3, 13)];
+
 /// Over rings of one message each ring before the stage that is held holds one, and each stage before it one: the
 /// image's head, of nine bytes, and 2 k - 2 rows where stage k is held. The caller holds none, and doesn't read for
 /// one.
 #[test]
 fn each_stage_comes_before_it_takes(rt: HostRuntime) {
-    for (stage, most) in [(1, 9), (2, 11), (3, 13)] {
+    for (stage, most) in READ_BEFORE_STAGES {
         comes_before_it_takes(
             &rt,
             rt.alloc(),
             &INVERT_THRICE,
             1,
-            (stage, 0),
-            most,
+            (*stage, 0),
+            *most,
             [1, 1, 1, 0, 0],
         );
     }
 }
 
+/// Lanes, and how many reads are made while each is held.
+const READ_BEFORE_LANES: &[(usize, u64)] = &[(0, 11), (1, 12)];
+
 /// Each lane has been sent the head. Where the first one is held the first row waits for room with the dealer, where
 /// the second is the second; the ring before the dealer holds a row.
 #[test]
 fn each_lane_comes_before_it_takes(rt: HostRuntime) {
-    for (lane, most) in [(0, 11), (1, 12)] {
+    for (lane, most) in READ_BEFORE_LANES {
         let came = [1, 0, 0, 1, 0];
-        comes_before_it_takes(&rt, rt.alloc(), &INVERT, 2, (1, lane), most, came);
+        comes_before_it_takes(&rt, rt.alloc(), &INVERT, 2, (1, *lane), *most, came);
     }
 }

@@ -224,11 +224,13 @@ impl Read for ImageByImage<'_> {
     }
 }
 
+const CAPACITIES_AND_LANES: &[(usize, usize)] = &[(1, 1), (2, 1), (64, 1), (1, 2)];
+
 /// Each image's result is written before the reader is asked for what follows the image: it may have to wait for it.
 #[test]
 fn writes_each_image_before_the_next_is_read(rt: HostRuntime) {
-    for (capacity, lanes) in [(1, 1), (2, 1), (64, 1), (1, 2)] {
-        writes_before_reads(&rt, rt.alloc(), capacity, lanes);
+    for (capacity, lanes) in CAPACITIES_AND_LANES {
+        writes_before_reads(&rt, rt.alloc(), *capacity, *lanes);
     }
 }
 

@@ -166,19 +166,21 @@ fn doubles_in_one_thread_with_memory(rt: HostRuntime) {
     has_passed(&rt, summary, 1, 2);
 }
 
+const WAYS: &[Way] = &[Way::OneThread, Way::Threads(1, 1), Way::Threads(1, 2)];
+
 /// Each growth of a run that writes in plain form may be refused.
 #[test]
 fn writes_plain_or_runs_out(rt: HostRuntime) {
-    for way in [Way::OneThread, Way::Threads(1, 1), Way::Threads(1, 2)] {
-        let _ = double_short_of_memory(&rt, rt.alloc(), way, PLAIN_DOUBLED);
+    for way in WAYS {
+        let _ = double_short_of_memory(&rt, rt.alloc(), *way, PLAIN_DOUBLED);
     }
 }
 
 /// Where no growth is refused the plain image is written.
 #[test]
 fn writes_plain_with_memory(rt: HostRuntime) {
-    for way in [Way::OneThread, Way::Threads(1, 1), Way::Threads(1, 2)] {
-        let summary = double_short_of_memory(&rt, rt.alloc(), way, PLAIN_DOUBLED);
+    for way in WAYS {
+        let summary = double_short_of_memory(&rt, rt.alloc(), *way, PLAIN_DOUBLED);
         has_passed(&rt, summary, 1, 2);
     }
 }

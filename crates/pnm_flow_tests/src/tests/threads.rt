@@ -67,7 +67,7 @@ pub fn tools_with_cut(rt: &impl Abort, alloc: Global, count: usize, place: usize
     tools
 }
 
-/// What came of so many tools over rings of this capacity, which take these messages.
+/// So many tools over rings of this capacity, one of which may cut, and the messages that they take.
 #[derive(Clone, Copy)]
 struct Run<'a> {
     count: usize,
@@ -109,12 +109,13 @@ fn ends_so<R: Threads + Wait + Abort + Sync>(
     rt: &R,
     alloc: Global,
     run: &Run<'_>,
+    gate: &impl Gate,
     ends: (StageEnd, StageEnd, StageEnd),
     sends: &[Part<'_>],
 ) {
     let tools = tools_with_cut(rt, alloc, run.count, run.cut_at);
     let tools = tools.as_slice();
-    let ran = ran(rt, alloc, tools, run.capacity, &OpenGate, run.takes, false);
+    let ran = ran(rt, alloc, tools, run.capacity, gate, run.takes, false);
     let mut ran = ran.expect(rt, "rings");
     have_ended(rt, &mut ran.done, run, ends);
     holds(rt, &mut ran.consumer, sends, "what the chain sent");
@@ -156,18 +157,26 @@ fn stages_have_ended(
     }
 }
 
+/// So many tools that invert an image, over rings of this capacity.
+fn inverting(count: usize, capacity: usize) -> Run<'static> {
+    Run {
+        count,
+        cut_at: count,
+        capacity,
+        takes: IMAGE,
+    }
+}
+
+const ALL_WELL: (StageEnd, StageEnd, StageEnd) = (StageEnd::Well, StageEnd::Well, StageEnd::Well);
+
+const COUNTS_AND_CAPACITIES: &[(usize, usize)] = &[(1, 1), (2, 1), (3, 1024), (64, 1), (64, 8)];
+
 #[test]
 fn passes_a_stream_through_all_tools(rt: HostRuntime) {
-    let well = (StageEnd::Well, StageEnd::Well, StageEnd::Well);
-    for (count, capacity) in [(1, 1), (2, 1), (3, 1024), (64, 1), (64, 8)] {
-        let run = Run {
-            count,
-            cut_at: count,
-            capacity,
-            takes: IMAGE,
-        };
+    for (count, capacity) in COUNTS_AND_CAPACITIES {
+        let run = inverting(*count, *capacity);
         let sends = if count % 2 == 0 { IMAGE } else { INVERTED };
-        ends_so(&rt, rt.alloc(), &run, well, sends);
+        ends_so(&rt, rt.alloc(), &run, &OpenGate, ALL_WELL, sends);
     }
 }
 
@@ -214,7 +223,7 @@ fn breaks_off<R: Threads + Wait + Abort + Sync>(
         capacity,
         takes,
     };
-    ends_so(rt, alloc, &run, ends, &[Part::Stop]);
+    ends_so(rt, alloc, &run, &OpenGate, ends, &[Part::Stop]);
     let takes = NARROW;
     let run = Run { takes, ..run };
     let sends = if count % 2 == 1 {
@@ -222,15 +231,18 @@ fn breaks_off<R: Threads + Wait + Abort + Sync>(
     } else {
         SECOND_COLUMN_INVERTED
     };
-    ends_so(rt, alloc, &run, ends, sends);
+    ends_so(rt, alloc, &run, &OpenGate, ends, sends);
 }
+
+/// How many tools there are, and which of them refuses.
+const COUNTS_AND_CUTS: &[(usize, usize)] = &[(1, 0), (2, 0), (2, 1), (64, 0), (64, 31), (64, 63)];
 
 /// The tools before the one that refuses end well, and those after it are broken off: at its first
 /// message, and at a later one.
 #[test]
 fn breaks_off_after_a_refusal(rt: HostRuntime) {
-    for (count, cut_at) in [(1, 0), (2, 0), (2, 1), (64, 0), (64, 31), (64, 63)] {
-        breaks_off(&rt, rt.alloc(), count, cut_at);
+    for (count, cut_at) in COUNTS_AND_CUTS {
+        breaks_off(&rt, rt.alloc(), *count, *cut_at);
     }
 }
 
@@ -365,11 +377,8 @@ pub fn has_met(rt: &impl Abort, both: &Both) {
 #[test]
 fn gives_each_tool_a_thread(rt: HostRuntime) {
     let both = Both::new();
-    let ran = ran(&rt, rt.alloc(), &INVERTING, 1, &both, IMAGE, false);
-    let mut ran = ran.expect(&rt, "rings");
+    ends_so(&rt, rt.alloc(), &inverting(2, 1), &both, ALL_WELL, IMAGE);
     has_met(&rt, &both);
-    is_so(&rt, ran.done.is_ok(), &"started");
-    holds(&rt, &mut ran.consumer, IMAGE, "inverted twice");
 }
 
 /// A message, and what comes of it.
