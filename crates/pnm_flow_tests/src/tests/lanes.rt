@@ -95,14 +95,11 @@ fn begins(alloc: Global, producer: &mut Sender, lanes: &mut [Receiver], height: 
 fn deals_rows(alloc: Global, producer: &mut Sender, lanes: &mut [Receiver], height: u16) -> bool {
     let count = lanes.len();
     for y in 0..height {
-        if count == 0
-            || !passes(
-                alloc,
-                producer,
-                &mut lanes[y as usize % count],
-                Part::Row(&[y]),
-            )
-        {
+        if count == 0 {
+            return false;
+        }
+        let lane = &mut lanes[y as usize % count];
+        if !passes(alloc, producer, lane, Part::Row(&[y])) {
             return false;
         }
     }

@@ -54,7 +54,7 @@ pub fn next_is(input: &mut Receiver, part: Part<'_>) -> Option<(bool, bool)> {
 /// Receives a message, if there is one; whether there was, and it is made of this.
 fn has_next(input: &mut Receiver, part: Part<'_>) -> bool {
     match next_is(input, part) {
-        Some((_, is_so)) => is_so,
+        Some((_, is_part)) => is_part,
         None => false,
     }
 }
@@ -153,7 +153,7 @@ pub fn comes(input: &mut Receiver, part: Part<'_>) -> bool {
     false
 }
 
-/// Sends a message by a thread, and takes it behind it; whether it came as it was sent.
+/// Sends a message to a thread, and takes what comes of it; whether it came as it was sent.
 pub fn passes(alloc: Global, output: &mut Sender, input: &mut Receiver, part: Part<'_>) -> bool {
     sends(alloc, output, part) && comes(input, part)
 }
