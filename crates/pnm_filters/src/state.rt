@@ -195,8 +195,7 @@ fn answer<T: ImageTool>(
     match message {
         Message::Begin(head) => {
             let result = work.begin(alloc, &head)?;
-            *owed = Owed::One;
-            *waiting = Some(Message::Begin(result));
+            owe_one(owed, waiting, Message::Begin(result));
         }
         Message::Row(row) => {
             let Place::Inside(shape, y) = from else {
@@ -213,16 +212,24 @@ fn answer<T: ImageTool>(
             *owed = Owed::RestAndEnd;
         }
         Message::StreamEnd => {
-            *owed = Owed::One;
-            *waiting = Some(Message::StreamEnd);
+            owe_one(owed, waiting, Message::StreamEnd);
         }
         Message::Stop => {
             work.release(alloc);
-            *owed = Owed::One;
-            *waiting = Some(Message::Stop);
+            owe_one(owed, waiting, Message::Stop);
         }
     }
     Ok(())
+}
+
+/// Sets that this message alone is owed.
+#[inline(always)]
+fn owe_one(owed: &mut Owed, waiting: &mut Option<Message>, message: Message)
+    ensures owed { owed.new ≡ Owed.One }
+    ensures waiting { waiting.new ≡ Some message }
+{
+    *owed = Owed::One;
+    *waiting = Some(message);
 }
 
 /// The next message that is owed, if one is.
