@@ -105,3 +105,25 @@ returns-in-Bytes-clause-kept c =
     subst (λ (rows : List (List ℕ)). c.new-in-Bytes.result ≡ map (columns_of_row columns s.depth) rows) (sym parts.ensures.rows)
     (c.new-in-Bytes.ensures ∙ ap (λ (l : List ℕ). cut_rows parts.result.1 size l) (c.within-samples.ensures ∙ made)
     ∙ columns_of_rows columns s parts.result.1 parts.result.2 parts.result.0 c.requires.columns parts.ensures.some parts.ensures.whole are)
+
+pub rows_of_bits-requires-in-Err-clause-whole : goal.rows_of_bits-requires-in-Err-clause-whole
+rows_of_bits-requires-in-Err-clause-whole c = ap length c.in-Bits.ensures ∙ c.into_parts-samples.ensures.whole
+
+pub keep_bits_of_each-requires-clause-rows : goal.keep_bits_of_each-requires-clause-rows
+keep_bits_of_each-requires-clause-rows c = ap length c.in-Bits.ensures ∙ c.into_parts-samples.ensures.whole
+
+pub keep_of_each-requires-clause-rows : goal.keep_of_each-requires-clause-rows
+keep_of_each-requires-clause-rows c = ap length c.in-Bytes.ensures ∙ c.into_parts-samples.ensures.whole
+
+pub new-requires-in_default-clause-whole : goal.new-requires-in_default-clause-whole
+new-requires-in_default-clause-whole c = ap length (c.within.ensures ∙ c.into_vec.ensures) ∙ c.into_parts-samples.ensures.whole
+
+pub returns-in-Err-clause-same : goal.returns-in-Err-clause-same
+returns-in-Err-clause-same c =
+    let parts = c.into_parts-samples in
+    c.rows_of_bits-in-Err.ensures ∙ ap (λ (samples : List ℕ). cut_rows parts.result.1 parts.result.2 samples) c.in-Bits.ensures ∙ sym parts.ensures.rows
+
+pub returns-in_default-clause-same : goal.returns-in_default-clause-same
+returns-in_default-clause-same c =
+    let parts = c.into_parts-samples in
+    c.new-in_default.ensures ∙ ap (λ (samples : List ℕ). cut_rows parts.result.1 parts.result.2 samples) (c.within.ensures ∙ c.into_vec.ensures) ∙ sym parts.ensures.rows

@@ -76,3 +76,30 @@ returns-in-Bytes-clause-mirrored c =
     (c.new.ensures ∙ ap (λ (l : List ℕ). cut_rows parts.result.1 parts.result.2 l) made
     ∙ rows_cut_again s parts.result.1 parts.result.2 parts.result.0 c.requires.limits.width_low
     (each_of_shape s parts.result.1 parts.result.2 parts.result.0 parts.ensures.some parts.ensures.whole are) parts.ensures.whole)
+
+pub rows_of_bits-requires-clause-whole : goal.rows_of_bits-requires-clause-whole
+rows_of_bits-requires-clause-whole c = ap length c.in-Bits.ensures ∙ c.into_parts-samples.ensures.whole
+
+pub returns-then-shape-ne1-clause-same : goal.returns-then-shape-ne1-clause-same
+returns-then-shape-ne1-clause-same c =
+    let parts = c.into_parts-samples in
+    c.rows_of_bits.ensures ∙ ap (λ (l : List ℕ). cut_rows parts.result.1 parts.result.2 l) c.in-Bits.ensures ∙ sym parts.ensures.rows
+
+pub mirror_each-requires-clause-rows : goal.mirror_each-requires-clause-rows
+mirror_each-requires-clause-rows c = ap length c.in-Bits.ensures ∙ c.into_parts-samples.ensures.whole
+
+pub rows_of_bits-requires-in-Err-clause-whole : goal.rows_of_bits-requires-in-Err-clause-whole
+rows_of_bits-requires-in-Err-clause-whole c = ap length c.in-Bits.ensures ∙ c.into_parts-samples.ensures.whole
+
+pub returns-in-Err-clause-same : goal.returns-in-Err-clause-same
+returns-in-Err-clause-same c =
+    let parts = c.into_parts-samples in
+    c.rows_of_bits-in-Err.ensures ∙ ap (λ (l : List ℕ). cut_rows parts.result.1 parts.result.2 l) c.in-Bits.ensures ∙ sym parts.ensures.rows
+
+pub new-requires-in_default-clause-whole : goal.new-requires-in_default-clause-whole
+new-requires-in_default-clause-whole c = ap length (c.within.ensures ∙ c.into_vec.ensures) ∙ c.into_parts-samples.ensures.whole
+
+pub returns-in_default-clause-same : goal.returns-in_default-clause-same
+returns-in_default-clause-same c =
+    let parts = c.into_parts-samples in
+    c.new-in_default.ensures ∙ ap (λ (l : List ℕ). cut_rows parts.result.1 parts.result.2 l) (c.within.ensures ∙ c.into_vec.ensures) ∙ sym parts.ensures.rows

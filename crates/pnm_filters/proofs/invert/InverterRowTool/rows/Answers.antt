@@ -1,4 +1,4 @@
-use Rattle.std.proofs.Common.{◌-◌, List, ℕ, ap, sym, subst, ◌∙◌}
+use Rattle.std.proofs.Common.{◌-◌, List, ℕ, ap, sym, subst, ◌∙◌, length}
 use Rattle.std.specs.List.{AllByRecursion}
 use Rattle.pnm_image.specs.Images.{cut_rows}
 use Rattle.pnm_image.specs.Places.{IsRowOf}
@@ -22,3 +22,11 @@ returns-in-Ok-clause-made c =
     subst (λ (rows : List (List ℕ)). AreRowAnswers Invert s c.args._y rows c.new.result) (sym parts.ensures.rows)
     (subst (AreRowAnswers Invert s c.args._y (cut_rows parts.result.1 parts.result.2 parts.result.0)) (sym made)
     (changed_rows Invert s (λ sample. s.maxval - sample) c.args._y parts.result.1 parts.result.2 parts.result.0 (row_of_invert s)))
+
+pub returns-in-Err-clause-same : goal.returns-in-Err-clause-same
+returns-in-Err-clause-same c =
+    let parts = c.into_parts-samples in
+    c.new-in-Err.ensures ∙ ap (λ (samples : List ℕ). cut_rows parts.result.1 parts.result.2 samples) c.in-Err.ensures.same ∙ sym parts.ensures.rows
+
+pub new-requires-in-Err-clause-whole : goal.new-requires-in-Err-clause-whole
+new-requires-in-Err-clause-whole c = ap length c.in-Err.ensures.same ∙ c.into_parts-samples.ensures.whole

@@ -2,6 +2,8 @@ use Rattle.std.proofs.Common.{ap}
 use Rattle.pnm_tools.specs.declared.flip.Turn.{Turn}
 use Rattle.pnm_filters.specs.SampleRows.{row_lists, strip_lists, rows_width}
 use Rattle.pnm_filters.proofs.TransposeLaws.{end_due}
+use Rattle.pnm_filters.specs.Keeping.{Transposed}
+use Rattle.pnm_tools.specs.declared.tool.Tool.TheVariants.{Flip}
 use Rattle.pnm_filters.proofs.transpose.TransposerImageTool.end.Goals as goal
 
 pub returns-clause-due : goal.returns-clause-due
@@ -13,3 +15,6 @@ returns-clause-due c =
     (row_lists new) x.batch.items come c.args.shape
     c.self.invariant.way c.self.view_is (ap (λ (t : Turn). t.rows_reversed) c.turn-last_first.ensures) c.put_in_order.ensures.strips c.put_in_order.ensures.rows
     h
+
+pub returns-clause-same : goal.returns-clause-same
+returns-clause-same c = ap (λ (w : Transposed). Flip w.way) c.self.view_is
