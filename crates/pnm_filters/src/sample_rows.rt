@@ -68,11 +68,10 @@ impl SampleRows {
         ensures refused { IfErr result (λ fault. fault ≡ Memory) }
     {
         match self {
-            SampleRows::Bits(rows) => rows.push(row.into_bits(alloc)?)?,
-            SampleRows::Bytes(kept) => kept.push(row.into_bytes(alloc)?)?,
-            SampleRows::Words(kept) => kept.push(row.into_words(alloc)?)?,
+            SampleRows::Bits(rows) => Ok(rows.push(row.into_bits(alloc)?)?),
+            SampleRows::Bytes(kept) => kept.push(row.into_bytes(alloc)?),
+            SampleRows::Words(kept) => kept.push(row.into_words(alloc)?),
         }
-        Ok(())
     }
 
     /// Makes a strip of the rows that came last, once they are as many as a strip has, in an image that has

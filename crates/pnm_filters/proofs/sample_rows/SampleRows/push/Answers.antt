@@ -28,29 +28,29 @@ returns-in_err-into_bytes-in-Bytes c =
     let p = err_from_is_err_and c.from_residual-in_err-into_bytes-in-Bytes.result c.from_residual-in_err-into_bytes-in-Bytes.ensures.1 in
     rw (c.in-Bytes.is, p.1) (record { sample_width = refl; strips = refl; added = tt; unchanged = refl; refused = p.2 })
 
-pub returns-in_err-push-in-Bytes : goal.returns-in_err-push-in-Bytes
-returns-in_err-push-in-Bytes c =
-    let p = err_from_is_err_and c.from_residual-in_err-push-in-Bytes.result c.from_residual-in_err-push-in-Bytes.ensures.1 in
-    let e = c.in_err-push-in-Bytes.ensures in
-    rw (c.in-Bytes.is, p.1) (record { sample_width = refl; strips = e.strips; added = tt; unchanged = e.unchanged; refused = p.2 ∙ e.refused })
-
-pub returns-in_ok-push-in-Bytes : goal.returns-in_ok-push-in-Bytes
-returns-in_ok-push-in-Bytes c =
-    let added = c.in_ok-push-in-Bytes.ensures.added ∙ ap (λ (row : List ℕ). c.in-Bytes.kept.rows.items ++ row ∷ []) c.in_ok-into_bytes-in-Bytes.ensures in
-    rw c.in-Bytes.is (record { sample_width = refl; strips = c.in_ok-push-in-Bytes.ensures.strips; added = added; unchanged = tt; refused = tt })
+pub returns-in_ok-into_bytes-in-Bytes : goal.returns-in_ok-into_bytes-in-Bytes
+returns-in_ok-into_bytes-in-Bytes c =
+    let e = c.push-in-Bytes.ensures in
+    rw c.in-Bytes.is (record {
+      sample_width = refl;
+      strips = e.strips;
+      added = rw c.in_ok-into_bytes-in-Bytes.ensures at e.added;
+      unchanged = e.unchanged;
+      refused = e.refused;
+    })
 
 pub returns-in_err-into_words-in-Words : goal.returns-in_err-into_words-in-Words
 returns-in_err-into_words-in-Words c =
     let p = err_from_is_err_and c.from_residual-in_err-into_words-in-Words.result c.from_residual-in_err-into_words-in-Words.ensures.1 in
     rw (c.in-Words.is, p.1) (record { sample_width = refl; strips = refl; added = tt; unchanged = refl; refused = p.2 })
 
-pub returns-in_err-push-in-Words : goal.returns-in_err-push-in-Words
-returns-in_err-push-in-Words c =
-    let p = err_from_is_err_and c.from_residual-in_err-push-in-Words.result c.from_residual-in_err-push-in-Words.ensures.1 in
-    let e = c.in_err-push-in-Words.ensures in
-    rw (c.in-Words.is, p.1) (record { sample_width = refl; strips = e.strips; added = tt; unchanged = e.unchanged; refused = p.2 ∙ e.refused })
-
-pub returns-in_ok-push-in-Words : goal.returns-in_ok-push-in-Words
-returns-in_ok-push-in-Words c =
-    let added = c.in_ok-push-in-Words.ensures.added ∙ ap (λ (row : List ℕ). c.in-Words.kept.rows.items ++ row ∷ []) c.in_ok-into_words-in-Words.ensures in
-    rw c.in-Words.is (record { sample_width = refl; strips = c.in_ok-push-in-Words.ensures.strips; added = added; unchanged = tt; refused = tt })
+pub returns-in_ok-into_words-in-Words : goal.returns-in_ok-into_words-in-Words
+returns-in_ok-into_words-in-Words c =
+    let e = c.push-in-Words.ensures in
+    rw c.in-Words.is (record {
+      sample_width = refl;
+      strips = e.strips;
+      added = rw c.in_ok-into_words-in-Words.ensures at e.added;
+      unchanged = e.unchanged;
+      refused = e.refused;
+    })
