@@ -1,7 +1,6 @@
 -- Columns that are made side by side.
-use Rattle.std.proofs.Common.{◌≡◌, ℕ, ◌+◌, ◌-◌, ◌*◌, ◌<◌, ◌≤◌, inl, inr, List, [], ◌∷◌, ◌++◌, length, take, drop, get_or, set, map, All, Vec, Global, vec_len}
+use Rattle.std.proofs.Common.{◌≡◌, ℕ, ◌+◌, ◌*◌, ◌<◌, ◌≤◌, inl, inr, List, [], ◌∷◌, ◌++◌, length, take, drop, get_or, set, map, All, Vec, Global, vec_len}
 use Rattle.std.proofs.Common.{refl, sym, ap, subst, ◌∙◌, arith, mul-le-mul, suc-mul, add-mul}
-use borrow.Rule.Slice.PartMut.{put_mid}
 use Rattle.std.specs.List.{range_with_len}
 use Rattle.std.specs.Vec.{with_items}
 use Rattle.std.proofs.Math.ListN.{length-set}
@@ -12,7 +11,6 @@ use Rattle.std.proofs.lemmas.List.{append_assoc, append-nil, length-append, leng
 use Rattle.std.proofs.lemmas.List.{get_or-set_other, get_or_append_left, get_or_default, same_lists, with_items_is}
 use Rattle.std.proofs.lemmas.List.Elements.{All-head, All-tail, All-weaker, All-take, All-drop, All-get_or}
 use Rattle.std.proofs.lemmas.List.FromFn.{get_or-map-range_with_len, length-map-range_with_len}
-use Rattle.std.proofs.lemmas.Slice.{take-put_mid}
 use Rattle.pnm_filters.specs.Columns.{AreBlank, AreLongEnough, HavePixels, column_samples}
 use Rattle.pnm_tools.specs.Flip.{column_of}
 use Rattle.pnm_tools.specs.Pixels.{pixel_of}
@@ -21,19 +19,14 @@ use Rattle.pnm_filters.proofs.EnlargeRowLaws.{color_of, pixel_of_one}
 -- ---- the samples of a column more
 
 -- the next column has got its samples
-pub column_stored : {X : Type 0} (n at m : ℕ) (pixels : ℕ → List X) (old columns : List (Vec X Global)) (v : Vec X Global) (lent stored : List X)
-    → HavePixels n at pixels old columns → n < length columns
-    → lent ≡ (get_or columns n v).items → stored ≡ pixels n → length stored ≡ length (take m (drop at lent)) → at + m ≤ vec_len (get_or columns n v)
-    → HavePixels (n + 1) at pixels old (set columns n (with_items (get_or columns n v) (put_mid at m lent stored)))
-column_stored {X = X} n at m pixels old columns v lent stored h below same is part fits =
+pub column_stored : {X : Type 0} (n at : ℕ) (pixels : ℕ → List X) (old columns : List (Vec X Global)) (v : Vec X Global) (lent new stored : List X)
+    → HavePixels n at pixels old columns → n < length columns → lent ≡ (get_or columns n v).items → length new ≡ length lent
+    → take (at + length stored) new ≡ take at lent ++ stored → stored ≡ pixels n
+    → HavePixels (n + 1) at pixels old (set columns n (with_items (get_or columns n v) new))
+column_stored {X = X} n at pixels old columns v lent items stored h below same size front is =
     let w : Vec X Global = get_or columns n v in
-    let ws : List X = put_mid at m lent stored in
-    let long : length lent ≡ w.len = omega (arith, ap length same, w.ok.0) in
-    let size : length stored ≡ m = part ∙ length-take-le m (drop at lent) (omega (arith, length-drop at lent)) in
-    let prefix : length (take at lent) ≡ at = length-take-le at lent (omega arith) in
-    let rest : length (drop m (drop at lent)) ≡ length lent - at - m = omega (arith, length-drop at lent, length-drop m (drop at lent)) in
-    let all : length ws ≡ w.len = omega (arith, length-append (take at lent) (stored ++ drop m (drop at lent)), length-append stored (drop m (drop at lent))) in
-    let new : Vec X Global = with_items w ws in
+    let all : length items ≡ w.len = omega (arith, size, ap length same, w.ok.0) in
+    let new : Vec X Global = with_items w items in
     let here : (d : Vec X Global) → w ≡ get_or old n d = λ d. get_or_default columns n v d below ∙ h.others n d (omega arith) in
     record {
       many = length-set columns n new ∙ h.many;
@@ -48,13 +41,19 @@ column_stored {X = X} n at m pixels old columns v lent stored h below same is pa
             let e : k ≡ n = omega arith in
             let samples : stored ≡ pixels k = is ∙ ap pixels (sym e) in
             ap (λ (u : Vec X Global). take (at + length (pixels k)) u.items) (get_or-set_at columns n k new d e below)
-            ∙ ap (take (at + length (pixels k))) (with_items_is w ws all)
-            ∙ take-put_mid at m lent stored (at + length (pixels k)) (omega (arith, ap length samples)) (omega arith)
+            ∙ ap (take (at + length (pixels k))) (with_items_is w items all)
+            ∙ ap (λ (l : List X). take (at + length l) items) (sym samples) ∙ front
             ∙ ap (λ (l : List X). take at l ++ stored) (same ∙ ap (λ (u : Vec X Global). u.items) (here d ∙ ap (λ (i : ℕ). get_or old i d) (sym e)))
             ∙ ap (λ (l : List X). take at (get_or old k d).items ++ l) samples
       ];
       others = λ k d le. get_or-set_other columns n k new d (omega arith) ∙ h.others k d (omega arith);
     }
+
+-- so much room is in the next column
+pub room_in : {X : Type 0} (n at least : ℕ) (pixels : ℕ → List X) (old columns : List (Vec X Global)) (v : Vec X Global) (lent : List X)
+    → HavePixels n at pixels old columns → AreLongEnough least old → n < length columns → lent ≡ (get_or columns n v).items → least ≤ length lent
+room_in n at least pixels old columns v lent h long below same =
+    omega (arith, long n v (omega (arith, h.many)), h.long n v, ap length same, (get_or columns n v).ok.0)
 
 -- no column has got samples yet
 pub none_stored : {X : Type 0} (at : ℕ) (pixels : ℕ → List X) (old : List (Vec X Global)) → HavePixels 0 at pixels old old

@@ -1,6 +1,7 @@
 //! Columns of an image, made side by side.
 
-ghost use Rattle.std.specs.Prelude.{◌≡◌, ◌≤◌, ◌+◌, ◌*◌, ℕ, List, All, length, map, reverse, IfOk, IfErr};
+ghost use Rattle.std.specs.Prelude.{◌≡◌, ◌≤◌, ◌+◌, ◌*◌, ◌++◌, ℕ, List, All, length, map, reverse, take};
+ghost use Rattle.std.specs.Prelude.{IfOk, IfErr};
 ghost use Rattle.std.specs.List.{range_with_len};
 ghost use Rattle.pnm_image.specs.declared.limits.TheConstants.{MAX_DEPTH, MAX_ROW_LENGTH};
 ghost use Rattle.pnm_tools.specs.declared.fault.ToolFault.TheVariants.{Memory};
@@ -176,7 +177,7 @@ fn put_four_samples<T: Copy>(columns: &mut [Vec<T>], at: usize, rows: &[RowOf<T>
     let (c, d) = (rows[2].as_slice(), rows[3].as_slice());
     for (k, column) in columns.iter_mut().enumerate() {
         let x = first + k;
-        column[at..at + 4].copy_from_slice(&[a[x], b[x], c[x], d[x]]);
+        store(column.as_mut_slice(), at, &[a[x], b[x], c[x], d[x]]);
     }
 }
 
@@ -194,9 +195,8 @@ fn put_four_colors<T: Copy>(columns: &mut [Vec<T>], at: usize, rows: &[RowOf<T>]
         let x = 3 * (first + k);
         let (p, q) = (color_at(a, x), color_at(b, x));
         let (r, s) = (color_at(c, x), color_at(d, x));
-        column[at..at + 12].copy_from_slice(&[
-            p.0, p.1, p.2, q.0, q.1, q.2, r.0, r.1, r.2, s.0, s.1, s.2,
-        ]);
+        let four = [p.0, p.1, p.2, q.0, q.1, q.2, r.0, r.1, r.2, s.0, s.1, s.2];
+        store(column.as_mut_slice(), at, &four);
     }
 }
 
@@ -230,8 +230,17 @@ fn put_pixels<T: Copy>(columns: &mut [Vec<T>], at: usize, row: &[T], first: usiz
 {
     for (k, column) in columns.iter_mut().enumerate() {
         let x = (first + k) * depth;
-        column[at..at + depth].copy_from_slice(&row[x..x + depth]);
+        store(column.as_mut_slice(), at, &row[x..x + depth]);
     }
+}
+
+/// Stores samples at this place of a column.
+#[inline(always)]
+fn store<T: Copy>(column: &mut [T], at: usize, samples: &[T])
+    requires { at + length samples.now ≤ length column.old }
+    ensures { take (at + length samples.now) column.new ≡ take at column.old ++ samples.now }
+{
+    column[at..at + samples.len()].copy_from_slice(samples);
 }
 
 /// So many columns of so many samples, which are still to be stored.

@@ -1,7 +1,6 @@
-use Rattle.std.proofs.Common.{◌+◌, ◌*◌, ◌≤◌, ◌∙◌, refl, arith, vec_len, get_or, ◌≡◌, ℕ, length, subst, ap}
+use Rattle.std.proofs.Common.{◌+◌, ◌*◌, refl, arith, ◌≡◌, ℕ, length, subst}
 use Rattle.pnm_tools.specs.Flip.{column_of}
-use Rattle.pnm_filters.proofs.ColumnLaws.{column_stored, looked_up, row_reaches, four_colors, nothing_stored}
-use borrow.Rule.Slice.PartMut.{mid_len}
+use Rattle.pnm_filters.proofs.ColumnLaws.{column_stored, room_in, looked_up, row_reaches, four_colors, nothing_stored}
 use Rattle.pnm_filters.specs.Columns.{HavePixels}
 use Rattle.std.proofs.lemmas.Grind.{common_steps}
 use Rattle.pnm_filters.proofs.batch.put_four_colors.Goals as goal
@@ -12,18 +11,15 @@ loop-k-preserved g c =
     let k = c.loop-k.k in
     let v = c.index-columns-k.result in
     let rows = c.args.rows.now in
-    let buffer : at + 12 ≤ vec_len (get_or c.loop-k.columns k v) = omega (arith, c.requires.long k v (omega arith), c.loop-k.invariant.long k v) in
-    column_stored k at _ (λ k. column_of 3 rows (c.args.first + k)) c.args.columns.now c.loop-k.columns v c.deref_mut.result.now c.copy_from_slice.new.self
-    c.loop-k.invariant (omega arith) c.deref_mut.ensures.value
-    (c.copy_from_slice.ensures.after
-    ∙ four_colors (c.args.first + k) (3 * (c.args.first + k)) rows c.as_slice-a.result.now c.as_slice-b.result.now c.as_slice-c.result.now
+    column_stored k at (λ k. column_of 3 rows (c.args.first + k)) c.args.columns.now c.loop-k.columns v c.as_mut_slice.result.now c.store.new.column _ c.loop-k.invariant (omega arith)
+    c.as_mut_slice.ensures.value c.store.auto.column c.store.ensures
+    (four_colors (c.args.first + k) (3 * (c.args.first + k)) rows c.as_slice-a.result.now c.as_slice-b.result.now c.as_slice-c.result.now
     c.as_slice-d.result.now _ _ _ _ refl c.requires.four
     (looked_up c.args.rows.now 0 c.as_slice-a.result.now c.index-rows-0.result c.as_slice-a.ensures c.index-rows-0.is)
     (looked_up c.args.rows.now 1 c.as_slice-b.result.now c.index-rows-1.result c.as_slice-b.ensures c.index-rows-1.is)
     (looked_up c.args.rows.now 2 c.as_slice-c.result.now c.index-rows-2.result c.as_slice-c.ensures c.index-rows-2.is)
     (looked_up c.args.rows.now 3 c.as_slice-d.result.now c.index-rows-3.result c.as_slice-d.ensures c.index-rows-3.is)
     c.color_at-p.ensures c.color_at-q.ensures c.color_at-r.ensures c.color_at-s.ensures)
-    c.copy_from_slice.ensures.len (omega (arith, buffer))
 
 pub color_at-p-requires : goal.color_at-p-requires
 color_at-p-requires g c =
@@ -56,33 +52,15 @@ color_at-s-requires g c =
 pub loop-k-init : goal.loop-k-init
 loop-k-init g c = nothing_stored _ _ _
 
-pub copy_from_slice-requires : goal.copy_from_slice-requires
-copy_from_slice-requires g c =
-    let at = c.args.at in
-    let k = c.loop-k.k in
-    let v = c.index-columns-k.result in
-    let buffer : at + 12 ≤ vec_len (get_or c.loop-k.columns k v) = omega (arith, c.requires.long k v (omega arith), c.loop-k.invariant.long k v) in
-    let room : at + 12 ≤ length c.deref_mut.result.now = omega (arith, buffer, ap length c.deref_mut.ensures.value, (get_or c.loop-k.columns k v).ok.0) in
-    omega (arith, mid_len at (at + 12) c.deref_mut.result.now room)
-
 pub returns : goal.returns
 returns g c =
     let all : c.loop-k.k ≡ length c.args.columns.now = omega (arith, c.loop-k.invariant.many) in
     subst (λ (n : ℕ). HavePixels n c.args.at (λ k. column_of 3 c.args.rows.now (c.args.first + k)) c.args.columns.now c.loop-k.columns) all
     c.loop-k.invariant
 
-pub slice_bounds-copy_from_slice-end : goal.slice_bounds-copy_from_slice-end
-slice_bounds-copy_from_slice-end g c =
-    let k = c.loop-k.k in
-    let v = c.index-columns-k.result in
-    let buffer : c.args.at + 12 ≤ vec_len (get_or c.loop-k.columns k v) = omega (arith, c.requires.long k v (omega arith), c.loop-k.invariant.long k v) in
-    omega (arith, buffer, ap length c.deref_mut.ensures.value, (get_or c.loop-k.columns k v).ok.0)
+pub store-requires : goal.store-requires
+store-requires g c = room_in c.loop-k.k c.args.at (c.args.at + 12) _ c.args.columns.now c.loop-k.columns c.index-columns-k.result c.as_mut_slice.result.now c.loop-k.invariant
+    c.requires.long (omega arith) c.as_mut_slice.ensures.value
 
-pub shared_whole_as_slice-copy_from_slice : goal.shared_whole_as_slice-copy_from_slice
-shared_whole_as_slice-copy_from_slice g c = grind (arith, common_steps)
-
-pub offset_bounds-deref_mut-at : goal.offset_bounds-deref_mut-at
-offset_bounds-deref_mut-at g c = grind (arith, common_steps)
-
-pub overflow_add-at : goal.overflow_add-at
-overflow_add-at g c = omega arith
+pub shared_whole_as_slice-store : goal.shared_whole_as_slice-store
+shared_whole_as_slice-store g c = grind (arith, common_steps)

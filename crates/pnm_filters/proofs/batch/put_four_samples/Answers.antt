@@ -1,7 +1,6 @@
-use Rattle.std.proofs.Common.{◌+◌, ◌≤◌, ◌∙◌, arith, vec_len, get_or, ◌≡◌, ℕ, length, subst, ap}
+use Rattle.std.proofs.Common.{◌+◌, arith, ◌≡◌, ℕ, length, subst}
 use Rattle.pnm_tools.specs.Flip.{column_of}
-use Rattle.pnm_filters.proofs.ColumnLaws.{column_stored, looked_up, reach, row_reaches, four_samples, nothing_stored}
-use borrow.Rule.Slice.PartMut.{mid_len}
+use Rattle.pnm_filters.proofs.ColumnLaws.{column_stored, room_in, looked_up, reach, row_reaches, four_samples, nothing_stored}
 use Rattle.pnm_filters.specs.Columns.{HavePixels}
 use Rattle.std.proofs.lemmas.Grind.{common_steps}
 use Rattle.pnm_filters.proofs.batch.put_four_samples.Goals as goal
@@ -12,11 +11,9 @@ loop-k-preserved g c =
     let k = c.loop-k.k in
     let v = c.index-columns-k.result in
     let rows = c.args.rows.now in
-    let buffer : at + 4 ≤ vec_len (get_or c.loop-k.columns k v) = omega (arith, c.requires.long k v (omega arith), c.loop-k.invariant.long k v) in
-    column_stored k at _ (λ k. column_of 1 rows (c.args.first + k)) c.args.columns.now c.loop-k.columns v c.deref_mut.result.now c.copy_from_slice.new.self
-    c.loop-k.invariant (omega arith) c.deref_mut.ensures.value
-    (c.copy_from_slice.ensures.after
-    ∙ four_samples (c.args.first + k) rows c.as_slice-a.result.now c.as_slice-b.result.now c.as_slice-c.result.now c.as_slice-d.result.now c.index-a-x.result
+    column_stored k at (λ k. column_of 1 rows (c.args.first + k)) c.args.columns.now c.loop-k.columns v c.as_mut_slice.result.now c.store.new.column _ c.loop-k.invariant (omega arith)
+    c.as_mut_slice.ensures.value c.store.auto.column c.store.ensures
+    (four_samples (c.args.first + k) rows c.as_slice-a.result.now c.as_slice-b.result.now c.as_slice-c.result.now c.as_slice-d.result.now c.index-a-x.result
     c.index-b-x.result c.index-c-x.result c.index-d-x.result
     c.requires.four (reach 1 c.args.first _ k rows (omega arith) c.requires.rows)
     (looked_up c.args.rows.now 0 c.as_slice-a.result.now c.index-rows-0.result c.as_slice-a.ensures c.index-rows-0.is)
@@ -24,7 +21,6 @@ loop-k-preserved g c =
     (looked_up c.args.rows.now 2 c.as_slice-c.result.now c.index-rows-2.result c.as_slice-c.ensures c.index-rows-2.is)
     (looked_up c.args.rows.now 3 c.as_slice-d.result.now c.index-rows-3.result c.as_slice-d.ensures c.index-rows-3.is)
     c.index-a-x.is c.index-b-x.is c.index-c-x.is c.index-d-x.is)
-    c.copy_from_slice.ensures.len (omega (arith, buffer))
 
 pub bounds-a-x : goal.bounds-a-x
 bounds-a-x g c =
@@ -57,33 +53,11 @@ bounds-d-x g c =
 pub loop-k-init : goal.loop-k-init
 loop-k-init g c = nothing_stored _ _ _
 
-pub copy_from_slice-requires : goal.copy_from_slice-requires
-copy_from_slice-requires g c =
-    let at = c.args.at in
-    let k = c.loop-k.k in
-    let v = c.index-columns-k.result in
-    let buffer : at + 4 ≤ vec_len (get_or c.loop-k.columns k v) = omega (arith, c.requires.long k v (omega arith), c.loop-k.invariant.long k v) in
-    let room : at + 4 ≤ length c.deref_mut.result.now = omega (arith, buffer, ap length c.deref_mut.ensures.value, (get_or c.loop-k.columns k v).ok.0) in
-    omega (arith, mid_len at (at + 4) c.deref_mut.result.now room)
-
 pub returns : goal.returns
 returns g c =
     let all : c.loop-k.k ≡ length c.args.columns.now = omega (arith, c.loop-k.invariant.many) in
     subst (λ (n : ℕ). HavePixels n c.args.at (λ k. column_of 1 c.args.rows.now (c.args.first + k)) c.args.columns.now c.loop-k.columns) all
     c.loop-k.invariant
-
-pub slice_bounds-copy_from_slice-end : goal.slice_bounds-copy_from_slice-end
-slice_bounds-copy_from_slice-end g c =
-    let k = c.loop-k.k in
-    let v = c.index-columns-k.result in
-    let buffer : c.args.at + 4 ≤ vec_len (get_or c.loop-k.columns k v) = omega (arith, c.requires.long k v (omega arith), c.loop-k.invariant.long k v) in
-    omega (arith, buffer, ap length c.deref_mut.ensures.value, (get_or c.loop-k.columns k v).ok.0)
-
-pub offset_bounds-deref_mut-at : goal.offset_bounds-deref_mut-at
-offset_bounds-deref_mut-at g c = grind (arith, common_steps)
-
-pub shared_whole_as_slice-copy_from_slice : goal.shared_whole_as_slice-copy_from_slice
-shared_whole_as_slice-copy_from_slice g c = grind (arith, common_steps)
 
 pub offset_bounds-b-x : goal.offset_bounds-b-x
 offset_bounds-b-x g c = grind (arith, common_steps)
@@ -96,3 +70,13 @@ offset_bounds-c-x g c = grind (arith, common_steps)
 
 pub offset_bounds-a-x : goal.offset_bounds-a-x
 offset_bounds-a-x g c = grind (arith, common_steps)
+
+pub store-requires : goal.store-requires
+store-requires g c = room_in c.loop-k.k c.args.at (c.args.at + 4) _ c.args.columns.now c.loop-k.columns c.index-columns-k.result c.as_mut_slice.result.now c.loop-k.invariant
+    c.requires.long (omega arith) c.as_mut_slice.ensures.value
+
+pub shared_whole_as_slice-store : goal.shared_whole_as_slice-store
+shared_whole_as_slice-store g c =
+    let room = room_in c.loop-k.k c.args.at (c.args.at + 4) _ c.args.columns.now c.loop-k.columns c.index-columns-k.result c.as_mut_slice.result.now
+    c.loop-k.invariant c.requires.long (omega arith) c.as_mut_slice.ensures.value in
+    grind (arith, common_steps, room)
