@@ -181,6 +181,18 @@ length_ordered : {X : Type 0} (b : Bool) (xs : List X) → length (in_order b xs
 length_ordered true xs = length-reverse xs
 length_ordered false xs = refl
 
+-- ordered rows reach as far
+pub ordered_reach : {X : Type 0} (b : Bool) (width depth : ℕ) (rows ordered : List (List X)) → ordered ≡ in_order b rows
+    → All (λ row. length row ≡ width * depth) rows → All (λ row. width * depth ≤ length row) ordered
+ordered_reach {X = X} b width depth rows ordered is each =
+    let Reaches : List X → Type 0 = λ row. width * depth ≤ length row in
+    subst (All Reaches) (sym is)
+    (All-in_order Reaches b rows (All-weaker (λ (row : List X). length row ≡ width * depth) Reaches (λ row e. omega (arith, e)) rows each))
+
+-- they are as many
+pub ordered_count : {X : Type 0} (b : Bool) (n : ℕ) (rows ordered : List (List X)) → ordered ≡ in_order b rows → length rows ≡ n → length ordered ≡ n
+ordered_count b n rows ordered is count = ap length is ∙ length_ordered b rows ∙ count
+
 -- the columns with a strip more and no rows after it
 strip_behind : {X : Type 0} (b : Bool) (depth x : ℕ) (strips rows : List (List X)) (strip : List X)
     → pixel_of (STRIP_ROWS * depth) strip x ≡ column_of depth (in_order b rows) x

@@ -1,7 +1,8 @@
-use Rattle.std.proofs.Common.{◌≡◌, ◌+◌, length, arith}
+use Rattle.std.proofs.Common.{◌≡◌, ◌+◌, length, arith, ℕ, ◌*◌, ◌≤◌, refl, sym, ap, ◌∙◌}
 use Rattle.std.proofs.Math.ListN.{length-set}
-use Rattle.pnm_filters.proofs.EnlargeRowLaws.{place_there, none_stored, pixel_there, sample_more, pixel_stored, pixel_more, column_more, next_place}
+use Rattle.pnm_filters.proofs.EnlargeRowLaws.{place_there, none_stored, pixel_there, sample_more, pixel_stored, pixel_more, column_more, next_place, columns_repeated}
 use Rattle.pnm_tools.proofs.PickLaws.{columns_end}
+use Rattle.std.proofs.lemmas.List.{append-nil, take_all}
 use Rattle.pnm_filters.proofs.enlarge.repeat_each.Goals as goal
 
 pub loop-p-init : goal.loop-p-init
@@ -58,3 +59,18 @@ bounds-pixel-p g c =
 pub slice_bounds-pixel-end : goal.slice_bounds-pixel-end
 slice_bounds-pixel-end g c =
     omega (arith, columns_end c.args.shape.width c.args.shape.depth c.loop-x.x c.loop-x-test.true, c.requires.row)
+
+pub loop-x-init : goal.loop-x-init
+loop-x-init g c = record { prefix = refl; place = omega arith }
+
+pub loop-init : goal.loop-init
+loop-init g c = record { prefix = sym (append-nil _); place = omega arith }
+
+pub returns : goal.returns
+returns g c =
+    let s = c.args.shape in
+    let all : c.loop-x.x ≡ s.width = omega arith in
+    let long : length c.args.row.now * c.args.across ≡ s.width * s.depth * c.args.across = ap (λ (n : ℕ). n * c.args.across) c.requires.row in
+    let le : length c.loop-x.buffer ≤ c.loop-x.at =
+    omega (arith, c.loop-x.invariant.place, long, c.requires.buffer, ap (λ (n : ℕ). n * c.args.across * s.depth) all) in
+    sym (take_all c.loop-x.at c.loop-x.buffer le) ∙ c.loop-x.invariant.prefix ∙ ap (columns_repeated c.args.across s.depth c.args.row.now) all
