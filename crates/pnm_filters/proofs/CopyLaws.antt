@@ -1,7 +1,6 @@
 -- A sample that is stored so many times, several at once.
 use Rattle.std.proofs.Common.{◌≡◌, ℕ, ◌+◌, ◌-◌, ◌*◌, ◌≤◌, ◌<◌, List, [], ◌∷◌, ◌++◌, length, take, drop, get_or, set, replicate, refl, sym, ap, ◌∙◌, arith}
 use borrow.Rule.Slice.PartMut.{put_mid}
-use Rattle.std.proofs.Math.ListN.{length-set}
 use Rattle.std.proofs.Math.Seq.{take-append-add}
 use Rattle.std.proofs.lemmas.List.{append_assoc, length-append, length-drop, length-replicate, length-take-le, replicate-append-replicate, take_at}
 use Rattle.std.proofs.lemmas.List.{take_more_set, take-replicate, take-take}
@@ -70,31 +69,12 @@ repeated_add {X = X} k m pixel =
     pieces_in_parts (λ _. pixel) 0 k m ∙ ap (λ (l : List X). copies_of k pixel ++ l) (pieces_alike_from (λ _. pixel) (λ _. pixel) (0 + k) 0 m (λ i lt. refl))
 
 -- several more
-pub colors_more : {X : Type 0} (buffer prefix copies pixel : List X) (place k m size next : ℕ) → take place buffer ≡ prefix ++ copies_of k pixel
-    → copies ≡ copies_of m pixel → place ≤ length buffer → length copies ≡ size → next ≡ place + size
-    → take next (put_mid place size buffer copies) ≡ prefix ++ copies_of (k + m) pixel
-colors_more {X = X} buffer prefix copies pixel place k m size next was is within long on =
-    take-put_mid place size buffer copies next (omega arith) within ∙ ap (λ (l : List X). l ++ copies) was ∙ append_assoc prefix (copies_of k pixel) copies
+pub colors_more : {X : Type 0} (buffer new prefix copies pixel : List X) (place k m next : ℕ) → take place buffer ≡ prefix ++ copies_of k pixel
+    → take (place + length copies) new ≡ take place buffer ++ copies → copies ≡ copies_of m pixel → next ≡ place + length copies
+    → take next new ≡ prefix ++ copies_of (k + m) pixel
+colors_more {X = X} buffer new prefix copies pixel place k m next was stored is on =
+    ap (λ (n : ℕ). take n new) on ∙ stored ∙ ap (λ (l : List X). l ++ copies) was ∙ append_assoc prefix (copies_of k pixel) copies
     ∙ ap (λ (l : List X). prefix ++ (copies_of k pixel ++ l)) is ∙ ap (λ (l : List X). prefix ++ l) (sym (repeated_add k m pixel))
-
--- one more
-pub color_more : {X : Type 0} (buffer prefix : List X) (place k n₁ n₂ next : ℕ) (a b c : X) → take place buffer ≡ prefix ++ copies_of k (a ∷ b ∷ c ∷ [])
-    → place + 3 ≤ length buffer → n₁ ≡ place + 1 → n₂ ≡ place + 2 → next ≡ place + 3
-    → take next (set (set (set buffer place a) n₁ b) n₂ c) ≡ prefix ++ copies_of (k + 1) (a ∷ b ∷ c ∷ [])
-color_more {X = X} buffer prefix place k n₁ n₂ next a b c was fits second third on =
-    let pixel : List X = a ∷ b ∷ c ∷ [] in
-    let one : List X = set buffer place a in
-    let two : List X = set one (place + 1) b in
-    let long : length one ≡ length buffer = length-set buffer place a in
-    let longer : length two ≡ length one = length-set one (place + 1) b in
-    let last : (place + 2) + 1 ≡ next = omega arith in
-    let middle : (place + 1) + 1 ≡ place + 2 = omega arith in
-    ap (λ (n : ℕ). take next (set (set one n b) n₂ c)) second ∙ ap (λ (n : ℕ). take next (set two n c)) third
-    ∙ ap (λ (n : ℕ). take n (set two (place + 2) c)) (sym last) ∙ take_more_set two (place + 2) c (omega arith)
-    ∙ ap (λ (n : ℕ). take n two ++ c ∷ []) (sym middle) ∙ ap (λ (l : List X). l ++ c ∷ []) (take_more_set one (place + 1) b (omega arith))
-    ∙ ap (λ (l : List X). (l ++ b ∷ []) ++ c ∷ []) (take_more_set buffer place a (omega arith) ∙ ap (λ (l : List X). l ++ a ∷ []) was)
-    ∙ append_assoc ((prefix ++ copies_of k pixel) ++ a ∷ []) (b ∷ []) (c ∷ []) ∙ append_assoc (prefix ++ copies_of k pixel) (a ∷ []) (b ∷ c ∷ [])
-    ∙ append_assoc prefix (copies_of k pixel) pixel ∙ ap (λ (l : List X). prefix ++ l) (sym (repeated_add k 1 pixel))
 
 -- those that are wanted, of as many or more
 pub colors_stored : {X : Type 0} (buffer old pixel : List X) (at count k : ℕ) → length pixel ≡ 3 → at ≤ length old → count ≤ k

@@ -97,25 +97,6 @@ color_doubled {X = X} row buffer new color x at n was stored is place =
     stored ∙ ap (λ (l : List X). l ++ copies_of 2 color) was
     ∙ ap (λ (l : List X). columns_repeated 2 3 row x ++ copies_of 2 l) (color_of row color n x is place) ∙ sym (one_more_column 2 3 row x)
 
--- six stores behind the front of a buffer
-pub stored_six : {X : Type 0} (buffer : List X) (n b c d e f : ℕ) (u v w : X) → n + 6 ≤ length buffer → b ≡ n + 1 → c ≡ n + 2 → d ≡ n + 3 → e ≡ n + 4
-    → f ≡ n + 5
-    → take (n + 6) (set (set (set (set (set (set buffer n u) b v) c w) d u) e v) f w) ≡ take n buffer ++ copies_of 2 (u ∷ v ∷ w ∷ [])
-stored_six {X = X} buffer n b c d e f u v w fits at₁ at₂ at₃ at₄ at₅ =
-    let prefix : List X = take n buffer in
-    let r₂ : List X = set (set buffer n u) b v in
-    let r₄ : List X = set (set r₂ c w) d u in
-    let long₂ : length r₂ ≡ length buffer = length-set (set buffer n u) b v ∙ length-set buffer n u in
-    let long₄ : length r₄ ≡ length buffer = length-set (set r₂ c w) d u ∙ length-set r₂ c w ∙ long₂ in
-    let two : take (n + 2) r₂ ≡ prefix ++ (u ∷ v ∷ []) = stored_twice buffer prefix n n b u v refl (omega arith) refl at₁ in
-    let four : take ((n + 2) + 2) r₄ ≡ (prefix ++ (u ∷ v ∷ [])) ++ (w ∷ u ∷ []) =
-    stored_twice r₂ (prefix ++ (u ∷ v ∷ [])) (n + 2) c d w u two (omega arith) at₂ (omega arith) in
-    let six : take (((n + 2) + 2) + 2) (set (set r₄ e v) f w) ≡ ((prefix ++ (u ∷ v ∷ [])) ++ (w ∷ u ∷ [])) ++ (v ∷ w ∷ []) =
-    stored_twice r₄ ((prefix ++ (u ∷ v ∷ [])) ++ (w ∷ u ∷ [])) ((n + 2) + 2) e f v w four (omega arith) (omega arith) (omega arith) in
-    let next : n + 6 ≡ ((n + 2) + 2) + 2 = omega arith in
-    ap (λ (k : ℕ). take k (set (set r₄ e v) f w)) next ∙ six
-    ∙ append_assoc (prefix ++ (u ∷ v ∷ [])) (w ∷ u ∷ []) (v ∷ w ∷ []) ∙ append_assoc prefix (u ∷ v ∷ []) (w ∷ u ∷ v ∷ w ∷ [])
-
 -- four pixels, each twice
 pub four_colors : {X : Type 0} (row buffer r₁ r₂ r₃ r₄ p q r s : List X) → length r₄ ≡ 24 → p ≡ take 3 (drop 0 row) → q ≡ take 3 (drop 3 row)
     → r ≡ take 3 (drop 6 row) → s ≡ take 3 (drop 9 row) → take 6 r₁ ≡ take 0 buffer ++ copies_of 2 p → take 12 r₂ ≡ take 6 r₁ ++ copies_of 2 q

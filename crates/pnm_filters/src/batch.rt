@@ -1,6 +1,6 @@
 //! Columns of an image, made side by side.
 
-ghost use Rattle.std.specs.Prelude.{◌≡◌, ◌≤◌, ◌+◌, ◌*◌, ◌++◌, ℕ, List, All, length, map, reverse, take};
+ghost use Rattle.std.specs.Prelude.{◌≡◌, ◌≤◌, ◌+◌, ◌*◌, ℕ, List, All, length, map, reverse};
 ghost use Rattle.std.specs.Prelude.{IfOk, IfErr};
 ghost use Rattle.std.specs.List.{range_with_len};
 ghost use Rattle.pnm_image.specs.declared.limits.TheConstants.{MAX_DEPTH, MAX_ROW_LENGTH};
@@ -10,6 +10,7 @@ ghost use Rattle.pnm_tools.specs.Flip.{column_of};
 ghost use Rattle.pnm_tools.specs.Pixels.{pixel_of};
 ghost use Rattle.pnm_filters.specs.Strips.{ReachColumns, kept_column, kept_count};
 
+use crate::buffer::store;
 use crate::color::color_at;
 use crate::row_of::RowOf;
 use crate::strip::{STRIP_ROWS, StripedRows};
@@ -232,15 +233,6 @@ fn put_pixels<T: Copy>(columns: &mut [Vec<T>], at: usize, row: &[T], first: usiz
         let x = (first + k) * depth;
         store(column.as_mut_slice(), at, &row[x..x + depth]);
     }
-}
-
-/// Stores samples at this place of a column.
-#[inline(always)]
-fn store<T: Copy>(column: &mut [T], at: usize, samples: &[T])
-    requires { at + length samples.now ≤ length column.old }
-    ensures { take (at + length samples.now) column.new ≡ take at column.old ++ samples.now }
-{
-    column[at..at + samples.len()].copy_from_slice(samples);
 }
 
 /// So many columns of so many samples, which are still to be stored.

@@ -14,6 +14,7 @@ ghost use Rattle.pnm_filters.specs.Keeping.{IsEnlarging, enlarged_due};
 ghost use Rattle.pnm_tools.specs.Limits.{IsExtent};
 ghost use Rattle.pnm_tools.specs.Tools.{TakesHead, result_head};
 
+use crate::buffer::store;
 use crate::color::color_at;
 use crate::head::head_within_limits;
 use crate::image_tool::ImageTool;
@@ -162,12 +163,7 @@ fn put_twice<T: Copy>(buffer: &mut [T], at: usize, color: (T, T, T))
         ≡ take at buffer.old ++ copies_of 2 (color.0 ∷ color.1 ∷ color.2 ∷ []) }
 {
     let (a, b, c) = color;
-    buffer[at] = a;
-    buffer[at + 1] = b;
-    buffer[at + 2] = c;
-    buffer[at + 3] = a;
-    buffer[at + 4] = b;
-    buffer[at + 5] = c;
+    store(buffer, at, &[a, b, c, a, b, c]);
 }
 
 /// Fills the buffer with the row, each pixel so many times, where a pixel is one sample.
@@ -228,14 +224,11 @@ fn put_colors<T: Copy>(buffer: &mut [T], at: usize, count: usize, color: (T, T, 
     while stored < count {
         let place = at + 3 * stored;
         if buffer.len() - place >= 15 {
-            buffer[place..place + 15].copy_from_slice(&[
-                a, b, c, a, b, c, a, b, c, a, b, c, a, b, c,
-            ]);
+            let five = [a, b, c, a, b, c, a, b, c, a, b, c, a, b, c];
+            store(buffer, place, &five);
             stored += 5;
         } else {
-            buffer[place] = a;
-            buffer[place + 1] = b;
-            buffer[place + 2] = c;
+            store(buffer, place, &[a, b, c]);
             stored += 1;
         }
     }

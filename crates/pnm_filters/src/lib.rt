@@ -4,6 +4,7 @@
 mod any_tool;
 mod batch;
 mod bit_rows;
+mod buffer;
 mod by_row;
 mod channel;
 mod color;
