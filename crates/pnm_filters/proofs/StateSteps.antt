@@ -13,9 +13,9 @@ use Rattle.pnm_filters.specs.Pendings.{Pending, AllGiven, Waiting, Rows, RowsAnd
 use Rattle.pnm_tools.specs.declared.tool.Tool.{Tool}
 use Rattle.pnm_tools.specs.Answers.{Begins, RefusesHead, Judges}
 use Rattle.pnm_tools.specs.Answering.{answers_at, rows_after, rows_come}
-use Rattle.pnm_filters.specs.States.{Standing, standing, IsAt, IsReadyFor, KeepsNone, is_all_given, waiting_in}
+use Rattle.pnm_filters.specs.States.{Standing, standing, IsAt, IsReadyFor, IsStanding, KeepsNone, is_all_given, waiting_in}
 use Rattle.pnm_tools.specs.Answering.{IsAnswering}
-use Rattle.pnm_filters.specs.Steps.{IsAccepted, IsRefused}
+use Rattle.pnm_filters.specs.Steps.{IsAccepted, IsGiven, IsRefused}
 use Rattle.pnm_tools.proofs.AtLaws.{answering_answers}
 use Rattle.pnm_tools.proofs.AnsweringLaws.{answers_from-append, taken_more}
 use Rattle.pnm_tools.proofs.HeadFaultLaws.{head_is_refused_by_name}
@@ -67,6 +67,27 @@ fed tool_at ready_for due kept old new to m pending fault t l g at taken =
       none = taken.none (subst (KeepsNone kept old.work old.place) (told old.pending taken.is_due.0) at.none);
       answers = answering_answers t (l ++ m ∷ []) g (waiting_in pending (due new)) (tool_answers_images t at.options) more;
     }
+
+-- a state stays sound, as a message is accepted
+pub sound_fed : {W : Type 0} (tool_at : W → Tool) (ready_for : W → Shape → List (List ℕ) → Type 0) (due kept : W → List (List ℕ)) (old new : W)
+    (from to : Place) (m : Message) (before after : Pending) (fault : Option ToolFault) → fault ≡ None → IsStanding ready_for kept old from before fault
+    → IsAccepted tool_at ready_for due kept (is_all_given before) old from m new to after → IsStanding ready_for kept new to after fault
+sound_fed tool_at ready_for due kept old new from to m before after fault none is taken =
+    let sound : IsStanding ready_for kept old from before None = subst (IsStanding ready_for kept old from before) none is in
+    subst (IsStanding ready_for kept new to after) (sym none) (
+      (rows_after sound.0.0 m, taken.ready sound.0.0 sound.0.1),
+      taken.none (subst (KeepsNone kept old from) (told before taken.is_due.0) sound.1),
+    )
+
+-- and as one is given
+pub sound_given : {W : Type 0} (tool_at : W → Tool) (ready_for : W → Shape → List (List ℕ) → Type 0) (due kept : W → List (List ℕ)) (old new : W)
+    (place : Place) (given : Option Message) (before after : Pending) (fault : Option ToolFault) → fault ≡ None
+    → IsStanding ready_for kept old place before fault
+    → IsGiven tool_at ready_for due kept old before new after given → IsStanding ready_for kept new place after fault
+sound_given tool_at ready_for due kept old new place given before after fault none is gave =
+    let sound : IsStanding ready_for kept old place before None = subst (IsStanding ready_for kept old place before) none is in
+    subst (IsStanding ready_for kept new place after) (sym none)
+    ((sound.0.0, gave.ready place sound.0.0 sound.1 sound.0.1), gave.none place sound.1)
 
 -- ---- a refusal comes where it should
 

@@ -1,6 +1,7 @@
-use Rattle.std.proofs.Common.{◌≡◌, ◌≤◌, ◌+◌, ◌-◌, ◌*◌, ◌/◌, ℕ, length, take, refl, subst, ap, ◌∙◌, arith}
+use Rattle.std.proofs.Common.{◌≡◌, ◌≤◌, ◌+◌, ◌-◌, ◌*◌, ◌/◌, ℕ, length, take, refl, subst, ap, ◌∙◌, arith, sym}
 use borrow.Rule.Slice.PartMut.{same_len_mid, mid_len}
 use Rattle.pnm_filters.proofs.EnlargeRowLaws.{columns_repeated, four_more, color_doubled}
+use Rattle.std.proofs.lemmas.List.{take_all}
 use Rattle.pnm_filters.proofs.enlarge.double_colors.Goals as goal
 
 pub loop-x-preserved : goal.loop-x-preserved
@@ -43,3 +44,30 @@ loop-x-2-preserved g c =
           c.color_at.ensures refl;
       size = c.put_twice.ensures.long ∙ c.loop-x-2.invariant.size;
     }
+
+pub loop-x-init : goal.loop-x-init
+loop-x-init g c = (refl, refl)
+
+pub double_four_colors-requires-clause-row : goal.double_four_colors-requires-clause-row
+double_four_colors-requires-clause-row g c =
+    let from = 12 * c.loop-x.x in
+    let long : length c.args.row.now ≡ c.args.shape.width * 3 = c.requires.row ∙ ap (λ (n : ℕ). c.args.shape.width * n) c.requires.depth in
+    let count : (from + 12) - from ≡ 12 = omega arith in
+    mid_len from (from + 12) c.args.row.now (omega (arith, long)) ∙ count
+
+pub double_four_colors-requires-clause-buffer : goal.double_four_colors-requires-clause-buffer
+double_four_colors-requires-clause-buffer g c =
+    let from = 24 * c.loop-x.x in
+    let long : length c.args.row.now ≡ c.args.shape.width * 3 = c.requires.row ∙ ap (λ (n : ℕ). c.args.shape.width * n) c.requires.depth in
+    let count : (from + 24) - from ≡ 24 = omega arith in
+    mid_len from (from + 24) c.loop-x.buffer (omega (arith, long, c.loop-x.invariant.1)) ∙ count
+
+pub returns : goal.returns
+returns g c =
+    let x = c.loop-x-2.x in
+    let buffer = c.loop-x-2.buffer in
+    let long : length c.args.row.now ≡ c.args.shape.width * 3 = c.requires.row ∙ ap (λ (n : ℕ). c.args.shape.width * n) c.requires.depth in
+    let all : x ≡ c.args.shape.width = omega arith in
+    let le : length buffer ≤ 6 * x = omega (arith, long, c.loop-x-2.invariant.size) in
+    sym (take_all (6 * x) buffer le) ∙ c.loop-x-2.invariant.prefix ∙ ap (columns_repeated 2 3 c.args.row.now) all
+    ∙ ap (λ (depth : ℕ). columns_repeated 2 depth c.args.row.now c.args.shape.width) (sym c.requires.depth)

@@ -1,6 +1,9 @@
 use Rattle.pnm_filters.specs.Pendings.{pending_of}
 use Rattle.pnm_filters.specs.States.{standing}
 use Rattle.pnm_filters.proofs.GivingSteps.{given_by, stop_alone_by, full_by, wanted_memory}
+use Rattle.std.proofs.Common.{subst, sym, ◌∙◌}
+use Rattle.pnm_tools.specs.Tools.{IsLawfulTool}
+use Rattle.pnm_filters.proofs.StateSteps.{sound_given}
 use Rattle.pnm_filters.proofs.state.StateFilter.next.Goals as goal
 
 pub returns-in-Ok-clause-given : goal.returns-in-Ok-clause-given
@@ -34,3 +37,15 @@ returns-in-Err-clause-failed g c = λ none. (
       wanted_memory g.T.ImageTool.tool g.T.ImageTool.ready g.T.ImageTool.due g.T.ImageTool.kept (standing s.work s.place (pending_of s.owed s.waiting) s.fault)
       t l given is_at c.in-Err.ensures.1,
 )
+
+pub invariant_of-self : goal.invariant_of-self
+invariant_of-self g c =
+    let s = c.self.inside in (
+      subst IsLawfulTool (sym c.in-Ok.ensures.tool) c.self.invariant.0,
+      sound_given g.T.ImageTool.tool g.T.ImageTool.ready g.T.ImageTool.due g.T.ImageTool.kept s.work c.give.new.work s.place c.in-Ok.message (pending_of s.owed s.waiting)
+          (pending_of c.give.new.owed c.give.new.waiting) s.fault c.in_default.is c.self.invariant.1 c.in-Ok.ensures,
+    )
+
+pub invariant_of-self-in-Err : goal.invariant_of-self-in-Err
+invariant_of-self-in-Err g c =
+    (subst IsLawfulTool (sym (c.release.ensures.same ∙ c.in-Err.ensures.2)) c.self.invariant.0, c.release.ensures.kept)

@@ -1,6 +1,6 @@
-use Rattle.std.proofs.Common.{rules, ◌≡◌, inl, inr, suc, ◌-◌, ◌≤◌, ◌∷◌, length, refl, ap, subst, sym, ◌∙◌, arith}
+use Rattle.std.proofs.Common.{rules, ◌≡◌, inl, inr, suc, ◌-◌, ◌≤◌, ◌∷◌, length, refl, ap, subst, sym, ◌∙◌, arith, List, ℕ}
 use Rattle.pnm_filters.specs.declared.tile.Tiler.TheInside.{Inside}
-use Rattle.pnm_filters.specs.Keeping.{HasTiles, AreWithin, tiled, tiled_due}
+use Rattle.pnm_filters.specs.Keeping.{HasTiles, AreWithin, tiled, tiled_due, Tiled}
 use Rattle.pnm_filters.proofs.TileRowLaws.{given_of_queue, tiles_left, left_within}
 use Rattle.std.proofs.lemmas.Grind.{common_steps}
 use Rattle.pnm_filters.proofs.tile.TilerImageTool.give.Goals as goal
@@ -70,3 +70,16 @@ tile_last_row-requires-clause-row c = grind (arith, common_steps)
 
 pub invariant_of-self : goal.invariant_of-self
 invariant_of-self c = grind (arith, common_steps)
+
+pub returns-then-self-eq0-clause-due : goal.returns-then-self-eq0-clause-due
+returns-then-self-eq0-clause-due c = refl
+
+pub returns-in_default-clause-due : goal.returns-in_default-clause-due
+returns-in_default-clause-due c =
+    let x = c.self.inside in
+    ap tiled_due (sym c.self.view_is)
+    ∙ ap (λ (rows : List (List ℕ)). tiled_due (tiled x.width x.height x.shape.width x.shape.depth rows x.left)) c.in_default.ensures.items
+
+pub returns-clause-ready : goal.returns-clause-ready
+returns-clause-ready c =
+    λ shape rows is. absurd (c.if-self-eq0.false (ap (λ (w : Tiled). w.left) c.self.view_is ∙ is.none_given))
