@@ -9,7 +9,7 @@ use Rattle.pnm_image.specs.declared.shape.Shape.{Shape}
 use Rattle.pnm_tools.specs.Flip.{turn_of, mirrored_row}
 use Rattle.pnm_tools.specs.Pixels.{pixel_of}
 use Rattle.pnm_tools.proofs.PickLaws.{flat_map_one_more, pieces_within}
-use Rattle.std.proofs.lemmas.List.Elements.{All-take, All-drop, All-head, All-tail}
+use Rattle.std.proofs.lemmas.List.Elements.{All-take, All-drop}
 use Rattle.pnm_tools.specs.declared.tool.Tool.TheVariants.{Flip}
 use Rattle.pnm_filters.specs.Keeping.{Reversed, reversed, reversed_due}
 use Rattle.pnm_tools.specs.Flip.{ReversesRows}
@@ -152,8 +152,3 @@ pub none_reversed : (w : Reversed) (s : Shape) (y : ℕ) (row : List ℕ) → Re
     → reversed_due w ≡ row_answer (Flip w.way) s y row
 none_reversed w s y row reverses none =
     ap (λ (ended : Option Shape). reversed_due (reversed w.way w.rows ended)) none ∙ sym (row_moved w.way s y row (reversed_moves (turn_of w.way) reverses))
-
--- what holds of all rows holds of the last one
-pub last_of : {X : Type 0} (P : X → Type 0) (front : List X) (x : X) → All P (front ++ x ∷ []) → P x
-last_of P [] x all = All-head P x [] all
-last_of P (y ∷ front) x all = last_of P front x (All-tail P y (front ++ x ∷ []) all)

@@ -11,8 +11,8 @@ loop-k-preserved g c =
     let k = c.loop-k.k in
     let v = c.index-columns-k.result in
     let rows = c.args.rows.now in
-    column_stored k at (λ k. column_of 3 rows (c.args.first + k)) c.args.columns.now c.loop-k.columns v c.as_mut_slice.result.now c.store.new.buffer _ c.loop-k.invariant (omega arith)
-    c.as_mut_slice.ensures.value c.store.auto.buffer c.store.ensures
+    column_stored k at (λ k. column_of 3 rows (c.args.first + k)) c.args.columns.now c.loop-k.columns v c.as_mut_slice.result.now
+    c.store.new.buffer _ c.loop-k.invariant (omega arith) c.as_mut_slice.ensures.value c.store.auto.buffer c.store.ensures
     (four_colors (c.args.first + k) (3 * (c.args.first + k)) rows c.as_slice-a.result.now c.as_slice-b.result.now c.as_slice-c.result.now
     c.as_slice-d.result.now _ _ _ _ refl c.requires.four
     (looked_up c.args.rows.now 0 c.as_slice-a.result.now c.index-rows-0.result c.as_slice-a.ensures c.index-rows-0.is)
@@ -59,8 +59,9 @@ returns g c =
     c.loop-k.invariant
 
 pub store-requires : goal.store-requires
-store-requires g c = room_in c.loop-k.k c.args.at (c.args.at + 12) _ c.args.columns.now c.loop-k.columns c.index-columns-k.result c.as_mut_slice.result.now c.loop-k.invariant
-    c.requires.long (omega arith) c.as_mut_slice.ensures.value
+store-requires g c =
+    room_in c.loop-k.k c.args.at (c.args.at + 12) _ c.args.columns.now c.loop-k.columns c.index-columns-k.result c.as_mut_slice.result.now
+    c.loop-k.invariant c.requires.long (omega arith) c.as_mut_slice.ensures.value
 
 pub shared_whole_as_slice-store : goal.shared_whole_as_slice-store
 shared_whole_as_slice-store g c = grind (arith, common_steps)

@@ -14,8 +14,9 @@ loop-k-preserved g c =
     let v = c.index-columns-k.result in
     let x = (c.args.first + k) * depth in
     let pixel : (x + depth) - x ≡ depth = omega arith in
-    column_stored k at (λ k. pixel_of depth c.args.row.now (c.args.first + k)) c.args.columns.now c.loop-k.columns v c.as_mut_slice.result.now c.store.new.buffer _
-    c.loop-k.invariant (omega arith) c.as_mut_slice.ensures.value c.store.auto.buffer c.store.ensures (ap (λ (m : ℕ). take m (drop x c.args.row.now)) pixel)
+    column_stored k at (λ k. pixel_of depth c.args.row.now (c.args.first + k)) c.args.columns.now c.loop-k.columns v c.as_mut_slice.result.now
+    c.store.new.buffer _ c.loop-k.invariant (omega arith) c.as_mut_slice.ensures.value c.store.auto.buffer c.store.ensures
+    (ap (λ (m : ℕ). take m (drop x c.args.row.now)) pixel)
 
 pub loop-k-init : goal.loop-k-init
 loop-k-init g c = nothing_stored _ _ _
@@ -46,5 +47,6 @@ store-requires g c =
     let k = c.loop-k.k in
     let x = (c.args.first + k) * depth in
     let end = within (c.args.first + k) 1 (c.args.first + length c.args.columns.now) depth (omega arith) in
-    let room = room_in k at (at + depth) _ c.args.columns.now c.loop-k.columns c.index-columns-k.result c.as_mut_slice.result.now c.loop-k.invariant c.requires.long (omega arith) c.as_mut_slice.ensures.value in
+    let room = room_in k at (at + depth) _ c.args.columns.now c.loop-k.columns c.index-columns-k.result c.as_mut_slice.result.now c.loop-k.invariant
+    c.requires.long (omega arith) c.as_mut_slice.ensures.value in
     omega (arith, room, mid_len x (x + depth) c.args.row.now (omega (arith, end, c.requires.row)))

@@ -126,4 +126,5 @@ returns-in-Err-clause-same c =
 pub returns-in_default-clause-same : goal.returns-in_default-clause-same
 returns-in_default-clause-same c =
     let parts = c.into_parts-samples in
-    c.new-in_default.ensures ∙ ap (λ (samples : List ℕ). cut_rows parts.result.1 parts.result.2 samples) (c.within.ensures ∙ c.into_vec.ensures) ∙ sym parts.ensures.rows
+    c.new-in_default.ensures ∙ ap (λ (samples : List ℕ). cut_rows parts.result.1 parts.result.2 samples) (c.within.ensures ∙ c.into_vec.ensures)
+    ∙ sym parts.ensures.rows

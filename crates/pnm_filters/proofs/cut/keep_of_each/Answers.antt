@@ -28,10 +28,17 @@ pub overflow_add-start-in-loop-i : goal.overflow_add-start-in-loop-i
 overflow_add-start-in-loop-i c = omega (arith, c.requires.rows, row_ends_within c.args.count c.args.row_length c.loop-i.i c.loop-i-test.true)
 
 pub overflow_mul-i : goal.overflow_mul-i
-overflow_mul-i c = omega (arith, c.requires.rows, row_ends_within c.args.count c.args.row_length c.loop-i.i c.loop-i-test.true, mul-le-mul {n₁ = c.loop-i.i} {m₁ = c.args.kept} {n₂ = c.loop-i.i} {m₂ = c.args.row_length} (omega arith) (omega arith))
+overflow_mul-i c =
+    let ends = row_ends_within c.args.count c.args.row_length c.loop-i.i c.loop-i-test.true in
+    let front = mul-le-mul {n₁ = c.loop-i.i} {m₁ = c.args.kept} {n₂ = c.loop-i.i} {m₂ = c.args.row_length} (omega arith) (omega arith) in
+    omega (arith, c.requires.rows, ends, front)
 
 pub copy_within-requires-clause-in_bounds : goal.copy_within-requires-clause-in_bounds
-copy_within-requires-clause-in_bounds c = omega (arith, c.requires.rows, c.loop-i.invariant.long, row_ends_within c.args.count c.args.row_length c.loop-i.i c.loop-i-test.true)
+copy_within-requires-clause-in_bounds c =
+    omega (arith, c.requires.rows, c.loop-i.invariant.long, row_ends_within c.args.count c.args.row_length c.loop-i.i c.loop-i-test.true)
 
 pub copy_within-requires-clause-dest_in_bounds : goal.copy_within-requires-clause-dest_in_bounds
-copy_within-requires-clause-dest_in_bounds c = omega (arith, c.requires.rows, c.loop-i.invariant.long, row_ends_within c.args.count c.args.row_length c.loop-i.i c.loop-i-test.true, mul-le-mul {n₁ = c.loop-i.i} {m₁ = c.args.kept} {n₂ = c.loop-i.i} {m₂ = c.args.row_length} (omega arith) (omega arith))
+copy_within-requires-clause-dest_in_bounds c =
+    let ends = row_ends_within c.args.count c.args.row_length c.loop-i.i c.loop-i-test.true in
+    let front = mul-le-mul {n₁ = c.loop-i.i} {m₁ = c.args.kept} {n₂ = c.loop-i.i} {m₂ = c.args.row_length} (omega arith) (omega arith) in
+    omega (arith, c.requires.rows, c.loop-i.invariant.long, ends, front)

@@ -1,6 +1,7 @@
 use Rattle.std.proofs.Common.{◌≡◌, ◌+◌, length, arith, ℕ, ◌*◌, ◌≤◌, refl, sym, ap, ◌∙◌}
 use Rattle.std.proofs.Math.ListN.{length-set}
-use Rattle.pnm_filters.proofs.EnlargeRowLaws.{place_there, none_stored, pixel_there, sample_more, pixel_stored, pixel_more, column_more, next_place, columns_repeated}
+use Rattle.pnm_filters.proofs.EnlargeRowLaws.{place_there, none_stored, pixel_there, sample_more, pixel_stored, pixel_more, column_more, next_place}
+use Rattle.pnm_filters.proofs.EnlargeRowLaws.{columns_repeated}
 use Rattle.pnm_tools.proofs.PickLaws.{columns_end}
 use Rattle.std.proofs.lemmas.List.{append-nil, take_all}
 use Rattle.pnm_filters.proofs.enlarge.repeat_each.Goals as goal

@@ -42,8 +42,8 @@ pub invariant_of-self : goal.invariant_of-self
 invariant_of-self g c =
     let s = c.self.inside in (
       subst IsLawfulTool (sym c.in-Ok.ensures.tool) c.self.invariant.0,
-      sound_given g.T.ImageTool.tool g.T.ImageTool.ready g.T.ImageTool.due g.T.ImageTool.kept s.work c.give.new.work s.place c.in-Ok.message (pending_of s.owed s.waiting)
-          (pending_of c.give.new.owed c.give.new.waiting) s.fault c.in_default.is c.self.invariant.1 c.in-Ok.ensures,
+      sound_given g.T.ImageTool.tool g.T.ImageTool.ready g.T.ImageTool.due g.T.ImageTool.kept s.work c.give.new.work s.place c.in-Ok.message
+          (pending_of s.owed s.waiting) (pending_of c.give.new.owed c.give.new.waiting) s.fault c.in_default.is c.self.invariant.1 c.in-Ok.ensures,
     )
 
 pub invariant_of-self-in-Err : goal.invariant_of-self-in-Err
