@@ -184,3 +184,11 @@ some_left n is_nothing e f = some_by n (sym e ∙ f)
   where
     some_by : (n : ℕ) → (n == 0) ≡ false → 0 < n
     some_by n h = grind (arith, nat_tests)
+
+-- a row of numbers has the same text in each kind that is not pixels
+pub row_of_numbers : (kind : Kind) (numbers samples : List ℕ) → (kind ≡ Bit → ⊥) → numbers ≡ samples → plain_row_text Gray numbers ≡ plain_row_text kind
+    samples
+row_of_numbers Bit numbers samples is same = absurd (is refl)
+row_of_numbers Gray numbers samples is same = ap (plain_row_text Gray) same
+row_of_numbers Color numbers samples is same = ap (plain_row_text Gray) same
+row_of_numbers Pam numbers samples is same = ap (plain_row_text Gray) same

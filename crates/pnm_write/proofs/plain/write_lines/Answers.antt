@@ -1,11 +1,12 @@
-use Rattle.std.proofs.Common.{◌≡◌, ◌∙◌, List, ℕ, length, take, OnOk, OnErr, refl, sym, ap, subst, arith, rules}
+use Rattle.std.proofs.Common.{◌≡◌, ◌∙◌, List, ℕ, length, take, OnOk, OnErr, sym, ap, subst, arith, rules}
 use Rattle.std.proofs.lemmas.List.{take_all}
 use Rattle.std.specs.Io.KnownBytes.{Appends}
 use Rattle.pnm_image.specs.Devices.{FailsIn}
 use Rattle.pnm_image.specs.declared.shape.Kind.{Kind}
-use Rattle.pnm_image.specs.declared.shape.Kind.TheVariants.{Bit, Gray, Color, Pam}
+use Rattle.pnm_image.specs.declared.shape.Kind.TheVariants.{Bit}
 use Rattle.pnm_samples.specs.Pixels.{all_pixels}
 use Rattle.pnm_write.specs.PlainRows.{plain_row_text}
+use Rattle.pnm_write.proofs.PlainLaws.{row_of_numbers}
 use Rattle.pnm_write.proofs.plain.write_lines.Goals as goal
 
 -- the pixels that are written are the row's
@@ -15,13 +16,6 @@ row_of_pixels kind count samples pixels bytes is whole same held =
     ap (λ (n : ℕ). plain_row_text Bit (take n (all_pixels bytes))) whole
     ∙ ap (plain_row_text Bit) (sym held ∙ same)
     ∙ ap (λ (k : Kind). plain_row_text k samples) (sym is)
-
--- the numbers that are written are the row's
-row_of_numbers : (kind : Kind) (numbers samples : List ℕ) → (kind ≡ Bit → ⊥) → numbers ≡ samples → plain_row_text Gray numbers ≡ plain_row_text kind samples
-row_of_numbers Bit numbers samples is same = absurd (is refl)
-row_of_numbers Gray numbers samples is same = ap (plain_row_text Gray) same
-row_of_numbers Color numbers samples is same = ap (plain_row_text Gray) same
-row_of_numbers Pam numbers samples is same = ap (plain_row_text Gray) same
 
 -- all samples of a row are the row
 all_of_row : (kind : Kind) (count : ℕ) (samples : List ℕ) → count ≡ length samples → plain_row_text kind (take count samples) ≡ plain_row_text kind samples
