@@ -70,3 +70,21 @@ returns-clause-ran g c = λ tools lawful fresh.
     stages.first in
     let all = rw (c.new-downstream.ensures.writer, c.with_buffer-source.ensures.reader_is, ← c.answer.ensures) at has in
     search rules
+
+pub returns-in-Err-clause-same_reader : goal.returns-in-Err-clause-same_reader
+returns-in-Err-clause-same_reader g c = g.met.R.BytesIn.same_at_once _
+
+pub returns-in-Err-clause-same_writer : goal.returns-in-Err-clause-same_writer
+returns-in-Err-clause-same_writer g c = g.met.W.BytesOut.same_at_once _
+
+pub returns-clause-same_reader : goal.returns-clause-same_reader
+returns-clause-same_reader g c =
+    let same : g.R.BytesIn.same c.args.reader.now (reader_of c.feed_all-input.new.source).now =
+    (rw c.with_buffer-source.ensures.reader_is at c.feed_all-input.ensures.same_reader).1 in
+    search rules
+
+pub returns-clause-same_writer : goal.returns-clause-same_writer
+returns-clause-same_writer g c =
+    let same : g.W.BytesOut.same c.args.writer.now c.finish-written.result.0.now = g.met.W.BytesOut.same_later _ _ _
+    (rw c.new-downstream.ensures.writer at c.feed_all-input.ensures.same_writer).1 c.finish-written.ensures.same_device.1 in
+    search rules
