@@ -1,6 +1,8 @@
--- Parts of samples, and parts of these.
-use Rattle.std.proofs.Common.{◌≡◌, ℕ, ◌+◌, ◌-◌, ◌≤◌, List, length, take, drop, sym, ap, ◌∙◌, arith}
-use Rattle.std.proofs.lemmas.List.{take-take, drop-take, drop-drop, length-take, length-drop}
+-- Parts of samples, and parts of these; a writer at the begin and at the end of its parts.
+use Rattle.std.proofs.Common.{◌≡◌, ℕ, ◌+◌, ◌-◌, ◌≤◌, List, [], ◌++◌, length, take, drop, Option, Some, None, refl, sym, ap, subst, ◌∙◌, arith}
+use Rattle.std.proofs.lemmas.List.{append-nil, take-take, drop-take, drop-drop, length-take, length-drop}
+use Rattle.std.specs.Io.KnownBytes.{Appends, Keeps}
+use Rattle.pnm_image.proofs.Written.{Sending, Written, Appends-nothing}
 
 -- a part of a part is a part of all samples
 pub part_of_part : (start count done size : ℕ) (samples : List ℕ) → done + size ≤ count
@@ -16,3 +18,25 @@ part_of_part start count done size samples within =
 -- a part has as many samples as were asked for
 pub length-part : (start count : ℕ) (samples : List ℕ) → start + count ≤ length samples → length (take count (drop start samples)) ≡ count
 length-part start count samples within = omega (arith, within, length-take count (drop start samples), length-drop start samples)
+
+-- a writer that has written nothing yet
+pub begin_sending : {W : Type 0} (held : W → Option (List ℕ)) (failures : W → ℕ) (same : W → W → Type 0) (writer : W) (bytes : List ℕ) → same writer writer
+    → Sending held failures same writer writer bytes bytes
+begin_sending held failures same writer bytes at_once = record {
+  written = record {
+    prefix = [];
+    parts = refl;
+    appended = Appends-nothing (held writer) (held writer) (keeps (held writer));
+  };
+  count = refl;
+  same_device = at_once;
+}
+  where
+    keeps : (bytes : Option (List ℕ)) → Keeps bytes bytes
+    keeps None = tt
+    keeps (Some xs) = refl
+
+-- all is written where nothing is left
+pub all_written : (old now : Option (List ℕ)) (bytes rest : List ℕ) → Written old now bytes rest → rest ≡ [] → Appends old now bytes
+all_written old now bytes rest w none =
+    subst (Appends old now) (sym (w.parts ∙ ap (λ (l : List ℕ). w.prefix ++ l) none ∙ append-nil w.prefix)) w.appended

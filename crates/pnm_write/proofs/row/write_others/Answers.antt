@@ -1,12 +1,20 @@
-use Rattle.std.proofs.Common.{◌≡◌, ◌∙◌, ◌++◌, ◌+◌, ◌-◌, ◌≤◌, min, List, ℕ, length, take, drop, ap, sym, subst, arith}
-use Rattle.std.proofs.lemmas.List.{length-drop, length-take, length-append, take_at, drop-drop}
+use Rattle.std.proofs.Common.{◌≡◌, ◌∙◌, ◌++◌, ◌+◌, ◌-◌, ◌≤◌, min, List, [], ℕ, length, take, drop, refl, ap, sym, subst, arith}
+use Rattle.std.proofs.lemmas.List.{length-drop, length-take, length-append, take_at, drop-drop, drop_all}
 use Rattle.pnm_image.specs.declared.sample_width.SampleWidth.{SampleWidth}
+use Rattle.pnm_image.specs.declared.sample_width.SampleWidth.TheVariants.{Bits, Bytes, Words}
+use Rattle.std.specs.Io.KnownBytes.{Appends}
 use Rattle.pnm_write.specs.Encoding.{bytes_in}
 use Rattle.pnm_image.specs.Devices.{FailsIn}
-use Rattle.pnm_write.proofs.PartLaws.{part_of_part, length-part}
+use Rattle.pnm_write.proofs.PartLaws.{part_of_part, length-part, begin_sending, all_written}
 use Rattle.pnm_write.proofs.RawLaws.{few_parts}
 use Rattle.pnm_image.proofs.Written.{at_any_error, sending_part, sending_part_failed}
 use Rattle.pnm_write.proofs.row.write_others.Goals as goal
+
+-- no samples have no bytes
+no_bytes : (p : SampleWidth) → bytes_in p [] ≡ []
+no_bytes Bits = refl
+no_bytes Bytes = refl
+no_bytes Words = refl
 
 -- what was copied is a part of the part
 copied_part : (start count done n : ℕ) (samples copied words : List ℕ) → start + count ≤ length samples → done ≤ count → n ≡ min (count - done) 2048
@@ -70,3 +78,22 @@ loop-done-preserved g c =
 pub returns-in_err-write_all-clause-same_device : goal.returns-in_err-write_all-clause-same_device
 returns-in_err-write_all-clause-same_device g c =
     g.met.W.BytesOut.same_later _ _ _ c.loop-done.invariant.0.same_device c.write_all.ensures.same_device
+
+pub loop-done-init : goal.loop-done-init
+loop-done-init g c = (
+  begin_sending g.W.BytesOut.held g.W.BytesOut.failures g.W.BytesOut.same c.args.writer.now
+      (bytes_in c.of-sample_width.result (take c.args.count (drop c.args.start c.args.samples.now))) (g.met.W.BytesOut.same_at_once _),
+  omega arith,
+  refl,
+)
+
+pub returns-clause-written : goal.returns-clause-written
+returns-clause-written g c =
+    let part = take c.args.count (drop c.args.start c.args.samples.now) in
+    let long : length part ≡ c.args.count = length-part c.args.start c.args.count c.args.samples.now c.requires.within in
+    let none : drop c.loop-done.done part ≡ [] = drop_all c.loop-done.done part (omega arith) in
+    subst (λ (p : SampleWidth). Appends (g.W.BytesOut.held c.args.writer.now) (g.W.BytesOut.held c.loop-done.writer) (bytes_in p part))
+    c.of-sample_width.ensures
+    (all_written (g.W.BytesOut.held c.args.writer.now) (g.W.BytesOut.held c.loop-done.writer) (bytes_in c.of-sample_width.result part)
+    (bytes_in c.of-sample_width.result (drop c.loop-done.done part)) c.loop-done.invariant.0.written
+    (ap (bytes_in c.of-sample_width.result) none ∙ no_bytes c.of-sample_width.result))

@@ -1,7 +1,9 @@
-use Rattle.std.proofs.Common.{◌≤◌, ◌+◌, take, drop, All, sym, subst, arith}
+use Rattle.std.proofs.Common.{◌≤◌, ◌+◌, take, drop, All, ap, sym, subst, arith}
+use Rattle.std.proofs.lemmas.List.{drop_all}
 use Rattle.pnm_image.proofs.RowLaws.{rows_need}
 use Rattle.pnm_image.proofs.Written.{at_any_error, sending_part, sending_part_failed}
 use Rattle.pnm_write.specs.Encoding.{row_bytes, rows_bytes}
+use Rattle.pnm_write.proofs.PartLaws.{begin_sending, all_written}
 use Rattle.pnm_write.proofs.RowsLaws.{next_row}
 use Rattle.pnm_write.proofs.rows.write_each.Goals as goal
 
@@ -46,3 +48,21 @@ loop-preserved g c =
       within = next.within;
       left = next.rest;
     }
+
+pub loop-init : goal.loop-init
+loop-init g c = record {
+  sending = begin_sending g.W.BytesOut.held g.W.BytesOut.failures g.W.BytesOut.same c.args.writer.now (rows_bytes c.args.form c.args.shape c.args.rows.now)
+      (g.met.W.BytesOut.same_at_once _);
+  within = omega arith;
+  left = c.samples-samples.ensures;
+}
+
+pub returns-clause-written : goal.returns-clause-written
+returns-clause-written g c =
+    all_written (g.W.BytesOut.held c.args.writer.now) (g.W.BytesOut.held c.loop.writer) (rows_bytes c.args.form c.args.shape c.args.rows.now)
+    (rows_bytes c.args.form c.args.shape (drop c.loop.counter c.args.rows.now)) c.loop.invariant.sending.written
+    (ap (rows_bytes c.args.form c.args.shape) (drop_all c.loop.counter c.args.rows.now (omega arith)))
+
+pub returns-in_err-write_samples_from-clause-same_device : goal.returns-in_err-write_samples_from-clause-same_device
+returns-in_err-write_samples_from-clause-same_device g c =
+    g.met.W.BytesOut.same_later _ _ _ c.loop.invariant.sending.same_device c.write_samples_from.ensures.same_device
