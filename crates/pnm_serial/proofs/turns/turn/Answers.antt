@@ -33,5 +33,5 @@ returns g c = elim c.if-takes_first.branch [
             g.met.R.BytesIn.same_later g.met.W.BytesOut.same_later c.args.feeder.now c.args.feeder.now c.send_or_take.new.feeder c.args.collector.now
             w.take.new.collector c.send_or_take.new.collector taken (rw w.collector-is at c.send_or_take.ensures.turned);
       }
-  | else-takes_first w ↦ record { turned = rw w.collector-is at c.send_or_take.ensures.turned; }
+  | else-takes_first w ↦ record { turned = rw w.collector-is at c.send_or_take.ensures.turned }
 ]
