@@ -1,7 +1,15 @@
-use Rattle.std.proofs.Common.{◌≡◌, ◌∙◌, ◌++◌, ◌+◌, ◌-◌, ◌≤◌, min, List, [], ℕ, length, take, drop, refl, ap, sym, subst, arith}
+use Rattle.std.proofs.Common.{◌≡◌, ◌∙◌, ◌++◌, ◌+◌, ◌-◌, ◌≤◌, min, List, [], ℕ, length, take, drop, All, refl, ap, sym, subst, arith}
+use Rattle.std.proofs.Common.{◌<◌, Bool, true, false, if◌then◌else◌}
+use Rattle.std.specs.Prelude.{nat_lt}
+use Rattle.std.proofs.lemmas.Bool.Decides.{nat_tests}
+use Rattle.std.proofs.lemmas.List.Elements.{All-weaker, All-take, All-drop}
 use Rattle.std.proofs.lemmas.List.{length-drop, length-take, length-append, take_at, drop-drop, drop_all}
 use Rattle.pnm_image.specs.declared.sample_width.SampleWidth.{SampleWidth}
 use Rattle.pnm_image.specs.declared.sample_width.SampleWidth.TheVariants.{Bits, Bytes, Words}
+use Rattle.pnm_image.specs.declared.shape.Kind.{Kind}
+use Rattle.pnm_image.specs.declared.shape.Kind.TheVariants.{Bit, Gray, Color, Pam}
+use Rattle.pnm_image.specs.SampleWidths.{sample_width_of}
+use Rattle.pnm_write.specs.WriteBuffers.{FitIn}
 use Rattle.std.specs.Io.KnownBytes.{Appends}
 use Rattle.pnm_write.specs.Encoding.{bytes_in}
 use Rattle.pnm_image.specs.Devices.{FailsIn}
@@ -34,6 +42,42 @@ copied_and_rest p done n part copied words written e size same w =
     ∙ ap (λ (l : List ℕ). bytes_in p l ++ bytes_in p (drop n (drop done part))) (sym same ∙ sym (take_at copied (drop n words) n size))
     ∙ ap (λ (l : List ℕ). l ++ bytes_in p (drop n (drop done part))) (sym w)
     ∙ ap (λ (l : List ℕ). written ++ bytes_in p l) (drop-drop n done part)
+
+-- samples fit one byte, where the maxval does
+fit_by : (is_short : Bool) (maxval : ℕ) (samples : List ℕ) → (is_short ≡ true → maxval < 256) → All (λ sample. sample ≤ maxval) samples
+    → FitIn (if is_short then Bytes else Words) samples
+fit_by true maxval samples short range =
+    let less : maxval < 256 = short refl in
+    All-weaker (λ sample. sample ≤ maxval) (λ sample. sample ≤ 255) (λ sample h. omega arith) samples range
+fit_by false maxval samples short range = tt
+
+is_less : (a b : ℕ) → nat_lt a b ≡ true → a < b
+is_less a b e = grind (arith, nat_tests)
+
+-- samples up to the maxval fit their bytes
+fit_of : (kind : Kind) (maxval : ℕ) (samples : List ℕ) → All (λ sample. sample ≤ maxval) samples → FitIn (sample_width_of kind maxval) samples
+fit_of Bit maxval samples range = tt
+fit_of Gray maxval samples range = fit_by (nat_lt maxval 256) maxval samples (is_less maxval 256) range
+fit_of Color maxval samples range = fit_by (nat_lt maxval 256) maxval samples (is_less maxval 256) range
+fit_of Pam maxval samples range = fit_by (nat_lt maxval 256) maxval samples (is_less maxval 256) range
+
+pub fill-requires-clause-range : goal.fill-requires-clause-range
+fill-requires-clause-range g c =
+    let n = c.min-size.result in
+    let done = c.loop-done.done in
+    let words = c.loop-done.words in
+    let range : ℕ → Type 0 = λ sample. sample ≤ c.args.shape.maxval in
+    let part = take c.args.count (drop c.args.start c.args.samples.now) in
+    let long : length part ≡ c.args.count = length-part c.args.start c.args.count c.args.samples.now c.requires.within in
+    let same = copied_part c.args.start c.args.count done n c.args.samples.now c.copy_to.new.buffer words c.requires.within c.loop-done.invariant.1
+    c.min-size.ensures c.loop-done.invariant.2 c.copy_to.ensures in
+    let size : length c.copy_to.new.buffer ≡ n = ap length same ∙ omega (arith, length-take n (drop done part), length-drop done part) in
+    let all : All range (take n (drop done part)) = All-take range n (drop done part) (All-drop range done part (All-take range c.args.count
+    (drop c.args.start c.args.samples.now) (All-drop range c.args.start c.args.samples.now c.requires.range))) in
+    let copied : take n (c.copy_to.new.buffer ++ drop n words) ≡ take n (drop done part) = take_at c.copy_to.new.buffer (drop n words) n size ∙ same in
+    subst (FitIn c.of-sample_width.result) (sym copied)
+    (subst (λ (p : SampleWidth). FitIn p (take n (drop done part))) (sym c.of-sample_width.ensures)
+    (fit_of c.args.shape.kind c.args.shape.maxval (take n (drop done part)) all))
 
 pub returns-in_err-write_all-clause-failed : goal.returns-in_err-write_all-clause-failed
 returns-in_err-write_all-clause-failed g c =
