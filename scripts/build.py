@@ -142,9 +142,9 @@ class Toolchain:
 
 
 class Run:
-    """A command for a crate, with processes of its own, its output in a file of bin/log."""
+    """A command for a crate, with processes of its own that give way by so much, its output in a file of bin/log."""
 
-    def __init__(self, name, words, jobs=1, **streams):
+    def __init__(self, name, words, jobs=1, way=0, **streams):
         self.name = name
         self.jobs = jobs
         self.start = time.monotonic()
@@ -152,7 +152,9 @@ class Run:
         with open(self.path, "w", encoding="utf-8") as log:
             streams = {"stdin": subprocess.DEVNULL, "stdout": log, "stderr": log, **streams}
             folder = os.path.join(ROOT, "crates", name)
-            self.child = subprocess.Popen(words, cwd=folder, start_new_session=True, **streams)
+            words = ["nice", "-n", str(way), *words] if way else words
+            # (no session of its own, since sessions share the processors alike, whatever gives way in them)
+            self.child = subprocess.Popen(words, cwd=folder, preexec_fn=os.setpgrp, **streams)
 
     def seconds(self):
         return time.monotonic() - self.start
@@ -224,6 +226,12 @@ class Build:
         least = 2 if processors() >= 4 and self.part(name) >= LONG else 1
         return max(least, min(MOST_JOBS, self.free() - len(others)))
 
+    def way(self, name):
+        """By how much the crate's check gives way (nice(1)): not at all on the longest chain, else by how short its own
+        chain is."""
+        part = self.part(name)
+        return 0 if part >= 1 else 5 + round(10 * (1 - part))
+
     def fill(self):
         """Begins what can be. A check makes use of one processor at its ends, so of four processors one is given out
         twice."""
@@ -231,15 +239,15 @@ class Build:
         for name in self.ready():
             may_wait = self.part(name) < SHORT
             if len(self.runs) < self.most and self.free() + (0 if may_wait else over) > 0:
-                self.begin(name, self.jobs(name))
+                self.begin(name, self.jobs(name), self.way(name))
 
-    def begin(self, name, jobs):
+    def begin(self, name, jobs, way):
         self.left.remove(name)
         self.begun += 1
         for file in (f"{name}.sum", f"{name}.o"):
             with contextlib.suppress(FileNotFoundError):
                 os.remove(proved(file))
-        self.runs.append(Run(name, self.toolchain.build(name, jobs), jobs))
+        self.runs.append(Run(name, self.toolchain.build(name, jobs), jobs, way))
         say(f"{self.begun} of {len(self.crates)}: {name}" + (f", on {jobs} processors" if jobs > 1 else ""))
 
     def note(self, name):

@@ -222,6 +222,7 @@ class Building(Repository):
     def begun(self, proved, at_work=(), number=4, most=4):
         """What a build of this repository begins once these are proved, on how many processors, beside others."""
         toolchain = types.SimpleNamespace(sum=lambda name, sums: f"no sum of {name}")
+        self.ways = {}
         with unittest.mock.patch.dict(os.environ, {"RT_JOBS": str(number)}):
             this = build.Build(toolchain, most)
             this.done = set(proved)
@@ -229,10 +230,11 @@ class Building(Repository):
             this.left = [name for name in this.crates if name not in {*proved, *(name for name, _ in at_work)}]
             found = []
 
-            def begin(name, jobs):
+            def begin(name, jobs, way):
                 this.left.remove(name)
                 this.runs.append(types.SimpleNamespace(name=name, jobs=jobs))
                 found.append((name, jobs))
+                self.ways[name] = way
 
             this.begin = begin
             this.fill()
@@ -249,6 +251,13 @@ class Building(Repository):
         self.assertEqual(self.begun(low, number=2), [(name, 1) for name in names[:2]])
         self.assertEqual(self.begun(low, number=1), [("pnm_tools", 1)])
         self.assertEqual(self.begun(low, most=1), [("pnm_tools", 4)])
+
+    def test_shorter_chains_give_way_to_the_longest(self):
+        self.begun(["pnm_streams", "pnm_samples", "pnm_image"])
+        self.assertEqual(self.ways["pnm_tools"], 0)
+        self.assertLess(4, self.ways["pnm_read"])
+        self.assertLess(self.ways["pnm_read"], self.ways["pnm_write"])
+        self.assertLess(self.ways["pnm_write"], 16)
 
     def test_the_longest_chain_has_what_others_leave(self):
         last = ["pnm_flow", "pnm_command_line", "pnmpipe"]
