@@ -29,8 +29,8 @@ MEMORY_OF_ONE = 4 << 30
 MOST_JOBS = 4
 
 # parts of the longest chain of crates: with a chain above it of at least the first one a crate has two processors where
-# there are four; with less than the second one it takes none from others
-LONG = 0.6
+# there are four, and gives no way; with less than the second one it takes none from others
+LONG = 0.95
 SHORT = 0.05
 
 EVERY = 60
@@ -230,7 +230,7 @@ class Build:
         """By how much the crate's check gives way (nice(1)): not at all on the longest chain, else by how short its own
         chain is."""
         part = self.part(name)
-        return 0 if part >= 1 else 5 + round(10 * (1 - part))
+        return 0 if part >= LONG else 5 + round(10 * (1 - part))
 
     def fill(self):
         """Begins what can be. A check makes use of one processor at its ends, so of four processors one is given out
