@@ -22,7 +22,7 @@ from crates import ROOT, SOURCES, Ended, below, end_by_signals, read_crates, rea
 
 PROGRAM = "pnmpipe"
 PROVED = os.path.join(ROOT, "bin/proved")
-TOLD = "from nothing 10 minutes on 4 cores with nothing beside, 16 on 2, by the machine"
+TOLD = "from nothing 9 minutes on 4 cores with nothing beside, 16 on 2, by the machine"
 
 # how much memory a check wants, and how many processors it makes use of
 MEMORY_OF_ONE = 4 << 30
