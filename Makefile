@@ -6,7 +6,8 @@ TESTED := pnm_image_tests pnm_flow_tests
 # programs that tell what comes of written cases
 CASES := pnm_format_cases pnm_tools_cases pnm_flow_cases
 
-.PHONY: all bench bench-files bench-sweep built check controls deb dist gate help install lanes long-stream near pass pictures recipes refused scripts soak test toolchain uninstall
+.PHONY: all bench bench-files bench-sweep built check controls deb dist gate help install lanes long-stream near pass
+.PHONY: pictures recipes refused scripts soak test toolchain uninstall
 
 # where `make install` puts things, below DESTDIR
 PREFIX ?= /usr/local

@@ -275,18 +275,25 @@ class Build:
                 say("at work: " + ", ".join(f"{run.name} for {run.seconds():.0f} s" for run in self.runs))
         return 0
 
+    def ended(self, run):
+        """Waits until a command has ended, as a signal to this script ends it too."""
+        self.runs.append(run)
+        run.child.wait()
+        self.runs.remove(run)
+        return run
+
     def link(self):
         """Links the program where it was built anew, and has it pass its stored run. Gives the status."""
         folder, program = os.path.join(ROOT, "crates", PROGRAM), proved(PROGRAM)
         if text_of(proved(f"{PROGRAM}.sum")) != self.sums[PROGRAM]:
-            run = Run(PROGRAM, self.toolchain.link(program))
-            if run.child.wait():
+            run = self.ended(Run(PROGRAM, self.toolchain.link(program)))
+            if run.child.returncode:
                 return run.fault()
             self.note(PROGRAM)
         written = os.path.join(ROOT, "bin/stored-run")
         with open(os.path.join(folder, "stdin"), "rb") as given, open(written, "wb") as made:
-            run = Run(PROGRAM, [program, "pnminvert"], stdin=given, stdout=made)
-            if run.child.wait():
+            run = self.ended(Run(PROGRAM, [program, "pnminvert"], stdin=given, stdout=made))
+            if run.child.returncode:
                 return run.fault()
         with open(written, "rb") as made, open(os.path.join(folder, "stdout"), "rb") as wanted:
             if made.read() != wanted.read():
