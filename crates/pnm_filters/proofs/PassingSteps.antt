@@ -25,7 +25,7 @@ use Rattle.pnm_filters.specs.declared.state.Owed.TheVariants.{Told, One, Rest, R
 use Rattle.pnm_filters.specs.Pendings.{Pending, AllGiven, pending_of, is_told}
 use Rattle.pnm_filters.specs.States.{Standing, standing, IsAt, IsReadyFor, IsStanding, KeepsNone, waiting_in}
 use Rattle.pnm_filters.specs.Steps.{ArePassed}
-use Rattle.pnm_filters.proofs.RowsLaws.{answers_are_many}
+use Rattle.pnm_row_tools.proofs.RowsLaws.{answers_are_many}
 
 -- ---- messages that follow others
 

@@ -18,8 +18,10 @@ use Rattle.pnm_tools.specs.Answers.{Answers}
 use Rattle.pnm_tools.specs.FusedFilters.{FilterAt}
 use Rattle.pnm_tools.specs.declared.fused_filter.FusedFilter.{FusedFilter}
 use Rattle.pnm_tools.specs.Answering.{IsAnswering, row_list, rows_come}
-use Rattle.pnm_filters.specs.Keeping.{HasSpans, HasTable, IsEnlarging, FlipsInRows, IsReversingRows, IsTransposing}
-use Rattle.pnm_filters.specs.Keeping.{IsTiling, enlarged_due, reversed_due, transposed_due, tiled_due}
+use Rattle.pnm_row_tools.specs.Keeping.{cut_of, maxval_of, HasSpans, HasTable, FlipsInRows, IsReversingRows}
+use Rattle.pnm_geometry_tools.specs.Keeping.{across_of, down_of, kept_row, IsEnlarging, IsTransposing}
+use Rattle.pnm_row_tools.specs.Keeping.{reversed_due}
+use Rattle.pnm_geometry_tools.specs.Keeping.{IsTiling, enlarged_due, transposed_due, tiled_due}
 use Rattle.pnm_tools.specs.Channel.{HasPlanes}
 use Rattle.pnm_tools.specs.Tools.{IsLawfulTool}
 
@@ -39,15 +41,15 @@ by_row tool made ready = record { tool = tool; due = row_list made; kept = row_l
 
 abbrev pub worker : AnyTool → Worker
 worker (Inverting w) = by_row Invert w.made IsWithinLimits
-worker (Cutting w) = by_row (Cut w.tool.cut) w.made (HasSpans w.tool)
-worker (Rescaling w) = by_row (Depth w.tool.maxval) w.made (λ s. IsWithinLimits s × HasTable w.tool s)
+worker (Cutting w) = by_row (Cut (cut_of w.tool)) w.made (HasSpans w.tool)
+worker (Rescaling w) = by_row (Depth (maxval_of w.tool)) w.made (λ s. IsWithinLimits s × HasTable w.tool s)
 worker (Picking w) = by_row (Channel w.tool) w.made (HasPlanes w.tool)
 worker (Enlarging w) =
     record {
-      tool = Enlarge w.across w.down;
+      tool = Enlarge (across_of w) (down_of w);
       due = enlarged_due w;
-      kept = row_list w.row;
-      ready = λ s rows. IsEnlarging w.across s;
+      kept = row_list (kept_row w);
+      ready = λ s rows. IsEnlarging (across_of w) s;
     }
 worker (FlippingRows w) = by_row (Flip w.tool) w.made (FlipsInRows w.tool)
 worker (ReversingRows w) =

@@ -1,16 +1,9 @@
 //! A tool at work, whichever it is.
 
-use crate::by_row::ByRow;
-use crate::cut::Cutter;
-use crate::depth::Rescaler;
-use crate::enlarge::Enlarger;
-use crate::flip::{RowFlipper, RowReverser};
-use crate::image_tool::ImageTool;
-use crate::invert::Inverter;
-use crate::tile::Tiler;
-use crate::transpose::Transposer;
+use pnm_geometry_tools::{Enlarger, Tiler, Transposer};
 use pnm_image::{Head, Rows, Samples, Shape};
-use pnm_tools::{Planes, ToolFault};
+use pnm_row_tools::{ByRow, Cutter, Inverter, Rescaler, RowFlipper, RowReverser};
+use pnm_tools::{ImageTool, Planes, ToolFault};
 use std::alloc::Global;
 
 /// What the tool at work does, whichever it is.

@@ -6,9 +6,8 @@ ghost use Rattle.pnm_filters.specs.States.{waiting_in, is_all_given, IsReadyFor}
 ghost use Rattle.pnm_tools.specs.Tools.{IsLawfulTool};
 ghost use Rattle.pnm_filters.specs.Steps.{Answered, ArePassed, Gave, IsGiven};
 
-use crate::image_tool::ImageTool;
 use pnm_image::{Message, Place, Rows};
-use pnm_tools::{Filter, ToolFault};
+use pnm_tools::{Filter, ImageTool, ToolFault};
 use std::alloc::Global;
 use std::marker::Model;
 

@@ -1,22 +1,16 @@
 //! A tool at work, by its name and options.
 
-ghost use Rattle.std.specs.Prelude.{◌≡◌, [], IfOk, IfErr, Ok};
+ghost use Rattle.std.specs.Prelude.{◌≡◌, [], IfOk, IfErr, Ok, None};
 ghost use Rattle.pnm_tools.specs.declared.fault.ToolFault.TheVariants.{Memory};
 ghost use Rattle.pnm_tools.specs.declared.tool.Tool.TheVariants.{Flip};
 ghost use Rattle.pnm_filters.specs.States.{IsFreshTool, kept_of, tool_of, ToolAt};
 ghost use Rattle.pnm_tools.specs.Tools.{IsLawfulTool};
 
 use crate::any_tool::AnyTool;
-use crate::by_row::ByRow;
-use crate::cut::Cutter;
-use crate::depth::{Rescaler, Table};
-use crate::enlarge::Enlarger;
-use crate::flip::{RowFlipper, RowReverser};
-use crate::invert::Inverter;
 use crate::state::State;
-use crate::tile::Tiler;
-use crate::transpose::Transposer;
+use pnm_geometry_tools::{Enlarger, Tiler, Transposer};
 use pnm_image::SampleWidth;
+use pnm_row_tools::{ByRow, Cutter, Inverter, Rescaler, RowFlipper, RowReverser, RowTool};
 use pnm_tools::{FlipWay, FusedFilter, Tool, ToolFault};
 use std::alloc::Global;
 
@@ -39,13 +33,10 @@ fn any_tool(alloc: Global, tool: &Tool) -> Result<AnyTool, ToolFault>
     ensures refused { IfErr result (λ fault. fault ≡ Memory) }
 {
     Ok(match tool.copy(alloc)? {
-        Tool::Invert => AnyTool::Inverting(ByRow::new(Inverter)),
-        Tool::Cut(cut) => AnyTool::Cutting(ByRow::new(Cutter::new(cut))),
-        Tool::Depth(maxval) => AnyTool::Rescaling(ByRow::new(Rescaler {
-            maxval,
-            table: Table::Absent,
-        })),
-        Tool::Channel(planes) => AnyTool::Picking(ByRow::new(planes)),
+        Tool::Invert => AnyTool::Inverting(by_row(Inverter)),
+        Tool::Cut(cut) => AnyTool::Cutting(by_row(Cutter::new(cut))),
+        Tool::Depth(maxval) => AnyTool::Rescaling(by_row(Rescaler::new(maxval))),
+        Tool::Channel(planes) => AnyTool::Picking(by_row(planes)),
         Tool::Enlarge(across, down) => AnyTool::Enlarging(Enlarger::new(across, down)),
         Tool::Flip(way) => flip(alloc, way),
         Tool::Tile(width, height) => AnyTool::Tiling(Tiler::new(alloc, width, height)),
@@ -63,8 +54,16 @@ fn flip(alloc: Global, way: FlipWay) -> AnyTool
     } else if turn.rows_reversed {
         AnyTool::ReversingRows(RowReverser::new(alloc, way))
     } else {
-        AnyTool::FlippingRows(ByRow::new(RowFlipper::new(way)))
+        AnyTool::FlippingRows(by_row(RowFlipper::new(way)))
     }
+}
+
+/// The row tool at work, which has made no row.
+fn by_row<T: RowTool>(tool: T) -> ByRow<T>
+    ensures tool { result.tool ≡ tool }
+    ensures none { result.made ≡ None }
+{
+    ByRow { tool, made: None }
 }
 
 /// Whether the tool passes rows together that are held so, as far as can be told beforehand: of each it makes one row

@@ -34,4 +34,5 @@ pub mod QuarterTurnLaws
 pub mod WholeResultLaws
 pub mod DealingLaws
 pub mod RowWiseLaws
+pub mod FlippedHeadLaws
 pub mod FusedSteps

@@ -1,6 +1,5 @@
 //! `pamflip`: an image flipped or turned, from pamflip(1). Each way is a rule: the order of the columns
-//! is reversed or not, and that of the rows, and then columns and rows are exchanged or not. Where they
-//! are, `transpose` does it.
+//! is reversed or not, and that of the rows, and then columns and rows are exchanged or not.
 
 ghost use Rattle.std.specs.Prelude.{◌≡◌, true, false};
 ghost use Rattle.pnm_tools.specs.Flip.{moves_rows, turn_of};

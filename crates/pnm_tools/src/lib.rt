@@ -1,5 +1,6 @@
-//! The tools of a chain: what each of them makes of an image, its options, and what a filter is that does it. They are
-//! pnminvert(1), pamcut(1), pamdepth(1), pamchannel(1), pamenlarge(1), pamflip(1) and pnmtile(1).
+//! The tools of a chain: what each of them makes of an image, its options, what a tool at work on rows is, and what a
+//! filter is that does it. They are pnminvert(1), pamcut(1), pamdepth(1), pamchannel(1), pamenlarge(1), pamflip(1) and
+//! pnmtile(1).
 #![tactic(auto)]
 
 mod channel;
@@ -8,6 +9,8 @@ mod fault;
 mod filter;
 mod flip;
 mod fused_filter;
+mod head;
+mod image_tool;
 pub mod laws;
 mod limits;
 mod tool;
@@ -18,5 +21,7 @@ pub use fault::ToolFault;
 pub use filter::Filter;
 pub use flip::{FlipWay, Turn};
 pub use fused_filter::FusedFilter;
+pub use head::{flipped_head, head_within_limits};
+pub use image_tool::ImageTool;
 pub use limits::{MAX_EXTENT, MAX_TOOLS};
 pub use tool::Tool;

@@ -1,6 +1,0 @@
-use Rattle.pnm_tools.proofs.PickLaws.{HasColumnsOf}
-use Rattle.pnm_filters.proofs.channel.pick.Given as goal
-
--- the columns that have passed were picked
-abbrev pub invariant-loop-x : goal.invariant-loop-x
-invariant-loop-x g l = HasColumnsOf l.numbers l.fn.shape.depth l.row l.x l.initial.buffer l.buffer

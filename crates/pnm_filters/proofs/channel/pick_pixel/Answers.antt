@@ -1,6 +1,0 @@
-use Rattle.std.proofs.Common.{arith}
-use Rattle.pnm_tools.proofs.PickLaws.{planes_picked}
-use Rattle.pnm_filters.proofs.channel.pick_pixel.Goals as goal
-
-pub returns : goal.returns
-returns g c = planes_picked c.args.numbers.now c.args.row.now c.args.first c.loop-at.at c.loop-at.buffer (omega arith) (omega arith) c.loop-at.invariant

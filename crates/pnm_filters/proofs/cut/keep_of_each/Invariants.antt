@@ -1,6 +1,0 @@
-use Rattle.pnm_filters.proofs.EachRowLaws.{AreMoved}
-use Rattle.pnm_filters.proofs.cut.keep_of_each.Given as goal
-
--- the parts of the rows that have passed stand at the front
-abbrev pub invariant-loop-i : goal.invariant-loop-i
-invariant-loop-i l = AreMoved l.first l.kept l.row_length l.i l.fn.bytes.items l.bytes.items

@@ -1,6 +1,0 @@
-use Rattle.pnm_filters.proofs.FlipRowsLaws.{AreMirrored}
-use Rattle.pnm_filters.proofs.flip.reverse_each.Given as goal
-
--- the rows that have passed are mirrored
-abbrev pub invariant-loop-i : goal.invariant-loop-i
-invariant-loop-i l = AreMirrored l.fn.shape l.each l.i l.fn.bytes l.bytes

@@ -1,7 +1,0 @@
-use Rattle.std.proofs.Common.{◌≡◌, ◌*◌, ◌++◌, drop, reverse}
-use Rattle.pnm_filters.proofs.FlipRowLaws.{last_pixels}
-use Rattle.pnm_filters.proofs.flip.reverse_pixels.Given as goal
-
--- the columns that have passed are those of the mirrored row
-abbrev pub invariant-loop-x : goal.invariant-loop-x
-invariant-loop-x g l = l.samples ≡ last_pixels l.fn.shape.width l.fn.shape.depth l.fn.samples l.x ++ drop (l.x * l.fn.shape.depth) (reverse l.fn.samples)

@@ -1,0 +1,9 @@
+pub mod EnlargedHeadLaws
+pub mod ColumnLaws
+pub mod StripLaws
+pub mod TransposeLaws
+pub mod BitColumnLaws
+pub mod EnlargeRowLaws
+pub mod CopyLaws
+pub mod TileRowLaws
+pub mod RepeatedBitLaws

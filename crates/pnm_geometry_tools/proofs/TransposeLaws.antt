@@ -1,0 +1,262 @@
+-- The rows that a transposer keeps, and what is still to be given of them.
+use Rattle.std.proofs.Common.{◌≡◌, ℕ, ◌+◌, ◌-◌, ◌*◌, ◌<◌, ◌≤◌, List, [], ◌∷◌, ◌++◌, length, reverse, refl, sym, ap, ◌∙◌, arith, map, subst, Bool, true, false}
+use Rattle.std.proofs.Common.{if◌then◌else◌, Ok, nat_lt, append_assoc, append-nil}
+use Rattle.std.specs.List.{range_with_len}
+use Rattle.std.proofs.lemmas.Bool.{ltb-true}
+use Rattle.std.proofs.lemmas.Grind.{flat_map-append}
+use Rattle.std.proofs.lemmas.List.{length-append, reverse-append, reverse-reverse}
+use Rattle.std.proofs.lemmas.List.Elements.{All-nil, All-cons, All-append}
+use Rattle.pnm_image.specs.declared.limits.TheConstants.{MAX_ROW_LENGTH}
+use Rattle.pnm_image.specs.declared.sample_width.SampleWidth.{SampleWidth}
+use Rattle.pnm_image.specs.declared.sample_width.SampleWidth.TheVariants.{Bytes, Words}
+use Rattle.pnm_image.specs.declared.shape.Kind.{Kind}
+use Rattle.pnm_image.specs.declared.shape.Kind.TheVariants.{Bit, Gray, Color, Pam}
+use Rattle.pnm_image.specs.declared.shape.Shape.{Shape}
+use Rattle.pnm_image.specs.Heads.{HeadValue, IsHead, Suits, row_length}
+use Rattle.pnm_image.specs.SampleWidths.{sample_width_of}
+use Rattle.pnm_tools.specs.declared.flip.FlipWay.{FlipWay}
+use Rattle.pnm_tools.specs.declared.flip.Turn.{Turn}
+use Rattle.pnm_geometry_tools.specs.declared.strip.TheConstants.{STRIP_ROWS}
+use Rattle.pnm_tools.specs.declared.tool.Tool.TheVariants.{Flip}
+use Rattle.pnm_tools.specs.Flip.{turn_of, in_order, column_of, moved_rows, turned_at_end, turned_row, transposed_head_value}
+use Rattle.pnm_geometry_tools.specs.Keeping.{Transposed, IsTransposing, transposed, transposed_due}
+use Rattle.pnm_tools.specs.Pixels.{pixel_of}
+use Rattle.pnm_geometry_tools.specs.SampleRows.{SuitsShape}
+use Rattle.pnm_geometry_tools.specs.Strips.{KeepColumns, coming_column, kept_column}
+use Rattle.pnm_tools.specs.Tools.{result_head, row_answer, end_answer}
+use Rattle.pnm_tools.proofs.HeadLaws.{small_row}
+use Rattle.pnm_tools.proofs.RangeLaws.{alike_from, map_in_parts}
+use Rattle.pnm_tools.proofs.TurnLaws.{in_order_nil, exchanged_moves, row_moved}
+use Rattle.pnm_tools.proofs.WholeHeadLaws.{is_turned}
+
+-- ---- the rows that come
+
+-- the columns of rows, with one more
+column_with : {X : Type 0} (depth x : ℕ) (rows : List (List X)) (row : List X) → column_of depth (rows ++ row ∷ []) x ≡ column_of depth rows x
+    ++ pixel_of depth row x
+column_with {X = X} depth x rows row =
+    flat_map-append (λ (l : List X). pixel_of depth l x) rows (row ∷ []) ∙ ap (λ (l : List X). column_of depth rows x ++ l) (append-nil (pixel_of depth row x))
+
+column_more : {X : Type 0} (b : Bool) (depth x : ℕ) (strips rows come : List (List X)) (row : List X)
+    → coming_column b depth strips rows x ≡ column_of depth (in_order b come) x
+    → coming_column b depth strips (rows ++ row ∷ []) x ≡ column_of depth (in_order b (come ++ row ∷ [])) x
+column_more {X = X} true depth x strips rows come row same =
+    let parts : List X = column_of (STRIP_ROWS * depth) (reverse strips) x in
+    ap (λ (l : List (List X)). column_of depth l x ++ parts) (reverse-append rows (row ∷ []))
+    ∙ append_assoc (pixel_of depth row x) (column_of depth (reverse rows) x) parts
+    ∙ ap (λ (l : List X). pixel_of depth row x ++ l) same
+    ∙ ap (λ (l : List (List X)). column_of depth l x) (sym (reverse-append come (row ∷ [])))
+column_more {X = X} false depth x strips rows come row same =
+    let parts : List X = column_of (STRIP_ROWS * depth) strips x in
+    ap (λ (l : List X). parts ++ l) (column_with depth x rows row)
+    ∙ sym (append_assoc parts (column_of depth rows x) (pixel_of depth row x))
+    ∙ ap (λ (l : List X). l ++ pixel_of depth row x) same
+    ∙ sym (column_with depth x come row)
+
+-- a row more
+pub row_taken : (way : FlipWay) (depth : ℕ) (sample_width : SampleWidth) (next columns : ℕ) (strips rows rows' batch come : List (List ℕ)) (row : List ℕ)
+    (s : Shape) → length row ≡ row_length s → rows' ≡ rows ++ row ∷ []
+    → IsTransposing (transposed way depth sample_width strips rows batch next columns) s come
+    → IsTransposing (transposed way depth sample_width strips rows' batch next columns) s (come ++ row ∷ [])
+row_taken way depth sample_width next columns strips rows rows' batch come row s long added h =
+    subst (λ (l : List (List ℕ)). IsTransposing (transposed way depth sample_width strips l batch next columns) s (come ++ row ∷ [])) (sym added)
+    record {
+      limits = h.limits;
+      column = h.column;
+      sample_width = h.sample_width;
+      count = omega (arith, h.count, length-append rows (row ∷ []), length-append come (row ∷ []));
+      same = λ x below. column_more (turn_of way).rows_reversed s.depth x strips rows come row (h.same x below);
+      sizes = record {
+        each_strip = h.sizes.each_strip;
+        each_row = All-append (λ (l : List ℕ). length l ≡ row_length s) rows (row ∷ []) h.sizes.each_row
+            (All-cons (λ (l : List ℕ). length l ≡ row_length s) row [] long (All-nil (λ (l : List ℕ). length l ≡ row_length s)));
+      };
+      none_made = h.none_made;
+    }
+
+-- rows that went into a strip
+pub strip_filled : (way : FlipWay) (depth : ℕ) (sample_width : SampleWidth) (next columns : ℕ) (strips strips' rows rows' batch come : List (List ℕ))
+    (s : Shape) (b : Bool) → b ≡ (turn_of way).rows_reversed
+    → KeepColumns b s.width s.depth strips rows strips' rows' → IsTransposing (transposed way depth sample_width strips rows batch next columns) s come
+    → IsTransposing (transposed way depth sample_width strips' rows' batch next columns) s come
+strip_filled way depth sample_width next columns strips strips' rows rows' batch come s b order kept h =
+    let keeps : KeepColumns (turn_of way).rows_reversed s.width s.depth strips rows strips' rows' =
+    subst (λ (c : Bool). KeepColumns c s.width s.depth strips rows strips' rows') order kept in
+    record {
+      limits = h.limits;
+      column = h.column;
+      sample_width = h.sample_width;
+      count = keeps.count ∙ h.count;
+      same = λ x below. keeps.same x below ∙ h.same x below;
+      sizes = keeps.sizes;
+      none_made = h.none_made;
+    }
+
+-- a row that was added, and then went into a strip or not
+pub row_kept : (w : Transposed) (way : FlipWay) (depth : ℕ) (width width₁ width₂ : SampleWidth) (next columns : ℕ)
+    (strips strips₁ strips₂ rows rows₁ rows₂ batch come : List (List ℕ)) (row : List ℕ) (s : Shape) (b : Bool)
+    → transposed way depth width strips rows batch next columns ≡ w → length row ≡ row_length s → width₁ ≡ width → strips₁ ≡ strips → rows₁ ≡ rows ++ row ∷ []
+    → b ≡ (turn_of way).rows_reversed → width₂ ≡ width₁
+    → KeepColumns b s.width s.depth strips₁ rows₁ strips₂ rows₂ → IsTransposing w s come
+    → IsTransposing (transposed way depth width₂ strips₂ rows₂ batch next columns) s (come ++ row ∷ [])
+row_kept w way depth width width₁ width₂ next columns strips strips₁ strips₂ rows rows₁ rows₂ batch come row s b is long same_width same_strips added order
+    kept_width kept h =
+    let before : IsTransposing (transposed way depth width strips rows batch next columns) s come =
+    subst (λ (v : Transposed). IsTransposing v s come) (sym is) h in
+    let after : IsTransposing (transposed way depth width strips rows₁ batch next columns) s (come ++ row ∷ []) =
+    row_taken way depth width next columns strips rows rows₁ batch come row s long added before in
+    let held : KeepColumns b s.width s.depth strips rows₁ strips₂ rows₂ = subst (λ (l : List (List ℕ)). KeepColumns b s.width s.depth l rows₁ strips₂ rows₂)
+    same_strips kept in
+    subst (λ (v : SampleWidth). IsTransposing (transposed way depth v strips₂ rows₂ batch next columns) s (come ++ row ∷ [])) (sym (kept_width ∙ same_width))
+    (strip_filled way depth width next columns strips strips₂ rows₁ rows₂ batch (come ++ row ∷ []) s b order held after)
+
+-- ---- the rows that a transposer has still to give
+
+-- what answers the end of an image whose columns and rows are exchanged
+end_of_flip : (way : FlipWay) (s : Shape) (rows : List (List ℕ)) → end_answer (Flip way) s rows ≡ turned_at_end (turn_of way) s rows
+end_of_flip way s rows = refl
+
+columns_answer : (way : FlipWay) (s : Shape) (rows : List (List ℕ)) → (turn_of way).exchanged ≡ true
+    → end_answer (Flip way) s rows ≡ in_order (turn_of way).columns_reversed
+    (map (column_of s.depth (in_order (turn_of way).rows_reversed rows)) (range_with_len 0 s.width))
+columns_answer way s rows exchanged =
+    let t : Turn = turn_of way in
+    let columns : List (List ℕ) = in_order t.columns_reversed (map (column_of s.depth (in_order t.rows_reversed rows)) (range_with_len 0 s.width)) in
+    end_of_flip way s rows
+    ∙ ap (λ (b : Bool). if b then moved_rows t s rows else []) (exchanged_moves t exchanged)
+    ∙ ap (λ (b : Bool). if b then columns else map (turned_row t s) (reverse rows)) exchanged
+
+-- the columns of all rows, once the image has ended
+pub columns_due : (way : FlipWay) (sample_width depth_width : SampleWidth) (depth next columns : ℕ) (strips rows batch come : List (List ℕ)) (s : Shape)
+    → (turn_of way).exchanged ≡ true
+    → IsTransposing (transposed way depth sample_width strips rows batch next columns) s come
+    → transposed_due (transposed way s.depth depth_width (in_order (turn_of way).rows_reversed strips) (in_order (turn_of way).rows_reversed rows) batch next
+    s.width) ≡ end_answer (Flip way) s come
+columns_due way sample_width depth_width depth next columns strips rows batch come s exchanged h =
+    let t : Turn = turn_of way in
+    let f : ℕ → List ℕ = kept_column t.rows_reversed s.depth (in_order t.rows_reversed strips) (in_order t.rows_reversed rows) in
+    let g : ℕ → List ℕ = column_of s.depth (in_order t.rows_reversed come) in
+    let all : s.width - next ≡ s.width = omega (arith, h.none_made.1) in
+    let same : map f (range_with_len 0 s.width) ≡ map g (range_with_len 0 s.width) =
+    alike_from f g 0 0 s.width (λ i lt. let place : 0 + i ≡ i = omega arith in ap f place ∙ h.same i lt ∙ ap g (sym place)) in
+    ap (λ (l : List (List ℕ)). reverse l ++ in_order t.columns_reversed (map f (range_with_len next (s.width - next)))) h.none_made.0
+    ∙ ap (λ (n : ℕ). in_order t.columns_reversed (map f (range_with_len next n))) all
+    ∙ ap (λ (n : ℕ). in_order t.columns_reversed (map f (range_with_len n s.width))) h.none_made.1
+    ∙ ap (λ (l : List (List ℕ)). in_order t.columns_reversed l) same
+    ∙ sym (columns_answer way s come exchanged)
+
+-- what the code holds at an image's end is the answer to it
+pub end_due : (w : Transposed) (way : FlipWay) (sample_width depth_width : SampleWidth) (depth next columns : ℕ) (b : Bool)
+    (strips strips' rows rows' batch come : List (List ℕ)) (s : Shape) → (turn_of way).exchanged ≡ true
+    → transposed way depth sample_width strips rows batch next columns ≡ w → b ≡ (turn_of way).rows_reversed → strips' ≡ in_order b strips
+    → rows' ≡ in_order b rows → IsTransposing w s come
+    → transposed_due (transposed way s.depth depth_width strips' rows' batch next s.width) ≡ end_answer (Flip w.way) s come
+end_due w way sample_width depth_width depth next columns b strips strips' rows rows' batch come s exchanged is order strips_so rows_so h =
+    let before : IsTransposing (transposed way depth sample_width strips rows batch next columns) s come =
+    subst (λ (v : Transposed). IsTransposing v s come) (sym is) h in
+    let r : Bool = (turn_of way).rows_reversed in
+    ap (λ (l : List (List ℕ)). transposed_due (transposed way s.depth depth_width l rows' batch next s.width))
+    (strips_so ∙ ap (λ (c : Bool). in_order c strips) order)
+    ∙ ap (λ (l : List (List ℕ)). transposed_due (transposed way s.depth depth_width (in_order r strips) l batch next s.width))
+    (rows_so ∙ ap (λ (c : Bool). in_order c rows) order)
+    ∙ columns_due way sample_width depth_width depth next columns strips rows batch come s exchanged before
+    ∙ ap (λ (v : Transposed). end_answer (Flip v.way) s come) is
+
+-- nothing is due before the image has ended
+pub none_made : (way : FlipWay) (depth : ℕ) (sample_width : SampleWidth) (next columns : ℕ) (strips rows batch : List (List ℕ)) (s : Shape) (y : ℕ)
+    (row : List ℕ) → (turn_of way).exchanged ≡ true → batch ≡ [] → columns ≡ 0
+    → transposed_due (transposed way depth sample_width strips rows batch next columns) ≡ row_answer (Flip way) s y row
+none_made way depth sample_width next columns strips rows batch s y row exchanged no_batch no_column =
+    let none : columns - next ≡ 0 = omega arith in
+    let last_first : Bool = (turn_of way).columns_reversed in
+    ap (λ (l : List (List ℕ)). transposed_due (transposed way depth sample_width strips rows l next columns)) no_batch
+    ∙ ap (λ (n : ℕ). in_order last_first (map (kept_column (turn_of way).rows_reversed depth strips rows) (range_with_len next n))) none
+    ∙ in_order_nil last_first
+    ∙ sym (row_moved way s y row (exchanged_moves (turn_of way) exchanged))
+
+-- the batch that is made holds the columns that were the next to be made
+pub first_made : (way : FlipWay) (depth : ℕ) (sample_width : SampleWidth) (next columns count : ℕ) (b : Bool) (strips rows batch : List (List ℕ))
+    → (turn_of way).columns_reversed ≡ false → b ≡ (turn_of way).rows_reversed → next + count ≤ columns
+    → batch ≡ reverse (map (kept_column b depth strips rows) (range_with_len next count))
+    → transposed_due (transposed way depth sample_width strips rows batch (next + count) columns)
+    ≡ transposed_due (transposed way depth sample_width strips rows [] next columns)
+first_made way depth sample_width next columns count b strips rows batch first_first order within is =
+    let f : ℕ → List ℕ = kept_column (turn_of way).rows_reversed depth strips rows in
+    let made : batch ≡ reverse (map f (range_with_len next count)) = is
+    ∙ ap (λ (c : Bool). reverse (map (kept_column c depth strips rows) (range_with_len next count))) order in
+    let parts : columns - next ≡ count + (columns - (next + count)) = omega arith in
+    let rest : List (List ℕ) = map f (range_with_len (next + count) (columns - (next + count))) in
+    ap (λ (b : Bool). reverse batch ++ in_order b rest) first_first
+    ∙ ap (λ (l : List (List ℕ)). l ++ rest) (ap reverse made ∙ reverse-reverse (map f (range_with_len next count)))
+    ∙ sym (ap (λ (n : ℕ). map f (range_with_len next n)) parts ∙ map_in_parts f next count (columns - (next + count)))
+    ∙ ap (λ (b : Bool). in_order b (map f (range_with_len next (columns - next)))) (sym first_first)
+
+-- where the last columns come first, they were the last ones
+pub last_made : (way : FlipWay) (depth : ℕ) (sample_width : SampleWidth) (next columns first count : ℕ) (b : Bool) (strips rows made batch : List (List ℕ))
+    → (turn_of way).columns_reversed ≡ true → b ≡ (turn_of way).rows_reversed → next ≤ first → first + count ≡ columns
+    → made ≡ reverse (map (kept_column b depth strips rows) (range_with_len first count)) → batch ≡ reverse made
+    → transposed_due (transposed way depth sample_width strips rows batch next first)
+    ≡ transposed_due (transposed way depth sample_width strips rows [] next columns)
+last_made way depth sample_width next columns first count b strips rows made batch last_first order within ends given turned =
+    let f : ℕ → List ℕ = kept_column (turn_of way).rows_reversed depth strips rows in
+    let is : made ≡ reverse (map f (range_with_len first count)) = given
+    ∙ ap (λ (c : Bool). reverse (map (kept_column c depth strips rows) (range_with_len first count))) order in
+    let parts : (first - next) + count ≡ columns - next = omega arith in
+    let place : next + (first - next) ≡ first = omega arith in
+    let before : List (List ℕ) = map f (range_with_len next (first - next)) in
+    let last : List (List ℕ) = map f (range_with_len first count) in
+    let all : map f (range_with_len next (columns - next)) ≡ before ++ last =
+    ap (λ (n : ℕ). map f (range_with_len next n)) (sym parts) ∙ map_in_parts f next (first - next) count
+    ∙ ap (λ (n : ℕ). before ++ map f (range_with_len n count)) place in
+    ap (λ (b : Bool). reverse batch ++ in_order b before) last_first
+    ∙ ap (λ (l : List (List ℕ)). reverse l ++ reverse before) (turned ∙ ap reverse is ∙ reverse-reverse last)
+    ∙ sym (ap reverse all ∙ reverse-append before last)
+    ∙ ap (λ (b : Bool). in_order b (map f (range_with_len next (columns - next)))) (sym last_first)
+
+-- ---- the head
+
+-- a column of an image is within the limits where the head with its sizes exchanged is made
+column_small : (way : FlipWay) (head made : HeadValue) → (turn_of way).exchanged ≡ true → result_head (Flip way) head ≡ Ok made
+    → head.shape.height * head.shape.depth ≤ MAX_ROW_LENGTH
+column_small way head made exchanged e = small_row (transposed_head_value head).shape ((is_turned way head made e).limits exchanged)
+
+-- bytes hold samples up to 255
+narrow_suits : (s : Shape) (b : Bool) → nat_lt s.maxval 256 ≡ b → SuitsShape (if b then Bytes else Words) s
+narrow_suits s true e = let below : s.maxval < 256 = ltb-true s.maxval 256 e in omega arith
+narrow_suits s false e = tt
+
+kind_suits : (kind : Kind) (s : Shape) (text : List ℕ) → Suits kind s.depth s.maxval text → SuitsShape (sample_width_of kind s.maxval) s
+kind_suits Bit s text suits = (omega (arith, suits.1), suits.0)
+kind_suits Gray s text suits = narrow_suits s (nat_lt s.maxval 256) refl
+kind_suits Color s text suits = narrow_suits s (nat_lt s.maxval 256) refl
+kind_suits Pam s text suits = narrow_suits s (nat_lt s.maxval 256) refl
+
+-- the rows of an image can be held as its kind and maxval ask
+width_suits : (s : Shape) (text : List ℕ) → Suits s.kind s.depth s.maxval text → SuitsShape (sample_width_of s.kind s.maxval) s
+width_suits s text suits = kind_suits s.kind s text suits
+
+-- nothing is kept
+none_come : {X : Type 0} (b : Bool) (depth x : ℕ) → coming_column {X = X} b depth [] [] x ≡ column_of depth (in_order b []) x
+none_come true depth x = refl
+none_come false depth x = refl
+
+-- a transposer that has begun is ready for the first row
+pub ready_to_transpose : (way : FlipWay) (depth : ℕ) (sample_width : SampleWidth) (strips rows batch : List (List ℕ)) (next columns : ℕ) (head made : HeadValue)
+    → (turn_of way).exchanged ≡ true → IsHead head → result_head (Flip way) head ≡ Ok made
+    → sample_width ≡ sample_width_of head.shape.kind head.shape.maxval → strips ≡ [] → rows ≡ [] → batch ≡ [] → next ≡ 0 → columns ≡ 0
+    → IsTransposing (transposed way depth sample_width strips rows batch next columns) head.shape []
+ready_to_transpose way depth sample_width strips rows batch next columns head made exchanged sound e is no_strips no_rows no_batch none no_column =
+    subst (λ (l : List (List ℕ)). IsTransposing (transposed way depth sample_width l rows batch next columns) head.shape []) (sym no_strips)
+    (subst (λ (l : List (List ℕ)). IsTransposing (transposed way depth sample_width [] l batch next columns) head.shape []) (sym no_rows)
+    record {
+      limits = sound.limits;
+      column = column_small way head made exchanged e;
+      sample_width = subst (λ (p : SampleWidth). SuitsShape p head.shape) (sym is) (width_suits head.shape head.tuple_type sound.suits);
+      count = omega arith;
+      same = λ x below. none_come (turn_of way).rows_reversed head.shape.depth x;
+      sizes = record {
+        each_strip = All-nil (λ strip. length strip ≡ head.shape.width * (STRIP_ROWS * head.shape.depth));
+        each_row = All-nil (λ row. length row ≡ row_length head.shape);
+      };
+      none_made = (no_batch, none, no_column);
+    })

@@ -1,0 +1,35 @@
+use Rattle.std.proofs.Common.{◌≡◌, ◌≤◌, ◌+◌, false, ap, sym, ◌∙◌, arith}
+use Rattle.pnm_tools.specs.declared.flip.Turn.{Turn}
+use Rattle.pnm_tools.specs.Flip.{turn_of}
+use Rattle.pnm_geometry_tools.specs.SampleRows.{row_lists, strip_lists, rows_width}
+use Rattle.pnm_geometry_tools.specs.Keeping.{Transposed, transposed, transposed_due}
+use Rattle.pnm_geometry_tools.proofs.TransposeLaws.{first_made}
+use Rattle.std.proofs.lemmas.Grind.{common_steps}
+use Rattle.pnm_geometry_tools.proofs.transpose.Transposer.make_first.Goals as goal
+
+pub returns-clause-due : goal.returns-clause-due
+returns-clause-due c =
+    let x = c.self.inside in
+    let first_first : (turn_of x.way).columns_reversed ≡ false = ap (λ (w : Transposed). (turn_of w.way).columns_reversed) c.self.view_is ∙ c.requires.order in
+    let order = ap (λ (t : Turn). t.rows_reversed) c.turn-rows_first.ensures in
+    let none = ap (λ (w : Transposed). w.batch) c.self.view_is ∙ c.requires.left.0 in
+    let within : x.next + c.min-count.result ≤ x.columns = omega arith in
+    first_made x.way x.depth (rows_width x.rows) x.next x.columns c.min-count.result _ (strip_lists x.rows) (row_lists x.rows) c.in_ok-self-inside.field-0.items
+    first_first order within c.in_ok-self-inside.ensures.made
+    ∙ ap (λ l. transposed_due (transposed x.way x.depth (rows_width x.rows) (strip_lists x.rows) (row_lists x.rows) l x.next x.columns)) (sym none)
+    ∙ ap transposed_due c.self.view_is
+
+pub batch-requires-clause-reach : goal.batch-requires-clause-reach
+batch-requires-clause-reach c = grind (arith, common_steps)
+
+pub returns-clause-some : goal.returns-clause-some
+returns-clause-some c = grind (arith, common_steps)
+
+pub batch-requires-clause-sizes : goal.batch-requires-clause-sizes
+batch-requires-clause-sizes c = grind (arith, common_steps)
+
+pub invariant_of-self : goal.invariant_of-self
+invariant_of-self c = grind (arith, common_steps)
+
+pub batch-requires-clause-bits : goal.batch-requires-clause-bits
+batch-requires-clause-bits c = grind (arith, common_steps)

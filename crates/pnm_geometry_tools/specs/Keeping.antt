@@ -1,0 +1,138 @@
+-- What tools keep while the rows of an image come, and the rows of the result that they still give.
+use Rattle.std.specs.Prelude.{◌≡◌, ℕ, ◌+◌, ◌-◌, ◌*◌, ◌<◌, ◌≤◌, ◌%◌, true, List, [], ◌++◌, map, length, min, take}
+use Rattle.std.specs.Prelude.{reverse, replicate, slice_index_or, All, Option, Some, None}
+use Rattle.std.specs.List.{range_with_len}
+use Rattle.pnm_image.specs.declared.limits.TheConstants.{MAX_DEPTH, MAX_ROW_LENGTH, MAX_SIDE}
+use Rattle.pnm_image.specs.declared.sample_width.SampleWidth.{SampleWidth}
+use Rattle.pnm_image.specs.declared.sample_width.SampleWidth.TheVariants.{Bits as OfBits}
+use Rattle.pnm_image.specs.declared.shape.Shape.{Shape}
+use Rattle.pnm_image.specs.Heads.{IsWithinLimits, row_length}
+use Rattle.pnm_image.specs.Places.{IsRowOf}
+use Rattle.pnm_geometry_tools.specs.declared.enlarge.Enlarger.{Enlarger}
+use Rattle.pnm_tools.specs.declared.flip.FlipWay.{FlipWay}
+use Rattle.pnm_tools.specs.Flip.{turn_of, in_order, column_of}
+use Rattle.pnm_geometry_tools.specs.SampleRows.{SuitsShape}
+use Rattle.pnm_geometry_tools.specs.Strips.{HaveSizes, ReachColumns, coming_column, kept_column, kept_count}
+use Rattle.pnm_tools.specs.Tile.{tiled_row}
+
+-- ---- pamenlarge: a row that is given more than once
+
+abbrev pub across_of : Enlarger → ℕ
+across_of w = w.across
+
+abbrev pub down_of : Enlarger → ℕ
+down_of w = w.down
+
+abbrev pub kept_row : Enlarger → Option (List ℕ)
+kept_row w = w.row
+
+-- for images of a shape that stays within the limits with its pixels repeated
+pub record IsEnlarging (across : ℕ) (s : Shape) : Type 0 where
+  pub limits : IsWithinLimits s
+  pub width : s.width * across ≤ MAX_SIDE
+  pub row : s.width * across * s.depth ≤ MAX_ROW_LENGTH
+
+abbrev pub enlarged_due : Enlarger → List (List ℕ)
+enlarged_due w = elim w.row [
+  | None ↦ []
+  | Some row ↦ replicate (w.more + 1) row
+]
+
+-- ---- pamflip where columns and rows are exchanged: all rows, and a batch of rows of the result
+
+-- the way, the planes of the image, how its rows are held, the strips and the rows after them; the batch, whose last
+-- row is given next; and of all the columns, which become the rows of the result, those from `next` up to `columns`
+-- aren't in a batch yet
+pub record Transposed : Type 0 where
+  pub way : FlipWay
+  pub depth : ℕ
+  pub sample_width : SampleWidth
+  pub strips : List (List ℕ)
+  pub rows : List (List ℕ)
+  pub batch : List (List ℕ)
+  pub next : ℕ
+  pub columns : ℕ
+
+abbrev pub transposed : FlipWay → ℕ → SampleWidth → List (List ℕ) → List (List ℕ) → List (List ℕ) → ℕ → ℕ → Transposed
+transposed way depth sample_width strips rows batch next columns =
+    record {
+      way = way;
+      depth = depth;
+      sample_width = sample_width;
+      strips = strips;
+      rows = rows;
+      batch = batch;
+      next = next;
+      columns = columns;
+    }
+
+-- each row has a pixel of each column, and each strip a part of each; a row of the result is within the limits; packed
+-- rows have one plane, and the next column is the first of a byte
+pub record HasColumns (w : Transposed) : Type 0 where
+  pub way : (turn_of w.way).exchanged ≡ true
+  pub reach : ReachColumns w.columns w.depth w.strips w.rows
+  pub each : 0 < w.columns → kept_count w.strips w.rows * w.depth ≤ MAX_ROW_LENGTH
+  pub depth : w.depth ≤ MAX_DEPTH
+  pub made : w.next ≤ w.columns
+  pub one_plane : w.sample_width ≡ OfBits → 0 < w.columns → w.depth ≡ 1
+  pub at_byte : w.sample_width ≡ OfBits → w.next < w.columns → w.next % 8 ≡ 0
+
+pub record IsTransposing (w : Transposed) (s : Shape) (come : List (List ℕ)) : Type 0 where
+  pub limits : IsWithinLimits s
+  pub column : s.height * s.depth ≤ MAX_ROW_LENGTH
+  pub sample_width : SuitsShape w.sample_width s
+  pub count : kept_count w.strips w.rows ≡ length come
+  pub same : (x : ℕ) → x < s.width → coming_column (turn_of w.way).rows_reversed s.depth w.strips w.rows x
+      ≡ column_of s.depth (in_order (turn_of w.way).rows_reversed come) x
+  pub sizes : HaveSizes s.width s.depth w.strips w.rows
+  pub none_made : (w.batch ≡ []) × (w.next ≡ 0) × (w.columns ≡ 0)
+
+abbrev pub transposed_due : Transposed → List (List ℕ)
+transposed_due w =
+    reverse w.batch ++ in_order (turn_of w.way).columns_reversed
+    (map (kept_column (turn_of w.way).rows_reversed w.depth w.strips w.rows)
+    (range_with_len w.next (w.columns - w.next)))
+
+-- ---- pnmtile: what the result shows of the rows, the next one first
+
+-- the columns of a row that so many columns show, from the first one on
+abbrev pub shown_row : ℕ → Shape → List ℕ → List ℕ
+shown_row width s row = take (min width s.width * s.depth) row
+
+-- so many columns and rows to fill; the columns that are kept, and the planes of the image; how many rows are still to
+-- be given
+pub record Tiled : Type 0 where
+  pub width : ℕ
+  pub height : ℕ
+  pub image_width : ℕ
+  pub depth : ℕ
+  pub rows : List (List ℕ)
+  pub left : ℕ
+
+abbrev pub tiled : ℕ → ℕ → ℕ → ℕ → List (List ℕ) → ℕ → Tiled
+tiled width height image_width depth rows left =
+    record { width = width; height = height; image_width = image_width; depth = depth; rows = rows; left = left }
+
+-- there are rows to give, each of the columns that are kept
+pub record HasTiles (w : Tiled) : Type 0 where
+  pub some : 0 < length w.rows
+  pub lengths : All (λ row. length row ≡ w.image_width * w.depth) w.rows
+  pub width : 0 < w.image_width
+  pub filled : w.width * w.depth ≤ MAX_ROW_LENGTH
+
+-- no sample of these rows is above the maxval
+abbrev pub AreWithin : ℕ → List (List ℕ) → Type 0
+AreWithin maxval rows = All (λ row. All (λ sample. sample ≤ maxval) row) rows
+
+pub record IsTiling (w : Tiled) (s : Shape) (come : List (List ℕ)) : Type 0 where
+  pub limits : IsWithinLimits s
+  pub some : 0 < s.height
+  pub filled : w.width * s.depth ≤ MAX_ROW_LENGTH
+  pub rows : w.rows ≡ map (shown_row w.width s) (take w.height come)
+  pub lengths : All (λ row. length row ≡ row_length s) come
+  pub range : AreWithin s.maxval come
+  pub none_given : w.left ≡ 0
+
+abbrev pub tiled_due : Tiled → List (List ℕ)
+tiled_due w = map (λ y. tiled_row w.width w.image_width w.depth (slice_index_or w.rows (y % length w.rows) []))
+    (range_with_len 0 w.left)

@@ -1,0 +1,4 @@
+pub mod Columns
+pub mod Strips
+pub mod SampleRows
+pub mod Keeping

@@ -1,0 +1,252 @@
+//! Columns of an image, made side by side.
+
+ghost use Rattle.std.specs.Prelude.{◌≡◌, ◌≤◌, ◌+◌, ◌*◌, ℕ, List, All, length, map, reverse};
+ghost use Rattle.std.specs.Prelude.{IfOk, IfErr};
+ghost use Rattle.std.specs.List.{range_with_len};
+ghost use Rattle.pnm_image.specs.declared.limits.TheConstants.{MAX_DEPTH, MAX_ROW_LENGTH};
+ghost use Rattle.pnm_tools.specs.declared.fault.ToolFault.TheVariants.{Memory};
+ghost use Rattle.pnm_geometry_tools.specs.Columns.{AreBlank, AreLongEnough, HavePixels, column_samples};
+ghost use Rattle.pnm_tools.specs.Flip.{column_of};
+ghost use Rattle.pnm_tools.specs.Pixels.{pixel_of};
+ghost use Rattle.pnm_geometry_tools.specs.Strips.{ReachColumns, kept_column, kept_count};
+
+use crate::buffer::store;
+use crate::color::color_at;
+use crate::row_of::RowOf;
+use crate::strip::{STRIP_ROWS, StripedRows};
+use pnm_image::{Bits, SampleVec, Samples};
+use pnm_tools::ToolFault;
+use std::alloc::Global;
+
+/// A column of an image, which becomes a row of the result.
+pub(crate) trait Column: Drop {
+    /// Its samples.
+    ghost samples: { Self → List ℕ };
+
+    /// The column as samples, without a copy.
+    fn into_samples(self) -> Samples
+        ensures { result ≡ samples self };
+}
+
+impl Column for Bits {
+    ghost samples = { λ bits. bits };
+
+    fn into_samples(self) -> Samples {
+        Samples::from_vec(SampleVec::Bits(self))
+    }
+}
+
+impl Column for Vec<u8> {
+    ghost samples = { λ bytes. bytes.items };
+
+    fn into_samples(self) -> Samples {
+        Samples::from_vec(SampleVec::Bytes(self))
+    }
+}
+
+impl Column for Vec<u16> {
+    ghost samples = { λ words. words.items };
+
+    fn into_samples(self) -> Samples {
+        Samples::from_vec(SampleVec::Words(self))
+    }
+}
+
+/// The columns as samples, the last one first.
+pub(crate) fn last_first<C: Column>(
+    alloc: Global,
+    columns: Vec<C>,
+) -> Result<Vec<Samples>, ToolFault>
+    ensures made { IfOk result (λ batch. batch.items ≡ reverse (map C.samples columns.items)) }
+    ensures refused { IfErr result (λ fault. fault ≡ Memory) }
+{
+    let mut columns = columns;
+    let mut batch = Vec::with_capacity(alloc, columns.len())?;
+    while let Some(column) = columns.pop() {
+        batch.push(column.into_samples())?;
+    }
+    Ok(batch)
+}
+
+/// So many columns of the rows, from the first one on.
+pub(crate) fn columns_of<T: Copy + Default>(
+    alloc: Global,
+    kept: &StripedRows<T>,
+    rows_first: bool,
+    first: usize,
+    count: usize,
+    depth: usize,
+) -> Result<Vec<Vec<T>>, ToolFault>
+    requires reach { ReachColumns (first + count) depth kept.now.strips.items kept.now.rows.items }
+    requires sizes { (kept_count kept.now.strips.items kept.now.rows.items * depth ≤ MAX_ROW_LENGTH)
+        × (depth ≤ MAX_DEPTH) × (first + count ≤ 4294967295) }
+    ensures made { IfOk result (λ columns. column_samples columns.items
+        ≡ map (kept_column rows_first depth kept.now.strips.items kept.now.rows.items) (range_with_len first count)) }
+    ensures refused { IfErr result (λ fault. fault ≡ Memory) }
+{
+    // The columns have their length first, and what is stored then grows nothing.
+    let samples = STRIP_ROWS * depth * kept.strips.len() + depth * kept.rows.len();
+    let mut columns = blank_columns(alloc, count, samples)?;
+    put_kept(columns.as_mut_slice(), kept, rows_first, first, depth);
+    Ok(columns)
+}
+
+/// Stores columns of the rows, each from its first sample on: of those in strips and of those that came
+/// after them, or of the latter first.
+fn put_kept<T: Copy>(
+    columns: &mut [Vec<T>],
+    kept: &StripedRows<T>,
+    rows_first: bool,
+    first: usize,
+    depth: usize,
+)
+    requires reach { ReachColumns (first + length columns.old) depth kept.now.strips.items kept.now.rows.items }
+    requires sizes { (kept_count kept.now.strips.items kept.now.rows.items * depth ≤ MAX_ROW_LENGTH)
+        × (depth ≤ MAX_DEPTH) × (first + length columns.old ≤ 4294967295) }
+    requires long { AreLongEnough (kept_count kept.now.strips.items kept.now.rows.items * depth) columns.old }
+    ensures { HavePixels (length columns.old) 0
+        (λ k. kept_column rows_first depth kept.now.strips.items kept.now.rows.items (first + k))
+        columns.old columns.new }
+{
+    let (strips, rows) = (kept.strips.as_slice(), kept.rows.as_slice());
+    let part = STRIP_ROWS * depth;
+    if rows_first {
+        put_all(columns, 0, rows, first, depth);
+        put_rows(columns, rows.len() * depth, strips, first, part);
+    } else {
+        put_rows(columns, 0, strips, first, part);
+        put_all(columns, strips.len() * part, rows, first, depth);
+    }
+}
+
+/// Stores rows' pixels from this place of each column on, a row after the other, four rows at a time.
+pub(crate) fn put_all<T: Copy>(
+    columns: &mut [Vec<T>],
+    at: usize,
+    rows: &[RowOf<T>],
+    first: usize,
+    depth: usize,
+)
+    requires rows { All (λ row. (first + length columns.old) * depth ≤ length row) rows.now }
+    requires sizes { (at + length rows.now * depth ≤ MAX_ROW_LENGTH) × (depth ≤ MAX_DEPTH)
+        × (first + length columns.old ≤ 4294967295) }
+    requires long { AreLongEnough (at + length rows.now * depth) columns.old }
+    ensures { HavePixels (length columns.old) at (λ k. column_of depth rows.now (first + k))
+        columns.old columns.new }
+{
+    let fours = rows.len() / 4;
+    for group in 0..fours {
+        let y = 4 * group;
+        put_four(columns, at + y * depth, &rows[y..y + 4], first, depth);
+    }
+    let y = 4 * fours;
+    put_rows(columns, at + y * depth, &rows[y..], first, depth);
+}
+
+/// Stores four rows' pixels from this place of each column on, a row after the other.
+fn put_four<T: Copy>(
+    columns: &mut [Vec<T>],
+    at: usize,
+    rows: &[RowOf<T>],
+    first: usize,
+    depth: usize,
+)
+    requires four { length rows.now ≡ 4 }
+    requires rows { All (λ row. (first + length columns.old) * depth ≤ length row) rows.now }
+    requires sizes { (at + 4 * depth ≤ MAX_ROW_LENGTH) × (first + length columns.old ≤ 4294967295) }
+    requires long { AreLongEnough (at + 4 * depth) columns.old }
+    ensures { HavePixels (length columns.old) at (λ k. column_of depth rows.now (first + k))
+        columns.old columns.new }
+{
+    match depth {
+        1 => put_four_samples(columns, at, rows, first),
+        3 => put_four_colors(columns, at, rows, first),
+        _ => put_rows(columns, at, rows, first, depth),
+    }
+}
+
+/// Stores four rows where each pixel is one sample. All are taken before one is stored, so that the compiler
+/// stores them at once.
+fn put_four_samples<T: Copy>(columns: &mut [Vec<T>], at: usize, rows: &[RowOf<T>], first: usize)
+    requires four { length rows.now ≡ 4 }
+    requires rows { All (λ row. (first + length columns.old) * 1 ≤ length row) rows.now }
+    requires long { AreLongEnough (at + 4) columns.old }
+    ensures { HavePixels (length columns.old) at (λ k. column_of 1 rows.now (first + k))
+        columns.old columns.new }
+{
+    let (a, b) = (rows[0].as_slice(), rows[1].as_slice());
+    let (c, d) = (rows[2].as_slice(), rows[3].as_slice());
+    for (k, column) in columns.iter_mut().enumerate() {
+        let x = first + k;
+        store(column.as_mut_slice(), at, &[a[x], b[x], c[x], d[x]]);
+    }
+}
+
+/// Stores four rows where each pixel is three samples.
+fn put_four_colors<T: Copy>(columns: &mut [Vec<T>], at: usize, rows: &[RowOf<T>], first: usize)
+    requires four { length rows.now ≡ 4 }
+    requires rows { All (λ row. (first + length columns.old) * 3 ≤ length row) rows.now }
+    requires long { AreLongEnough (at + 12) columns.old }
+    ensures { HavePixels (length columns.old) at (λ k. column_of 3 rows.now (first + k))
+        columns.old columns.new }
+{
+    let (a, b) = (rows[0].as_slice(), rows[1].as_slice());
+    let (c, d) = (rows[2].as_slice(), rows[3].as_slice());
+    for (k, column) in columns.iter_mut().enumerate() {
+        let x = 3 * (first + k);
+        let (p, q) = (color_at(a, x), color_at(b, x));
+        let (r, s) = (color_at(c, x), color_at(d, x));
+        let four = [p.0, p.1, p.2, q.0, q.1, q.2, r.0, r.1, r.2, s.0, s.1, s.2];
+        store(column.as_mut_slice(), at, &four);
+    }
+}
+
+/// Stores rows' pixels from this place of each column on, a row after the other.
+fn put_rows<T: Copy>(
+    columns: &mut [Vec<T>],
+    at: usize,
+    rows: &[RowOf<T>],
+    first: usize,
+    depth: usize,
+)
+    requires rows { All (λ row. (first + length columns.old) * depth ≤ length row) rows.now }
+    requires sizes { (at + length rows.now * depth ≤ MAX_ROW_LENGTH)
+        × (first + length columns.old ≤ 4294967295) }
+    requires long { AreLongEnough (at + length rows.now * depth) columns.old }
+    ensures { HavePixels (length columns.old) at (λ k. column_of depth rows.now (first + k))
+        columns.old columns.new }
+{
+    for (n, row) in rows.iter().enumerate() {
+        put_pixels(columns, at + n * depth, row.as_slice(), first, depth);
+    }
+}
+
+/// Stores a row's pixels at this place of each column.
+fn put_pixels<T: Copy>(columns: &mut [Vec<T>], at: usize, row: &[T], first: usize, depth: usize)
+    requires row { (first + length columns.old) * depth ≤ length row.now }
+    requires fits { first + length columns.old ≤ 4294967295 }
+    requires long { AreLongEnough (at + depth) columns.old }
+    ensures { HavePixels (length columns.old) at (λ k. pixel_of depth row.now (first + k))
+        columns.old columns.new }
+{
+    for (k, column) in columns.iter_mut().enumerate() {
+        let x = (first + k) * depth;
+        store(column.as_mut_slice(), at, &row[x..x + depth]);
+    }
+}
+
+/// So many columns of so many samples, which are still to be stored.
+pub(crate) fn blank_columns<T: Copy + Default>(
+    alloc: Global,
+    count: usize,
+    samples: usize,
+) -> Result<Vec<Vec<T>>, ToolFault>
+    ensures blank { IfOk result (λ columns. AreBlank count samples columns.items) }
+    ensures refused { IfErr result (λ fault. fault ≡ Memory) }
+{
+    let mut columns = Vec::with_capacity(alloc, count)?;
+    for _ in 0..count {
+        columns.push(Vec::from_elem(alloc, T::default(), samples)?)?;
+    }
+    Ok(columns)
+}

@@ -1,0 +1,17 @@
+//! Tools at work whose results have other rows than the image: pamenlarge(1), pnmtile(1), and pamflip(1) where columns
+//! and rows are exchanged.
+#![tactic(auto)]
+
+mod batch;
+mod buffer;
+mod color;
+mod enlarge;
+mod row_of;
+mod sample_rows;
+mod strip;
+mod tile;
+mod transpose;
+
+pub use enlarge::Enlarger;
+pub use tile::Tiler;
+pub use transpose::Transposer;

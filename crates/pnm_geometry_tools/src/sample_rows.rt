@@ -1,0 +1,173 @@
+//! Rows whose samples are all of one width, which a transposer keeps.
+
+ghost use Rattle.std.specs.Prelude.{◌≡◌, ◌≤◌, ◌<◌, ◌+◌, ◌*◌, ◌++◌, ◌∷◌, [], OnOk, OnErr, IfOk, IfErr, map, reverse};
+ghost use Rattle.std.specs.List.{range_with_len};
+ghost use Rattle.pnm_image.specs.declared.limits.TheConstants.{MAX_DEPTH, MAX_ROW_LENGTH};
+ghost use Rattle.pnm_image.specs.Heads.{IsWithinLimits};
+ghost use Rattle.pnm_tools.specs.declared.fault.ToolFault.TheVariants.{Memory};
+ghost use Rattle.pnm_tools.specs.Flip.{in_order};
+ghost use Rattle.pnm_geometry_tools.specs.SampleRows.{row_lists, strip_lists, rows_width, FitsWidth, IsBatchOfBits};
+ghost use Rattle.pnm_geometry_tools.specs.SampleRows.{batch_length};
+ghost use Rattle.pnm_geometry_tools.specs.Strips.{HaveSizes, KeepColumns, ReachColumns, kept_column, kept_count};
+
+use crate::batch::{columns_of, last_first};
+use crate::strip::StripedRows;
+use pnm_image::{Bits, SampleWidth, Samples, Shape};
+use pnm_tools::ToolFault;
+use std::alloc::Global;
+
+/// How many columns are made side by side. One at a time would fetch each row of the image from
+/// memory once for each of its columns. As many bytes of a row lie in a line of the processor's cache.
+const BATCH: u32 = 64;
+
+/// How many columns of bits are made side by side, eight to a byte: as many as lie in 32 bytes.
+const BATCH_OF_BITS: u32 = 256;
+
+/// How many rows an image has at least whose rows are put into strips as they come: so the strip that is made
+/// takes little memory beside the image.
+const LEAST_HEIGHT: u32 = 1024;
+
+/// The rows of an image, top to bottom, all of one width of samples.
+#[derive(Drop)]
+pub(crate) enum SampleRows {
+    /// Each sample is 0 or 1.
+    Bits(Vec<Bits>),
+    /// Each sample is at most 255.
+    Bytes(StripedRows<u8>),
+    /// Each sample is at most 65,535.
+    Words(StripedRows<u16>),
+}
+
+impl SampleRows {
+    /// No rows.
+    pub fn new(alloc: Global) -> SampleRows
+        ensures { (row_lists result ≡ []) × (strip_lists result ≡ []) }
+    {
+        SampleRows::Words(StripedRows::new(alloc))
+    }
+
+    /// No rows of this width. Memory is taken as they come, and none for those that a head only tells.
+    pub fn of_width(alloc: Global, sample_width: SampleWidth) -> SampleRows
+        ensures empty { (row_lists result ≡ []) × (strip_lists result ≡ []) }
+        ensures sample_width { rows_width result ≡ sample_width }
+    {
+        match sample_width {
+            SampleWidth::Bits => SampleRows::Bits(Vec::new(alloc)),
+            SampleWidth::Bytes => SampleRows::Bytes(StripedRows::new(alloc)),
+            SampleWidth::Words => SampleRows::Words(StripedRows::new(alloc)),
+        }
+    }
+
+    /// Adds a row at the end, without a copy where it is held so. The only fault is `Memory`.
+    pub fn push(&mut self, alloc: Global, row: Samples) -> Result<(), ToolFault>
+        requires { FitsWidth (rows_width self.old) row }
+        ensures sample_width { rows_width self.new ≡ rows_width self.old }
+        ensures strips { strip_lists self.new ≡ strip_lists self.old }
+        ensures added { OnOk result (row_lists self.new ≡ row_lists self.old ++ row ∷ []) }
+        ensures unchanged { OnErr result (row_lists self.new ≡ row_lists self.old) }
+        ensures refused { IfErr result (λ fault. fault ≡ Memory) }
+    {
+        match self {
+            SampleRows::Bits(rows) => Ok(rows.push(row.into_bits(alloc)?)?),
+            SampleRows::Bytes(kept) => kept.push(row.into_bytes(alloc)?),
+            SampleRows::Words(kept) => kept.push(row.into_words(alloc)?),
+        }
+    }
+
+    /// Makes a strip of the rows that came last, once they are as many as a strip has, in an image that has
+    /// enough rows; no strips are made of bits. The only fault is `Memory`.
+    pub fn fill_strip(
+        &mut self,
+        alloc: Global,
+        last_first: bool,
+        shape: Shape,
+    ) -> Result<(), ToolFault>
+        requires sizes { HaveSizes shape.width shape.depth (strip_lists self.old) (row_lists self.old) }
+        requires limits { IsWithinLimits shape }
+        ensures sample_width { rows_width self.new ≡ rows_width self.old }
+        ensures kept { OnOk result (KeepColumns last_first shape.width shape.depth
+            (strip_lists self.old) (row_lists self.old) (strip_lists self.new) (row_lists self.new)) }
+        ensures refused { IfErr result (λ fault. fault ≡ Memory) }
+    {
+        if shape.height < LEAST_HEIGHT {
+            return Ok(());
+        }
+        let (width, depth) = (shape.width as usize, shape.depth as usize);
+        match self {
+            SampleRows::Bits(_) => Ok(()),
+            SampleRows::Bytes(kept) => kept.fill_strip(alloc, last_first, width, depth),
+            SampleRows::Words(kept) => kept.fill_strip(alloc, last_first, width, depth),
+        }
+    }
+
+    /// The strips and the rows in the opposite order, where they are wanted so.
+    pub fn put_in_order(&mut self, last_first: bool)
+        ensures sample_width { rows_width self.new ≡ rows_width self.old }
+        ensures strips { strip_lists self.new ≡ in_order last_first (strip_lists self.old) }
+        ensures rows { row_lists self.new ≡ in_order last_first (row_lists self.old) }
+    {
+        if last_first {
+            self.reverse();
+        }
+    }
+
+    /// The strips and the rows in the opposite order.
+    fn reverse(&mut self)
+        ensures sample_width { rows_width self.new ≡ rows_width self.old }
+        ensures strips { strip_lists self.new ≡ reverse (strip_lists self.old) }
+        ensures rows { row_lists self.new ≡ reverse (row_lists self.old) }
+    {
+        match self {
+            SampleRows::Bits(rows) => rows.reverse(),
+            SampleRows::Bytes(kept) => kept.reverse(),
+            SampleRows::Words(kept) => kept.reverse(),
+        }
+    }
+
+    /// How many columns are made side by side.
+    pub fn batch_length(&self) -> u32
+        ensures length { result ≡ batch_length (rows_width self.now) }
+        ensures some { 0 < result }
+    {
+        match self {
+            SampleRows::Bits(_) => BATCH_OF_BITS,
+            SampleRows::Bytes(_) | SampleRows::Words(_) => BATCH,
+        }
+    }
+
+    /// So many columns of the rows, from the first one on, the last one first: the samples of the strips
+    /// before those of the rows that came after them, or behind those. The first column of bits is that of
+    /// the highest bit of a byte. The only fault is `Memory`.
+    pub fn batch(
+        &self,
+        alloc: Global,
+        rows_first: bool,
+        first: usize,
+        count: usize,
+        depth: usize,
+    ) -> Result<Vec<Samples>, ToolFault>
+        requires reach { ReachColumns (first + count) depth (strip_lists self.now) (row_lists self.now) }
+        requires sizes { (kept_count (strip_lists self.now) (row_lists self.now) * depth ≤ MAX_ROW_LENGTH)
+            × (depth ≤ MAX_DEPTH) × (first + count ≤ 4294967295) }
+        requires bits { rows_width self.now ≡ SampleWidth.Bits → IsBatchOfBits first count depth }
+        ensures made { IfOk result (λ batch. batch.items
+            ≡ reverse (map (kept_column rows_first depth (strip_lists self.now) (row_lists self.now))
+            (range_with_len first count))) }
+        ensures refused { IfErr result (λ fault. fault ≡ Memory) }
+    {
+        match self {
+            SampleRows::Bits(rows) => {
+                let columns = pnm_samples::columns(alloc, rows.as_slice(), first / 8, count)?;
+                last_first(alloc, columns)
+            }
+            SampleRows::Bytes(kept) => {
+                let columns = columns_of(alloc, kept, rows_first, first, count, depth)?;
+                last_first(alloc, columns)
+            }
+            SampleRows::Words(kept) => {
+                let columns = columns_of(alloc, kept, rows_first, first, count, depth)?;
+                last_first(alloc, columns)
+            }
+        }
+    }
+}

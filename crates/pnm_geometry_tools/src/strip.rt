@@ -1,0 +1,151 @@
+//! Rows of an image, most of which are kept in strips with columns and rows exchanged: so they are
+//! exchanged while the image comes, and lie in the processor's cache.
+
+ghost use Rattle.std.specs.Prelude.{◌≡◌, ◌≤◌, ◌+◌, ◌*◌, ◌++◌, ◌∷◌, [], All, OnOk, OnErr, IfOk, IfErr, length, reverse};
+ghost use Rattle.std.specs.List.{flat_map, range_with_len};
+ghost use Rattle.pnm_image.specs.declared.limits.TheConstants.{MAX_DEPTH, MAX_ROW_LENGTH, MAX_SIDE};
+ghost use Rattle.pnm_tools.specs.declared.fault.ToolFault.TheVariants.{Memory};
+ghost use Rattle.pnm_geometry_tools.specs.declared.strip.TheConstants.{STRIP_ROWS as rows_in_strip};
+ghost use Rattle.pnm_geometry_tools.specs.Columns.{AreAsLong};
+ghost use Rattle.pnm_tools.specs.Flip.{column_of, in_order};
+ghost use Rattle.pnm_geometry_tools.specs.Strips.{HaveSizes, KeepColumns};
+
+use crate::batch::{blank_columns, put_all};
+use crate::row_of::RowOf;
+use pnm_tools::ToolFault;
+use std::alloc::Global;
+
+/// The rows of a strip: as many samples of a column lie in a line of the processor's cache.
+pub(crate) const STRIP_ROWS: usize = 64;
+
+/// How many columns of a strip are made side by side.
+const STRIP_COLUMNS: usize = 64;
+
+/// Rows of an image.
+#[derive(Drop)]
+pub(crate) struct StripedRows<T> {
+    /// Of the first rows, `STRIP_ROWS` in each: the samples of the first column, top to bottom or bottom
+    /// to top, those of the second one, and so on.
+    pub strips: Vec<RowOf<T>>,
+    /// The rows that came after them.
+    pub rows: Vec<RowOf<T>>,
+}
+
+impl<T> StripedRows<T> {
+    /// No rows.
+    pub fn new(alloc: Global) -> StripedRows<T>
+        ensures strips { result.strips.items ≡ [] }
+        ensures rows { result.rows.items ≡ [] }
+    {
+        StripedRows {
+            strips: Vec::new(alloc),
+            rows: Vec::new(alloc),
+        }
+    }
+
+    /// The strips and the rows in the opposite order.
+    pub fn reverse(&mut self)
+        ensures strips { self.new.strips.items ≡ reverse self.old.strips.items }
+        ensures rows { self.new.rows.items ≡ reverse self.old.rows.items }
+    {
+        self.strips.reverse();
+        self.rows.reverse();
+    }
+}
+
+impl<T: Copy + Default> StripedRows<T> {
+    /// Adds a row at the end. The only fault is `Memory`.
+    pub fn push(&mut self, samples: Vec<T>) -> Result<(), ToolFault>
+        ensures strips { self.new.strips.items ≡ self.old.strips.items }
+        ensures added { OnOk result (self.new.rows.items ≡ self.old.rows.items ++ samples.items ∷ []) }
+        ensures unchanged { OnErr result (self.new.rows.items ≡ self.old.rows.items) }
+        ensures refused { IfErr result (λ fault. fault ≡ Memory) }
+    {
+        self.rows.push(RowOf::new(samples))?;
+        Ok(())
+    }
+
+    /// Makes a strip of the rows that came last, once they are as many as a strip has. The only fault is
+    /// `Memory`.
+    pub fn fill_strip(
+        &mut self,
+        alloc: Global,
+        last_first: bool,
+        width: usize,
+        depth: usize,
+    ) -> Result<(), ToolFault>
+        requires sizes { HaveSizes width depth self.old.strips.items self.old.rows.items }
+        requires limits { (width ≤ MAX_SIDE) × (depth ≤ MAX_DEPTH) × (width * depth ≤ MAX_ROW_LENGTH) }
+        ensures kept { OnOk result (KeepColumns last_first width depth
+            self.old.strips.items self.old.rows.items self.new.strips.items self.new.rows.items) }
+        ensures refused { IfErr result (λ fault. fault ≡ Memory) }
+    {
+        if self.rows.len() != STRIP_ROWS {
+            return Ok(());
+        }
+        order_rows(&mut self.rows, last_first);
+        let strip = strip_of(alloc, self.rows.as_slice(), width, depth)?;
+        self.strips.push(strip)?;
+        self.rows.clear();
+        Ok(())
+    }
+}
+
+/// The rows in the opposite order, where they are wanted so.
+fn order_rows<T>(rows: &mut Vec<RowOf<T>>, last_first: bool)
+    ensures { rows.new.items ≡ in_order last_first rows.old.items }
+{
+    if last_first {
+        rows.reverse();
+    }
+}
+
+/// The rows with columns and rows exchanged, the columns one after the other.
+fn strip_of<T: Copy + Default>(
+    alloc: Global,
+    rows: &[RowOf<T>],
+    width: usize,
+    depth: usize,
+) -> Result<RowOf<T>, ToolFault>
+    requires rows { All (λ row. width * depth ≤ length row) rows.now }
+    requires count { length rows.now ≡ rows_in_strip }
+    requires limits { (width ≤ MAX_SIDE) × (depth ≤ MAX_DEPTH) × (width * depth ≤ MAX_ROW_LENGTH) }
+    ensures made { IfOk result (λ strip. strip
+        ≡ flat_map (column_of depth rows.now) (range_with_len 0 width)) }
+    ensures refused { IfErr result (λ fault. fault ≡ Memory) }
+{
+    let part = rows.len() * depth;
+    let mut columns = blank_columns(alloc, STRIP_COLUMNS, part)?;
+    let mut strip = Vec::with_capacity(alloc, width * part)?;
+    let mut first = 0;
+    while first < width {
+        columns.truncate(width - first);
+        add_columns(&mut strip, columns.as_mut_slice(), rows, first, depth)?;
+        first += columns.len();
+    }
+    Ok(RowOf::new(strip))
+}
+
+/// Adds columns of the rows, as many as there are to store them in, to the samples of a strip.
+fn add_columns<T: Copy>(
+    strip: &mut Vec<T>,
+    columns: &mut [Vec<T>],
+    rows: &[RowOf<T>],
+    first: usize,
+    depth: usize,
+) -> Result<(), ToolFault>
+    requires rows { All (λ row. (first + length columns.old) * depth ≤ length row) rows.now }
+    requires sizes { (length rows.now * depth ≤ MAX_ROW_LENGTH) × (depth ≤ MAX_DEPTH)
+        × (first + length columns.old ≤ 4294967295) }
+    requires long { AreAsLong (length rows.now * depth) columns.old }
+    ensures added { OnOk result (strip.new.items ≡ strip.old.items
+        ++ flat_map (column_of depth rows.now) (range_with_len first (length columns.old))) }
+    ensures long { (length columns.new ≡ length columns.old) × AreAsLong (length rows.now * depth) columns.new }
+    ensures refused { IfErr result (λ fault. fault ≡ Memory) }
+{
+    put_all(columns, 0, rows, first, depth);
+    for column in columns.iter() {
+        strip.extend_from_slice(column.as_slice())?;
+    }
+    Ok(())
+}

@@ -1,0 +1,173 @@
+//! `pamflip` where columns and rows are exchanged, from pamflip(1).
+
+ghost use Rattle.std.specs.Prelude.{◌≡◌, ◌<◌, ◌++◌, [], true, false, length, OnOk, IfErr};
+ghost use Rattle.pnm_tools.specs.declared.fault.ToolFault.TheVariants.{Memory};
+ghost use Rattle.pnm_tools.specs.declared.tool.Tool.TheVariants.{Flip};
+ghost use Rattle.pnm_tools.specs.Flip.{turn_of};
+ghost use Rattle.pnm_geometry_tools.specs.Keeping.{IsTransposing, transposed_due};
+
+use crate::sample_rows::SampleRows;
+use pnm_image::{Head, SampleWidth, Samples, Shape};
+use pnm_tools::{FlipWay, ImageTool, ToolFault, flipped_head};
+use std::alloc::Global;
+use std::marker::Model;
+
+/// Exchanges columns and rows: keeps the rows of an image, and gives its columns. Where the order of
+/// the rows is reversed, that of the kept rows is once the image has ended; where that of the columns
+/// is, they are made from the last one on.
+#[derive(Drop)]
+pub struct Transposer {
+    way: FlipWay,
+    depth: u32,
+    rows: SampleRows,
+    /// Columns that are made, the next one last.
+    batch: Vec<Samples>,
+    /// The first column that isn't made yet.
+    next: u32,
+    /// The columns before this one aren't made yet from `next` on; 0 until the image has ended.
+    columns: u32,
+}
+
+impl Model for Transposer {
+    ghost use Rattle.pnm_geometry_tools.specs.Keeping.{Transposed, transposed, HasColumns};
+    ghost use Rattle.pnm_geometry_tools.specs.SampleRows.{row_lists, strip_lists, rows_width};
+
+    ghost Value = { Transposed };
+
+    ghost view = { λ w. transposed w.way w.depth (rows_width w.rows) (strip_lists w.rows) (row_lists w.rows)
+        w.batch.items w.next w.columns };
+
+    ghost invariant = { λ w.
+        HasColumns (transposed w.way w.depth (rows_width w.rows) (strip_lists w.rows) (row_lists w.rows) w.batch.items
+        w.next w.columns) };
+}
+
+impl ImageTool for Transposer {
+    ghost tool = { λ w. Flip w.way };
+
+    ghost ready = { IsTransposing };
+
+    ghost due = { transposed_due };
+
+    ghost kept = { λ w. w.strips ++ w.rows ++ w.batch };
+
+    fn begin(&mut self, alloc: Global, head: &Head) -> Result<Head, ToolFault> {
+        let transposed = flipped_head(alloc, self.way, head)?;
+        let shape = head.shape();
+        let sample_width = SampleWidth::of(shape.kind, shape.maxval);
+        self.clear(alloc);
+        self.rows = SampleRows::of_width(alloc, sample_width);
+        Ok(transposed)
+    }
+
+    fn take(
+        &mut self,
+        alloc: Global,
+        shape: Shape,
+        _y: u32,
+        row: Samples,
+    ) -> Result<(), ToolFault> {
+        self.rows.push(alloc, row)?;
+        let last_first = self.way.turn().rows_reversed;
+        self.rows.fill_strip(alloc, last_first, shape)
+    }
+
+    fn end(&mut self, shape: Shape) {
+        let last_first = self.way.turn().rows_reversed;
+        self.rows.put_in_order(last_first);
+        self.depth = shape.depth;
+        self.columns = shape.width;
+    }
+
+    #[inline(never)]
+    fn give(&mut self, alloc: Global) -> Result<Option<Samples>, ToolFault> {
+        if self.batch.is_empty() && self.next < self.columns {
+            if self.way.turn().columns_reversed {
+                self.make_last(alloc)?;
+            } else {
+                self.make_first(alloc)?;
+            }
+        }
+        Ok(self.batch.pop())
+    }
+
+    fn may_give(&self) -> bool {
+        !self.batch.is_empty() || self.next < self.columns
+    }
+
+    fn release(&mut self, alloc: Global) {
+        self.clear(alloc);
+    }
+}
+
+impl Transposer {
+    /// The tool before the first row.
+    pub fn new(alloc: Global, way: FlipWay) -> Transposer
+        requires { (turn_of way).exchanged ≡ true }
+        ensures way { result.way ≡ way }
+        ensures rows { (result.strips ≡ []) × (result.rows ≡ []) }
+        ensures batch { result.batch ≡ [] }
+    {
+        Transposer {
+            way,
+            depth: 0,
+            rows: SampleRows::new(alloc),
+            batch: Vec::new(alloc),
+            next: 0,
+            columns: 0,
+        }
+    }
+
+    /// Gives up all rows and columns.
+    fn clear(&mut self, alloc: Global)
+        ensures way { self.new.way ≡ self.old.way }
+        ensures rows { (self.new.strips ≡ []) × (self.new.rows ≡ []) × (self.new.batch ≡ []) }
+        ensures columns { (self.new.next ≡ 0) × (self.new.columns ≡ 0) }
+    {
+        self.columns = 0;
+        self.next = 0;
+        self.rows = SampleRows::new(alloc);
+        self.batch = Vec::new(alloc);
+    }
+
+    /// Makes the first of the columns that are left. The only fault is `Memory`.
+    fn make_first(&mut self, alloc: Global) -> Result<(), ToolFault>
+        requires order { (turn_of self.old.way).columns_reversed ≡ false }
+        requires left { (self.old.batch ≡ []) × (self.old.next < self.old.columns) }
+        ensures way { self.new.way ≡ self.old.way }
+        ensures due { OnOk result (transposed_due self.new ≡ transposed_due self.old) }
+        ensures some { OnOk result (0 < length self.new.batch) }
+        ensures refused { IfErr result (λ fault. fault ≡ Memory) }
+    {
+        let count = (self.columns - self.next).min(self.rows.batch_length());
+        let (first, depth) = (self.next as usize, self.depth as usize);
+        let rows_first = self.way.turn().rows_reversed;
+        self.batch = self
+            .rows
+            .batch(alloc, rows_first, first, count as usize, depth)?;
+        self.next += count;
+        Ok(())
+    }
+
+    /// Makes the last of the columns that are left, so many that their first is at a multiple of a
+    /// batch's length. The only fault is `Memory`.
+    fn make_last(&mut self, alloc: Global) -> Result<(), ToolFault>
+        requires order { (turn_of self.old.way).columns_reversed ≡ true }
+        requires left { (self.old.batch ≡ []) × (self.old.next < self.old.columns) }
+        ensures way { self.new.way ≡ self.old.way }
+        ensures due { OnOk result (transposed_due self.new ≡ transposed_due self.old) }
+        ensures some { OnOk result (0 < length self.new.batch) }
+        ensures refused { IfErr result (λ fault. fault ≡ Memory) }
+    {
+        let count = (self.columns - self.next - 1) % self.rows.batch_length() + 1;
+        let (first, depth) = (self.columns - count, self.depth as usize);
+        let rows_first = self.way.turn().rows_reversed;
+        let mut batch = self
+            .rows
+            .batch(alloc, rows_first, first as usize, count as usize, depth)?;
+        batch.reverse();
+        self.batch = batch;
+        self.columns = first;
+        Ok(())
+    }
+}

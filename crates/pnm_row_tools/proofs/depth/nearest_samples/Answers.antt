@@ -1,0 +1,11 @@
+use Rattle.std.proofs.Common.{rules, ◌≡◌, ◌++◌, [], ◌∷◌, List, ℕ, ◌∙◌, ap, sym, arith}
+use Rattle.std.proofs.lemmas.List.FromFn.{map-range_with_len_more}
+use Rattle.pnm_tools.specs.Depth.{nearest_sample}
+use Rattle.pnm_row_tools.proofs.depth.nearest_samples.Goals as goal
+
+pub loop-sample-preserved : goal.loop-sample-preserved
+loop-sample-preserved c =
+    let f : ℕ → ℕ = nearest_sample c.args.new c.args.old in
+    let s = c.loop-sample.sample in
+    let pushed : c.push.new.self.items ≡ c.loop-sample.table.items ++ f s ∷ [] = search rules in
+    pushed ∙ ap (λ (l : List ℕ). l ++ f s ∷ []) c.loop-sample.invariant ∙ sym (map-range_with_len_more f 0 s s (omega arith))

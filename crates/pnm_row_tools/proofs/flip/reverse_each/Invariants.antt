@@ -1,0 +1,6 @@
+use Rattle.pnm_row_tools.proofs.FlipRowsLaws.{AreMirrored}
+use Rattle.pnm_row_tools.proofs.flip.reverse_each.Given as goal
+
+-- the rows that have passed are mirrored
+abbrev pub invariant-loop-i : goal.invariant-loop-i
+invariant-loop-i l = AreMirrored l.fn.shape l.each l.i l.fn.bytes l.bytes

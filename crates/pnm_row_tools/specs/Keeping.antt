@@ -1,0 +1,81 @@
+-- What tools keep while the rows of an image come, and the rows of the result that they still give.
+use Rattle.std.specs.Prelude.{◌≡◌, ℕ, ◌+◌, ◌≤◌, false, List, [], map, reverse, All, Option, Some, None}
+use Rattle.std.specs.List.{range_with_len}
+use Rattle.pnm_image.specs.declared.shape.Shape.{Shape}
+use Rattle.pnm_image.specs.Heads.{IsWithinLimits}
+use Rattle.pnm_image.specs.Places.{IsRowOf}
+use Rattle.pnm_row_tools.specs.declared.cut.Cutter.{Cutter}
+use Rattle.pnm_row_tools.specs.declared.depth.Rescaler.{Rescaler}
+use Rattle.pnm_row_tools.specs.declared.depth.Table.{Table}
+use Rattle.pnm_row_tools.specs.declared.depth.Table.TheVariants.{Absent, Bytes, Words}
+use Rattle.pnm_tools.specs.declared.cut.CutBox.{CutBox}
+use Rattle.pnm_tools.specs.declared.flip.FlipWay.{FlipWay}
+use Rattle.pnm_tools.specs.Cut.{columns_kept, rows_kept}
+use Rattle.pnm_tools.specs.Depth.{nearest_sample}
+use Rattle.pnm_tools.specs.Flip.{ReversesRows, turn_of, moves_rows, turned_row}
+
+-- ---- pamcut: the columns and the rows that are kept of an image
+
+abbrev pub cut_of : Cutter → CutBox
+cut_of w = w.cut
+
+pub record HasSpans (w : Cutter) (s : Shape) : Type 0 where
+  pub columns : columns_kept w.cut s ≡ Some w.columns
+  pub rows : rows_kept w.cut s ≡ Some w.rows
+
+-- ---- pamdepth: a table of the rescaled samples, or none, where each is computed
+
+abbrev pub maxval_of : Rescaler → ℕ
+maxval_of r = r.maxval
+
+-- what becomes of each sample from 0 to the old maxval
+abbrev pub IsTable : ℕ → ℕ → Table → Type 0
+IsTable new old Absent = Unit {0}
+IsTable new old (Bytes bytes) = (old ≤ 255) × (bytes.items ≡ map (nearest_sample new old) (range_with_len 0 (old + 1)))
+IsTable new old (Words words) = words.items ≡ map (nearest_sample new old) (range_with_len 0 (old + 1))
+
+abbrev pub HasTable : Rescaler → Shape → Type 0
+HasTable r s = IsTable r.maxval s.maxval r.table
+
+-- ---- pamflip where rows stay in their places
+
+abbrev pub KeepsRows : FlipWay → Type 0
+KeepsRows way = moves_rows (turn_of way) ≡ false
+
+-- rows of a shape within the limits stay in their places
+pub record FlipsInRows (way : FlipWay) (s : Shape) : Type 0 where
+  pub limits : IsWithinLimits s
+  pub stays : KeepsRows way
+
+-- ---- pamflip where the order of rows is reversed: all rows
+
+-- the way, the rows that are kept, and once the image has ended its shape
+pub record Reversed : Type 0 where
+  pub way : FlipWay
+  pub rows : List (List ℕ)
+  pub ended : Option Shape
+
+abbrev pub reversed : FlipWay → List (List ℕ) → Option Shape → Reversed
+reversed way rows ended = record { way = way; rows = rows; ended = ended }
+
+-- they are rows of an image that has ended
+abbrev pub AreRowsOf : Option Shape → List (List ℕ) → Type 0
+AreRowsOf None rows = Unit {0}
+AreRowsOf (Some s) rows = IsWithinLimits s × All (IsRowOf s) rows
+
+pub record CanReverse (w : Reversed) : Type 0 where
+  pub way : ReversesRows (turn_of w.way)
+  pub rows : AreRowsOf w.ended w.rows
+
+pub record IsReversingRows (w : Reversed) (s : Shape) (come : List (List ℕ)) : Type 0 where
+  pub limits : IsWithinLimits s
+  pub rows : w.rows ≡ come
+  pub each : All (IsRowOf s) come
+  pub none_given : w.ended ≡ None
+
+-- the last row first, each the last pixel first or as it is
+abbrev pub reversed_due : Reversed → List (List ℕ)
+reversed_due w = elim w.ended [
+  | None ↦ []
+  | Some s ↦ map (turned_row (turn_of w.way) s) (reverse w.rows)
+]

@@ -1,0 +1,60 @@
+//! A row tool at work: at most one row of the result for each row.
+
+ghost use Rattle.pnm_tools.specs.Answering.{row_list};
+
+use crate::row_tool::RowTool;
+use pnm_image::{Head, Rows, Samples, Shape};
+use pnm_tools::{ImageTool, ToolFault};
+use std::alloc::Global;
+use std::mem;
+
+/// A tool that makes of each row at most one row of the result, and the row that it has made.
+#[derive(Drop)]
+pub struct ByRow<T: RowTool> {
+    /// The tool.
+    pub tool: T,
+    /// The row of the result that is given next; `None` before the first row.
+    pub made: Option<Samples>,
+}
+
+impl<T: RowTool> ImageTool for ByRow<T> {
+    ghost tool = { λ w. T.tool w.tool };
+
+    ghost ready = { λ w shape rows. T.ready w.tool shape };
+
+    ghost due = { λ w. row_list w.made };
+
+    ghost kept = { λ w. row_list w.made };
+
+    fn begin(&mut self, alloc: Global, head: &Head) -> Result<Head, ToolFault> {
+        self.tool.begin(alloc, head)
+    }
+
+    fn take(&mut self, alloc: Global, shape: Shape, y: u32, row: Samples) -> Result<(), ToolFault> {
+        self.made = self.tool.row(alloc, shape, y, row)?;
+        Ok(())
+    }
+
+    fn rows(&mut self, alloc: Global, shape: Shape, y: u32, rows: Rows) -> Result<Rows, Rows> {
+        if self.made.is_some() {
+            return Err(rows);
+        }
+        self.tool.rows(alloc, shape, y, rows)
+    }
+
+    fn end(&mut self, _shape: Shape) {
+        self.made = None;
+    }
+
+    fn give(&mut self, _alloc: Global) -> Result<Option<Samples>, ToolFault> {
+        Ok(mem::replace(&mut self.made, None))
+    }
+
+    fn may_give(&self) -> bool {
+        self.made.is_some()
+    }
+
+    fn release(&mut self, _alloc: Global) {
+        self.made = None;
+    }
+}

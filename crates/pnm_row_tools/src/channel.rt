@@ -1,0 +1,142 @@
+//! `pamchannel`: planes of the image, in the order in which they are named, from pamchannel(1).
+
+ghost use Rattle.std.specs.Prelude.{◌≡◌, ◌≤◌, ◌<◌, ◌↔◌, ◌⊎◌, ◌+◌, All, IsTrue, OnOk, IfOk, IfErr, Ok, Err, length};
+ghost use Rattle.std.specs.Prelude.{map, slice_index_or, []};
+ghost use Rattle.pnm_image.specs.Heads.{row_length};
+ghost use Rattle.pnm_image.specs.Places.{IsRowOf};
+ghost use Rattle.pnm_tools.specs.declared.fault.ToolFault.TheVariants.{Memory};
+ghost use Rattle.pnm_tools.specs.declared.tool.Tool.TheVariants.{Channel};
+ghost use Rattle.pnm_tools.specs.Channel.{picked_or, picked_samples, IsLawfulPick, HasPlanes};
+ghost use Rattle.pnm_tools.specs.Tools.{TakesHead, result_head};
+
+use crate::row_tool::RowTool;
+use pnm_image::limits::MAX_DEPTH;
+use pnm_image::{Head, Kind, SampleVec, Samples, Shape};
+use pnm_tools::{Planes, ToolFault, head_within_limits};
+use std::alloc::{AllocError, Global};
+
+/// The samples of these planes of a row, held as the row is, but bits as bytes.
+///
+/// # Errors
+///
+/// Where there is no memory for them.
+fn pick_planes(
+    alloc: Global,
+    numbers: &[u16],
+    shape: Shape,
+    row: Samples,
+) -> Result<Samples, AllocError>
+    requires numbers { All (λ number. number < shape.depth) numbers.now }
+    requires row { IsRowOf shape row }
+    requires limits { length numbers.now ≤ MAX_DEPTH }
+    ensures { IfOk result (λ picked. picked ≡ picked_samples numbers.now shape row) }
+{
+    match row.into_vec() {
+        SampleVec::Bits(bits) => {
+            let unpacked = bits.to_bytes(alloc)?;
+            let samples = pick(alloc, numbers, shape, unpacked.as_slice())?;
+            Ok(Samples::within(SampleVec::Bytes(samples), shape.maxval))
+        }
+        SampleVec::Bytes(bytes) => {
+            let picked = pick(alloc, numbers, shape, bytes.as_slice())?;
+            Ok(Samples::within(SampleVec::Bytes(picked), shape.maxval))
+        }
+        SampleVec::Words(words) => {
+            let picked = pick(alloc, numbers, shape, words.as_slice())?;
+            Ok(Samples::within(SampleVec::Words(picked), shape.maxval))
+        }
+    }
+}
+
+/// The samples of these planes of a row.
+///
+/// # Errors
+///
+/// Where there is no memory for them.
+fn pick<T: Copy + Default>(
+    alloc: Global,
+    numbers: &[u16],
+    shape: Shape,
+    row: &[T],
+) -> Result<Vec<T>, AllocError>
+    requires numbers { All (λ number. number < shape.depth) numbers.now }
+    requires row { length row.now ≡ row_length shape }
+    requires limits { length numbers.now ≤ MAX_DEPTH }
+    ensures { IfOk result (λ picked. (past : T) → picked.items ≡ picked_or past numbers.now shape row.now) }
+{
+    let (width, depth, count) = (shape.width as usize, shape.depth as usize, numbers.len());
+    let mut picked = Vec::from_elem(alloc, T::default(), width * count)?;
+    let buffer = picked.as_mut_slice();
+    for x in 0..width {
+        pick_pixel(
+            &mut buffer[x * count..(x + 1) * count],
+            numbers,
+            row,
+            x * depth,
+        );
+    }
+    Ok(picked)
+}
+
+/// Fills the buffer with the samples of these planes of the pixel whose samples begin here.
+fn pick_pixel<T: Copy>(buffer: &mut [T], numbers: &[u16], row: &[T], first: usize)
+    requires buffer { length buffer.old ≡ length numbers.now }
+    requires numbers { All (λ number. first + number < length row.now) numbers.now }
+    ensures { (past : T) → buffer.new ≡ map (λ number. slice_index_or row.now (first + number) past) numbers.now }
+{
+    for at in 0..buffer.len() {
+        buffer[at] = row[first + numbers[at] as usize];
+    }
+}
+
+impl RowTool for Planes {
+    ghost tool = { λ planes. Channel planes };
+
+    ghost ready = { HasPlanes };
+
+    ghost nothing_at_end = { λ _ _ _ _ _. [] };
+
+    fn begin(&mut self, alloc: Global, head: &Head) -> Result<Head, ToolFault> {
+        picked_head(alloc, self, head)
+    }
+
+    /// Makes a new row.
+    fn row(
+        &self,
+        alloc: Global,
+        shape: Shape,
+        _y: u32,
+        row: Samples,
+    ) -> Result<Option<Samples>, ToolFault> {
+        let numbers = self.numbers();
+        Ok(Some(pick_planes(alloc, numbers, shape, row)?))
+    }
+}
+
+/// The head of the picked image, or the refusal.
+pub fn picked_head(alloc: Global, planes: &Planes, head: &Head) -> Result<Head, ToolFault>
+    requires { IsLawfulPick planes.now }
+    ensures made { IfOk result (λ made. result_head (Channel planes.now) head.now ≡ Ok made) }
+    ensures planes { OnOk result (HasPlanes planes.now head.now.shape) }
+    ensures refused { IfErr result (λ fault. (result_head (Channel planes.now) head.now ≡ Err fault)
+        ⊎ ((fault ≡ Memory) × TakesHead (Channel planes.now) head.now)) }
+{
+    let shape = head.shape();
+    let numbers = planes.numbers();
+    if !are_below(numbers, shape.depth) {
+        return Err(ToolFault::ChannelOutside);
+    }
+    let picked = Shape {
+        kind: Kind::Pam,
+        depth: numbers.len() as u32,
+        ..shape
+    };
+    head_within_limits(alloc, picked, planes.tuple_type())
+}
+
+/// Whether each plane lies below the depth.
+fn are_below(numbers: &[u16], depth: u32) -> bool
+    ensures { IsTrue result ↔ All (λ number. number < depth) numbers.now }
+{
+    numbers.iter().all(|number| u32::from(*number) < depth)
+}

@@ -1,0 +1,304 @@
+//! `pamcut`: a rectangle of the image, from pamcut(1).
+
+ghost use Rattle.std.specs.Prelude.{◌≡◌, ◌≤◌, ◌+◌, ◌*◌, All, IfOk, IfErr, [], ◌<◌, length, map, take, drop};
+ghost use Rattle.std.specs.List.{AllByRecursion, concat};
+ghost use Rattle.pnm_image.specs.Images.{cut_rows};
+ghost use Rattle.pnm_image.specs.Places.{IsRowOf};
+ghost use Rattle.pnm_image.specs.declared.limits.TheConstants.{MAX_SIDE};
+ghost use Rattle.pnm_tools.specs.Cut.{IsLawfulAxis, KeepsWithin, columns_of_row, span_of, first_kept, last_kept};
+ghost use Rattle.pnm_tools.specs.Cut.{edge_of, IsLawfulBox, columns_kept, rows_kept, span_count};
+ghost use Rattle.pnm_tools.specs.declared.tool.Tool.TheVariants.{Cut};
+
+use crate::bit_rows::{room_for_pixels, rows_of_bits};
+use crate::row_tool::RowTool;
+use pnm_image::{Bits, Head, Rows, SampleVec, Samples, Shape};
+use pnm_tools::{CutBox, Span, ToolFault, head_within_limits};
+use std::alloc::{AllocError, Global};
+
+/// These columns of a row of an image of this shape, held as the row is.
+///
+/// # Errors
+///
+/// Where there is no memory for them.
+fn keep_columns(
+    alloc: Global,
+    columns: Span,
+    shape: Shape,
+    row: Samples,
+) -> Result<Samples, AllocError>
+    requires columns { KeepsWithin columns shape.depth row }
+    requires range { All (λ sample. sample ≤ shape.maxval) row }
+    ensures { IfOk result (λ kept. kept ≡ columns_of_row columns shape.depth row) }
+{
+    let depth = shape.depth as usize;
+    let count = (columns.last as usize - columns.first as usize + 1) * depth;
+    if count == row.len() {
+        return Ok(row);
+    }
+    match row.into_vec() {
+        SampleVec::Bits(bits) => {
+            let first = columns.first as usize * depth;
+            let mut kept = Bits::empty(alloc);
+            kept.append(&bits, first, count)?;
+            Ok(Samples::within(SampleVec::Bits(kept), shape.maxval))
+        }
+        SampleVec::Bytes(mut bytes) => {
+            keep(&mut bytes, columns, depth);
+            Ok(Samples::within(SampleVec::Bytes(bytes), shape.maxval))
+        }
+        SampleVec::Words(mut words) => {
+            keep(&mut words, columns, depth);
+            Ok(Samples::within(SampleVec::Words(words), shape.maxval))
+        }
+    }
+}
+
+/// Keeps these columns of a row of so many samples a pixel, in place.
+fn keep<T: Copy>(row: &mut Vec<T>, columns: Span, depth: usize)
+    requires { KeepsWithin columns depth row.old.items }
+    ensures { row.new.items ≡ columns_of_row columns depth row.old.items }
+{
+    let first = columns.first as usize * depth;
+    row.truncate((columns.last as usize + 1) * depth);
+    if first > 0 {
+        let kept = row.len() - first;
+        row.copy_within(first.., 0);
+        row.truncate(kept);
+    }
+}
+
+/// These columns of each of the rows of an image of this shape: bytes are moved to the front in place, bits copied.
+///
+/// # Errors
+///
+/// The rows themselves, where they are cut and are held as words, or as bits and there is no memory for these columns.
+fn keep_columns_of_rows(
+    alloc: Global,
+    columns: Span,
+    shape: Shape,
+    rows: Rows,
+) -> Result<Rows, Rows>
+    requires columns { (columns.first ≤ columns.last) × (columns.last < shape.width) }
+    requires rows { AllByRecursion (IsRowOf shape) rows }
+    ensures kept { IfOk result (λ kept. kept ≡ map (columns_of_row columns shape.depth) rows) }
+    ensures same { IfErr result (λ same. same ≡ rows) }
+{
+    let (samples, count, row_length) = rows.into_parts();
+    let depth = shape.depth as usize;
+    let kept = (columns.last as usize - columns.first as usize + 1) * depth;
+    if kept == row_length {
+        return Ok(Rows::new(samples, count, row_length));
+    }
+    let first = columns.first as usize * depth;
+    match samples.into_vec() {
+        SampleVec::Bits(bits) => {
+            match keep_bits_of_each(alloc, &bits, count as usize, row_length, first, kept) {
+                Ok(made) => Ok(rows_of_bits(made, count, kept)),
+                Err(_) => Err(rows_of_bits(bits, count, row_length)),
+            }
+        }
+        SampleVec::Bytes(mut bytes) => {
+            keep_of_each(&mut bytes, count as usize, row_length, first, kept);
+            let samples = Samples::within(SampleVec::Bytes(bytes), shape.maxval);
+            Ok(Rows::new(samples, count, kept))
+        }
+        held => Err(Rows::new(Samples::within(held, shape.maxval), count, row_length)),
+    }
+}
+
+/// Keeps of each of so many rows so many bytes, from one on, those of the first row first, in place.
+fn keep_of_each(bytes: &mut Vec<u8>, count: usize, row_length: usize, first: usize, kept: usize)
+    requires rows { length bytes.old.items ≡ count * row_length }
+    requires within { first + kept ≤ row_length }
+    ensures { bytes.new.items
+        ≡ concat (map (λ row. take kept (drop first row)) (cut_rows count row_length bytes.old.items)) }
+{
+    for i in 0..count {
+        let start = i * row_length + first;
+        bytes.copy_within(start..start + kept, i * kept);
+    }
+    bytes.truncate(count * kept);
+}
+
+/// Of each of so many rows so many pixels, from one on, those of the first row first.
+///
+/// # Errors
+///
+/// Where there is no memory for them.
+fn keep_bits_of_each(
+    alloc: Global,
+    bits: &Bits,
+    count: usize,
+    row_length: usize,
+    first: usize,
+    kept: usize,
+) -> Result<Bits, AllocError>
+    requires rows { length bits.now ≡ count * row_length }
+    requires within { first + kept ≤ row_length }
+    ensures { IfOk result (λ made. made
+        ≡ concat (map (λ row. take kept (drop first row)) (cut_rows count row_length bits.now))) }
+{
+    // No effect at run time: a proof learns of this that no place in the rows is beyond this machine's numbers.
+    let _ = bits.len();
+    let mut made = room_for_pixels(alloc, count * kept)?;
+    for i in 0..count {
+        made.append(bits, first + i * row_length, kept)?;
+    }
+    Ok(made)
+}
+
+/// Cuts the rows of images.
+#[derive(Clone, Copy)]
+pub struct Cutter {
+    cut: CutBox,
+    /// The columns and the rows that are kept of the image.
+    columns: Span,
+    rows: Span,
+}
+
+impl RowTool for Cutter {
+    ghost use Rattle.pnm_row_tools.specs.Keeping.{HasSpans};
+
+    ghost tool = { λ w. Cut w.cut };
+
+    ghost ready = { HasSpans };
+
+    ghost nothing_at_end = { λ _ _ _ _ _. [] };
+
+    fn begin(&mut self, alloc: Global, head: &Head) -> Result<Head, ToolFault> {
+        let shape = head.shape();
+        if shape.height == 0 {
+            return Err(ToolFault::OutOfOrder);
+        }
+        let (Some(columns), Some(rows)) = (
+            columns_kept(&self.cut, shape),
+            rows_kept(&self.cut, shape),
+        ) else {
+            return Err(ToolFault::CutOutside);
+        };
+        self.columns = columns;
+        self.rows = rows;
+        let kept = Shape {
+            width: span_count(columns),
+            height: span_count(rows),
+            ..shape
+        };
+        head_within_limits(alloc, kept, head.tuple_type())
+    }
+
+    /// Moves the columns that are kept to the row's front, but those of bits to bytes of their own.
+    fn row(
+        &self,
+        alloc: Global,
+        shape: Shape,
+        y: u32,
+        row: Samples,
+    ) -> Result<Option<Samples>, ToolFault> {
+        if y < self.rows.first || self.rows.last < y {
+            return Ok(None);
+        }
+        let kept = keep_columns(alloc, self.columns, shape, row)?;
+        Ok(Some(kept))
+    }
+
+    /// Keeps the columns of each row, where all of the rows are kept: those of bytes are moved to the front, and those
+    /// of bits to bytes of their own.
+    fn rows(&self, alloc: Global, shape: Shape, y: u32, rows: Rows) -> Result<Rows, Rows> {
+        let last = y + (rows.count() - 1);
+        if y < self.rows.first || self.rows.last < last {
+            return Err(rows);
+        }
+        keep_columns_of_rows(alloc, self.columns, shape, rows)
+    }
+}
+
+impl Cutter {
+    ghost use Rattle.pnm_row_tools.specs.Keeping.{cut_of};
+
+    /// The tool that keeps this rectangle, before the first image.
+    pub fn new(cut: CutBox) -> Cutter
+        ensures { cut_of result ≡ cut }
+    {
+        let none = Span { first: 0, last: 0 };
+        Cutter {
+            cut,
+            columns: none,
+            rows: none,
+        }
+    }
+}
+
+/// The columns that are kept of an image of this shape.
+fn columns_kept(cut: &CutBox, shape: Shape) -> Option<Span>
+    requires { IsLawfulBox cut.now }
+    ensures { result ≡ columns_kept cut.now shape }
+{
+    span_of(shape.width, cut.left, cut.right, cut.width)
+}
+
+/// The rows that are kept of an image of this shape.
+fn rows_kept(cut: &CutBox, shape: Shape) -> Option<Span>
+    requires { IsLawfulBox cut.now }
+    ensures { result ≡ rows_kept cut.now shape }
+{
+    span_of(shape.height, cut.top, cut.bottom, cut.height)
+}
+
+/// How many columns or rows these are.
+fn span_count(span: Span) -> u32
+    requires { (span.first ≤ span.last) × (span.last < MAX_SIDE) }
+    ensures { result ≡ span_count span }
+{
+    span.last - span.first + 1
+}
+
+/// What is kept of so many columns or rows, where it lies among them.
+fn span_of(count: u32, start: Option<i32>, end: Option<i32>, size: Option<u32>) -> Option<Span>
+    requires { IsLawfulAxis start end size }
+    ensures { result ≡ span_of count start end size }
+{
+    let first = first_kept(count, start, end, size);
+    let last = last_kept(count, start, end, size);
+    if 0 <= first && first <= last && last < i64::from(count) {
+        Some(Span {
+            first: first as u32,
+            last: last as u32,
+        })
+    } else {
+        None
+    }
+}
+
+fn first_kept(count: u32, start: Option<i32>, end: Option<i32>, size: Option<u32>) -> i64
+    requires { IsLawfulAxis start end size }
+    ensures { result ≡ first_kept count start end size }
+{
+    match (start, end, size) {
+        (Some(start), _, _) => edge_of(count, start),
+        (None, Some(end), Some(size)) => edge_of(count, end) - i64::from(size) + 1,
+        (None, _, _) => 0,
+    }
+}
+
+fn last_kept(count: u32, start: Option<i32>, end: Option<i32>, size: Option<u32>) -> i64
+    requires { IsLawfulAxis start end size }
+    ensures { result ≡ last_kept count start end size }
+{
+    match (start, end, size) {
+        (_, Some(end), _) => edge_of(count, end),
+        (Some(start), None, Some(size)) => edge_of(count, start) + i64::from(size) - 1,
+        (None, None, Some(size)) => i64::from(size) - 1,
+        (_, None, None) => i64::from(count) - 1,
+    }
+}
+
+/// A column or a row by its number.
+fn edge_of(count: u32, edge: i32) -> i64
+    ensures { result ≡ edge_of count edge }
+{
+    if edge < 0 {
+        i64::from(count) + i64::from(edge)
+    } else {
+        i64::from(edge)
+    }
+}

@@ -1,0 +1,343 @@
+//! `pamflip` where rows stay rows, from pamflip(1). Each way is a rule: the order of the columns is reversed or not,
+//! and that of the rows.
+
+ghost use Rattle.std.specs.Prelude.{◌≡◌, ◌*◌, ◌⊎◌, if◌then◌else◌, length, map, reverse, false, [], None, OnOk, IfOk};
+ghost use Rattle.std.specs.Prelude.{IfErr, Ok, Err};
+ghost use Rattle.std.specs.List.{AllByRecursion, concat};
+ghost use Rattle.pnm_image.specs.Heads.{IsWithinLimits, row_length};
+ghost use Rattle.pnm_image.specs.Images.{cut_rows};
+ghost use Rattle.pnm_image.specs.Places.{IsRowOf};
+ghost use Rattle.pnm_tools.specs.declared.fault.ToolFault.TheVariants.{Memory};
+ghost use Rattle.pnm_tools.specs.declared.tool.Tool.TheVariants.{Flip};
+ghost use Rattle.pnm_tools.specs.Flip.{mirrored_row, moved_rows, moves_rows, turn_of, turned_row, ReversesRows};
+ghost use Rattle.pnm_row_tools.specs.Keeping.{FlipsInRows, IsReversingRows, reversed_due};
+ghost use Rattle.pnm_tools.specs.Tools.{TakesHead, result_head};
+
+use crate::bit_rows::{room_for_pixels, rows_of_bits};
+use crate::row_tool::RowTool;
+use pnm_image::{Bits, Head, Rows, SampleVec, Samples, Shape};
+use pnm_tools::{FlipWay, ImageTool, ToolFault, Turn, flipped_head};
+use std::alloc::{AllocError, Global};
+use std::marker::Model;
+
+/// The row as it is, or the last pixel first.
+///
+/// # Errors
+///
+/// Where there is no memory for bits that become bytes.
+fn turn_row(alloc: Global, turn: Turn, shape: Shape, row: Samples) -> Result<Samples, AllocError>
+    requires limits { IsWithinLimits shape }
+    requires row { IsRowOf shape row }
+    ensures { IfOk result (λ turned. turned ≡ turned_row turn shape row) }
+{
+    if turn.columns_reversed {
+        mirror_row(alloc, shape, row)
+    } else {
+        Ok(row)
+    }
+}
+
+/// The row, the last pixel first, changed in place; bits of several planes become bytes.
+///
+/// # Errors
+///
+/// Where there is no memory for the bytes.
+fn mirror_row(alloc: Global, shape: Shape, row: Samples) -> Result<Samples, AllocError>
+    requires limits { IsWithinLimits shape }
+    requires row { IsRowOf shape row }
+    ensures { IfOk result (λ mirrored. mirrored ≡ mirrored_row shape row) }
+{
+    match row.into_vec() {
+        SampleVec::Bits(bits) if shape.depth == 1 => {
+            let bits = mirror_bits(shape, bits);
+            Ok(Samples::from_vec(SampleVec::Bits(bits)))
+        }
+        SampleVec::Bits(bits) => {
+            let mut unpacked = bits.to_bytes(alloc)?;
+            reverse_pixels(unpacked.as_mut_slice(), shape);
+            Ok(Samples::within(SampleVec::Bytes(unpacked), shape.maxval))
+        }
+        SampleVec::Bytes(mut bytes) => {
+            reverse_pixels(bytes.as_mut_slice(), shape);
+            Ok(Samples::within(SampleVec::Bytes(bytes), shape.maxval))
+        }
+        SampleVec::Words(mut words) => {
+            reverse_pixels(words.as_mut_slice(), shape);
+            Ok(Samples::within(SampleVec::Words(words), shape.maxval))
+        }
+    }
+}
+
+/// The row of one plane, the last pixel first, changed in place.
+fn mirror_bits(shape: Shape, bits: Bits) -> Bits
+    requires limits { IsWithinLimits shape }
+    requires plane { shape.depth ≡ 1 }
+    requires row { length bits ≡ row_length shape }
+    ensures { result ≡ mirrored_row shape bits }
+{
+    let mut bits = bits;
+    bits.reverse();
+    bits
+}
+
+/// The last pixel first: all samples change places, and then those of each pixel do again.
+fn reverse_pixels<T: Copy>(samples: &mut [T], shape: Shape)
+    requires limits { IsWithinLimits shape }
+    requires row { length samples.old ≡ row_length shape }
+    ensures { samples.new ≡ mirrored_row shape samples.old }
+{
+    if shape.depth == 3 {
+        return reverse_colors(samples, shape);
+    }
+    samples.reverse();
+    if shape.depth > 1 {
+        let depth = shape.depth as usize;
+        for x in 0..shape.width as usize {
+            samples[x * depth..(x + 1) * depth].reverse();
+        }
+    }
+}
+
+/// The last pixel first, where each is three samples, without a loop over a pixel's samples.
+fn reverse_colors<T: Copy>(samples: &mut [T], shape: Shape)
+    requires depth { shape.depth ≡ 3 }
+    requires row { length samples.old ≡ row_length shape }
+    ensures { samples.new ≡ mirrored_row shape samples.old }
+{
+    samples.reverse();
+    for x in 0..shape.width as usize {
+        let start = x * 3;
+        reverse_three(&mut samples[start..start + 3]);
+    }
+}
+
+/// Three samples, the last one first.
+#[inline]
+fn reverse_three<T: Copy>(samples: &mut [T])
+    requires { length samples.old ≡ 3 }
+    ensures { samples.new ≡ reverse samples.old }
+{
+    let first = samples[0];
+    samples[0] = samples[2];
+    samples[2] = first;
+}
+
+/// These rows of an image of this shape, each the last pixel first: bytes are changed in place, bits copied.
+///
+/// # Errors
+///
+/// The rows themselves, where they are held as words, or as bits of several planes, or there is no memory for the copy.
+fn mirror_rows(alloc: Global, shape: Shape, rows: Rows) -> Result<Rows, Rows>
+    requires limits { IsWithinLimits shape }
+    requires rows { AllByRecursion (IsRowOf shape) rows }
+    ensures mirrored { IfOk result (λ mirrored. mirrored ≡ map (mirrored_row shape) rows) }
+    ensures same { IfErr result (λ same. same ≡ rows) }
+{
+    let (samples, count, row_length) = rows.into_parts();
+    match samples.into_vec() {
+        SampleVec::Bits(bits) => {
+            if shape.depth != 1 {
+                return Err(rows_of_bits(bits, count, row_length));
+            }
+            match mirror_each(alloc, &bits, shape, count as usize, row_length) {
+                Ok(mirrored) => Ok(rows_of_bits(mirrored, count, row_length)),
+                Err(_) => Err(rows_of_bits(bits, count, row_length)),
+            }
+        }
+        SampleVec::Bytes(mut bytes) => {
+            reverse_each(bytes.as_mut_slice(), shape, count as usize, row_length);
+            let samples = Samples::within(SampleVec::Bytes(bytes), shape.maxval);
+            Ok(Rows::new(samples, count, row_length))
+        }
+        held => Err(Rows::new(Samples::within(held, shape.maxval), count, row_length)),
+    }
+}
+
+/// So many rows, each the last pixel first.
+fn reverse_each(bytes: &mut [u8], shape: Shape, count: usize, each: usize)
+    requires limits { IsWithinLimits shape }
+    requires row { each ≡ row_length shape }
+    requires rows { length bytes.old ≡ count * each }
+    ensures { bytes.new ≡ concat (map (mirrored_row shape) (cut_rows count each bytes.old)) }
+{
+    for i in 0..count {
+        let start = i * each;
+        reverse_pixels(&mut bytes[start..start + each], shape);
+    }
+}
+
+/// So many rows of one plane, each the last pixel first. They are copied in the other order, the last row first, and
+/// then all pixels are turned round.
+///
+/// # Errors
+///
+/// Where there is no memory for the copy.
+fn mirror_each(
+    alloc: Global,
+    bits: &Bits,
+    shape: Shape,
+    count: usize,
+    each: usize,
+) -> Result<Bits, AllocError>
+    requires limits { IsWithinLimits shape }
+    requires plane { shape.depth ≡ 1 }
+    requires row { each ≡ row_length shape }
+    requires rows { length bits.now ≡ count * each }
+    ensures { IfOk result (λ made. made ≡ concat (map (mirrored_row shape) (cut_rows count each bits.now))) }
+{
+    let mut made = room_for_pixels(alloc, bits.len())?;
+    for copied in 0..count {
+        let last = count - 1 - copied;
+        made.append(bits, last * each, each)?;
+    }
+    made.reverse();
+    Ok(made)
+}
+
+/// Passes the rows of images on, the last pixel first or as they are: any way that leaves rows in their
+/// places.
+#[derive(Drop)]
+pub struct RowFlipper {
+    way: FlipWay,
+}
+
+impl Model for RowFlipper {
+    ghost use Rattle.pnm_tools.specs.declared.flip.FlipWay.{FlipWay};
+    ghost use Rattle.pnm_row_tools.specs.Keeping.{KeepsRows};
+
+    ghost Value = { FlipWay };
+
+    ghost view = { λ w. w.way };
+
+    ghost invariant = { λ w. KeepsRows w.way };
+}
+
+impl RowTool for RowFlipper {
+    ghost tool = { λ way. Flip way };
+
+    ghost ready = { λ way shape. FlipsInRows way shape };
+
+    ghost nothing_at_end = { λ way shape rows ready i. if ready.stays i then moved_rows (turn_of way) shape
+        rows else [] };
+
+    fn begin(&mut self, alloc: Global, head: &Head) -> Result<Head, ToolFault> {
+        flipped_head(alloc, self.way, head)
+    }
+
+    /// Changes the row in place.
+    fn row(
+        &self,
+        alloc: Global,
+        shape: Shape,
+        _y: u32,
+        row: Samples,
+    ) -> Result<Option<Samples>, ToolFault> {
+        Ok(Some(turn_row(alloc, self.way.turn(), shape, row)?))
+    }
+
+    /// Changes bytes in place, and copies bits.
+    fn rows(&self, alloc: Global, shape: Shape, _y: u32, rows: Rows) -> Result<Rows, Rows> {
+        if self.way.turn().columns_reversed {
+            mirror_rows(alloc, shape, rows)
+        } else {
+            Ok(rows)
+        }
+    }
+}
+
+impl RowFlipper {
+    /// The tool before the first row.
+    pub fn new(way: FlipWay) -> RowFlipper
+        requires { moves_rows (turn_of way) ≡ false }
+        ensures { result ≡ way }
+    {
+        RowFlipper { way }
+    }
+}
+
+/// Reverses the order of rows: keeps those of an image, and gives the last one first, each the last
+/// pixel first or as it is.
+#[derive(Drop)]
+pub struct RowReverser {
+    way: FlipWay,
+    rows: Vec<Samples>,
+    /// The image's shape once it has ended, and its rows are given.
+    ended: Option<Shape>,
+}
+
+impl Model for RowReverser {
+    ghost use Rattle.pnm_row_tools.specs.Keeping.{Reversed, reversed, CanReverse};
+
+    ghost Value = { Reversed };
+
+    ghost view = { λ w. reversed w.way w.rows.items w.ended };
+
+    ghost invariant = { λ w. CanReverse (reversed w.way w.rows.items w.ended) };
+}
+
+impl ImageTool for RowReverser {
+    ghost tool = { λ w. Flip w.way };
+
+    ghost ready = { IsReversingRows };
+
+    ghost due = { reversed_due };
+
+    ghost kept = { λ w. w.rows };
+
+    fn begin(&mut self, alloc: Global, head: &Head) -> Result<Head, ToolFault> {
+        let reversed = flipped_head(alloc, self.way, head)?;
+        self.ended = None;
+        self.rows = Vec::new(alloc);
+        Ok(reversed)
+    }
+
+    fn take(
+        &mut self,
+        _alloc: Global,
+        _shape: Shape,
+        _y: u32,
+        row: Samples,
+    ) -> Result<(), ToolFault> {
+        self.rows.push(row)?;
+        Ok(())
+    }
+
+    fn end(&mut self, shape: Shape) {
+        self.ended = Some(shape);
+    }
+
+    #[inline(never)]
+    fn give(&mut self, alloc: Global) -> Result<Option<Samples>, ToolFault> {
+        let Some(shape) = self.ended else {
+            return Ok(None);
+        };
+        let Some(kept) = self.rows.pop() else {
+            return Ok(None);
+        };
+        Ok(Some(turn_row(alloc, self.way.turn(), shape, kept)?))
+    }
+
+    fn may_give(&self) -> bool {
+        self.ended.is_some()
+    }
+
+    fn release(&mut self, alloc: Global) {
+        self.rows = Vec::new(alloc);
+    }
+}
+
+impl RowReverser {
+    /// The tool before the first row.
+    pub fn new(alloc: Global, way: FlipWay) -> RowReverser
+        requires { ReversesRows (turn_of way) }
+        ensures way { result.way ≡ way }
+        ensures rows { result.rows ≡ [] }
+        ensures coming { result.ended ≡ None }
+    {
+        RowReverser {
+            way,
+            rows: Vec::new(alloc),
+            ended: None,
+        }
+    }
+}

@@ -1,0 +1,20 @@
+//! Tools at work whose results have the rows of the image, each made of one row by itself: pnminvert(1), pamcut(1),
+//! pamdepth(1), pamchannel(1), and pamflip(1) where rows stay rows.
+#![tactic(auto)]
+
+mod bit_rows;
+mod by_row;
+mod channel;
+mod cut;
+mod depth;
+mod flip;
+mod invert;
+mod row_tool;
+
+pub use by_row::ByRow;
+pub use channel::picked_head;
+pub use cut::Cutter;
+pub use depth::{Rescaler, rescaled_head};
+pub use flip::{RowFlipper, RowReverser};
+pub use invert::Inverter;
+pub use row_tool::RowTool;

@@ -1,0 +1,99 @@
+//! What a tool at work makes of the rows of an image: some rows of the result at once, the rest once
+//! the image has ended.
+
+ghost use Rattle.std.specs.Prelude.{ℕ, false, ◌≡◌, ◌<◌, ◌++◌, ◌∷◌, [], ◌⊎◌, List, length, OnOk, IfOk, IfErr};
+ghost use Rattle.std.specs.Prelude.{IfNone, Ok, Err, ◌+◌, ◌≤◌};
+ghost use Rattle.std.specs.List.{AllByRecursion};
+ghost use Rattle.pnm_image.specs.Places.{IsRowOf};
+ghost use Rattle.pnm_image.specs.declared.shape.Shape.{Shape as ShapeValue};
+ghost use Rattle.pnm_tools.specs.Answering.{AreRowAnswers, row_list};
+ghost use Rattle.pnm_tools.specs.declared.fault.ToolFault.TheVariants.{Memory};
+ghost use Rattle.pnm_tools.specs.declared.tool.Tool.{Tool as ToolValue};
+ghost use Rattle.pnm_tools.specs.Tools.{IsLawfulTool, TakesHead, result_head, row_answer, end_answer};
+
+use crate::fault::ToolFault;
+use pnm_image::{Head, Rows, Samples, Shape};
+use std::alloc::Global;
+
+/// A tool at work on one image after another.
+pub trait ImageTool {
+    /// Which tool it is.
+    ghost tool: { Self → ToolValue };
+
+    /// It is ready for the next row of an image of this shape, of which these rows have come.
+    ghost ready: { Self → ShapeValue → List (List ℕ) → Type 0 };
+
+    /// The rows of the result that it still gives for what has come.
+    ghost due: { Self → List (List ℕ) };
+
+    /// The rows that it keeps.
+    ghost kept: { Self → List (List ℕ) };
+
+    /// The head of the result of an image with this head, or the refusal. Then it is ready for the
+    /// image's first row.
+    fn begin(&mut self, alloc: Global, head: &Head) -> Result<Head, ToolFault>
+        requires { IsLawfulTool (tool self.old) }
+        ensures same { tool self.new ≡ tool self.old }
+        ensures head { IfOk result (λ made. result_head (tool self.old) head.now ≡ Ok made) }
+        ensures ready { OnOk result (ready self.new head.now.shape []) }
+        ensures refused { IfErr result (λ fault. (result_head (tool self.old) head.now ≡ Err fault)
+            ⊎ ((fault ≡ Memory) × TakesHead (tool self.old) head.now)) };
+
+    /// Takes row `y` of an image of this shape. The only fault is `Memory`.
+    fn take(&mut self, alloc: Global, shape: Shape, y: u32, row: Samples) -> Result<(), ToolFault>
+        requires lawful { IsLawfulTool (tool self.old) }
+        requires row { (y < shape.height) × IsRowOf shape row }
+        requires ready { (rows : List (List ℕ)) × (length rows ≡ y) × ready self.old shape rows }
+        ensures same { tool self.new ≡ tool self.old }
+        ensures ready { OnOk result ((rows : List (List ℕ))
+            → ready self.old shape rows → ready self.new shape (rows ++ row ∷ [])) }
+        ensures due { OnOk result (due self.new ≡ row_answer (tool self.old) shape y row) }
+        ensures refused { IfErr result (λ fault. fault ≡ Memory) };
+
+    /// Makes of each row, from row `y` of an image of this shape on, the row of the result, all at once; no row is due
+    /// then.
+    ///
+    /// # Errors
+    ///
+    /// The rows themselves, and nothing has changed, where each is to be taken by itself, as where there is no memory
+    /// to make all at once.
+    fn rows(&mut self, alloc: Global, shape: Shape, y: u32, rows: Rows) -> Result<Rows, Rows>
+        requires lawful { IsLawfulTool (tool self.old) }
+        requires rows { (y + length rows ≤ shape.height) × AllByRecursion (IsRowOf shape) rows }
+        requires ready { (before : List (List ℕ)) × (length before ≡ y) × ready self.old shape before }
+        ensures same { tool self.new ≡ tool self.old }
+        ensures ready { OnOk result ((before : List (List ℕ))
+            → ready self.old shape before → ready self.new shape (before ++ rows)) }
+        ensures made { IfOk result (λ made. AreRowAnswers (tool self.old) shape y rows made) }
+        ensures due { OnOk result (due self.new ≡ []) }
+        ensures kept { IfErr result (λ same. (same ≡ rows) × (self.new ≡ self.old)) }
+    {
+        Err(rows)
+    }
+
+    /// The image of this shape has ended.
+    fn end(&mut self, shape: Shape)
+        requires lawful { IsLawfulTool (tool self.old) }
+        requires ready { (rows : List (List ℕ)) × (length rows ≡ shape.height) × ready self.old shape rows }
+        ensures same { tool self.new ≡ tool self.old }
+        ensures due { (rows : List (List ℕ)) → length rows ≡ shape.height → ready self.old shape rows
+            → due self.new ≡ end_answer (tool self.old) shape rows };
+
+    /// The next row of the result, if one is due. The only fault is `Memory`.
+    fn give(&mut self, alloc: Global) -> Result<Option<Samples>, ToolFault>
+        ensures same { tool self.new ≡ tool self.old }
+        ensures ready { OnOk result ((shape : ShapeValue) (rows : List (List ℕ))
+            → ready self.old shape rows → ready self.new shape rows) }
+        ensures due { IfOk result (λ row. due self.old ≡ row_list row ++ due self.new) }
+        ensures all { IfOk result (λ row. IfNone row (due self.new ≡ [])) }
+        ensures refused { IfErr result (λ fault. fault ≡ Memory) };
+
+    /// Whether a row of the result may be due, as far as a look shows.
+    fn may_give(&self) -> bool
+        ensures { result ≡ false → due self.now ≡ [] };
+
+    /// Gives up the rows that it keeps.
+    fn release(&mut self, alloc: Global)
+        ensures same { tool self.new ≡ tool self.old }
+        ensures kept { kept self.new ≡ [] };
+}
