@@ -27,9 +27,10 @@ pub fn new_ring(alloc: Global, capacity: usize) -> Option<(Sender, Receiver)>
     ensures unused { IfSome result (λ ends. (sent ends.0 ≡ []) × (received ends.1 ≡ [])) }
 {
     let (sender_waker, receiver_waker) = new_wakers(alloc)?;
-    let (producer, consumer) = RingBuffer::with_protocol::<Global, AnyMessage>(
-        alloc, capacity,
-    ).ok()?;
+    let Ok((producer, consumer)) = RingBuffer::with_protocol::<Global, AnyMessage>(alloc, capacity)
+    else {
+        return None;
+    };
     Some((
         Sender::new(producer, sender_waker),
         Receiver::new(consumer, receiver_waker),
