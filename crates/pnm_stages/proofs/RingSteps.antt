@@ -1,9 +1,9 @@
 -- What a ring has passed, message by message.
-use Rattle.std.proofs.Common.{◌≡◌, ◌⊎◌, inl, inr, List, [], ◌∷◌, ◌++◌, ap, refl, sym, subst, ◌∙◌}
+use Rattle.std.proofs.Common.{◌≡◌, List, [], ◌∷◌, ◌++◌, ap, refl, sym, subst, ◌∙◌}
 use Rattle.pnm_image.specs.declared.message.Message.{Message}
 use Rattle.pnm_image.specs.Messages.{ending_of, EndsBy}
 use Rattle.pnm_image.specs.declared.message.Ending.{Ending}
-use Rattle.pnm_image.specs.declared.message.Ending.TheVariants.{More, Whole, BrokenOff}
+use Rattle.pnm_image.specs.declared.message.Ending.TheVariants.{More}
 use Rattle.pnm_stages.specs.declared.sender.Sender.{Sender}
 use Rattle.pnm_stages.specs.declared.receiver.Receiver.{Receiver}
 use Rattle.pnm_tools.proofs.InFullLaws.{EndNothing, ends_after}

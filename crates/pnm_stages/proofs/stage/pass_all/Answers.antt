@@ -162,3 +162,6 @@ pub returns-in-BrokenOff-clause-output : goal.returns-in-BrokenOff-clause-output
 returns-in-BrokenOff-clause-output g c =
     same_output c.args.output.now c.has_next.new.output c.pass.new.output
     (same_output c.args.output.now c.loop.output c.has_next.new.output c.loop.invariant.1 c.has_next.ensures.output) c.pass.ensures.output
+
+pub receive_known-parcel-requires : goal.receive_known-parcel-requires
+receive_known-parcel-requires g c = c.if-not-has_next.ensures.some refl

@@ -1,6 +1,9 @@
-use Rattle.std.proofs.Common.{true, false, subst, ◌<◌, ◌+◌, length, ℕ}
+use Rattle.std.proofs.Common.{◌≡◌, true, false, ap, subst, ◌∙◌, ◌<◌, ◌+◌, List, length, take, ℕ, arith}
+use Rattle.std.proofs.Math.Seq.{take-length}
+use Rattle.pnm_image.specs.Rows.{row_messages}
 use Rattle.pnm_image.specs.declared.message.Message.TheVariants.{Row}
 use Rattle.pnm_stages.specs.Rings.{sent}
+use Rattle.pnm_stages.specs.StageParts.{HasPassed}
 use Rattle.pnm_stages.proofs.RingSteps.{same_output, itself_output}
 use Rattle.pnm_stages.proofs.PassingSteps.{passes_none, passes_message, passes_row, loses_rows, drops_rows}
 use Rattle.pnm_stages.proofs.stage.pass_each.Goals as goal
@@ -36,3 +39,20 @@ loop-at-preserved g c =
           (passes_message g.F.Filter.at g.F.Filter.all_given g.F.Filter.stopped true c.loop-at.stage c.feed.new.self c.send_answers.new.stage (Row c.in-Ok.row)
           (sent c.loop-at.output) (sent c.send_answers.new.output) c.feed.ensures c.if-not-send_answers.ensures.sent),
     )
+
+pub returns-in_default-clause-output : goal.returns-in_default-clause-output
+returns-in_default-clause-output g c = c.loop-at.invariant.0
+
+pub returns-then-not-send_answers-clause-output : goal.returns-then-not-send_answers-clause-output
+returns-then-not-send_answers-clause-output g c =
+    same_output c.args.output.now c.loop-at.output c.send_answers.new.output c.loop-at.invariant.0 c.send_answers.ensures.output
+
+pub returns-clause-output : goal.returns-clause-output
+returns-clause-output g c = c.loop-at.invariant.0
+
+pub returns-clause-passed : goal.returns-clause-passed
+returns-clause-passed g c =
+    let all : c.loop-at.at ≡ length c.args.rows.now = omega (arith, c.count-at-end.ensures.rows, c.loop-at-test.false, c.loop-at.auto.at-end) in
+    let whole : take c.loop-at.at c.args.rows.now ≡ c.args.rows.now = ap (λ (n : ℕ). take n c.args.rows.now) all ∙ take-length c.args.rows.now in
+    subst (λ (rows : List (List ℕ)). HasPassed g.F.Filter.at g.F.Filter.all_given g.F.Filter.stopped true c.args.stage.now c.loop-at.stage
+    (row_messages rows) (sent c.args.output.now) (sent c.loop-at.output)) whole c.loop-at.invariant.1

@@ -1,5 +1,8 @@
-use Rattle.std.proofs.Common.{sym, ◌∙◌}
-use Rattle.pnm_stages.specs.Rings.{received}
+use Rattle.std.proofs.Common.{List, sym, subst, ◌∙◌}
+use Rattle.pnm_image.specs.declared.message.Message.{Message}
+use Rattle.pnm_image.specs.declared.message.Ending.TheVariants.{More}
+use Rattle.pnm_image.specs.Messages.{EndsBy}
+use Rattle.pnm_stages.specs.Rings.{received, Extends}
 use Rattle.pnm_stages.proofs.RingSteps.{same_input}
 use Rattle.pnm_stages.proofs.ParcelLaws.{parcel_goes_on, parcel_ends, parcel_says_end}
 use Rattle.pnm_stages.proofs.receiver.Receiver.drain.Goals as goal
@@ -17,4 +20,13 @@ returns-in-Whole g c = record {
   drained = parcel_ends (received c.args.self.now) (received c.loop.self) (received c.receive.new.self) c.in-Some-receive.parcel c.loop.invariant.1
       c.in-Some-receive.ensures.taken c.in-Some-receive.ensures.messages
       (parcel_says_end c.ending-ending.result c.in-Some-receive.parcel c.ending-ending.ensures c.in-Whole.is);
+}
+
+pub returns-in_default : goal.returns-in_default
+returns-in_default g c = record {
+  ring = same_input c.args.self.now c.loop.self c.receive.new.self c.loop.invariant.0 c.receive.ensures.ring;
+  drained = (
+    subst (λ (l : List Message). Extends (received c.args.self.now) l (EndsBy More)) (sym c.in_default.ensures.none_seen.0) c.loop.invariant.1,
+    c.in_default.ensures.none_seen.1,
+  );
 }
