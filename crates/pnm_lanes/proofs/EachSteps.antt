@@ -15,15 +15,17 @@ use Rattle.pnm_image.specs.Completion.{IsPrefixOf}
 use Rattle.pnm_image.specs.Heads.{HeadValue, IsHead, with_height}
 use Rattle.pnm_image.specs.declared.limits.TheConstants.{MAX_SIDE}
 use Rattle.pnm_image.specs.Places.{Accepts, IsLawfulFrom, place_after}
+use Rattle.pnm_tools.specs.declared.fault.ToolFault.{ToolFault}
 use Rattle.pnm_tools.specs.declared.fault.ToolFault.TheVariants.{OutOfOrder}
 use Rattle.pnm_image.specs.Messages.{ending_of}
 use Rattle.pnm_tools.specs.Dealing.{dealt_height, dealt_head, dealt_message, dealt_from}
 use Rattle.pnm_stages.specs.declared.stage.StageEnd.{StageEnd}
-use Rattle.pnm_stages.specs.declared.stage.StageEnd.TheVariants.{Fault}
+use Rattle.pnm_stages.specs.declared.stage.StageEnd.TheVariants.{Well, Broken, Fault, PeerGone}
 use Rattle.pnm_lanes.specs.declared.lane.LaneState.{LaneState}
 use Rattle.pnm_lanes.specs.declared.lane.LaneState.TheVariants.{Open}
 use Rattle.pnm_lanes.specs.GatherParts.{IsOfStream, LaneHasGiven, HasTakenFrom, state_at, AreOpen, AwaitsNoRow, HasTakenParts, HasTakenWhole, HasTakenNone}
 use Rattle.pnm_lanes.specs.GatherParts.{HasTakenNext, BeginsNone, IsTogether, AreNotTogether, AreDealtHeights, AreAlike, height_in}
+use Rattle.pnm_lanes.specs.GatherParts.{HasTakenLike, HasTakenAlike}
 use Rattle.pnm_lanes.proofs.PartLaws.{begins_so, no_prefix, same_begin}
 use Rattle.pnm_lanes.proofs.TakenParts.{one_more_of, more_here, more_there, one_of_stream, message_of_stream, state_stays, none_taken, taken_more, taken_same}
 use Rattle.pnm_lanes.proofs.TakenParts.{taken_none}
@@ -234,22 +236,24 @@ set_within heights lane height other within here below = elim (cases_eq other la
       omega (arith, old, within other)
 ]
 
-pub next_taken : (lanes lane height : ℕ) (place : Place) (first m : Message) (heights : List ℕ) (states_old states_new : List LaneState)
+pub next_taken : (lanes lane height : ℕ) (place : Place) (first : Message) (heights : List ℕ) (states_old states_new : List LaneState)
     (start old new : ℕ → List Message)
-    → IsTakingEach lanes place first heights lane states_old start old → lane < lanes → lane < length heights → lanes ≤ length states_old → AreAlike first m
-    → IsOfStream m × LaneHasGiven lane m states_old states_new old new → height ≡ height_in m → height ≤ MAX_SIDE
+    → IsTakingEach lanes place first heights lane states_old start old → lane < lanes → lane < length heights → lanes ≤ length states_old
+    → HasTakenLike lane first height states_old states_new old new
     → IsTakingEach lanes place first (set heights lane height) (lane + 1) states_new start new
-next_taken lanes lane height place first m heights states_old states_new start old new taking below reserved enough alike from is_height within = record {
-  parts = taken_same lanes states_new start new (one_more_of lane m (until lane first heights)) (until (lane + 1) first (set heights lane height))
-      (λ other b. next_until lane first m heights other reserved alike ∙ ap (λ (h : ℕ). until (lane + 1) first (set heights lane h) other) (sym is_height))
-      (taken_more lanes lane states_old states_new start old new (until lane first heights) m (omega arith) (taking.others lane (le_refl lane) below)
-      (until_from lane first heights lane (le_refl lane)) (message_of_stream m from.0) taking.parts below from.1);
-  others = λ other reached b. ap (λ (s : List LaneState). state_at s other) from.1.states
-      ∙ state_stays states_old lane other (ending_of m) (λ e. absurd (omega (arith, e))) ∙ taking.others other (omega arith) b;
+next_taken lanes lane height place first heights states_old states_new start old new taking below reserved enough taken = record {
+  parts = taken_same lanes states_new start new (one_more_of lane taken.message (until lane first heights)) (until (lane + 1) first (set heights lane height))
+      (λ other b. next_until lane first taken.message heights other reserved taken.alike
+      ∙ ap (λ (h : ℕ). until (lane + 1) first (set heights lane h) other) (sym taken.is_height))
+      (taken_more lanes lane states_old states_new start old new (until lane first heights) taken.message (omega arith)
+      (taking.others lane (le_refl lane) below) (until_from lane first heights lane (le_refl lane)) (message_of_stream taken.message taken.taken.0)
+      taking.parts below taken.taken.1);
+  others = λ other reached b. ap (λ (s : List LaneState). state_at s other) taken.taken.1.states
+      ∙ state_stays states_old lane other (ending_of taken.message) (λ e. absurd (omega (arith, e))) ∙ taking.others other (omega arith) b;
   may = taking.may;
   is = taking.is;
   height = get_or-set_other heights lane 0 height 0 (λ e. absurd (omega (arith, e, taking.some))) ∙ taking.height;
-  within = λ other. set_within heights lane height other taking.within within reserved;
+  within = λ other. set_within heights lane height other taking.within taken.within reserved;
   some = omega arith;
 }
 
@@ -279,7 +283,7 @@ first_refused lanes place first states_old states_new old new some enough opens 
       );
     }
 
-pub each_failed : (lanes lane : ℕ) (place : Place) (first : Message) (heights : List ℕ) (end : StageEnd) (states_old states_new : List LaneState)
+each_failed : (lanes lane : ℕ) (place : Place) (first : Message) (heights : List ℕ) (end : StageEnd) (states_old states_new : List LaneState)
     (start old new : ℕ → List Message)
     → IsTakingEach lanes place first heights lane states_old start old → lane < lanes → lanes ≤ length states_old
     → HasTakenFrom lane (Err end) states_old states_new old new → HasTakenNone lanes place end states_new start new
@@ -287,7 +291,7 @@ each_failed lanes lane place first heights end states_old states_new start old n
     taken_none lanes lane place end states_old states_new start old new (until lane first heights) (omega arith) (taking.others lane (le_refl lane) below)
     (until_from lane first heights lane (le_refl lane)) below taking.parts from
 
-pub each_differs : (lanes lane : ℕ) (place : Place) (first m : Message) (heights : List ℕ) (states_old states_new : List LaneState)
+each_differs : (lanes lane : ℕ) (place : Place) (first m : Message) (heights : List ℕ) (states_old states_new : List LaneState)
     (start old new : ℕ → List Message)
     → IsTakingEach lanes place first heights lane states_old start old → lane < lanes → lanes ≤ length states_old → AwaitsNoRow place → ¬ AreAlike first m
     → IsOfStream m × LaneHasGiven lane m states_old states_new old new → HasTakenNone lanes place (Fault OutOfOrder) states_new start new
@@ -308,6 +312,27 @@ each_differs lanes lane place first m heights states_old states_new start old ne
         not_alike lanes lane place first m taken (omega arith) below none differ first_lane (more_here lane m before),
       );
     }
+
+-- why another lane has given no message like the first one
+pub none_alike : (lane : ℕ) (first : Message) (end : StageEnd) (states_old states_new : List LaneState) (old new : ℕ → List Message)
+    → HasTakenFrom lane (Err end) states_old states_new old new → HasTakenAlike lane first (Err end) states_old states_new old new
+none_alike lane first Well states_old states_new old new from = absurd from
+none_alike lane first Broken states_old states_new old new from = from
+none_alike lane first (Fault fault) states_old states_new old new from = absurd from
+none_alike lane first PeerGone states_old states_new old new from = from
+
+pub each_stops : (lanes lane : ℕ) (place : Place) (first : Message) (heights : List ℕ) (end : StageEnd) (states_old states_new : List LaneState)
+    (start old new : ℕ → List Message)
+    → IsTakingEach lanes place first heights lane states_old start old → lane < lanes → lanes ≤ length states_old → AwaitsNoRow place
+    → HasTakenAlike lane first (Err end) states_old states_new old new → HasTakenNone lanes place end states_new start new
+each_stops lanes lane place first heights Well states_old states_new start old new taking below enough none from = absurd from
+each_stops lanes lane place first heights Broken states_old states_new start old new taking below enough none from =
+    each_failed lanes lane place first heights Broken states_old states_new start old new taking below enough from
+each_stops lanes lane place first heights (Fault fault) states_old states_new start old new taking below enough none from =
+    subst (λ (f : ToolFault). HasTakenNone lanes place (Fault f) states_new start new) (sym from.0)
+    (each_differs lanes lane place first from.1.message heights states_old states_new start old new taking below enough none from.1.differs from.1.taken)
+each_stops lanes lane place first heights PeerGone states_old states_new start old new taking below enough none from =
+    each_failed lanes lane place first heights PeerGone states_old states_new start old new taking below enough from
 
 -- ---- all lanes have given one
 

@@ -92,6 +92,35 @@ AreNotTogether ImageEnd heights = ⊥
 AreNotTogether StreamEnd heights = ⊥
 AreNotTogether Stop heights = ⊥
 
+-- a message like this one was taken of a lane, with this height
+pub record HasTakenLike (lane : ℕ) (first : Message) (height : ℕ) (states_old states_new : List LaneState)
+    (old new : ℕ → List Message) : Type 0 where
+  pub message : Message
+  pub alike : AreAlike first message
+  pub is_height : height ≡ height_in message
+  pub within : height ≤ MAX_SIDE
+  pub taken : HasTakenFrom lane (Ok message) states_old states_new old new
+
+-- one that isn't like it was taken
+pub record HasTakenUnlike (lane : ℕ) (first : Message) (states_old states_new : List LaneState)
+    (old new : ℕ → List Message) : Type 0 where
+  pub message : Message
+  pub differs : AreAlike first message → ⊥
+  pub taken : HasTakenFrom lane (Ok message) states_old states_new old new
+
+-- the height in a message like this one, which was taken of a lane; or another message was, or none of the stream
+abbrev pub HasTakenAlike : ℕ → Message → Result ℕ StageEnd → List LaneState → List LaneState → (ℕ → List Message)
+    → (ℕ → List Message) → Type 0
+HasTakenAlike lane first (Ok height) states_old states_new old new =
+    HasTakenLike lane first height states_old states_new old new
+HasTakenAlike lane first (Err Well) states_old states_new old new = ⊥
+HasTakenAlike lane first (Err Broken) states_old states_new old new =
+    HasTakenFrom lane (Err Broken) states_old states_new old new
+HasTakenAlike lane first (Err (Fault fault)) states_old states_new old new = (fault ≡ OutOfOrder)
+    × HasTakenUnlike lane first states_old states_new old new
+HasTakenAlike lane first (Err PeerGone) states_old states_new old new =
+    HasTakenFrom lane (Err PeerGone) states_old states_new old new
+
 -- ---- the next message of the whole stream
 
 abbrev pub state_at : List LaneState → ℕ → LaneState

@@ -3,7 +3,7 @@
 ghost use Rattle.std.specs.Prelude.{◌<◌, ◌≤◌, length};
 ghost use Rattle.pnm_stages.specs.Rings.{received};
 ghost use Rattle.pnm_lanes.specs.Gathers.{at_lane, AreSameInputs};
-ghost use Rattle.pnm_lanes.specs.GatherParts.{AreOpen, AwaitsNoRow, HasTakenNext};
+ghost use Rattle.pnm_lanes.specs.GatherParts.{AreOpen, AwaitsNoRow, HasTakenAlike, HasTakenNext};
 
 use crate::agreement::{are_alike, height_of, together};
 use crate::lane::{LaneState, MAX_LANES, receive_from};
@@ -90,11 +90,29 @@ fn receive_of_each<R: Wait>(
     let mut heights = [0; MAX_LANES];
     heights[0] = height_of(&first);
     for lane in 1..inputs.len() {
-        let message = receive_from(rt, inputs, states, lane, backoff)?;
-        if !are_alike(&first, &message) {
-            return Err(OUT_OF_ORDER);
-        }
-        heights[lane] = height_of(&message);
+        heights[lane] = receive_alike(rt, inputs, states, lane, &first, backoff)?;
     }
     together(first, &heights[..inputs.len()]).ok_or(OUT_OF_ORDER)
+}
+
+/// The height in the next message of a lane, where this is like the first lane's.
+fn receive_alike<R: Wait>(
+    rt: &R,
+    inputs: &mut [Receiver],
+    states: &mut [LaneState],
+    lane: usize,
+    first: &Message,
+    backoff: &mut Backoff,
+) -> Result<u32, StageEnd>
+    requires lane { lane < length inputs.old }
+    requires states { length inputs.old ≤ length states.old }
+    ensures inputs { AreSameInputs inputs.old inputs.new }
+    ensures taken { HasTakenAlike lane first.now result states.old states.new (at_lane received inputs.old)
+        (at_lane received inputs.new) }
+{
+    let message = receive_from(rt, inputs, states, lane, backoff)?;
+    if !are_alike(first, &message) {
+        return Err(OUT_OF_ORDER);
+    }
+    Ok(height_of(&message))
 }
