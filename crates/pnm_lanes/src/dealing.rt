@@ -185,10 +185,7 @@ fn send_parts<R: Wait>(
             };
             send_row(rt, y, row, outputs, backoff)
         }
-        Message::Begin(head) => send_each(rt, &Message::Begin(head), outputs, backoff),
-        Message::ImageEnd => send_each(rt, &Message::ImageEnd, outputs, backoff),
-        Message::StreamEnd => send_each(rt, &Message::StreamEnd, outputs, backoff),
-        Message::Stop => send_each(rt, &Message::Stop, outputs, backoff),
+        other => send_each(rt, &other, outputs, backoff),
     }
 }
 

@@ -1,9 +1,27 @@
-use Rattle.std.proofs.Common.{length, sym, subst}
+use Rattle.std.proofs.Common.{◌≡◌, ℕ, List, Option, length, refl, sym, subst}
 use Rattle.pnm_image.specs.declared.message.Message.{Message}
-use Rattle.pnm_image.specs.declared.message.Message.TheVariants.{Row}
+use Rattle.pnm_image.specs.declared.message.Message.TheVariants.{Begin, Row, ImageEnd, StreamEnd, Stop}
 use Rattle.pnm_image.specs.declared.place.Place.{Place}
-use Rattle.pnm_lanes.specs.DealParts.{part_at, HasSentParts}
+use Rattle.pnm_stages.specs.declared.sender.Sender.{Sender}
+use Rattle.pnm_stages.specs.declared.stage.StageEnd.{StageEnd}
+use Rattle.pnm_lanes.specs.DealParts.{IsRow, part_at, lane_part, HasSentParts}
 use Rattle.pnm_lanes.proofs.dealing.send_parts.Goals as goal
+
+not_row : (m : Message) → ((row : List ℕ) → m ≡ Row row → ⊥) → IsRow m → ⊥
+not_row (Begin head) other is = is
+not_row (Row row) other is = other row refl
+not_row ImageEnd other is = is
+not_row StreamEnd other is = is
+not_row Stop other is = is
+
+-- a message that isn't a row is dealt alike at each place
+at_each_place : (lanes : ℕ) (place : Place) (m : Message) (unsent : Option StageEnd) (olds news : List Sender) → (IsRow m → ⊥)
+    → HasSentParts (lane_part lanes m) unsent olds news → HasSentParts (part_at lanes place m) unsent olds news
+at_each_place lanes place (Begin head) unsent olds news other has = has
+at_each_place lanes place (Row row) unsent olds news other has = absurd (other tt)
+at_each_place lanes place ImageEnd unsent olds news other has = has
+at_each_place lanes place StreamEnd unsent olds news other has = has
+at_each_place lanes place Stop unsent olds news other has = has
 
 pub returns-in-Inside : goal.returns-in-Inside
 returns-in-Inside g c =
@@ -12,22 +30,10 @@ returns-in-Inside g c =
     (subst (λ (place : Place). HasSentParts (part_at lanes place (Row c.in-Row.row)) c.send_row.result c.args.outputs.now c.send_row.new.outputs)
     (sym c.in-Inside.is) c.send_row.ensures)
 
-pub returns-in-Begin : goal.returns-in-Begin
-returns-in-Begin g c =
-    subst (λ (m : Message). HasSentParts (part_at (length c.args.outputs.now) c.args.place m) c.send_each.result c.args.outputs.now c.send_each.new.outputs)
-    (sym c.in-Begin.is) c.send_each.ensures
+pub send_each-requires-clause-message : goal.send_each-requires-clause-message
+send_each-requires-clause-message g c = not_row c.args.message c.in_default.not-Row
 
-pub returns-in-ImageEnd : goal.returns-in-ImageEnd
-returns-in-ImageEnd g c =
-    subst (λ (m : Message). HasSentParts (part_at (length c.args.outputs.now) c.args.place m) c.send_each-in-ImageEnd.result c.args.outputs.now
-    c.send_each-in-ImageEnd.new.outputs) (sym c.in-ImageEnd.is) c.send_each-in-ImageEnd.ensures
-
-pub returns-in-StreamEnd : goal.returns-in-StreamEnd
-returns-in-StreamEnd g c =
-    subst (λ (m : Message). HasSentParts (part_at (length c.args.outputs.now) c.args.place m) c.send_each-in-StreamEnd.result c.args.outputs.now
-    c.send_each-in-StreamEnd.new.outputs) (sym c.in-StreamEnd.is) c.send_each-in-StreamEnd.ensures
-
-pub returns-in-Stop : goal.returns-in-Stop
-returns-in-Stop g c =
-    subst (λ (m : Message). HasSentParts (part_at (length c.args.outputs.now) c.args.place m) c.send_each-in-Stop.result c.args.outputs.now
-    c.send_each-in-Stop.new.outputs) (sym c.in-Stop.is) c.send_each-in-Stop.ensures
+pub returns-in_default : goal.returns-in_default
+returns-in_default g c =
+    at_each_place (length c.args.outputs.now) c.args.place c.args.message c.send_each.result c.args.outputs.now c.send_each.new.outputs
+    (not_row c.args.message c.in_default.not-Row) c.send_each.ensures
