@@ -1,5 +1,5 @@
 -- Gathering, message by message: what was sent so far is a prefix of a stream, and each lane has given its part of it.
-use Rattle.std.proofs.Common.{◌≡◌, ◌⊎◌, inl, inr, ℕ, ◌<◌, List, [], ◌∷◌, ◌++◌, refl, sym, ap, subst, ◌∙◌, append_assoc, append-nil}
+use Rattle.std.proofs.Common.{◌≡◌, ◌⊎◌, inl, inr, ℕ, zero, suc, take, ◌<◌, List, [], ◌∷◌, ◌++◌, refl, sym, ap, subst, ◌∙◌, append_assoc, append-nil}
 use Rattle.std.specs.List.{AllByRecursion}
 use Rattle.pnm_image.specs.declared.message.Message.{Message}
 use Rattle.pnm_image.specs.declared.message.Message.TheVariants.{Begin, Row, ImageEnd, StreamEnd, Stop}
@@ -152,3 +152,15 @@ pub goes_further : (lanes count : ℕ) (place next : Place) (m : Message) (state
 goes_further lanes count place next m states start now new sent_start sent_now sent_new going same whole added stepped more =
     still_going lanes place next m states start now new sent_start sent_now sent_new going
     (subst (λ (n : ℕ). HasTakenWhole n place m states now new) same whole) added stepped more
+
+-- ---- lanes of which nothing was taken
+
+pub first_open : (n : ℕ) (states : List LaneState) → AllByRecursion (λ s. s ≡ Open) states → AllByRecursion (λ s. s ≡ Open) (take n states)
+first_open zero states all = tt
+first_open (suc n) [] all = tt
+first_open (suc n) (s ∷ states) all = (all.0, first_open n states all.1)
+
+pub open_at : (states : List LaneState) → AllByRecursion (λ s. s ≡ Open) states → (lane : ℕ) → state_at states lane ≡ Open
+open_at [] all lane = refl
+open_at (s ∷ states) all zero = all.0
+open_at (s ∷ states) all (suc lane) = open_at states all.1 lane

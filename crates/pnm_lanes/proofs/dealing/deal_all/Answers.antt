@@ -76,3 +76,34 @@ returns-in-BrokenOff-clause-dealt g c =
     c.args.outputs.now c.loop.outputs c.deal_parcel.new.outputs c.in-Some-receive.parcel c.deal_parcel.result c.loop.invariant.2
     c.in-Some-receive.ensures.taken c.in-Some-receive.ensures.messages (sym c.ending-ending.ensures ∙ c.in-BrokenOff.is) c.deal_parcel.ensures
     c.in_default-deal_parcel.is)
+
+pub returns-in_default-clause-input : goal.returns-in_default-clause-input
+returns-in_default-clause-input g c =
+    same_input c.args.input.now c.receive.new.self c.break_off.new.input
+    (same_input c.args.input.now c.loop.input c.receive.new.self c.loop.invariant.0 c.receive.ensures.ring) c.break_off.ensures.input
+
+pub returns-then-is_end_dealt-clause-input : goal.returns-then-is_end_dealt-clause-input
+returns-then-is_end_dealt-clause-input g c =
+    same_input c.args.input.now c.loop.input c.receive.new.self c.loop.invariant.0 c.receive.ensures.ring
+
+pub returns-in-Some-deal_parcel-clause-input : goal.returns-in-Some-deal_parcel-clause-input
+returns-in-Some-deal_parcel-clause-input g c =
+    same_input c.args.input.now c.receive.new.self c.break_off-in-Some-deal_parcel.new.input
+    (same_input c.args.input.now c.loop.input c.receive.new.self c.loop.invariant.0 c.receive.ensures.ring) c.break_off-in-Some-deal_parcel.ensures.input
+
+pub returns-in-Whole-clause-input : goal.returns-in-Whole-clause-input
+returns-in-Whole-clause-input g c =
+    same_input c.args.input.now c.loop.input c.receive.new.self c.loop.invariant.0 c.receive.ensures.ring
+
+pub returns-in-BrokenOff-clause-input : goal.returns-in-BrokenOff-clause-input
+returns-in-BrokenOff-clause-input g c =
+    same_input c.args.input.now c.loop.input c.receive.new.self c.loop.invariant.0 c.receive.ensures.ring
+
+pub break_off-requires : goal.break_off-requires
+break_off-requires g c = c.loop.invariant.1
+
+pub break_off-requires-in-Some-deal_parcel : goal.break_off-requires-in-Some-deal_parcel
+break_off-requires-in-Some-deal_parcel g c = subst IsLaneCount (sym c.deal_parcel.auto.outputs) c.loop.invariant.1
+
+pub deal_parcel-requires : goal.deal_parcel-requires
+deal_parcel-requires g c = c.loop.invariant.1

@@ -1,10 +1,11 @@
-use Rattle.std.proofs.Common.{ℕ, length, refl, sym, subst, ◌∙◌}
+use Rattle.std.proofs.Common.{ℕ, length, refl, sym, subst, ◌∙◌, arith}
+use Rattle.std.proofs.lemmas.List.{length-take-le}
 use Rattle.pnm_stages.specs.Rings.{sent, received, known_items}
 use Rattle.pnm_lanes.specs.Gathers.{at_lane}
 use Rattle.pnm_lanes.specs.GatherParts.{HasBrokenOffAll, HasDrainedAll}
 use Rattle.pnm_lanes.proofs.LaneLists.{are_themselves, same_inputs, as_many}
 use Rattle.pnm_stages.proofs.RingSteps.{itself_output, same_output}
-use Rattle.pnm_lanes.proofs.GatherSteps.{nothing_yet, goes_further, says_more}
+use Rattle.pnm_lanes.proofs.GatherSteps.{nothing_yet, goes_further, says_more, first_open, open_at}
 use Rattle.pnm_lanes.proofs.GatherEnds.{broken_off, not_told, ends_well}
 use Rattle.pnm_lanes.proofs.gathering.gather_all.Goals as goal
 
@@ -84,3 +85,39 @@ loop-preserved g c = (
       c.loop.invariant.2 (as_many c.args.inputs.now c.loop.inputs c.loop.invariant.0) c.in-Ok.ensures.taken (c.if-not-send.ensures.given refl) c.step.ensures
       (says_more c.ending-ending.result c.in-Ok.message c.ending-ending.ensures c.in-More.is c.in-Ok.ensures.taken.is),
 )
+
+pub slice_bounds-states-end : goal.slice_bounds-states-end
+slice_bounds-states-end g c =
+    let count = as_many c.args.inputs.now c.loop.inputs c.loop.invariant.0 in
+    sym (length-take-le (length c.loop.inputs) _ (omega (arith, c.requires.few, count)))
+
+pub receive_next-requires-clause-some : goal.receive_next-requires-clause-some
+receive_next-requires-clause-some g c = omega (arith, c.requires.some, as_many c.args.inputs.now c.loop.inputs c.loop.invariant.0)
+
+pub receive_next-requires-clause-few : goal.receive_next-requires-clause-few
+receive_next-requires-clause-few g c = omega (arith, c.requires.few, as_many c.args.inputs.now c.loop.inputs c.loop.invariant.0)
+
+pub receive_next-requires-clause-all_open : goal.receive_next-requires-clause-all_open
+receive_next-requires-clause-all_open g c = λ lane below.
+    open_at _ (first_open (length c.loop.inputs) _ (refl, (refl, (refl, (refl, (refl, (refl, (refl, (refl, tt))))))))) lane
+
+pub step-requires : goal.step-requires
+step-requires g c = c.in-Ok.ensures.taken.may
+
+pub break_off-requires-clause-some : goal.break_off-requires-clause-some
+break_off-requires-clause-some g c =
+    omega (
+      arith,
+      c.requires.some,
+      as_many c.args.inputs.now c.loop.inputs c.loop.invariant.0,
+      as_many c.loop.inputs c.receive_next.new.inputs c.receive_next.ensures.inputs,
+    )
+
+pub drain_all-requires-clause-some : goal.drain_all-requires-clause-some
+drain_all-requires-clause-some g c =
+    omega (
+      arith,
+      c.requires.some,
+      as_many c.args.inputs.now c.loop.inputs c.loop.invariant.0,
+      as_many c.loop.inputs c.receive_next.new.inputs c.receive_next.ensures.inputs,
+    )

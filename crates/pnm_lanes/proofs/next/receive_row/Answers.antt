@@ -19,3 +19,12 @@ returns-then-not-accepts-clause-taken g c =
     (at_lane received c.args.inputs.now) (at_lane received c.receive_from.new.inputs)
     c.requires.some c.requires.states c.requires.all_open c.requires.below (λ may. false≢true (c.if-not-accepts.ensures.1 may)) c.in_ok-message.ensures.taken
     (search rules)
+
+pub returns-in_err-message-clause-inputs : goal.returns-in_err-message-clause-inputs
+returns-in_err-message-clause-inputs g c = c.receive_from.ensures.inputs
+
+pub returns-then-not-accepts-clause-inputs : goal.returns-then-not-accepts-clause-inputs
+returns-then-not-accepts-clause-inputs g c = c.receive_from.ensures.inputs
+
+pub returns-clause-inputs : goal.returns-clause-inputs
+returns-clause-inputs g c = c.receive_from.ensures.inputs
