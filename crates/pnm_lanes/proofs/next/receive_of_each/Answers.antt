@@ -1,6 +1,6 @@
 use Rattle.std.proofs.Common.{length, ◌∙◌, arith}
 use Rattle.std.proofs.lemmas.Bool.{false≢true}
-use Rattle.std.proofs.lemmas.List.{length-set}
+use Rattle.std.proofs.lemmas.List.{length-set, length-take-le}
 use Rattle.std.proofs.lemmas.Result.{err_from_is_err_and}
 use Rattle.pnm_stages.specs.Rings.{received}
 use Rattle.pnm_lanes.specs.Gathers.{at_lane}
@@ -60,3 +60,14 @@ returns-clause-taken g c =
     (at_lane received c.args.inputs.now) (at_lane received c.loop-lane.inputs) c.together.result
     c.loop-lane.invariant.1 (omega arith) (omega arith) (omega (arith, c.requires.few, c.loop-lane.invariant.2)) c.requires.no_row c.together.ensures.found
     c.together.ensures.none)
+
+pub receive_from-requires : goal.receive_from-requires
+receive_from-requires g c = record { lane = omega (arith, c.requires.some); states = c.requires.states }
+
+pub receive_alike-requires : goal.receive_alike-requires
+receive_alike-requires g c = record { lane = omega arith; states = omega arith }
+
+pub together-requires : goal.together-requires
+together-requires g c =
+    let taken = length-take-le (length c.loop-lane.inputs) c.loop-lane.heights (omega (arith, c.requires.few, c.loop-lane.invariant.2)) in
+    record { some = omega (arith, taken, c.requires.some); few = omega (arith, taken, c.requires.few) }
