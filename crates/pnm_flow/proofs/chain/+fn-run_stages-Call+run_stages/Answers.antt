@@ -90,3 +90,41 @@ returns-in-None-rest-clause-beside g t c = tt
 
 pub returns-in-None-rest-clause-not_started : goal.returns-in-None-rest-clause-not_started
 returns-in-None-rest-clause-not_started g t c = tt
+
+-- there is no memory
+pub returns-in_default : goal.returns-in_default
+returns-in_default g t c = record { ran = tt; beside = tt; not_started = c.not_started.ensures }
+
+pub returns-in_default-new_ring : goal.returns-in_default-new_ring
+returns-in_default-new_ring g t c = record { ran = tt; beside = tt; not_started = c.not_started-in_default-new_ring.ensures }
+
+pub returns-in-None : goal.returns-in-None
+returns-in-None g t c = record { ran = tt; beside = tt; not_started = tt }
+
+pub returns-in-Some-all-clause-not_started : goal.returns-in-Some-all-clause-not_started
+returns-in-Some-all-clause-not_started g t c = tt
+
+pub returns-in-Some-rest-clause-not_started : goal.returns-in-Some-rest-clause-not_started
+returns-in-Some-rest-clause-not_started g t c = tt
+
+-- what the last tool's threads are started with
+pub run_tool-all-requires-clause-shared : goal.run_tool-all-requires-clause-shared
+run_tool-all-requires-clause-shared g t c = λ κs within. c.requires.shared
+
+pub run_tool-all-requires-clause-lawful : goal.run_tool-all-requires-clause-lawful
+run_tool-all-requires-clause-lawful g t c = λ κs within. c.last_and_others.ensures.lawful.0
+
+pub run_tool-all-requires-clause-across : goal.run_tool-all-requires-clause-across
+run_tool-all-requires-clause-across g t c = λ κs within. c.in-Some.ensures
+
+pub run_tool-all-requires-clause-beside : goal.run_tool-all-requires-clause-beside
+run_tool-all-requires-clause-beside g t c = λ κs within. c.requires.beside
+
+pub run_tool-requires-clause-shared : goal.run_tool-requires-clause-shared
+run_tool-requires-clause-shared g t c = λ κs within. c.requires.shared
+
+pub run_tool-requires-clause-lawful : goal.run_tool-requires-clause-lawful
+run_tool-requires-clause-lawful g t c = λ κs within. c.last_and_others.ensures.lawful.0
+
+pub run_tool-requires-clause-across : goal.run_tool-requires-clause-across
+run_tool-requires-clause-across g t c = λ κs within. c.in-Some.ensures
