@@ -29,6 +29,12 @@ returns-clause-beside g t c =
     c.in_ok-done.rest (c.in_ok-all.all, c.in_ok-all.beside) c.in_ok-done.ensures.1 c.in_ok-all.was).1
 
 -- a thread can't be started
+pub returns-in_err-done-clause-ran : goal.returns-in_err-done-clause-ran
+returns-in_err-done-clause-ran g t c = rw c.from_residual.ensures tt
+
+pub returns-in_err-done-clause-beside : goal.returns-in_err-done-clause-beside
+returns-in_err-done-clause-beside g t c = rw c.from_residual.ensures tt
+
 pub returns-in_err-all-clause-ran : goal.returns-in_err-all-clause-ran
 returns-in_err-all-clause-ran g t c = rw c.from_residual-in_err-all.ensures tt
 
@@ -40,3 +46,15 @@ pub returns-in_default-clause-ran : goal.returns-in_default-clause-ran
 returns-in_default-clause-ran g t c =
     let none : length c.args.lanes.items ≡ 0 = omega (arith, c.args.lanes.ok, c.in_default.ensures.cases.0) in
     none_left c.args.tool.now c.args.lanes.items c.args.outer c.args.reserved c.deal_and_gather.result none c.requires.reserved.0 c.deal_and_gather.ensures.ran
+
+pub returns-in_default-clause-beside : goal.returns-in_default-clause-beside
+returns-in_default-clause-beside g t c = c.deal_and_gather.ensures.beside
+
+pub deal_and_gather-requires-clause-shared : goal.deal_and_gather-requires-clause-shared
+deal_and_gather-requires-clause-shared g t c = λ κs within. c.requires.shared.0
+
+pub deal_and_gather-requires-clause-outer : goal.deal_and_gather-requires-clause-outer
+deal_and_gather-requires-clause-outer g t c = λ κs within. c.requires.outer
+
+pub deal_and_gather-requires-clause-beside : goal.deal_and_gather-requires-clause-beside
+deal_and_gather-requires-clause-beside g t c = λ κs within. c.requires.beside

@@ -24,3 +24,10 @@ returns-clause-ran g c =
     let rings = c.args.rings in
     c.joined.ensures.ran c.args.tool.now rings.lanes.items _ (vec_capacity rings.reserved) c.requires.lawful c.requires.row_wise
     (omega (arith, c.requires.rings.1.0)) c.requires.rings.0 c.in_ok-done.ensures.ran
+
+pub returns-clause-beside : goal.returns-clause-beside
+returns-clause-beside g c = c.in_ok-done.ensures.beside
+
+-- a thread can't be started
+pub returns-in_err-done : goal.returns-in_err-done
+returns-in_err-done g c = rw c.from_residual.ensures (record { input = tt; output = tt; ran = tt; beside = tt })
