@@ -47,3 +47,11 @@ returns-in_default-both-clause-same_reader g c = λ differs. absurd (differs ref
 
 pub returns-in_default-both-clause-same_writer : goal.returns-in_default-both-clause-same_writer
 returns-in_default-both-clause-same_writer g c = λ differs. absurd (differs refl)
+
+-- there is no memory for a ring
+pub returns-in_default : goal.returns-in_default
+returns-in_default g c = record {
+  ran = inl refl;
+  same_reader = λ differs. absurd (differs refl);
+  same_writer = λ differs. absurd (differs refl);
+}

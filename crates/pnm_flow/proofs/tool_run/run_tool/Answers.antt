@@ -24,3 +24,6 @@ returns-in_err-done-in-Lanes-2-clause-ran g c = rw c.from_residual-in_err-done-i
 
 pub returns-in_err-done-in-Lanes-2-clause-beside : goal.returns-in_err-done-in-Lanes-2-clause-beside
 returns-in_err-done-in-Lanes-2-clause-beside g c = rw c.from_residual-in_err-done-in-Lanes-2.ensures tt
+
+pub returns-in_err-done-in-Lanes : goal.returns-in_err-done-in-Lanes
+returns-in_err-done-in-Lanes g c = rw c.from_residual.ensures (record { ran = tt; beside = tt })
