@@ -1,5 +1,5 @@
-use Rattle.std.proofs.Common.{[], ◌∷◌, ◌++◌, ◌≡◌, ℕ, suc, ◌+◌, take, subst, sym, ap, ◌∙◌, arith}
-use Rattle.std.proofs.Math.Seq.{take-suc}
+use Rattle.std.proofs.Common.{[], ◌∷◌, ◌++◌, ◌≡◌, ℕ, suc, ◌+◌, length, take, subst, sym, ap, ◌∙◌, arith}
+use Rattle.std.proofs.Math.Seq.{take-suc, take-length}
 use Rattle.pnm_tools.specs.Tools.{IsLawfulTool}
 use Rattle.pnm_flow.specs.SerialTools.{AreFresh}
 use Rattle.pnm_flow.proofs.ToolSteps.{fresh_more, lawful_at}
@@ -17,3 +17,11 @@ loop-tool-preserved c =
     let tools = ap (λ (t : _). take c.loop-tool.tool-index c.args.tools.now ++ t ∷ []) c.tool-item.is
     ∙ sym (take-suc c.args.tools.now c.loop-tool.tool-index c.tool-item.result c.loop-tool-test.true) ∙ ap (λ (n : ℕ). take n c.args.tools.now) next in
     rw c.in_ok-push.ensures.items (subst (AreFresh (c.loop-tool.stages.items ++ c.filter_of.result ∷ [])) tools more)
+
+pub returns-clause-refused : goal.returns-clause-refused
+returns-clause-refused c = tt
+
+pub returns-clause-fresh : goal.returns-clause-fresh
+returns-clause-fresh c =
+    let all : c.loop-tool.tool-index ≡ length c.args.tools.now = omega arith in
+    subst (AreFresh c.loop-tool.stages.items) (ap (λ (n : ℕ). take n c.args.tools.now) all ∙ take-length c.args.tools.now) c.loop-tool.invariant
