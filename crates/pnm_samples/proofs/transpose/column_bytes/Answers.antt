@@ -140,3 +140,90 @@ bytes_from-requires-in-loop-group-15-clause-width c = c.requires.width
 
 pub bytes_from-requires-in-loop-group-15-clause-rows : goal.bytes_from-requires-in-loop-group-15-clause-rows
 bytes_from-requires-in-loop-group-15-clause-rows c = c.requires.rows
+
+pub overflow_mul-first : goal.overflow_mul-first
+overflow_mul-first c = omega arith
+
+pub overflow_add-first : goal.overflow_add-first
+overflow_add-first c = omega arith
+
+pub overflow_add-first-in-loop-group : goal.overflow_add-first-in-loop-group
+overflow_add-first-in-loop-group c = omega arith
+
+pub overflow_add-first-in-loop-group-2 : goal.overflow_add-first-in-loop-group-2
+overflow_add-first-in-loop-group-2 c = omega arith
+
+pub overflow_add-first-in-loop-group-3 : goal.overflow_add-first-in-loop-group-3
+overflow_add-first-in-loop-group-3 c = omega arith
+
+pub overflow_add-first-in-loop-group-4 : goal.overflow_add-first-in-loop-group-4
+overflow_add-first-in-loop-group-4 c = omega arith
+
+pub overflow_add-first-in-loop-group-5 : goal.overflow_add-first-in-loop-group-5
+overflow_add-first-in-loop-group-5 c = omega arith
+
+pub overflow_add-first-in-loop-group-6 : goal.overflow_add-first-in-loop-group-6
+overflow_add-first-in-loop-group-6 c = omega arith
+
+pub overflow_add-first-in-loop-group-7 : goal.overflow_add-first-in-loop-group-7
+overflow_add-first-in-loop-group-7 c = omega arith
+
+pub overflow_add-first-in-loop-group-8 : goal.overflow_add-first-in-loop-group-8
+overflow_add-first-in-loop-group-8 c = omega arith
+
+pub overflow_add-first-in-loop-group-9 : goal.overflow_add-first-in-loop-group-9
+overflow_add-first-in-loop-group-9 c = omega arith
+
+pub overflow_add-first-in-loop-group-10 : goal.overflow_add-first-in-loop-group-10
+overflow_add-first-in-loop-group-10 c = omega arith
+
+pub overflow_add-first-in-loop-group-11 : goal.overflow_add-first-in-loop-group-11
+overflow_add-first-in-loop-group-11 c = omega arith
+
+pub overflow_add-first-in-loop-group-12 : goal.overflow_add-first-in-loop-group-12
+overflow_add-first-in-loop-group-12 c = omega arith
+
+pub overflow_add-first-in-loop-group-13 : goal.overflow_add-first-in-loop-group-13
+overflow_add-first-in-loop-group-13 c = omega arith
+
+pub overflow_add-first-in-loop-group-14 : goal.overflow_add-first-in-loop-group-14
+overflow_add-first-in-loop-group-14 c = omega arith
+
+pub overflow_mul-beside : goal.overflow_mul-beside
+overflow_mul-beside c = omega arith
+
+pub overflow_mul-group : goal.overflow_mul-group
+overflow_mul-group c = omega arith
+
+pub slice_bounds-bytes_beside-end : goal.slice_bounds-bytes_beside-end
+slice_bounds-bytes_beside-end c = omega arith
+
+pub slice_bounds-put_pairs-end : goal.slice_bounds-put_pairs-end
+slice_bounds-put_pairs-end c = omega arith
+
+pub put_pairs-requires-clause-columns : goal.put_pairs-requires-clause-columns
+put_pairs-requires-clause-columns c = omega arith
+
+pub put_pairs-requires-clause-pairs : goal.put_pairs-requires-clause-pairs
+put_pairs-requires-clause-pairs c = omega arith
+
+pub loop-group-preserved : goal.loop-group-preserved
+loop-group-preserved c = record {
+  long = c.loop-beside.invariant.long;
+  pixels = λ r k d below lt lk within. c.loop-beside.invariant.pixels r k d (omega arith) lt lk within;
+}
+
+pub loop-beside-init : goal.loop-beside-init
+loop-beside-init c = c.loop-group.invariant
+
+pub returns : goal.returns
+returns c =
+    let known = c.loop-group.invariant in
+    record {
+      many = known.long.many;
+      enough = λ k d lk. omega (arith, known.long.each k d lk);
+      pixels = λ r k d lt lk within. known.pixels r k d (omega arith) lt lk within;
+    }
+
+pub loop-group-init : goal.loop-group-init
+loop-group-init c = record { long = c.in_ok-columns.ensures; pixels = λ r k d below lt lk within. absurd (omega arith) }
