@@ -1,0 +1,6 @@
+use Rattle.std.proofs.Common.{arith}
+use Rattle.std.proofs.lemmas.Grind.{common_steps}
+use Rattle.pnm_write.proofs.plain.end_row.Goals as goal
+
+pub returns-then-is_end : goal.returns-then-is_end
+returns-then-is_end c = grind (arith, common_steps)

@@ -1,0 +1,5 @@
+use Rattle.std.proofs.Common.{refl}
+use Rattle.pnm_write.proofs.write_buffer.WriteBuffer.new.Goals as goal
+
+pub returns : goal.returns
+returns c = refl
