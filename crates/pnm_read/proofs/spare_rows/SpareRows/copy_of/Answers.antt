@@ -1,0 +1,5 @@
+use Rattle.std.proofs.Common.{arith}
+use Rattle.pnm_read.proofs.spare_rows.SpareRows.copy_of.Goals as goal
+
+pub refill-requires : goal.refill-requires
+refill-requires c = omega arith
