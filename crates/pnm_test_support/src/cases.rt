@@ -2,8 +2,8 @@
 
 use super::messages::Unmade;
 use super::writing::{cut_word, text_of};
-use std::alloc::Global;
-use std::io::{BufRead, BufReader};
+use std::alloc::{AllocError, Global};
+use std::io;
 
 /// What tells the cases of a program.
 pub trait Teller {
@@ -23,8 +23,9 @@ pub fn tell_lines<H: AllocGlobal + Input + Print, T: Teller>(
     teller: &mut T,
 ) -> Result<(), Unmade> {
     let alloc = rt.alloc();
-    for line in BufReader::new(alloc, rt.reader())?.lines(alloc) {
-        tell_line(rt, alloc, teller, line?.as_str())?;
+    let text = io::read_to_string(alloc, rt.reader())?;
+    for line in text.as_str().lines() {
+        tell_line(rt, alloc, teller, line)?;
     }
     Ok(())
 }
@@ -36,22 +37,26 @@ fn tell_line<H: Print, T: Teller>(
     teller: &mut T,
     line: &str,
 ) -> Result<(), Unmade> {
-    let told = told_of(alloc, teller, line)?;
+    let mut told = String::new(alloc);
+    tell_case(alloc, teller, line, &mut told)?;
     println!(rt; "{told}")?;
     Ok(())
 }
 
-/// What is told of a line, which is ` no case` where it isn't one, or can't be made.
-fn told_of<T: Teller>(alloc: Global, teller: &mut T, line: &str) -> Result<String, Unmade> {
-    let mut told = String::new(alloc);
+/// Adds what comes of the case of a line, which is ` no case` where it isn't one, or can't be made.
+fn tell_case<T: Teller>(
+    alloc: Global,
+    teller: &mut T,
+    line: &str,
+    told: &mut String,
+) -> Result<(), AllocError> {
     if line.as_bytes().first() == Some(&b'#') {
-        told.push_str(line)?;
-        return Ok(told);
+        return told.push_str(line);
     }
     let (word, written) = cut_word(line.as_bytes());
     let text = text_of(alloc, written)?;
-    if let Err(Unmade) = teller.tell(alloc, word, text.as_slice(), &mut told) {
-        told.push_str(" no case")?;
+    match teller.tell(alloc, word, text.as_slice(), told) {
+        Ok(()) => Ok(()),
+        Err(Unmade) => told.push_str(" no case"),
     }
-    Ok(told)
 }

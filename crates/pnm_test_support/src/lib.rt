@@ -14,12 +14,11 @@ mod writing;
 
 pub use cases::{Teller, tell_lines};
 pub use devices::{Drips, FailsOnce, NeverFlushes, ReadOut, Recorded, Sips};
-pub use digest::Crc32;
 pub use messages::{
-    Unmade, cut_head, cut_messages, head_of, held, messages_of, narrowest, number_of,
+    Unmade, cut_head, cut_messages, head_of, held, messages_of, number_of, samples_of,
 };
 pub use parts::{Part, is_made_of, message};
 pub use sweep::Sweep;
-pub use telling::{tell_change, tell_head, tell_message, tell_row, tell_text};
+pub use telling::{tell_all, tell_change, tell_head, tell_message, tell_row, tell_text, width_of};
 pub use together::{Handed, handed_of, rows_of, tell_rows};
-pub use writing::{cut_at, cut_number, cut_word, text_of};
+pub use writing::{cut_at, cut_number, cut_pair, cut_word, named, text_of};

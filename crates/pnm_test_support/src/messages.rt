@@ -1,6 +1,6 @@
 //! Messages as they are written, which is how they are told, and rows that are held so wide.
 
-use super::writing::{Numbers, cut_at, cut_number, cut_numbers, cut_word};
+use super::writing::{Numbers, cut_at, cut_number, cut_numbers, cut_word, named};
 use pnm_image::{Bits, Head, HeadFault, Kind, Message, SampleVec, SampleWidth, Samples, Shape};
 use std::alloc::{AllocError, AllocFailed, Global};
 use std::io;
@@ -124,17 +124,12 @@ fn add_row(
     is_narrow: bool,
     messages: &mut Vec<Message>,
 ) -> Result<(), Unmade> {
-    let sample_width = if is_narrow {
-        narrowest(samples)
-    } else {
-        SampleWidth::Words
-    };
-    messages.push(Message::Row(held(alloc, samples, sample_width)?))?;
+    messages.push(Message::Row(held_by(alloc, samples, is_narrow)?))?;
     Ok(())
 }
 
 /// The samples that are written one after another.
-fn samples_of(alloc: Global, written: &[u8]) -> Result<Vec<u16>, Unmade> {
+pub fn samples_of(alloc: Global, written: &[u8]) -> Result<Vec<u16>, Unmade> {
     let mut samples = Vec::new(alloc);
     let mut rest = written;
     for _ in 0..written.len() {
@@ -160,7 +155,7 @@ pub fn cut_head(alloc: Global, line: &[u8]) -> Result<(Head, &[u8]), Unmade> {
         _ => ([].as_slice(), rest),
     };
     let shape = Shape {
-        kind: kind_of(word)?,
+        kind: named(KINDS, word).ok_or(Unmade)?,
         width: number_of(width),
         height: number_of(height),
         depth: number_of(depth),
@@ -169,16 +164,12 @@ pub fn cut_head(alloc: Global, line: &[u8]) -> Result<(Head, &[u8]), Unmade> {
     Ok((head_of(alloc, shape, tuple_type)?, rest))
 }
 
-/// The kind of this name.
-fn kind_of(word: &[u8]) -> Result<Kind, Unmade> {
-    match word {
-        b"Bit" => Ok(Kind::Bit),
-        b"Gray" => Ok(Kind::Gray),
-        b"Color" => Ok(Kind::Color),
-        b"Pam" => Ok(Kind::Pam),
-        _ => Err(Unmade),
-    }
-}
+const KINDS: &[(&[u8], Kind)] = &[
+    (b"Bit", Kind::Bit),
+    (b"Gray", Kind::Gray),
+    (b"Color", Kind::Color),
+    (b"Pam", Kind::Pam),
+];
 
 /// The number, where it is a sample.
 fn sample_of(number: usize) -> Result<u16, Unmade> {
@@ -206,14 +197,28 @@ pub fn head_of(alloc: Global, shape: Shape, tuple_type: &[u8]) -> Result<Head, U
 }
 
 /// The width of as few bits as hold the samples.
-pub fn narrowest(samples: &[u16]) -> SampleWidth {
-    if samples.iter().all(|sample| *sample <= 1) {
-        SampleWidth::Bits
-    } else if samples.iter().all(|sample| *sample <= 255) {
-        SampleWidth::Bytes
+fn narrowest(samples: &[u16]) -> SampleWidth {
+    let mut most = 0;
+    for sample in samples {
+        if *sample > most {
+            most = *sample;
+        }
+    }
+    match most {
+        0 | 1 => SampleWidth::Bits,
+        2..=255 => SampleWidth::Bytes,
+        _ => SampleWidth::Words,
+    }
+}
+
+/// The samples, in as few bits as hold them, or in words.
+pub fn held_by(alloc: Global, samples: &[u16], is_narrow: bool) -> Result<Samples, AllocError> {
+    let sample_width = if is_narrow {
+        narrowest(samples)
     } else {
         SampleWidth::Words
-    }
+    };
+    held(alloc, samples, sample_width)
 }
 
 /// The samples, held so wide.

@@ -17,61 +17,49 @@ pub enum Part<'a> {
     Stop,
 }
 
-/// The shape of an image that isn't PAM.
-fn shape_of(kind: Kind, width: u32, height: u32, maxval: u32) -> Shape {
-    Shape {
+/// The shape and the tuple type of a head.
+fn head_parts(part: Part<'_>) -> Option<(Shape, &[u8])> {
+    let (kind, width, height, depth, maxval, tuple_type) = match part {
+        Part::Begin(kind, width, height, maxval) => {
+            let depth = if kind == Kind::Color { 3 } else { 1 };
+            (kind, width, height, depth, maxval, "")
+        }
+        Part::Pam(width, height, depth, maxval, tuple_type) => {
+            (Kind::Pam, width, height, depth, maxval, tuple_type)
+        }
+        _ => return None,
+    };
+    let shape = Shape {
         kind,
-        width,
-        height,
-        depth: if kind == Kind::Color { 3 } else { 1 },
-        maxval,
-    }
-}
-
-/// The shape of a PAM image.
-fn pam_of(width: u32, height: u32, depth: u32, maxval: u32) -> Shape {
-    Shape {
-        kind: Kind::Pam,
         width,
         height,
         depth,
         maxval,
-    }
+    };
+    Some((shape, tuple_type.as_bytes()))
 }
 
 /// The message that is made of this.
 pub fn message(alloc: Global, part: Part<'_>) -> Result<Message, Unmade> {
+    if let Some((shape, tuple_type)) = head_parts(part) {
+        return Ok(Message::Begin(head_of(alloc, shape, tuple_type)?));
+    }
     Ok(match part {
-        Part::Begin(kind, width, height, maxval) => {
-            let shape = shape_of(kind, width, height, maxval);
-            Message::Begin(head_of(alloc, shape, &[])?)
-        }
-        Part::Pam(width, height, depth, maxval, tuple_type) => {
-            let shape = pam_of(width, height, depth, maxval);
-            Message::Begin(head_of(alloc, shape, tuple_type.as_bytes())?)
-        }
         Part::Row(samples) => Message::Row(Samples::new(Vec::from_slice(alloc, samples)?)),
         Part::ImageEnd => Message::ImageEnd,
         Part::StreamEnd => Message::StreamEnd,
-        Part::Stop => Message::Stop,
+        _ => Message::Stop,
     })
 }
 
 /// Whether the message is made of this.
 pub fn is_made_of(message: &Message, part: Part<'_>) -> bool {
-    match (message, part) {
-        (Message::Begin(head), Part::Begin(kind, width, height, maxval)) => {
-            head.shape() == shape_of(kind, width, height, maxval) && head.tuple_type().is_empty()
-        }
-        (Message::Begin(head), Part::Pam(width, height, depth, maxval, tuple_type)) => {
-            let shape = pam_of(width, height, depth, maxval);
-            head.shape() == shape && head.tuple_type() == tuple_type.as_bytes()
-        }
-        (Message::Row(row), Part::Row(samples)) => has_samples(row, samples),
-        (Message::ImageEnd, Part::ImageEnd) => true,
-        (Message::StreamEnd, Part::StreamEnd) => true,
-        (Message::Stop, Part::Stop) => true,
-        _ => false,
+    match message {
+        Message::Begin(head) => head_parts(part) == Some((head.shape(), head.tuple_type())),
+        Message::Row(row) => matches!(part, Part::Row(samples) if has_samples(row, samples)),
+        Message::ImageEnd => matches!(part, Part::ImageEnd),
+        Message::StreamEnd => matches!(part, Part::StreamEnd),
+        Message::Stop => matches!(part, Part::Stop),
     }
 }
 

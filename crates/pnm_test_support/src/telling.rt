@@ -1,8 +1,9 @@
 //! How an answer is told: a word for each message, with a blank before it.
 
 use super::digest::Crc32;
-use pnm_image::{Head, Message, Samples};
+use pnm_image::{Head, Message, SampleSlice, Samples};
 use std::alloc::AllocError;
+use std::fmt;
 
 /// A row of more samples is told by their number and their CRC-32.
 const MOST_SAMPLES: usize = 64;
@@ -35,14 +36,19 @@ pub fn tell_head(told: &mut String, head: &Head) -> Result<(), AllocError> {
 /// Adds bytes as they are written: a backslash, a line feed, and what isn't printed, with escapes.
 fn tell_bytes(told: &mut String, bytes: &[u8]) -> Result<(), AllocError> {
     for byte in bytes {
-        match *byte {
-            b'\\' => told.push_str("\\\\")?,
-            b' '..=b'~' => told.push(char::from(*byte))?,
-            b'\n' => told.push_str("\\n")?,
-            _ => write!(told, "\\x{byte:02x}")?,
-        }
+        tell_byte(told, *byte)?;
     }
     Ok(())
+}
+
+/// Adds a byte as it is written.
+fn tell_byte(told: &mut String, byte: u8) -> Result<(), AllocError> {
+    match byte {
+        b'\\' => told.push_str("\\\\"),
+        b' '..=b'~' => told.push(char::from(byte)),
+        b'\n' => told.push_str("\\n"),
+        _ => write!(told, "\\x{byte:02x}"),
+    }
 }
 
 /// A text of more bytes is told by their number and their CRC-32.
@@ -87,6 +93,23 @@ fn tell_long_row(told: &mut String, row: &Samples) -> Result<(), AllocError> {
     }
     let (count, number) = (row.len(), crc.number());
     write!(told, " [{count} samples {number:08x}]")
+}
+
+/// Adds each of these as it is printed.
+pub fn tell_all<T: fmt::Display>(told: &mut String, all: &[T]) -> Result<(), AllocError> {
+    for one in all {
+        write!(told, " {one}")?;
+    }
+    Ok(())
+}
+
+/// How the samples of a row are held.
+pub fn width_of(row: &Samples) -> &'static str {
+    match row.as_slice() {
+        SampleSlice::Bits(_) => " bits",
+        SampleSlice::Bytes(_) => " bytes",
+        SampleSlice::Words(_) => " words",
+    }
 }
 
 /// Adds a number and answers, unless they are those before.

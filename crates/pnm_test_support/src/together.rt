@@ -1,13 +1,13 @@
 //! Rows that are handed over together. They are written, and told, one after another between braces.
 
-use super::messages::{Unmade, held, messages_of, narrowest};
+use super::messages::{Unmade, held_by, messages_of};
 use super::telling::tell_row;
 use super::writing::cut_at;
-use pnm_image::{Message, Rows, SampleWidth, Samples};
+use pnm_image::{Message, Rows, Samples};
 use std::alloc::{AllocError, Global};
 
 /// What is handed over at once.
-#[derive(Debug, Drop)]
+#[derive(Drop)]
 pub enum Handed {
     /// A message.
     Message(Message),
@@ -40,25 +40,20 @@ pub fn handed_of(alloc: Global, text: &[u8], is_narrow: bool) -> Result<Vec<Hand
 /// The rows that are written one after another, to be handed over together: at least one, each as long as the others.
 pub fn rows_of(alloc: Global, text: &[u8], is_narrow: bool) -> Result<Rows, Unmade> {
     let messages = messages_of(alloc, text, is_narrow)?;
-    let row_length = length_of(messages.first())?;
+    let row_length = length_of(messages.first());
     let mut samples = Vec::new(alloc);
     for message in messages.iter() {
         add_samples(message, row_length, &mut samples)?;
     }
-    let sample_width = if is_narrow {
-        narrowest(samples.as_slice())
-    } else {
-        SampleWidth::Words
-    };
-    let samples = held(alloc, samples.as_slice(), sample_width)?;
+    let samples = held_by(alloc, samples.as_slice(), is_narrow)?;
     cut_into(samples, messages.len(), row_length)
 }
 
-/// How long a row is.
-fn length_of(message: Option<&Message>) -> Result<usize, Unmade> {
+/// How long a row is, 0 for another message.
+fn length_of(message: Option<&Message>) -> usize {
     match message {
-        Some(Message::Row(row)) => Ok(row.len()),
-        _ => Err(Unmade),
+        Some(Message::Row(row)) => row.len(),
+        _ => 0,
     }
 }
 

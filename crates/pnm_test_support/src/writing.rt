@@ -9,10 +9,29 @@ pub fn cut_word(line: &[u8]) -> (&[u8], &[u8]) {
 
 /// What stands before the first such byte, and what follows it.
 pub fn cut_at(line: &[u8], mark: u8) -> (&[u8], &[u8]) {
-    match line.iter().position(|byte| *byte == mark) {
-        Some(at) if at < line.len() => (&line[..at], &line[at + 1..]),
-        _ => (line, &[]),
+    for at in 0..line.len() {
+        if line[at] == mark {
+            return (&line[..at], &line[at + 1..]);
+        }
     }
+    (line, &[])
+}
+
+/// What a word stands for in a table.
+pub fn named<T: Copy>(words: &[(&[u8], T)], word: &[u8]) -> Option<T> {
+    for (name, meant) in words {
+        if *name == word {
+            return Some(*meant);
+        }
+    }
+    None
+}
+
+/// Two numbers that a line begins with, and what follows them.
+pub fn cut_pair(line: &[u8]) -> (usize, usize, &[u8]) {
+    let (first, rest) = cut_number(line);
+    let (second, rest) = cut_number(rest);
+    (first, second, rest)
 }
 
 /// The number that a line begins with, and what follows the byte after its digits.
@@ -62,18 +81,22 @@ fn add_byte<'a>(text: &mut Vec<u8>, written: &'a [u8]) -> Result<&'a [u8], Alloc
 fn add_repeated<'a>(text: &mut Vec<u8>, written: &'a [u8]) -> Result<&'a [u8], AllocError> {
     let (count, rest) = cut_number(written);
     let (part, after) = cut_at(rest, b')');
-    let mut bytes = Vec::new(*text.allocator());
-    let mut left = part;
-    for _ in 0..part.len() {
-        if left.is_empty() {
-            break;
-        }
-        left = add_byte(&mut bytes, left)?;
-    }
     for _ in 0..count {
-        text.extend_from_slice(bytes.as_slice())?;
+        add_bytes(text, part)?;
     }
     Ok(after)
+}
+
+/// Adds the bytes of a written text without numbers.
+fn add_bytes(text: &mut Vec<u8>, written: &[u8]) -> Result<(), AllocError> {
+    let mut rest = written;
+    for _ in 0..written.len() {
+        if rest.is_empty() {
+            break;
+        }
+        rest = add_byte(text, rest)?;
+    }
+    Ok(())
 }
 
 /// The byte that a written text begins with, 0 where it is empty, and what follows it.
@@ -155,8 +178,7 @@ fn add_numbers<'a>(text: &mut Vec<u8>, written: &'a [u8]) -> Result<&'a [u8], Al
 fn add_number(text: &mut Vec<u8>, number: usize, bytes: usize) -> Result<(), AllocError> {
     match bytes {
         0 => {
-            let alloc = *text.allocator();
-            let decimal = format!(in alloc; "{number} ")?;
+            let decimal = format!(in *text.allocator(); "{number} ")?;
             text.extend_from_slice(decimal.as_str().as_bytes())
         }
         1 => Ok(text.push((number % 256) as u8)?),
