@@ -55,7 +55,7 @@ mod read;
 mod samples;
 mod write;
 
-use pnm_test_support::{Teller, Unmade, tell_lines};
+use pnm_test_support::{Teller, Unmade, named, tell_all, tell_lines};
 use std::alloc::Global;
 
 fn main(rt: HostRuntime) -> Result<(), Unmade> {
@@ -80,13 +80,13 @@ impl Teller for Formats {
         text: &[u8],
         told: &mut String,
     ) -> Result<(), Unmade> {
-        if let Some(how) = samples::how_of(word) {
+        if let Some(how) = named(samples::WORDS, word) {
             return samples::tell(alloc, how, text, told);
         }
-        if let Some(how) = read::how_of(word) {
+        if let Some(how) = named(read::WORDS, word) {
             return Ok(read::tell(alloc, how, text, &mut self.images, told)?);
         }
-        match write::how_of(word) {
+        match named(write::WORDS, word) {
             Some(how) => write::tell(alloc, how, text, told),
             None => tell_names(word, text, told),
         }
@@ -99,7 +99,7 @@ fn tell_names(word: &[u8], text: &[u8], told: &mut String) -> Result<(), Unmade>
         return Err(Unmade);
     }
     if text == b"input".as_slice() {
-        return Ok(read::tell_names(told)?);
+        return Ok(tell_all(told, read::FAULTS)?);
     }
-    Ok(write::tell_names(told)?)
+    Ok(tell_all(told, write::FAULTS)?)
 }

@@ -4,8 +4,10 @@ mod bounds;
 mod made;
 mod pixels;
 mod rows;
+mod sweeps;
 
-use pnm_test_support::Unmade;
+use pnm_image::SampleWidth;
+use pnm_test_support::{Unmade, cut_word};
 use std::alloc::Global;
 
 /// What a line is about.
@@ -28,7 +30,8 @@ pub enum How {
     Parts,
 }
 
-const WORDS: &[(&[u8], How)] = &[
+/// What each word is about.
+pub const WORDS: &[(&[u8], How)] = &[
     (b"bits", How::Bits),
     (b"new", How::New),
     (b"invert", How::Invert),
@@ -46,29 +49,20 @@ const WORDS: &[(&[u8], How)] = &[
     (b"parts", How::Parts),
 ];
 
-/// What this word is about, where it is rows.
-pub fn how_of(word: &[u8]) -> Option<How> {
-    let (_, how) = WORDS.iter().find(|(name, _)| *name == word)?;
-    Some(*how)
-}
-
 /// Adds what comes of a case.
 pub fn tell(alloc: Global, how: How, text: &[u8], told: &mut String) -> Result<(), Unmade> {
     match how {
         How::Bits => pixels::tell_bits_of(alloc, text, told),
-        How::New => pixels::tell_new(alloc, text, told),
-        How::Invert => pixels::tell_inverted(alloc, text, told),
-        How::Reverse => pixels::tell_reversed(alloc, text, told),
-        How::Take => pixels::tell_taken(alloc, text, told),
-        How::Append => pixels::tell_appended(alloc, text, told),
-        How::Repeat => pixels::tell_repeated(alloc, text, told),
-        How::Columns => pixels::tell_columns(alloc, text, told),
-        How::Words => bounds::tell_words(alloc, text, told),
-        How::Bytes => bounds::tell_bytes(alloc, text, told),
+        How::Words => bounds::tell_samples(alloc, text, SampleWidth::Words, told),
+        How::Bytes => bounds::tell_samples(alloc, text, SampleWidth::Bytes, told),
         How::Pixels => bounds::tell_pixels(alloc, text, told),
         How::Bound => bounds::tell_bound(alloc, text, told),
         How::Left => bounds::tell_left(text, told),
-        How::Samples => rows::tell_samples(alloc, text, told),
-        How::Parts => rows::tell_parts(alloc, text, told),
+        How::Columns | How::Samples => {
+            let (kind, ranges) = cut_word(text);
+            sweeps::tell_sweep(alloc, how, kind, ranges, told)
+        }
+        How::Parts => sweeps::tell_sweep(alloc, how, text, rows::PARTS, told),
+        _ => sweeps::tell_sweep(alloc, how, b"", text, told),
     }
 }

@@ -3,9 +3,10 @@
 mod made;
 mod sinks;
 
+use pnm_image::Kind;
 use pnm_test_support::Unmade;
 use pnm_write::{Form, SinkFault};
-use std::alloc::{AllocError, Global};
+use std::alloc::Global;
 
 /// What a line is about.
 #[derive(Clone, Copy)]
@@ -17,7 +18,8 @@ pub enum How {
     Bitmaps,
 }
 
-const WORDS: &[(&[u8], How)] = &[
+/// What each word is about.
+pub const WORDS: &[(&[u8], How)] = &[
     (b"raw", How::Raw),
     (b"plain", How::Plain),
     (b"sips", How::Sips),
@@ -25,19 +27,14 @@ const WORDS: &[(&[u8], How)] = &[
     (b"bitmaps", How::Bitmaps),
 ];
 
-const FAULTS: &[SinkFault] = &[
+/// All faults.
+pub const FAULTS: &[SinkFault] = &[
     SinkFault::WriteFailed,
     SinkFault::OutOfOrder,
     SinkFault::Broken,
     SinkFault::SecondPlain,
     SinkFault::PlainPam,
 ];
-
-/// What this word is about, where it is a sink.
-pub fn how_of(word: &[u8]) -> Option<How> {
-    let (_, how) = WORDS.iter().find(|(name, _)| *name == word)?;
-    Some(*how)
-}
 
 /// Adds what comes of a case.
 pub fn tell(alloc: Global, how: How, text: &[u8], told: &mut String) -> Result<(), Unmade> {
@@ -46,7 +43,7 @@ pub fn tell(alloc: Global, how: How, text: &[u8], told: &mut String) -> Result<(
         How::Plain => sinks::tell_written(alloc, Form::Plain, text, told),
         How::Sips => sinks::tell_sips(alloc, text, told),
         How::Numbers => made::tell_numbers(alloc, text, told),
-        How::Bitmaps => made::tell_bitmaps(alloc, text, told),
+        How::Bitmaps => made::tell_sweep(alloc, Kind::Bit, text, told),
     }
 }
 
@@ -57,12 +54,4 @@ fn form_of(word: &[u8]) -> Form {
     } else {
         Form::Raw
     }
-}
-
-/// Adds all faults as they are printed.
-pub fn tell_names(told: &mut String) -> Result<(), AllocError> {
-    for fault in FAULTS {
-        write!(told, " {fault}")?;
-    }
-    Ok(())
 }

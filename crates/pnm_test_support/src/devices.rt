@@ -177,38 +177,3 @@ impl<R: Read + Drop> Read for Recorded<R> {
         given
     }
 }
-
-/// A reader that keeps whether it was read after a read that gave no byte.
-#[derive(Drop)]
-pub struct ReadOut<R> {
-    reader: R,
-    has_ended: bool,
-    is_read_on: bool,
-}
-
-impl<R: Read + Drop> ReadOut<R> {
-    /// Not read yet.
-    pub fn new(reader: R) -> ReadOut<R> {
-        ReadOut {
-            reader,
-            has_ended: false,
-            is_read_on: false,
-        }
-    }
-
-    /// Whether a read followed one that gave no byte.
-    pub fn is_read_on(&self) -> bool {
-        self.is_read_on
-    }
-}
-
-impl<R: Read + Drop> Read for ReadOut<R> {
-    fn read(&mut self, buffer: &mut [u8]) -> io::Result<usize> {
-        self.is_read_on = self.is_read_on || self.has_ended;
-        let given = self.reader.read(buffer);
-        if let Ok(0) = &given {
-            self.has_ended = true;
-        }
-        given
-    }
-}

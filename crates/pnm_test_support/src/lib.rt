@@ -13,7 +13,7 @@ mod together;
 mod writing;
 
 pub use cases::{Teller, tell_lines};
-pub use devices::{Drips, FailsOnce, NeverFlushes, ReadOut, Recorded, Sips};
+pub use devices::{Drips, FailsOnce, NeverFlushes, Recorded, Sips};
 pub use messages::{
     Unmade, cut_head, cut_messages, head_of, held, messages_of, number_of, samples_of,
 };

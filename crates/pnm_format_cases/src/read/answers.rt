@@ -1,20 +1,13 @@
 //! What a source answers to a text, and to each prefix of it.
 
-use pnm_image::{BytesIn, Device, Message, SampleSlice};
+use super::reads::{Reading, tell_recorded};
+use pnm_image::{BytesIn, Device, Message, Rows};
 use pnm_read::{InputFault, ReadBuffer, Source, SpareRows};
-use pnm_test_support::{Drips, FailsOnce, ReadOut, tell_change, tell_message};
+use pnm_test_support::{Handed, tell_change, tell_message, tell_rows, width_of};
 use std::alloc::{AllocError, Global};
 
 /// More answers than there are to any case.
 const MOST_ANSWERS: usize = 100_000;
-
-/// A source over the reader.
-pub fn source_of<R: BytesIn + Drop>(alloc: Global, reader: R) -> Result<Source<R>, AllocError> {
-    match Source::new(alloc, reader) {
-        Ok(source) => Ok(source),
-        Err(_) => Err(AllocError),
-    }
-}
 
 /// A source over the reader, through a buffer of so many bytes, 4,096 at least; none says that it makes its own.
 pub fn source_by<R: BytesIn + Drop>(
@@ -22,32 +15,33 @@ pub fn source_by<R: BytesIn + Drop>(
     size: Option<usize>,
     reader: R,
 ) -> Result<Source<R>, AllocError> {
-    let Some(size) = size else {
-        return source_of(alloc, reader);
+    let made = match size {
+        None => ReadBuffer::new(alloc),
+        Some(size) => ReadBuffer::with_capacity(alloc, size.max(4096)),
     };
-    match ReadBuffer::with_capacity(alloc, size.max(4096)) {
+    match made {
         Ok(buffer) => Ok(Source::with_buffer(buffer, reader)),
         Err(_) => Err(AllocError),
     }
 }
 
 /// Adds all that a source answers to its end, and whether it doesn't stay there. Each row that was told is a spare one.
+/// The source may be asked for rows together before each message; those that come so stand between braces.
 pub fn tell_answers<R: BytesIn>(
     alloc: Global,
     source: &mut Source<R>,
+    are_joined: bool,
     told: &mut String,
 ) -> Result<(), AllocError> {
     let mut spares = SpareRows::new(alloc)?;
     for _ in 0..MOST_ANSWERS {
-        match source.next(&mut spares) {
-            Ok(Some(Message::StreamEnd)) => {
-                told.push_str(" StreamEnd")?;
-                return tell_stays(source, None, told, &mut spares);
-            }
-            Ok(Some(message)) => {
-                let outcome = tell_message(told, &message);
-                let_go(message, &mut spares);
-                outcome?;
+        match next_of(source, are_joined, &mut spares) {
+            Ok(Some(handed)) => {
+                let is_end = matches!(&handed, Handed::Message(Message::StreamEnd));
+                tell_handed(alloc, handed, told, &mut spares)?;
+                if is_end {
+                    return tell_stays(source, None, told, &mut spares);
+                }
             }
             Ok(None) => return told.push_str(" nothing"),
             Err(fault) => {
@@ -59,15 +53,54 @@ pub fn tell_answers<R: BytesIn>(
     told.push_str(" and more")
 }
 
+/// The next message, or rows that come together, where these are asked for first.
+fn next_of<R: BytesIn>(
+    source: &mut Source<R>,
+    are_joined: bool,
+    spares: &mut SpareRows,
+) -> Result<Option<Handed>, InputFault> {
+    if are_joined {
+        if let Some(rows) = source.next_rows(spares)? {
+            return Ok(Some(Handed::Rows(rows)));
+        }
+    }
+    match source.next(spares)? {
+        Some(message) => Ok(Some(Handed::Message(message))),
+        None => Ok(None),
+    }
+}
+
+/// Adds a message, or rows between braces, and lets them go; a row is then a spare one.
+fn tell_handed(
+    alloc: Global,
+    handed: Handed,
+    told: &mut String,
+    spares: &mut SpareRows,
+) -> Result<(), AllocError> {
+    match handed {
+        Handed::Rows(rows) => {
+            let outcome = tell_rows(alloc, told, &rows);
+            let (samples, _, _) = rows.into_parts();
+            spares.keep(samples);
+            outcome
+        }
+        Handed::Message(message) => {
+            let outcome = tell_message(told, &message);
+            let_go(message, spares);
+            outcome
+        }
+    }
+}
+
 /// Lets the message go; a row is then a spare one.
-pub fn let_go(message: Message, spares: &mut SpareRows) {
+fn let_go(message: Message, spares: &mut SpareRows) {
     match message {
         Message::Row(row) => spares.keep(row),
         other => drop(other),
     }
 }
 
-/// Adds a word where the source answers anything but this fault, or nothing where there is none.
+/// Adds a word where the source answers anything but this fault, or nothing where there is none; and where rows come.
 fn tell_stays<R: BytesIn>(
     source: &mut Source<R>,
     fault: Option<InputFault>,
@@ -75,31 +108,49 @@ fn tell_stays<R: BytesIn>(
     spares: &mut SpareRows,
 ) -> Result<(), AllocError> {
     for _ in 0..3 {
-        let is_same = match source.next(spares) {
-            Ok(answer) => answer.is_none() && fault.is_none(),
-            Err(other) => fault == Some(other),
-        };
-        if !is_same {
+        if have_come(source.next_rows(spares)) || !is_same(source.next(spares), fault) {
             told.push_str(" and another answer")?;
         }
     }
     Ok(())
 }
 
+/// Whether the answer is rows, or a fault.
+fn have_come(answer: Result<Option<Rows>, InputFault>) -> bool {
+    !matches!(answer, Ok(None))
+}
+
+/// Whether the answer is this fault, or nothing where there is none.
+fn is_same(answer: Result<Option<Message>, InputFault>, fault: Option<InputFault>) -> bool {
+    match answer {
+        Ok(message) => message.is_none() && fault.is_none(),
+        Err(other) => fault == Some(other),
+    }
+}
+
 /// Adds the answers to a text that comes at once.
 pub fn tell_whole(alloc: Global, text: &[u8], told: &mut String) -> Result<(), AllocError> {
-    let mut source = source_of(alloc, Device::new(text))?;
-    tell_answers(alloc, &mut source, told)
+    let mut source = source_by(alloc, None, Device::new(text))?;
+    tell_answers(alloc, &mut source, false, told)
 }
 
 /// Whether the answers are these where a read gives up to so many bytes, and no read follows one that gave none.
 fn are_told_by(alloc: Global, text: &[u8], most: usize, whole: &str) -> Result<bool, AllocError> {
-    let mut reader = ReadOut::new(Drips::new(text, most, FailsOnce::never()));
-    let mut source = source_of(alloc, Device::new(&mut reader))?;
     let mut told = String::new(alloc);
-    tell_answers(alloc, &mut source, &mut told)?;
-    let _ = source.into_reader();
-    Ok(told.as_str() == whole && !reader.is_read_on())
+    let calls = tell_recorded(alloc, Reading::of(text, most), &mut told)?;
+    Ok(told.as_str() == whole && !is_read_on(calls.as_slice()))
+}
+
+/// Whether a read follows one that got no byte.
+fn is_read_on(calls: &[(usize, usize)]) -> bool {
+    let mut has_ended = false;
+    for (_, got) in calls {
+        if has_ended {
+            return true;
+        }
+        has_ended = *got == 0;
+    }
+    false
 }
 
 /// Adds the answers to a text, and of these numbers of bytes a read those by which they are others, or by which it is
@@ -124,10 +175,7 @@ pub fn tell_cuts(alloc: Global, text: &[u8], told: &mut String) -> Result<(), Al
     let mut before = String::new(alloc);
     for length in 0..=text.len() {
         let mut answers = String::new(alloc);
-        tell_whole(alloc, &text[..length], &mut answers)?;
-        if !are_told_by(alloc, &text[..length], 1, answers.as_str())? {
-            write!(told, " but {length}")?;
-        }
+        tell_text(alloc, &text[..length], &[1], &mut answers)?;
         tell_change(told, length, &mut before, answers)?;
     }
     Ok(())
@@ -135,20 +183,21 @@ pub fn tell_cuts(alloc: Global, text: &[u8], told: &mut String) -> Result<(), Al
 
 /// Adds how the samples of a text's first row are held.
 pub fn tell_width(alloc: Global, text: &[u8], told: &mut String) -> Result<(), AllocError> {
-    let mut source = source_of(alloc, Device::new(text))?;
+    let mut source = source_by(alloc, None, Device::new(text))?;
+    told.push_str(first_width(alloc, &mut source))
+}
+
+/// How the samples of the first row are held.
+fn first_width<R: BytesIn>(alloc: Global, source: &mut Source<R>) -> &'static str {
     let mut spares = SpareRows::none(alloc);
     let _head = source.next(&mut spares);
-    told.push_str(width_of(source.next(&mut spares)))
+    held_width(source.next(&mut spares))
 }
 
 /// How the samples of a row are held, where the answer is one.
-fn width_of(answer: Result<Option<Message>, InputFault>) -> &'static str {
+fn held_width(answer: Result<Option<Message>, InputFault>) -> &'static str {
     match answer {
-        Ok(Some(Message::Row(row))) => match row.as_slice() {
-            SampleSlice::Bits(_) => " bits",
-            SampleSlice::Bytes(_) => " bytes",
-            SampleSlice::Words(_) => " words",
-        },
+        Ok(Some(Message::Row(row))) => width_of(&row),
         _ => " no row",
     }
 }

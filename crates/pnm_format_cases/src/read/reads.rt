@@ -1,50 +1,100 @@
 //! When a source reads, how much it asks for, and what it answers where a read fails.
 
-use super::answers::{source_by, source_of, tell_answers};
+use super::How;
+use super::answers::{source_by, tell_answers};
 use pnm_image::Device;
 use pnm_read::SpareRows;
-use pnm_test_support::{Drips, FailsOnce, Recorded, cut_number, tell_change};
+use pnm_test_support::{Drips, FailsOnce, Recorded, cut_number, cut_pair, tell_change};
 use std::alloc::{AllocError, Global};
 
 /// The bytes that a read may give where the source tells what it holds.
 const FEW: [usize; 9] = [1, 2, 3, 5, 13, 64, 1000, 4096, 65_536];
 
+/// A text, and how it is read.
+#[derive(Clone, Copy)]
+pub struct Reading<'a> {
+    text: &'a [u8],
+    /// A read gives up to so many bytes.
+    most: usize,
+    /// The number of the read that fails, from 1 on; 0 for none.
+    failing: usize,
+    /// How many bytes the buffer has; none says that the source makes its own.
+    size: Option<usize>,
+    /// Whether the source is asked for rows together.
+    are_joined: bool,
+}
+
+impl<'a> Reading<'a> {
+    /// By so many bytes a read, of which none fails.
+    pub fn of(text: &'a [u8], most: usize) -> Reading<'a> {
+        Reading {
+            text,
+            most,
+            failing: 0,
+            size: None,
+            are_joined: false,
+        }
+    }
+}
+
 /// Says that the call with this number fails, from 1 on; none for 0.
-pub fn failing_at(number: usize) -> FailsOnce {
+fn failing_at(number: usize) -> FailsOnce {
     match number {
         0 => FailsOnce::never(),
         _ => FailsOnce::after(number - 1),
     }
 }
 
-/// Adds the answers to a text of which a read gives up to so many bytes, and fails where it has this number, from 1 on.
-/// Gives what each read asked for and got, through a buffer of so many bytes, if it is told.
-fn tell_recorded(
+/// Adds the answers to a text. Gives what each read asked for and got.
+pub fn tell_recorded(
     alloc: Global,
-    size: Option<usize>,
-    text: &[u8],
-    (most, failing): (usize, usize),
+    reading: Reading<'_>,
     told: &mut String,
 ) -> Result<Vec<(usize, usize)>, AllocError> {
-    let mut reader = Recorded::new(alloc, Drips::new(text, most, failing_at(failing)));
-    let mut source = source_by(alloc, size, Device::new(&mut reader))?;
-    tell_answers(alloc, &mut source, told)?;
+    let drips = Drips::new(reading.text, reading.most, failing_at(reading.failing));
+    let mut reader = Recorded::new(alloc, drips);
+    let mut source = source_by(alloc, reading.size, Device::new(&mut reader))?;
+    tell_answers(alloc, &mut source, reading.are_joined, told)?;
     let _ = source.into_reader();
-    Ok(Vec::from_slice(alloc, reader.calls())?)
+    Vec::from_slice(alloc, reader.calls())
 }
 
-/// Adds the answers, and what each read asked for and got, through a buffer of so many bytes, if it is told.
+/// Adds the answers to a text of which a read gives up to so many bytes, and fails where it has this number, from 1 on;
+/// and what each read asked for and got, unless rows are asked for together. It reads through a buffer of so many
+/// bytes, if that is told.
 pub fn tell_reads(
     alloc: Global,
-    size: Option<usize>,
+    how: How,
     line: &[u8],
     told: &mut String,
 ) -> Result<(), AllocError> {
-    let (most, rest) = cut_number(line);
-    let (failing, text) = cut_number(rest);
-    let calls = tell_recorded(alloc, size, text, (most, failing), told)?;
+    let (size, rest) = match how {
+        How::ReadsBy | How::JoinsBy => {
+            let (size, rest) = cut_number(line);
+            (Some(size), rest)
+        }
+        _ => (None, line),
+    };
+    let (most, failing, text) = cut_pair(rest);
+    let are_joined = matches!(how, How::Joins | How::JoinsBy);
+    let reading = Reading {
+        text,
+        most,
+        failing,
+        size,
+        are_joined,
+    };
+    let calls = tell_recorded(alloc, reading, told)?;
+    if are_joined {
+        return Ok(());
+    }
+    tell_calls(calls.as_slice(), told)
+}
+
+/// Adds what each read asked for and got.
+fn tell_calls(calls: &[(usize, usize)], told: &mut String) -> Result<(), AllocError> {
     told.push_str(" by")?;
-    for (asked, got) in calls.as_slice() {
+    for (asked, got) in calls {
         write!(told, " {asked}:{got}")?;
     }
     Ok(())
@@ -56,13 +106,28 @@ pub fn tell_fails(alloc: Global, text: &[u8], told: &mut String) -> Result<(), A
     let mut before = String::new(alloc);
     for read in 0..=text.len() {
         let mut answers = String::new(alloc);
-        let calls = tell_recorded(alloc, None, text, (1, read + 1), &mut answers)?;
-        if calls.len() != read + 1 {
+        let calls = tell_failing(alloc, text, read, &mut answers)?;
+        if calls != read + 1 {
             write!(told, " but {read}")?;
         }
         tell_change(told, read, &mut before, answers)?;
     }
     Ok(())
+}
+
+/// Adds the answers where a read of a byte fails after so many. Gives how many there were.
+fn tell_failing(
+    alloc: Global,
+    text: &[u8],
+    before: usize,
+    told: &mut String,
+) -> Result<usize, AllocError> {
+    let reading = Reading {
+        failing: before.saturating_add(1),
+        ..Reading::of(text, 1)
+    };
+    let calls = tell_recorded(alloc, reading, told)?;
+    Ok(calls.len())
 }
 
 /// How many reads of up to so many bytes a source has made once it was asked so often, and whether it holds what comes
@@ -74,7 +139,7 @@ fn reads_of(
     count: usize,
 ) -> Result<(usize, bool), AllocError> {
     let mut reader = Recorded::new(alloc, Drips::new(text, most, FailsOnce::never()));
-    let mut source = source_of(alloc, Device::new(&mut reader))?;
+    let mut source = source_by(alloc, None, Device::new(&mut reader))?;
     let mut spares = SpareRows::none(alloc);
     for _ in 0..count {
         let _ = source.next(&mut spares);

@@ -1,16 +1,27 @@
 //! What a source answers to raw images one after another.
 
-use super::sweeps::{add_each, add_text};
+use super::sweeps::{add_each, add_text, set_of};
 use pnm_test_support::Sweep;
 use std::alloc::{AllocError, Global};
 
-/// The texts one after another.
-fn joined(alloc: Global, texts: &[&[u8]]) -> Result<Vec<u8>, AllocError> {
+/// What is read of images one after another.
+#[derive(Clone, Copy)]
+enum Pairs {
+    /// Two of them, the second one whole or cut.
+    Cut,
+    /// Two with a byte between them.
+    Parted,
+    /// Three.
+    Followed,
+}
+
+/// Adds the texts one after another.
+fn add_joined(alloc: Global, sweep: &mut Sweep, texts: &[&[u8]]) -> Result<(), AllocError> {
     let mut whole = Vec::new(alloc);
     for text in texts {
         whole.extend_from_slice(text)?;
     }
-    Ok(whole)
+    add_text(alloc, sweep, whole.as_slice())
 }
 
 /// Adds what is answered to two of the images, the second one whole or cut, to two with a byte between them, and to
@@ -20,22 +31,31 @@ pub fn tell_streams(
     images: &[Vec<u8>],
     told: &mut String,
 ) -> Result<(), AllocError> {
-    let every: Vec<u8> = (0..=u8::MAX).collect(alloc)?;
-    let (mut cut, mut parted, mut three) = (Sweep::new(), Sweep::new(), Sweep::new());
+    for pairs in [Pairs::Cut, Pairs::Parted, Pairs::Followed] {
+        tell_pairs(alloc, pairs, images, told)?;
+    }
+    Ok(())
+}
+
+/// Adds what is answered to each two of the images.
+fn tell_pairs(
+    alloc: Global,
+    pairs: Pairs,
+    images: &[Vec<u8>],
+    told: &mut String,
+) -> Result<(), AllocError> {
+    let mut sweep = Sweep::new();
     for first in images {
         for second in images {
-            add_cuts(alloc, &mut cut, first.as_slice(), second.as_slice())?;
-            let (prefix, suffix) = (first.as_slice(), second.as_slice());
-            add_each(alloc, &mut parted, every.as_slice(), prefix, suffix)?;
-            for third in images {
-                let texts = [first.as_slice(), second.as_slice(), third.as_slice()];
-                add_text(alloc, &mut three, joined(alloc, &texts)?.as_slice())?;
+            let (first, second) = (first.as_slice(), second.as_slice());
+            match pairs {
+                Pairs::Cut => add_cuts(alloc, &mut sweep, first, second)?,
+                Pairs::Parted => add_parted(alloc, &mut sweep, first, second)?,
+                Pairs::Followed => add_followed(alloc, &mut sweep, &[first, second], images)?,
             }
         }
     }
-    cut.tell(told)?;
-    parted.tell(told)?;
-    three.tell(told)
+    sweep.tell(told)
 }
 
 /// Adds an image with each prefix of another after it.
@@ -46,8 +66,31 @@ fn add_cuts(
     second: &[u8],
 ) -> Result<(), AllocError> {
     for length in 0..=second.len() {
-        let text = joined(alloc, &[first, &second[..length]])?;
-        add_text(alloc, sweep, text.as_slice())?;
+        add_joined(alloc, sweep, &[first, &second[..length]])?;
+    }
+    Ok(())
+}
+
+/// Adds two images with each byte between them.
+fn add_parted(
+    alloc: Global,
+    sweep: &mut Sweep,
+    first: &[u8],
+    second: &[u8],
+) -> Result<(), AllocError> {
+    let every = set_of(alloc, b"all")?;
+    add_each(alloc, sweep, every.as_slice(), first, second)
+}
+
+/// Adds two images and each of these after them.
+fn add_followed(
+    alloc: Global,
+    sweep: &mut Sweep,
+    pair: &[&[u8]; 2],
+    images: &[Vec<u8>],
+) -> Result<(), AllocError> {
+    for third in images {
+        add_joined(alloc, sweep, &[pair[0], pair[1], third.as_slice()])?;
     }
     Ok(())
 }
@@ -62,12 +105,8 @@ pub fn tell_after(
     let mut sweep = Sweep::new();
     for image in images {
         let image = image.as_slice();
-        add_text(alloc, &mut sweep, joined(alloc, &[image, text])?.as_slice())?;
-        add_text(
-            alloc,
-            &mut sweep,
-            joined(alloc, &[image, image, text])?.as_slice(),
-        )?;
+        add_joined(alloc, &mut sweep, &[image, text])?;
+        add_joined(alloc, &mut sweep, &[image, image, text])?;
     }
     sweep.tell(told)
 }

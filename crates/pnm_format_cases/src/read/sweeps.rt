@@ -1,7 +1,7 @@
 //! What a source answers to many texts that differ a little: how many they are, and the CRC-32 of the answers.
 
 use super::answers::tell_whole;
-use pnm_test_support::{Sweep, cut_word};
+use pnm_test_support::{Sweep, cut_word, named};
 use std::alloc::{AllocError, Global};
 
 /// Bytes that mean something, and bytes beside them.
@@ -11,6 +11,8 @@ const TELLING: &[u8] =
 /// Bytes that mean something in a plain raster.
 const PLAIN: &[u8] = b" \n#0159:/x";
 
+const SETS: &[(&[u8], &[u8])] = &[(b"telling", TELLING), (b"plain", PLAIN)];
+
 /// Adds the answers to a text.
 pub fn add_text(alloc: Global, sweep: &mut Sweep, text: &[u8]) -> Result<(), AllocError> {
     let mut answers = String::new(alloc);
@@ -19,28 +21,17 @@ pub fn add_text(alloc: Global, sweep: &mut Sweep, text: &[u8]) -> Result<(), All
     Ok(())
 }
 
-/// The bytes of a set.
-fn set_of(alloc: Global, word: &[u8]) -> Result<Vec<u8>, AllocError> {
-    match word {
-        b"telling" => Vec::from_slice(alloc, TELLING),
-        b"plain" => Vec::from_slice(alloc, PLAIN),
-        b"all" => (0..=u8::MAX).collect(alloc),
-        _ => Err(AllocError),
+/// The bytes of a set: all unless it is named otherwise.
+pub fn set_of(alloc: Global, word: &[u8]) -> Result<Vec<u8>, AllocError> {
+    match named(SETS, word) {
+        Some(set) => Vec::from_slice(alloc, set),
+        None => (0..=u8::MAX).collect(alloc),
     }
 }
 
-/// Adds what is answered where each byte of a set stands in the place of each byte of a text.
-pub fn tell_changes(alloc: Global, line: &[u8], told: &mut String) -> Result<(), AllocError> {
-    tell_sweep(alloc, line, 1, told)
-}
-
-/// Adds what is answered where each byte of a set stands before each byte of a text, and after them.
-pub fn tell_inserts(alloc: Global, line: &[u8], told: &mut String) -> Result<(), AllocError> {
-    tell_sweep(alloc, line, 0, told)
-}
-
-/// Adds what is answered where each byte of a set stands in the place of so many bytes, wherever there are as many.
-fn tell_sweep(
+/// Adds what is answered where each byte of a set stands in the place of so many bytes, wherever there are as many: of
+/// each one byte of a text, or of none before each byte and after them.
+pub fn tell_sweep(
     alloc: Global,
     line: &[u8],
     replaced: usize,

@@ -1,7 +1,8 @@
 //! The greatest sample, and whether rows are within a number.
 
-use pnm_samples::{Bits, Sample, SampleVec, Samples, greatest, greatest_byte};
-use pnm_test_support::{Unmade, cut_number, number_of};
+use pnm_image::SampleWidth;
+use pnm_samples::{Bits, Sample, SampleSlice, SampleVec, Samples, greatest, greatest_byte};
+use pnm_test_support::{Unmade, cut_number, held, number_of, samples_of};
 use std::alloc::{AllocError, Global};
 
 /// Numbers at the ends of bits, bytes and words, and beside them.
@@ -32,45 +33,33 @@ fn tell_within(row: &Samples, most: u32, told: &mut String) -> Result<(), AllocE
     Ok(())
 }
 
-/// Adds it of a row and of its copy.
-fn tell_both(alloc: Global, row: &Samples, most: u32, told: &mut String) -> Result<(), AllocError> {
+/// Adds the greatest sample of a row, and whether the row and its copy are within numbers.
+fn tell_both(alloc: Global, row: &Samples, told: &mut String) -> Result<(), AllocError> {
+    let most = greatest_of(row);
     write!(told, " {most}")?;
     tell_within(row, most, told)?;
     tell_within(&row.copy(alloc)?, most, told)
 }
 
-/// The samples that are written.
-fn samples_of(alloc: Global, text: &[u8]) -> Result<Vec<u16>, AllocError> {
-    let mut samples = Vec::new(alloc);
-    let mut rest = text;
-    for _ in 0..text.len() {
-        if rest.is_empty() {
-            break;
-        }
-        let (sample, after) = cut_number(rest);
-        samples.push((sample % 65_536) as u16)?;
-        rest = after;
+/// The greatest of the bytes or words of a row.
+fn greatest_of(row: &Samples) -> u32 {
+    match row.as_slice() {
+        SampleSlice::Bits(_) => 1,
+        SampleSlice::Bytes(bytes) => u32::from(greatest_byte(bytes)),
+        SampleSlice::Words(words) => u32::from(greatest(words)),
     }
-    Ok(samples)
 }
 
-/// Adds the greatest of these words, and whether the row is within numbers.
-pub fn tell_words(alloc: Global, text: &[u8], told: &mut String) -> Result<(), Unmade> {
+/// Adds the greatest of these samples, held so wide, and whether the row is within numbers.
+pub fn tell_samples(
+    alloc: Global,
+    text: &[u8],
+    sample_width: SampleWidth,
+    told: &mut String,
+) -> Result<(), Unmade> {
     let samples = samples_of(alloc, text)?;
-    let most = u32::from(greatest(samples.as_slice()));
-    let row = Samples::new(samples);
-    Ok(tell_both(alloc, &row, most, told)?)
-}
-
-/// Whether the row of these bytes is within numbers.
-pub fn tell_bytes(alloc: Global, text: &[u8], told: &mut String) -> Result<(), Unmade> {
-    let mut bytes = Vec::new(alloc);
-    for sample in samples_of(alloc, text)? {
-        bytes.push((sample % 256) as u8)?;
-    }
-    let most = u32::from(greatest_byte(bytes.as_slice()));
-    let row = Samples::from_vec(SampleVec::Bytes(bytes));
-    Ok(tell_both(alloc, &row, most, told)?)
+    let row = held(alloc, samples.as_slice(), sample_width)?;
+    Ok(tell_both(alloc, &row, told)?)
 }
 
 /// Whether the row of so many pixels of these bytes is within numbers. Spare bits are no pixels.

@@ -1,7 +1,6 @@
 //! Made-up rows, of which there are several.
 
 use pnm_samples::Bits;
-use pnm_test_support::cut_number;
 use std::alloc::{AllocError, Global};
 
 /// The pixel at a place of a made-up row: 0 is black.
@@ -31,11 +30,4 @@ pub fn packed(alloc: Global, kind: usize, count: usize) -> Result<Vec<u8>, Alloc
 /// So many pixels of a made-up row.
 pub fn bits_of(alloc: Global, kind: usize, count: usize) -> Result<Bits, AllocError> {
     Ok(Bits::new(packed(alloc, kind, count)?, count))
-}
-
-/// Two numbers, and what follows them.
-pub fn cut_pair(text: &[u8]) -> (usize, usize, &[u8]) {
-    let (first, rest) = cut_number(text);
-    let (last, rest) = cut_number(rest);
-    (first, last, rest)
 }

@@ -1,8 +1,9 @@
 //! What rows of bits hold.
 
-use super::made::{bits_of, cut_pair, packed};
+use super::How;
+use super::made::{bits_of, packed};
 use pnm_samples::{Bits, columns};
-use pnm_test_support::{Sweep, Unmade, cut_number, tell_text};
+use pnm_test_support::{Unmade, cut_number, tell_text};
 use std::alloc::{AllocError, Global};
 
 /// Adds how many pixels a row has, each of them, and its bytes; and a word where they are others as they are widened.
@@ -13,24 +14,21 @@ fn tell_row(alloc: Global, bits: &Bits, told: &mut String) -> Result<(), AllocEr
         let pixel = bits.pixel(at);
         write!(told, "{pixel}")?;
     }
-    let widened = bits.to_words(alloc)?;
-    for at in 0..bits.len() {
-        if widened.get(at).copied() != Some(bits.pixel(at)) {
-            told.push_str(" but widened")?;
-        }
-    }
-    if widened.len() != count {
+    if !are_widened(alloc, bits)? {
         told.push_str(" but widened")?;
     }
     tell_text(told, bits.as_bytes())
 }
 
-/// Adds what a row holds to a sweep.
-fn add_row(alloc: Global, sweep: &mut Sweep, bits: &Bits) -> Result<(), AllocError> {
-    let mut told = String::new(alloc);
-    tell_row(alloc, bits, &mut told)?;
-    sweep.add(told.as_str());
-    Ok(())
+/// Whether the pixels are the same as they are widened.
+fn are_widened(alloc: Global, bits: &Bits) -> Result<bool, AllocError> {
+    let widened = bits.to_words(alloc)?;
+    for at in 0..bits.len() {
+        if widened.get(at).copied() != Some(bits.pixel(at)) {
+            return Ok(false);
+        }
+    }
+    Ok(widened.len() == bits.len())
 }
 
 /// Adds what a row of so many pixels holds, and an empty one, made of these bytes.
@@ -41,98 +39,53 @@ pub fn tell_bits_of(alloc: Global, text: &[u8], told: &mut String) -> Result<(),
     Ok(tell_row(alloc, &Bits::empty(alloc), told)?)
 }
 
-/// Adds a sweep over rows and their copies.
-pub fn tell_new(alloc: Global, text: &[u8], told: &mut String) -> Result<(), Unmade> {
-    let (first, last, _) = cut_pair(text);
-    let mut sweep = Sweep::new();
-    for count in first..=last {
-        let bits = bits_of(alloc, count, count)?;
-        add_row(alloc, &mut sweep, &bits)?;
-        add_row(alloc, &mut sweep, &bits.copy(alloc)?)?;
-    }
-    Ok(sweep.tell(told)?)
-}
-
-/// Adds a sweep over rows that are inverted.
-pub fn tell_inverted(alloc: Global, text: &[u8], told: &mut String) -> Result<(), Unmade> {
-    let (first, last, _) = cut_pair(text);
-    let mut sweep = Sweep::new();
-    for count in first..=last {
-        let mut bits = bits_of(alloc, count, count)?;
-        bits.invert();
-        add_row(alloc, &mut sweep, &bits)?;
-    }
-    Ok(sweep.tell(told)?)
-}
-
-/// Adds a sweep over rows that are reversed.
-pub fn tell_reversed(alloc: Global, text: &[u8], told: &mut String) -> Result<(), Unmade> {
-    let (first, last, _) = cut_pair(text);
-    let mut sweep = Sweep::new();
-    for count in first..=last {
-        let mut bits = bits_of(alloc, 2, count)?;
-        bits.reverse();
-        add_row(alloc, &mut sweep, &bits)?;
-    }
-    Ok(sweep.tell(told)?)
-}
-
-/// Adds a sweep over so many pixels of the bytes of 40.
-pub fn tell_taken(alloc: Global, text: &[u8], told: &mut String) -> Result<(), Unmade> {
-    let (first, last, _) = cut_pair(text);
-    let mut sweep = Sweep::new();
-    for count in first..=last {
-        let bits = Bits::new(packed(alloc, 1, 40)?, count);
-        add_row(alloc, &mut sweep, &bits)?;
-    }
-    Ok(sweep.tell(told)?)
-}
-
-/// Adds a sweep over runs of a row of 43 pixels, after so many.
-pub fn tell_appended(alloc: Global, text: &[u8], told: &mut String) -> Result<(), Unmade> {
-    let (first_held, last_held, rest) = cut_pair(text);
-    let (first_start, last_start, rest) = cut_pair(rest);
-    let (first, last, _) = cut_pair(rest);
-    let from = bits_of(alloc, 2, 43)?;
-    let mut sweep = Sweep::new();
-    for held in first_held..=last_held {
-        for start in first_start..=last_start {
-            for count in first..=last {
-                let bits = appended(alloc, held, &from, start, count)?;
-                add_row(alloc, &mut sweep, &bits)?;
-            }
-        }
-    }
-    Ok(sweep.tell(told)?)
-}
-
-/// So many pixels, and a run of others, where there is one.
-fn appended(
+/// Adds what the row holds that is made of these numbers.
+pub fn tell_made(
     alloc: Global,
-    held: usize,
-    from: &Bits,
-    start: usize,
-    count: usize,
+    how: How,
+    numbers: (usize, usize, usize),
+    told: &mut String,
+) -> Result<(), AllocError> {
+    let bits = row_of(alloc, how, numbers)?;
+    tell_row(alloc, &bits, told)
+}
+
+/// The row that is made of these numbers: of so many pixels unless it is said otherwise.
+fn row_of(
+    alloc: Global,
+    how: How,
+    (count, b, c): (usize, usize, usize),
 ) -> Result<Bits, AllocError> {
+    match how {
+        // As many pixels of the bytes of 40.
+        How::Take => Ok(Bits::new(packed(alloc, 1, 40)?, count)),
+        // After them a run of others: from this one on, so many.
+        How::Append => appended(alloc, count, b, c),
+        // Each of them so often.
+        How::Repeat => bits_of(alloc, 2, count)?.repeat(alloc, b),
+        How::Reverse => {
+            let mut bits = bits_of(alloc, 2, count)?;
+            bits.reverse();
+            Ok(bits)
+        }
+        How::Invert => {
+            let mut bits = bits_of(alloc, count, count)?;
+            bits.invert();
+            Ok(bits)
+        }
+        _ if b == 0 => bits_of(alloc, count, count),
+        _ => bits_of(alloc, count, count)?.copy(alloc),
+    }
+}
+
+/// So many pixels, and a run of those of a row of 43, where there is one.
+fn appended(alloc: Global, held: usize, start: usize, count: usize) -> Result<Bits, AllocError> {
+    let from = bits_of(alloc, 2, 43)?;
     let mut bits = bits_of(alloc, 1, held)?;
     if start <= from.len() && count <= from.len() - start {
-        bits.append(from, start, count)?;
+        bits.append(&from, start, count)?;
     }
     Ok(bits)
-}
-
-/// Adds a sweep over rows whose pixels are repeated so often.
-pub fn tell_repeated(alloc: Global, text: &[u8], told: &mut String) -> Result<(), Unmade> {
-    let (first, last, rest) = cut_pair(text);
-    let (least, most, _) = cut_pair(rest);
-    let mut sweep = Sweep::new();
-    for count in first..=last {
-        for times in least..=most {
-            let bits = bits_of(alloc, 2, count)?;
-            add_row(alloc, &mut sweep, &bits.repeat(alloc, times)?)?;
-        }
-    }
-    Ok(sweep.tell(told)?)
 }
 
 /// The rows of a made-up image.
@@ -144,37 +97,38 @@ fn image(alloc: Global, width: usize, height: usize) -> Result<Vec<Bits>, AllocE
     Ok(rows)
 }
 
-/// Adds a sweep over the columns of images from this byte on.
-pub fn tell_columns(alloc: Global, text: &[u8], told: &mut String) -> Result<(), Unmade> {
-    let (byte, rest) = cut_number(text);
-    let (first, last, rest) = cut_pair(rest);
-    let (lowest, highest, _) = cut_pair(rest);
-    let mut sweep = Sweep::new();
-    for height in lowest..=highest {
-        for count in first..=last {
-            let answers = told_columns(alloc, byte, count, height)?;
-            sweep.add(answers.as_str());
-        }
-    }
-    Ok(sweep.tell(told)?)
-}
-
-/// What so many columns of an image of this height hold.
-fn told_columns(alloc: Global, byte: usize, count: usize, height: usize) -> Result<String, Unmade> {
+/// So many columns of an image of this height, from this byte on.
+fn columns_of(
+    alloc: Global,
+    byte: usize,
+    count: usize,
+    height: usize,
+) -> Result<Vec<Bits>, Unmade> {
     if byte >= 100 || count > 256 || height >= 10_000 {
         return Err(Unmade);
     }
     let width = 8 * byte + count;
     let rows = image(alloc, width, height)?;
-    let mut told = String::new(alloc);
     let are_wide = rows.as_slice().iter().all(|row| row.len() >= width);
     if !are_wide || rows.len() >= 10_000 {
         return Err(Unmade);
     }
-    for column in columns(alloc, rows.as_slice(), byte, count)?.as_slice() {
-        tell_column(column, &mut told)?;
+    Ok(columns(alloc, rows.as_slice(), byte, count)?)
+}
+
+/// Adds what so many columns of an image of this height hold, from this byte on.
+pub fn tell_columns(
+    alloc: Global,
+    byte: usize,
+    count: usize,
+    height: usize,
+    told: &mut String,
+) -> Result<(), Unmade> {
+    let columns = columns_of(alloc, byte, count, height)?;
+    for column in columns.as_slice() {
+        tell_column(column, told)?;
     }
-    Ok(told)
+    Ok(())
 }
 
 /// Adds how many pixels a column has, and its bytes.

@@ -1,37 +1,48 @@
 //! Rows of each of the three widths of samples.
 
-use super::made::{bits_of, cut_pair};
+use super::made::bits_of;
+use pnm_image::SampleWidth;
 use pnm_samples::{SampleSlice, SampleVec, Samples};
-use pnm_test_support::{Sweep, Unmade, cut_word};
+use pnm_test_support::{Unmade, held, named, tell_all};
 use std::alloc::{AllocError, Global};
 
 /// How many samples a row has of which parts are copied.
-const WHOLE: usize = 20;
+pub const WHOLE: usize = 20;
+
+/// Where its parts may begin, and how many samples they may have.
+pub const PARTS: &[u8] = b"0-20 0-20";
+
+const WIDTHS: &[(&[u8], SampleWidth)] = &[
+    (b"bits", SampleWidth::Bits),
+    (b"bytes", SampleWidth::Bytes),
+    (b"words", SampleWidth::Words),
+];
 
 /// A made-up row of bits, bytes or words, as a word says.
-fn made(alloc: Global, word: &[u8], count: usize) -> Result<SampleVec, Unmade> {
-    match word {
-        b"bits" => Ok(SampleVec::Bits(bits_of(alloc, 3, count)?)),
-        b"bytes" => Ok(SampleVec::Bytes(bytes_of(alloc, count)?)),
-        b"words" => Ok(SampleVec::Words(words_of(alloc, count)?)),
-        _ => Err(Unmade),
+fn made(alloc: Global, word: &[u8], count: usize) -> Result<Samples, Unmade> {
+    match named(WIDTHS, word) {
+        Some(SampleWidth::Bits) => {
+            let bits = bits_of(alloc, 3, count)?;
+            Ok(Samples::from_vec(SampleVec::Bits(bits)))
+        }
+        Some(SampleWidth::Bytes) => Ok(counted(alloc, count, 37, SampleWidth::Bytes)?),
+        Some(SampleWidth::Words) => Ok(counted(alloc, count, 9_973, SampleWidth::Words)?),
+        None => Err(Unmade),
     }
 }
 
-fn words_of(alloc: Global, count: usize) -> Result<Vec<u16>, AllocError> {
+/// A row of so many samples from 0 on, each so much above the one before, held so wide.
+fn counted(
+    alloc: Global,
+    count: usize,
+    step: usize,
+    sample_width: SampleWidth,
+) -> Result<Samples, AllocError> {
     let mut words = Vec::new(alloc);
     for at in 0..count {
-        words.push((at.wrapping_mul(9_973) % 65_536) as u16)?;
+        words.push((at.wrapping_mul(step) % 65_536) as u16)?;
     }
-    Ok(words)
-}
-
-fn bytes_of(alloc: Global, count: usize) -> Result<Vec<u8>, AllocError> {
-    let mut bytes = Vec::new(alloc);
-    for at in 0..count {
-        bytes.push((at.wrapping_mul(37) % 256) as u8)?;
-    }
-    Ok(bytes)
+    held(alloc, words.as_slice(), sample_width)
 }
 
 /// Adds how a row is held, and how many samples it has.
@@ -44,9 +55,11 @@ fn tell_width(row: &Samples, told: &mut String) -> Result<(), AllocError> {
     write!(told, " {name} {count}")
 }
 
-/// Adds samples.
-fn tell_all(samples: &[u16], told: &mut String) -> Result<(), AllocError> {
-    for sample in samples {
+/// Adds how a row is held, and its samples one by one.
+fn tell_held(row: &Samples, told: &mut String) -> Result<(), AllocError> {
+    tell_width(row, told)?;
+    for at in 0..row.len() {
+        let sample = row.sample(at);
         write!(told, " {sample}")?;
     }
     Ok(())
@@ -54,64 +67,47 @@ fn tell_all(samples: &[u16], told: &mut String) -> Result<(), AllocError> {
 
 /// Adds a row: how it is held, its samples one by one, and all at once; the same of its copy; and of what it is made
 /// of.
-fn tell_row(alloc: Global, row: Samples, told: &mut String) -> Result<(), AllocError> {
-    tell_width(&row, told)?;
-    for at in 0..row.len() {
-        let sample = row.sample(at);
-        write!(told, " {sample}")?;
-    }
-    tell_all(row.to_words(alloc)?.as_slice(), told)?;
-    let copy = row.copy(alloc)?;
-    tell_width(&copy, told)?;
-    tell_all(copy.into_words(alloc)?.as_slice(), told)?;
-    let again = Samples::from_vec(row.into_vec());
-    tell_all(again.into_words(alloc)?.as_slice(), told)
-}
-
-/// Adds a sweep over rows of so many samples.
-pub fn tell_samples(alloc: Global, text: &[u8], told: &mut String) -> Result<(), Unmade> {
-    let (word, rest) = cut_word(text);
-    let (first, last, _) = cut_pair(rest);
-    let mut sweep = Sweep::new();
-    for count in first..=last {
-        let mut row = String::new(alloc);
-        tell_row(
-            alloc,
-            Samples::from_vec(made(alloc, word, count)?),
-            &mut row,
-        )?;
-        sweep.add(row.as_str());
-    }
-    Ok(sweep.tell(told)?)
-}
-
-/// Adds a sweep over the parts of a row of 20 samples.
-pub fn tell_parts(alloc: Global, text: &[u8], told: &mut String) -> Result<(), Unmade> {
-    let (word, _) = cut_word(text);
-    let row = Samples::from_vec(made(alloc, word, WHOLE)?);
-    let mut sweep = Sweep::new();
-    for start in 0..=WHOLE {
-        for count in 0..=WHOLE - start {
-            let mut part = String::new(alloc);
-            tell_part(alloc, &row, start, count, &mut part)?;
-            sweep.add(part.as_str());
-        }
-    }
-    Ok(sweep.tell(told)?)
-}
-
-/// Adds so many samples of a row, from one on.
-fn tell_part(
+pub fn tell_made(
     alloc: Global,
-    row: &Samples,
+    word: &[u8],
+    count: usize,
+    told: &mut String,
+) -> Result<(), Unmade> {
+    let row = made(alloc, word, count)?;
+    tell_held(&row, told)?;
+    tell_words(row.to_words(alloc), told)?;
+    tell_copy(alloc, row.copy(alloc)?, told)?;
+    tell_words(Samples::from_vec(row.into_vec()).into_words(alloc), told)
+}
+
+/// Adds how the copy of a row is held, and all its samples at once.
+fn tell_copy(alloc: Global, copy: Samples, told: &mut String) -> Result<(), Unmade> {
+    tell_width(&copy, told)?;
+    tell_words(copy.into_words(alloc), told)
+}
+
+/// Adds samples.
+fn tell_words(words: Result<Vec<u16>, AllocError>, told: &mut String) -> Result<(), Unmade> {
+    match words {
+        Ok(words) => Ok(tell_all(told, words.as_slice())?),
+        Err(_) => Err(Unmade),
+    }
+}
+
+/// Adds so many samples of a row of 20, from one on.
+pub fn tell_part(
+    alloc: Global,
+    word: &[u8],
     start: usize,
     count: usize,
     told: &mut String,
 ) -> Result<(), Unmade> {
-    let mut buffer = vec![in alloc; 7; count]?;
-    if start > row.len() || buffer.len() > row.len() - start {
+    let row = made(alloc, word, WHOLE)?;
+    let mut buffer = [7; WHOLE];
+    if start > row.len() || count > row.len() - start || count > WHOLE {
         return Err(Unmade);
     }
-    row.copy_to(start, buffer.as_mut_slice());
-    Ok(tell_all(buffer.as_slice(), told)?)
+    let part = &mut buffer[..count];
+    row.copy_to(start, &mut *part);
+    Ok(tell_all(told, part)?)
 }

@@ -1,9 +1,11 @@
 //! Plain images of one made row, of many widths.
 
-use super::sinks::tell_end;
+use super::sinks::tell_stream;
 use pnm_image::{Device, Kind, Message, SampleWidth, Shape};
-use pnm_test_support::{Sweep, Unmade, cut_number, cut_word, head_of, held, number_of, tell_text};
-use pnm_write::{Form, Sink, WriteBuffer};
+use pnm_test_support::{
+    Handed, Sweep, Unmade, cut_number, cut_pair, cut_word, head_of, held, number_of, tell_text,
+};
+use pnm_write::Form;
 use std::alloc::{AllocError, Global};
 
 /// Numbers of one to five digits, in an order in which each comes at many places of a line.
@@ -12,85 +14,18 @@ const NUMBERS: [u16; 13] = [
 ];
 
 /// So many samples, none above the maxval.
-fn row_of(alloc: Global, count: usize, shift: usize, maxval: u32) -> Result<Vec<u16>, AllocError> {
+fn row_of(
+    alloc: Global,
+    count: usize,
+    shift: usize,
+    maxval: usize,
+) -> Result<Vec<u16>, AllocError> {
     let most = u16::try_from(maxval).unwrap_or(u16::MAX);
     let mut row = Vec::new(alloc);
     for x in 0..count {
         row.push(NUMBERS[x.wrapping_add(shift) % 13].min(most))?;
     }
     Ok(row)
-}
-
-/// Adds what is written of an image of this one row, held so wide.
-fn add_image(
-    alloc: Global,
-    sweep: &mut Sweep,
-    shape: Shape,
-    row: &[u16],
-    sample_width: SampleWidth,
-) -> Result<(), Unmade> {
-    let head = head_of(alloc, shape, b"")?;
-    let row = held(alloc, row, sample_width)?;
-    let mut sink = Sink::with_buffer(
-        WriteBuffer::new(alloc)?,
-        Device::new(Vec::new(alloc)),
-        Form::Plain,
-    );
-    let mut told = String::new(alloc);
-    for message in [
-        Message::Begin(head),
-        Message::Row(row),
-        Message::ImageEnd,
-        Message::StreamEnd,
-    ] {
-        if let Err(fault) = sink.put(&message) {
-            write!(&mut told, " {fault}")?;
-        }
-    }
-    let (writer, end) = sink.finish();
-    tell_end(&mut told, end)?;
-    tell_text(&mut told, writer.into_inner().as_slice())?;
-    sweep.add(told.as_str());
-    Ok(())
-}
-
-/// Adds a sweep over rows of numbers of these widths and shifts: of grays, or of colours.
-pub fn tell_numbers(alloc: Global, text: &[u8], told: &mut String) -> Result<(), Unmade> {
-    let (word, rest) = cut_word(text);
-    let (maxval, rest) = cut_number(rest);
-    let (first_width, rest) = cut_number(rest);
-    let (last_width, rest) = cut_number(rest);
-    let (first_shift, rest) = cut_number(rest);
-    let (last_shift, _) = cut_number(rest);
-    let (kind, depth) = if word == b"Color".as_slice() {
-        (Kind::Color, 3)
-    } else {
-        (Kind::Gray, 1)
-    };
-    let mut sweep = Sweep::new();
-    for width in first_width..=last_width {
-        for shift in first_shift..=last_shift {
-            let shape = Shape {
-                kind,
-                width: number_of(width),
-                height: 1,
-                depth,
-                maxval: number_of(maxval),
-            };
-            let count = width.wrapping_mul(depth as usize);
-            let row = row_of(alloc, count, shift, shape.maxval)?;
-            add_numbers(alloc, &mut sweep, shape, row.as_slice())?;
-        }
-    }
-    Ok(sweep.tell(told)?)
-}
-
-/// Adds an image of numbers, held as bytes where they are, and as words.
-fn add_numbers(alloc: Global, sweep: &mut Sweep, shape: Shape, row: &[u16]) -> Result<(), Unmade> {
-    if shape.maxval < 256 {
-        add_image(alloc, sweep, shape, row, SampleWidth::Bytes)?;
-    }
-    add_image(alloc, sweep, shape, row, SampleWidth::Words)
 }
 
 /// Pixels of made bytes, of whose bits 1 is black.
@@ -107,24 +42,100 @@ fn pixels_of(alloc: Global, width: usize, first: u8) -> Result<Vec<u16>, AllocEr
     Ok(row)
 }
 
-/// Adds a sweep over rows of pixels of these widths, held as bits, as bytes and as words.
-pub fn tell_bitmaps(alloc: Global, text: &[u8], told: &mut String) -> Result<(), Unmade> {
-    let (first, rest) = cut_number(text);
-    let (first_width, rest) = cut_number(rest);
-    let (last_width, _) = cut_number(rest);
+/// Adds a sweep over rows of numbers of these widths and shifts: of grays, or of colours.
+pub fn tell_numbers(alloc: Global, text: &[u8], told: &mut String) -> Result<(), Unmade> {
+    let (word, rest) = cut_word(text);
+    if word == b"Color".as_slice() {
+        return tell_sweep(alloc, Kind::Color, rest, told);
+    }
+    tell_sweep(alloc, Kind::Gray, rest, told)
+}
+
+/// Adds a sweep over rows of these widths: of pixels of bytes from this one on; or of numbers up to this one, and of
+/// these shifts.
+pub fn tell_sweep(alloc: Global, kind: Kind, text: &[u8], told: &mut String) -> Result<(), Unmade> {
+    let (number, rest) = cut_number(text);
+    let (first_width, last_width, rest) = cut_pair(rest);
+    let (first_shift, last_shift, _) = cut_pair(rest);
     let mut sweep = Sweep::new();
     for width in first_width..=last_width {
-        let row = pixels_of(alloc, width, (first % 256) as u8)?;
-        let shape = Shape {
-            kind: Kind::Bit,
-            width: number_of(width),
-            height: 1,
-            depth: 1,
-            maxval: 1,
-        };
-        for sample_width in [SampleWidth::Bits, SampleWidth::Bytes, SampleWidth::Words] {
-            add_image(alloc, &mut sweep, shape, row.as_slice(), sample_width)?;
+        for shift in first_shift..=last_shift {
+            add_images(alloc, &mut sweep, kind, number, width, shift)?;
         }
     }
     Ok(sweep.tell(told)?)
+}
+
+/// Adds images of a row, however it is held: as bits where it is of pixels, as bytes where they are, and as words.
+fn add_images(
+    alloc: Global,
+    sweep: &mut Sweep,
+    kind: Kind,
+    number: usize,
+    width: usize,
+    shift: usize,
+) -> Result<(), Unmade> {
+    let (maxval, depth) = match kind {
+        Kind::Bit => (1, 1),
+        Kind::Color => (number, 3),
+        _ => (number, 1),
+    };
+    let row = match kind {
+        Kind::Bit => pixels_of(alloc, width, (number % 256) as u8)?,
+        _ => row_of(alloc, width.wrapping_mul(depth), shift, maxval)?,
+    };
+    let shape = Shape {
+        kind,
+        width: number_of(width),
+        height: 1,
+        depth: number_of(depth),
+        maxval: number_of(maxval),
+    };
+    for sample_width in [SampleWidth::Bits, SampleWidth::Bytes, SampleWidth::Words] {
+        if fits(shape, sample_width) {
+            add_image(alloc, sweep, shape, row.as_slice(), sample_width)?;
+        }
+    }
+    Ok(())
+}
+
+/// Whether samples of the image may be held so wide.
+fn fits(shape: Shape, sample_width: SampleWidth) -> bool {
+    match sample_width {
+        SampleWidth::Bits => shape.kind == Kind::Bit,
+        SampleWidth::Bytes => shape.maxval < 256,
+        SampleWidth::Words => true,
+    }
+}
+
+/// Adds what is written of an image of this one row, held so wide.
+fn add_image(
+    alloc: Global,
+    sweep: &mut Sweep,
+    shape: Shape,
+    row: &[u16],
+    sample_width: SampleWidth,
+) -> Result<(), Unmade> {
+    let all = messages_of(alloc, shape, row, sample_width)?;
+    let mut told = String::new(alloc);
+    let writer = Device::new(Vec::new(alloc));
+    let writer = tell_stream(alloc, writer, Form::Plain, all.as_slice(), false, &mut told)?;
+    tell_text(&mut told, writer.into_inner().as_slice())?;
+    sweep.add(told.as_str());
+    Ok(())
+}
+
+/// The messages of an image of this one row, held so wide.
+fn messages_of(
+    alloc: Global,
+    shape: Shape,
+    row: &[u16],
+    sample_width: SampleWidth,
+) -> Result<Vec<Handed>, Unmade> {
+    let mut all = Vec::new(alloc);
+    all.push(Handed::Message(Message::Begin(head_of(alloc, shape, b"")?)))?;
+    all.push(Handed::Message(Message::Row(held(alloc, row, sample_width)?)))?;
+    all.push(Handed::Message(Message::ImageEnd))?;
+    all.push(Handed::Message(Message::StreamEnd))?;
+    Ok(all)
 }

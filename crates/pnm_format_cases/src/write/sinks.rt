@@ -8,40 +8,53 @@ use pnm_test_support::{
 use pnm_write::{Form, Sink, SinkFault, WriteBuffer};
 use std::alloc::{AllocError, Global};
 
-/// Adds the faults of a sink that gets messages and rows, which is flushed after each image where that is asked.
-fn tell_put<W: BytesOut>(
-    sink: &mut Sink<W>,
+/// Adds the faults of a sink over the writer that gets messages and rows, which is flushed after each image where that
+/// is asked; and how the stream ends. Gives the writer.
+pub fn tell_stream<W: BytesOut + Drop>(
+    alloc: Global,
+    writer: W,
+    form: Form,
     all: &[Handed],
     is_flushed: bool,
     told: &mut String,
-) -> Result<(), AllocError> {
+) -> Result<W, Unmade> {
+    let mut sink = Sink::with_buffer(WriteBuffer::new(alloc)?, writer, form);
     for handed in all {
-        if let Err(fault) = put(sink, handed) {
-            write!(told, " {fault}")?;
-        }
-        if is_flushed && matches!(handed, Handed::Message(Message::ImageEnd)) {
-            if let Err(fault) = sink.flush() {
-                write!(told, " flush {fault}")?;
-            }
-        }
+        tell_put(&mut sink, handed, is_flushed, told)?;
+    }
+    let (writer, end) = sink.finish();
+    told.push_str(" end")?;
+    tell_fault(told, "", end)?;
+    Ok(writer)
+}
+
+/// Adds the fault of a sink that gets a message or rows, and that of a flush after an image where that is asked.
+fn tell_put<W: BytesOut>(
+    sink: &mut Sink<W>,
+    handed: &Handed,
+    is_flushed: bool,
+    told: &mut String,
+) -> Result<(), AllocError> {
+    let answer = match handed {
+        Handed::Message(message) => sink.put(message),
+        Handed::Rows(rows) => sink.put_rows(rows),
+    };
+    tell_fault(told, "", answer)?;
+    if is_flushed && matches!(handed, Handed::Message(Message::ImageEnd)) {
+        return tell_fault(told, " flush", sink.flush());
     }
     Ok(())
 }
 
-/// Puts a message, or rows together.
-fn put<W: BytesOut>(sink: &mut Sink<W>, handed: &Handed) -> Result<(), SinkFault> {
-    match handed {
-        Handed::Message(message) => sink.put(message),
-        Handed::Rows(rows) => sink.put_rows(rows),
-    }
-}
-
-/// Adds how a stream ends.
-pub fn tell_end(told: &mut String, end: Result<(), SinkFault>) -> Result<(), AllocError> {
-    told.push_str(" end")?;
-    match end {
+/// Adds a fault after a word.
+fn tell_fault(
+    told: &mut String,
+    word: &str,
+    answer: Result<(), SinkFault>,
+) -> Result<(), AllocError> {
+    match answer {
         Ok(()) => Ok(()),
-        Err(fault) => write!(told, " {fault}"),
+        Err(fault) => write!(told, "{word} {fault}"),
     }
 }
 
@@ -72,12 +85,9 @@ fn tell_held(
     told: &mut String,
 ) -> Result<(), Unmade> {
     let all = handed_of(alloc, text, is_narrow)?;
-    let mut sink = Sink::with_buffer(WriteBuffer::new(alloc)?, Device::new(Vec::new(alloc)), form);
-    tell_put(&mut sink, all.as_slice(), false, told)?;
-    let (writer, end) = sink.finish();
-    tell_end(told, end)?;
-    let bytes = writer.into_inner();
-    Ok(tell_text(told, bytes.as_slice())?)
+    let writer = Device::new(Vec::new(alloc));
+    let writer = tell_stream(alloc, writer, form, all.as_slice(), false, told)?;
+    Ok(tell_text(told, writer.into_inner().as_slice())?)
 }
 
 /// The call that fails: after so many, or none.
@@ -99,17 +109,14 @@ pub fn tell_sips(alloc: Global, text: &[u8], told: &mut String) -> Result<(), Un
     let (writes, rest) = cut_failing(rest);
     let (flushes, rest) = cut_failing(rest);
     let all = handed_of(alloc, rest, true)?;
-    let mut sips = Sips::new(alloc, most, writes, flushes);
-    let mut sink = Sink::with_buffer(
-        WriteBuffer::new(alloc)?,
-        Device::new(&mut sips),
-        form_of(form),
-    );
-    tell_put(&mut sink, all.as_slice(), true, told)?;
-    let (_, end) = sink.finish();
-    tell_end(told, end)?;
+    let sips = Device::new(Sips::new(alloc, most, writes, flushes));
+    let sips = tell_stream(alloc, sips, form_of(form), all.as_slice(), true, told)?;
+    Ok(tell_sipped(&sips.into_inner(), told)?)
+}
+
+/// Adds the bytes that were taken, and how often the writer was flushed.
+fn tell_sipped(sips: &Sips, told: &mut String) -> Result<(), AllocError> {
     tell_text(told, sips.held())?;
     let flushed = sips.flushed();
-    write!(told, " flushed {flushed}")?;
-    Ok(())
+    write!(told, " flushed {flushed}")
 }
