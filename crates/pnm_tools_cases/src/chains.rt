@@ -5,7 +5,8 @@ use pnm_test_support::Unmade;
 use std::alloc::{AllocError, Global};
 use std::str;
 
-const KINDS: &[ChainKind] = &[
+/// All faults.
+pub const KINDS: &[ChainKind] = &[
     ChainKind::Empty,
     ChainKind::TooLong,
     ChainKind::TooMany,
@@ -26,14 +27,6 @@ pub fn tell_chain(alloc: Global, text: &[u8], told: &mut String) -> Result<(), U
         Ok(chain) => Ok(tell_named(alloc, chain, told)?),
         Err(_) => Err(Unmade),
     }
-}
-
-/// Adds all faults as they are printed.
-pub fn tell_names(told: &mut String) -> Result<(), AllocError> {
-    for kind in KINDS {
-        write!(told, " {kind}")?;
-    }
-    Ok(())
 }
 
 /// Adds the tools that a text names, or the number of the stage at fault and the fault.

@@ -1,12 +1,11 @@
 //! Which columns and rows a cut keeps.
 
-use super::steps::feed;
-use super::tasks::{Task, tell_at_work};
+use super::tasks::{Task, add_answers};
 use super::tools::{cut_offset, cut_size, tell_made_head};
-use pnm_image::{Kind, Message, SampleWidth, Shape};
-use pnm_test_support::{Sweep, Unmade, cut_number, head_of, held, number_of};
-use pnm_tools::{CutBox, Filter, Tool};
-use std::alloc::{AllocError, Global};
+use pnm_image::{Kind, SampleWidth, Shape};
+use pnm_test_support::{Sweep, Unmade, cut_number, head_of, number_of};
+use pnm_tools::{CutBox, Tool};
+use std::alloc::Global;
 
 /// The columns, or rows, of an image from which few enough follow for a sweep.
 const SHORT: u32 = 5;
@@ -70,7 +69,7 @@ fn tell_cut_head(alloc: Global, across: Axis, down: Axis, told: &mut String) -> 
         maxval: 9,
     };
     let head = head_of(alloc, shape, b"")?;
-    tell_made_head(alloc, &cut_by(across, down), &head, told)
+    tell_made_head(alloc, &tool, &head, told)
 }
 
 /// Adds the heads of the cut across, of an image of three rows, and down, of three columns.
@@ -85,58 +84,22 @@ pub fn tell_axes(alloc: Global, axes: &[Axis], told: &mut String) -> Result<(), 
     for across in axes {
         for down in axes {
             if across.length <= SHORT && down.length <= SHORT {
-                let answers = answers_to(alloc, *across, *down)?;
-                sweep.add(answers.as_str());
+                let shape = image(across.length, down.length);
+                let task = Task::Image(shape, SampleWidth::Words, false);
+                add_answers(alloc, &mut sweep, &cut_by(*across, *down), task)?;
             }
         }
     }
     Ok(sweep.tell(told)?)
 }
 
-/// What a cut gives for an image of colours, each of whose samples tells its plane, its column and its row.
-fn answers_to(alloc: Global, across: Axis, down: Axis) -> Result<String, Unmade> {
-    let mut told = String::new(alloc);
-    let task = Task::Cut(across.length, down.length);
-    tell_at_work(alloc, &cut_by(across, down), task, &mut told)?;
-    Ok(told)
-}
-
-/// Adds what a cut at work gives for an image of so many columns and rows, which may be that it refuses the image.
-pub fn feed_image<F: Filter>(
-    alloc: Global,
-    state: &mut F,
-    width: u32,
-    height: u32,
-    told: &mut String,
-) -> Result<(), Unmade> {
-    let shape = Shape {
+/// An image of colours of so many columns and rows.
+fn image(width: u32, height: u32) -> Shape {
+    Shape {
         kind: Kind::Color,
         width,
         height,
         depth: 3,
         maxval: 65_535,
-    };
-    let head = head_of(alloc, shape, b"")?;
-    feed(state, Message::Begin(head), told)?;
-    if told.as_str().starts_with(" CutOutside") {
-        return Ok(());
     }
-    for y in 0..height {
-        let row = row_of(alloc, width, y)?;
-        let row = held(alloc, row.as_slice(), SampleWidth::Words)?;
-        feed(state, Message::Row(row), told)?;
-    }
-    Ok(feed(state, Message::ImageEnd, told)?)
-}
-
-/// A row of the image.
-fn row_of(alloc: Global, width: u32, y: u32) -> Result<Vec<u16>, AllocError> {
-    let mut samples = Vec::new(alloc);
-    for x in 0..width {
-        for plane in 0..3u32 {
-            let pixel = x.wrapping_mul(10).wrapping_add(y.wrapping_mul(100));
-            samples.push((pixel.wrapping_add(plane) % 65_536) as u16)?;
-        }
-    }
-    Ok(samples)
 }

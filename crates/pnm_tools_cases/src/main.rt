@@ -28,9 +28,10 @@ mod tasks;
 mod tools;
 
 use cuts::Axis;
-use pnm_test_support::{Teller, Unmade, tell_change, tell_lines};
+use pnm_test_support::{Teller, Unmade, named, tell_all, tell_change, tell_lines};
 use pnm_tools::{Tool, ToolFault};
 use std::alloc::{AllocError, Global};
+use steps::Step;
 use tasks::{Task, tell_at_work};
 use tools::tool_of;
 
@@ -102,8 +103,8 @@ impl Teller for Named {
         text: &[u8],
         told: &mut String,
     ) -> Result<(), Unmade> {
-        match WORDS.iter().find(|(name, _)| *name == word) {
-            Some((_, how)) => tell(alloc, *how, text, self, told),
+        match named(WORDS, word) {
+            Some(how) => tell(alloc, how, text, self, told),
             None => Err(Unmade),
         }
     }
@@ -117,12 +118,9 @@ fn tell(
     told: &mut String,
 ) -> Result<(), Unmade> {
     match how {
-        How::Judge => Ok(tools::tell_judged(&tool_of(alloc, text)?, told)?),
-        How::Copy => tools::tell_copy(alloc, &tool_of(alloc, text)?, told),
-        How::Tool => {
+        How::Judge | How::Copy | How::Tool => {
             let tool = tool_of(alloc, text)?;
-            tools::tell_judged(&tool, told)?;
-            Ok(named.tools.push(tool)?)
+            tell_tool(alloc, how, tool, named, told)
         }
         How::None => {
             named.tools.clear();
@@ -138,6 +136,24 @@ fn tell(
         How::Names => Ok(tell_names(text, told)?),
         _ => tell_each(alloc, how, text, named.tools.as_slice(), told),
     }
+}
+
+/// Adds whether a tool is lawful and row-wise, or it and its copy. It may stay named.
+fn tell_tool(
+    alloc: Global,
+    how: How,
+    tool: Tool,
+    named: &mut Named,
+    told: &mut String,
+) -> Result<(), Unmade> {
+    if matches!(how, How::Copy) {
+        return tools::tell_copy(alloc, &tool, told);
+    }
+    tools::tell_judged(&tool, told)?;
+    if matches!(how, How::Tool) {
+        named.tools.push(tool)?;
+    }
+    Ok(())
 }
 
 /// Adds what is told of each tool.
@@ -175,7 +191,7 @@ fn tell_of_tool(
     match how {
         How::Head => tools::tell_head_of(alloc, tool, text, told),
         How::Lane => steps::tell_lane(alloc, tool, text, told),
-        How::Held => tell_at_work(alloc, tool, Task::Held(text), told),
+        How::Held => tell_at_work(alloc, tool, Task::Steps(text, Step::Widths, true), told),
         How::Images => tell_at_work(alloc, tool, Task::Stream(text), told),
         How::Types => sweeps::tell_types(alloc, tool, text, told),
         _ => steps::tell_run(alloc, tool, text, told),
@@ -185,10 +201,7 @@ fn tell_of_tool(
 /// Adds the faults of the texts of chains, or of tools, as they are printed.
 fn tell_names(text: &[u8], told: &mut String) -> Result<(), AllocError> {
     if text == b"chain".as_slice() {
-        return chains::tell_names(told);
+        return tell_all(told, chains::KINDS);
     }
-    for fault in FAULTS {
-        write!(told, " {fault}")?;
-    }
-    Ok(())
+    tell_all(told, FAULTS)
 }

@@ -5,10 +5,8 @@
 
 use super::tasks::{Task, tell_at_work};
 use pnm_filters::{RowState, RowWise};
-use pnm_image::{Message, Rows, SampleSlice, Samples};
-use pnm_test_support::{
-    Unmade, cut_at, cut_messages, messages_of, rows_of, tell_message, tell_rows,
-};
+use pnm_image::{Message, Rows};
+use pnm_test_support::{Unmade, cut_at, cut_messages, rows_of, tell_message, tell_rows, width_of};
 use pnm_tools::{Filter, Tool, ToolFault};
 use std::alloc::{AllocError, Global};
 
@@ -16,10 +14,12 @@ use std::alloc::{AllocError, Global};
 const MOST_ANSWERS: usize = 100_000;
 
 /// How a message is passed on.
-#[derive(Clone, Copy, PartialEq)]
-enum Step {
+#[derive(Clone, Copy)]
+pub enum Step {
     /// All that is given then is told.
     Passes,
+    /// All is taken, and told how wide rows are held.
+    Widths,
     /// All is taken, and a fault alone is told.
     Drops,
     /// It isn't taken.
@@ -29,8 +29,13 @@ enum Step {
 /// Adds what a tool gives by these steps, and whether that is something else where rows are held in few bits.
 pub fn tell_run(alloc: Global, tool: &Tool, text: &[u8], told: &mut String) -> Result<(), Unmade> {
     let mut narrow = String::new(alloc);
-    tell_at_work(alloc, tool, Task::Steps(text, false), told)?;
-    tell_at_work(alloc, tool, Task::Steps(text, true), &mut narrow)?;
+    tell_at_work(alloc, tool, Task::Steps(text, Step::Passes, false), told)?;
+    tell_at_work(
+        alloc,
+        tool,
+        Task::Steps(text, Step::Passes, true),
+        &mut narrow,
+    )?;
     if narrow.as_str() != told.as_str() {
         told.push_str(" but narrow")?;
         told.push_str(narrow.as_str())?;
@@ -62,14 +67,15 @@ fn go_in_lane<F: RowWise>(
     text: &[u8],
     told: &mut String,
 ) -> Result<(), Unmade> {
-    go(alloc, lane, text, false, told)
+    go(alloc, lane, text, Step::Passes, false, told)
 }
 
-/// Adds what is given by these steps.
+/// Adds what is given by these steps. A message without a mark is passed on by this one.
 pub fn go<F: Filter>(
     alloc: Global,
     state: &mut F,
     text: &[u8],
+    step: Step,
     is_narrow: bool,
     told: &mut String,
 ) -> Result<(), Unmade> {
@@ -87,12 +93,22 @@ pub fn go<F: Filter>(
                 pass_together(alloc, state, together, told)?;
                 after
             }
-            Some((b'~', after)) => pass(alloc, state, Step::Drops, after, is_narrow, told)?,
-            Some((b'!', after)) => pass(alloc, state, Step::Takes, after, is_narrow, told)?,
-            Some(_) => pass(alloc, state, Step::Passes, rest, is_narrow, told)?,
+            Some(_) => {
+                let (step, written) = cut_mark(rest, step);
+                pass(alloc, state, step, written, is_narrow, told)?
+            }
         };
     }
     Ok(())
+}
+
+/// How the message is passed on that a text begins with, and the text without its mark.
+fn cut_mark(text: &[u8], step: Step) -> (Step, &[u8]) {
+    match text.split_first() {
+        Some((b'~', after)) => (Step::Drops, after),
+        Some((b'!', after)) => (Step::Takes, after),
+        _ => (step, text),
+    }
 }
 
 /// Passes on the message that a text begins with, and gives what follows it.
@@ -112,17 +128,15 @@ fn pass<'a, F: Filter>(
     Ok(rest)
 }
 
-/// Passes on a message.
-fn pass_one<F: Filter>(
+/// Passes on a message, and adds all that is given then, or the fault, and whether it doesn't stay.
+pub fn pass_one<F: Filter>(
     state: &mut F,
     step: Step,
     message: Message,
     told: &mut String,
 ) -> Result<(), AllocError> {
     match state.feed(message) {
-        Ok(()) if step == Step::Passes => take_all(state, told),
-        Ok(()) if step == Step::Drops => drop_all(state, told),
-        Ok(()) => Ok(()),
+        Ok(()) => take_all(state, step, told),
         Err(fault) => {
             write!(told, " {fault}")?;
             tell_stays(state, fault, told)
@@ -140,7 +154,7 @@ fn pass_together<F: Filter>(
     match state.pass_rows(rows_of(alloc, text, true)?) {
         Ok(made) => {
             tell_rows(alloc, told, &made)?;
-            Ok(take_all(state, told)?)
+            Ok(take_all(state, Step::Passes, told)?)
         }
         Err(rows) => Ok(pass_each(alloc, state, &rows, told)?),
     }
@@ -169,11 +183,14 @@ fn tell_next<F: Filter>(state: &mut F, told: &mut String) -> Result<(), AllocErr
     }
 }
 
-/// Adds all that is given until nothing is.
-fn take_all<F: Filter>(state: &mut F, told: &mut String) -> Result<(), AllocError> {
+/// Takes all that is given until nothing is, and adds of it what the step tells, and a fault.
+fn take_all<F: Filter>(state: &mut F, step: Step, told: &mut String) -> Result<(), AllocError> {
+    if matches!(step, Step::Takes) {
+        return Ok(());
+    }
     for _ in 0..MOST_ANSWERS {
         match state.next() {
-            Ok(Some(message)) => tell_message(told, &message)?,
+            Ok(Some(message)) => tell_taken(step, &message, told)?,
             Ok(None) => return Ok(()),
             Err(fault) => return write!(told, " {fault}"),
         }
@@ -181,27 +198,12 @@ fn take_all<F: Filter>(state: &mut F, told: &mut String) -> Result<(), AllocErro
     told.push_str(" and more")
 }
 
-/// Takes all that is given until nothing is, and adds a fault.
-fn drop_all<F: Filter>(state: &mut F, told: &mut String) -> Result<(), AllocError> {
-    for _ in 0..MOST_ANSWERS {
-        match state.next() {
-            Ok(Some(message)) => drop(message),
-            Ok(None) => return Ok(()),
-            Err(fault) => return write!(told, " {fault}"),
-        }
-    }
-    told.push_str(" and more")
-}
-
-/// Adds all that a tool at work gives for a message, or its fault.
-pub fn feed<F: Filter>(
-    state: &mut F,
-    message: Message,
-    told: &mut String,
-) -> Result<(), AllocError> {
-    match state.feed(message) {
-        Ok(()) => take_all(state, told),
-        Err(fault) => write!(told, " {fault}"),
+/// Adds what a step tells of a message that is given.
+fn tell_taken(step: Step, message: &Message, told: &mut String) -> Result<(), AllocError> {
+    match (step, message) {
+        (Step::Passes, _) => tell_message(told, message),
+        (Step::Widths, Message::Row(row)) => told.push_str(width_of(row)),
+        _ => Ok(()),
     }
 }
 
@@ -224,50 +226,5 @@ fn is_fault(answer: Result<Option<Message>, ToolFault>, fault: ToolFault) -> boo
     match answer {
         Ok(_) => false,
         Err(other) => other == fault,
-    }
-}
-
-/// Adds how wide the rows are held that a tool at work gives, where those that it gets are held in few bits.
-pub fn tell_held<F: Filter>(
-    alloc: Global,
-    state: &mut F,
-    text: &[u8],
-    told: &mut String,
-) -> Result<(), Unmade> {
-    for message in messages_of(alloc, text, true)? {
-        if state.feed(message).is_err() {
-            return Err(Unmade);
-        }
-        tell_widths(state, told)?;
-    }
-    Ok(())
-}
-
-/// Adds how wide the rows are held that are given.
-fn tell_widths<F: Filter>(state: &mut F, told: &mut String) -> Result<(), AllocError> {
-    for _ in 0..MOST_ANSWERS {
-        match state.next() {
-            Ok(Some(message)) => tell_width(&message, told)?,
-            Ok(None) => return Ok(()),
-            Err(fault) => return write!(told, " {fault}"),
-        }
-    }
-    told.push_str(" and more")
-}
-
-/// Adds how wide a row is held, where the message is one.
-fn tell_width(message: &Message, told: &mut String) -> Result<(), AllocError> {
-    if let Message::Row(row) = message {
-        told.push_str(width_of(row))?;
-    }
-    Ok(())
-}
-
-/// How wide a row is held.
-fn width_of(row: &Samples) -> &'static str {
-    match row.as_slice() {
-        SampleSlice::Bits(_) => " bits",
-        SampleSlice::Bytes(_) => " bytes",
-        SampleSlice::Words(_) => " words",
     }
 }

@@ -1,9 +1,9 @@
 //! Images whose samples are made by a formula, of many sizes, kinds and maxvals.
 
-use super::steps::feed;
-use super::tasks::{Task, tell_at_work};
+use super::steps::{Step, pass_one};
+use super::tasks::{Task, add_answers};
 use pnm_image::{Kind, Message, SampleWidth, Shape};
-use pnm_test_support::{Sweep, Unmade, cut_number, head_of, held, number_of};
+use pnm_test_support::{Sweep, Unmade, cut_number, cut_pair, head_of, held, number_of};
 use pnm_tools::{Filter, Tool};
 use std::alloc::{AllocError, Global};
 
@@ -45,20 +45,20 @@ const IMAGE_TYPES: [ImageType; 30] = [
 ];
 
 /// The sample in this column, row and plane of an image of this maxval. At 65,535 it tells which they are in images of
-/// up to 32 columns, 5 rows and 256 planes. At others samples come in no order.
-fn sample_at(maxval: u32, x: u32, y: u32, plane: u32) -> u16 {
-    let place = if maxval == 65_535 {
-        x.wrapping_mul(300)
-            .wrapping_add(y.wrapping_mul(10_000))
-            .wrapping_add(plane)
-    } else {
-        x.wrapping_mul(40_503)
-            .wrapping_add(y.wrapping_mul(30_011))
-            .wrapping_add(plane.wrapping_mul(50_021))
-            .wrapping_shr(7)
+/// up to 32 columns, 5 rows and 256 planes, or of colours up to 10 columns. At others samples come in no order.
+fn sample_at(shape: Shape, x: u32, y: u32, plane: u32) -> u16 {
+    let (across, down, deep, shift) = match (shape.maxval, shape.kind) {
+        (65_535, Kind::Color) => (10, 100, 1, 0),
+        (65_535, _) => (300, 10_000, 1, 0),
+        _ => (40_503, 30_011, 50_021, 7),
     };
-    let sample = place.checked_rem(maxval.wrapping_add(1)).unwrap_or(0);
-    (sample % 65_536) as u16
+    let place = x
+        .wrapping_mul(across)
+        .wrapping_add(y.wrapping_mul(down))
+        .wrapping_add(plane.wrapping_mul(deep))
+        .wrapping_shr(shift);
+    let sample = place.checked_rem(shape.maxval.wrapping_add(1));
+    (sample.unwrap_or(0) % 65_536) as u16
 }
 
 /// A row of a made image.
@@ -66,14 +66,14 @@ fn row_of(alloc: Global, shape: Shape, y: u32) -> Result<Vec<u16>, AllocError> {
     let mut samples = Vec::new(alloc);
     for x in 0..shape.width {
         for plane in 0..shape.depth {
-            samples.push(sample_at(shape.maxval, x, y, plane))?;
+            samples.push(sample_at(shape, x, y, plane))?;
         }
     }
     Ok(samples)
 }
 
-/// Adds all that a tool at work gives for a made image.
-fn feed_image<F: Filter>(
+/// Adds all that a tool at work gives for a made image, or that the image lies outside of what it cuts.
+pub fn feed_image<F: Filter>(
     alloc: Global,
     state: &mut F,
     shape: Shape,
@@ -82,13 +82,24 @@ fn feed_image<F: Filter>(
 ) -> Result<(), Unmade> {
     let tuple_type: &[u8] = if shape.kind == Kind::Pam { b"A B" } else { b"" };
     let head = head_of(alloc, shape, tuple_type)?;
-    feed(state, Message::Begin(head), told)?;
+    pass_one(state, Step::Passes, Message::Begin(head), told)?;
+    if told.as_str().starts_with(" CutOutside") {
+        return Ok(());
+    }
     for y in 0..shape.height {
         let row = row_of(alloc, shape, y)?;
         let row = held(alloc, row.as_slice(), sample_width)?;
-        feed(state, Message::Row(row), told)?;
+        pass_one(state, Step::Passes, Message::Row(row), told)?;
     }
-    Ok(feed(state, Message::ImageEnd, told)?)
+    Ok(pass_one(state, Step::Passes, Message::ImageEnd, told)?)
+}
+
+/// Adds what it gives for the end of the stream, where that comes.
+pub fn feed_end<F: Filter>(state: &mut F, is_ended: bool, told: &mut String) -> Result<(), Unmade> {
+    if is_ended {
+        pass_one(state, Step::Passes, Message::StreamEnd, told)?;
+    }
+    Ok(())
 }
 
 /// Adds a sweep of a tool at work over PAM images of these columns, rows and planes, one after another.
@@ -111,7 +122,7 @@ pub fn tell_stream<F: Filter>(
         rest = after;
     }
     sweep.tell(told)?;
-    Ok(feed(state, Message::StreamEnd, told)?)
+    feed_end(state, true, told)
 }
 
 /// The columns, rows and planes of an image, and what follows them.
@@ -136,19 +147,16 @@ pub fn tell_types(
     text: &[u8],
     told: &mut String,
 ) -> Result<(), Unmade> {
-    let (first_type, rest) = cut_number(text);
-    let (last_type, rest) = cut_number(rest);
-    let (first_width, rest) = cut_number(rest);
-    let (last_width, rest) = cut_number(rest);
-    let (first_height, rest) = cut_number(rest);
-    let (last_height, _) = cut_number(rest);
+    let (first_type, last_type, rest) = cut_pair(text);
+    let (first_width, last_width, rest) = cut_pair(rest);
+    let (first_height, last_height, _) = cut_pair(rest);
     let mut sweep = Sweep::new();
     for width in number_of(first_width)..=number_of(last_width) {
         for height in number_of(first_height)..=number_of(last_height) {
             for number in first_type..=last_type {
                 if let Some(image_type) = IMAGE_TYPES.get(number) {
-                    let answers = answers_to(alloc, tool, *image_type, width, height)?;
-                    sweep.add(answers.as_str());
+                    let task = task_of(*image_type, width, height);
+                    add_answers(alloc, &mut sweep, tool, task)?;
                 }
             }
         }
@@ -156,14 +164,8 @@ pub fn tell_types(
     Ok(sweep.tell(told)?)
 }
 
-/// What a tool gives for an image by itself.
-fn answers_to(
-    alloc: Global,
-    tool: &Tool,
-    image_type: ImageType,
-    width: u32,
-    height: u32,
-) -> Result<String, Unmade> {
+/// An image by itself.
+fn task_of(image_type: ImageType, width: u32, height: u32) -> Task<'static> {
     let (kind, maxval, sample_width, depth) = image_type;
     let shape = Shape {
         kind,
@@ -172,19 +174,5 @@ fn answers_to(
         depth,
         maxval,
     };
-    let mut told = String::new(alloc);
-    tell_at_work(alloc, tool, Task::Alone(shape, sample_width), &mut told)?;
-    Ok(told)
-}
-
-/// Adds what a tool at work gives for a made image, and then for the end of the stream.
-pub fn feed_alone<F: Filter>(
-    alloc: Global,
-    state: &mut F,
-    shape: Shape,
-    sample_width: SampleWidth,
-    told: &mut String,
-) -> Result<(), Unmade> {
-    feed_image(alloc, state, shape, sample_width, told)?;
-    Ok(feed(state, Message::StreamEnd, told)?)
+    Task::Image(shape, sample_width, true)
 }

@@ -1,25 +1,22 @@
 //! Tools at work. One function holds such a tool, since each that does is dear to prove.
 
-use super::{cuts, steps, sweeps};
+use super::steps::{Step, go};
+use super::sweeps;
 use pnm_filters::{ToolState, start_tool};
 use pnm_image::{SampleWidth, Shape};
-use pnm_test_support::Unmade;
+use pnm_test_support::{Sweep, Unmade};
 use pnm_tools::{Filter, Tool};
 use std::alloc::Global;
 
 /// What a tool at work is to do.
 #[derive(Clone, Copy)]
 pub enum Task<'a> {
-    /// These steps, with rows in few bits, or in words.
-    Steps(&'a [u8], bool),
-    /// These messages, of which the rows' widths are told.
-    Held(&'a [u8]),
+    /// These steps, by which messages are passed on so, with rows in few bits, or in words.
+    Steps(&'a [u8], Step, bool),
     /// Made images of these sizes.
     Stream(&'a [u8]),
-    /// A made image by itself, its samples held so wide.
-    Alone(Shape, SampleWidth),
-    /// The image of a cut, of so many columns and rows.
-    Cut(u32, u32),
+    /// A made image, its samples held so wide, and the end of the stream where that is asked.
+    Image(Shape, SampleWidth, bool),
 }
 
 impl Task<'_> {
@@ -30,11 +27,12 @@ impl Task<'_> {
         told: &mut String,
     ) -> Result<(), Unmade> {
         match self {
-            Task::Steps(text, is_narrow) => steps::go(alloc, state, text, is_narrow, told),
-            Task::Held(text) => steps::tell_held(alloc, state, text, told),
+            Task::Steps(text, step, is_narrow) => go(alloc, state, text, step, is_narrow, told),
             Task::Stream(text) => sweeps::tell_stream(alloc, state, text, told),
-            Task::Alone(shape, held) => sweeps::feed_alone(alloc, state, shape, held, told),
-            Task::Cut(width, height) => cuts::feed_image(alloc, state, width, height, told),
+            Task::Image(shape, held, is_ended) => {
+                sweeps::feed_image(alloc, state, shape, held, told)?;
+                sweeps::feed_end(state, is_ended, told)
+            }
         }
     }
 }
@@ -59,4 +57,17 @@ pub fn tell_at_work(
 ) -> Result<(), Unmade> {
     let mut state = start(alloc, tool)?;
     task.tell(alloc, &mut state, told)
+}
+
+/// Adds what a tool gives at its task to a sweep.
+pub fn add_answers(
+    alloc: Global,
+    sweep: &mut Sweep,
+    tool: &Tool,
+    task: Task<'_>,
+) -> Result<(), Unmade> {
+    let mut told = String::new(alloc);
+    tell_at_work(alloc, tool, task, &mut told)?;
+    sweep.add(told.as_str());
+    Ok(())
 }

@@ -3,7 +3,10 @@
 
 use pnm_filters::result_head;
 use pnm_image::Head;
-use pnm_test_support::{Unmade, cut_at, cut_head, cut_number, cut_word, number_of, tell_head};
+use pnm_test_support::{
+    Unmade, cut_at, cut_head, cut_number, cut_pair, cut_word, named, number_of, samples_of,
+    tell_head,
+};
 use pnm_tools::{CutBox, FlipWay, Planes, Tool};
 use std::alloc::{AllocError, Global};
 
@@ -36,8 +39,8 @@ pub fn tool_of(alloc: Global, text: &[u8]) -> Result<Tool, Unmade> {
             let (width, height) = pair_of(rest);
             Ok(Tool::Tile(width, height))
         }
-        _ => match WAYS.iter().find(|(way, _)| *way == rest) {
-            Some((_, way)) => Ok(Tool::Flip(*way)),
+        _ => match named(WAYS, rest) {
+            Some(way) => Ok(Tool::Flip(way)),
             None => Err(Unmade),
         },
     }
@@ -45,8 +48,7 @@ pub fn tool_of(alloc: Global, text: &[u8]) -> Result<Tool, Unmade> {
 
 /// Two numbers.
 fn pair_of(text: &[u8]) -> (u32, u32) {
-    let (first, rest) = cut_number(text);
-    let (second, _) = cut_number(rest);
+    let (first, second, _) = cut_pair(text);
     (number_of(first), number_of(second))
 }
 
@@ -106,16 +108,7 @@ pub fn cut_size(line: &[u8]) -> (Option<u32>, &[u8]) {
 fn planes_of(alloc: Global, text: &[u8]) -> Result<Tool, Unmade> {
     let (written, rest) = cut_at(text, b'(');
     let (tuple_type, _) = cut_at(rest, b')');
-    let mut numbers = Vec::new(alloc);
-    let mut left = written;
-    for _ in 0..written.len() {
-        if left.is_empty() {
-            break;
-        }
-        let (number, after) = cut_number(left);
-        numbers.push((number % 65_536) as u16)?;
-        left = after;
-    }
+    let numbers = samples_of(alloc, written)?;
     let tuple_type = Vec::from_slice(alloc, tuple_type)?;
     Ok(Tool::Channel(Planes::new(numbers, tuple_type)))
 }
