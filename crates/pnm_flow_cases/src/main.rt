@@ -26,14 +26,13 @@ mod rings;
 mod runs;
 mod ways;
 
-use failing::{Devices, form_of, tell_failing};
-use pnm_test_support::{Unmade, cut_at, cut_number, cut_word, text_of};
-use runs::{Job, tell_buffered, tell_cuts, tell_input};
-use std::alloc::Global;
-use std::io::{BufRead, BufReader};
-use std::str;
+use failing::{Calls, Devices, form_of};
+use pnm_test_support::{Unmade, cut_at, cut_number, cut_word, named, text_of};
+use runs::{Changes, Job, tell_changes, tell_input};
+use std::alloc::{AllocError, Global};
 use std::sync::Wait;
 use std::thread::Threads;
+use std::{io, str};
 
 /// What a line is about: a run over whole devices unless its word says otherwise.
 #[derive(Clone, Copy)]
@@ -76,8 +75,9 @@ fn tell_lines<H: AllocGlobal + Input + Print + Threads + Wait + Sync>(
     rt: &H,
 ) -> Result<(), Unmade> {
     let alloc = rt.alloc();
-    for line in BufReader::new(alloc, rt.reader())?.lines(alloc) {
-        tell_line(rt, alloc, line?.as_str())?;
+    let text = io::read_to_string(alloc, rt.reader())?;
+    for line in text.as_str().lines() {
+        tell_line(rt, alloc, line)?;
     }
     Ok(())
 }
@@ -88,24 +88,28 @@ fn tell_line<H: Print + Threads + Wait + Sync>(
     alloc: Global,
     line: &str,
 ) -> Result<(), Unmade> {
-    let told = told_of(rt, alloc, line)?;
+    let mut told = String::new(alloc);
+    tell_case(rt, alloc, line, &mut told)?;
     println!(rt; "{told}")?;
     Ok(())
 }
 
-/// What is told of a line, which is ` no case` where it isn't one, or can't be made.
-fn told_of<R: Threads + Wait + Sync>(rt: &R, alloc: Global, line: &str) -> Result<String, Unmade> {
-    let mut told = String::new(alloc);
+/// Adds what comes of the case of a line, which is ` no case` where it isn't one, or can't be made.
+fn tell_case<R: Threads + Wait + Sync>(
+    rt: &R,
+    alloc: Global,
+    line: &str,
+    told: &mut String,
+) -> Result<(), AllocError> {
     if line.as_bytes().first() == Some(&b'#') {
-        told.push_str(line)?;
-        return Ok(told);
+        return told.push_str(line);
     }
     let (word, written) = cut_word(line.as_bytes());
     let text = text_of(alloc, written)?;
-    if let Err(Unmade) = tell(rt, alloc, word, text.as_slice(), &mut told) {
-        told.push_str(" no case")?;
+    match tell(rt, alloc, word, text.as_slice(), told) {
+        Ok(()) => Ok(()),
+        Err(Unmade) => told.push_str(" no case"),
     }
-    Ok(told)
 }
 
 /// Adds what comes of a case: of a word, and the text after it.
@@ -116,21 +120,13 @@ fn tell<R: Threads + Wait + Sync>(
     text: &[u8],
     told: &mut String,
 ) -> Result<(), Unmade> {
-    match how_of(word) {
-        How::Stage => rings::tell_stage(rt, alloc, text, told),
+    match named(WORDS, word).unwrap_or(How::Whole) {
+        How::Stage => rings::tell_tools(rt, alloc, false, text, told),
         How::Deal => rings::tell_dealt(rt, alloc, text, told),
         How::Gather => rings::tell_gathered(rt, alloc, text, told),
-        How::Chain => rings::tell_chain(rt, alloc, text, told),
+        How::Chain => rings::tell_tools(rt, alloc, true, text, told),
         How::Heights => Ok(rings::tell_heights(text, told)?),
         how => tell_runs(rt, alloc, how, word, text, told),
-    }
-}
-
-/// What this word is about.
-fn how_of(word: &[u8]) -> How {
-    match WORDS.iter().find(|(name, _)| *name == word) {
-        Some((_, how)) => *how,
-        None => How::Whole,
     }
 }
 
@@ -162,9 +158,25 @@ fn tell_runs<R: Threads + Wait + Sync>(
         devices,
     };
     match how {
-        How::Cuts => tell_cuts(rt, alloc, job, told),
+        How::Cuts => tell_changes(rt, alloc, Changes::Input, input.len() + 1, job, told),
         How::Fails => tell_failing(rt, alloc, word, facts, job, told),
-        How::Buffered => tell_buffered(rt, alloc, size, job, told),
+        How::Buffered => tell_changes(rt, alloc, Changes::Room, size, job, told),
         _ => tell_input(rt, alloc, job, told),
     }
+}
+
+/// Adds what runs answer and write where a call of this name fails, and where a later one does, for so many.
+fn tell_failing<R: Threads + Wait + Sync>(
+    rt: &R,
+    alloc: Global,
+    name: &[u8],
+    facts: &[u8],
+    job: Job<'_>,
+    told: &mut String,
+) -> Result<(), Unmade> {
+    let (form, rest) = cut_word(facts);
+    let form = form_of(form);
+    let (count, rest) = cut_number(rest);
+    let changes = Changes::Calls(name, Calls::of(rest));
+    tell_changes(rt, alloc, changes, count, Job { form, ..job }, told)
 }

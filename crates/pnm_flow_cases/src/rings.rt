@@ -6,8 +6,8 @@ ghost use Rattle.pnm_tools.specs.Chains.{IsChain};
 
 use pnm_chain::parse_chain;
 use pnm_flow::{
-    MAX_LANES, OpenGate, Parcel, Receiver, Sender, StageDone, StageEnd, deal, gather, new_ring,
-    run_chain, run_stage,
+    MAX_LANES, OpenGate, Parcel, Receiver, Sender, StageEnd, deal, gather, new_ring, run_chain,
+    run_stage,
 };
 use pnm_lanes::dealt_height;
 use pnm_test_support::{
@@ -108,40 +108,96 @@ fn tools_of(alloc: Global, text: &[u8]) -> Result<Vec<Tool>, Unmade>
     }
 }
 
-/// The stage of the first of these tools, which has to be lawful.
-fn stage<R: Wait>(
+/// Adds how a stage of a tool, or each tool of a chain over so many lanes, ends; what is left of what came; and what is
+/// sent.
+pub fn tell_tools<R: Threads + Wait + Sync>(
+    rt: &R,
+    alloc: Global,
+    is_chain: bool,
+    text: &[u8],
+    told: &mut String,
+) -> Result<(), Unmade> {
+    let (number, rest) = cut_number(text);
+    let (before, rest) = cut_at(rest, b'(');
+    let (gone, _) = cut_word(before);
+    let (chain, takes) = cut_at(rest, b')');
+    let capacity = if is_chain { CAPACITY } else { number };
+    let tools = tools_of(alloc, chain)?;
+    let (_sender, input) = holding(alloc, takes, gone == b"input".as_slice())?;
+    let (output, receiver) = taking(alloc, capacity, gone == b"output".as_slice())?;
+    if is_chain {
+        tell_chain(rt, alloc, tools.as_slice(), number, input, output, told)?;
+    } else {
+        tell_stage(rt, alloc, tools.as_slice(), input, output, told)?;
+    }
+    tell_sent(alloc, receiver, told)
+}
+
+/// Adds how a stage of the first of these tools ends, which has to be lawful, and what it leaves.
+fn tell_stage<R: Wait>(
     rt: &R,
     alloc: Global,
     tools: &[Tool],
     input: Receiver,
     output: Sender,
-) -> Result<StageDone, Unmade> {
+    told: &mut String,
+) -> Result<(), Unmade> {
     match tools.first() {
         Some(tool) if tool.is_lawful() => {
-            Ok(run_stage(rt, alloc, tool, 1, &OpenGate, input, output))
+            let done = run_stage(rt, alloc, tool, 1, &OpenGate, input, output);
+            Ok(tell_done(alloc, done.end, done.input, told)?)
         }
         _ => Err(Unmade),
     }
 }
 
-/// Adds how a stage of a tool ends, what it leaves, and what it sends.
-pub fn tell_stage<R: Wait>(
+/// Adds how a thread at rings has ended, and what it leaves.
+fn tell_done(
+    alloc: Global,
+    end: StageEnd,
+    input: Receiver,
+    told: &mut String,
+) -> Result<(), AllocError> {
+    tell_end(end, told)?;
+    tell_left(alloc, input, told)
+}
+
+/// Adds what is left of what came.
+fn tell_left(alloc: Global, input: Receiver, told: &mut String) -> Result<(), AllocError> {
+    let mut input = input;
+    tell_ring(alloc, " left", &mut input, told)
+}
+
+/// Adds how each tool of a chain over so many lanes ends, and what the first one leaves.
+fn tell_chain<R: Threads + Wait + Sync>(
     rt: &R,
     alloc: Global,
-    text: &[u8],
+    tools: &[Tool],
+    lanes: usize,
+    input: Receiver,
+    output: Sender,
     told: &mut String,
-) -> Result<(), Unmade> {
-    let (capacity, rest) = cut_number(text);
-    let (gone, rest) = cut_word(rest);
-    let (_, rest) = cut_at(rest, b'(');
-    let (chain, takes) = cut_at(rest, b')');
-    let tools = tools_of(alloc, chain)?;
-    let (_sender, input) = holding(alloc, takes, gone == b"input".as_slice())?;
-    let (output, receiver) = taking(alloc, capacity, gone == b"output".as_slice())?;
-    let mut done = stage(rt, alloc, tools.as_slice(), input, output)?;
-    tell_end(done.end, told)?;
-    tell_ring(alloc, " left", &mut done.input, told)?;
-    tell_sent(alloc, receiver, told)
+) -> Result<(), Unmade>
+    requires { IsChain tools.now }
+{
+    if lanes < 1 || lanes > MAX_LANES {
+        return Err(Unmade);
+    }
+    match run_chain(rt, alloc, tools, CAPACITY, lanes, &OpenGate, input, output) {
+        Ok(done) => {
+            tell_ends(done.ends.as_slice(), told)?;
+            Ok(tell_left(alloc, done.input, told)?)
+        }
+        Err(_) => Err(Unmade),
+    }
+}
+
+/// Adds how threads at rings have ended.
+fn tell_ends(ends: &[StageEnd], told: &mut String) -> Result<(), AllocError> {
+    for end in ends {
+        tell_end(*end, told)?;
+    }
+    Ok(())
 }
 
 /// Adds what was sent, where it is taken.
@@ -196,12 +252,21 @@ pub fn tell_dealt<R: Wait>(
     if outputs.is_empty() || outputs.len() > MAX_LANES {
         return Err(Unmade);
     }
-    let mut done = deal(rt, alloc, input, outputs);
-    tell_end(done.end, told)?;
-    tell_ring(alloc, " left", &mut done.input, told)?;
-    for lane in lanes.iter_mut() {
-        told.push_str(" |")?;
-        tell_ring(alloc, "", lane, told)?;
+    let done = deal(rt, alloc, input, outputs);
+    tell_done(alloc, done.end, done.input, told)?;
+    Ok(tell_rings(alloc, (" |", ""), lanes.as_mut_slice(), told)?)
+}
+
+/// Adds all that rings hold, each after one of these words, and after the other one where it holds something.
+fn tell_rings(
+    alloc: Global,
+    (word, word_of_some): (&str, &str),
+    inputs: &mut [Receiver],
+    told: &mut String,
+) -> Result<(), AllocError> {
+    for input in inputs.iter_mut() {
+        told.push_str(word)?;
+        tell_ring(alloc, word_of_some, input, told)?;
     }
     Ok(())
 }
@@ -244,39 +309,8 @@ pub fn tell_gathered<R: Wait>(
     }
     let mut done = gather(rt, inputs, output);
     tell_end(done.end, told)?;
-    for input in done.inputs.iter_mut() {
-        tell_ring(alloc, " left", input, told)?;
-    }
+    tell_rings(alloc, ("", " left"), done.inputs.as_mut_slice(), told)?;
     tell_sent(alloc, receiver, told)
-}
-
-/// Adds how each tool of a chain over so many lanes ends, what the first one leaves, and what the last one sends.
-pub fn tell_chain<R: Threads + Wait + Sync>(
-    rt: &R,
-    alloc: Global,
-    text: &[u8],
-    told: &mut String,
-) -> Result<(), Unmade> {
-    let (lanes, rest) = cut_number(text);
-    let (_, rest) = cut_at(rest, b'(');
-    let (chain, takes) = cut_at(rest, b')');
-    let tools = tools_of(alloc, chain)?;
-    if lanes < 1 || lanes > MAX_LANES {
-        return Err(Unmade);
-    }
-    let (_sender, input) = holding(alloc, takes, false)?;
-    let (output, receiver) = ring(alloc, CAPACITY)?;
-    let tools = tools.as_slice();
-    match run_chain(rt, alloc, tools, CAPACITY, lanes, &OpenGate, input, output) {
-        Ok(mut done) => {
-            for end in done.ends.iter() {
-                tell_end(*end, told)?;
-            }
-            tell_ring(alloc, " left", &mut done.input, told)?;
-            tell_sent(alloc, Some(receiver), told)
-        }
-        Err(_) => Err(Unmade),
-    }
 }
 
 /// Adds how many rows of an image of a height each of so many lanes gets.

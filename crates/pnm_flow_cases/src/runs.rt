@@ -36,19 +36,46 @@ pub fn tell_input<R: Threads + Wait + Sync>(
     }
 }
 
-/// Adds what runs over each prefix of this input answer and write, with the length from which on it is that.
-pub fn tell_cuts<R: Threads + Wait + Sync>(
+/// What runs that are told after one another differ in.
+#[derive(Clone, Copy)]
+pub enum Changes<'a> {
+    /// The input is cut after 0 bytes, 1 and so on.
+    Input,
+    /// One of these calls, of this name, fails so much later.
+    Calls(&'a [u8], Calls),
+    /// The writer has room for 0 bytes behind a buffer, 1 and so on.
+    Room,
+}
+
+impl Changes<'_> {
+    /// The job that comes of this one.
+    fn job(self, job: Job<'_>, number: usize) -> Job<'_> {
+        let mut changed = job;
+        match self {
+            Changes::Input => changed.input = job.input.get(..number).unwrap_or(job.input),
+            Changes::Calls(name, calls) => {
+                changed.devices = Devices::Failing(calls.later(name, number));
+            }
+            Changes::Room => changed.devices = Devices::Buffered(number),
+        }
+        changed
+    }
+}
+
+/// Adds what runs that change so answer and write, so many of them, with the number from which on it is that.
+pub fn tell_changes<R: Threads + Wait + Sync>(
     rt: &R,
     alloc: Global,
+    changes: Changes<'_>,
+    count: usize,
     job: Job<'_>,
     told: &mut String,
 ) -> Result<(), Unmade> {
     let mut before = String::new(alloc);
-    for length in 0..=job.input.len() {
+    for number in 0..count {
         let mut answers = String::new(alloc);
-        let input = &job.input[..length];
-        tell_input(rt, alloc, Job { input, ..job }, &mut answers)?;
-        tell_change(told, length, &mut before, answers)?;
+        tell_input(rt, alloc, changes.job(job, number), &mut answers)?;
+        tell_change(told, number, &mut before, answers)?;
     }
     Ok(())
 }
@@ -63,16 +90,20 @@ fn tell_ways<R: Threads + Wait + Sync>(
 ) -> Result<(), Unmade>
     requires { IsChain tools.now }
 {
-    let mut first = String::new(alloc);
-    tell_run(rt, alloc, Way::OneThread, tools, job, &mut first)?;
-    told.push_str(first.as_str())?;
+    tell_run(rt, alloc, Way::OneThread, tools, job, told)?;
     for way in WAYS {
         let mut again = String::new(alloc);
         tell_run(rt, alloc, way, tools, job, &mut again)?;
-        if again.as_str() != first.as_str() {
-            write!(told, " but by {way:?}")?;
-            told.push_str(again.as_str())?;
-        }
+        tell_other(told, way, again.as_str())?;
+    }
+    Ok(())
+}
+
+/// Adds what a run in another way answers and writes, where that is something else than is told.
+fn tell_other(told: &mut String, way: Way, again: &str) -> Result<(), AllocError> {
+    if again != told.as_str() {
+        write!(told, " but by {way:?}")?;
+        told.push_str(again)?;
     }
     Ok(())
 }
@@ -180,25 +211,6 @@ fn tell_failing_run<R: Threads + Wait + Sync>(
     let mut writer = Device::new(Sips::new(alloc, calls.write_size, writes, flushes));
     let answer = run_by(rt, alloc, way, &mut reader, &mut writer, tools, job.form)?;
     tell_answer(told, answer, writer.into_inner().held())
-}
-
-/// Adds what runs answer and write whose writer has room for 0 bytes behind a buffer, 1 and so on, below so many; with
-/// the number from which on it is that.
-pub fn tell_buffered<R: Threads + Wait + Sync>(
-    rt: &R,
-    alloc: Global,
-    count: usize,
-    job: Job<'_>,
-    told: &mut String,
-) -> Result<(), Unmade> {
-    let mut before = String::new(alloc);
-    for size in 0..count {
-        let devices = Devices::Buffered(size);
-        let mut answers = String::new(alloc);
-        tell_input(rt, alloc, Job { devices, ..job }, &mut answers)?;
-        tell_change(told, size, &mut before, answers)?;
-    }
-    Ok(())
 }
 
 /// Adds what a run answered, and what it wrote.
