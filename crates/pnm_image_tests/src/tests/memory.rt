@@ -326,20 +326,57 @@ fn is_head(rt: &impl Abort, tool: &Tool, answer: Result<Head, ToolFault>, want: 
     }
 }
 
-#[test]
-fn inverts_or_runs_out(rt: HostRuntime) {
-    let _ = answers_image(&rt, rt.alloc(), &Tool::Invert, INVERTED);
+/// How many tools the image is given to, those that hold a list left out.
+const TOOLS: usize = 15;
+
+/// Each of them, and what it gives for the image.
+fn tool_at_work(number: usize) -> (Tool, &'static [Part<'static>]) {
+    match number {
+        0 => (Tool::Invert, INVERTED),
+        1 => (Tool::Cut(REST), CUT),
+        // Twelve samples up to 4: the image is worth a table.
+        2 => (Tool::Depth(8), RESCALED),
+        // A row that is made where it comes, and copied where it is given.
+        3 => (Tool::Enlarge(2, 2), ENLARGED),
+        // A row that is copied where it is given, and was kept as it came.
+        4 => (Tool::Enlarge(1, 2), REPEATED),
+        5 => (Tool::Flip(FlipWay::Null), IMAGE),
+        6 => (Tool::Flip(FlipWay::LeftRight), MIRRORED),
+        // Rows that are kept.
+        7 => (Tool::Flip(FlipWay::TopBottom), TURNED),
+        // Rows that are kept, and others that are made at the image's end.
+        8 => (Tool::Flip(FlipWay::Transpose), TRANSPOSED),
+        9 => (Tool::Flip(FlipWay::Rotate90), QUARTER),
+        10 => (Tool::Flip(FlipWay::Rotate180), HALF),
+        11 => (Tool::Flip(FlipWay::Rotate270), THREE_QUARTERS),
+        // More columns and rows than there are, fewer of both, and so few columns that they are copied.
+        12 => (Tool::Tile(4, 3), TILED),
+        13 => (Tool::Tile(1, 2), PIXELS),
+        _ => (Tool::Tile(2, 1), CORNER),
+    }
+}
+
+/// Whether nothing was refused.
+fn gives_images(rt: &impl Abort, alloc: Global) -> bool {
+    let mut goes_on = true;
+    for number in 0..TOOLS {
+        let (tool, wants) = tool_at_work(number);
+        if !answers_image(rt, alloc, &tool, wants) {
+            goes_on = false;
+        }
+    }
+    goes_on
 }
 
 #[test]
-fn cuts_or_runs_out(rt: HostRuntime) {
-    let _ = answers_image(&rt, rt.alloc(), &Tool::Cut(REST), CUT);
+fn gives_images_or_runs_out(rt: HostRuntime) {
+    let _ = gives_images(&rt, rt.alloc());
 }
 
-/// Twelve samples up to 4: the image is worth a table.
+/// Where nothing is refused the images are given.
 #[test]
-fn rescales_or_runs_out(rt: HostRuntime) {
-    let _ = answers_image(&rt, rt.alloc(), &Tool::Depth(8), RESCALED);
+fn gives_images_with_memory(rt: HostRuntime) {
+    assert!(rt; gives_images(&rt, rt.alloc()));
 }
 
 #[test]
@@ -347,72 +384,6 @@ fn picks_or_runs_out(rt: HostRuntime) {
     if let Ok(tool) = channel(rt.alloc(), &[1, 0, 1], "B") {
         let _ = answers_image(&rt, rt.alloc(), &tool, PICKED);
     }
-}
-
-/// A row that is made where it comes, and copied where it is given.
-#[test]
-fn enlarges_or_runs_out(rt: HostRuntime) {
-    let _ = answers_image(&rt, rt.alloc(), &Tool::Enlarge(2, 2), ENLARGED);
-}
-
-/// A row that is copied where it is given, and was kept as it came.
-#[test]
-fn repeats_rows_or_runs_out(rt: HostRuntime) {
-    let _ = answers_image(&rt, rt.alloc(), &Tool::Enlarge(1, 2), REPEATED);
-}
-
-#[test]
-fn mirrors_or_runs_out(rt: HostRuntime) {
-    let alloc = rt.alloc();
-    let _ = answers_image(&rt, alloc, &Tool::Flip(FlipWay::Null), IMAGE);
-    let _ = answers_image(&rt, alloc, &Tool::Flip(FlipWay::LeftRight), MIRRORED);
-}
-
-/// Rows that are kept.
-#[test]
-fn turns_or_runs_out(rt: HostRuntime) {
-    let _ = answers_image(&rt, rt.alloc(), &Tool::Flip(FlipWay::TopBottom), TURNED);
-}
-
-/// Rows that are kept, and others that are made at the image's end.
-#[test]
-fn transposes_or_runs_out(rt: HostRuntime) {
-    let _ = answers_image(&rt, rt.alloc(), &Tool::Flip(FlipWay::Transpose), TRANSPOSED);
-}
-
-#[test]
-fn turns_by_a_quarter_or_runs_out(rt: HostRuntime) {
-    let _ = answers_image(&rt, rt.alloc(), &Tool::Flip(FlipWay::Rotate90), QUARTER);
-}
-
-#[test]
-fn turns_by_two_or_runs_out(rt: HostRuntime) {
-    let _ = answers_image(&rt, rt.alloc(), &Tool::Flip(FlipWay::Rotate180), HALF);
-}
-
-#[test]
-fn turns_by_three_or_runs_out(rt: HostRuntime) {
-    let turn = Tool::Flip(FlipWay::Rotate270);
-    let _ = answers_image(&rt, rt.alloc(), &turn, THREE_QUARTERS);
-}
-
-/// More columns and rows than there are, fewer of both, and so few columns that they are copied.
-/// Whether nothing was refused.
-fn tiles(rt: &impl Abort, alloc: Global) -> bool {
-    let filled = answers_image(rt, alloc, &Tool::Tile(4, 3), TILED);
-    let copied = answers_image(rt, alloc, &Tool::Tile(1, 2), PIXELS);
-    answers_image(rt, alloc, &Tool::Tile(2, 1), CORNER) && filled && copied
-}
-
-#[test]
-fn tiles_or_runs_out(rt: HostRuntime) {
-    let _ = tiles(&rt, rt.alloc());
-}
-
-/// Where nothing is refused the tiles are given.
-#[test]
-fn tiles_with_memory(rt: HostRuntime) {
-    assert!(rt; tiles(&rt, rt.alloc()));
 }
 
 /// How many tools and ways hold no list.
