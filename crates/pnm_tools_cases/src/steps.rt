@@ -151,12 +151,23 @@ fn pass_together<F: Filter>(
     text: &[u8],
     told: &mut String,
 ) -> Result<(), Unmade> {
-    match state.pass_rows(rows_of(alloc, text, true)?) {
+    let answer = state.pass_rows(rows_of(alloc, text, true)?);
+    Ok(tell_passed(alloc, state, answer, told)?)
+}
+
+/// Adds what is made of rows that were passed together, or passes on one by one those that are given back.
+fn tell_passed<F: Filter>(
+    alloc: Global,
+    state: &mut F,
+    answer: Result<Rows, Rows>,
+    told: &mut String,
+) -> Result<(), AllocError> {
+    match answer {
         Ok(made) => {
             tell_rows(alloc, told, &made)?;
-            Ok(take_all(state, Step::Passes, told)?)
+            take_all(state, Step::Passes, told)
         }
-        Err(rows) => Ok(pass_each(alloc, state, &rows, told)?),
+        Err(rows) => pass_each(alloc, state, &rows, told),
     }
 }
 
@@ -213,12 +224,21 @@ fn tell_stays<F: Filter>(
     fault: ToolFault,
     told: &mut String,
 ) -> Result<(), AllocError> {
-    for message in [Message::StreamEnd, Message::Stop, Message::ImageEnd] {
-        if !is_fault(state.next(), fault) || state.feed(message) != Err(fault) {
+    for number in 0..3 {
+        if !is_fault(state.next(), fault) || state.feed(end_of(number)) != Err(fault) {
             told.push_str(" and another answer")?;
         }
     }
     Ok(())
+}
+
+/// A message that ends something, by its number.
+fn end_of(number: usize) -> Message {
+    match number {
+        0 => Message::StreamEnd,
+        1 => Message::Stop,
+        _ => Message::ImageEnd,
+    }
 }
 
 /// Whether an answer is this fault.
