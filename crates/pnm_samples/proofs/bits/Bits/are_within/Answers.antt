@@ -1,3 +1,4 @@
+use Rattle.std.proofs.lemmas.Grind.{common_steps}
 use Rattle.std.proofs.Common.{◌≤◌, get_or, refl, arith}
 use Rattle.std.proofs.lemmas.List.{get_or_default}
 use Rattle.pnm_samples.proofs.PixelRowLaws.{pixels_within}
@@ -14,3 +15,6 @@ returns c = (
       rw (get_or_default c.args.self.now k d 0 lt) small,
   λ _. refl,
 )
+
+pub loop-at-preserved : goal.loop-at-preserved
+loop-at-preserved c = grind (arith, common_steps)

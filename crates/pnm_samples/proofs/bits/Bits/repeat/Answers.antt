@@ -1,3 +1,5 @@
+use Rattle.std.proofs.Common.{arith}
+use Rattle.std.proofs.lemmas.Grind.{common_steps}
 use Rattle.std.proofs.Common.{◌≡◌, ◌∙◌, ℕ, List, sym, ap, subst}
 use Rattle.std.specs.Prelude.{IfOk}
 use Rattle.pnm_samples.proofs.RepeatLaws.{repeated, once}
@@ -7,3 +9,6 @@ pub returns-in-1 : goal.returns-in-1
 returns-in-1 c =
     subst (λ (l : List ℕ). IfOk c.copy.result (λ bits. bits ≡ l)) (once c.args.self.now ∙ ap (λ (k : ℕ). repeated k c.args.self.now) (sym c.in-1.is))
     c.copy.ensures
+
+pub returns-in_default : goal.returns-in_default
+returns-in_default c = grind (arith, common_steps)
