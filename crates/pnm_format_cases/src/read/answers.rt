@@ -16,11 +16,14 @@ pub fn source_by<R: BytesIn + Drop>(
     reader: R,
 ) -> Result<Source<R>, AllocError> {
     let made = match size {
-        None => ReadBuffer::new(alloc),
-        Some(size) => ReadBuffer::with_capacity(alloc, size.max(4096)),
+        None => Source::new(alloc, reader),
+        Some(size) => match ReadBuffer::with_capacity(alloc, size.max(4096)) {
+            Ok(buffer) => Ok(Source::with_buffer(buffer, reader)),
+            Err(fault) => Err(fault),
+        },
     };
     match made {
-        Ok(buffer) => Ok(Source::with_buffer(buffer, reader)),
+        Ok(source) => Ok(source),
         Err(_) => Err(AllocError),
     }
 }
