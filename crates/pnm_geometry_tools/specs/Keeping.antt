@@ -7,7 +7,6 @@ use Rattle.pnm_image.specs.declared.sample_width.SampleWidth.{SampleWidth}
 use Rattle.pnm_image.specs.declared.sample_width.SampleWidth.TheVariants.{Bits as OfBits}
 use Rattle.pnm_image.specs.declared.shape.Shape.{Shape}
 use Rattle.pnm_image.specs.Heads.{IsWithinLimits, row_length}
-use Rattle.pnm_image.specs.Places.{IsRowOf}
 use Rattle.pnm_geometry_tools.specs.declared.enlarge.Enlarger.{Enlarger}
 use Rattle.pnm_tools.specs.declared.flip.FlipWay.{FlipWay}
 use Rattle.pnm_tools.specs.Flip.{turn_of, in_order, column_of}

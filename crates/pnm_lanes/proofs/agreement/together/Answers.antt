@@ -1,6 +1,5 @@
-use Rattle.std.proofs.Common.{arith}
-use Rattle.std.proofs.lemmas.Grind.{common_steps}
+use Rattle.std.proofs.Common.{rules}
 use Rattle.pnm_lanes.proofs.agreement.together.Goals as goal
 
 pub returns-in_ok-height-in-Begin-clause-found : goal.returns-in_ok-height-in-Begin-clause-found
-returns-in_ok-height-in-Begin-clause-found c = grind (arith, common_steps)
+returns-in_ok-height-in-Begin-clause-found c = search rules

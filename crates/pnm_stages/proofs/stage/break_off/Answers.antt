@@ -1,9 +1,8 @@
-use Rattle.std.proofs.Common.{arith}
-use Rattle.std.proofs.lemmas.Grind.{common_steps}
+use Rattle.std.proofs.Common.{rules}
 use Rattle.pnm_stages.proofs.stage.break_off.Goals as goal
 
 pub returns-then-drained-clause-broken : goal.returns-then-drained-clause-broken
-returns-then-drained-clause-broken g c = grind (arith, common_steps)
+returns-then-drained-clause-broken g c = search rules
 
 pub returns-else-told-clause-broken : goal.returns-else-told-clause-broken
-returns-else-told-clause-broken g c = grind (arith, common_steps)
+returns-else-told-clause-broken g c = search rules

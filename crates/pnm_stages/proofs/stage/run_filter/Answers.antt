@@ -1,5 +1,4 @@
-use Rattle.std.proofs.Common.{arith}
-use Rattle.std.proofs.lemmas.Grind.{common_steps}
+use Rattle.std.proofs.Common.{rules}
 use Rattle.pnm_stages.proofs.RingSteps.{same_output}
 use Rattle.pnm_stages.proofs.stage.run_filter.Goals as goal
 
@@ -11,4 +10,4 @@ returns-clause-output g c =
     same_output c.args.output c.hold_back.new.self c.pass_all-end.new.output c.hold_back.ensures.ring c.pass_all-end.ensures.output
 
 pub returns-clause-ran : goal.returns-clause-ran
-returns-clause-ran g c = grind (arith, common_steps)
+returns-clause-ran g c = search rules

@@ -1,6 +1,5 @@
-use Rattle.std.proofs.Common.{arith}
-use Rattle.std.proofs.lemmas.Grind.{common_steps}
+use Rattle.std.proofs.Common.{rules}
 use Rattle.pnm_geometry_tools.proofs.transpose.Transposer.new.Goals as goal
 
 pub returns-clause-way : goal.returns-clause-way
-returns-clause-way c = grind (arith, common_steps)
+returns-clause-way c = search rules

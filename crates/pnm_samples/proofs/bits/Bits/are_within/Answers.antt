@@ -1,4 +1,4 @@
-use Rattle.std.proofs.lemmas.Grind.{common_steps}
+use Rattle.std.proofs.Common.{rules}
 use Rattle.std.proofs.Common.{◌≤◌, get_or, refl, arith}
 use Rattle.std.proofs.lemmas.List.{get_or_default}
 use Rattle.pnm_samples.proofs.PixelRowLaws.{pixels_within}
@@ -17,4 +17,4 @@ returns c = (
 )
 
 pub loop-at-preserved : goal.loop-at-preserved
-loop-at-preserved c = grind (arith, common_steps)
+loop-at-preserved c = search rules

@@ -1,5 +1,4 @@
-use Rattle.std.proofs.Common.{arith}
-use Rattle.std.proofs.lemmas.Grind.{common_steps}
+use Rattle.std.proofs.Common.{rules}
 use Rattle.std.proofs.Common.{◌≡◌, ◌∙◌, ℕ, List, sym, ap, subst}
 use Rattle.std.specs.Prelude.{IfOk}
 use Rattle.pnm_samples.proofs.RepeatLaws.{repeated, once}
@@ -11,4 +10,4 @@ returns-in-1 c =
     c.copy.ensures
 
 pub returns-in_default : goal.returns-in_default
-returns-in_default c = grind (arith, common_steps)
+returns-in_default c = search rules

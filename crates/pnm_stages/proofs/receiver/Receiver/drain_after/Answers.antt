@@ -1,6 +1,5 @@
-use Rattle.std.proofs.Common.{arith}
-use Rattle.std.proofs.lemmas.Grind.{common_steps}
+use Rattle.std.proofs.Common.{rules}
 use Rattle.pnm_stages.proofs.receiver.Receiver.drain_after.Goals as goal
 
 pub returns-in-Whole : goal.returns-in-Whole
-returns-in-Whole g c = grind (arith, common_steps)
+returns-in-Whole g c = search rules

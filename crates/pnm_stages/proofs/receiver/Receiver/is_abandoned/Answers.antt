@@ -1,6 +1,5 @@
-use Rattle.std.proofs.Common.{arith}
-use Rattle.std.proofs.lemmas.Grind.{common_steps}
+use Rattle.std.proofs.Common.{rules}
 use Rattle.pnm_stages.proofs.receiver.Receiver.is_abandoned.Goals as goal
 
 pub returns-clause-received : goal.returns-clause-received
-returns-clause-received c = grind (arith, common_steps)
+returns-clause-received c = search rules

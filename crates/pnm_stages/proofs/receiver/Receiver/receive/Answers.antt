@@ -1,6 +1,5 @@
-use Rattle.std.proofs.Common.{arith}
-use Rattle.std.proofs.lemmas.Grind.{common_steps}
+use Rattle.std.proofs.Common.{rules}
 use Rattle.pnm_stages.proofs.receiver.Receiver.receive.Goals as goal
 
 pub returns-then-has_message-clause-none_seen : goal.returns-then-has_message-clause-none_seen
-returns-then-has_message-clause-none_seen g c = grind (arith, common_steps)
+returns-then-has_message-clause-none_seen g c = search rules

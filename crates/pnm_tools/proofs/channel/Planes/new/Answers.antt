@@ -1,6 +1,5 @@
-use Rattle.std.proofs.Common.{arith}
-use Rattle.std.proofs.lemmas.Grind.{common_steps}
+use Rattle.std.proofs.Common.{rules}
 use Rattle.pnm_tools.proofs.channel.Planes.new.Goals as goal
 
 pub returns-clause-tuple_type : goal.returns-clause-tuple_type
-returns-clause-tuple_type c = grind (arith, common_steps)
+returns-clause-tuple_type c = search rules

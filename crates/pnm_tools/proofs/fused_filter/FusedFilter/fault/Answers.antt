@@ -1,6 +1,5 @@
-use Rattle.std.proofs.Common.{arith}
-use Rattle.std.proofs.lemmas.Grind.{common_steps}
+use Rattle.std.proofs.Common.{rules}
 use Rattle.pnm_tools.proofs.fused_filter.FusedFilter.fault.Goals as goal
 
 pub returns-in-Refused : goal.returns-in-Refused
-returns-in-Refused g c = grind (arith, common_steps)
+returns-in-Refused g c = search rules
