@@ -113,7 +113,11 @@ impl RowTool for Planes {
     }
 }
 
-/// The head of the picked image, or the refusal.
+/// The head of the image of these planes, as pamchannel(1) has it: PAM of as many planes, with their tuple type.
+///
+/// # Errors
+///
+/// `ChannelOutside` where the image lacks one of the planes; then as `head_within_limits`.
 pub fn picked_head(alloc: Global, planes: &Planes, head: &Head) -> Result<Head, ToolFault>
     requires { IsLawfulPick planes.now }
     ensures made { IfOk result (λ made. result_head (Channel planes.now) head.now ≡ Ok made) }

@@ -219,7 +219,12 @@ impl RowTool for Rescaler {
     }
 }
 
-/// The head of the rescaled image, or the refusal.
+/// The head of the image with this maxval, as pamdepth(1) has it: bits are gray, and black and white is grayscale, at
+/// any maxval but 1.
+///
+/// # Errors
+///
+/// As `head_within_limits`.
 pub fn rescaled_head(alloc: Global, maxval: u32, head: &Head) -> Result<Head, ToolFault>
     requires { (1 ≤ maxval) × (maxval ≤ MAX_MAXVAL) }
     ensures made { IfOk result (λ made. result_head (Depth maxval) head.now ≡ Ok made) }

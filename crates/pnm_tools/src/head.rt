@@ -15,6 +15,11 @@ use pnm_image::{Head, HeadFault, Shape};
 use std::alloc::Global;
 
 /// The head of a result with these fields, which may have height 0 as the image's has.
+///
+/// # Errors
+///
+/// `TooLarge` where its width, height, depth or samples a row are beyond the limits of images; else `Memory`, where
+/// there is none for the tuple type.
 pub fn head_within_limits(alloc: Global, shape: Shape, tuple_type: &[u8]) -> Result<Head, ToolFault>
     requires some { (1 ≤ shape.width) × (1 ≤ shape.depth) }
     requires maxval { (1 ≤ shape.maxval) × (shape.maxval ≤ MAX_MAXVAL) }
@@ -36,7 +41,11 @@ pub fn head_within_limits(alloc: Global, shape: Shape, tuple_type: &[u8]) -> Res
     }
 }
 
-/// The head of the flipped image, or the refusal.
+/// The head of the image flipped this way, as pamflip(1) has it: the sizes exchanged where columns and rows are.
+///
+/// # Errors
+///
+/// `OutOfOrder` where the height is 0 and rows don't stay in their places; then as `head_within_limits`.
 pub fn flipped_head(alloc: Global, way: FlipWay, head: &Head) -> Result<Head, ToolFault>
     ensures made { IfOk result (λ made. result_head (Flip way) head.now ≡ Ok made) }
     ensures limits { OnOk result (IsWithinLimits head.now.shape) }
