@@ -49,6 +49,7 @@ gate:
 	test ! -e bin/gate-failed
 	python3 scripts/refused.py growth start silent tests --program $(PROGRAM)/out/pnmpipe
 	python3 scripts/idle.py --program $(PROGRAM)/out/pnmpipe
+	python3 scripts/waits.py --program $(PROGRAM)/out/pnmpipe
 	python3 scripts/room.py --program $(PROGRAM)/out/pnmpipe
 	$(MAKE) --no-print-directory scripts BUILT=$(PROGRAM)/out/pnmpipe
 	python3 scripts/cases.py

@@ -61,12 +61,15 @@ pub fn run<H: Threads + Wait + Sync, R: BytesIn, W: BytesOut, G: Gate>(
     ensures same_reader { result ≢ Err NotStarted → R.same reader.old reader.new }
     ensures same_writer { result ≢ Err NotStarted → W.same writer.old writer.new }
 {
-    let (Some((to_chain, input)), Some((output, from_chain))) = (
+    let (Some((to_chain, input)), Some((mut output, from_chain))) = (
         new_ring(alloc, capacity),
         new_ring(alloc, capacity),
     ) else {
         return Err(RunFault::NoStart);
     };
+    if !output.set_home(&to_chain) {
+        return Err(RunFault::NoStart);
+    }
     let Buffers { read, write } = match Buffers::new(alloc) {
         Ok(buffers) => buffers,
         Err(fault) => return Err(RunFault::Input(fault)),

@@ -12,9 +12,7 @@ use crate::lanes::run_lanes_beside;
 use pnm_filters::filter_of;
 use pnm_image::Message;
 use pnm_lanes::LaneRings;
-use pnm_stages::{
-    Backoff, Call, Gate, Receiver, Sender, StageDone, Task, new_ring, run_both, run_filter,
-};
+use pnm_stages::{Call, Gate, Receiver, Sender, StageDone, Task, new_ring, run_both, run_filter};
 use pnm_tools::Tool;
 use std::alloc::Global;
 use std::sync::Wait;
@@ -105,7 +103,7 @@ impl<'a, R: Wait> Task for Announcer<'a, R> {
 
     fn run(self) {
         let Announcer { rt, mut tells } = self;
-        tells.send(rt, Message::StreamEnd, &mut Backoff::new());
+        tells.send(rt, Message::StreamEnd);
     }
 }
 
@@ -131,7 +129,7 @@ impl<'a, R: Wait, T: Task<Output = B> + Drop, B: Drop> Task for Listener<'a, R, 
             mut hears,
             beside,
         } = self;
-        hears.receive(rt, &mut Backoff::new())?;
+        hears.receive(rt)?;
         Some(beside.run())
     }
 }

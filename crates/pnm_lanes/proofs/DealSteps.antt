@@ -26,8 +26,8 @@ use Rattle.pnm_stages.proofs.ParcelLaws.{ends_with_parcel}
 use Rattle.pnm_stages.proofs.RingSteps.{ends_nothing, same_output}
 use Rattle.pnm_stages.proofs.PrefixLaws.{stop_is_cut}
 use Rattle.pnm_lanes.specs.Deals.{AtEach, HasSentSo, IsPrefixOfDealt, HasLane, HasDealt}
-use Rattle.pnm_lanes.specs.DealParts.{part_at, IsSentPart, HasSentParts, IsSentAll, HasDealtAll, HasDealtMessages}
-use Rattle.pnm_lanes.proofs.EachLaws.{each-map, each-count}
+use Rattle.pnm_lanes.specs.DealParts.{part_at, IsSameEnd, IsSentPart, HasSentParts, IsSentAll, HasDealtAll, HasDealtMessages}
+use Rattle.pnm_lanes.proofs.EachLaws.{each-map, each-then, each-count}
 use Rattle.pnm_lanes.proofs.DealtLaws.{dealt_more, dealt_goes_on, dealt_part_goes_on, itself_prefix, before_stop_prefix}
 use Rattle.pnm_lanes.proofs.MessageSteps.{none_dealt, dealt_then}
 
@@ -57,6 +57,25 @@ deals_nothing l outputs = record {
   ends = refl;
   here = refl;
   lanes = (none_dealt Between outputs).1;
+}
+
+all_then_same : (lanes : ℕ) (took : List Message) (lane : ℕ) (old now new : Sender) → HasAll lanes took lane old now → IsSameEnd lane now new
+    → HasAll lanes took lane old new
+all_then_same lanes took lane old now new all same = (same_output old now new all.0 same.0, same.1 ∙ all.1)
+
+-- nothing more was received or sent
+pub wakes_dealing : (place : Place) (received_old received_now received_new : List Message) (olds nows news : List Sender)
+    → IsDealing More place received_old received_now olds nows → received_new ≡ received_now → AtEach IsSameEnd nows news
+    → IsDealing More place received_old received_new olds news
+wakes_dealing place received_old received_now received_new olds nows news dealing same woken = record {
+  took = dealing.took;
+  input = same ∙ dealing.input;
+  messages = dealing.messages;
+  lawful = dealing.lawful;
+  ends = dealing.ends;
+  here = dealing.here;
+  lanes = each-then (HasAll (length olds) dealing.took) IsSameEnd (HasAll (length olds) dealing.took) 0 olds nows news
+      (all_then_same (length olds) dealing.took) dealing.lanes woken;
 }
 
 -- the parts of the lanes, by the number of lanes at the beginning

@@ -12,8 +12,8 @@ use Rattle.pnm_stages.specs.declared.stage.StageEnd.{StageEnd}
 use Rattle.pnm_stages.specs.declared.stage.StageEnd.TheVariants.{Fault, PeerGone}
 use Rattle.pnm_stages.proofs.RingSteps.{same_output, itself_output}
 use Rattle.pnm_lanes.specs.Deals.{AtEach}
-use Rattle.pnm_lanes.specs.DealParts.{row_part, IsSentPart, HasSentParts}
-use Rattle.pnm_lanes.proofs.EachLaws.{each-map, each-itself, each-below, each-set}
+use Rattle.pnm_lanes.specs.DealParts.{row_part, IsSameEnd, IsSentPart, HasSentParts}
+use Rattle.pnm_lanes.proofs.EachLaws.{each-map, each-itself, each-then, each-count, each-below, each-set}
 
 -- ---- one lane after another
 
@@ -108,9 +108,6 @@ leaves_off next part unsent olds nows sending = record {
 
 -- ---- a row
 
-abbrev IsSame : ℕ → Sender → Sender → Type 0
-IsSame lane old now = SameSender old now × (sent now ≡ sent old)
-
 its_row : (lane lanes y : ℕ) (row : List ℕ) → y % lanes ≡ lane → row_part lanes y row lane ≡ Row row ∷ []
 its_row lane lanes y row is =
     let its : ((y % lanes) == lane) ≡ true = grind (arith, nat_tests) in
@@ -125,19 +122,19 @@ pub sends_row : (lane y : ℕ) (row : List ℕ) (outputs : List Sender) (was new
     → was ≡ get_or outputs lane other → SameSender was new → sent new ≡ sent was ++ Row row ∷ []
     → HasSentParts (row_part (length outputs) y row) None outputs (slice_set outputs lane new)
 sends_row lane y row outputs was new other here lt is same added = record {
-  lanes = each-set IsSame (IsSentPart (row_part (length outputs) y row) None) lane 0 lane outputs outputs other new (omega arith) lt
+  lanes = each-set IsSameEnd (IsSentPart (row_part (length outputs) y row) None) lane 0 lane outputs outputs other new (omega arith) lt
       (λ n old now differs unchanged. (
         unchanged.0,
         inl (unchanged.1 ∙ sym (append-nil (sent old))
             ∙ ap (λ (x : List Message). sent old ++ x) (sym (no_row n (length outputs) y row (λ e. differs (e ∙ sym here))))),
       ))
       (λ old unchanged.
-      let same_was : IsSame lane old was = subst (λ (x : Sender). IsSame lane old x) (sym is) unchanged in (
+      let same_was : IsSameEnd lane old was = subst (λ (x : Sender). IsSameEnd lane old x) (sym is) unchanged in (
         same_output old was new same_was.0 same,
         inl (added ∙ ap (λ (x : List Message). x ++ Row row ∷ []) same_was.1
             ∙ ap (λ (x : List Message). sent old ++ x) (sym (its_row lane (length outputs) y row (sym here)))),
       ))
-      (each-itself IsSame 0 outputs (λ n x. (itself_output x, refl)));
+      (each-itself IsSameEnd 0 outputs (λ n x. (itself_output x, refl)));
   reason = tt;
 }
 
@@ -145,11 +142,68 @@ pub misses_row : (lane y : ℕ) (row : List ℕ) (outputs : List Sender) (was ne
     → was ≡ get_or outputs lane other → SameSender was new → sent new ≡ sent was
     → HasSentParts (row_part (length outputs) y row) (Some PeerGone) outputs (slice_set outputs lane new)
 misses_row lane y row outputs was new other lt is same none = record {
-  lanes = each-set IsSame (IsSentPart (row_part (length outputs) y row) (Some PeerGone)) lane 0 lane outputs outputs other new (omega arith) lt
+  lanes = each-set IsSameEnd (IsSentPart (row_part (length outputs) y row) (Some PeerGone)) lane 0 lane outputs outputs other new (omega arith) lt
       (λ n old now differs unchanged. (unchanged.0, inr (unchanged.1, refl)))
       (λ old unchanged.
-      let same_was : IsSame lane old was = subst (λ (x : Sender). IsSame lane old x) (sym is) unchanged in
+      let same_was : IsSameEnd lane old was = subst (λ (x : Sender). IsSameEnd lane old x) (sym is) unchanged in
       (same_output old was new same_was.0 same, inr (none ∙ same_was.1, refl)))
-      (each-itself IsSame 0 outputs (λ n x. (itself_output x, refl)));
+      (each-itself IsSameEnd 0 outputs (λ n x. (itself_output x, refl)));
   reason = inr refl;
 }
+
+-- ---- lanes that were woken, and sent nothing
+
+-- the end of one lane's ring was changed so
+pub wakes_one : (at : ℕ) (olds nows : List Sender) (was new other : Sender) → at < length nows → was ≡ get_or nows at other → SameSender was new
+    → sent new ≡ sent was → AtEach IsSameEnd olds nows → AtEach IsSameEnd olds (slice_set nows at new)
+wakes_one at olds nows was new other lt is same none each =
+    each-set IsSameEnd IsSameEnd at 0 at olds nows other new (omega arith) lt (λ n old now differs unchanged. unchanged)
+    (λ old unchanged.
+    let same_was : IsSameEnd at old was = subst (λ (x : Sender). IsSameEnd at old x) (sym is) unchanged in
+    (same_output old was new same_was.0 same, none ∙ same_was.1)) each
+
+pub wakes_none : (outputs : List Sender) → AtEach IsSameEnd outputs outputs
+wakes_none outputs = each-itself IsSameEnd 0 outputs (λ n x. (itself_output x, refl))
+
+one_then : (lane : ℕ) (old now new : Sender) → IsSameEnd lane old now → IsSameEnd lane now new → IsSameEnd lane old new
+one_then lane old now new first second = (same_output old now new first.0 second.0, second.1 ∙ first.1)
+
+pub wakes_then : (olds nows news : List Sender) → AtEach IsSameEnd olds nows → AtEach IsSameEnd nows news → AtEach IsSameEnd olds news
+wakes_then olds nows news first second = each-then IsSameEnd IsSameEnd IsSameEnd 0 olds nows news one_then first second
+
+pub woken_count : (olds nows : List Sender) → AtEach IsSameEnd olds nows → length nows ≡ length olds
+woken_count olds nows woken = each-count IsSameEnd 0 olds nows woken
+
+below_then : (next : ℕ) (part : ℕ → List Message) (unsent : Option StageEnd) (lane : ℕ) (old now new : Sender) → IsSentBelow next part unsent lane old now
+    → IsSameEnd lane now new → IsSentBelow next part unsent lane old new
+below_then next part unsent lane old now new (ring, inl (lt, inl is)) same = (same_output old now new ring same.0, inl (lt, inl (same.1 ∙ is)))
+below_then next part unsent lane old now new (ring, inl (lt, inr lost)) same =
+    (same_output old now new ring same.0, inl (lt, inr (same.1 ∙ lost.0, lost.1)))
+below_then next part unsent lane old now new (ring, inr (le, none)) same = (same_output old now new ring same.0, inr (le, same.1 ∙ none))
+
+-- some lanes have been sent their parts, and then all were woken
+pub sending_then_wakes : (next : ℕ) (part : ℕ → List Message) (unsent : Option StageEnd) (olds nows news : List Sender) → IsSending next part unsent olds nows
+    → AtEach IsSameEnd nows news → IsSending next part unsent olds news
+sending_then_wakes next part unsent olds nows news sending woken = record {
+  lanes = each-then (IsSentBelow next part unsent) IsSameEnd (IsSentBelow next part unsent) 0 olds nows news (below_then next part unsent) sending.lanes woken;
+  reason = sending.reason;
+}
+
+part_then : (part : ℕ → List Message) (unsent : Option StageEnd) (lane : ℕ) (old now new : Sender) → IsSameEnd lane old now
+    → IsSentPart part unsent lane now new → IsSentPart part unsent lane old new
+part_then part unsent lane old now new same (ring, inl is) =
+    (same_output old now new same.0 ring, inl (is ∙ ap (λ (x : List Message). x ++ part lane) same.1))
+part_then part unsent lane old now new same (ring, inr lost) = (same_output old now new same.0 ring, inr (lost.0 ∙ same.1, lost.1))
+
+-- all lanes were woken, and then a row was sent
+pub wakes_then_row : (y : ℕ) (row : List ℕ) (unsent : Option StageEnd) (olds nows news : List Sender) → AtEach IsSameEnd olds nows
+    → HasSentParts (row_part (length nows) y row) unsent nows news → HasSentParts (row_part (length olds) y row) unsent olds news
+wakes_then_row y row unsent olds nows news woken sent_row =
+    let count : length nows ≡ length olds = woken_count olds nows woken in
+    let parts : HasSentParts (row_part (length olds) y row) unsent nows news =
+    subst (λ (n : ℕ). HasSentParts (row_part n y row) unsent nows news) count sent_row in
+    record {
+      lanes = each-then IsSameEnd (IsSentPart (row_part (length olds) y row) unsent) (IsSentPart (row_part (length olds) y row) unsent) 0 olds nows news
+          (part_then (row_part (length olds) y row) unsent) woken parts.lanes;
+      reason = parts.reason;
+    }

@@ -35,6 +35,10 @@ row_part lanes y row lane = map Row (dealt_row lane lanes y row)
 abbrev pub lane_part : ℕ → Message → ℕ → List Message
 lane_part lanes m lane = dealt_message lane lanes Between m
 
+-- nothing was sent
+abbrev pub IsSameEnd : ℕ → Sender → Sender → Type 0
+IsSameEnd lane old new = SameSender old new × (sent new ≡ sent old)
+
 -- a lane was sent its part, or nothing where not each lane could be sent its own
 abbrev pub IsSentPart : (ℕ → List Message) → Option StageEnd → ℕ → Sender → Sender → Type 0
 IsSentPart part unsent lane old new = SameSender old new

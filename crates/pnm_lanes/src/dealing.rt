@@ -10,13 +10,13 @@ ghost use Rattle.pnm_tools.specs.declared.fault.ToolFault.TheVariants.{OutOfOrde
 ghost use Rattle.pnm_tools.specs.Dealing.{dealt_height};
 ghost use Rattle.pnm_stages.specs.declared.stage.StageEnd.TheVariants.{Fault};
 ghost use Rattle.pnm_lanes.specs.Limits.{IsLaneCount};
-ghost use Rattle.pnm_lanes.specs.Deals.{HasDealt};
-ghost use Rattle.pnm_lanes.specs.DealParts.{IsRow, part_at, row_part, lane_part, HasSentParts};
+ghost use Rattle.pnm_lanes.specs.Deals.{AtEach, HasDealt};
+ghost use Rattle.pnm_lanes.specs.DealParts.{IsRow, IsSameEnd, part_at, row_part, lane_part, HasSentParts};
 ghost use Rattle.pnm_lanes.specs.DealParts.{HasDealtMessages, HasBrokenOffDealing};
 ghost use Rattle.pnm_lanes.specs.declared.lane.TheConstants.{MAX_LANES};
 
 use pnm_image::{Ending, Message, Place, Rows, Samples};
-use pnm_stages::{Backoff, Parcel, Receiver, Sender, StageEnd};
+use pnm_stages::{Parcel, Receiver, Sender, StageEnd};
 use pnm_tools::ToolFault;
 use std::alloc::Global;
 use std::sync::Wait;
@@ -70,18 +70,19 @@ fn deal_all<R: Wait>(
         outputs.old outputs.new }
 {
     let mut place = Place::new();
-    let backoff = &mut Backoff::new();
+    hold_back_each(outputs);
     for _ in rt.forever() {
-        let Some(parcel) = input.receive(rt, backoff) else {
+        wake_before_input(input, outputs);
+        let Some(parcel) = input.receive(rt) else {
             let end = StageEnd::PeerGone;
-            return break_off(rt, end, Ending::More, input, outputs, backoff);
+            return break_off(rt, end, Ending::More, input, outputs);
         };
         let ending = parcel.ending();
-        if let Some(end) = deal_parcel(rt, alloc, &mut place, parcel, outputs, backoff) {
+        if let Some(end) = deal_parcel(rt, alloc, &mut place, parcel, outputs) {
             if is_end_dealt(end, ending) {
                 return StageEnd::PeerGone;
             }
-            return break_off(rt, end, ending, input, outputs, backoff);
+            return break_off(rt, end, ending, input, outputs);
         }
         match ending {
             Ending::More => {}
@@ -112,14 +113,13 @@ fn deal_parcel<R: Wait>(
     place: &mut Place,
     parcel: Parcel,
     outputs: &mut [Sender],
-    backoff: &mut Backoff,
 ) -> Option<StageEnd>
     requires { IsLaneCount (length outputs.old) }
     ensures { HasDealtMessages place.old place.new (messages_in parcel) result outputs.old outputs.new }
 {
     match parcel {
-        Parcel::Message(message) => deal_message(rt, place, message, outputs, backoff),
-        Parcel::Rows(rows) => deal_rows(rt, alloc, place, &rows, outputs, backoff),
+        Parcel::Message(message) => deal_message(rt, place, message, outputs),
+        Parcel::Rows(rows) => deal_rows(rt, alloc, place, &rows, outputs),
     }
 }
 
@@ -130,7 +130,6 @@ fn deal_rows<R: Wait>(
     place: &mut Place,
     rows: &Rows,
     outputs: &mut [Sender],
-    backoff: &mut Backoff,
 ) -> Option<StageEnd>
     requires { IsLaneCount (length outputs.old) }
     ensures { HasDealtMessages place.old place.new (row_messages rows.now) result outputs.old outputs.new }
@@ -139,7 +138,7 @@ fn deal_rows<R: Wait>(
         let Ok(row) = rows.row(alloc, at) else {
             return Some(StageEnd::Fault(ToolFault::Memory));
         };
-        if let Some(end) = deal_message(rt, place, Message::Row(row), outputs, backoff) {
+        if let Some(end) = deal_message(rt, place, Message::Row(row), outputs) {
             return Some(end);
         }
     }
@@ -152,7 +151,6 @@ fn deal_message<R: Wait>(
     place: &mut Place,
     message: Message,
     outputs: &mut [Sender],
-    backoff: &mut Backoff,
 ) -> Option<StageEnd>
     requires { IsLaneCount (length outputs.old) }
     ensures { HasDealtMessages place.old place.new (message ∷ []) result outputs.old outputs.new }
@@ -162,7 +160,7 @@ fn deal_message<R: Wait>(
     }
     let here = *place;
     place.step(&message);
-    send_parts(rt, here, message, outputs, backoff)
+    send_parts(rt, here, message, outputs)
 }
 
 /// Sends each lane its part of a message at this place. Where not each can be sent its own, some may have been, and it
@@ -172,7 +170,6 @@ fn send_parts<R: Wait>(
     place: Place,
     message: Message,
     outputs: &mut [Sender],
-    backoff: &mut Backoff,
 ) -> Option<StageEnd>
     requires lanes { IsLaneCount (length outputs.old) }
     requires place { Accepts place message }
@@ -183,25 +180,20 @@ fn send_parts<R: Wait>(
             let Place::Inside(_, y) = place else {
                 unreachable!();
             };
-            send_row(rt, y, row, outputs, backoff)
+            send_row(rt, y, row, outputs)
         }
-        other => send_each(rt, &other, outputs, backoff),
+        other => send_each(rt, &other, outputs),
     }
 }
 
 /// Sends the row with this number to its lane.
-fn send_row<R: Wait>(
-    rt: &R,
-    y: u32,
-    row: Samples,
-    outputs: &mut [Sender],
-    backoff: &mut Backoff,
-) -> Option<StageEnd>
+fn send_row<R: Wait>(rt: &R, y: u32, row: Samples, outputs: &mut [Sender]) -> Option<StageEnd>
     requires { IsLaneCount (length outputs.old) }
     ensures { HasSentParts (row_part (length outputs.old) y row) result outputs.old outputs.new }
 {
     let lane = y as usize % outputs.len();
-    if outputs[lane].send(rt, Message::Row(row), backoff) {
+    wake_before_room(outputs, lane);
+    if outputs[lane].send(rt, Message::Row(row)) {
         None
     } else {
         Some(StageEnd::PeerGone)
@@ -209,12 +201,7 @@ fn send_row<R: Wait>(
 }
 
 /// Sends each lane its part of a message that isn't a row, and goes on past a lane whose other end was seen dropped.
-fn send_each<R: Wait>(
-    rt: &R,
-    message: &Message,
-    outputs: &mut [Sender],
-    backoff: &mut Backoff,
-) -> Option<StageEnd>
+fn send_each<R: Wait>(rt: &R, message: &Message, outputs: &mut [Sender]) -> Option<StageEnd>
     requires lanes { IsLaneCount (length outputs.old) }
     requires message { IsRow message.now → ⊥ }
     ensures { HasSentParts (lane_part (length outputs.old) message.now) result outputs.old outputs.new }
@@ -225,11 +212,50 @@ fn send_each<R: Wait>(
         let Some(part) = part_of(message, lane, lanes) else {
             return Some(StageEnd::Fault(ToolFault::Memory));
         };
-        if !outputs[lane].send(rt, part, backoff) {
+        wake_before_room(outputs, lane);
+        if !outputs[lane].send(rt, part) {
             unsent = Some(StageEnd::PeerGone);
         }
     }
     unsent
+}
+
+/// From now on each lane is woken once for several short messages, and so before the dealer waits for anything.
+fn hold_back_each(outputs: &mut [Sender])
+    ensures { AtEach IsSameEnd outputs.old outputs.new }
+{
+    for lane in 0..outputs.len() {
+        outputs[lane].hold_back();
+    }
+}
+
+/// Wakes each lane for what it was sent, where the next message of the input may have to be waited for.
+fn wake_before_input(input: &mut Receiver, outputs: &mut [Sender])
+    ensures input { SameReceiver input.old input.new × (received input.new ≡ received input.old) }
+    ensures outputs { AtEach IsSameEnd outputs.old outputs.new }
+{
+    if !input.has_message() {
+        wake_each(outputs);
+    }
+}
+
+/// Wakes each lane for what it was sent, where room in this lane's ring may have to be waited for.
+fn wake_before_room(outputs: &mut [Sender], lane: usize)
+    requires { lane < length outputs.old }
+    ensures { AtEach IsSameEnd outputs.old outputs.new }
+{
+    if !outputs[lane].has_room() {
+        wake_each(outputs);
+    }
+}
+
+/// Wakes each lane, where something was sent to it that it wasn't woken for.
+fn wake_each(outputs: &mut [Sender])
+    ensures { AtEach IsSameEnd outputs.old outputs.new }
+{
+    for lane in 0..outputs.len() {
+        outputs[lane].wake_receiver();
+    }
 }
 
 /// A lane's part of a message that isn't a row: a head with the number of the lane's rows as the height, or the same
@@ -274,15 +300,14 @@ fn break_off<R: Wait>(
     ending: Ending,
     input: &mut Receiver,
     outputs: &mut [Sender],
-    backoff: &mut Backoff,
 ) -> StageEnd
     requires { IsLaneCount (length outputs.old) }
     ensures input { SameReceiver input.old input.new }
     ensures broken { HasBrokenOffDealing end ending result
         (received input.old) (received input.new) (known_items input.new) outputs.old outputs.new }
 {
-    let untold = send_each(rt, &Message::Stop, outputs, backoff);
-    let drained = input.drain_after(rt, ending, backoff);
+    let untold = send_each(rt, &Message::Stop, outputs);
+    let drained = input.drain_after(rt, ending);
     if untold.is_none() && drained {
         end
     } else {

@@ -9,7 +9,7 @@ ghost use Rattle.pnm_lanes.specs.GatherParts.{HasDrainedOne, CarriesOn, HasDrain
 
 use crate::lane::LaneState;
 use pnm_image::Ending;
-use pnm_stages::{Backoff, Parcel, Receiver};
+use pnm_stages::{Parcel, Receiver};
 use std::sync::Wait;
 
 /// Takes and drops what comes from the lanes that haven't ended, each through the end of its stream or Stop. It tries
@@ -21,26 +21,23 @@ pub fn drain_all<R: Wait>(rt: &R, inputs: &mut [Receiver], states: &mut [LaneSta
     ensures drained { HasDrainedAll (length inputs.old) result states.old states.new (at_lane received inputs.old)
         (at_lane received inputs.new) (at_lane known_items inputs.old) (at_lane known_items inputs.new) }
 {
-    let mut backoff = Backoff::among_several();
     for _ in rt.forever() {
         let has_moved = drain_round(inputs, states);
         if let Some(have_ended) = outcome(states) {
             return have_ended;
         }
-        if has_moved {
-            backoff.reset();
-        } else {
-            wait(rt, inputs, states, &mut backoff);
+        if !has_moved {
+            wait(rt, inputs, states);
         }
     }
     unreachable!()
 }
 
 /// One turn of waiting for a message of the first lane that is open.
-fn wait<R: Wait>(rt: &R, inputs: &[Receiver], states: &[LaneState], backoff: &mut Backoff) {
+fn wait<R: Wait>(rt: &R, inputs: &[Receiver], states: &[LaneState]) {
     let first_open = states.iter().position(|state| *state == LaneState::Open);
     if let Some(input) = first_open.and_then(|lane| inputs.get(lane)) {
-        input.wait(rt, backoff);
+        input.wait(rt);
     }
 }
 

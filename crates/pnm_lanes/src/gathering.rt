@@ -10,7 +10,7 @@ use crate::drain::drain_all;
 use crate::lane::{LaneState, MAX_LANES};
 use crate::next::receive_next;
 use pnm_image::{Ending, Message, Place};
-use pnm_stages::{Backoff, Receiver, Sender, StageEnd};
+use pnm_stages::{Receiver, Sender, StageEnd};
 use std::sync::Wait;
 
 /// The ring ends of a gatherer that has ended, and how it did.
@@ -60,17 +60,16 @@ fn gather_all<R: Wait>(rt: &R, inputs: &mut [Receiver], output: &mut Sender) -> 
         (at_lane known_items inputs.new) (sent output.old) (sent output.new) }
 {
     let mut place = Place::new();
-    let backoff = &mut Backoff::new();
     for _ in rt.forever() {
         let mut lanes = [LaneState::Open; MAX_LANES];
         let states = &mut lanes[..inputs.len()];
-        let message = match receive_next(rt, inputs, states, place, backoff) {
+        let message = match receive_next(rt, inputs, states, place) {
             Ok(message) => message,
-            Err(end) => return break_off(rt, end, inputs, states, output, backoff),
+            Err(end) => return break_off(rt, end, inputs, states, output),
         };
         let ending = message.ending();
         place.step(&message);
-        if !output.send(rt, message, backoff) {
+        if !output.send(rt, message) {
             drain_all(rt, inputs, states);
             return StageEnd::PeerGone;
         }
@@ -91,7 +90,6 @@ fn break_off<R: Wait>(
     inputs: &mut [Receiver],
     states: &mut [LaneState],
     output: &mut Sender,
-    backoff: &mut Backoff,
 ) -> StageEnd
     requires some { 1 ≤ length inputs.old }
     requires states { length inputs.old ≡ length states.old }
@@ -102,7 +100,7 @@ fn break_off<R: Wait>(
         (sent output.old)
         (sent output.new) }
 {
-    let told = output.send(rt, Message::Stop, backoff);
+    let told = output.send(rt, Message::Stop);
     let drained = drain_all(rt, inputs, states);
     if told && drained {
         end

@@ -6,7 +6,7 @@ ghost use Rattle.pnm_lanes.specs.Gathers.{at_lane, AreSameInputs};
 ghost use Rattle.pnm_lanes.specs.GatherParts.{HasTakenFrom};
 
 use pnm_image::{Ending, Message};
-use pnm_stages::{Backoff, Receiver, StageEnd};
+use pnm_stages::{Receiver, StageEnd};
 use std::sync::Wait;
 
 /// The most lanes of a tool.
@@ -30,7 +30,6 @@ pub fn receive_from<R: Wait>(
     inputs: &mut [Receiver],
     states: &mut [LaneState],
     lane: usize,
-    backoff: &mut Backoff,
 ) -> Result<Message, StageEnd>
     requires lane { lane < length inputs.old }
     requires states { length inputs.old ≤ length states.old }
@@ -38,7 +37,7 @@ pub fn receive_from<R: Wait>(
     ensures taken { HasTakenFrom lane result states.old states.new (at_lane received inputs.old)
         (at_lane received inputs.new) }
 {
-    let Some(message) = inputs[lane].receive_message(rt, backoff) else {
+    let Some(message) = inputs[lane].receive_message(rt) else {
         return Err(StageEnd::PeerGone);
     };
     let ending = message.ending();

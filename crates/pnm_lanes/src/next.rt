@@ -8,7 +8,7 @@ ghost use Rattle.pnm_lanes.specs.GatherParts.{AreOpen, AwaitsNoRow, HasTakenAlik
 use crate::agreement::{are_alike, height_of, together};
 use crate::lane::{LaneState, MAX_LANES, receive_from};
 use pnm_image::{Message, Place, Shape};
-use pnm_stages::{Backoff, Receiver, StageEnd};
+use pnm_stages::{Receiver, StageEnd};
 use pnm_tools::ToolFault;
 use std::sync::Wait;
 
@@ -22,7 +22,6 @@ pub fn receive_next<R: Wait>(
     inputs: &mut [Receiver],
     states: &mut [LaneState],
     place: Place,
-    backoff: &mut Backoff,
 ) -> Result<Message, StageEnd>
     requires some { 1 ≤ length inputs.old }
     requires few { length inputs.old ≤ MAX_LANES }
@@ -33,10 +32,8 @@ pub fn receive_next<R: Wait>(
         (at_lane received inputs.new) }
 {
     match place {
-        Place::Inside(shape, y) if y < shape.height => {
-            receive_row(rt, inputs, states, shape, y, backoff)
-        }
-        _ => receive_of_each(rt, inputs, states, place, backoff),
+        Place::Inside(shape, y) if y < shape.height => { receive_row(rt, inputs, states, shape, y) }
+        _ => receive_of_each(rt, inputs, states, place),
     }
 }
 
@@ -47,7 +44,6 @@ fn receive_row<R: Wait>(
     states: &mut [LaneState],
     shape: Shape,
     y: u32,
-    backoff: &mut Backoff,
 ) -> Result<Message, StageEnd>
     requires some { 1 ≤ length inputs.old }
     requires states { length inputs.old ≤ length states.old }
@@ -59,7 +55,7 @@ fn receive_row<R: Wait>(
         (at_lane received inputs.new) }
 {
     let lane = y as usize % inputs.len();
-    let message = receive_from(rt, inputs, states, lane, backoff)?;
+    let message = receive_from(rt, inputs, states, lane)?;
     if !Place::Inside(shape, y).accepts(&message) {
         return Err(OUT_OF_ORDER);
     }
@@ -72,7 +68,6 @@ fn receive_of_each<R: Wait>(
     inputs: &mut [Receiver],
     states: &mut [LaneState],
     place: Place,
-    backoff: &mut Backoff,
 ) -> Result<Message, StageEnd>
     requires some { 1 ≤ length inputs.old }
     requires few { length inputs.old ≤ MAX_LANES }
@@ -83,14 +78,14 @@ fn receive_of_each<R: Wait>(
     ensures taken { HasTakenNext (length inputs.old) place result states.new (at_lane received inputs.old)
         (at_lane received inputs.new) }
 {
-    let first = receive_from(rt, inputs, states, 0, backoff)?;
+    let first = receive_from(rt, inputs, states, 0)?;
     if !place.accepts(&first) {
         return Err(OUT_OF_ORDER);
     }
     let mut heights = [0; MAX_LANES];
     heights[0] = height_of(&first);
     for lane in 1..inputs.len() {
-        heights[lane] = receive_alike(rt, inputs, states, lane, &first, backoff)?;
+        heights[lane] = receive_alike(rt, inputs, states, lane, &first)?;
     }
     together(first, &heights[..inputs.len()]).ok_or(OUT_OF_ORDER)
 }
@@ -102,7 +97,6 @@ fn receive_alike<R: Wait>(
     states: &mut [LaneState],
     lane: usize,
     first: &Message,
-    backoff: &mut Backoff,
 ) -> Result<u32, StageEnd>
     requires lane { lane < length inputs.old }
     requires states { length inputs.old ≤ length states.old }
@@ -110,7 +104,7 @@ fn receive_alike<R: Wait>(
     ensures taken { HasTakenAlike lane first.now result states.old states.new (at_lane received inputs.old)
         (at_lane received inputs.new) }
 {
-    let message = receive_from(rt, inputs, states, lane, backoff)?;
+    let message = receive_from(rt, inputs, states, lane)?;
     if !are_alike(first, &message) {
         return Err(OUT_OF_ORDER);
     }

@@ -12,7 +12,7 @@ use crate::downstream::Downstream;
 use crate::summary::count_image;
 use pnm_image::{BytesOut, Ending, Form, Message, Rows};
 use pnm_read::SpareRows;
-use pnm_stages::{Backoff, Parcel, Receiver, Sender};
+use pnm_stages::{Parcel, Receiver, Sender};
 use pnm_write::WriteBuffer;
 use std::sync::Wait;
 
@@ -108,8 +108,8 @@ impl<W: BytesOut + Drop> Collector<W> {
     }
 
     /// One turn of waiting for a message.
-    pub fn wait<R: Wait>(&self, rt: &R, backoff: &mut Backoff) {
-        self.input.wait(rt, backoff);
+    pub fn wait<R: Wait>(&self, rt: &R) {
+        self.input.wait(rt);
     }
 
     /// Takes what is left in the ring, both of whose ends are here: what was sent before the other end was seen

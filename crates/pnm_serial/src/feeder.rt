@@ -8,7 +8,7 @@ ghost use Rattle.pnm_read.specs.Sources.{reader_of, IsFreshSource as IsUnread};
 use crate::summary::count_image;
 use pnm_image::{BytesIn, Message, SampleWidth};
 use pnm_read::{InputFault, Source, SpareRows};
-use pnm_stages::{Backoff, Sender};
+use pnm_stages::Sender;
 use std::sync::Wait;
 
 /// So many messages are sent in a turn at most, beside the first.
@@ -97,14 +97,14 @@ impl<R: BytesIn + Drop> Feeder<R> {
     }
 
     /// One turn of waiting for room in the ring.
-    pub fn wait<H: Wait>(&mut self, rt: &H, backoff: &mut Backoff)
+    pub fn wait<H: Wait>(&mut self, rt: &H)
         ensures feeding { (first : Source R) (before : List MessageValue)
             → IsFeeding R.left R.failures first before self.old
             → IsFeeding R.left R.failures first before self.new }
         ensures ring { SameSender self.old.output self.new.output }
         ensures same_device { R.same (reader_of self.old.source) (reader_of self.new.source) }
     {
-        self.output.wait(rt, backoff);
+        self.output.wait(rt);
     }
 
     /// Asks the source for its next message, or for rows, and sends that, where there is room for it in the ring; and

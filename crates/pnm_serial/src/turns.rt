@@ -13,7 +13,7 @@ use crate::collector::Collector;
 use crate::feeder::Feeder;
 use pnm_image::{BytesIn, BytesOut};
 use pnm_read::SpareRows;
-use pnm_stages::{Backoff, Task};
+use pnm_stages::Task;
 use std::alloc::Global;
 use std::sync::Wait;
 
@@ -79,17 +79,14 @@ fn take_turns<H: Wait, R: BytesIn + Drop, W: BytesOut + Drop>(
     ensures turned { HaveTurned R.left R.failures R.same W.held W.failures W.same feeder.old collector.old feeder.new
         collector.new }
 {
-    let mut backoff = Backoff::among_several();
     let mut takes = false;
     for _ in rt.forever() {
         if feeder.is_over() && collector.is_over() {
             return;
         }
         let takes_first = wake_before_taking(feeder, collector, takes);
-        if turn(feeder, collector, spares, takes_first, &mut takes) {
-            backoff.reset();
-        } else {
-            wait(rt, feeder, collector, &mut backoff);
+        if !turn(feeder, collector, spares, takes_first, &mut takes) {
+            wait(rt, feeder, collector);
         }
     }
     unreachable!()
@@ -101,16 +98,14 @@ fn wait<H: Wait, R: BytesIn + Drop, W: BytesOut + Drop>(
     rt: &H,
     feeder: &mut Feeder<R>,
     collector: &Collector<W>,
-    backoff: &mut Backoff,
 )
     ensures turned { HaveTurned R.left R.failures R.same W.held W.failures W.same feeder.old collector.now feeder.new
         collector.now }
 {
     if may_feed(feeder, collector) {
-        feeder.wait(rt, backoff);
+        feeder.wait(rt);
     } else {
-        feeder.wake_receiver();
-        collector.wait(rt, backoff);
+        collector.wait(rt);
     }
 }
 

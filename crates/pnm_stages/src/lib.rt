@@ -2,7 +2,6 @@
 //! neighbours, and what threads side by side are started with.
 #![tactic(auto)]
 
-mod backoff;
 mod branches;
 pub mod laws;
 mod parcel;
@@ -12,7 +11,6 @@ mod sender;
 mod stage;
 mod wakers;
 
-pub use backoff::Backoff;
 pub use branches::{Call, Idle, NoStart, Task, run_both};
 pub use parcel::Parcel;
 pub use receiver::Receiver;

@@ -8,7 +8,6 @@ ghost use Rattle.pnm_stages.specs.Rings.{known_parcels, HasDrainedAfter};
 ghost use Rattle.pnm_stages.specs.Parcels.{messages_in, BeginsByNoMessage};
 ghost use Rattle.pnm_stages.specs.declared.parcel.Parcel.{Parcel as ParcelValue};
 
-use crate::backoff::Backoff;
 use crate::parcel::Parcel;
 use crate::ring::AnyMessage;
 use crate::sender::Sender;
@@ -124,14 +123,14 @@ impl Receiver {
     /// The next parcel, once there is one; none once the ring is empty and its other end was seen dropped. That it is
     /// empty is known only of the messages that this end has seen in it.
     #[inline(always)]
-    pub fn receive<R: Wait>(&mut self, rt: &R, backoff: &mut Backoff) -> Option<Parcel>
+    pub fn receive<R: Wait>(&mut self, rt: &R) -> Option<Parcel>
         ensures ring { SameReceiver self.old self.new }
         ensures taken { IfSome result (λ p. received self.new ≡ received self.old ++ messages_in p) }
         ensures some { IfSome result (λ p. 0 < length (messages_in p)) }
         ensures messages { IfSome result (λ p. AllByRecursion IsMessage (messages_in p)) }
         ensures none_seen { IfNone result ((received self.new ≡ received self.old) × (known_items self.new ≡ [])) }
     {
-        if self.has_message() || self.wait_for_message(rt, backoff) {
+        if self.has_message() || self.wait_for_message(rt) {
             return Some(self.receive_known());
         }
         None
@@ -139,14 +138,14 @@ impl Receiver {
 
     /// The next message, once there is one. None where rows that were sent together come next, which stay there; and
     /// once the ring is empty and its other end was seen dropped.
-    pub fn receive_message<R: Wait>(&mut self, rt: &R, backoff: &mut Backoff) -> Option<Message>
+    pub fn receive_message<R: Wait>(&mut self, rt: &R) -> Option<Message>
         ensures ring { SameReceiver self.old self.new }
         ensures taken { IfSome result (λ m. received self.new ≡ received self.old ++ m ∷ []) }
         ensures message { IfSome result IsMessage }
         ensures none { IfNone result
             ((received self.new ≡ received self.old) × BeginsByNoMessage (known_parcels self.new)) }
     {
-        if !self.has_message() && !self.wait_for_message(rt, backoff) {
+        if !self.has_message() && !self.wait_for_message(rt) {
             return None;
         }
         if let Parcel::Rows(_) = self.peek_known() {
@@ -161,14 +160,13 @@ impl Receiver {
     /// Waits until a message is there; false once the ring is empty and its other end was seen dropped. It stands apart
     /// from `receive`, which mostly finds a message.
     #[inline(never)]
-    pub(crate) fn wait_for_message<R: Wait>(&mut self, rt: &R, backoff: &mut Backoff) -> bool
+    pub(crate) fn wait_for_message<R: Wait>(&mut self, rt: &R) -> bool
         ensures ring { SameReceiver self.old self.new }
         ensures received { received self.new ≡ received self.old }
         ensures some { IsTrue result → 0 < length (known_parcels self.new) }
         ensures none { IsFalse result → known_items self.new ≡ [] }
         ensures empty { IsFalse result → known_parcels self.new ≡ [] }
     {
-        backoff.reset();
         for _ in rt.forever() {
             if self.has_message() {
                 return true;
@@ -177,19 +175,19 @@ impl Receiver {
             if self.is_abandoned() {
                 return self.has_message();
             }
-            self.wait(rt, backoff);
+            self.wait(rt);
         }
         unreachable!()
     }
 
     /// Receives and drops what comes, through the end of the stream or Stop; false where the sending end was seen
     /// dropped before.
-    pub fn drain<R: Wait>(&mut self, rt: &R, backoff: &mut Backoff) -> bool
+    pub fn drain<R: Wait>(&mut self, rt: &R) -> bool
         ensures ring { SameReceiver self.old self.new }
         ensures drained { HasDrained result (received self.old) (received self.new) (known_items self.new) }
     {
         for _ in rt.forever() {
-            let Some(parcel) = self.receive(rt, backoff) else {
+            let Some(parcel) = self.receive(rt) else {
                 return false;
             };
             let ending = parcel.ending();
@@ -204,19 +202,19 @@ impl Receiver {
 
     /// After a message with this ending, receives and drops what comes through to the end of the stream; false where
     /// the sending end was seen dropped before.
-    pub fn drain_after<R: Wait>(&mut self, rt: &R, ending: Ending, backoff: &mut Backoff) -> bool
+    pub fn drain_after<R: Wait>(&mut self, rt: &R, ending: Ending) -> bool
         ensures ring { SameReceiver self.old self.new }
         ensures drained { HasDrainedAfter ending result (received self.old) (received self.new) (known_items self.new) }
     {
         match ending {
-            Ending::More => self.drain(rt, backoff),
+            Ending::More => self.drain(rt),
             Ending::Whole | Ending::BrokenOff => true,
         }
     }
 
     /// One turn of waiting for a message. It looks again after each.
-    pub fn wait<R: Wait>(&self, rt: &R, backoff: &mut Backoff) {
-        backoff.wait(rt, self.waker.parker());
+    pub fn wait<R: Wait>(&self, rt: &R) {
+        self.waker.sleep(rt);
     }
 }
 

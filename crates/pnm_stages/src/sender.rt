@@ -5,7 +5,6 @@ ghost use Rattle.pnm_image.specs.Rows.{row_messages};
 ghost use Rattle.pnm_stages.specs.Parcels.{messages_in};
 ghost use Rattle.pnm_stages.specs.Rings.{sent, known_free, SameSender};
 
-use crate::backoff::Backoff;
 use crate::parcel::Parcel;
 use crate::ring::AnyMessage;
 use crate::wakers::SenderWaker;
@@ -14,9 +13,9 @@ use rtrb::Producer;
 use std::alloc::Global;
 use std::sync::Wait;
 
-/// How many short messages at most are sent before the thread at the receiving end is woken for them: an eighth of an
-/// exchange a message is next to nothing, and so few are soon made.
-const MOST_MESSAGES: usize = 8;
+/// How many short messages at most are sent before the thread at the receiving end is woken for them: to wake one that
+/// sleeps costs as much as to make some of them, and so few are soon made.
+const MOST_MESSAGES: usize = 32;
 
 /// A row of fewer bytes is short, as are the messages around rows: some of them are made in less time than a sleeping
 /// thread takes to wake.
@@ -57,14 +56,24 @@ impl Sender {
         }
     }
 
-    /// From now on the thread at the receiving end is woken once for several short messages, for a quarter of the ring
-    /// at most, and at the end of the stream. So this one has to wake it for them (`wake_receiver`) before it waits for
+    /// From now on the thread at the receiving end is woken once for several short messages, for half of the ring at
+    /// most, and at the end of the stream. So this one has to wake it for them (`wake_receiver`) before it waits for
     /// anything but room in this ring.
     pub fn hold_back(&mut self)
         ensures ring { SameSender self.old self.new }
         ensures sent { sent self.new ≡ sent self.old }
     {
-        self.messages_per_wake = (self.ring.capacity() / 4).min(MOST_MESSAGES);
+        self.messages_per_wake = (self.ring.capacity() / 2).min(MOST_MESSAGES);
+    }
+
+    /// From now on the sending end of that ring, the home of this ring's receiver, is woken, too, before this end's
+    /// thread sleeps for want of room. The thread at the receiving end sends on that ring, and so it may sleep there
+    /// while this ring is full. False, and nobody else is woken, where that ring's wakers have too many owners.
+    pub fn set_home(&mut self, home: &Sender) -> bool
+        ensures ring { SameSender self.old self.new }
+        ensures sent { sent self.new ≡ sent self.old }
+    {
+        self.waker.set_home(&home.waker)
     }
 
     /// Wakes the thread at the receiving end, where something was sent that it wasn't woken for.
@@ -138,12 +147,12 @@ impl Sender {
     /// Sends the message, once there is room; false, and the message is lost, where there is none and the receiving end
     /// was seen dropped.
     #[inline(always)]
-    pub fn send<R: Wait>(&mut self, rt: &R, message: Message, backoff: &mut Backoff) -> bool
+    pub fn send<R: Wait>(&mut self, rt: &R, message: Message) -> bool
         ensures ring { SameSender self.old self.new }
         ensures given { IsTrue result → sent self.new ≡ sent self.old ++ message ∷ [] }
         ensures gone { IsFalse result → sent self.new ≡ sent self.old }
     {
-        if self.has_room() || self.wait_for_room(rt, backoff) {
+        if self.has_room() || self.wait_for_room(rt) {
             self.send_reserved(message);
             return true;
         }
@@ -152,12 +161,12 @@ impl Sender {
 
     /// Sends the rows together, once there is room; false, and the rows are lost, where there is none and the receiving
     /// end was seen dropped.
-    pub fn send_rows<R: Wait>(&mut self, rt: &R, rows: Rows, backoff: &mut Backoff) -> bool
+    pub fn send_rows<R: Wait>(&mut self, rt: &R, rows: Rows) -> bool
         ensures ring { SameSender self.old self.new }
         ensures given { IsTrue result → sent self.new ≡ sent self.old ++ row_messages rows }
         ensures gone { IsFalse result → sent self.new ≡ sent self.old }
     {
-        if !self.has_room() && !self.wait_for_room(rt, backoff) {
+        if !self.has_room() && !self.wait_for_room(rt) {
             return false;
         }
         self.send_rows_reserved(rows);
@@ -167,12 +176,11 @@ impl Sender {
     /// Waits until there is room; false where there is none and the receiving end was seen dropped. It stands apart
     /// from `send`, which mostly finds room.
     #[inline(never)]
-    fn wait_for_room<R: Wait>(&mut self, rt: &R, backoff: &mut Backoff) -> bool
+    fn wait_for_room<R: Wait>(&mut self, rt: &R) -> bool
         ensures ring { SameSender self.old self.new }
         ensures sent { sent self.new ≡ sent self.old }
         ensures room { IsTrue result → 0 < known_free self.new }
     {
-        backoff.reset();
         for _ in rt.forever() {
             if self.has_room() {
                 return true;
@@ -180,18 +188,18 @@ impl Sender {
             if self.is_abandoned() {
                 return false;
             }
-            self.wait(rt, backoff);
+            self.wait(rt);
         }
         unreachable!()
     }
 
     /// One turn of waiting for room. It looks again after each.
-    pub fn wait<R: Wait>(&mut self, rt: &R, backoff: &mut Backoff)
+    pub fn wait<R: Wait>(&mut self, rt: &R)
         ensures ring { SameSender self.old self.new }
         ensures sent { sent self.new ≡ sent self.old }
     {
         self.wake_receiver();
-        backoff.wait(rt, self.waker.parker());
+        self.waker.sleep(rt);
     }
 }
 

@@ -9,7 +9,6 @@ ghost use Rattle.pnm_tools.specs.FusedFilters.{FilterAt};
 ghost use Rattle.pnm_stages.specs.Stages.{HasRunStage};
 ghost use Rattle.pnm_stages.specs.StageParts.{HasPassed, HasSentAnswers, HasBrokenOffAfter};
 
-use crate::backoff::Backoff;
 use crate::parcel::Parcel;
 use crate::receiver::Receiver;
 use crate::sender::Sender;
@@ -97,23 +96,22 @@ fn pass_all<R: Wait, F: Filter + Drop>(
         → HasRunStage tool result (received input.old) (received input.new) (known_items input.new)
         (sent output.old) (sent output.new) }
 {
-    let backoff = &mut Backoff::new();
     if let Some(fault) = stage.fault() {
-        return break_off(rt, fault, Ending::More, input, output, backoff);
+        return break_off(rt, fault, Ending::More, input, output);
     }
     for _ in rt.forever() {
-        if !has_next(rt, input, output, backoff) {
-            output.send(rt, Message::Stop, backoff);
+        if !has_next(rt, input, output) {
+            output.send(rt, Message::Stop);
             return StageEnd::PeerGone;
         }
         let parcel = input.receive_known();
         let ending = parcel.ending();
-        if !pass(rt, alloc, stage, parcel, output, backoff) {
-            input.drain_after(rt, ending, backoff);
+        if !pass(rt, alloc, stage, parcel, output) {
+            input.drain_after(rt, ending);
             return StageEnd::PeerGone;
         }
         if let Some(fault) = stage.fault() {
-            return break_off(rt, fault, ending, input, output, backoff);
+            return break_off(rt, fault, ending, input, output);
         }
         match ending {
             Ending::More => {}
@@ -126,12 +124,7 @@ fn pass_all<R: Wait, F: Filter + Drop>(
 
 /// Whether a message is there, which is waited for; false once the ring is empty and its other end was seen dropped.
 #[inline(always)]
-fn has_next<R: Wait>(
-    rt: &R,
-    input: &mut Receiver,
-    output: &mut Sender,
-    backoff: &mut Backoff,
-) -> bool
+fn has_next<R: Wait>(rt: &R, input: &mut Receiver, output: &mut Sender) -> bool
     ensures ring { SameReceiver input.old input.new }
     ensures received { received input.new ≡ received input.old }
     ensures output { SameSender output.old output.new }
@@ -139,14 +132,14 @@ fn has_next<R: Wait>(
     ensures some { IsTrue result → 0 < length (known_parcels input.new) }
     ensures none { IsFalse result → known_items input.new ≡ [] }
 {
-    input.has_seen_message() || wait(rt, input, output, backoff)
+    input.has_seen_message() || wait(rt, input, output)
 }
 
 /// Waits until a message is there, once the thread behind is told of all that was sent, since the stage may have to
 /// wait; false once the ring is empty and its other end was seen dropped. It stands apart from `has_next`, which mostly
 /// finds a message.
 #[inline(never)]
-fn wait<R: Wait>(rt: &R, input: &mut Receiver, output: &mut Sender, backoff: &mut Backoff) -> bool
+fn wait<R: Wait>(rt: &R, input: &mut Receiver, output: &mut Sender) -> bool
     ensures ring { SameReceiver input.old input.new }
     ensures received { received input.new ≡ received input.old }
     ensures output { SameSender output.old output.new }
@@ -155,7 +148,7 @@ fn wait<R: Wait>(rt: &R, input: &mut Receiver, output: &mut Sender, backoff: &mu
     ensures none { IsFalse result → known_items input.new ≡ [] }
 {
     output.wake_receiver();
-    input.has_message() || input.wait_for_message(rt, backoff)
+    input.has_message() || input.wait_for_message(rt)
 }
 
 /// Passes a parcel through the tool, and sends what that makes of it; false where the output's other end was seen
@@ -167,7 +160,6 @@ fn pass<R: Wait, F: Filter + Drop>(
     stage: &mut FusedFilter<F>,
     parcel: Parcel,
     output: &mut Sender,
-    backoff: &mut Backoff,
 ) -> bool
     ensures output { SameSender output.old output.new }
     ensures passed { HasPassed F.at F.all_given F.stopped result stage.old stage.new (messages_in parcel)
@@ -176,9 +168,9 @@ fn pass<R: Wait, F: Filter + Drop>(
     match parcel {
         Parcel::Message(message) => {
             stage.feed(message);
-            send_answers(rt, stage, output, backoff)
+            send_answers(rt, stage, output)
         }
-        Parcel::Rows(rows) => pass_rows(rt, alloc, stage, rows, output, backoff),
+        Parcel::Rows(rows) => pass_rows(rt, alloc, stage, rows, output),
     }
 }
 
@@ -191,15 +183,14 @@ fn pass_rows<R: Wait, F: Filter + Drop>(
     stage: &mut FusedFilter<F>,
     rows: Rows,
     output: &mut Sender,
-    backoff: &mut Backoff,
 ) -> bool
     ensures output { SameSender output.old output.new }
     ensures passed { HasPassed F.at F.all_given F.stopped result stage.old stage.new (row_messages rows)
         (sent output.old) (sent output.new) }
 {
     match stage.pass_rows(rows) {
-        Ok(made) => output.send_rows(rt, made, backoff),
-        Err(rows) => pass_each(rt, alloc, stage, &rows, output, backoff),
+        Ok(made) => output.send_rows(rt, made),
+        Err(rows) => pass_each(rt, alloc, stage, &rows, output),
     }
 }
 
@@ -210,7 +201,6 @@ fn pass_each<R: Wait, F: Filter + Drop>(
     stage: &mut FusedFilter<F>,
     rows: &Rows,
     output: &mut Sender,
-    backoff: &mut Backoff,
 ) -> bool
     ensures output { SameSender output.old output.new }
     ensures passed { HasPassed F.at F.all_given F.stopped result stage.old stage.new (row_messages rows.now)
@@ -222,7 +212,7 @@ fn pass_each<R: Wait, F: Filter + Drop>(
             return true;
         };
         stage.feed(Message::Row(row));
-        if !send_answers(rt, stage, output, backoff) {
+        if !send_answers(rt, stage, output) {
             return false;
         }
     }
@@ -236,14 +226,13 @@ fn send_answers<R: Wait, F: Filter + Drop>(
     rt: &R,
     stage: &mut FusedFilter<F>,
     output: &mut Sender,
-    backoff: &mut Backoff,
 ) -> bool
     ensures output { SameSender output.old output.new }
     ensures sent { HasSentAnswers F.at F.all_given F.stopped result stage.old stage.new (sent output.old)
         (sent output.new) }
 {
     while let Some(answer) = stage.next() {
-        if !output.send(rt, answer, backoff) {
+        if !output.send(rt, answer) {
             return false;
         }
         if stage.gave_all() {
@@ -261,7 +250,6 @@ fn break_off<R: Wait>(
     ending: Ending,
     input: &mut Receiver,
     output: &mut Sender,
-    backoff: &mut Backoff,
 ) -> StageEnd
     ensures input { SameReceiver input.old input.new }
     ensures output { SameSender output.old output.new }
@@ -269,8 +257,8 @@ fn break_off<R: Wait>(
         (known_items input.new)
         (sent output.old) (sent output.new) }
 {
-    let told = output.send(rt, Message::Stop, backoff);
-    let drained = input.drain_after(rt, ending, backoff);
+    let told = output.send(rt, Message::Stop);
+    let drained = input.drain_after(rt, ending);
     if told && drained {
         StageEnd::Fault(fault)
     } else {

@@ -4,7 +4,7 @@ use super::is_so;
 use super::rings::{holds, is_one_of, send_all};
 use pnm_flow::new_ring;
 use pnm_image::{Kind, Message, SampleVec, Samples};
-use pnm_stages::{Backoff, Parcel, Receiver, Sender};
+use pnm_stages::{Parcel, Receiver, Sender};
 use pnm_test_support::{Part, message};
 use std::alloc::Global;
 use std::process::Abort;
@@ -47,13 +47,8 @@ fn is_parcel(parcel: &Option<Parcel>, part: Option<Part<'_>>) -> bool {
 }
 
 /// Whether the next message is made of this, or there is none.
-fn receives(
-    rt: &(impl Wait + Abort),
-    receiver: &mut Receiver,
-    backoff: &mut Backoff,
-    part: Option<Part<'_>>,
-) {
-    let is_right = is_parcel(&receiver.receive(rt, backoff), part);
+fn receives(rt: &(impl Wait + Abort), receiver: &mut Receiver, part: Option<Part<'_>>) {
+    let is_right = is_parcel(&receiver.receive(rt), part);
     is_so(rt, is_right, &part);
 }
 
@@ -74,9 +69,8 @@ fn ring_of(
 fn gives_all_that_was_sent_before_the_end_went(rt: HostRuntime) {
     let (sender, mut receiver) = ring_of(&rt, rt.alloc(), 4, &PARTS[..2]);
     drop(sender);
-    let backoff = &mut Backoff::new();
     for part in [Some(PARTS[0]), Some(PARTS[1]), None] {
-        receives(&rt, &mut receiver, backoff, part);
+        receives(&rt, &mut receiver, part);
     }
 }
 
@@ -86,7 +80,7 @@ fn sends_nothing_where_nobody_receives(rt: HostRuntime) {
     let (mut sender, receiver) = ring_of(&rt, rt.alloc(), 1, &PARTS[..1]);
     drop(receiver);
     let message = message(rt.alloc(), PARTS[1]).expect(&rt, "a message");
-    let is_sent = sender.send(&rt, message, &mut Backoff::new());
+    let is_sent = sender.send(&rt, message);
     assert!(rt; !is_sent);
 }
 

@@ -1,37 +1,45 @@
-//! How a thread waits at an end of a ring.
+//! How a thread sleeps at an end of a ring.
 
+use super::is_so;
+use super::rings::send_all;
 use pnm_flow::new_ring;
-use pnm_stages::{Backoff, Receiver};
+use pnm_test_support::Part;
 use std::process::Abort;
 use std::rt::Clock;
-use std::sync::Wait;
 use std::time::{Duration, Instant};
 
-/// So many turns of a wait at a ring in which nothing comes.
-fn wait(rt: &impl Wait, receiver: &Receiver, backoff: &mut Backoff, turns: u32) {
-    backoff.reset();
-    for _ in 0..turns {
-        receiver.wait(rt, backoff);
-    }
+/// A thread that was woken sleeps for less, and one that wasn't for more, on a machine that isn't stopped meanwhile.
+const SHORT: Duration = Duration::from_millis(200);
+
+/// Whether the time since then is short.
+fn was_short(rt: &(impl Clock + Abort), start: Instant) -> bool {
+    start.elapsed(rt).expect(rt, "a clock") < SHORT
 }
 
-/// After waits that have yielded in vain the next one sleeps after few turns.
+/// A message wakes the thread at the receiving end, also before it sleeps; the next sleep lasts.
 #[test]
-fn sleeps_soon_after_vain_waits(rt: HostRuntime) {
-    let ends = new_ring(rt.alloc(), 1).expect(&rt, "a ring");
-    let slept = sleeps_after_vain_waits(&rt, &ends.1);
-    assert!(&rt; slept >= Duration::from_millis(20));
+fn sleeps_where_no_message_came(rt: HostRuntime) {
+    let (mut sender, receiver) = new_ring(rt.alloc(), 1).expect(&rt, "a ring");
+    is_so(
+        &rt,
+        send_all(rt.alloc(), &mut sender, &[Part::ImageEnd]),
+        &"sent",
+    );
+    for is_woken in [true, false] {
+        let start = Instant::now(&rt).expect(&rt, "a clock");
+        receiver.wait(&rt);
+        is_so(&rt, was_short(&rt, start) == is_woken, &is_woken);
+    }
 }
 
-/// How long a wait takes after others at this end of an empty ring.
-fn sleeps_after_vain_waits(rt: &(impl Wait + Clock + Abort), receiver: &Receiver) -> Duration {
-    let backoff = &mut Backoff::among_several();
-    // As many turns as may yield, and one that sleeps.
-    for turns in [101, 51, 26, 13, 7, 5] {
-        wait(rt, receiver, backoff, turns);
-    }
-    let start = Instant::now(rt).expect(rt, "a clock");
-    // Four may yield, and the others sleep, from 28 microseconds on up to 1.8 ms each: more than 28 ms.
-    wait(rt, receiver, backoff, 25);
-    start.elapsed(rt).expect(rt, "a clock")
+/// A thread that sleeps for want of room wakes the sender of the ring that is its receiver's home.
+#[test]
+fn wakes_its_home_before_it_sleeps(rt: HostRuntime) {
+    let (mut home, _receiver) = new_ring(rt.alloc(), 1).expect(&rt, "a ring");
+    let (mut sender, _end) = new_ring(rt.alloc(), 1).expect(&rt, "a ring");
+    is_so(&rt, sender.set_home(&home), &"shared");
+    sender.wait(&rt);
+    let start = Instant::now(&rt).expect(&rt, "a clock");
+    home.wait(&rt);
+    is_so(&rt, was_short(&rt, start), &"woken");
 }

@@ -34,7 +34,7 @@ returns-clause-ran g c =
     let job = job_of c.args.tools.now c.args.form in
     let feeding = c.in-Some.ensures.turned.feeding _ [] (rw c.in-Some-Some.ensures.unused.0 at c.new-feeder.ensures.feeding) in
     let collecting = c.in-Some.ensures.turned.collecting _ _ [] (rw c.in-Some-Some.ensures'.unused.1 at c.new-collector.ensures.collecting) in
-    let chain = rw (c.in-Some-Some.ensures.unused.1, c.in-Some-Some.ensures'.unused.0) at c.in-Some.ensures.ran in
+    let chain = rw (c.in-Some-Some.ensures.unused.1, c.set_home.ensures.sent, c.in-Some-Some.ensures'.unused.0) at c.in-Some.ensures.ran in
     let ran = c.conclude-read.ensures.ran _ _ c.args.lanes job c.requires.chain.lawful feeding collecting chain in
     inr (search rules)
 

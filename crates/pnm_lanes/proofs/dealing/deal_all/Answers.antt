@@ -5,105 +5,139 @@ use Rattle.pnm_image.specs.declared.message.Ending.TheVariants.{More, Whole, Bro
 use Rattle.pnm_stages.specs.declared.stage.StageEnd.TheVariants.{PeerGone}
 use Rattle.pnm_stages.proofs.RingSteps.{itself_input, same_input}
 use Rattle.pnm_lanes.specs.Limits.{IsLaneCount}
-use Rattle.pnm_lanes.proofs.DealSteps.{IsDealing, deals_nothing, deals_parcel, ends_whole, ends_broken}
+use Rattle.pnm_lanes.proofs.DealSteps.{IsDealing, deals_nothing, deals_parcel, wakes_dealing, ends_whole, ends_broken}
 use Rattle.pnm_lanes.proofs.BreakSteps.{breaks_off, cuts, cut_here, ends_gone, interrupts_parcel}
+use Rattle.pnm_lanes.proofs.SendSteps.{woken_count}
 use Rattle.pnm_lanes.proofs.dealing.deal_all.Goals as goal
 
 pub loop-init : goal.loop-init
 loop-init g c = (
   itself_input c.args.input.now,
-  c.requires,
-  subst (λ (place : Place). IsDealing More place (received c.args.input.now) (received c.args.input.now) c.args.outputs.now c.args.outputs.now)
-      (sym c.new-place.ensures) (deals_nothing (received c.args.input.now) c.args.outputs.now),
+  subst IsLaneCount (sym (woken_count c.args.outputs.now c.hold_back_each.new.outputs c.hold_back_each.ensures)) c.requires,
+  wakes_dealing _ (received c.args.input.now) (received c.args.input.now) (received c.args.input.now) c.args.outputs.now c.args.outputs.now
+      c.hold_back_each.new.outputs
+      (subst (λ (place : Place). IsDealing More place (received c.args.input.now) (received c.args.input.now) c.args.outputs.now c.args.outputs.now)
+      (sym c.new-place.ensures) (deals_nothing (received c.args.input.now) c.args.outputs.now)) refl c.hold_back_each.ensures,
 )
 
 pub returns-in_default-clause-dealt : goal.returns-in_default-clause-dealt
 returns-in_default-clause-dealt g c =
-    breaks_off PeerGone c.break_off.result More More (received c.args.input.now) (received c.receive.new.self)
-    (received c.break_off.new.input) (known_items c.break_off.new.input) c.args.outputs.now c.loop.outputs c.break_off.new.outputs
-    (cut_here c.loop.place (received c.args.input.now) (received c.loop.input) (received c.receive.new.self) c.args.outputs.now c.loop.outputs
-    c.loop.invariant.2 c.in_default.ensures.none_seen.0) refl c.break_off.ensures.broken
+    let nows = c.wake_before_input.new.outputs in
+    let dealing =
+    wakes_dealing c.loop.place (received c.args.input.now) (received c.loop.input) (received c.wake_before_input.new.input) c.args.outputs.now
+    c.loop.outputs nows c.loop.invariant.2 c.wake_before_input.ensures.input.1 c.wake_before_input.ensures.outputs in
+    breaks_off PeerGone c.break_off.result More More (received c.args.input.now) (received c.receive.new.self) (received c.break_off.new.input)
+    (known_items c.break_off.new.input) c.args.outputs.now nows c.break_off.new.outputs (cut_here c.loop.place (received c.args.input.now) (received
+    c.wake_before_input.new.input) (received c.receive.new.self) c.args.outputs.now nows dealing c.in_default.ensures.none_seen.0) refl
+    c.break_off.ensures.broken
 
 pub returns-then-is_end_dealt-clause-dealt : goal.returns-then-is_end_dealt-clause-dealt
 returns-then-is_end_dealt-clause-dealt g c =
+    let nows = c.wake_before_input.new.outputs in
+    let dealing =
+    wakes_dealing c.loop.place (received c.args.input.now) (received c.loop.input) (received c.wake_before_input.new.input) c.args.outputs.now
+    c.loop.outputs nows c.loop.invariant.2 c.wake_before_input.ensures.input.1 c.wake_before_input.ensures.outputs in
     let end = c.in-Some-deal_parcel.end in
     let ending = c.ending-ending.result in
     ends_gone end ending (received c.args.input.now) (received c.receive.new.self) (known_items c.receive.new.self) c.args.outputs.now
-    c.deal_parcel.new.outputs
-    (interrupts_parcel end ending c.loop.place c.deal_parcel.new.place (received c.args.input.now) (received c.loop.input) (received c.receive.new.self)
-    c.args.outputs.now c.loop.outputs c.deal_parcel.new.outputs c.in-Some-receive.parcel c.deal_parcel.result c.loop.invariant.2
-    c.in-Some-receive.ensures.taken c.in-Some-receive.ensures.messages (sym c.ending-ending.ensures) c.deal_parcel.ensures c.in-Some-deal_parcel.is)
-    (c.is_end_dealt.ensures.yes c.if-is_end_dealt.true)
+    c.deal_parcel.new.outputs (interrupts_parcel end ending c.loop.place c.deal_parcel.new.place (received c.args.input.now) (received
+    c.wake_before_input.new.input) (received c.receive.new.self) c.args.outputs.now nows c.deal_parcel.new.outputs c.in-Some-receive.parcel
+    c.deal_parcel.result dealing c.in-Some-receive.ensures.taken c.in-Some-receive.ensures.messages (sym c.ending-ending.ensures)
+    c.deal_parcel.ensures c.in-Some-deal_parcel.is) (c.is_end_dealt.ensures.yes c.if-is_end_dealt.true)
 
 pub returns-in-Some-deal_parcel-clause-dealt : goal.returns-in-Some-deal_parcel-clause-dealt
 returns-in-Some-deal_parcel-clause-dealt g c =
+    let nows = c.wake_before_input.new.outputs in
+    let dealing =
+    wakes_dealing c.loop.place (received c.args.input.now) (received c.loop.input) (received c.wake_before_input.new.input) c.args.outputs.now
+    c.loop.outputs nows c.loop.invariant.2 c.wake_before_input.ensures.input.1 c.wake_before_input.ensures.outputs in
     let end = c.in-Some-deal_parcel.end in
     let ending = c.ending-ending.result in
-    breaks_off end c.break_off-in-Some-deal_parcel.result ending ending (received c.args.input.now) (received c.receive.new.self)
-    (received c.break_off-in-Some-deal_parcel.new.input) (known_items c.break_off-in-Some-deal_parcel.new.input) c.args.outputs.now
-    c.deal_parcel.new.outputs c.break_off-in-Some-deal_parcel.new.outputs
-    (cuts end ending (received c.args.input.now) (received c.receive.new.self) c.args.outputs.now c.deal_parcel.new.outputs
-    (interrupts_parcel end ending c.loop.place c.deal_parcel.new.place (received c.args.input.now) (received c.loop.input) (received c.receive.new.self)
-    c.args.outputs.now c.loop.outputs c.deal_parcel.new.outputs c.in-Some-receive.parcel c.deal_parcel.result c.loop.invariant.2
-    c.in-Some-receive.ensures.taken c.in-Some-receive.ensures.messages (sym c.ending-ending.ensures) c.deal_parcel.ensures c.in-Some-deal_parcel.is)
-    (c.is_end_dealt.ensures.no c.if-is_end_dealt.false))
-    refl c.break_off-in-Some-deal_parcel.ensures.broken
+    breaks_off end c.break_off-in-Some-deal_parcel.result ending ending (received c.args.input.now) (received c.receive.new.self) (received
+    c.break_off-in-Some-deal_parcel.new.input) (known_items c.break_off-in-Some-deal_parcel.new.input) c.args.outputs.now c.deal_parcel.new.outputs
+    c.break_off-in-Some-deal_parcel.new.outputs (cuts end ending (received c.args.input.now) (received c.receive.new.self) c.args.outputs.now
+    c.deal_parcel.new.outputs (interrupts_parcel end ending c.loop.place c.deal_parcel.new.place (received c.args.input.now) (received
+    c.wake_before_input.new.input) (received c.receive.new.self) c.args.outputs.now nows c.deal_parcel.new.outputs c.in-Some-receive.parcel
+    c.deal_parcel.result dealing c.in-Some-receive.ensures.taken c.in-Some-receive.ensures.messages (sym c.ending-ending.ensures)
+    c.deal_parcel.ensures c.in-Some-deal_parcel.is) (c.is_end_dealt.ensures.no c.if-is_end_dealt.false)) refl
+    c.break_off-in-Some-deal_parcel.ensures.broken
 
 pub loop-preserved : goal.loop-preserved
-loop-preserved g c = (
-  same_input c.args.input.now c.loop.input c.receive.new.self c.loop.invariant.0 c.receive.ensures.ring,
-  subst IsLaneCount (sym c.deal_parcel.auto.outputs) c.loop.invariant.1,
-  deals_parcel More c.loop.place c.deal_parcel.new.place (received c.args.input.now) (received c.loop.input) (received c.receive.new.self)
-      c.args.outputs.now c.loop.outputs c.deal_parcel.new.outputs c.in-Some-receive.parcel c.deal_parcel.result c.loop.invariant.2
-      c.in-Some-receive.ensures.taken c.in-Some-receive.ensures.messages (sym c.ending-ending.ensures ∙ c.in-More.is) c.deal_parcel.ensures
-      c.in_default-deal_parcel.is,
-)
+loop-preserved g c =
+    let nows = c.wake_before_input.new.outputs in
+    let dealing =
+    wakes_dealing c.loop.place (received c.args.input.now) (received c.loop.input) (received c.wake_before_input.new.input) c.args.outputs.now
+    c.loop.outputs nows c.loop.invariant.2 c.wake_before_input.ensures.input.1 c.wake_before_input.ensures.outputs in
+    let same = same_input c.args.input.now c.loop.input c.wake_before_input.new.input c.loop.invariant.0 c.wake_before_input.ensures.input.0 in (
+      same_input c.args.input.now c.wake_before_input.new.input c.receive.new.self same c.receive.ensures.ring,
+      subst IsLaneCount (sym
+          c.deal_parcel.auto.outputs) (subst IsLaneCount (sym (woken_count c.loop.outputs nows c.wake_before_input.ensures.outputs)) c.loop.invariant.1),
+      deals_parcel More c.loop.place c.deal_parcel.new.place (received c.args.input.now) (received c.wake_before_input.new.input) (received
+          c.receive.new.self) c.args.outputs.now nows c.deal_parcel.new.outputs c.in-Some-receive.parcel c.deal_parcel.result dealing
+          c.in-Some-receive.ensures.taken c.in-Some-receive.ensures.messages (sym c.ending-ending.ensures ∙ c.in-More.is) c.deal_parcel.ensures
+          c.in_default-deal_parcel.is,
+    )
 
 pub returns-in-Whole-clause-dealt : goal.returns-in-Whole-clause-dealt
 returns-in-Whole-clause-dealt g c =
+    let nows = c.wake_before_input.new.outputs in
+    let dealing =
+    wakes_dealing c.loop.place (received c.args.input.now) (received c.loop.input) (received c.wake_before_input.new.input) c.args.outputs.now
+    c.loop.outputs nows c.loop.invariant.2 c.wake_before_input.ensures.input.1 c.wake_before_input.ensures.outputs in
     ends_whole c.deal_parcel.new.place (received c.args.input.now) (received c.receive.new.self) (known_items c.receive.new.self) c.args.outputs.now
-    c.deal_parcel.new.outputs
-    (deals_parcel Whole c.loop.place c.deal_parcel.new.place (received c.args.input.now) (received c.loop.input) (received c.receive.new.self)
-    c.args.outputs.now c.loop.outputs c.deal_parcel.new.outputs c.in-Some-receive.parcel c.deal_parcel.result c.loop.invariant.2
-    c.in-Some-receive.ensures.taken c.in-Some-receive.ensures.messages (sym c.ending-ending.ensures ∙ c.in-Whole.is) c.deal_parcel.ensures
-    c.in_default-deal_parcel.is)
+    c.deal_parcel.new.outputs (deals_parcel Whole c.loop.place c.deal_parcel.new.place (received c.args.input.now) (received
+    c.wake_before_input.new.input) (received c.receive.new.self) c.args.outputs.now nows c.deal_parcel.new.outputs c.in-Some-receive.parcel
+    c.deal_parcel.result dealing c.in-Some-receive.ensures.taken c.in-Some-receive.ensures.messages (sym c.ending-ending.ensures ∙ c.in-Whole.is)
+    c.deal_parcel.ensures c.in_default-deal_parcel.is)
 
 pub returns-in-BrokenOff-clause-dealt : goal.returns-in-BrokenOff-clause-dealt
 returns-in-BrokenOff-clause-dealt g c =
+    let nows = c.wake_before_input.new.outputs in
+    let dealing =
+    wakes_dealing c.loop.place (received c.args.input.now) (received c.loop.input) (received c.wake_before_input.new.input) c.args.outputs.now
+    c.loop.outputs nows c.loop.invariant.2 c.wake_before_input.ensures.input.1 c.wake_before_input.ensures.outputs in
     ends_broken c.deal_parcel.new.place (received c.args.input.now) (received c.receive.new.self) (known_items c.receive.new.self) c.args.outputs.now
-    c.deal_parcel.new.outputs
-    (deals_parcel BrokenOff c.loop.place c.deal_parcel.new.place (received c.args.input.now) (received c.loop.input) (received c.receive.new.self)
-    c.args.outputs.now c.loop.outputs c.deal_parcel.new.outputs c.in-Some-receive.parcel c.deal_parcel.result c.loop.invariant.2
-    c.in-Some-receive.ensures.taken c.in-Some-receive.ensures.messages (sym c.ending-ending.ensures ∙ c.in-BrokenOff.is) c.deal_parcel.ensures
-    c.in_default-deal_parcel.is)
+    c.deal_parcel.new.outputs (deals_parcel BrokenOff c.loop.place c.deal_parcel.new.place (received c.args.input.now) (received
+    c.wake_before_input.new.input) (received c.receive.new.self) c.args.outputs.now nows c.deal_parcel.new.outputs c.in-Some-receive.parcel
+    c.deal_parcel.result dealing c.in-Some-receive.ensures.taken c.in-Some-receive.ensures.messages (sym c.ending-ending.ensures ∙ c.in-BrokenOff.is)
+    c.deal_parcel.ensures c.in_default-deal_parcel.is)
 
 pub returns-in_default-clause-input : goal.returns-in_default-clause-input
 returns-in_default-clause-input g c =
-    same_input c.args.input.now c.receive.new.self c.break_off.new.input
-    (same_input c.args.input.now c.loop.input c.receive.new.self c.loop.invariant.0 c.receive.ensures.ring) c.break_off.ensures.input
+    let same = same_input c.args.input.now c.loop.input c.wake_before_input.new.input c.loop.invariant.0 c.wake_before_input.ensures.input.0 in
+    same_input c.args.input.now c.receive.new.self c.break_off.new.input (same_input c.args.input.now c.wake_before_input.new.input
+    c.receive.new.self same c.receive.ensures.ring) c.break_off.ensures.input
 
 pub returns-then-is_end_dealt-clause-input : goal.returns-then-is_end_dealt-clause-input
 returns-then-is_end_dealt-clause-input g c =
-    same_input c.args.input.now c.loop.input c.receive.new.self c.loop.invariant.0 c.receive.ensures.ring
+    let same = same_input c.args.input.now c.loop.input c.wake_before_input.new.input c.loop.invariant.0 c.wake_before_input.ensures.input.0 in
+    same_input c.args.input.now c.wake_before_input.new.input c.receive.new.self same c.receive.ensures.ring
 
 pub returns-in-Some-deal_parcel-clause-input : goal.returns-in-Some-deal_parcel-clause-input
 returns-in-Some-deal_parcel-clause-input g c =
-    same_input c.args.input.now c.receive.new.self c.break_off-in-Some-deal_parcel.new.input
-    (same_input c.args.input.now c.loop.input c.receive.new.self c.loop.invariant.0 c.receive.ensures.ring) c.break_off-in-Some-deal_parcel.ensures.input
+    let same = same_input c.args.input.now c.loop.input c.wake_before_input.new.input c.loop.invariant.0 c.wake_before_input.ensures.input.0 in
+    same_input c.args.input.now c.receive.new.self c.break_off-in-Some-deal_parcel.new.input (same_input c.args.input.now
+    c.wake_before_input.new.input c.receive.new.self same c.receive.ensures.ring) c.break_off-in-Some-deal_parcel.ensures.input
 
 pub returns-in-Whole-clause-input : goal.returns-in-Whole-clause-input
 returns-in-Whole-clause-input g c =
-    same_input c.args.input.now c.loop.input c.receive.new.self c.loop.invariant.0 c.receive.ensures.ring
+    let same = same_input c.args.input.now c.loop.input c.wake_before_input.new.input c.loop.invariant.0 c.wake_before_input.ensures.input.0 in
+    same_input c.args.input.now c.wake_before_input.new.input c.receive.new.self same c.receive.ensures.ring
 
 pub returns-in-BrokenOff-clause-input : goal.returns-in-BrokenOff-clause-input
 returns-in-BrokenOff-clause-input g c =
-    same_input c.args.input.now c.loop.input c.receive.new.self c.loop.invariant.0 c.receive.ensures.ring
+    let same = same_input c.args.input.now c.loop.input c.wake_before_input.new.input c.loop.invariant.0 c.wake_before_input.ensures.input.0 in
+    same_input c.args.input.now c.wake_before_input.new.input c.receive.new.self same c.receive.ensures.ring
 
 pub break_off-requires : goal.break_off-requires
-break_off-requires g c = c.loop.invariant.1
+break_off-requires g c =
+    (subst IsLaneCount (sym (woken_count c.loop.outputs c.wake_before_input.new.outputs c.wake_before_input.ensures.outputs)) c.loop.invariant.1)
 
 pub break_off-requires-in-Some-deal_parcel : goal.break_off-requires-in-Some-deal_parcel
-break_off-requires-in-Some-deal_parcel g c = subst IsLaneCount (sym c.deal_parcel.auto.outputs) c.loop.invariant.1
+break_off-requires-in-Some-deal_parcel g c =
+    subst IsLaneCount (sym c.deal_parcel.auto.outputs) (subst IsLaneCount (sym (woken_count c.loop.outputs c.wake_before_input.new.outputs
+    c.wake_before_input.ensures.outputs)) c.loop.invariant.1)
 
 pub deal_parcel-requires : goal.deal_parcel-requires
-deal_parcel-requires g c = c.loop.invariant.1
+deal_parcel-requires g c =
+    (subst IsLaneCount (sym (woken_count c.loop.outputs c.wake_before_input.new.outputs c.wake_before_input.ensures.outputs)) c.loop.invariant.1)

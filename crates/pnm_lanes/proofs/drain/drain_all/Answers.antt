@@ -24,8 +24,8 @@ returns-in-Some-outcome-clause-drained g c = record {
   done = λ lane below. c.in-Some-outcome.ensures.done lane (omega arith);
 }
 
-pub loop-preserved-then-has_moved : goal.loop-preserved-then-has_moved
-loop-preserved-then-has_moved g c =
+pub loop-preserved-then-not-has_moved : goal.loop-preserved-then-not-has_moved
+loop-preserved-then-not-has_moved g c =
     tried_both c.args.inputs.now c.loop.inputs c.drain_round-has_moved.new.inputs c.args.states.now c.loop.states c.drain_round-has_moved.new.states
     c.loop.invariant c.drain_round-has_moved.ensures.inputs c.drain_round-has_moved.ensures.carried
 
