@@ -207,6 +207,9 @@ STOOD_IN = [
     (["pamcut", "-l", "3", "--right=-4", "F"], "pamcut  -left 3 -right -4"),
     (["pamcut", "F", "-cropright", "09", "-croptop=2"], "pamcut  -right -10 -top 2"),
     (["pnmcut", "1", "2", "0", "-3", "F"], "pamcut -left 1 -top 2 -right -1 -bottom -4"),
+    (["pamcut", "0", "0", "7", "5", "F"], "pamcut -left 0 -top 0 -width 7 -height 5"),
+    (["pnmcut", "0", "05", "-1", "-09", "F"], "pamcut -left 0 -top 05 -right -2 -bottom -10"),
+    (["pamcut", "-3", "00", "010", "00", "F"], "pamcut -left -3 -top 00 -width 010 -bottom -1"),
     (["pnmdepth", "-quiet", "9", "F"], "pamdepth 9"),
     (["pamchannel", "-infile=F", "-tupl", "RGB", "2", "1", "0"], "pamchannel -tupletype=RGB 2 1 0"),
     (["pamenlarge", "3", "F"], "pamenlarge 3"),
@@ -222,6 +225,8 @@ STOOD_IN = [
 HANDED_ON = [
     ["pamcut", "-pad", "-left", "3", "F"],
     ["pamcut", "-left", "1", "-right", "2", "-width", "3", "F"],
+    ["pamcut", "0", "0", "7", "+5", "F"],
+    ["pamcut", "0", "0", "7x", "5", "F"],
     ["pamflip", "-lr", "-tb", "F"],
     ["pamflip", "-l", "F"],
     ["pamflip", "-xform=left", "F"],
