@@ -63,6 +63,7 @@ scripts:
 	python3 scripts/check_page.py
 	sh scripts/check_scripts.sh
 	python3 scripts/test_commands.py --program $(BUILT)
+	python3 scripts/test_translate.py --program $(BUILT)
 	python3 scripts/test_helpers.py --program $(BUILT)
 	python3 scripts/test_build.py
 	python3 scripts/pictures.py --check --program $(BUILT)
@@ -78,13 +79,13 @@ install: built
 	for page in man/*.1; do sed "s/@VERSION@/$$(cat VERSION)/" $$page > "$(DESTDIR)$(MANDIR)/man1/$${page#man/}" || exit 1; done
 	install -m 644 completions/pnmpipe.bash "$(DESTDIR)$(COMPLETIONDIR)/pnmpipe"
 	install -m 755 scripts/pnmpipe-translate scripts/netpbm-shim "$(DESTDIR)$(LIBEXECDIR)/pnmpipe"
-	install -m 644 scripts/netpbm_words.py "$(DESTDIR)$(LIBEXECDIR)/pnmpipe"
+	install -m 644 scripts/netpbm_words.py scripts/shell_reader.py "$(DESTDIR)$(LIBEXECDIR)/pnmpipe"
 	ln -srf "$(DESTDIR)$(LIBEXECDIR)/pnmpipe/pnmpipe-translate" "$(DESTDIR)$(BINDIR)/pnmpipe-translate"
 	for name in $(SHIMS); do ln -sf ../netpbm-shim "$(DESTDIR)$(SHIMDIR)/$$name" || exit 1; done
 
 uninstall:
 	rm -f "$(DESTDIR)$(BINDIR)/pnmpipe" "$(DESTDIR)$(COMPLETIONDIR)/pnmpipe"
-	for file in pnmpipe-translate netpbm-shim netpbm_words.py; do rm -f "$(DESTDIR)$(LIBEXECDIR)/pnmpipe/$$file"; done
+	for file in pnmpipe-translate netpbm-shim netpbm_words.py shell_reader.py; do rm -f "$(DESTDIR)$(LIBEXECDIR)/pnmpipe/$$file"; done
 	for helper in $(HELPERS) pnmpipe-translate; do rm -f "$(DESTDIR)$(BINDIR)/$$helper"; done
 	for page in man/*.1; do rm -f "$(DESTDIR)$(MANDIR)/man1/$${page#man/}"; done
 	for name in $(SHIMS); do rm -f "$(DESTDIR)$(SHIMDIR)/$$name"; done

@@ -1,7 +1,8 @@
 """What the words of Netpbm's tools mean, and what pnmpipe has in their place. `pnmpipe-translate` uses it."""
 
 import re
-import shlex
+
+from shell_reader import Kept, Word
 
 # the stages for each way to turn an image
 WAYS = {
@@ -42,61 +43,79 @@ OLD_NAMES = {"pnmcut": "pamcut", "pnmdepth": "pamdepth", "pnmenlarge": "pamenlar
 PNMFLIP = [("-lr|-le.*", "lr"), ("-tb|-to.*", "tb"), ("-x.*|-tr.*", "xy"), ("-r9.*|-rotate9.*|-cc.*", "r90")]
 PNMFLIP += [("-r1.*|-rotate1.*", "r180"), ("-r2.*|-rotate2.*|-cw", "r270")]
 
-STREAMS = "{}: every image of a stream is treated, and Netpbm's tool takes the first alone"
-STAYS_PAM = "{}: a PAM image stays PAM, and Netpbm's tool makes PGM or PPM of it"
-STAYS_BITS = "pamdepth 1: PBM, and PAM of type BLACKANDWHITE, stay as they are, and Netpbm's tool makes gray of them"
-PLAIN_LINES = "-plain: the same samples, with other blanks and line ends than Netpbm's"
-TYPES = (
-    "pamchannel -tupletype: each type is taken, and Netpbm's tool refuses one that doesn't fit the planes or the maxval"
-)
-PLAIN_STREAMS = "{}: of several plain images in one input the first alone is taken, and Netpbm's tool takes all"
-NAMED = (
-    "{} is taken for a file's name: where it begins with a dash, Netpbm's tool takes it for an option or standard input"
-)
-
+# the notes, each of which is said once a script
+STREAMS = "differs, {}: every image of a stream is treated, and Netpbm's tool takes the first alone"
+STAYS_PAM = "differs, {}: a PAM image stays PAM, and Netpbm's tool makes PGM or PPM of it"
+STAYS_BITS = "differs, pamdepth {}: PBM, and PAM of type BLACKANDWHITE, stay as they are, and Netpbm's tool makes gray"
+PLAIN_LINES = "differs, -plain: the same samples, with other blanks and line ends than Netpbm's"
+TYPES = "differs, pamchannel -tupletype: Netpbm's tool refuses a type that doesn't fit the planes or the maxval"
+PLAIN_STREAMS = "differs, {}: of several plain images in one input the first is taken, and Netpbm's tool takes all"
+LINE_END = "differs, an LF or junk behind a raw image: pnmpipe ends with BadMagic, and Netpbm's tools go past it or end"
+NAMED = "differs, a file's name from a variable: where it begins with a dash, Netpbm takes an option or standard input"
+ONE_NUMBER = "assumed: a variable or a sum that stands for a number holds one decimal number"
+SIZES = "assumed: in pamcut's four numbers a width or height from a variable is above 0 (pnmpipe refuses others)"
 
 # one less than the greatest number that pnmpipe takes, or a negative one counted from the end
 MOST_NUMBER = 16_777_215
 
+# settings that may stand before a tool's name, since pnmpipe doesn't look at them; the options of nice(1); and the
+# folders of a tool that is named by its path
+SETTING = re.compile(r"(LC_[A-Z]+|LANG|LANGUAGE|TZ|TMPDIR)=")
+ANY_SETTING = re.compile(r"[A-Za-z_]\w*\+?=")
+NICE = re.compile(r"-n|-?-?[0-9]+|-n[0-9]+|--adjustment=-?[0-9]+")
+FOLDER = re.compile(r"/(?:[\w.+-]+/)*bin")
 
-class Kept(Exception):
-    """Why a stage is kept as it is."""
-
-
-class Word:
-    """A word of the shell: its text as it stands, and what it means where no expansion is in it."""
-
-    def __init__(self, start=0, raw=""):
-        self.start = self.end = start
-        self.raw = shlex.quote(raw)
-        self.parts = [raw] if raw else []
-        self.literal = True
-        # whether an expansion in it may make several words of it, or none
-        self.may_split = False
-
-    @property
-    def value(self):
-        return "".join(self.parts) if self.literal else None
+# programs that run the command of their words
+RUNNERS = {"chrt", "env", "exec", "find", "ionice", "nice", "nohup", "parallel", "setsid", "stdbuf", "sudo", "taskset"}
+RUNNERS |= {"time", "timeout", "xargs"}
 
 
-class Stage:
-    """A simple command: its words and redirections, and where it stands."""
+class Call:
+    """A call of one of Netpbm's tools, and what pnmpipe has in its place."""
 
-    def __init__(self):
-        self.words = []
-        self.redirections = []
-        self.start = self.end = None
-        # what is known once it was read as a tool
-        self.tools = None
+    def __init__(self, stage, index):
+        self.start, self.end = stage.start, stage.end
+        self.redirections = stage.redirections
+        # what stands before the tool's name: settings, `nice` and its number
+        self.prefix = [word.raw for word in stage.words[:index]]
+        self.tools = []
         self.file = None
         self.plain = False
         self.notes = []
         # notes that hold where it is the first of its call
         self.notes_if_first = []
 
-    def add(self, start, end):
-        self.start = start if self.start is None else self.start
-        self.end = end
+
+def tool_of(word, anywhere=False):
+    """The tool that a word names, by its own name or by a path of programs, or anywhere; None where it names none."""
+    folder, _, name = (word.value or "").rpartition("/")
+    if folder and not anywhere and not FOLDER.fullmatch(folder):
+        return None
+    return name if OLD_NAMES.get(name, name) in OPTIONS else None
+
+
+def place_of(stage):
+    """Which word of a stage is the tool's name; None where it calls none of these tools."""
+    index, words = 0, stage.words
+    while index < len(words) and ANY_SETTING.match(words[index].raw):
+        index += 1
+    settings = index
+    while index < len(words) and words[index].raw in ("command", "exec", "nice"):
+        is_nice = words[index].raw == "nice"
+        index += 1
+        while is_nice and index < len(words) and NICE.fullmatch(words[index].raw):
+            index += 1
+    if index < len(words) and tool_of(words[index]):
+        for word in words[:settings]:
+            if not SETTING.match(word.raw):
+                raise Kept(f"{word.raw} stands before it")
+        return index
+    if index < len(words) and tool_of(words[index], True):
+        raise Kept("another program may stand there")
+    runner = words[settings].raw.rsplit("/", 1)[-1] if settings < len(words) else None
+    if runner in RUNNERS and any(tool_of(word, True) for word in words[settings + 1 :]):
+        raise Kept(f"{runner} runs it")
+    return None
 
 
 def whole_name(tool, given):
@@ -110,12 +129,35 @@ def whole_name(tool, given):
     return found[0]
 
 
-def number_of(text, what, least=None):
-    """A decimal number as text, where pnmpipe takes it, and one less than it too."""
-    is_number = text is not None and re.fullmatch(r"-?[0-9]{1,8}", text)
+def number_of(call, word, what, least=None):
+    """A decimal number as text, where pnmpipe takes it, and one less than it too; or a variable that holds one."""
+    if word.parameter:
+        call.notes.append(ONE_NUMBER)
+        return word.parameter
+    if not word.literal:
+        raise Kept(f"{what} is {word.raw}, which is more than a variable")
+    text = word.value
+    is_number = re.fullmatch(r"-?[0-9]{1,8}", text)
     if not is_number or abs(int(text)) > MOST_NUMBER or (least is not None and int(text) < least):
         raise Kept(f"{what} isn't a number that pnmpipe takes")
-    return int(text)
+    return str(int(text))
+
+
+def option_of(tool, word):
+    """The name of the option that a word is, and its value where one stands behind `=`; None for an argument."""
+    found = re.match(r"--?([^='\"\\$`]*)(=?)", word.raw)
+    if word.literal:
+        text = word.value
+        if not text.startswith("-") or text == "-" or (tool == "pamcut" and re.fullmatch(r"-[0-9]+", text)):
+            return None
+        name, sign, value = re.fullmatch(r"--?([^=]*)(=?)(.*)", text, re.S).groups()
+        return whole_name(tool, name), Word(raw=value) if sign else None
+    if not found:
+        return None
+    value = word.behind(found.group(0)) if found.group(2) else None
+    if value is None:
+        raise Kept(f"{word.raw} has a variable in its name")
+    return whole_name(tool, found.group(1)), value
 
 
 def options_of(tool, words):
@@ -125,29 +167,25 @@ def options_of(tool, words):
     left = list(words)
     while left:
         word = left.pop(0)
-        text = word.value
-        is_number = tool == "pamcut" and text is not None and re.fullmatch(r"-[0-9]+", text)
-        if text is None and word.raw.startswith("-"):
-            raise Kept(f"{word.raw} has a variable")
-        if text is None or is_number or not text.startswith("-") or text == "-":
+        found = option_of(tool, word)
+        if found is None:
             arguments.append(word)
             continue
-        name, has_value, value = re.fullmatch(r"--?([^=]*)(=?)(.*)", text, re.S).groups()
-        name = whole_name(tool, name)
+        name, value = found
         if name in options:
             raise Kept(f"-{name} is there twice")
         if name in values:
-            if not has_value and not left:
+            if value is None and not left:
                 raise Kept(f"-{name} lacks its value")
-            options[name] = Word(raw=value) if has_value else left.pop(0)
-        elif has_value:
+            options[name] = left.pop(0) if value is None else value
+        elif value is not None:
             raise Kept(f"-{name} takes no value")
         else:
             options[name] = None
     return options, arguments
 
 
-def axis_words(options, first, last, size):
+def axis_words(call, options, first, last, size):
     """The words of one axis of pamcut."""
     crop_first, crop_last = "crop" + first, "crop" + last
     given = [name for name in (first, last, size, crop_first, crop_last) if name in options]
@@ -155,65 +193,84 @@ def axis_words(options, first, last, size):
         raise Kept("-" + ", -".join(given) + " stand together")
     words = []
     for name in given:
-        number = number_of(options[name].value, f"-{name}", 1 if name == size else 0 if "crop" in name else None)
+        if name == crop_last and options[name].parameter:
+            raise Kept(f"-{name} is a variable, and pnmpipe wants a negative -{last}, one less")
+        number = number_of(call, options[name], f"-{name}", 1 if name == size else 0 if "crop" in name else None)
         if name == crop_last:
-            number = -number - 1
+            number = str(-int(number) - 1)
         words.append(f"-{name.replace('crop', '')} {number}")
     return words
 
 
-def cut(options, arguments):
+def four_numbers(call, arguments):
+    """pamcut by its older form: the first column and row, and a size, or what is left out from the end."""
+    left, top, width, height = [number_of(call, word, "an argument") for word in arguments[:4]]
+    words = ["pamcut", f"-left {left}", f"-top {top}"]
+    for size, last, text in (("width", "right", width), ("height", "bottom", height)):
+        if text.startswith("$"):
+            call.notes.append(SIZES)
+            words.append(f"-{size} {text}")
+        else:
+            words.append(f"-{size} {text}" if int(text) > 0 else f"-{last} {int(text) - 1}")
+    return [" ".join(words)], arguments[4:]
+
+
+def cut(call, options, arguments):
     for name in ("pad", "verbose"):
         if name in options:
             raise Kept(f"pnmpipe's pamcut has no -{name}")
     if len(arguments) in (4, 5) and not options:
-        left, top, width, height = [number_of(word.value, "an argument") for word in arguments[:4]]
-        across = f"-width {width}" if width > 0 else f"-right {width - 1}"
-        down = f"-height {height}" if height > 0 else f"-bottom {height - 1}"
-        return [f"pamcut -left {left} -top {top} {across} {down}"], arguments[4:]
-    words = axis_words(options, "left", "right", "width") + axis_words(options, "top", "bottom", "height")
+        return four_numbers(call, arguments)
+    words = axis_words(call, options, "left", "right", "width") + axis_words(call, options, "top", "bottom", "height")
     return [" ".join(["pamcut", *words])], arguments
 
 
-def depth(_, arguments):
+def depth(call, _, arguments):
     if not arguments:
         raise Kept("pamdepth lacks its maxval")
-    maxval = number_of(arguments[0].value, "the maxval", 1)
-    if maxval > 65535:
+    maxval = number_of(call, arguments[0], "the maxval", 1)
+    if maxval.startswith("$"):
+        call.notes.append(STAYS_BITS.format("by a variable that holds 1"))
+    elif int(maxval) > 65535:
         raise Kept("the maxval is above 65535")
+    elif int(maxval) == 1:
+        call.notes.append(STAYS_BITS.format(1))
     return [f"pamdepth {maxval}"], arguments[1:]
 
 
-def channel(options, arguments):
+def channel(call, options, arguments):
     if not 1 <= len(arguments) <= 16:
         raise Kept("pamchannel wants 1 to 16 planes")
-    planes = [str(number_of(word.value, "a plane", 0)) for word in arguments]
-    words = ["pamchannel", *planes]
+    words = ["pamchannel", *[number_of(call, word, "a plane", 0) for word in arguments]]
     if "tupletype" in options:
         value = options["tupletype"].value
         if value is None or not re.fullmatch(r"[A-Za-z0-9_=.,:+-]{0,255}", value):
             raise Kept("the tuple type has a blank, a quote or a variable")
         words.insert(1, f"-tupletype={value}")
+        call.notes.append(TYPES)
+    if call.plain:
+        raise Kept("PAM has no plain form")
     return [" ".join(words)], [options["infile"]] if "infile" in options else []
 
 
-def enlarge(options, arguments):
+def enlarge(call, options, arguments):
     if not options:
         if not arguments:
             raise Kept("pamenlarge lacks its factor")
-        return [f"pamenlarge {number_of(arguments[0].value, 'the factor', 1)}"], arguments[1:]
+        return [f"pamenlarge {number_of(call, arguments[0], 'the factor', 1)}"], arguments[1:]
     if "scale" in options:
         if len(options) > 1:
             raise Kept("-scale stands beside another scale")
-        return [f"pamenlarge {number_of(options['scale'].value, '-scale', 1)}"], arguments
+        return [f"pamenlarge {number_of(call, options['scale'], '-scale', 1)}"], arguments
     named = [name for name in ("xscale", "yscale") if name in options]
-    scales = [f"-{name} {number_of(options[name].value, '-' + name, 1)}" for name in named]
+    scales = [f"-{name} {number_of(call, options[name], '-' + name, 1)}" for name in named]
     return [" ".join(["pamenlarge", *scales])], arguments
 
 
-def flip(options, arguments):
+def flip(_, options, arguments):
     if len(options) != 1:
-        raise Kept("pamflip wants one way")
+        unknown = [word.raw for word in arguments if not word.literal and word.may_split]
+        raise Kept(f"{unknown[0]} may be a way to flip" if unknown and not options else "pamflip wants one way")
     name = next(iter(options))
     if name == "xform":
         value = options[name].value
@@ -243,10 +300,10 @@ def old_flip(words):
     return stages or ["pamflip -null"], arguments
 
 
-def tile(_, arguments):
+def tile(call, _, arguments):
     if len(arguments) < 2:
         raise Kept("pnmtile lacks its width or height")
-    width, height = [number_of(word.value, "a size", 1) for word in arguments[:2]]
+    width, height = [number_of(call, word, "a size", 1) for word in arguments[:2]]
     return [f"pnmtile {width} {height}"], arguments[2:]
 
 
@@ -260,56 +317,55 @@ RULES = {
 }
 
 
-def file_of(stage, arguments):
+def file_of(call, arguments):
     """The file that is read, by its word; None for standard input."""
     if not arguments:
         return None
     if len(arguments) > 1:
-        raise Kept("it has several files, or too many arguments")
+        unknown = [word.raw for word in arguments if word.may_split]
+        raise Kept(f"{unknown[0]} may be an option" if unknown else "it has several files, or too many arguments")
     word = arguments[0]
     if word.value == "-":
         return None
     if word.may_split:
         raise Kept(f"{word.raw} may be several words: put it in double quotes")
     if not word.literal:
-        stage.notes.append(NAMED.format(word.raw))
+        call.notes.append(NAMED)
     return word.raw
 
 
-def read_stage(stage):
-    """Reads a stage as a tool: what pnmpipe has in its place, the file and the notes."""
-    tool = stage.words[0].value
-    tool = OLD_NAMES.get(tool, tool)
+def read_stage(stage, index):
+    """Reads a stage as a call of the tool that a word of it names: what pnmpipe has in its place."""
+    call = Call(stage, index)
+    name = tool_of(stage.words[index])
+    tool = OLD_NAMES.get(name, name)
     words = []
-    for word in stage.words[1:]:
+    for word in stage.words[index + 1 :]:
         if word.value in ("-quiet", "--quiet"):
             continue
         if word.value in ("-plain", "--plain"):
-            stage.plain = True
+            call.plain = True
         elif word.value in ("-version", "--version", "-help", "--help", "-?"):
             raise Kept(f"it asks for {word.value}")
         else:
             words.append(word)
     if tool == "pnmflip":
-        tools, arguments = old_flip(words)
+        call.tools, arguments = old_flip(words)
     else:
         options, arguments = options_of(tool, words)
-        tools, arguments = (["pnminvert"], arguments) if tool == "pnminvert" else RULES[tool](options, arguments)
-    file = file_of(stage, arguments)
-    if tool == "pamchannel" and stage.plain:
-        raise Kept("PAM has no plain form")
-    if file is not None and any(text.startswith(("<", "0<")) for text in stage.redirections):
+        call.tools = ["pnminvert"]
+        if tool != "pnminvert":
+            call.tools, arguments = RULES[tool](call, options, arguments)
+    call.file = file_of(call, arguments)
+    if call.file is not None and any(text.startswith(("<", "0<")) for text in call.redirections):
         raise Kept("it has a file and a redirection of standard input")
     if tool in ("pnminvert", "pamenlarge", "pamflip", "pnmflip", "pnmtile"):
-        stage.notes.append(STREAMS.format(tool))
+        call.notes.append(STREAMS.format(tool))
     else:
-        stage.notes_if_first.append(PLAIN_STREAMS.format(tool))
+        call.notes_if_first.append(PLAIN_STREAMS.format(tool))
+    call.notes_if_first.append(LINE_END)
     if tool in ("pnminvert", "pnmtile"):
-        stage.notes.append(STAYS_PAM.format(tool))
-    if tool == "pamchannel" and "-tupletype=" in tools[0]:
-        stage.notes.append(TYPES)
-    if tools == ["pamdepth 1"]:
-        stage.notes.append(STAYS_BITS)
-    if stage.plain:
-        stage.notes.append(PLAIN_LINES)
-    stage.tools, stage.file = tools, file
+        call.notes.append(STAYS_PAM.format(tool))
+    if call.plain:
+        call.notes.append(PLAIN_LINES)
+    return call

@@ -1,13 +1,11 @@
 #!/usr/bin/env python3
-"""Tests of the helpers, of the stand-ins for Netpbm's tools, and of long rows through the program, in seconds.
+"""Tests of helpers, of the stand-ins for Netpbm's tools, and of long rows through the program, in seconds.
 
 They want python3 and sh alone. The program is named by --program; where it isn't there, what wants it is passed over.
 The stand-ins are tried over scripts that only tell how they were called.
 """
 
 import argparse
-import importlib.machinery
-import importlib.util
 import os
 import shutil
 import subprocess
@@ -17,147 +15,10 @@ import unittest
 
 sys.dont_write_bytecode = True
 
-SCRIPTS = os.path.dirname(os.path.abspath(__file__))
-ROOT = os.path.dirname(SCRIPTS)
+# pylint: disable=wrong-import-position
+from test_support import COLOR, GRAY, ROOT, SCRIPTS, SHIMS, Folder, program_of, run
+
 PROGRAM = None
-
-GRAY = b"P5\n2 1\n9\n\x01\x02"
-COLOR = b"P6\n1 1\n9\n\x03\x04\x05"
-
-# pipelines, and what they become
-TRANSLATED = [
-    ("pamcut -l 8 in.pgm | pnminvert > out", "pnmpipe 'pamcut -left 8 | pnminvert' < in.pgm > out"),
-    ("pamflip -r90 a", "pnmpipe 'pamflip -r90' < a"),
-    ("pamflip --r270 | pamflip -r180", "pnmpipe 'pamflip -r270 | pamflip -r180'"),
-    ("pnmcut 1 2 0 -3 'a b'", "pnmpipe 'pamcut -left 1 -top 2 -right -1 -bottom -4' < 'a b'"),
-    ("pamcut -cropl 5 --cropright=9", "pnmpipe 'pamcut -left 5 -right -10'"),
-    ("pnmenlarge -scale 3 - | cat", "pnmpipe 'pamenlarge 3' | cat"),
-    ("pamenlarge -xs 3 -ys=2 f", "pnmpipe 'pamenlarge -xscale 3 -yscale 2' < f"),
-    ("pamflip -xform=leftright,transpose", "pnmpipe 'pamflip -lr | pamflip -xy'"),
-    ("pnmflip -tr -cw f", "pnmpipe 'pamflip -xy | pamflip -r270' < f"),
-    ("pamchannel -infile='a b' -tuple X 0 1", "pnmpipe 'pamchannel -tupletype=X 0 1' < 'a b'"),
-    ("pnmcut 0 0 12000000 -16777215", "pnmpipe 'pamcut -left 0 -top 0 -width 12000000 -bottom -16777216'"),
-    ("pnmtile 7 8 f -quiet 2>/dev/null", "pnmpipe 'pnmtile 7 8' < f 2>/dev/null"),
-    ("pamdepth 9 f | pnmtile -plain 3 3", "pnmpipe --plain 'pamdepth 9 | pnmtile 3 3' < f"),
-    ("a | pamcut -left 1 f|pamflip -lr", "a | pnmpipe 'pamcut -left 1 | pamflip -lr' < f"),
-    ('x="$(pamcut -left 1 < "$f" | pamflip -tb)"', "x=\"$(pnmpipe 'pamcut -left 1 | pamflip -tb' < \"$f\")\""),
-    ("pamcut -left 1 |\n  pamflip -lr", "pnmpipe 'pamcut -left 1 | pamflip -lr'"),
-    ('for f in *; do pnminvert "$f"; done', "for f in *; do pnmpipe 'pnminvert' < \"$f\"; done"),
-    ("cat <<E | pnminvert\npnminvert\nE", "cat <<E | pnmpipe 'pnminvert'\npnminvert\nE"),
-    ("case $x in a) pnminvert ;; esac", "case $x in a) pnmpipe 'pnminvert' ;; esac"),
-    ("pamchannel 0 | pnminvert | pamflip -lr", "pnmpipe 'pamchannel 0' | pnminvert | pnmpipe 'pamflip -lr'"),
-    ("pamcut -left 1 2> e | pnminvert", "pnmpipe 'pamcut -left 1' 2> e | pnmpipe 'pnminvert'"),
-]
-
-# what is kept as it is
-KEPT = [
-    "pamcut -pad -left 1",
-    "pamcut -left $n",
-    "pamcut -left=$n f",
-    "pamcut -left 1 $f",
-    "pamcut -left 1 *.pgm",
-    "pamcut -left 1 a b",
-    "pamcut -left 1 -left 2",
-    "pamcut -left 1 -right 2 -width 2",
-    "pamcut -cropleft -1",
-    "pamcut 0 0 +3 3",
-    "pamflip -lr -tb",
-    "pamflip -xform=left",
-    "pamflip -l",
-    "pamdepth 0",
-    "pamdepth 65536",
-    "pamchannel -tupletype 'two words' 0",
-    "pamchannel 0 -plain",
-    "pamenlarge -scale 2 -xscale 3",
-    "pnmtile 3",
-    "pnmtile 1 16777217",
-    "pnminvert -version",
-    "pnminvert |& cat",
-    "pnminvert f < g",
-    "pnminvert << E\nE",
-    "pamcut() { :; }\npamcut -left 1",
-    "case pamcut in pamcut) ;; (pnminvert|pamcut) ;; esac",
-    "a=(pnminvert)",
-    "sh -c 'pnminvert' # pnminvert",
-    "echo pnminvert; xargs pnminvert",
-    "echo `pnminvert`",
-    'pnminvert "$@"',
-    "pnminvert 'a",
-]
-
-
-def run(words, given=b"", **others):
-    return subprocess.run(words, input=given, capture_output=True, check=False, **others)
-
-
-class Folder(unittest.TestCase):
-    """A test that has a folder of its own."""
-
-    def setUp(self):
-        self.folder = tempfile.mkdtemp()
-        self.addCleanup(shutil.rmtree, self.folder)
-
-    def path(self, name):
-        return os.path.join(self.folder, name)
-
-    def write(self, name, data, mode=0o644):
-        os.makedirs(os.path.dirname(self.path(name)), exist_ok=True)
-        with open(self.path(name), "wb") as file:
-            file.write(data)
-        os.chmod(self.path(name), mode)
-        return self.path(name)
-
-    def read(self, name):
-        with open(self.path(name), "rb") as file:
-            return file.read()
-
-
-def loaded(name):
-    """A helper, as a module."""
-    loader = importlib.machinery.SourceFileLoader(name.replace("-", "_"), f"{SCRIPTS}/{name}")
-    module = importlib.util.module_from_spec(importlib.util.spec_from_loader(loader.name, loader))
-    loader.exec_module(module)
-    return module
-
-
-class Translate(Folder):
-    translate = loaded("pnmpipe-translate")
-
-    def translated(self, text):
-        made, said = self.translate.translated(text)
-        return made, "\n".join(note for _, note in said)
-
-    def test_translates(self):
-        for text, wanted in TRANSLATED:
-            made, said = self.translated(text)
-            self.assertEqual(made, wanted)
-            self.assertIn("in one call", said)
-
-    def test_keeps(self):
-        for text in KEPT:
-            self.assertEqual(self.translated(text)[0], text)
-
-    def test_tells_what_differs(self):
-        for text, note in [
-            ("pnminvert", "every image of a stream"),
-            ("pnmtile 2 2", "stays PAM"),
-            ("pamdepth 1", "stay as they are"),
-            ("pamcut -left 1", "several plain images"),
-            ("pamchannel -tupletype RGB 0", "doesn't fit the planes"),
-            ('pnminvert "$f"', "begins with a dash"),
-            ("pnminvert -plain", "other blanks and line ends"),
-        ]:
-            self.assertIn(note, self.translated(text)[1])
-
-    def test_script(self):
-        script = self.write("script", b"#!/bin/sh\n# caf\xe9\npnminvert < a\n")
-        done = run([f"{SCRIPTS}/pnmpipe-translate", "-f", script])
-        self.assertEqual(done.stdout, b"#!/bin/sh\n# caf\xe9\npnmpipe 'pnminvert' < a\n")
-        self.assertIn(b"line 3: 1 tool in one call", done.stderr)
-
-    def test_long_runs(self):
-        made, _ = self.translated(" | ".join(["pnminvert"] * 66))
-        self.assertEqual([call.count("pnminvert") for call in made.split("pnmpipe")[1:]], [64, 2])
 
 
 class Split(Folder):
@@ -199,7 +60,6 @@ class Split(Folder):
 # tells how it was called, and hands its input on
 TELLS = b"#!/bin/sh\nprintf '%s:' \"${0##*/}\" \"$@\"\nexec cat\n"
 
-SHIMS = "pnminvert pamcut pamdepth pamchannel pamenlarge pamflip pnmtile pnmcut pnmdepth pnmenlarge pnmflip".split()
 
 # a call, and the chain that pnmpipe gets
 STOOD_IN = [
@@ -384,12 +244,9 @@ def main():
     global PROGRAM
     parser = argparse.ArgumentParser(description=__doc__.split("\n")[0])
     parser.add_argument("--program", default=f"{ROOT}/bin/pnmpipe")
-    options = parser.parse_args()
-    if os.access(options.program, os.X_OK):
-        PROGRAM = os.path.abspath(options.program)
-    else:
-        print(f"test_helpers: there is no {options.program}, so tests that want it are passed over")
-    unittest.main(argv=[sys.argv[0]])
+    options, tests = parser.parse_known_args()
+    PROGRAM = program_of(options.program)
+    unittest.main(argv=[sys.argv[0], *tests])
 
 
 if __name__ == "__main__":

@@ -1,0 +1,62 @@
+"""What the tests of the helpers share: a folder of its own, images, and how a helper is run and loaded."""
+
+import importlib.machinery
+import importlib.util
+import os
+import shutil
+import subprocess
+import sys
+import tempfile
+import unittest
+
+sys.dont_write_bytecode = True
+
+SCRIPTS = os.path.dirname(os.path.abspath(__file__))
+ROOT = os.path.dirname(SCRIPTS)
+
+GRAY = b"P5\n2 1\n9\n\x01\x02"
+COLOR = b"P6\n1 1\n9\n\x03\x04\x05"
+
+SHIMS = "pnminvert pamcut pamdepth pamchannel pamenlarge pamflip pnmtile pnmcut pnmdepth pnmenlarge pnmflip".split()
+
+
+def run(words, given=b"", **others):
+    return subprocess.run(words, input=given, capture_output=True, check=False, **others)
+
+
+class Folder(unittest.TestCase):
+    """A test that has a folder of its own."""
+
+    def setUp(self):
+        self.folder = tempfile.mkdtemp()
+        self.addCleanup(shutil.rmtree, self.folder)
+
+    def path(self, name):
+        return os.path.join(self.folder, name)
+
+    def write(self, name, data, mode=0o644):
+        os.makedirs(os.path.dirname(self.path(name)), exist_ok=True)
+        with open(self.path(name), "wb") as file:
+            file.write(data)
+        os.chmod(self.path(name), mode)
+        return self.path(name)
+
+    def read(self, name):
+        with open(self.path(name), "rb") as file:
+            return file.read()
+
+
+def loaded(name):
+    """A helper, as a module."""
+    loader = importlib.machinery.SourceFileLoader(name.replace("-", "_"), f"{SCRIPTS}/{name}")
+    module = importlib.util.module_from_spec(importlib.util.spec_from_loader(loader.name, loader))
+    loader.exec_module(module)
+    return module
+
+
+def program_of(path):
+    """The program's path as a whole; None, which is said, where it isn't there."""
+    if os.access(path, os.X_OK):
+        return os.path.abspath(path)
+    print(f"{os.path.basename(sys.argv[0])}: there is no {path}, so tests that want it are passed over")
+    return None

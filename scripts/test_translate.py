@@ -1,0 +1,230 @@
+#!/usr/bin/env python3
+"""Tests of pnmpipe-translate: pipelines and what becomes of them, and scripts at random that are run before and after.
+
+The scripts at random (--scripts, from --seed on) are read by `sh -n`, and have to give the same bytes and statuses when
+they are translated. Netpbm's tools run the ones before where they are installed, else the stand-ins that call pnmpipe.
+"""
+
+import argparse
+import os
+import shutil
+import sys
+import unittest
+
+sys.dont_write_bytecode = True
+
+# pylint: disable=wrong-import-position
+from random_scripts import random_script
+from test_support import ROOT, SCRIPTS, SHIMS, Folder, loaded, program_of, run
+
+PROGRAM = None
+COUNT, SEED = 24, 0
+
+# pipelines, and what they become
+TRANSLATED = [
+    ("pamcut -l 8 in.pgm | pnminvert > out", "pnmpipe 'pamcut -left 8 | pnminvert' < in.pgm > out"),
+    ("pamflip -r90 a", "pnmpipe 'pamflip -r90' < a"),
+    ("pamflip --r270 | pamflip -r180", "pnmpipe 'pamflip -r270 | pamflip -r180'"),
+    ("pnmcut 1 2 0 -3 'a b'", "pnmpipe 'pamcut -left 1 -top 2 -right -1 -bottom -4' < 'a b'"),
+    ("pamcut -cropl 5 --cropright=9", "pnmpipe 'pamcut -left 5 -right -10'"),
+    ("pnmenlarge -scale 3 - | cat", "pnmpipe 'pamenlarge 3' | cat"),
+    ("pamenlarge -xs 3 -ys=2 f", "pnmpipe 'pamenlarge -xscale 3 -yscale 2' < f"),
+    ("pamflip -xform=leftright,transpose", "pnmpipe 'pamflip -lr | pamflip -xy'"),
+    ("pnmflip -tr -cw f", "pnmpipe 'pamflip -xy | pamflip -r270' < f"),
+    ("pamchannel -infile='a b' -tuple X 0 1", "pnmpipe 'pamchannel -tupletype=X 0 1' < 'a b'"),
+    ("pnmcut 0 0 12000000 -16777215", "pnmpipe 'pamcut -left 0 -top 0 -width 12000000 -bottom -16777216'"),
+    ("pnmtile 7 8 f -quiet 2>/dev/null", "pnmpipe 'pnmtile 7 8' < f 2>/dev/null"),
+    ("pamdepth 9 f | pnmtile -plain 3 3", "pnmpipe --plain 'pamdepth 9 | pnmtile 3 3' < f"),
+    ("a | pamcut -left 1 f|pamflip -lr", "a | pnmpipe 'pamcut -left 1 | pamflip -lr' < f"),
+    ('x="$(pamcut -left 1 < "$f" | pamflip -tb)"', "x=\"$(pnmpipe 'pamcut -left 1 | pamflip -tb' < \"$f\")\""),
+    ("pamcut -left 1 |\n  pamflip -lr", "pnmpipe 'pamcut -left 1 | pamflip -lr'"),
+    ('for f in *; do pnminvert "$f"; done', "for f in *; do pnmpipe 'pnminvert' < \"$f\"; done"),
+    ("cat <<E | pnminvert\npnminvert\nE", "cat <<E | pnmpipe 'pnminvert'\npnminvert\nE"),
+    ("case $x in a) pnminvert ;; esac", "case $x in a) pnmpipe 'pnminvert' ;; esac"),
+    ("pamchannel 0 | pnminvert | pamflip -lr", "pnmpipe 'pamchannel 0' | pnminvert | pnmpipe 'pamflip -lr'"),
+    ("pamcut -left 8 a | { pnminvert; }", "pnmpipe 'pamcut -left 8' < a | { pnmpipe 'pnminvert'; }"),
+    ("pnminvert | if pnminvert; then :; fi", "pnmpipe 'pnminvert' | if pnmpipe 'pnminvert'; then :; fi"),
+    ("pnminvert | while pnminvert; do :; done", "pnmpipe 'pnminvert' | while pnmpipe 'pnminvert'; do :; done"),
+    ("while :; do { pnminvert; } done", "while :; do { pnmpipe 'pnminvert'; } done"),
+    ("pnminvert | (pnminvert)", "pnmpipe 'pnminvert' | (pnmpipe 'pnminvert')"),
+    ("pnminvert | # pnminvert |\n pnminvert", "pnmpipe 'pnminvert' | # pnminvert |\n pnmpipe 'pnminvert'"),
+    ("a <<E | pnminvert |\nx\nE\npnminvert", "a <<E | pnmpipe 'pnminvert' |\nx\nE\npnmpipe 'pnminvert'"),
+    ("pamcut -left $l f | pnminvert", 'pnmpipe "pamcut -left $l | pnminvert" < f'),
+    ('pamcut -left="$l" -top ${t} f', 'pnmpipe "pamcut -left $l -top ${t}" < f'),
+    ("pamcut $a $1 $w 9", 'pnmpipe "pamcut -left $a -top $1 -width $w -height 9"'),
+    ("pnmtile $((w * 2)) 3", 'pnmpipe "pnmtile $((w * 2)) 3"'),
+    ("LC_ALL=C pamcut -left 1 f", "LC_ALL=C pnmpipe 'pamcut -left 1' < f"),
+    ("nice -n 9 pnminvert | pnminvert", "nice -n 9 pnmpipe 'pnminvert' | pnmpipe 'pnminvert'"),
+    ("/usr/bin/pamcut -left 1", "pnmpipe 'pamcut -left 1'"),
+    ("cmp <(pnminvert a) b", "cmp <(pnmpipe 'pnminvert' < a) b"),
+    ("pamcut -left 1 <(pnminvert a)", "pnmpipe 'pamcut -left 1' < <(pnmpipe 'pnminvert' < a)"),
+    ("pamcut -left 1 2> e | pnminvert", "pnmpipe 'pamcut -left 1' 2> e | pnmpipe 'pnminvert'"),
+]
+
+# what is kept as it is
+KEPT = [
+    "pamcut -pad -left 1",
+    "pamcut -left $(expr 1 + 2)",
+    'pamcut -left "$n$m"',
+    "pamcut -left ${n:=1}",
+    "pamcut -left $((n += 1))",
+    "pamcut -left $@",
+    "pamcut -$side 1",
+    "pamcut -cropright $n",
+    "pamflip $way f",
+    "PATH=/old pamcut",
+    "./pamcut -left 1",
+    "env pamcut -left 1",
+    "pamcut -left 8 in.pgm\r\npnminvert\r\n",
+    "#!/usr/bin/perl\npnminvert\n",
+    "pamcut -left 1 $f",
+    "pamcut -left 1 *.pgm",
+    "pamcut -left 1 a b",
+    "pamcut -left 1 -left 2",
+    "pamcut -left 1 -right 2 -width 2",
+    "pamcut -cropleft -1",
+    "pamcut 0 0 +3 3",
+    "pamflip -lr -tb",
+    "pamflip -xform=left",
+    "pamflip -l",
+    "pamdepth 0",
+    "pamdepth 65536",
+    "pamchannel -tupletype 'two words' 0",
+    "pamchannel 0 -plain",
+    "pamenlarge -scale 2 -xscale 3",
+    "pnmtile 3",
+    "pnmtile 1 16777217",
+    "pnminvert -version",
+    "pnminvert |& cat",
+    "pnminvert f < g",
+    "pnminvert << E\nE",
+    "pamcut() { :; }\npamcut -left 1",
+    "case pamcut in pamcut) ;; (pnminvert|pamcut) ;; esac",
+    "a=(pnminvert)",
+    "sh -c 'pnminvert' # pnminvert",
+    "echo pnminvert; xargs pnminvert",
+    "echo `pnminvert`",
+    'pnminvert "$@"',
+    "pnminvert 'a",
+]
+
+
+class Translate(Folder):
+    translate = loaded("pnmpipe-translate")
+
+    def translated(self, text):
+        made, said = self.translate.translated(text)
+        return made, "\n".join(note for _, note in said)
+
+    def test_translates(self):
+        for text, wanted in TRANSLATED:
+            made, said = self.translated(text)
+            self.assertEqual(made, wanted)
+            self.assertIn("in one call", said)
+
+    def test_keeps(self):
+        for text in KEPT:
+            self.assertEqual(self.translated(text)[0], text)
+
+    def test_tells_what_differs(self):
+        for text, note in [
+            ("pnminvert", "every image of a stream"),
+            ("pnmtile 2 2", "stays PAM"),
+            ("pamdepth 1", "stay as they are"),
+            ("pamcut -left 1", "several plain images"),
+            ("pamchannel -tupletype RGB 0", "doesn't fit the planes"),
+            ('pnminvert "$f"', "begins with a dash"),
+            ("pnminvert", "pnmpipe ends with BadMagic"),
+            ("pamcut -left $n", "holds one decimal number"),
+            ("pamcut 1 2 $w $h", "is above 0"),
+            ("pamdepth $n", "that holds 1"),
+            ("pamcut -left $(expr 1 + 2)", "kept pamcut: -left is $(expr 1 + 2), which is more than a variable"),
+            ("pamcut $opts f", "kept pamcut: $opts may be an option"),
+            ("pamflip $way f", "kept pamflip: $way may be a way to flip"),
+            ("PATH=/old pamcut", "kept pamcut: PATH=/old stands before it"),
+            ("./pamcut", "kept ./pamcut: another program"),
+            ("find . | xargs -0 pamcut", "kept pamcut: xargs runs it"),
+            ("pnminvert\r\n", "CR LF"),
+            ("#!/usr/bin/env perl\n", "a script of perl"),
+            ("pnminvert -plain", "other blanks and line ends"),
+        ]:
+            self.assertIn(note, self.translated(text)[1])
+
+    def test_says_the_same_once(self):
+        script = self.write("script", b"pamcut -left $n a | pnminvert\n" * 3)
+        said = run([f"{SCRIPTS}/pnmpipe-translate", "-f", script]).stderr.decode().splitlines()
+        self.assertEqual(sum("holds one decimal number" in line for line in said), 1)
+        self.assertEqual(sum("2 tools in one call" in line for line in said), 3)
+
+    def test_keeps_bytes(self):
+        """What ends its lines with CR LF comes out as it was, and the fault of what isn't whole spares what is."""
+        script = self.write("script", b"#!/bin/sh\r\npnminvert a\r\n")
+        self.assertEqual(run([f"{SCRIPTS}/pnmpipe-translate", "-f", script]).stdout, self.read("script"))
+        made, said = self.translated("pnminvert a\n{ pnminvert b; } \"\n")
+        self.assertEqual(made, "pnmpipe 'pnminvert' < a\n{ pnminvert b; } \"\n")
+        self.assertIn("kept what follows: a quote doesn't end", said)
+
+    def test_script(self):
+        script = self.write("script", b"#!/bin/sh\n# caf\xe9\npnminvert < a\n")
+        done = run([f"{SCRIPTS}/pnmpipe-translate", "-f", script])
+        self.assertEqual(done.stdout, b"#!/bin/sh\n# caf\xe9\npnmpipe 'pnminvert' < a\n")
+        self.assertIn(b"line 3: 1 tool in one call", done.stderr)
+
+    def test_long_runs(self):
+        made, _ = self.translated(" | ".join(["pnminvert"] * 66))
+        self.assertEqual([call.count("pnminvert") for call in made.split("pnmpipe")[1:]], [64, 2])
+
+
+class RandomScripts(Folder):
+    """Scripts before and after they are translated."""
+
+    translate = loaded("pnmpipe-translate")
+
+    def setUp(self):
+        super().setUp()
+        if PROGRAM is None:
+            self.skipTest("there is no program")
+        os.mkdir(self.path("bin"))
+        os.symlink(PROGRAM, self.path("bin/pnmpipe"))
+        tools = shutil.which("pamcut")
+        for name in SHIMS if tools is None else []:
+            os.symlink(f"{SCRIPTS}/netpbm-shim", self.path(f"bin/{name}"))
+        path = f"{self.path('bin')}:{os.environ['PATH']}"
+        self.environment = {**os.environ, "PATH": path, "PNMPIPE": PROGRAM, "LC_ALL": "C"}
+
+    def outcome(self, name, shell, script):
+        """What a script writes and leaves, in a folder of its own, and its status."""
+        for kind, header, count in [("pgm", b"P5\n9 7\n255\n", 63), ("ppm", b"P6\n9 7\n255\n", 189)]:
+            self.write(f"{name}/in.{kind}", header + bytes(at * 41 % 256 for at in range(count)))
+        self.write(f"{name}/in.pbm", b"P4\n9 7\n" + bytes([0x5A, 0x80] * 7))
+        done = run([shell, "-c", script], cwd=self.path(name), env=self.environment, timeout=60)
+        left = {file: self.read(f"{name}/{file}") for file in sorted(os.listdir(self.path(name)))}
+        return done.stdout, done.returncode, left
+
+    def test_gives_the_same(self):
+        calls = 0
+        for seed in range(SEED, SEED + COUNT):
+            shell = "bash" if seed % 4 == 3 and shutil.which("bash") else "sh"
+            script = random_script(seed, shell == "bash")
+            made, _ = self.translate.translated(script)
+            calls += made.count("pnmpipe ")
+            read = run([shell, "-n", "-c", made])
+            self.assertEqual((read.returncode, read.stderr), (0, b""), f"seed {seed}:\n{script}\nbecame\n{made}")
+            before, after = self.outcome(f"{seed}-", shell, script), self.outcome(f"{seed}+", shell, made)
+            self.assertEqual(before, after, f"seed {seed}:\n{script}\nbecame\n{made}")
+        self.assertGreater(calls, 4 * COUNT)
+
+
+def main():
+    global PROGRAM, COUNT, SEED
+    parser = argparse.ArgumentParser(description=__doc__.split("\n", maxsplit=1)[0])
+    parser.add_argument("--program", default=f"{ROOT}/bin/pnmpipe")
+    parser.add_argument("--scripts", type=int, default=COUNT, metavar="N", help=f"random scripts, {COUNT} by default")
+    parser.add_argument("--seed", type=int, default=SEED, metavar="N", help="the first one's number, 0 by default")
+    options, tests = parser.parse_known_args()
+    PROGRAM, COUNT, SEED = program_of(options.program), options.scripts, options.seed
+    unittest.main(argv=[sys.argv[0], *tests])
+
+
+if __name__ == "__main__":
+    main()
