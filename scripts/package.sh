@@ -81,8 +81,7 @@ Maintainer: $maintainer
 Section: graphics
 Priority: optional
 Depends: ${libc}python3
-Recommends: parallel
-Suggests: netpbm
+Suggests: netpbm, parallel
 Installed-Size: $(du -k -s "$root/usr" | cut -f 1)
 Description: chain of Netpbm tools over a stream of images in one process
  pnmpipe reads PBM, PGM, PPM and PAM images, passes their rows through

@@ -8,9 +8,11 @@ The stand-ins are tried over scripts that only tell how they were called.
 import argparse
 import os
 import shutil
+import signal
 import subprocess
 import sys
 import tempfile
+import time
 import unittest
 
 sys.dont_write_bytecode = True
@@ -155,20 +157,69 @@ class Files(Folder):
         self.assertEqual(sorted(os.listdir(self.path("out"))), ["-d.pgm", "a b.pgm", "c.ppm", "pnmpipe-files.log"])
         self.assertEqual(self.read("out/a b.pgm"), GRAY[:-2] + b"\x08\x07")
         self.write("in/cut.pgm", GRAY)
-        os.utime(self.path("out/c.ppm"), (1, 1))
+        made = os.stat(self.path("out/c.ppm"))
         done = self.files("--resume", "pnminvert", "out", *["in/" + name for name in os.listdir(self.path("in"))])
         self.assertEqual((done.returncode, done.stderr), (0, b"1 files, 0 failed, 3 left out\n"))
-        self.assertEqual(os.stat(self.path("out/c.ppm")).st_mtime, 1)
+        self.assertEqual(os.stat(self.path("out/c.ppm")), made)
         self.assertEqual(self.files("--resume", "pamcut", "out", "in/c.ppm").returncode, 2)
         self.write("list", b"in/a b.pgm\nin/c.ppm")
         self.assertEqual(self.files("pamflip -lr", "out", "--names", "list").returncode, 0)
         self.assertEqual(self.read("out/a b.pgm"), GRAY[:-2] + b"\x02\x01")
+
+    def test_changed_file(self):
+        """A file that has changed since its result was made is done again, one that was put there as well."""
+        self.files("pnminvert", "out", "in/c.ppm", "in/-d.pgm", "in/a b.pgm")
+        self.write("in/c.ppm", COLOR[:-1] + b"\x06")
+        self.write("other", GRAY[:-1] + b"\x03")
+        os.utime(self.path("other"), (1, 1))
+        os.rename(self.path("other"), self.path("in/-d.pgm"))
+        done = self.files("--resume", "pnminvert", "out", "in/c.ppm", "in/-d.pgm", "in/a b.pgm")
+        self.assertEqual(done.stderr, b"2 files, 0 failed, 1 left out\n")
+        self.assertEqual((self.read("out/c.ppm")[-1], self.read("out/-d.pgm")[-1]), (3, 6))
+
+    def test_folders_and_suffixes(self):
+        self.write("in/1/x.pbm", b"P4\n1 1\n\x80")
+        self.write("in/2/x.pbm", b"P4\n1 1\n\x00")
+        names = ["in/1/x.pbm", "./in//2/x.pbm"]
+        self.assertEqual(self.files("pamdepth 255", "out", *names).returncode, 2)
+        self.assertEqual(self.files("--keep-folders", "pamcut", "out", *names).returncode, 0)
+        self.assertEqual(self.read("out/in/2/x.pbm"), b"P4\n1 1\n\x00")
+        self.assertEqual(self.files("--suffix", "pamdepth 255", "out", *names[:1], "in/c.ppm").returncode, 0)
+        self.assertEqual(sorted(os.listdir(self.path("out"))), ["c.ppm", "in", "pnmpipe-files.log", "x.pgm"])
+        self.assertEqual(self.read("out/x.pgm"), b"P5\n1 1\n255\n\x00")
+        done = self.files("--resume", "--suffix", "pamdepth 255", "out", *names[:1])
+        self.assertEqual(done.stderr, b"0 files, 0 failed, 1 left out\n")
+
+    def test_signals(self):
+        """A signal ends it and its calls within a second, and leaves no part; --resume goes on."""
+        slow = f"[ ! -c /dev/stdin ] || exec {PROGRAM} \"$@\"\nprintf P5\necho $$ >> calls\nexec sleep 60\n"
+        self.write("slow", b"#!/bin/sh\n" + slow.encode(), 0o755)
+        names = ["in/c.ppm", "in/-d.pgm", "in/a b.pgm"]
+        words = [f"{SCRIPTS}/pnmpipe-files", "--jobs", "2", "pnminvert", "out", *names]
+        environment = {**os.environ, "PNMPIPE": self.path("slow")}
+        for number in (signal.SIGTERM, signal.SIGINT, signal.SIGHUP):
+            self.write("calls", b"")
+            with subprocess.Popen(words, cwd=self.folder, env=environment, stderr=subprocess.DEVNULL) as child:
+                while len(self.read("calls").split()) < 2:
+                    time.sleep(0.01)
+                start = time.monotonic()
+                child.send_signal(number)
+                self.assertEqual(child.wait(timeout=10), -number)
+                self.assertLess(time.monotonic() - start, 1)
+            for process in self.read("calls").split():
+                self.assertRaises(ProcessLookupError, os.killpg, int(process), 0)
+            self.assertEqual(os.listdir(self.path("out")), ["pnmpipe-files.log"])
+        self.assertEqual(self.files("--resume", "pnminvert", "out", *names).stderr, b"3 files, 0 failed, 0 left out\n")
 
     def test_refuses(self):
         for words in [
             ("pnmscale 2", "out", "in/c.ppm"),
             ("pnminvert", "in", "in/c.ppm"),
             ("pnminvert", "out", "in/c.ppm", "./in/c.ppm"),
+            ("pnminvert", "out", "in/pnmpipe-files.log"),
+            ("--keep-folders", "pnminvert", "out", "../in/c.ppm"),
+            ("--keep-folders", "pnminvert", ".", "in/c.ppm"),
+            ("--suffix", "pnminvert", "out", "in/c.ppm", "in/c.pgm"),
             ("pnminvert", "out"),
             ("pnminvert", "out", "--names", "no list"),
             ("pnminvert", "out", "in/two\nlines"),
