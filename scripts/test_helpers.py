@@ -32,7 +32,7 @@ class Split(Folder):
         deep = b"P5\n1 1\n256\n\x01\x00"
         pam = b"P7\nWIDTH 1\nHEIGHT 1\n# c\nDEPTH 2\nMAXVAL 255\nTUPLTYPE A\nENDHDR\nab"
         self.assertEqual(self.split(bits + GRAY + COLOR + deep + pam).returncode, 0)
-        names = ["x-0001.pbm", "x-0002.pgm", "x-0003.ppm", "x-0004.pgm", "x-0005.pam"]
+        names = ["x-000001.pbm", "x-000002.pgm", "x-000003.ppm", "x-000004.pgm", "x-000005.pam"]
         self.assertEqual(sorted(os.listdir(self.folder)), names)
         self.assertEqual([self.read(name) for name in names], [bits, GRAY, COLOR, deep, pam])
 
@@ -47,14 +47,40 @@ class Split(Folder):
             done = self.split(given)
             self.assertEqual(done.returncode, 1)
             self.assertIn(words, done.stderr)
-            self.assertEqual(os.listdir(self.folder), ["x-0001.pgm"])
+            self.assertEqual(os.listdir(self.folder), ["x-000001.pgm"])
+            os.remove(self.path("x-000001.pgm"))
+        done = self.split(b"")
+        self.assertEqual((done.returncode, done.stderr), (1, b"pnmpipe-split: input: EmptyInput\n"))
+
+    def test_full_disk(self):
+        """A file that can't be written is named, and not standard input."""
+        words = ["sh", "-c", 'trap "" XFSZ; ulimit -f 0; exec "$@"', "sh", f"{SCRIPTS}/pnmpipe-split", self.path("x-")]
+        done = run(words, GRAY)
+        self.assertEqual(done.returncode, 1)
+        self.assertIn(f"image 1 can't be written: {self.path('x-000001.pgm')}: ".encode(), done.stderr)
+        self.assertEqual(os.listdir(self.folder), [])
+
+    def test_files_that_are_there(self):
+        self.write("x-000002.pgm", b"old")
+        done = self.split(GRAY + GRAY)
+        self.assertEqual((done.returncode, self.read("x-000002.pgm")), (1, b"old"))
+        self.assertIn(b"--force would replace it", done.stderr)
+        self.assertEqual(self.split(GRAY + GRAY, "--force").returncode, 0)
+        self.assertEqual(self.read("x-000002.pgm"), GRAY)
+
+    def test_numbers_sort(self):
+        """The names of more than 9,999 images stand in the order of the images."""
+        self.assertEqual(self.split(GRAY + COLOR, "--start", "9999").returncode, 0)
+        self.assertEqual(sorted(os.listdir(self.folder)), ["x-009999.pgm", "x-010000.ppm"])
+        self.assertEqual(self.split(COLOR, "--digits", "2").returncode, 0)
+        self.assertEqual(self.read("x-01.ppm"), COLOR)
 
     def test_names(self):
         names = self.write("names", b"in/a b.pgm\nc.ppm\n")
         self.assertEqual(self.split(GRAY + COLOR, "--names", names).returncode, 0)
         self.assertEqual((self.read("x-a b.pgm"), self.read("x-c.ppm")), (GRAY, COLOR))
-        self.assertIn(b"image 2 is missing", self.split(GRAY, "--names", names).stderr)
-        self.assertIn(b"image 3 has no name", self.split(GRAY * 3, "--names", names).stderr)
+        self.assertIn(b"image 2 is missing", self.split(GRAY, "--force", "--names", names).stderr)
+        self.assertIn(b"image 3 has no name", self.split(GRAY * 3, "--force", "--names", names).stderr)
         self.write("names", b"a/c\nb/c\n")
         self.assertEqual(self.split(GRAY + COLOR, "--names", names).returncode, 1)
 
