@@ -1,9 +1,11 @@
 #!/usr/bin/env python3
 """Runs each block of docs/RECIPES.md, with the program that make has left and the real programs beside it.
 
-A block begins with a line like ```sh wants=gs,pnmtops leaves=pages.ps: the programs that it wants, and the files that
-it has to leave, which aren't empty. Each is run by bash in a folder of its own, after `make install` into another
-one. `ssh host` goes to this machine, by an sshd that is started on the loopback for this run alone.
+A block begins with a line like ```sh wants=gs,pnmtops leaves=pages.ps:284x396: the programs that it wants, and the
+files that it has to leave, each with the size of its images, in points on a printed page, or a text, in small or
+large letters. `says` has the first word of each line that it writes. Each is run by bash in a folder of its own, after
+`make install` into another one. `ssh host` goes to this machine, by an sshd that is started on the loopback for this
+run alone.
 """
 
 import getpass
@@ -11,6 +13,7 @@ import os
 import re
 import shutil
 import socket
+import struct
 import subprocess
 import sys
 import tempfile
@@ -52,7 +55,7 @@ def pdf():
 def fill(folder):
     """What each block finds."""
     os.makedirs(f"{folder}/scans")
-    files = {"in.pgm": gray(120, 90, 3), "old.sh": SCRIPT.encode(), "file.pdf": pdf()}
+    files = {"in.pgm": gray(120, 90, 3), "cut.pgm": gray(120, 90, 5)[:-1], "old.sh": SCRIPT.encode(), "file.pdf": pdf()}
     pixels = bytes((x * 3 + y * 5 + plane * 60) % 256 for y in range(90) for x in range(120) for plane in range(3))
     files["in.ppm"] = b"P6\n120 90\n255\n" + pixels
     for number in range(1, 101):
@@ -60,6 +63,28 @@ def fill(folder):
     for name, data in files.items():
         with open(f"{folder}/{name}", "wb") as file:
             file.write(data)
+
+
+def sizes(data):
+    """The sizes of the image in a file, or of each printed page."""
+    if data.startswith((b"P4", b"P5", b"P6")):
+        words = data[:64].split()
+        return [(int(words[1]), int(words[2]))]
+    if data.startswith(b"\x89PNG"):
+        return [struct.unpack(">II", data[16:24])]
+    if data.startswith(b"\xff\xd8"):
+        at = 2
+        while data[at + 1] not in (0xC0, 0xC1, 0xC2):
+            at += 2 + struct.unpack(">H", data[at + 2 : at + 4])[0]
+        return [struct.unpack(">HH", data[at + 5 : at + 9])[::-1]]
+    boxes = re.findall(rb"^%%BoundingBox: (\d+) (\d+) (\d+) (\d+)", data, re.M)
+    return [(int(right) - int(left), int(top) - int(bottom)) for left, bottom, right, top in boxes]
+
+
+def has(data, wanted):
+    """Whether a file has images of a size, or a text."""
+    size = re.fullmatch(r"(\d+)x(\d+)", wanted)
+    return set(sizes(data)) == {(int(size[1]), int(size[2]))} if size else wanted.lower().encode() in data.lower()
 
 
 class Host:
@@ -119,7 +144,7 @@ def lacking(wants, path, host):
     return lacks
 
 
-def run_block(script, leaves, folder, env):
+def run_block(script, leaves, says, folder, env):
     """What is wrong with a block; None where all is well."""
     fill(folder)
     words = ["bash", "-e", "-u", "-o", "pipefail", "-c", script]
@@ -129,12 +154,20 @@ def run_block(script, leaves, folder, env):
         )
     except subprocess.TimeoutExpired:
         return f"it didn't end in {SECONDS} seconds"
-    paths = {name: f"{folder}/{name}" for name in leaves}
-    missing = [name for name, path in paths.items() if not os.path.isfile(path) or not os.path.getsize(path)]
-    if done.returncode != 0 or missing:
-        said = (done.stdout + done.stderr).decode(errors="replace")
-        return f"status {done.returncode}, without {', '.join(missing) or 'nothing that it has to leave'}\n{said}"
-    return None
+    faults = [] if done.returncode == 0 else [f"status {done.returncode}"]
+    if says and [line.split()[0].decode() for line in done.stdout.splitlines()] != says.split(","):
+        faults.append(f"it doesn't say {says}")
+    for name, wanted in (each.split(":", 1) for each in leaves):
+        if not os.path.isfile(f"{folder}/{name}"):
+            faults.append(f"there is no {name}")
+            continue
+        with open(f"{folder}/{name}", "rb") as file:
+            data = file.read()
+        if not has(data, wanted):
+            faults.append(f"{name} has no {wanted}, but {sizes(data) or data[:40]}")
+    if not faults:
+        return None
+    return ", ".join(faults) + "\n" + (done.stdout + done.stderr).decode(errors="replace")
 
 
 def main():
@@ -161,7 +194,9 @@ def main():
                     print(f"left out: {name}: it wants {', '.join(lacks)}")
                     continue
                 leaves = given["leaves"].split(",") if "leaves" in given else []
-                fault = run_block(script, leaves, f"{work}/{number}", env)
+                if not leaves and "says" not in given:
+                    sys.exit(f"recipes.py: {name}: it names nothing that the block leaves or says")
+                fault = run_block(script, leaves, given.get("says"), f"{work}/{number}", env)
                 failed += fault is not None
                 print(f"ran: {name}" if fault is None else f"FAILED: {name}: {fault}", flush=True)
         finally:
