@@ -65,6 +65,7 @@ scripts:
 	python3 scripts/test_commands.py --program $(BUILT)
 	python3 scripts/test_translate.py --program $(BUILT)
 	python3 scripts/test_helpers.py --program $(BUILT)
+	python3 scripts/test_pages.py --program $(BUILT)
 	python3 scripts/test_build.py
 	python3 scripts/pictures.py --check --program $(BUILT)
 
