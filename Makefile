@@ -111,9 +111,10 @@ test: toolchain
 	python3 scripts/cases.py
 	python3 scripts/test_commands.py --program $(BUILT)
 
-# the program that make has left beside Netpbm's own tools, where these are installed: a table, for a quiet machine
+# the program that make has left beside Netpbm's own tools, where these are installed: a table, for a quiet machine, and
+# the figures of the documents, which `make scripts` then wants in their tables
 bench:
-	python3 scripts/bench.py
+	python3 scripts/bench.py --figures docs/figures.tsv
 	python3 scripts/bench_narrow.py
 
 # all tools by kinds of images and by options, beside Netpbm's own: which pairs take more processor time than these

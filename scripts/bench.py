@@ -260,6 +260,8 @@ class Table:
         self.programs = [("pnmpipe", args.program)] + [tuple(pair.split("=", 1)) for pair in args.beside]
         self.folder = folder
         self.differing = 0
+        # wall seconds of the program and of Netpbm's tool, by image and tool
+        self.figures = {}
         self.has_vips = shutil.which("vips") is not None
         names = [name for name, _ in self.programs] + ["floor"] * args.floor + ["Netpbm"] + ["vips"] * self.has_vips
         print("| image | tool | " + " | ".join(names) + " | over Netpbm |")
@@ -277,6 +279,7 @@ class Table:
             cells.append(shown(result) + ("" if fits else " (OTHER BYTES)"))
             if index == 0 and result and peer:
                 ratio = "%.2f" % (result[0] / peer[0])
+                self.figures[image, tool] = result[0], peer[0]
         if self.args.floor:
             cells.append(shown(peer and median_of(floor_words(wanted), path, made, self.args.runs)))
         cells.append(shown(peer))
@@ -328,6 +331,17 @@ def plain_lines(table, images, floor):
             )
 
 
+def write_figures(path, figures):
+    """Puts figures in place of those that a file has for the same image and tool, or behind all."""
+    with open(path, encoding="utf-8") as file:
+        head, *lines = file.read().splitlines()
+    known = {tuple(line.split("\t")[:2]): line for line in lines}
+    for (image, tool), seconds in figures.items():
+        known[image, tool] = "%s\t%s\t%.3f\t%.3f" % (image, tool, *seconds)
+    with open(path, "w", encoding="utf-8") as file:
+        file.write("\n".join([head, *known.values()]) + "\n")
+
+
 def main():
     parser = argparse.ArgumentParser(description=__doc__.split("\n")[0])
     parser.add_argument("--program", default="bin/pnmpipe")
@@ -336,6 +350,7 @@ def main():
     parser.add_argument("--tool", action="append", help="a chain of one tool; by default all, and then plain text")
     parser.add_argument("--plain", action="store_true", help="plain text alone")
     parser.add_argument("--runs", type=int, default=5)
+    parser.add_argument("--figures", metavar="FILE", help="a file whose figures are put in place of those there")
     parser.add_argument("--floor", action="store_true", help="also a program that does no more than has to be done")
     parser.add_argument("--folder", default="/dev/shm" if os.path.isdir("/dev/shm") else None)
     parser.add_argument("--sweep", nargs=argparse.REMAINDER, metavar="WORD", help="the words for bench_sweep.py")
@@ -352,6 +367,8 @@ def main():
             raw_lines(table, images, args.tool or TOOLS, args.floor and floor_built(folder, FLOOR))
         if args.plain or not args.tool:
             plain_lines(table, images, args.floor and floor_built(folder, PLAIN_FLOOR))
+    if args.figures:
+        write_figures(args.figures, table.figures)
     if table.differing:
         sys.exit(f"{table.differing} results differ from Netpbm's or failed")
 

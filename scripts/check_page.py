@@ -4,7 +4,8 @@
 The page's SYNOPSIS is the usage line of the program, and the page names each fault, tool and option that the crates
 name. Each edit that docs/PROMISES.md names stands in a crate's must-fail, each link of the README and of docs leads
 to a file, and lines there wrap at 100 columns but for tables. Options and tools of the completion stand in the page,
-and the other way round. Where mandoc is installed, it has to find nothing in the pages.
+and the other way round. Figures of the documents' tables are those of docs/figures.tsv, which `make bench` writes.
+Where mandoc is installed, it has to find nothing in the pages.
 """
 
 import glob
@@ -115,6 +116,40 @@ def faults_of_documents():
     return found
 
 
+PLAIN_IMAGES = {"PBM": "scan", "PPM": "color", "PGM": "gray16"}
+
+
+def figures_of_documents():
+    """Each document, image and tool of a table of seconds, with the figures of the program and of Netpbm's tool."""
+    readme, text = read("README.md"), read("docs/PERFORMANCE.md")
+    row = r"^\| (\w+): `(.+?)`(, written as plain text)? \| ([\d.]+) \| ([\d.]+) \|$"
+    for image, tool, plain, *figures in re.findall(row, readme, re.M):
+        yield "README.md", image, "--plain " * bool(plain) + tool, figures
+    beside = re.findall(r"^\| `([^`]+)` \| (\S+) \| (\S+) \| \S+ \| (\S*) \| (\S*) \|", text, re.M)
+    for tool, *figures in beside:
+        yield "docs/PERFORMANCE.md", "scan", tool, figures[:2]
+        if figures[2]:
+            yield "docs/PERFORMANCE.md", "color", tool, figures[2:]
+    for image, way, *figures in re.findall(r"^\| ([\w, ]+) \| `(-\w+)` \| (\S+) \| (\S+) \|", text, re.M):
+        yield "docs/PERFORMANCE.md", image.replace("gray, 16 bits", "gray16"), f"pamflip {way}", figures
+    for kind, *figures in re.findall(r"^\| (P[BGP]M), [^|]*\| (\S+) \| \S+ \| (\S+) \|", text, re.M):
+        yield "docs/PERFORMANCE.md", PLAIN_IMAGES[kind], "--plain pnminvert", figures
+
+
+def faults_of_figures():
+    """A figure that isn't that of the file that `make bench` writes, as far as its digits go."""
+    lines = [line.split("\t") for line in read("docs/figures.tsv").splitlines() if not line.startswith("#")]
+    measured = {(image, tool): figures for image, tool, *figures in lines}
+    found, seen = [], 0
+    for path, image, tool, figures in figures_of_documents():
+        seen += 1
+        for figure, seconds in zip(figures, measured.get((image, tool), ("nan", "nan"))):
+            half = 0.5 * 10 ** -len(figure.partition(".")[2])
+            if not abs(float(figure) - float(seconds)) <= half + 1e-9:
+                found.append(f"{path} has {figure} for {tool} of {image}, and docs/figures.tsv {seconds}")
+    return found if seen > 30 else [f"README.md and docs/PERFORMANCE.md have {seen} rows of figures, too few"]
+
+
 def faults_of_lint():
     if shutil.which("mandoc") is None:
         print("check_page: mandoc isn't installed, so the pages' form isn't looked at")
@@ -125,7 +160,8 @@ def faults_of_lint():
 
 
 def main():
-    found = faults_of_page() + faults_of_completion() + faults_of_documents() + faults_of_lint()
+    found = faults_of_page() + faults_of_completion() + faults_of_documents()
+    found += faults_of_figures() + faults_of_lint()
     for line in found:
         print(f"check_page: {line}")
     if found:
