@@ -66,6 +66,9 @@ def faults_of_page():
         found.append("man/pnmpipe.1 has another usage line among its diagnostics")
     if f"Version {read('VERSION').strip()}" not in read("crates/pnm_command_line/src/command_line.rt"):
         found.append("the help text of the program has another version than VERSION")
+    for path in glob.glob(os.path.join(ROOT, "scripts/pnmpipe-*")):
+        if f'VERSION = "{read("VERSION").strip()}"' not in read(path):
+            found.append(f"{os.path.basename(path)} has another version than VERSION")
     told = page.split(".Sh DIAGNOSTICS\n")[1]
     for name in sorted(fault_names()):
         if not re.search(rf"^\.It .*\b{name}\b", told, re.M):

@@ -285,6 +285,19 @@ class LongRows(unittest.TestCase):
         self.assertEqual((ran.returncode, ran.stderr), (1, b"pnmpipe: output: WriteFailed\n"))
 
 
+class HelpAndVersion(unittest.TestCase):
+    def test_answers(self):
+        with open(f"{ROOT}/VERSION", encoding="utf-8") as file:
+            version = file.read().strip()
+        for name in ("pnmpipe-files", "pnmpipe-split", "pnmpipe-translate"):
+            for words, beginning in [("--version", f"{name} {version}\n"), ("-V", f"{name} {version}\n")] + [
+                (option, f"usage: {name} ") for option in ("--help", "-h")
+            ]:
+                done = run([f"{SCRIPTS}/{name}", words])
+                self.assertEqual((done.returncode, done.stderr), (0, b""))
+                self.assertTrue(done.stdout.startswith(beginning.encode()), done.stdout)
+
+
 class Completion(unittest.TestCase):
     def replies(self, *words):
         code = f'. {ROOT}/completions/pnmpipe.bash; COMP_WORDS=("$@"); COMP_CWORD=$(($# - 1)); _pnmpipe; '
