@@ -15,6 +15,8 @@ BINDIR ?= $(PREFIX)/bin
 MANDIR ?= $(PREFIX)/share/man
 LIBEXECDIR ?= $(PREFIX)/libexec
 COMPLETIONDIR ?= $(PREFIX)/share/bash-completion/completions
+ZSHDIR ?= $(PREFIX)/share/zsh/site-functions
+FISHDIR ?= $(PREFIX)/share/fish/vendor_completions.d
 SHIMDIR = $(LIBEXECDIR)/pnmpipe/netpbm
 HELPERS := pnmpipe-files pnmpipe-split
 SHIMS := pnminvert pamcut pamdepth pamchannel pamenlarge pamflip pnmtile pnmcut pnmdepth pnmenlarge pnmflip
@@ -72,20 +74,28 @@ scripts:
 built:
 	@test -x bin/pnmpipe || { echo "there is no bin/pnmpipe: run make first" >&2; exit 1; }
 
-# the program that make has left, its pages, the completion, the helpers, and the stand-ins for Netpbm's tools
+# the program that make has left, its pages, the completions, the helpers, and the stand-ins for Netpbm's tools
 install: built
-	install -d "$(DESTDIR)$(BINDIR)" "$(DESTDIR)$(MANDIR)/man1" "$(DESTDIR)$(COMPLETIONDIR)" "$(DESTDIR)$(SHIMDIR)"
+	install -d "$(DESTDIR)$(BINDIR)" "$(DESTDIR)$(MANDIR)/man1" "$(DESTDIR)$(SHIMDIR)"
+	install -d "$(DESTDIR)$(COMPLETIONDIR)" "$(DESTDIR)$(ZSHDIR)" "$(DESTDIR)$(FISHDIR)"
 	install -m 755 bin/pnmpipe "$(DESTDIR)$(BINDIR)/pnmpipe"
 	for helper in $(HELPERS); do install -m 755 scripts/$$helper "$(DESTDIR)$(BINDIR)/$$helper" || exit 1; done
 	for page in man/*.1; do sed "s/@VERSION@/$$(cat VERSION)/" $$page > "$(DESTDIR)$(MANDIR)/man1/$${page#man/}" || exit 1; done
 	install -m 644 completions/pnmpipe.bash "$(DESTDIR)$(COMPLETIONDIR)/pnmpipe"
+	install -m 644 completions/_pnmpipe "$(DESTDIR)$(ZSHDIR)/_pnmpipe"
+	install -m 644 completions/pnmpipe.fish "$(DESTDIR)$(FISHDIR)/pnmpipe.fish"
+	for helper in $(HELPERS) pnmpipe-translate; do \
+	    ln -sf pnmpipe "$(DESTDIR)$(COMPLETIONDIR)/$$helper" && \
+	    ln -sf pnmpipe.fish "$(DESTDIR)$(FISHDIR)/$$helper.fish" || exit 1; done
 	install -m 755 scripts/pnmpipe-translate scripts/netpbm-shim "$(DESTDIR)$(LIBEXECDIR)/pnmpipe"
 	install -m 644 scripts/netpbm_words.py scripts/shell_reader.py "$(DESTDIR)$(LIBEXECDIR)/pnmpipe"
 	ln -srf "$(DESTDIR)$(LIBEXECDIR)/pnmpipe/pnmpipe-translate" "$(DESTDIR)$(BINDIR)/pnmpipe-translate"
 	for name in $(SHIMS); do ln -sf ../netpbm-shim "$(DESTDIR)$(SHIMDIR)/$$name" || exit 1; done
 
 uninstall:
-	rm -f "$(DESTDIR)$(BINDIR)/pnmpipe" "$(DESTDIR)$(COMPLETIONDIR)/pnmpipe"
+	rm -f "$(DESTDIR)$(BINDIR)/pnmpipe" "$(DESTDIR)$(ZSHDIR)/_pnmpipe"
+	for name in pnmpipe $(HELPERS) pnmpipe-translate; do \
+	    rm -f "$(DESTDIR)$(COMPLETIONDIR)/$$name" "$(DESTDIR)$(FISHDIR)/$$name.fish"; done
 	for file in pnmpipe-translate netpbm-shim netpbm_words.py shell_reader.py; do rm -f "$(DESTDIR)$(LIBEXECDIR)/pnmpipe/$$file"; done
 	for helper in $(HELPERS) pnmpipe-translate; do rm -f "$(DESTDIR)$(BINDIR)/$$helper"; done
 	for page in man/*.1; do rm -f "$(DESTDIR)$(MANDIR)/man1/$${page#man/}"; done

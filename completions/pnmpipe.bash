@@ -1,4 +1,5 @@
-# Completion of pnmpipe's words for bash: its options, and inside CHAIN's open quote the tools and their options.
+# Completion for bash of the words of pnmpipe and its helpers, and inside CHAIN's open quote of the tools and their
+# options.
 
 # what may stand next in a stage whose words so far are given, without the one that is being typed
 _pnmpipe_stage() {
@@ -17,23 +18,19 @@ _pnmpipe_stage() {
     printf '%s' "$words"
 }
 
-_pnmpipe() {
-    local current=${COMP_WORDS[COMP_CWORD]} before=${COMP_WORDS[COMP_CWORD - 1]} quote='' text prefix last stage
+# the words of a chain that go on from the one that is being typed; behind an empty one come options
+_pnmpipe_chain() {
+    local current=$1 options=$2 quote='' text prefix last stage
     local -a typed
-    COMPREPLY=()
-    case $before in
-        --ring) mapfile -t COMPREPLY < <(compgen -W '1 16 64 256 1024' -- "$current"); return ;;
-        --lanes) mapfile -t COMPREPLY < <(compgen -W '1 2 4 8' -- "$current"); return ;;
-    esac
     case $current in
-        -*) mapfile -t COMPREPLY < <(compgen -W '--ring --lanes --plain --help' -- "$current"); return ;;
         \'*) quote="'" ;;
         \"*) quote='"' ;;
     esac
     if [[ -z $quote ]]; then
         # a chain stands in quotes: each tool comes with the one that opens them
         mapfile -t COMPREPLY < <(compgen -P "'" -W "$(_pnmpipe_stage)" -- "$current")
-        [[ -n $current ]] || COMPREPLY+=(--ring --lanes --plain --help)
+        # shellcheck disable=SC2206
+        [[ -n $current ]] || COMPREPLY+=($options)
         compopt -o nospace 2> /dev/null
         return
     fi
@@ -50,4 +47,52 @@ _pnmpipe() {
     compopt -o nospace 2> /dev/null
 }
 
-complete -F _pnmpipe pnmpipe
+# _pnmpipe_value BEFORE CURRENT: the values of the option before, if it takes one
+_pnmpipe_value() {
+    local words=''
+    case $1 in
+        --ring) words='1 16 64 256 1024' ;;
+        --lanes) words='1 2 4 8' ;;
+        --jobs | --start | --digits) ;;
+        *) return 1 ;;
+    esac
+    mapfile -t COMPREPLY < <(compgen -W "$words" -- "$2")
+}
+
+# whether nothing but options stands before the word that is being typed
+_pnmpipe_at_chain() {
+    local at
+    for ((at = 1; at < COMP_CWORD; at++)); do
+        case ${COMP_WORDS[at]} in
+            --ring | --lanes | --jobs) at=$((at + 1)) ;;
+            -*) ;;
+            *) return 1 ;;
+        esac
+    done
+}
+
+_pnmpipe() {
+    local current=${COMP_WORDS[COMP_CWORD]} before=${COMP_WORDS[COMP_CWORD - 1]} options=''
+    COMPREPLY=()
+    case ${COMP_WORDS[0]##*/} in
+        pnmpipe) options='--ring --lanes --plain --help' ;;
+        pnmpipe-files)
+            options='--jobs --resume --keep-folders --suffix --bar --names --ring --lanes --plain --help --version'
+            ;;
+        pnmpipe-split) options='--start --digits --names --force --help --version' ;;
+        pnmpipe-translate) options='--file --help --version' ;;
+    esac
+    ! _pnmpipe_value "$before" "$current" || return 0
+    if [[ $current == -* ]]; then
+        mapfile -t COMPREPLY < <(compgen -W "$options" -- "$current")
+        return
+    fi
+    case ${COMP_WORDS[0]##*/} in
+        pnmpipe) _pnmpipe_chain "$current" "$options"; return ;;
+        pnmpipe-files) ! _pnmpipe_at_chain || { _pnmpipe_chain "$current" "$options"; return; } ;;
+    esac
+    mapfile -t COMPREPLY < <(compgen -f -- "$current")
+    compopt -o filenames 2> /dev/null
+}
+
+complete -F _pnmpipe pnmpipe pnmpipe-files pnmpipe-split pnmpipe-translate

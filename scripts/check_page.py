@@ -3,7 +3,7 @@
 
 The page's SYNOPSIS is the usage line of the program, and the page names each fault, tool and option that the crates
 name. Each edit that docs/PROMISES.md names stands in a crate's must-fail, each link of the README and of docs leads
-to a file, and lines there wrap at 100 columns but for tables. Options and tools of the completion stand in the page,
+to a file, and lines there wrap at 100 columns but for tables. Options and tools of the completions stand in the pages,
 and the other way round. Figures of the documents' tables are those of docs/figures.tsv, which `make bench` writes.
 Where mandoc is installed, it has to find nothing in the pages.
 """
@@ -76,25 +76,35 @@ def faults_of_page():
     return found
 
 
-def faults_of_completion():
-    page, completion = read("man/pnmpipe.1"), read("completions/pnmpipe.bash")
+COMPLETIONS = ("pnmpipe.bash", "_pnmpipe", "pnmpipe.fish")
+
+
+def options_of(page):
+    """The long options that a page names."""
+    return set(re.findall(r"^\.It .*?Fl -([\w-]+)", page, re.M)) - {"help", "version"}
+
+
+def faults_of_completions():
+    page, found = read("man/pnmpipe.1"), []
     tools = page.split(".Sh TOOLS\n")[1].split(".Sh ")[0].replace("\\\n", "")
-    found = []
-    for tool in re.findall(r"^\.It Ic (\w+)", tools, re.M):
-        told = set()
-        for line in re.findall(rf"^\.It Ic {tool}\b(.*)", tools, re.M):
-            told.update(re.findall(r"Fl (\w+)", line))
-        line = re.search(rf"^ *{tool}\) words='([^']*)'", completion, re.M)
-        given = set(re.findall(r"-(\w+)", line.group(1))) if line else None
-        if given != told:
-            found.append(f"completions/pnmpipe.bash gives {tool} the options {given}, the page {told}")
     names = set(re.findall(r"^\.It Ic (\w+)", tools, re.M)) | set(re.findall(r"Fl (\w+)", tools))
     taken = set(re.findall(r'b"(\w+)"', read("crates/pnm_chain/src/options.rt")))
     if not taken <= names:
         found.append(f"man/pnmpipe.1 has no {', '.join(sorted(taken - names))} among the tools and their options")
-    options = set(re.findall(r"\.It Fl -(\w+)", page.split(".Sh OPTIONS\n")[1].split(".Sh ")[0]))
-    if not all(f"--{option}" in completion for option in options):
-        found.append("completions/pnmpipe.bash lacks an option of the page")
+    options = set().union(*(options_of(read(f"man/{os.path.basename(path)}")) for path in glob.glob(f"{ROOT}/man/*.1")))
+    for name in COMPLETIONS:
+        completion = read(f"completions/{name}")
+        for tool in re.findall(r"^\.It Ic (\w+)", tools, re.M):
+            told = set()
+            for line in re.findall(rf"^\.It Ic {tool}\b(.*)", tools, re.M):
+                told.update(re.findall(r"Fl (\w+)", line))
+            line = re.search(rf"\b{tool}(?:\)|\n) +(?:set )?words(?:\+?=| )['(]?([^')\n]*)", completion)
+            given = set(re.findall(r"-(\w+)", line.group(1))) if line else set()
+            if given != told or (told and not line):
+                found.append(f"completions/{name} gives {tool} the options {given}, the page {told}")
+        for option in sorted(options):
+            if not re.search(rf"(--|-l ){option}\b", completion):
+                found.append(f"completions/{name} lacks --{option} of a page")
     return found
 
 
@@ -163,7 +173,7 @@ def faults_of_lint():
 
 
 def main():
-    found = faults_of_page() + faults_of_completion() + faults_of_documents()
+    found = faults_of_page() + faults_of_completions() + faults_of_documents()
     found += faults_of_figures() + faults_of_lint()
     for line in found:
         print(f"check_page: {line}")

@@ -1,6 +1,6 @@
 #!/bin/sh
-# Wants each script to be read without a fault, by python3, by sh, and by shellcheck where that is installed, and no
-# line of more than 120 columns.
+# Wants each script to be read without a fault, by python3, by sh, and by shellcheck, zsh and fish where these are
+# installed, and no line of more than 120 columns.
 set -eu
 cd "$(dirname "$0")/.."
 shells='' pythons='' bashes=completions/pnmpipe.bash
@@ -21,9 +21,14 @@ done
 for script in $shells; do
     sh -n "$script" || failed=1
 done
+for shell in zsh fish; do
+    command -v "$shell" > /dev/null || continue
+    case $shell in zsh) script=completions/_pnmpipe ;; fish) script=completions/pnmpipe.fish ;; esac
+    "$shell" -n "$script" || failed=1
+done
 # shellcheck disable=SC2086
 awk 'length > 120 { print FILENAME ": line " FNR " has " length " columns"; found = 1 } END { exit found }' \
-    $pythons $shells $bashes scripts/*.c || failed=1
+    $pythons $shells $bashes completions/* scripts/*.c || failed=1
 if command -v shellcheck > /dev/null; then
     # shellcheck disable=SC2086
     shellcheck -s sh $shells || failed=1

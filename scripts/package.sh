@@ -14,11 +14,13 @@ fail() {
     exit 1
 }
 
-# staged FOLDER PREFIX: what make install leaves, with the program stripped where strip is there
+# staged FOLDER PREFIX SETTING..: what make install leaves, with the program stripped where strip is there
 staged() {
-    make -s install DESTDIR="$1" PREFIX="$2" > /dev/null
+    folder=$1 prefix=$2
+    shift 2
+    make -s install DESTDIR="$folder" PREFIX="$prefix" "$@" > /dev/null
     if command -v strip > /dev/null; then
-        strip --strip-unneeded "$1$2/bin/pnmpipe"
+        strip --strip-unneeded "$folder$prefix/bin/pnmpipe"
     else
         echo "package.sh: strip isn't there, so the program keeps its symbols" >&2
     fi
@@ -62,7 +64,7 @@ deb() {
     command -v dpkg-deb > /dev/null || fail "dpkg-deb isn't there, and it makes the package"
     maintainer=${MAINTAINER:-$(git log -1 --format='%an <%ae>')}
     root=$work/root
-    staged "$root" /usr
+    staged "$root" /usr ZSHDIR=/usr/share/zsh/vendor-completions
     find "$root/usr/share/man" -name '*.1' -exec gzip -n -9 {} +
     mkdir -p "$root/DEBIAN" "$root/usr/share/doc/pnmpipe"
     cp README.md "$root/usr/share/doc/pnmpipe"

@@ -7,6 +7,8 @@ The stand-ins are tried over scripts that only tell how they were called.
 
 import argparse
 import os
+import pty
+import select
 import shutil
 import signal
 import subprocess
@@ -305,13 +307,60 @@ class Completion(unittest.TestCase):
         return run(["bash", "--norc", "-c", code, "bash", *words]).stdout.decode().splitlines()
 
     @unittest.skipIf(shutil.which("bash") is None, "bash isn't installed")
-    def test_replies(self):
+    def test_bash(self):
         self.assertIn("'pamcut", self.replies("pnmpipe", "pam"))
         self.assertEqual(self.replies("pnmpipe", "--l"), ["--lanes"])
         self.assertEqual(self.replies("pnmpipe", "--lanes", ""), ["1", "2", "4", "8"])
         self.assertEqual(self.replies("pnmpipe", "'pamcut -wi"), ["pamcut -width ", "pamcut -width |"])
         ways = ["pamcut -left 8|pamflip -lr", "pamcut -left 8|pamflip -leftright"]
         self.assertEqual(self.replies("pnmpipe", '"pamcut -left 8|pamflip -l'), ways)
+        self.assertEqual(self.replies("pnmpipe-files", "--jobs", "2", "--res"), ["--resume"])
+        self.assertEqual(self.replies("pnmpipe-files", "--jobs", "2", "'pamd"), ["pamdepth ", "pamdepth |"])
+        self.assertEqual(self.replies("pnmpipe-files", "pnminvert", "out", f"{ROOT}/VERS"), [f"{ROOT}/VERSION"])
+        self.assertEqual(self.replies("pnmpipe-split", "--fo"), ["--force"])
+
+    @unittest.skipIf(shutil.which("fish") is None, "fish isn't installed")
+    def test_fish(self):
+        for typed, wanted in [
+            ("pnmpipe --l", ["--lanes"]),
+            ("pnmpipe 'pamcut -wi", ["pamcut -width"]),
+            ("pnmpipe 'pamcut -left 8|pamflip -l", ["pamcut -left 8|pamflip -leftright", "pamcut -left 8|pamflip -lr"]),
+            ("pnmpipe-files --jobs 2 pnmt", ["pnmtile"]),
+            ("pnmpipe-files --res", ["--resume"]),
+            ("pnmpipe-split --fo", ["--force"]),
+        ]:
+            code = f"source {ROOT}/completions/pnmpipe.fish; complete -C $argv[1]"
+            made = run(["fish", "-N", "-c", code, typed], cwd=ROOT).stdout.decode().splitlines()
+            self.assertEqual([line.split("\t")[0] for line in made], wanted, typed)
+
+    @unittest.skipIf(shutil.which("zsh") is None, "zsh isn't installed")
+    def test_zsh(self):
+        """A word that one alone goes on from is completed on a terminal."""
+        start = f"PS1=; fpath=({ROOT}/completions $fpath); autoload -U compinit; compinit -u -D; echo rea''dy\n"
+        for typed, wanted in [
+            ("pnmpipe --la", "pnmpipe --lanes "),
+            ("pnmpipe 'pamcut -left 8 | pamflip -nu", "pnmpipe 'pamcut -left 8 | pamflip -null "),
+            ("pnmpipe-files --res", "pnmpipe-files --resume "),
+            ("pnmpipe-split --fo", "pnmpipe-split --force "),
+        ]:
+            process, terminal = pty.fork()
+            if process == 0:
+                os.execvpe("zsh", ["zsh", "-f", "-i"], {**os.environ, "TERM": "dumb"})
+            self.typed(terminal, start, b"\nready")
+            shown = self.typed(terminal, typed + "\t", wanted.encode())
+            os.kill(process, signal.SIGKILL)
+            os.waitpid(process, 0)
+            os.close(terminal)
+            self.assertIn(wanted.encode(), shown)
+
+    def typed(self, terminal, text, wanted):
+        """What a terminal shows after a text, until something is there or ten seconds have passed."""
+        os.write(terminal, text.encode())
+        shown, end = b"", time.monotonic() + 10
+        while wanted not in shown and time.monotonic() < end:
+            if select.select([terminal], [], [], 0.1)[0]:
+                shown += os.read(terminal, 65536)
+        return shown
 
 
 class Install(Folder):

@@ -1,0 +1,55 @@
+# Completion for fish of the words of pnmpipe and its helpers, and inside CHAIN's open quote of the tools and their
+# options.
+
+# the chain so far, without its quote, and the words that may go on
+function __pnmpipe_chain
+    set -l typed (commandline -ct | string replace -r '^[\'"]' '')
+    set -l last (string match -r '[^ \t|]*$' -- $typed)
+    set -l before (string sub -l (math (string length -- "$typed") - (string length -- "$last")) -- "$typed")
+    set -l stage (string replace -r '^.*\|' '' -- "$before" | string trim)
+    set -l words
+    switch (string split -f 1 ' ' -- "$stage")
+        case ''
+            set words pnminvert pamcut pamdepth pamchannel pamenlarge pamflip pnmtile
+        case pamcut
+            set words -left -right -top -bottom -width -height
+        case pamdepth
+            set words 1 255 65535
+        case pamchannel
+            set words 0 1 2 3 -tupletype
+        case pamenlarge
+            set words 2 3 4 -xscale -yscale
+        case pamflip
+            set words -lr -tb -xy -r90 -r180 -r270 -null -leftright -topbottom -transpose
+    end
+    string join \n -- $before$words
+end
+
+# whether no word but options stands before the one that is typed
+function __pnmpipe_at_chain
+    test (count (commandline -opc | string match -v -- '-*' | string match -vr '^[0-9]+$')) -eq 1
+end
+
+for name in pnmpipe pnmpipe-files
+    complete -c $name -n __pnmpipe_at_chain -f -a '(__pnmpipe_chain)'
+    complete -c $name -l ring -x -a '1 16 64 256 1024' -d 'rows that may wait between two tools'
+    complete -c $name -l lanes -x -a '1 2 4 8' -d 'threads of a tool that works row by row'
+    complete -c $name -l plain -d 'write plain images'
+end
+for name in pnmpipe pnmpipe-files pnmpipe-split pnmpipe-translate
+    complete -c $name -s h -l help -d 'a summary'
+end
+for name in pnmpipe-files pnmpipe-split pnmpipe-translate
+    complete -c $name -s V -l version -d 'the version'
+end
+complete -c pnmpipe-files -l jobs -x -d 'calls at a time'
+complete -c pnmpipe-files -l resume -d 'leave out files that are done'
+complete -c pnmpipe-files -l keep-folders -d 'keep the folders of the files'
+complete -c pnmpipe-files -l suffix -d 'name results by their kind'
+complete -c pnmpipe-files -l bar -d 'show the progress'
+complete -c pnmpipe-files -l names -r -d 'a list of files'
+complete -c pnmpipe-split -l start -x -d 'the first number'
+complete -c pnmpipe-split -l digits -x -d 'digits of a number'
+complete -c pnmpipe-split -l names -r -d 'a list of names'
+complete -c pnmpipe-split -l force -d 'replace files'
+complete -c pnmpipe-translate -s f -l file -r -d 'a script'
