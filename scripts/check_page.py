@@ -123,6 +123,8 @@ def faults_of_documents():
         for link in re.findall(r"\]\(([^)#:]+)(?:#[^)]*)?\)", text):
             if not os.path.exists(os.path.join(ROOT, os.path.dirname(path), link)):
                 found.append(f"{path} leads to {link}, which isn't there")
+            elif not re.match(r"docs/|[A-Z]+(\.md)?$", os.path.normpath(os.path.join(os.path.dirname(path), link))):
+                found.append(f"{path} leads to {link}, which the archive of the built program lacks")
     size = len(read("README.md").encode())
     if size > 8192:
         found.append(f"README.md has {size} bytes, more than 8,192")

@@ -1,5 +1,6 @@
 #!/bin/sh
-# package.sh dist: the source as git has it, and an archive with the built program, into dist/.
+# package.sh dist: the source as git has it, and an archive with the built program, its pages, the documents and
+# install.sh, into dist/.
 # package.sh deb: a local Debian package of the built program, into dist/. It wants dpkg-deb.
 # Both want the program that make has left as bin/pnmpipe.
 set -eu
@@ -43,7 +44,8 @@ dist() {
     mkdir -p dist
     git archive --format=tar --prefix="pnmpipe-$version/" HEAD | gzip -n -9 > "dist/pnmpipe-$version.tar.gz"
     staged "$work/$name" ""
-    cp README.md CHANGELOG.md VERSION "$work/$name"
+    cp README.md CHANGELOG.md VERSION scripts/install.sh "$work/$name"
+    cp -R docs "$work/$name"
     toolchain > "$work/$name/TOOLCHAIN"
     (cd "$work/$name" && find . -type f ! -name SHA256SUMS | LC_ALL=C sort | xargs sha256sum > "$work/sums" \
         && mv "$work/sums" SHA256SUMS)

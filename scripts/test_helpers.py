@@ -378,6 +378,19 @@ class Install(Folder):
         self.assertEqual(run(["make", "uninstall", *target]).returncode, 0)
         self.assertEqual([names for _, _, names in os.walk(self.path("x y")) if names], [])
 
+    def test_archive(self):
+        """install.sh puts all that the archive of the built program has elsewhere, twice too, and takes it away."""
+        run(["make", "-s", "-C", ROOT, "install", f"DESTDIR={self.folder}/archive", "PREFIX="])
+        shutil.copy(f"{SCRIPTS}/install.sh", self.path("archive"))
+        words = ["sh", self.path("archive/install.sh")]
+        for _ in range(2):
+            self.assertEqual(run([*words, "x y"], cwd=self.folder).returncode, 0)
+        self.assertEqual(run([self.path("x y/bin/pnmpipe"), "pnminvert"], GRAY).stdout, GRAY[:-2] + b"\x08\x07")
+        self.assertEqual(run([self.path("x y/bin/pnmpipe-translate"), "pamcut"]).stdout, b"pnmpipe 'pamcut'\n")
+        self.assertEqual(run([*words, "--uninstall", self.path("x y")]).returncode, 0)
+        self.assertEqual([names for _, _, names in os.walk(self.path("x y")) if names], [])
+        self.assertEqual(run([*words, "--unknown"]).returncode, 2)
+
 
 def main():
     global PROGRAM
