@@ -125,7 +125,7 @@ test: toolchain
 # the figures of the documents, which `make scripts` then wants in their tables
 bench:
 	python3 scripts/bench.py --figures docs/figures.tsv
-	python3 scripts/bench_narrow.py
+	python3 scripts/bench_narrow.py --figures docs/figures.tsv
 
 # all tools by kinds of images and by options, beside Netpbm's own: which pairs take more processor time than these
 bench-sweep:

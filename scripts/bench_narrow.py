@@ -10,7 +10,7 @@ import random
 import sys
 import tempfile
 
-from bench import median_of, same_bytes, shown
+from bench import median_of, same_bytes, shown, write_figures
 
 PAGE_CHAIN = "pamcut -left 8 -right -9 | pamflip -lr | pnminvert"
 LETTER_CHAIN = "pamcut -left 75 -right -76 | pamflip -lr | pnminvert"
@@ -43,13 +43,14 @@ def main():
     parser.add_argument("--beside", action="append", default=[], metavar="NAME=PATH")
     parser.add_argument("--image", action="append", choices=[stream[0] for stream in STREAMS])
     parser.add_argument("--runs", type=int, default=7)
+    parser.add_argument("--figures", metavar="FILE", help="a file whose figures are put in place of those there")
     parser.add_argument("--folder", default="/dev/shm" if os.path.isdir("/dev/shm") else None)
     args = parser.parse_args()
     programs = [("pnmpipe", args.program)] + [tuple(pair.split("=", 1)) for pair in args.beside]
     names = [name for name, _ in programs] + ["Netpbm", "over Netpbm"]
     print("| image | chain | " + " | ".join(names) + " |")
     print("|---" * (len(names) + 2) + "|")
-    differing = 0
+    differing, figures = 0, {}
     with tempfile.TemporaryDirectory(dir=args.folder) as folder:
         wanted, made = (os.path.join(folder, name) for name in ("wanted", "made"))
         for name, header, size, count, chains in STREAMS:
@@ -65,9 +66,13 @@ def main():
                     differing += not fits
                     results.append(result)
                     cells.append(shown(result) + ("" if fits else " (OTHER BYTES)"))
+                if results[0] and peer:
+                    figures[name, chain] = results[0][0], peer[0]
                 ratio = "%.2f" % (results[0][0] / peer[0]) if results[0] and peer else "-"
                 print("| %s | `%s` | %s | %s | %s |" % (name, chain, " | ".join(cells), shown(peer), ratio), flush=True)
             os.remove(path)
+    if args.figures:
+        write_figures(args.figures, figures)
     if differing:
         sys.exit(f"{differing} results differ from Netpbm's or failed")
 

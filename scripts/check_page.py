@@ -132,37 +132,48 @@ def faults_of_documents():
 
 
 PLAIN_IMAGES = {"PBM": "scan", "PPM": "color", "PGM": "gray16"}
+NARROW_IMAGES = {"page": "page", "letter page": "letter", "label": "label", "64 a row": "narrow", "1 by 1": "dots"}
+NARROW_IMAGES.update({"64 by 64": "icons", "20,000 images of 64 by 64": "icons"})
 
 
-def figures_of_documents():
-    """Each document, image and tool of a table of seconds, with the figures of the program and of Netpbm's tool."""
-    readme, text = read("README.md"), read("docs/PERFORMANCE.md")
-    row = r"^\| (\w+): `(.+?)`(, written as plain text)? \| ([\d.]+) \| ([\d.]+) \|$"
-    for image, tool, plain, *figures in re.findall(row, readme, re.M):
-        yield "README.md", image, "--plain " * bool(plain) + tool, figures
-    beside = re.findall(r"^\| `([^`]+)` \| (\S+) \| (\S+) \| \S+ \| (\S*) \| (\S*) \|", text, re.M)
-    for tool, *figures in beside:
-        yield "docs/PERFORMANCE.md", "scan", tool, figures[:2]
+def figures_of_readme():
+    """Each image and tool of its table of seconds, with the figures of the program and of Netpbm's tools."""
+    row = r"^\| ([\w, ]+): `(.+?)`(, written as plain text)? \| ([\d.]+) \| ([\d.]+) \|$"
+    for image, tool, plain, *figures in re.findall(row, read("README.md"), re.M):
+        tool = tool.replace("\\|", "|")
+        yield NARROW_IMAGES.get(image, image), "--plain " * bool(plain) + tool, figures
+
+
+def figures_of_performance():
+    """The same of its tables beside Netpbm, of turned images, of narrow rows and of plain text."""
+    text = read("docs/PERFORMANCE.md")
+    for tool, *figures in re.findall(r"^\| `([^`]+)` \| (\S+) \| (\S+) \| \S+ \| (\S*) \| (\S*) \|", text, re.M):
+        yield "scan", tool, figures[:2]
         if figures[2]:
-            yield "docs/PERFORMANCE.md", "color", tool, figures[2:]
+            yield "color", tool, figures[2:]
     for image, way, *figures in re.findall(r"^\| ([\w, ]+) \| `(-\w+)` \| (\S+) \| (\S+) \|", text, re.M):
-        yield "docs/PERFORMANCE.md", image.replace("gray, 16 bits", "gray16"), f"pamflip {way}", figures
+        yield image.replace("gray, 16 bits", "gray16"), f"pamflip {way}", figures
+    narrow = r"^\| ([\w ]+) \| (`.*?) \| (\S+) / \S+ \| (\S+) / \S+ \| \S+ \|$"
+    for image, tools, *figures in re.findall(narrow, text, re.M):
+        chain = " | ".join(re.findall("`([^`]+)`", tools) * (3 if "three times" in tools else 1))
+        yield NARROW_IMAGES[image], chain, figures
     for kind, *figures in re.findall(r"^\| (P[BGP]M), [^|]*\| (\S+) \| \S+ \| (\S+) \|", text, re.M):
-        yield "docs/PERFORMANCE.md", PLAIN_IMAGES[kind], "--plain pnminvert", figures
+        yield PLAIN_IMAGES[kind], "--plain pnminvert", figures
 
 
 def faults_of_figures():
     """A figure that isn't that of the file that `make bench` writes, as far as its digits go."""
     lines = [line.split("\t") for line in read("docs/figures.tsv").splitlines() if not line.startswith("#")]
     measured = {(image, tool): figures for image, tool, *figures in lines}
-    found, seen = [], 0
-    for path, image, tool, figures in figures_of_documents():
-        seen += 1
+    tables = [("README.md", *row) for row in figures_of_readme()]
+    tables += [("docs/PERFORMANCE.md", *row) for row in figures_of_performance()]
+    found = []
+    for path, image, tool, figures in tables:
         for figure, seconds in zip(figures, measured.get((image, tool), ("nan", "nan"))):
             half = 0.5 * 10 ** -len(figure.partition(".")[2])
             if not abs(float(figure) - float(seconds)) <= half + 1e-9:
                 found.append(f"{path} has {figure} for {tool} of {image}, and docs/figures.tsv {seconds}")
-    return found if seen > 30 else [f"README.md and docs/PERFORMANCE.md have {seen} rows of figures, too few"]
+    return found if len(tables) > 40 else [f"README.md and docs/PERFORMANCE.md have {len(tables)} rows of figures"]
 
 
 def faults_of_lint():
