@@ -166,7 +166,7 @@ help:
 	@echo "make pass CRATES=..  proves changed crates, their tests and edits from nothing, as the gate does, with what they stand on"
 	@echo "make test            the tests alone, without their proofs"
 	@echo "make check           the whole gate: every proof, the edits that must fail, the tests, the stored runs and commands, refused allocations, silent inputs, small stacks, scripts and pages"
-	@echo "make bench           times the program that make has left beside Netpbm's own tools, on large images, narrow rows and small images"
+	@echo "make bench           times the program that make has left beside Netpbm's own tools, on large images, narrow rows and small images, and writes docs/figures.tsv"
 	@echo "make bench-sweep     all tools by kinds of images and by options, and which take more processor time than Netpbm's"
 	@echo "make bench-files     times many small files in each way, beside Netpbm's own tools"
 	@echo "make lanes           times the program that make has left with 1, 2, 4 and 8 lanes"

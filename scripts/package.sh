@@ -69,7 +69,7 @@ deb() {
     staged "$root" /usr ZSHDIR=/usr/share/zsh/vendor-completions
     find "$root/usr/share/man" -name '*.1' -exec gzip -n -9 {} +
     mkdir -p "$root/DEBIAN" "$root/usr/share/doc/pnmpipe"
-    cp README.md "$root/usr/share/doc/pnmpipe"
+    cp -R README.md CHANGELOG.md docs "$root/usr/share/doc/pnmpipe"
     changes | gzip -n -9 > "$root/usr/share/doc/pnmpipe/changelog.gz"
     # the newest symbols of the C library that the program asks for
     libc=
@@ -92,6 +92,8 @@ Description: chain of Netpbm tools over a stream of images in one process
  pnminvert, pamcut, pamdepth, pamchannel, pamenlarge, pamflip and pnmtile,
  each in a thread of its own, and writes raw Netpbm images. Beside it are
  helpers for many files, for streams and for scripts that call Netpbm.
+ .
+ It needs a processor with SSE4.2 and POPCNT (x86-64-v2).
 CONTROL
     (cd "$root" && find usr -type f | LC_ALL=C sort | xargs md5sum > DEBIAN/md5sums)
     chmod -R u=rwX,go=rX "$root"
