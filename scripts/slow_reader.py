@@ -4,6 +4,7 @@ of headers, tuple types and gaps are left out. Numbers of answers are as the pro
 import sys
 import zlib
 from array import array
+from functools import reduce
 
 FORMATS = {
     b"1": ("Bit", True),
@@ -17,10 +18,16 @@ FORMATS = {
 DEPTHS = {"Bit": 1, "Gray": 1, "Color": 3}
 MOST = 16_777_216
 BLANKS = b" \t\r"
+FIELDS = (b"WIDTH", b"HEIGHT", b"DEPTH", b"MAXVAL")
 
 
 class Fault(Exception):
-    """A fault, by its name, ends the stream."""
+    """A fault, by its name, ends the stream. Of a header's fault is known where it stands there, and what does."""
+
+    def __init__(self, name, at=0, what=None):
+        super().__init__(name)
+        self.at = at
+        self.what = what
 
 
 def answers(text):
@@ -58,29 +65,28 @@ def magic(text, is_later):
 
 def judged(kind, width, height, depth, maxval, tuple_type):
     """The head of these fields."""
+    fields = {"width": width, "height": height, "depth": depth, "maxval": maxval}
     if not width or not height or not depth:
-        raise Fault("ZeroSize")
+        raise Fault("ZeroSize", what=fields)
     if max(width, height, width * depth) > MOST or depth > 256:
-        raise Fault("TooLarge")
+        raise Fault("TooLarge", what=fields)
     if not 0 < maxval < 65_536:
-        raise Fault("BadMaxval")
+        raise Fault("BadMaxval", what=fields)
     return kind, width, height, depth, maxval, tuple_type
 
 
 def marks(text):
-    """What each byte is: # in a comment, which goes through the next CR or LF, blank for white space, 0 for a digit,
-    and x for any other."""
-    found = []
+    """What each byte is, in turn: # in a comment, which goes through the next CR or LF, blank for white space, 0 for a
+    digit, and x for any other."""
     is_comment = False
     for byte in text:
         if is_comment or byte == ord("#"):
-            found.append("#")
+            yield "#"
             is_comment = byte not in b"\r\n"
         elif byte in b" \t\r\n":
-            found.append(" ")
+            yield " "
         else:
-            found.append("0" if chr(byte) in "0123456789" else "x")
-    return found
+            yield "0" if chr(byte) in "0123456789" else "x"
 
 
 def pnm_head(kind, text):
@@ -90,7 +96,7 @@ def pnm_head(kind, text):
     before = " "
     for at, mark in enumerate(marks(body)):
         if mark == "x" or (mark == "0" and at == 0):
-            raise Fault("BadNumber")
+            raise Fault("BadNumber", at + 2, len(numbers))
         if mark == " " and len(numbers) == (2 if kind == "Bit" else 3):
             maxval = 1 if kind == "Bit" else numbers[2]
             return judged(kind, *numbers[:2], DEPTHS[kind], maxval, b""), at + 3
@@ -100,7 +106,7 @@ def pnm_head(kind, text):
             numbers[-1] = 10 * numbers[-1] + int(chr(body[at]))
         if mark != "#":
             before = mark
-    raise Fault("HeaderCut")
+    raise Fault("HeaderCut", what=len(numbers))
 
 
 def token(line):
@@ -117,40 +123,42 @@ def pam_head(text):
     if len(text) < 3:
         raise Fault("HeaderCut")
     if text[2:3] != b"\n":
-        raise Fault("BadPamLine")
+        raise Fault("BadPamLine", 2, text[2:3])
     numbers, types = {}, []
     at = 3
     while True:
         end = text.find(b"\n", at)
         if end < 0:
-            raise Fault("HeaderCut")
-        name, rest = token(text[at:end])
+            raise Fault("HeaderCut", what=len(numbers))
+        line, start = text[at:end], at
+        name, rest = token(line)
         at = end + 1
         if name == b"ENDHDR":
             break
         if name == b"TUPLTYPE":
             types += [rest] if rest else []
             if len(b" ".join(types)) > 255:
-                raise Fault("TooLong")
-        elif name in (b"WIDTH", b"HEIGHT", b"DEPTH", b"MAXVAL"):
-            add_number(numbers, name, token(rest)[0])
+                raise Fault("TooLong", start, len(b" ".join(types)))
+        elif name in FIELDS:
+            fault = number_fault(numbers, name, token(rest)[0])
+            if fault:
+                raise Fault(fault, start, line)
+            # (int takes so many digits alone)
+            numbers[name] = reduce(lambda number, digit: 10 * number + int(chr(digit)), token(rest)[0], 0)
         elif name and name[:1] != b"#":
-            raise Fault("BadPamLine")
+            raise Fault("BadPamLine", start, line)
     if len(numbers) < 4:
-        raise Fault("MissingField")
-    fields = [numbers[name] for name in (b"WIDTH", b"HEIGHT", b"DEPTH", b"MAXVAL")]
-    return judged("Pam", *fields, b" ".join(types)), at
+        raise Fault("MissingField", start, [name.decode() for name in FIELDS if name not in numbers])
+    return judged("Pam", *(numbers[name] for name in FIELDS), b" ".join(types)), at
 
 
-def add_number(numbers, name, word):
-    """Takes a number of a PAM header."""
+def number_fault(numbers, name, word):
+    """What is wrong with a number of a PAM header, if anything is."""
     if not word:
-        raise Fault("BadPamLine")
+        return "BadPamLine"
     if any(chr(byte) not in "0123456789" for byte in word):
-        raise Fault("BadNumber")
-    if name in numbers:
-        raise Fault("DuplicateField")
-    numbers[name] = int(word)
+        return "BadNumber"
+    return "DuplicateField" if name in numbers else None
 
 
 def raw_raster(raster, head, given):
@@ -178,7 +186,7 @@ def raw_raster(raster, head, given):
 def plain_raster(raster, head, given):
     """Adds the rows. What follows the raster is ignored, but for the byte right after it."""
     kind, width, height, depth, maxval, _ = head
-    kinds = marks(raster)
+    kinds = list(marks(raster))
     at = 0
     for y in range(height):
         row = []
