@@ -19,6 +19,9 @@ ZSHDIR ?= $(PREFIX)/share/zsh/site-functions
 FISHDIR ?= $(PREFIX)/share/fish/vendor_completions.d
 SHIMDIR = $(LIBEXECDIR)/pnmpipe/netpbm
 HELPERS := pnmpipe-files pnmpipe-split
+# helpers that stand beside the modules they use, with a link in BINDIR
+LINKED := pnmpipe-explain pnmpipe-translate
+MODULES := chain_text.py image_stream.py input_faults.py netpbm_words.py shell_reader.py slow_reader.py
 SHIMS := pnminvert pamcut pamdepth pamchannel pamenlarge pamflip pnmtile pnmcut pnmdepth pnmenlarge pnmflip
 
 # crates whose tests of want of memory are refused each allocation
@@ -68,6 +71,7 @@ scripts:
 	python3 scripts/test_translate.py --program $(BUILT)
 	python3 scripts/test_helpers.py --program $(BUILT)
 	python3 scripts/test_pages.py --program $(BUILT)
+	python3 scripts/test_explain.py --program $(BUILT)
 	python3 scripts/test_build.py
 	python3 scripts/pictures.py --check --program $(BUILT)
 
@@ -82,22 +86,15 @@ install: built
 	for helper in $(HELPERS); do install -m 755 scripts/$$helper "$(DESTDIR)$(BINDIR)/$$helper" || exit 1; done
 	for page in man/*.1; do sed "s/@VERSION@/$$(cat VERSION)/" $$page > "$(DESTDIR)$(MANDIR)/man1/$${page#man/}" || exit 1; done
 	install -m 644 completions/pnmpipe.bash "$(DESTDIR)$(COMPLETIONDIR)/pnmpipe"
-	install -m 644 completions/_pnmpipe "$(DESTDIR)$(ZSHDIR)/_pnmpipe"
-	install -m 644 completions/pnmpipe.fish "$(DESTDIR)$(FISHDIR)/pnmpipe.fish"
-	for helper in $(HELPERS) pnmpipe-translate; do \
-	    ln -sf pnmpipe "$(DESTDIR)$(COMPLETIONDIR)/$$helper" && \
-	    ln -sf pnmpipe.fish "$(DESTDIR)$(FISHDIR)/$$helper.fish" || exit 1; done
-	install -m 755 scripts/pnmpipe-translate scripts/netpbm-shim "$(DESTDIR)$(LIBEXECDIR)/pnmpipe"
-	install -m 644 scripts/netpbm_words.py scripts/shell_reader.py "$(DESTDIR)$(LIBEXECDIR)/pnmpipe"
-	ln -srf "$(DESTDIR)$(LIBEXECDIR)/pnmpipe/pnmpipe-translate" "$(DESTDIR)$(BINDIR)/pnmpipe-translate"
+	for file in $(LINKED) netpbm-shim; do install -m 755 scripts/$$file "$(DESTDIR)$(LIBEXECDIR)/pnmpipe" || exit 1; done
+	for file in $(MODULES); do install -m 644 scripts/$$file "$(DESTDIR)$(LIBEXECDIR)/pnmpipe" || exit 1; done
+	for file in $(LINKED); do ln -srf "$(DESTDIR)$(LIBEXECDIR)/pnmpipe/$$file" "$(DESTDIR)$(BINDIR)/$$file" || exit 1; done
 	for name in $(SHIMS); do ln -sf ../netpbm-shim "$(DESTDIR)$(SHIMDIR)/$$name" || exit 1; done
 
 uninstall:
-	rm -f "$(DESTDIR)$(BINDIR)/pnmpipe" "$(DESTDIR)$(ZSHDIR)/_pnmpipe"
-	for name in pnmpipe $(HELPERS) pnmpipe-translate; do \
-	    rm -f "$(DESTDIR)$(COMPLETIONDIR)/$$name" "$(DESTDIR)$(FISHDIR)/$$name.fish"; done
-	for file in pnmpipe-translate netpbm-shim netpbm_words.py shell_reader.py; do rm -f "$(DESTDIR)$(LIBEXECDIR)/pnmpipe/$$file"; done
-	for helper in $(HELPERS) pnmpipe-translate; do rm -f "$(DESTDIR)$(BINDIR)/$$helper"; done
+	rm -f "$(DESTDIR)$(BINDIR)/pnmpipe" "$(DESTDIR)$(COMPLETIONDIR)/pnmpipe"
+	for file in $(LINKED) $(MODULES) netpbm-shim; do rm -f "$(DESTDIR)$(LIBEXECDIR)/pnmpipe/$$file"; done
+	for helper in $(HELPERS) $(LINKED); do rm -f "$(DESTDIR)$(BINDIR)/$$helper"; done
 	for page in man/*.1; do rm -f "$(DESTDIR)$(MANDIR)/man1/$${page#man/}"; done
 	for name in $(SHIMS); do rm -f "$(DESTDIR)$(SHIMDIR)/$$name"; done
 	for folder in "$(DESTDIR)$(SHIMDIR)" "$(DESTDIR)$(LIBEXECDIR)/pnmpipe"; do test ! -d "$$folder" || rmdir "$$folder"; done

@@ -76,6 +76,7 @@ _pnmpipe() {
     COMPREPLY=()
     case ${COMP_WORDS[0]##*/} in
         pnmpipe) options='--ring --lanes --plain --help' ;;
+        pnmpipe-explain) options='--brief --no-input --ring --lanes --plain --help --version' ;;
         pnmpipe-files)
             options='--jobs --resume --keep-folders --suffix --bar --names --ring --lanes --plain --help --version'
             ;;
@@ -88,11 +89,11 @@ _pnmpipe() {
         return
     fi
     case ${COMP_WORDS[0]##*/} in
-        pnmpipe) _pnmpipe_chain "$current" "$options"; return ;;
+        pnmpipe | pnmpipe-explain) _pnmpipe_chain "$current" "$options"; return ;;
         pnmpipe-files) ! _pnmpipe_at_chain || { _pnmpipe_chain "$current" "$options"; return; } ;;
     esac
     mapfile -t COMPREPLY < <(compgen -f -- "$current")
     compopt -o filenames 2> /dev/null
 }
 
-complete -F _pnmpipe pnmpipe pnmpipe-files pnmpipe-split pnmpipe-translate
+complete -F _pnmpipe pnmpipe pnmpipe-explain pnmpipe-files pnmpipe-split pnmpipe-translate

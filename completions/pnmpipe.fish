@@ -30,18 +30,20 @@ function __pnmpipe_at_chain
     test (count (commandline -opc | string match -v -- '-*' | string match -vr '^[0-9]+$')) -eq 1
 end
 
-for name in pnmpipe pnmpipe-files
+for name in pnmpipe pnmpipe-explain pnmpipe-files
     complete -c $name -n __pnmpipe_at_chain -f -a '(__pnmpipe_chain)'
     complete -c $name -l ring -x -a '1 16 64 256 1024' -d 'rows that may wait between two tools'
     complete -c $name -l lanes -x -a '1 2 4 8' -d 'threads of a tool that works row by row'
     complete -c $name -l plain -d 'write plain images'
 end
-for name in pnmpipe pnmpipe-files pnmpipe-split pnmpipe-translate
+for name in pnmpipe pnmpipe-explain pnmpipe-files pnmpipe-split pnmpipe-translate
     complete -c $name -s h -l help -d 'a summary'
 end
-for name in pnmpipe-files pnmpipe-split pnmpipe-translate
+for name in pnmpipe-explain pnmpipe-files pnmpipe-split pnmpipe-translate
     complete -c $name -s V -l version -d 'the version'
 end
+complete -c pnmpipe-explain -l brief -d 'one line'
+complete -c pnmpipe-explain -l no-input -d 'judge the chain alone'
 complete -c pnmpipe-files -l jobs -x -d 'calls at a time'
 complete -c pnmpipe-files -l resume -d 'leave out files that are done'
 complete -c pnmpipe-files -l keep-folders -d 'keep the folders of the files'

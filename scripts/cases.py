@@ -17,6 +17,7 @@ import zlib
 from array import array
 
 import slow_rows
+from chain_text import span
 from slow_reader import answers, tell, tell_head, tell_row, tell_text
 
 ROOT = os.path.dirname(os.path.dirname(os.path.abspath(__file__)))
@@ -246,12 +247,8 @@ def result(tool, kind, maxval, width, height, depth, tuple_type, samples):
 
 def kept(length, start, end, size):
     """The first column that a cut keeps, and how many; none where it lies outside."""
-    start, end = (it if it is None or it >= 0 else it + length for it in (start, end))
-    if start is None:
-        start = 0 if end is None or size is None else end + 1 - size
-    if end is None:
-        end = length - 1 if size is None else start + size - 1
-    return (start, end + 1 - start) if 0 <= start <= end < length else None
+    first, last = span(length, start, end, size)
+    return (first, last + 1 - first) if 0 <= first <= last < length else None
 
 
 def cut_image(across, down):

@@ -291,7 +291,7 @@ class HelpAndVersion(unittest.TestCase):
     def test_answers(self):
         with open(f"{ROOT}/VERSION", encoding="utf-8") as file:
             version = file.read().strip()
-        for name in ("pnmpipe-files", "pnmpipe-split", "pnmpipe-translate"):
+        for name in ("pnmpipe-explain", "pnmpipe-files", "pnmpipe-split", "pnmpipe-translate"):
             for words, beginning in [("--version", f"{name} {version}\n"), ("-V", f"{name} {version}\n")] + [
                 (option, f"usage: {name} ") for option in ("--help", "-h")
             ]:

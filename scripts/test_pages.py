@@ -35,6 +35,8 @@ EXAMPLES = [
     ("pnmpipe-files 'pamcut -left 8", 0, {"out/scan.pgm": b"P5\n193 4\n"}),
     ("pnmpipe pnminvert < pages.pgm", 0, {"page-000001.pgm": b"P5\n201 4\n"}),
     ("mkdir -p out\n", 0, {"out/page.pgm": b"P5\n193 4\n"}),
+    ("pnmpipe-explain 'pnminvert | pamcut -lft 8'", 1, {}),
+    ("for file in *.pgm; do\n", 0, {}),
     ("pnmpipe-translate 'pamcut -l 8 a.pgm", 0, {}),
     ("pnmpipe 'pamcut -left 8 | pamflip -xy' < a.pgm", 0, {"b.pgm": b"P5\n4 193\n"}),
 ]
@@ -75,7 +77,7 @@ class Examples(Folder):
             self.skipTest("there is no program")
         if not shutil.which("mandoc") and not shutil.which("groff"):
             self.skipTest("neither mandoc nor groff is installed")
-        for name in ("pnmpipe-files", "pnmpipe-split", "pnmpipe-translate"):
+        for name in ("pnmpipe-explain", "pnmpipe-files", "pnmpipe-split", "pnmpipe-translate"):
             self.write(f"bin/{name}", f'#!/bin/sh\nexec {SCRIPTS}/{name} "$@"\n'.encode(), 0o755)
         os.symlink(PROGRAM, self.path("bin/pnmpipe"))
         # Netpbm's own, which are no part of what is tried

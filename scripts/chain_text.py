@@ -1,0 +1,355 @@
+"""The text of a chain: which tools it names, or what is wrong with it, where, and what would be right; and what each
+tool makes of an image's head. `pnmpipe-explain` uses it."""
+
+import difflib
+import importlib.machinery
+import importlib.util
+import os
+import re
+import shlex
+import typing
+
+from slow_reader import Fault, judged
+
+MOST_BYTES, MOST_STAGES, MOST_TYPE = 4_096, 64, 255
+BLANKS = " \t\r\n"
+WORD = re.compile(r"[^ \t\r\n]+")
+
+# what an option or an argument takes: a number from and to, or a text
+OFFSET, EXTENT, MAXVAL, PLANE, TYPE = (-16_777_216, 16_777_216), (1, 16_777_216), (1, 65_535), (0, 255), "text"
+
+CUT = {"left": OFFSET, "right": OFFSET, "top": OFFSET, "bottom": OFFSET, "width": EXTENT, "height": EXTENT}
+WAYS = ("lr", "leftright", "tb", "topbottom", "xy", "transpose", "r90", "r180", "r270", "null")
+EXCHANGED = ("xy", "transpose", "r90", "r270")
+
+AXES = [("left", "right", "width"), ("top", "bottom", "height")]
+
+
+class Form(typing.NamedTuple):
+    """What a tool takes: the least and the most arguments, what each is, and its options; None: it has no value."""
+
+    least: int
+    most: int
+    argument: typing.Optional[tuple]
+    options: dict
+
+
+TOOLS = {
+    "pnminvert": Form(0, 0, None, {}),
+    "pamcut": Form(0, 0, None, CUT),
+    "pamdepth": Form(1, 1, MAXVAL, {}),
+    "pamchannel": Form(1, 256, PLANE, {"tupletype": TYPE}),
+    "pamenlarge": Form(0, 1, EXTENT, {"xscale": EXTENT, "yscale": EXTENT}),
+    "pamflip": Form(0, 0, None, dict.fromkeys(WAYS)),
+    "pnmtile": Form(2, 2, EXTENT, {}),
+}
+
+# what stands in place of options that Netpbm's tools take and pnmpipe doesn't
+ELSEWHERE = {
+    "plain": "Leave it out here, and ask pnmpipe for plain output:\npnmpipe --plain '..'",
+    "quiet": "Leave it out: no tool says anything but its fault.",
+    "verbose": "Leave it out: no tool says anything but its fault.",
+    "pad": "pnmpipe pads nothing; Netpbm's own pamcut does.",
+    "memsize": "Leave it out.",
+    "pagesize": "Leave it out.",
+    "infile": "A file comes by <:\npnmpipe '..' < FILE",
+}
+
+FACTOR = "Write a factor, as in pamenlarge 2, or -xscale N, -yscale N or both."
+MISSING = {
+    "pamdepth": ("pamdepth lacks its maxval.", "Write the new maxval, as in pamdepth 255."),
+    "pamchannel": ("pamchannel lacks its planes.", "Write which samples of each pixel to keep, as in pamchannel 0."),
+    "pamenlarge": ("pamenlarge lacks its factor.", FACTOR),
+    "pamflip": ("pamflip lacks its way to flip.", "Write one of -" + ", -".join(WAYS) + "."),
+    "pnmtile": ("pnmtile lacks its width or its height.", "Write both, as in pnmtile 640 480."),
+}
+
+
+class Word(typing.NamedTuple):
+    """A word of a chain, and where it stands in the chain's text."""
+
+    text: str
+    start: int
+    end: int
+
+
+class ChainFault(Exception):
+    """What is wrong with a chain: the fault's name, the words that are at fault, what they are, and what to do."""
+
+    def __init__(self, name, words, what, remedy):
+        super().__init__(name)
+        self.words, self.what, self.remedy = words, what, remedy
+        # the stage's number, 0 where the whole text is at fault, and where it stands in the text
+        self.stage, self.start, self.end = 0, 0, 0
+
+
+class ToolFault(Exception):
+    """Why a tool refuses an image: the fault's name, what doesn't fit, and what to do."""
+
+    def __init__(self, name, what, remedy):
+        super().__init__(name)
+        self.what, self.remedy = what, remedy
+
+
+class Tool:
+    """A stage of a chain: the tool's name, its text, its options' values and its arguments."""
+
+    def __init__(self, words):
+        self.name, self.text = words[0].text, " ".join(word.text for word in words)
+        self.options, self.arguments = {}, []
+
+
+def listed(items, last="and"):
+    """Words with commas between, and with `and`."""
+    items = list(items)
+    return f" {last} ".join([*([", ".join(items[:-1])] if items[1:] else []), *items[-1:]])
+
+
+def read_chain(text):
+    """The tools that a chain's text names."""
+    size = len(text.encode("utf-8", "surrogateescape"))
+    if size > MOST_BYTES:
+        what = f"The chain has {size:,} bytes, and at most {MOST_BYTES:,} are taken."
+        raise ChainFault("TooLong", [], what, "Split it into two calls, with a bar of the shell between.")
+    if not text.strip(BLANKS):
+        raise ChainFault("Empty", [], "The chain names no tool.", f"Name one: {listed(TOOLS, 'or')}.")
+    parts = text.split("|")
+    if len(parts) > MOST_STAGES:
+        what = f"The chain has {len(parts):,} stages, and at most {MOST_STAGES} are taken."
+        raise ChainFault("TooMany", [], what, "Split it into two calls, with a bar of the shell between.")
+    tools, start = [], 0
+    for number, part in enumerate(parts, 1):
+        words = [Word(found[0], start + found.start(), start + found.end()) for found in WORD.finditer(part)]
+        try:
+            tools.append(read_stage(words))
+        except ChainFault as fault:
+            fault.stage, fault.start, fault.end = number, start, start + len(part)
+            raise
+        start += len(part) + 1
+    return tools
+
+
+def read_stage(words):
+    """The tool that a stage names."""
+    if not words:
+        what = "No word stands between two bars, before the first one or behind the last one."
+        raise ChainFault("EmptyStage", [], what, "Take a bar away, or name a tool there.")
+    if words[0].text not in TOOLS:
+        raise unknown_tool(words)
+    tool, left = Tool(words), words[1:]
+    while left:
+        word = left.pop(0)
+        if word.text.startswith("-"):
+            take_option(tool, word, left)
+        else:
+            take_argument(tool, word)
+    finish(tool, words)
+    return tool
+
+
+def is_file(text):
+    """Whether a word seems to name a file."""
+    return re.search(r"[./]|^-$", text) is not None or os.path.exists(text)
+
+
+def loaded(name):
+    """The program of this name that stands beside this module, as a module."""
+    path = os.path.join(os.path.dirname(os.path.realpath(__file__)), name)
+    loader = importlib.machinery.SourceFileLoader(name.replace("-", "_"), path)
+    module = importlib.util.module_from_spec(importlib.util.spec_from_loader(loader.name, loader))
+    loader.exec_module(module)
+    return module
+
+
+def in_pnmpipe(text):
+    """The call of pnmpipe that does what Netpbm's tools do with these words; none where pnmpipe-translate has none."""
+    stages = [" ".join(map(shlex.quote, WORD.findall(stage))) for stage in text.split("|")]
+    made, _ = loaded("pnmpipe-translate").translated(" | ".join(stages))
+    words = [word for word in shlex.split(made) if word != "--plain"]
+    if words[:1] != ["pnmpipe"] or len(words) not in (2, 4) or words[2:3] not in ([], ["<"]):
+        return None
+    try:
+        read_chain(words[1])
+        return made
+    except ChainFault:
+        return None
+
+
+def remedy_of(text, fault):
+    """What to do about the fault of a chain: the call, where Netpbm's tools take these words."""
+    call = in_pnmpipe(text) if fault.stage else None
+    return f"Write:\n{call}" if call else fault.remedy
+
+
+def nearest(text, names, mark=""):
+    """A question for the name that is most like a text, if one is."""
+    found = difflib.get_close_matches(text.lower(), names, 1, 0.75)
+    return f"Is {mark}{found[0]} meant? " if found else ""
+
+
+def unknown_tool(words):
+    """The fault of a stage whose first word is no tool."""
+    name = words[0].text
+    remedy = f"{nearest(name, TOOLS)}The tools are {listed(TOOLS)}; case counts."
+    if re.fullmatch(r"p[abgnp]m\w+|\w+to(p[abgnp]m|pnm)", name) and not nearest(name, TOOLS):
+        remedy = f"A tool that pnmpipe lacks stands before or behind it, in the shell's pipe. {remedy}"
+    if re.match(r"['\"]", name):
+        remedy = "Leave the inner quotes out: the whole chain stands in one pair of them."
+    return ChainFault("UnknownTool", words[:1], f"pnmpipe has no tool {name}.", remedy)
+
+
+def take_option(tool, word, left):
+    """Takes an option and, where the next word is its value, that."""
+    name, equals, text = re.fullmatch(r"--?([^=]*)(=?)(.*)", word.text, re.S).groups()
+    options = TOOLS[tool.name].options
+    if name not in options:
+        raise unknown_option(tool, word, name)
+    wanted = options[name]
+    key = name if wanted else "way"
+    if key in tool.options:
+        what, remedy = f"-{name} is there twice.", "Leave one out."
+        if not wanted:
+            what = "pamflip takes one way to flip, and this is a second one."
+            remedy = "Leave one out, or make a stage of each, as in pamflip -lr | pamflip -tb."
+        raise ChainFault("Conflict", [word], what, remedy)
+    if not wanted:
+        if equals:
+            raise ChainFault("BadValue", [word], f"-{name} takes no value.", f"Write -{name} alone.")
+        tool.options[key] = name
+        return
+    if not equals and not left:
+        what = f"-{name} lacks its value: it is the stage's last word."
+        raise ChainFault("MissingValue", [word], what, f"Write {kind_of(wanted)} behind it.")
+    value = Word(text, word.start, word.end) if equals else left.pop(0)
+    tool.options[name] = value_of(value, wanted, f"-{name}")
+
+
+def unknown_option(tool, word, name):
+    """The fault of an option that the tool doesn't have."""
+    options = TOOLS[tool.name].options
+    has = f"it has {listed('-' + it for it in options)}" if options else "it takes no option"
+    begun = [it for it in options if name and it.startswith(name)]
+    if re.fullmatch(r"-[0-9]+", word.text):
+        remedy = "A number below 0 is taken behind -left, -right, -top and -bottom of pamcut alone."
+    elif name in ELSEWHERE:
+        remedy = ELSEWHERE[name]
+    elif len(begun) > 1:
+        remedy = f"Write the option whole: {listed(('-' + it for it in begun), 'or')}."
+    elif options:
+        remedy = nearest(name, options, "-") + "An option is written whole, and case counts."
+    else:
+        remedy = "Leave it out."
+    return ChainFault("UnknownOption", [word], f"{tool.name} has no option {word.text}; {has}.", remedy)
+
+
+def take_argument(tool, word):
+    """Takes an argument."""
+    form = TOOLS[tool.name]
+    if len(tool.arguments) < form.most:
+        tool.arguments.append(value_of(word, form.argument, tool.name))
+        return
+    takes = f"{form.most or 'no'} argument{'s' * (form.most > 1)}{' at most' * (form.most > 0)}"
+    remedy = "Leave it out; an option's name begins with a dash."
+    if is_file(word.text):
+        remedy = f"Leave it out. A file comes by <:\npnmpipe '..' < {shlex.quote(word.text)}"
+    raise ChainFault("ExtraArgument", [word], f"{tool.name} takes {takes}, so {word.text} can't stand there.", remedy)
+
+
+def kind_of(wanted):
+    """What a value has to be."""
+    if wanted == TYPE:
+        return f"a text of at most {MOST_TYPE} bytes"
+    return f"a decimal number from {wanted[0]:,} to {wanted[1]:,}"
+
+
+def value_of(word, wanted, whose):
+    """The value that a word is."""
+    if wanted == TYPE:
+        size = len(word.text.encode("utf-8", "surrogateescape"))
+        if size > MOST_TYPE:
+            raise ChainFault("BadValue", [word], f"The text has {size} bytes.", f"{whose} takes {kind_of(wanted)}.")
+        return word.text
+    is_number = re.fullmatch("-?[0-9]+" if wanted[0] < 0 else "[0-9]+", word.text)
+    if is_number and wanted[0] <= int(word.text) <= wanted[1]:
+        return int(word.text)
+    isnt = "out of range" if is_number else "no decimal number"
+    what = f"{whose} takes {kind_of(wanted)}, and {word.text or 'an empty word'} is {isnt}."
+    raise ChainFault("BadValue", [word], what, "Write a number in this range.")
+
+
+def finish(tool, words):
+    """What is wrong with a stage once all its words were taken."""
+    for axis in AXES:
+        if set(axis) <= set(tool.options):
+            names = [f"-{name}" for name in axis]
+            marked = [word for word in words if re.split("=", word.text.lstrip("-"))[0] in axis]
+            what = f"{listed(names)} can't stand together: any two of them say the third."
+            raise ChainFault("Conflict", marked, what, "Leave one of them out.")
+    if tool.name == "pamenlarge" and tool.arguments and tool.options:
+        what = "pamenlarge takes a factor for both ways, or -xscale and -yscale, and not both."
+        raise ChainFault("Conflict", words[1:], what, FACTOR)
+    is_there = bool(tool.options) if tool.name == "pamflip" else len(tool.arguments) >= TOOLS[tool.name].least
+    if tool.name == "pamenlarge":
+        is_there = bool(tool.arguments or tool.options)
+    if not is_there:
+        raise ChainFault("MissingArgument", words, *MISSING[tool.name])
+
+
+# --- what tools make of heads
+
+
+def span(length, start, end, size):
+    """The first and the last column that a cut keeps, of an image with so many, wherever they lie."""
+    start, end = (it if it is None or it >= 0 else it + length for it in (start, end))
+    if start is None:
+        start = 0 if end is None or size is None else end + 1 - size
+    if end is None:
+        end = length - 1 if size is None else start + size - 1
+    return start, end
+
+
+def cut_length(tool, length, axis, unit):
+    """How many columns, or rows, a cut keeps."""
+    first, last = span(length, *(tool.options.get(name) for name in axis))
+    if 0 <= first <= last < length:
+        return last - first + 1
+    given = listed(f"-{name} {tool.options[name]}" for name in axis if name in tool.options)
+    if not 0 <= first < length:
+        asks = f"begins at {unit} {first:,}"
+    elif last >= length:
+        asks = f"ends at {unit} {last:,}"
+    else:
+        asks = f"ends at {unit} {last:,}, and begins behind it at {unit} {first:,}"
+    has = f"It has {length:,} {unit}{'s' * (length > 1)}, 0 to {length - 1:,}, and what {given} keeps {asks}."
+    raise ToolFault("CutOutside", has, "Ask for what every image of the stream has, or take this one out.")
+
+
+def head_of_result(tool, head):
+    """The head of what a tool makes of an image."""
+    kind, width, height, depth, maxval, tuple_type = head
+    options, arguments = tool.options, tool.arguments
+    if tool.name == "pamcut":
+        width, height = cut_length(tool, width, AXES[0], "column"), cut_length(tool, height, AXES[1], "row")
+    elif tool.name == "pamdepth":
+        maxval = arguments[0]
+        kind = "Gray" if kind == "Bit" and maxval != 1 else kind
+    elif tool.name == "pamchannel":
+        beyond = [plane for plane in arguments if plane >= depth]
+        if beyond:
+            planes = f"{depth} planes, 0 to {depth - 1}," if depth > 1 else "1 plane, 0,"
+            what = f"It has {planes} and no plane {beyond[0]}."
+            raise ToolFault("ChannelOutside", what, "Ask for planes that every image of the stream has.")
+        kind, depth, tuple_type = "Pam", len(arguments), options.get("tupletype", "")
+    elif tool.name == "pamenlarge":
+        both = arguments[0] if arguments else 1
+        width, height = width * options.get("xscale", both), height * options.get("yscale", both)
+    elif tool.name == "pamflip" and options["way"] in EXCHANGED:
+        width, height = height, width
+    elif tool.name == "pnmtile":
+        width, height = arguments
+    try:
+        return judged(kind, width, height, depth, maxval, tuple_type)
+    except Fault:
+        size = f"{width:,} columns, {height:,} rows and {depth} plane{'s' * (depth > 1)}"
+        most = "an image has at most 16,777,216 columns, as many rows, and as many samples a row (columns times planes)"
+        raise ToolFault("TooLarge", f"The result would have {size}; {most}.", "Ask for a smaller result.") from None
