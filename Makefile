@@ -18,9 +18,9 @@ COMPLETIONDIR ?= $(PREFIX)/share/bash-completion/completions
 ZSHDIR ?= $(PREFIX)/share/zsh/site-functions
 FISHDIR ?= $(PREFIX)/share/fish/vendor_completions.d
 SHIMDIR = $(LIBEXECDIR)/pnmpipe/netpbm
-HELPERS := pnmpipe-files pnmpipe-split
+HELPERS := pnmpipe-split
 # helpers that stand beside the modules they use, with a link in BINDIR
-LINKED := pnmpipe-explain pnmpipe-translate
+LINKED := pnmpipe-explain pnmpipe-files pnmpipe-translate
 MODULES := chain_text.py image_stream.py input_faults.py netpbm_words.py shell_reader.py slow_reader.py
 SHIMS := pnminvert pamcut pamdepth pamchannel pamenlarge pamflip pnmtile pnmcut pnmdepth pnmenlarge pnmflip
 

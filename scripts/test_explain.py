@@ -449,6 +449,19 @@ class Program(unittest.TestCase):
         done = run(["sh", "-c", f"exec {EXPLAIN} pnminvert < /"])
         self.assertEqual((done.returncode, b"is a directory" in done.stderr), (1, True))
 
+    def test_many_files(self):
+        if not OPTIONS.program:
+            self.skipTest("there is no program")
+        with tempfile.TemporaryDirectory() as folder:
+            for name, data in [("a b.pgm", GRAY), ("cut.pgm", GRAY[:-1]), ("odd\\name.pgm", COLOR)]:
+                with open(f"{folder}/{name}", "wb") as file:
+                    file.write(data)
+            words = [f"{SCRIPTS}/pnmpipe-files", "pamcut -left 1", "out", *sorted(os.listdir(folder))]
+            done = run(words, cwd=folder, env={**os.environ, "PNMPIPE": OPTIONS.program})
+        self.assertIn(b"cut.pgm: pnmpipe: input: RasterCut\ncut.pgm: Image 1, PGM of 2 by 1", done.stderr)
+        self.assertIn(b"odd\\name.pgm: Stage 1, pamcut -left 1: image 1 of the stream", done.stderr)
+        self.assertNotIn(b"a b.pgm", done.stderr)
+
     def test_page(self):
         with open(f"{ROOT}/man/pnmpipe-explain.1", encoding="utf-8") as file:
             blocks = re.findall(r"^\.Bd -\w+ .*\n((?:[^.].*\n|\n)*)\.Ed", file.read(), re.M)
