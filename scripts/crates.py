@@ -61,7 +61,7 @@ def read_crates():
 def copy_lines(crates, folder):
     """Writes a crates.txt for a copy that has these crates alone: rt wants a folder of each crate that a line names."""
     with open(os.path.join(ROOT, "crates.txt"), encoding="utf-8") as file:
-        lines = [line for line in file if line.partition(":")[0].strip() in crates]
+        lines = [line for line in file if line.partition(":")[0].split()[:1] in [[name] for name in crates]]
     with open(os.path.join(folder, "crates.txt"), "w", encoding="utf-8") as file:
         file.writelines(lines)
 

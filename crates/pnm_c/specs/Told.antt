@@ -1,0 +1,21 @@
+-- What C is told.
+use Rattle.std.specs.Prelude.{◌≡◌, ℕ, List}
+use Rattle.pnm_memory.specs.declared.answer.Answer.{Answer}
+use Rattle.pnm_memory.specs.declared.run.Made.{Made}
+use Rattle.pnm_memory.specs.Answers.{IsChecked, IsMade}
+use Rattle.pnm_c.specs.declared.bytes.Bytes.{Bytes}
+use Rattle.pnm_c.specs.HandedOut.{IsHandedOut}
+
+-- the code and the stage are those that are told of the chain's text
+pub record IsCodeOf (chain : List ℕ) (code stage : ℕ) : Type 0 where
+  pub told : Answer
+  pub checked : IsChecked chain told
+  pub code_is : code ≡ told.code
+  pub stage_is : stage ≡ told.number
+
+-- the results and the answer are those of a call, and the block of the results was given away
+pub record IsToldNew (chain : List ℕ) (number : ℕ) (input : List ℕ) (bytes : Bytes) (told : Answer) : Type 0 where
+  pub made : Made
+  pub is_made : IsMade chain number input made
+  pub handed : IsHandedOut made.results bytes
+  pub told_is : told ≡ made.answer

@@ -1,0 +1,55 @@
+//! The functions that C calls.
+
+ghost use Rattle.std.specs.Prelude.{◌≡◌};
+ghost use Rattle.pnm_memory.specs.Answers.{IsTold};
+ghost use Rattle.pnm_c.specs.Told.{IsCodeOf, IsToldNew};
+
+use crate::bytes::{Bytes, hand_out};
+use pnm_memory::{Answer, check, run_into, run_new};
+use std::alloc::Global;
+
+/// Looks at the text of a chain.
+#[unsafe(no_mangle)]
+pub extern "C" fn pnm_c_check(alloc: Global, chain: &[u8], stage: &mut usize) -> u32
+    ensures { IsCodeOf chain.now result stage.new }
+{
+    let answer = check(alloc, chain);
+    *stage = answer.number;
+    answer.code
+}
+
+/// Passes the images of the input through the tools of the chain, and puts the results into the front of the room.
+#[unsafe(no_mangle)]
+pub extern "C" fn pnm_c_run(
+    alloc: Global,
+    chain: &[u8],
+    form: u32,
+    input: &[u8],
+    room: &mut [u8],
+    answer: &mut Answer,
+) -> u32
+    ensures code { result ≡ answer.new.code }
+    ensures told { IsTold chain.now form input.now room.old room.new answer.new }
+{
+    *answer = run_into(alloc, chain, form, input, room);
+    answer.code
+}
+
+/// The same, with the results in a block that C frees.
+#[unsafe(no_mangle)]
+pub extern "C" fn pnm_c_run_new(
+    alloc: Global,
+    chain: &[u8],
+    form: u32,
+    input: &[u8],
+    results: &mut Bytes,
+    answer: &mut Answer,
+) -> u32
+    ensures code { result ≡ answer.new.code }
+    ensures told { IsToldNew chain.now form input.now results.new answer.new }
+{
+    let made = run_new(alloc, chain, form, input);
+    *answer = made.answer;
+    *results = hand_out(made.results);
+    answer.code
+}

@@ -1,0 +1,74 @@
+-- A run over a reader that gives a text and never fails, and a writer that began empty, converts that text.
+use Rattle.std.proofs.Common.{◌≡◌, ◌⊎◌, ℕ, List, [], subst, inl, inr, arith, refl}
+use Rattle.std.specs.Prelude.{Some, Result, Ok, Err, IfOk, IfErr}
+use Rattle.pnm_image.specs.Devices.{Failed}
+use Rattle.pnm_read.specs.declared.fault.InputFault.{InputFault}
+use Rattle.pnm_read.specs.declared.fault.InputFault.TheVariants.{ReadFailed}
+use Rattle.pnm_serial.specs.Jobs.{Job}
+use Rattle.pnm_serial.specs.Runs.{Change, HasRunInOneThread, IsPrefixOfBytesDue, IsOfOneThread, IfInput, EndedWell}
+use Rattle.pnm_serial.specs.Runs.{OutlastsRun as OutlastsReader}
+use Rattle.pnm_serial.specs.Verdicts.{AnswersVerdict, IsVerdict}
+use Rattle.pnm_serial.specs.declared.fault.RunFault.{RunFault}
+use Rattle.pnm_serial.specs.declared.fault.RunFault.TheVariants.{NoStart, Input, Tool as OfTool, Output, PeerGone}
+use Rattle.pnm_serial.specs.declared.summary.Summary.{Summary}
+use Rattle.pnm_memory.specs.Conversions.{HasConverted, IsConversion, IsWantOfMemory, OutlastsRun}
+
+-- a reader that counts no failure hasn't failed
+never_failed : (old new : ℕ) → old ≡ 0 → new ≡ 0 → Failed old new → ⊥
+never_failed old new is_none is_none_yet (inl more, most) = absurd (omega arith)
+never_failed old new is_none is_none_yet (inr all, most) = absurd (omega arith)
+
+ends_well : (text written : List ℕ) (job : Job) (answer : Result Summary RunFault)
+    → IfOk answer (EndedWell text job (Some []) (Some written)) → IfOk answer (IsConversion text job written)
+ends_well text written job (Ok summary) ended = record {
+  images = ended.images;
+  results = ended.results;
+  spelled = ended.spelled;
+  made = ended.output.made;
+  fit = ended.output.fit;
+  encoded = ended.output.written;
+  counts = ended.counts;
+}
+ends_well text written job (Err fault) ended = tt
+
+-- the reader's own fault is that more is said of its text than a run takes
+of_reader : (text : List ℕ) (reader : Change) (fault : InputFault) → reader.old ≡ Some text → reader.failures_old ≡ 0
+    → reader.failures_new ≡ 0 → fault ≡ ReadFailed
+    → (Failed reader.failures_old reader.failures_new ⊎ OutlastsReader reader.old reader.new)
+    → OutlastsRun text (Input fault)
+of_reader text reader fault is_text is_none is_none_yet is_read (inl failed) =
+    absurd (never_failed _ _ is_none is_none_yet failed)
+of_reader text reader fault is_text is_none is_none_yet is_read (inr outlasts) =
+    (rw is_read refl, outlasts.of_text text is_text)
+
+has_fault : (text : List ℕ) (job : Job) (answer : Result Summary RunFault) (reader : Change) → reader.old ≡ Some text
+    → reader.failures_old ≡ 0 → reader.failures_new ≡ 0 → AnswersVerdict text job answer → IsOfOneThread answer
+    → IfInput answer (λ fault. fault ≡ ReadFailed → Failed reader.failures_old reader.failures_new
+    ⊎ OutlastsReader reader.old reader.new)
+    → IfErr answer (λ fault. IsVerdict text job (Some fault) ⊎ IsWantOfMemory fault ⊎ OutlastsRun text fault)
+has_fault text job (Ok summary) reader is_text is_none is_none_yet verdict one read = tt
+has_fault text job (Err NoStart) reader is_text is_none is_none_yet verdict one read = absurd one
+has_fault text job (Err (Input fault)) reader is_text is_none is_none_yet (inl (inl is_read)) one read =
+    inr (inr (of_reader text reader fault is_text is_none is_none_yet is_read (read is_read)))
+has_fault text job (Err (Input fault)) reader is_text is_none is_none_yet (inl (inr is_memory)) one read =
+    inr (inl is_memory)
+has_fault text job (Err (Input fault)) reader is_text is_none is_none_yet (inr verdict) one read = inl verdict
+has_fault text job (Err (OfTool number fault)) reader is_text is_none is_none_yet (inl outside) one read =
+    inr (inl outside)
+has_fault text job (Err (OfTool number fault)) reader is_text is_none is_none_yet (inr verdict) one read = inl verdict
+has_fault text job (Err (Output fault)) reader is_text is_none is_none_yet (inl outside) one read = inr (inl outside)
+has_fault text job (Err (Output fault)) reader is_text is_none is_none_yet (inr verdict) one read = inl verdict
+has_fault text job (Err (PeerGone number)) reader is_text is_none is_none_yet verdict one read = absurd one
+
+pub converted : (text written : List ℕ) (job : Job) (answer : Result Summary RunFault) (unread : Type 0)
+    (reader writer : Change) → HasRunInOneThread job answer unread reader writer → reader.old ≡ Some text
+    → reader.failures_old ≡ 0 → reader.failures_new ≡ 0 → writer.old ≡ Some [] → writer.new ≡ Some written
+    → HasConverted text job answer written
+converted text written job answer unread reader writer ran is_text is_none is_none_yet is_empty is_written = record {
+  well = ends_well text written job answer (rw (← is_empty) (rw (← is_written) (ran.run.well text is_text)));
+  fault = has_fault text job answer reader is_text is_none is_none_yet (ran.run.verdict text is_text) ran.one_thread
+      ran.run.read_failed;
+  prefix = subst (λ old. IsPrefixOfBytesDue text job old (Some written)) is_empty
+      (subst (λ new. IsPrefixOfBytesDue text job writer.old new) is_written (ran.run.prefix text is_text));
+  one_thread = ran.one_thread;
+}

@@ -1,0 +1,79 @@
+//! What a caller is told of a call.
+
+ghost use Rattle.std.specs.Prelude.{◌≡◌};
+ghost use Rattle.pnm_serial.specs.Runs.{IsOfOneThread};
+ghost use Rattle.pnm_memory.specs.Answers.{refusal, run_answer, without_room as told_without_room};
+
+use crate::codes::{ROOM, WELL, run_code, run_number};
+use pnm_flow::{RunFault, Summary};
+
+/// What came of a call, laid out as C lays it out.
+#[repr(C)]
+#[derive(Clone, Copy)]
+pub struct Answer {
+    /// 0, or what went wrong.
+    pub code: u32,
+    /// 0.
+    pub reserved: u32,
+    /// The stage of the chain's text or the tool that is at fault, from 1, or 0.
+    pub number: usize,
+    /// Whole images that were written.
+    pub images: u64,
+    /// Rows that were written.
+    pub rows: u64,
+    /// Bytes of results, also where the room is too small for them.
+    pub size: usize,
+    /// 0.
+    pub reserved_1: u64,
+    /// 0.
+    pub reserved_2: u64,
+}
+
+/// Nothing was run.
+pub(crate) fn refused(code: u32, number: usize) -> Answer
+    ensures { result ≡ refusal code number }
+{
+    Answer {
+        code,
+        reserved: 0,
+        number,
+        images: 0,
+        rows: 0,
+        size: 0,
+        reserved_1: 0,
+        reserved_2: 0,
+    }
+}
+
+/// A run wrote so many bytes.
+pub(crate) fn answer_of(answer: Result<Summary, RunFault>, size: usize) -> Answer
+    requires { IsOfOneThread answer }
+    ensures { result ≡ run_answer answer size }
+{
+    match answer {
+        Ok(summary) => Answer {
+            images: summary.images,
+            rows: summary.rows,
+            size,
+            ..refused(WELL, 0)
+        },
+        Err(fault) => Answer {
+            size,
+            ..refused(run_code(fault), run_number(fault))
+        },
+    }
+}
+
+/// The room was too small for what a run wrote. Any other fault is told before that.
+pub(crate) fn without_room(answer: Answer) -> Answer
+    ensures { result ≡ told_without_room answer }
+{
+    if answer.code == WELL {
+        Answer {
+            code: ROOM,
+            ..answer
+        }
+    } else {
+        answer
+    }
+}

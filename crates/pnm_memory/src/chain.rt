@@ -1,0 +1,37 @@
+//! The text of a chain, as bytes that may be no text.
+
+ghost use Rattle.std.specs.Prelude.{◌≡◌, IfOk, IfErr};
+ghost use Rattle.pnm_tools.specs.Chains.{IsChain};
+ghost use Rattle.pnm_chain.specs.ChainText.{SpellsChain};
+ghost use Rattle.pnm_memory.specs.Answers.{IsChecked, IsRefusedChain};
+
+use crate::answer::{Answer, refused};
+use crate::codes::{BAD_TEXT, WELL, chain_code};
+use pnm_chain::parse_chain;
+use pnm_tools::Tool;
+use std::alloc::Global;
+
+/// Looks at the text of a chain.
+pub fn check(alloc: Global, chain: &[u8]) -> Answer
+    ensures { IsChecked chain.now result }
+{
+    match read_chain(alloc, chain) {
+        Ok(_) => refused(WELL, 0),
+        Err(answer) => answer,
+    }
+}
+
+/// The tools of a chain, or what is told of its text.
+pub(crate) fn read_chain(alloc: Global, chain: &[u8]) -> Result<Vec<Tool>, Answer>
+    ensures lawful { IfOk result (λ tools. IsChain tools.items) }
+    ensures spelled { IfOk result (λ tools. SpellsChain chain.now tools.items) }
+    ensures refused { IfErr result (λ told. IsRefusedChain chain.now told) }
+{
+    let Ok(text) = str::from_utf8(chain) else {
+        return Err(refused(BAD_TEXT, 0));
+    };
+    match parse_chain(alloc, text) {
+        Ok(tools) => Ok(tools),
+        Err(fault) => Err(refused(chain_code(fault.kind), fault.stage)),
+    }
+}

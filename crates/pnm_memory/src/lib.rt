@@ -1,0 +1,16 @@
+//! Runs over images in memory: the input is a slice, and what is written goes into a vector or into the caller's room.
+//! What comes of a run is told by numbers that stay, so that programs in other languages can read it.
+#![tactic(auto)]
+
+mod answer;
+mod chain;
+mod codes;
+mod conversion;
+mod devices;
+mod run;
+
+pub use answer::Answer;
+pub use chain::check;
+pub use conversion::{Converted, convert};
+pub use devices::{TextReader, VecWriter};
+pub use run::{Made, run_into, run_new};

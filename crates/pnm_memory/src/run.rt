@@ -1,0 +1,102 @@
+//! Calls that are told what to do by a chain's text and a form's number.
+
+ghost use Rattle.std.specs.Prelude.{◌≡◌, []};
+ghost use Rattle.pnm_tools.specs.Chains.{IsChain};
+ghost use Rattle.pnm_memory.specs.Answers.{HasRunInto, HasMade, IsPut, IsTold, IsMade};
+ghost use Rattle.pnm_memory.specs.Answers.{form_of as form_numbered};
+
+use crate::answer::{Answer, answer_of, refused, without_room};
+use crate::chain::read_chain;
+use crate::codes::BAD_FORM;
+use crate::conversion::convert;
+use pnm_image::Form;
+use pnm_tools::Tool;
+use std::alloc::Global;
+
+/// Results in memory of their own, and what is told of them.
+#[derive(Drop)]
+pub struct Made {
+    /// What was written, also before a fault.
+    pub results: Vec<u8>,
+    /// What is told.
+    pub answer: Answer,
+}
+
+/// Passes the images of the input through the tools of the chain, and puts the results into the front of the room. One
+/// that is too small for them is left as it was.
+pub fn run_into(alloc: Global, chain: &[u8], form: u32, input: &[u8], room: &mut [u8]) -> Answer
+    ensures { IsTold chain.now form input.now room.old room.new result }
+{
+    let Some(form) = form_of(form) else {
+        return refused(BAD_FORM, 0);
+    };
+    match read_chain(alloc, chain) {
+        Ok(tools) => convert_into(alloc, tools.as_slice(), form, input, room),
+        Err(answer) => answer,
+    }
+}
+
+fn convert_into(alloc: Global, tools: &[Tool], form: Form, input: &[u8], room: &mut [u8]) -> Answer
+    requires { IsChain tools.now }
+    ensures { HasRunInto tools.now form input.now room.old room.new result }
+{
+    let made = convert(alloc, tools, form, input);
+    let answer = answer_of(made.answer, made.written.len());
+    let fits = put(room, made.written.as_slice());
+    if fits { answer } else { without_room(answer) }
+}
+
+/// Puts the bytes into the front of the room, where there are no more than it holds.
+fn put(room: &mut [u8], bytes: &[u8]) -> bool
+    ensures { IsPut bytes.now room.old room.new result }
+{
+    if bytes.len() > room.len() {
+        return false;
+    }
+    room[..bytes.len()].copy_from_slice(bytes);
+    true
+}
+
+/// The same, with the results in memory of their own.
+pub fn run_new(alloc: Global, chain: &[u8], form: u32, input: &[u8]) -> Made
+    ensures { IsMade chain.now form input.now result }
+{
+    let Some(form) = form_of(form) else {
+        return nothing(alloc, refused(BAD_FORM, 0));
+    };
+    match read_chain(alloc, chain) {
+        Ok(tools) => convert_new(alloc, tools.as_slice(), form, input),
+        Err(answer) => nothing(alloc, answer),
+    }
+}
+
+fn convert_new(alloc: Global, tools: &[Tool], form: Form, input: &[u8]) -> Made
+    requires { IsChain tools.now }
+    ensures { HasMade tools.now form input.now result }
+{
+    let made = convert(alloc, tools, form, input);
+    Made {
+        answer: answer_of(made.answer, made.written.len()),
+        results: made.written,
+    }
+}
+
+fn nothing(alloc: Global, answer: Answer) -> Made
+    ensures results { result.results.items ≡ [] }
+    ensures answer { result.answer ≡ answer }
+{
+    Made {
+        results: Vec::new(alloc),
+        answer,
+    }
+}
+
+fn form_of(number: u32) -> Option<Form>
+    ensures { result ≡ form_numbered number }
+{
+    match number {
+        0 => Some(Form::Raw),
+        1 => Some(Form::Plain),
+        _ => None,
+    }
+}
