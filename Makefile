@@ -6,8 +6,8 @@ TESTED := pnm_image_tests pnm_flow_tests
 # programs that tell what comes of written cases
 CASES := pnm_format_cases pnm_tools_cases pnm_flow_cases
 
-.PHONY: all bench bench-files bench-sweep built check controls deb dist gate help install lanes long-stream near pass
-.PHONY: pictures recipes refused scripts soak test toolchain uninstall
+.PHONY: all bench bench-files bench-sweep built check controls deb dist gate help install lanes library long-stream near
+.PHONY: pass pictures recipes refused scripts soak test toolchain uninstall
 
 # where `make install` puts things, below DESTDIR
 PREFIX ?= /usr/local
@@ -35,6 +35,11 @@ SECONDS ?= 60
 all: toolchain
 	python3 scripts/build.py
 
+# the crates that the C library stands on, over what make has proved of them, and the library, as bin/libpnmpipe.a,
+# bin/libpnmpipe.so.1 and bin/pnmpipe.h
+library: toolchain
+	python3 scripts/build.py library
+
 # crates that were changed, CRATES="..": in minutes, over what earlier checks kept; and from nothing, as the gate judges them
 near pass: toolchain
 	python3 scripts/change.py $@ $(CRATES)
@@ -45,8 +50,8 @@ check: toolchain
 	tail -n 1 bin/gate
 
 # one check a processor, each of at most 4 GB; then each allocation and each start of a thread is refused in turn, of the
-# program and the tests that the gate has left, the program's input is silent, its stack is small, and the scripts, pages and
-# documents are checked
+# program and the tests that the gate has left, the program's input is silent, its stack is small, programs in C call the
+# library, and the scripts, pages and documents are checked
 gate:
 	mkdir -p bin
 	rm -f bin/gate-failed
@@ -56,6 +61,7 @@ gate:
 	python3 scripts/idle.py --program $(PROGRAM)/out/pnmpipe
 	python3 scripts/waits.py --program $(PROGRAM)/out/pnmpipe
 	python3 scripts/room.py --program $(PROGRAM)/out/pnmpipe
+	python3 scripts/test_library.py
 	$(MAKE) --no-print-directory scripts BUILT=$(PROGRAM)/out/pnmpipe
 	python3 scripts/cases.py
 
@@ -73,6 +79,7 @@ scripts:
 	python3 scripts/test_pages.py --program $(BUILT)
 	python3 scripts/test_explain.py --program $(BUILT)
 	python3 scripts/test_build.py
+	python3 scripts/test_library.py --header
 	python3 scripts/pictures.py --check --program $(BUILT)
 
 built:
@@ -159,10 +166,11 @@ toolchain:
 
 help:
 	@echo "make                 proves the crates that the program stands on, builds it and leaves it as bin/pnmpipe"
+	@echo "make library         proves the crates that the C library stands on, builds it and leaves it as bin/libpnmpipe.a and bin/libpnmpipe.so.1, with bin/pnmpipe.h"
 	@echo "make near CRATES=..  tries changed crates in minutes: layout, proof, edits that must fail, tests as they stand, and the crates above"
 	@echo "make pass CRATES=..  proves changed crates, their tests and edits from nothing, as the gate does, with what they stand on"
 	@echo "make test            the tests alone, without their proofs"
-	@echo "make check           the whole gate: every proof, the edits that must fail, the tests, the stored runs and commands, refused allocations, silent inputs, small stacks, scripts and pages"
+	@echo "make check           the whole gate: every proof, the edits that must fail, the tests, the stored runs and commands, refused allocations, silent inputs, small stacks, the C library, scripts and pages"
 	@echo "make bench           times the program that make has left beside Netpbm's own tools, on large images, narrow rows and small images, and writes docs/figures.tsv"
 	@echo "make bench-sweep     all tools by kinds of images and by options, and which take more processor time than Netpbm's"
 	@echo "make bench-files     times many small files in each way, beside Netpbm's own tools"

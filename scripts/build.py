@@ -1,5 +1,6 @@
 #!/usr/bin/env python3
-"""Proves the crates that the program stands on, and no more, and builds it as bin/pnmpipe.
+"""Proves the crates that the program stands on, and no more, and builds it as bin/pnmpipe; or, as `build.py library`,
+those that the C library stands on, and builds that as bin/libpnmpipe.a and bin/libpnmpipe.so.1, with its header.
 
 Each crate is checked from nothing by `rattle build`, over the statements of the crates below it, as the gate checks it:
 the proofs of libraries aren't loaded, as `rt check` loads them to begin with what it kept. Crates that don't stand on
@@ -18,9 +19,12 @@ import subprocess
 import sys
 import time
 
+import library
 from crates import ROOT, SOURCES, Ended, below, end_by_signals, read_crates, read_lines
 
 PROGRAM = "pnmpipe"
+# the static library that the C library is made of
+LIBRARY = "pnm_c"
 PROVED = os.path.join(ROOT, "bin/proved")
 TOLD = "from nothing 9 minutes on 4 cores with nothing beside, 16 on 2, by the machine"
 
@@ -76,6 +80,11 @@ def proved(file):
     return os.path.join(PROVED, file)
 
 
+def made_of(name):
+    """What is left of a crate that is proved: the program, the static library, or what crates above it read."""
+    return proved({PROGRAM: PROGRAM, LIBRARY: f"lib{LIBRARY}.a"}.get(name, f"{name}.rlib"))
+
+
 def text_of(path):
     with contextlib.suppress(OSError), open(path, encoding="utf-8") as file:
         return file.read()
@@ -119,7 +128,7 @@ class Toolchain:
         return made.hexdigest()
 
     def build(self, name, jobs):
-        """Checks the crate and writes its statements, or the program's object file."""
+        """Checks the crate and writes its statements, the program's object file, or the static library."""
         is_program = name == PROGRAM
         words = [self.path("bin/rattle"), "build", "--crate-name", name]
         words += ["src/main.rt" if is_program else "src/lib.rt"]
@@ -132,7 +141,10 @@ class Toolchain:
         words += ["--logic-built", self.path("logic_built"), "--jobs", str(jobs), "--links", f"{name}="]
         if is_program:
             return [*words, "--toolchain", self.path("toolchain"), "-o", proved(f"{name}.o")]
-        return [*words, "--statements", "-o", proved(f"{name}.rlib")]
+        if name == LIBRARY:
+            words += ["--crate-type", "staticlib", "--toolchain", self.path("toolchain")]
+            return [*words, "-o", made_of(name)]
+        return [*words, "--statements", "-o", made_of(name)]
 
     def link(self, program):
         """Links the program's object file with what the standard library needs of C."""
@@ -177,12 +189,13 @@ class Run:
 class Build:
     """The crates that are left, and the checks that run."""
 
-    def __init__(self, toolchain, most):
+    def __init__(self, toolchain, most, target=PROGRAM):
         crates = read_crates()
         self.toolchain = toolchain
+        self.target = target
         # how many checks may run at a time
         self.most = most
-        self.crates = {name: below(crates, name) for name in crates if name in below(crates, PROGRAM) | {PROGRAM}}
+        self.crates = {name: below(crates, name) for name in crates if name in below(crates, target) | {target}}
         self.sums = {}
         for name in self.crates:
             self.sums[name] = toolchain.sum(name, self.sums)
@@ -200,8 +213,7 @@ class Build:
 
     def is_proved(self, name):
         """Whether what an earlier call made of the crate is there, and still the same would be made."""
-        made = proved(name if name == PROGRAM else f"{name}.rlib")
-        return os.path.exists(made) and text_of(proved(f"{name}.sum")) == self.sums[name]
+        return os.path.exists(made_of(name)) and text_of(proved(f"{name}.sum")) == self.sums[name]
 
     def ready(self):
         """What can be checked now, first what the longest chain stands on."""
@@ -257,7 +269,7 @@ class Build:
                 file.write(self.sums[name])
 
     def prove(self):
-        """Proves the crates, the program last. Gives the status."""
+        """Proves the crates, the program or the library last. Gives the status."""
         told = time.monotonic()
         while self.left or self.runs:
             self.fill()
@@ -281,6 +293,12 @@ class Build:
         run.child.wait()
         self.runs.remove(run)
         return run
+
+    def finish(self):
+        """Makes of what was built what is left in bin. Gives the status."""
+        if self.target == PROGRAM:
+            return self.link()
+        return library.make(made_of(LIBRARY), os.path.join(ROOT, "bin"), self.toolchain.path("c"))
 
     def link(self):
         """Links the program where it was built anew, and has it pass its stored run. Gives the status."""
@@ -309,29 +327,33 @@ class Build:
             run.stop()
 
 
-def build():
+def build(target):
     start = time.monotonic()
-    this = Build(Toolchain(), max(1, min(processors(), free_memory() // MEMORY_OF_ONE)))
+    this = Build(Toolchain(), max(1, min(processors(), free_memory() // MEMORY_OF_ONE)), target)
     taken = f"; {len(this.done)} were proved before" if this.done else ""
-    say(f"{len(this.crates)} crates, the program among them, on {processors()} processors{taken}")
+    named = "program" if target == PROGRAM else "library"
+    say(f"{len(this.crates)} crates, the {named} among them, on {processors()} processors{taken}")
     if not this.done:
         say(TOLD)
     try:
-        status = this.prove() or this.link()
+        status = this.prove() or this.finish()
     finally:
         this.stop()
     if not status:
         minutes, seconds = divmod(round(time.monotonic() - start), 60)
-        say(f"bin/{PROGRAM} is built: {minutes} min {seconds} s")
+        left = PROGRAM if target == PROGRAM else library.SHARED
+        say(f"bin/{left} is built: {minutes} min {seconds} s")
     return status
 
 
 def main():
+    if sys.argv[1:] not in ([], ["library"]):
+        sys.exit("build: say nothing, or library")
     end_by_signals()
     os.makedirs(os.path.join(ROOT, "bin/log"), exist_ok=True)
     try:
         with alone():
-            return build()
+            return build(LIBRARY if sys.argv[1:] else PROGRAM)
     except Ended as ended:
         say("ended by a signal; a next call goes on with what is proved")
         return 128 + ended.args[0]

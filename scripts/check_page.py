@@ -180,7 +180,7 @@ def faults_of_lint():
     if shutil.which("mandoc") is None:
         print("check_page: mandoc isn't installed, so the pages' form isn't looked at")
         return []
-    pages = sorted(glob.glob(os.path.join(ROOT, "man/*.1")))
+    pages = sorted(glob.glob(os.path.join(ROOT, "man/*.[13]")))
     lint = subprocess.run(["mandoc", "-Tlint", "-Wall", *pages], capture_output=True, text=True, check=False)
     return [line for line in (lint.stdout + lint.stderr).splitlines() if FINDING.search(line)]
 

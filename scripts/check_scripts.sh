@@ -28,7 +28,7 @@ for shell in zsh fish; do
 done
 # shellcheck disable=SC2086
 awk 'length > 120 { print FILENAME ": line " FNR " has " length " columns"; found = 1 } END { exit found }' \
-    $pythons $shells $bashes completions/* scripts/*.c || failed=1
+    $pythons $shells $bashes completions/* scripts/*.c library/*.[ch] library/*/*.c* || failed=1
 if command -v shellcheck > /dev/null; then
     # shellcheck disable=SC2086
     shellcheck -s sh $shells || failed=1

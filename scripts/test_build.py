@@ -25,6 +25,7 @@ right: low
 longest: left
 top: longest right
 pnmpipe: top right clap
+pnm_c staticlib: right
 shared_by_tests: low
 top_tests: top shared_by_tests
 right_tests: right
@@ -96,6 +97,18 @@ else:
         code.write("#!/bin/sh\ntr a-z A-Z\n")
 '''
 
+# what makes the C library of the static one, as far as it has to leave a file
+TOOL = r'''#!/bin/sh
+tool=${0##*/}
+echo "$tool" >> "$NOTES"
+[ "$FAULT" != "$tool" ] || exit 1
+case $tool in
+    ar) echo archive > "$2" ;;
+    cc | ld) while [ "$1" != -o ]; do shift; done && echo "$tool" > "$2" ;;
+esac
+'''
+TOOLS = ("cc", "ld", "objcopy", "ar", "strip")
+
 LINK = r'''#!/bin/sh
 [ "$FAULT" != link ] || exit 1
 while [ "$1" != -o ]; do shift; done
@@ -108,13 +121,13 @@ class Repository(unittest.TestCase):
         self.folder = os.path.realpath(tempfile.mkdtemp())
         self.addCleanup(shutil.rmtree, self.folder)
         self.root = self.path("root")
-        for file in ("build.py", "change.py", "crates.py"):
+        for file in ("build.py", "change.py", "crates.py", "library.py"):
             os.makedirs(self.path("root/scripts"), exist_ok=True)
             shutil.copy(os.path.join(SCRIPTS, file), self.path("root/scripts"))
         self.write("root/crates.txt", CRATES)
         self.write("root/HANDLES", "Handles allowed: none.\n")
         for line in CRATES.splitlines():
-            name = line.partition(":")[0]
+            name = line.partition(":")[0].split()[0]
             # (the lines say which chain is the longest)
             file = "main" if name in ("pnmpipe", "right_cases") else "lib"
             self.write(f"root/crates/{name}/src/{file}.rt", "#[test]\n" * (9 if name.endswith("_tests") else 2))
@@ -122,7 +135,11 @@ class Repository(unittest.TestCase):
         for name in ("pnmpipe", "right_cases"):
             self.write(f"root/crates/{name}/stdin", "given")
             self.write(f"root/crates/{name}/stdout", "GIVEN")
-        for file, text in (("bin/rt", RT), ("kit/bin/rattle", RATTLE), ("kit/bin/rattle-link", LINK)):
+        for file in ("pnmpipe.c", "pnmpipe.h", "pnmpipe.map"):
+            self.write(f"root/library/{file}", "    pnmpipe_run;\n")
+        self.write("root/VERSION", "1.2.3\n")
+        tools = [(f"bin/{tool}", TOOL) for tool in TOOLS]
+        for file, text in (("bin/rt", RT), ("kit/bin/rattle", RATTLE), ("kit/bin/rattle-link", LINK), *tools):
             self.write(file, text)
             os.chmod(self.path(file), 0o755)
         for library in ("std", "thiserror", "clap"):
@@ -267,6 +284,23 @@ class Building(Repository):
         low = [name for name in build.read_crates() if name not in last]
         self.assertEqual(self.begun(low), [("pnm_flow", 3), ("pnm_command_line", 1)])
 
+    def test_the_library_is_proved_over_what_the_program_left(self):
+        self.assertEqual(self.run_script("build.py", RT_JOBS="2")[0], 0)
+        self.notes()
+        status, printed = self.run_script("build.py", "library", RT_JOBS="2")
+        self.assertEqual(status, 0, printed)
+        self.assertEqual(self.notes(), ["pnm_c over std right, 2 jobs", "cc", "ld", "objcopy", "ar", "cc", "strip"])
+        self.assertIn("bin/libpnmpipe.so.1 is built", printed)
+        left = set(os.listdir(self.path("root/bin")))
+        self.assertLess({"libpnmpipe.a", "libpnmpipe.so.1", "pnmpipe.h", "pnmpipe"}, left)
+        self.assertEqual(self.run_script("build.py", "library", RT_JOBS="2")[0], 0)
+        self.assertNotIn("pnm_c", self.proved())
+        for fault in ("ld", "strip", "pnm_c"):
+            self.write("root/crates/pnm_c/src/lib.rt", fault)
+            self.assertEqual(self.run_script("build.py", "library", RT_JOBS="2", FAULT=fault)[0], 1, fault)
+        self.assertEqual(set(os.listdir(self.path("root/bin"))), left)
+        self.assertEqual(self.run_script("build.py", "lib")[0], 1)
+
     def test_one_processor_proves_one_at_a_time(self):
         status, printed = self.run_script("build.py", RT_JOBS="1")
         self.assertEqual(status, 0, printed)
@@ -310,7 +344,7 @@ class Changing(Repository):
         calls = ["fmt (right)", "fmt (longest)", "check (right)", "check (longest)", "must-fail right longest"]
         calls += ["try --test --seconds 600 (right_tests)", "try --test --seconds 600 (longest)"]
         calls += ["run (right_cases)", "proves low in the checkout", "proves right in the checkout"]
-        calls += [f"check ({name})" for name in ("right_tests", "right_cases", "top", "pnmpipe", "top_tests")]
+        calls += [f"check ({name})" for name in ("right_tests", "right_cases", "top", "pnmpipe", "pnm_c", "top_tests")]
         self.assertCountEqual(self.notes(), calls)
 
     def test_near_runs_the_programs_that_name_a_crate_without_tests_of_its_name(self):
