@@ -53,7 +53,7 @@ def fault_names():
     names = set()
     for path in sources():
         names.update(re.findall(r'#\[error\("(\w+)"\)\]', read(path)))
-    own = re.findall(r'"pnmpipe: [^"]*?(\w+)"', read("crates/pnm_command_line/src/fault_line.rt"))
+    own = re.findall(r'"([A-Z]\w+)"', read("crates/pnm_command_line/src/fault_line.rt"))
     return names | set(own)
 
 

@@ -1,6 +1,6 @@
 #!/usr/bin/env python3
 """Runs the stored commands of crates/pnmpipe/commands with the built program, and compares what it writes and prints to
-the byte, its status, and whether its input was read.
+the byte, its status, and whether its input was read. A line has to come in one write.
 
 A file there has groups of lines, parted by empty ones. `$` and words, as a shell reads them and the first of them the
 program's own name, is a command. What stands before a group's first command holds for each of them, and what is
@@ -27,6 +27,7 @@ import re
 import resource
 import shlex
 import signal
+import socket
 import subprocess
 import sys
 import tempfile
@@ -72,10 +73,10 @@ class Command(typing.NamedTuple):
 
 
 class Answer(typing.NamedTuple):
-    """What a run wrote and printed, how it ended, and how much of its input it left."""
+    """What a run wrote, and what it printed, write by write; how it ended, and how much of its input it read."""
 
     written: bytes
-    printed: bytes
+    printed: list
     status: int
     read: int
 
@@ -141,37 +142,46 @@ def limited(room):
     return limit
 
 
+def writes_to(end):
+    """What came to this end of a socket that keeps each write apart."""
+    return list(iter(lambda: end.recv(65536), b""))
+
+
 def answered(program, command):
-    """Runs the command. Its devices are files, of which is known how far each came."""
+    """Runs the command. Its input is a file, of which is known how far it was read."""
     rooms = (command.room, command.printed_room)
     if None not in rooms:
         sys.exit(f"test_commands: {command.place}: one limit holds for both")
     room = next((it for it in rooms if it is not None), None)
-    with tempfile.TemporaryFile() as given, tempfile.TemporaryFile() as limited_file:
+    here, there = socket.socketpair(socket.AF_UNIX, socket.SOCK_SEQPACKET)
+    with here, there, tempfile.TemporaryFile() as given, tempfile.TemporaryFile() as limited_file:
         given.write(command.given)
         given.flush()
         given.seek(0)
-        # (the limit holds for files, and not for pipes)
-        outputs = [subprocess.PIPE if it is None else limited_file for it in rooms]
+        # (the limit holds for files, and neither for pipes nor for sockets)
         ran = subprocess.run(
             command.words,
             executable=program,
             stdin=given,
-            stdout=outputs[0],
-            stderr=outputs[1],
+            stdout=subprocess.PIPE if command.room is None else limited_file,
+            stderr=there if command.printed_room is None else limited_file,
             timeout=LONGEST,
             preexec_fn=None if room is None else limited(room),
         )
+        there.close()
         limited_file.seek(0)
-        written, printed = (limited_file.read() if it is None else it for it in (ran.stdout, ran.stderr))
+        limited_text = limited_file.read()
+        written = ran.stdout if command.room is None else limited_text
+        printed = writes_to(here) if command.printed_room is None else [limited_text] if limited_text else []
         return Answer(written, printed, ran.returncode, os.lseek(given.fileno(), 0, os.SEEK_CUR))
 
 
 def differences(command, answer):
     """Each difference between what is wanted and what came."""
+    line = command.printed[: command.printed_room]
     wanted = [
         ("written", command.written[: command.room], answer.written),
-        ("printed", command.printed[: command.printed_room], answer.printed),
+        ("printed", [line] if line else [], answer.printed),
         ("status", command.status, answer.status),
     ]
     if command.is_unread:

@@ -1,11 +1,15 @@
 //! The lines that are printed for faults.
 
 use crate::command_line::USAGE;
+use arrayvec::ArrayString;
 use itoa::Buffer;
 use pnm_chain::ChainFault;
 use pnm_serial::RunFault;
-use std::fmt::Display;
+use std::fmt::{Display, Write as _};
 use std::io::Write;
+
+/// The room for a line. The longest, of usage, has 63 bytes.
+const LINE_ROOM: usize = 128;
 
 /// Prints the usage line, for words that are no command line. Where it can't be written it is left out.
 pub fn print_usage<E: Write>(errors: &mut E) {
@@ -41,7 +45,7 @@ pub fn print_run_fault<E: Write>(errors: &mut E, fault: RunFault) {
 
 /// Prints a line about a place's fault.
 fn print_fault<E: Write, F: Display>(errors: &mut E, place: &str, fault: &F) {
-    let _ = writeln!(errors, "pnmpipe: {place}: {fault}");
+    print_line(errors, format_args!("{place}: {fault}"));
 }
 
 /// Prints a line about the fault of the place with this number.
@@ -53,10 +57,14 @@ fn print_numbered_fault<E: Write, F: Display>(
 ) {
     let mut digits = Buffer::new();
     let number = digits.format(number);
-    let _ = writeln!(errors, "pnmpipe: {place} {number}: {fault}");
+    print_line(errors, format_args!("{place} {number}: {fault}"));
 }
 
-/// Prints a line that is no more than this text.
-fn print_line<E: Write>(errors: &mut E, text: &str) {
-    let _ = writeln!(errors, "pnmpipe: {text}");
+/// Prints a line that is no more than this text, in one write, so that the lines of programs that share standard error
+/// don't mix. The line is put together on the stack, since it tells of want of memory too.
+#[inline(never)]
+fn print_line<E: Write, T: Display + Drop>(errors: &mut E, text: T) {
+    let mut line = ArrayString::<LINE_ROOM>::new();
+    let _ = writeln!(line, "pnmpipe: {text}");
+    let _ = errors.write_all(line.as_str().as_bytes());
 }

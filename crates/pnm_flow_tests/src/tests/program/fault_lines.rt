@@ -2,16 +2,49 @@
 
 use super::super::is_so;
 use pnm_chain::{ChainFault, ChainKind};
-use pnm_command_line::{print_chain_fault, print_run_fault, print_want_of_memory};
+use pnm_command_line::{print_chain_fault, print_run_fault, print_usage, print_want_of_memory};
 use pnm_flow::RunFault;
 use pnm_read::InputFault;
 use pnm_tools::ToolFault;
 use pnm_write::SinkFault;
+use std::alloc::Global;
+use std::io;
+use std::io::{ErrorKind, Write};
 use std::process::Abort;
 
-/// What is printed is this line.
-fn is_line(rt: &impl Abort, printed: &[u8], want: &str) {
-    let is_right = printed == want.as_bytes();
+/// A writer that takes a single write, so that it holds the line where that came in one.
+#[derive(Drop)]
+struct OneWrite {
+    written: Vec<u8>,
+    is_over: bool,
+}
+
+impl OneWrite {
+    fn new(alloc: Global) -> OneWrite {
+        OneWrite {
+            written: Vec::new(alloc),
+            is_over: false,
+        }
+    }
+}
+
+impl Write for OneWrite {
+    fn write(&mut self, bytes: &[u8]) -> io::Result<usize> {
+        if self.is_over {
+            return Err(io::Error::from(ErrorKind::BrokenPipe));
+        }
+        self.is_over = true;
+        self.written.write(bytes)
+    }
+
+    fn flush(&mut self) -> io::Result<()> {
+        Ok(())
+    }
+}
+
+/// What is printed is this line, in one write.
+fn is_line(rt: &impl Abort, errors: &OneWrite, want: &str) {
+    let is_right = errors.written.as_slice() == want.as_bytes();
     is_so(rt, is_right, &want);
 }
 
@@ -39,13 +72,13 @@ const CHAIN_FAULTS: &[(usize, ChainKind, &str)] = &[
 #[test]
 fn names_stages(rt: HostRuntime) {
     for (stage, kind, want) in CHAIN_FAULTS {
-        let mut errors = Vec::new(rt.alloc());
+        let mut errors = OneWrite::new(rt.alloc());
         let fault = ChainFault {
             stage: *stage,
             kind: *kind,
         };
         print_chain_fault(&mut errors, fault);
-        is_line(&rt, errors.as_slice(), want);
+        is_line(&rt, &errors, want);
     }
 }
 
@@ -91,16 +124,25 @@ const FAULTS: &[(RunFault, &str)] = &[
 #[test]
 fn names_tools(rt: HostRuntime) {
     for (fault, want) in FAULTS {
-        let mut errors = Vec::new(rt.alloc());
+        let mut errors = OneWrite::new(rt.alloc());
         print_run_fault(&mut errors, *fault);
-        is_line(&rt, errors.as_slice(), want);
+        is_line(&rt, &errors, want);
     }
 }
 
 /// Want of memory before a chain is known is the command line's.
 #[test]
 fn names_want_of_memory(rt: HostRuntime) {
-    let mut errors = Vec::new(rt.alloc());
+    let mut errors = OneWrite::new(rt.alloc());
     print_want_of_memory(&mut errors);
-    is_line(&rt, errors.as_slice(), "pnmpipe: command line: Memory\n");
+    is_line(&rt, &errors, "pnmpipe: command line: Memory\n");
+}
+
+/// Words that name no run get the usage line, the longest of all.
+#[test]
+fn names_usage(rt: HostRuntime) {
+    let mut errors = OneWrite::new(rt.alloc());
+    print_usage(&mut errors);
+    let want = "pnmpipe: usage: pnmpipe [--ring N] [--lanes K] [--plain] CHAIN\n";
+    is_line(&rt, &errors, want);
 }
