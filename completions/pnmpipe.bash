@@ -75,7 +75,7 @@ _pnmpipe() {
     local current=${COMP_WORDS[COMP_CWORD]} before=${COMP_WORDS[COMP_CWORD - 1]} options=''
     COMPREPLY=()
     case ${COMP_WORDS[0]##*/} in
-        pnmpipe) options='--ring --lanes --plain --help' ;;
+        pnmpipe) options='--ring --lanes --plain --help --version' ;;
         pnmpipe-explain) options='--brief --no-input --ring --lanes --plain --help --version' ;;
         pnmpipe-files)
             options='--jobs --resume --keep-folders --suffix --bar --names --ring --lanes --plain --help --version'

@@ -38,8 +38,6 @@ for name in pnmpipe pnmpipe-explain pnmpipe-files
 end
 for name in pnmpipe pnmpipe-explain pnmpipe-files pnmpipe-split pnmpipe-translate
     complete -c $name -s h -l help -d 'a summary'
-end
-for name in pnmpipe-explain pnmpipe-files pnmpipe-split pnmpipe-translate
     complete -c $name -s V -l version -d 'the version'
 end
 complete -c pnmpipe-explain -l brief -d 'one line'

@@ -64,8 +64,10 @@ def faults_of_page():
         found.append(f"man/pnmpipe.1 has the synopsis {synopsis(page)!r}, the program {usage()!r}")
     if f"pnmpipe: usage: {usage()}" not in page:
         found.append("man/pnmpipe.1 has another usage line among its diagnostics")
-    if f"Version {read('VERSION').strip()}" not in read("crates/pnm_command_line/src/command_line.rt"):
-        found.append("the help text of the program has another version than VERSION")
+    code, version = read("crates/pnm_command_line/src/command_line.rt"), read("VERSION").strip()
+    for constant in (f'VERSION: &str = "{version}";', f'VERSION_LINE: &str = "pnmpipe {version}\\n";'):
+        if constant not in code:
+            found.append(f"command_line.rt has no {constant}, by the file VERSION")
     for path in glob.glob(os.path.join(ROOT, "scripts/pnmpipe-*")):
         if f'VERSION = "{read("VERSION").strip()}"' not in read(path):
             found.append(f"{os.path.basename(path)} has another version than VERSION")

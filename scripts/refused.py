@@ -206,6 +206,8 @@ def commands(program):
     # a stored command says what the text of help is
     text = subprocess.run([program, "--help"], stdin=subprocess.DEVNULL, stdout=subprocess.PIPE, check=True).stdout
     yield Command(["--help"], b"", text, 0)
+    with open(os.path.join(ROOT, "VERSION"), "rb") as version:
+        yield Command(["--version"], b"", b"pnmpipe " + version.read(), 0)
     for lanes in LANES:
         yield from commands_over(lanes)
 

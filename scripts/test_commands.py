@@ -9,6 +9,7 @@ indented below one for that alone:
   given BYTES      its input; none: an empty one
   written BYTES    its whole output; none: nothing
   helped           its output is the text of the file `help`
+  versioned        it is the program's name and the version that the file VERSION has, as a line
   printed LINE     its line on standard error; none: nothing
   status N         none: 0
   unread           nothing of the input is read
@@ -55,7 +56,7 @@ CONSTANT = re.compile(r"pub const (\w+): \w+ = ([0-9_]+);")
 # how long a run may take, in seconds
 LONGEST = 20
 
-KEYS = {"given", "written", "helped", "printed", "status", "unread", "room", "printed-room", "lanes"}
+KEYS = {"given", "written", "helped", "versioned", "printed", "status", "unread", "room", "printed-room", "lanes"}
 
 
 class Command(typing.NamedTuple):
@@ -89,16 +90,22 @@ def fact_of(place, line):
     return key, value
 
 
-def commands_of(place, words, facts, help_text):
+def output_of(place, facts, texts):
+    """The whole output that is wanted."""
+    told = [key for key in ("written", *texts) if key in facts]
+    if len(told) > 1:
+        sys.exit(f"test_commands: {place}: both {' and '.join(told)}")
+    return next((texts[key] for key in told if key in texts), text_of(facts.get("written", "")))
+
+
+def commands_of(place, words, facts, texts):
     """A command over each number of lanes."""
-    if "helped" in facts and "written" in facts:
-        sys.exit(f"test_commands: {place}: both helped and written")
     name, *others = [text_of(word) for word in shlex.split(words)]
     wanted = Command(
         place,
         [],
         text_of(facts.get("given", "")),
-        help_text if "helped" in facts else text_of(facts.get("written", "")),
+        output_of(place, facts, texts),
         text_of(facts["printed"]) + b"\n" if "printed" in facts else b"",
         int(facts.get("status", "0")),
         "unread" in facts,
@@ -110,7 +117,7 @@ def commands_of(place, words, facts, help_text):
     return [wanted._replace(words=[name, b"--lanes", lanes.encode(), *others]) for lanes in facts["lanes"].split()]
 
 
-def read_commands(name, help_text):
+def read_commands(name, texts):
     """All commands of a file."""
     common, pending = {}, None
     with open(f"{STORED}/{name}", encoding="latin-1") as file:
@@ -120,7 +127,7 @@ def read_commands(name, help_text):
         if line.startswith("#"):
             continue
         if pending and not line.startswith("  "):
-            yield from commands_of(*pending, help_text)
+            yield from commands_of(*pending, texts)
             pending = None
         if not line:
             common = {}
@@ -214,8 +221,10 @@ def main():
     program = os.path.abspath(parser.parse_args().program)
     with open(f"{STORED}/{HELP}", "rb") as file:
         help_text = file.read()
+    with open(f"{ROOT}/VERSION", "rb") as file:
+        texts = {"helped": help_text, "versioned": b"pnmpipe " + file.read()}
     names = sorted(set(os.listdir(STORED)) - {HELP})
-    commands = [command for name in names for command in read_commands(name, help_text)]
+    commands = [command for name in names for command in read_commands(name, texts)]
     faults = list(faults_of_help(help_text.decode("ascii")))
     for fault in faults:
         print(f"test_commands: the help text: {fault}")

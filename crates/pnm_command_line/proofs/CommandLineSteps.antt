@@ -24,7 +24,7 @@ use Rattle.clap.specs.declared.builder.command.Command.TheViews.{out-Command}
 use Rattle.clap.specs.declared.builder.range.ValueRange.{ValueRange}
 use Rattle.clap.specs.declared.error.Error.{Error}
 use Rattle.clap.specs.declared.error.kind.ErrorKind.{ErrorKind}
-use Rattle.clap.specs.declared.error.kind.ErrorKind.TheVariants.{DisplayHelp, OutOfMemory}
+use Rattle.clap.specs.declared.error.kind.ErrorKind.TheVariants.{DisplayHelp, DisplayVersion, OutOfMemory}
 use Rattle.clap.specs.declared.parser.matches.ArgMatches.{ArgMatches}
 use Rattle.clap.proofs.CallerLemmas.{required_has_value}
 use Rattle.clap.proofs.CallerReads.{signed_reads}
@@ -38,7 +38,7 @@ use Rattle.pnm_stages.specs.declared.ring.TheConstants.{MAX_RING_CAPACITY}
 use Rattle.pnm_command_line.specs.CommandLine.{program, chain_rule, form_by, lanes_rule, plain_rule, value_text, number_rule, ring_rule, FitsKind, GivesChain}
 use Rattle.pnm_command_line.specs.CommandLine.{GivesForm, GivesLanes, GivesNumber, GivesRing, IsFaultOfWords}
 use Rattle.pnm_command_line.specs.declared.command_line.CommandLineFault.{CommandLineFault}
-use Rattle.pnm_command_line.specs.declared.command_line.CommandLineFault.TheVariants.{Help, Usage, Memory}
+use Rattle.pnm_command_line.specs.declared.command_line.CommandLineFault.TheVariants.{Help, Version, Usage, Memory}
 
 -- `clap` says which words it takes by such a command, and why it refuses others
 program_is_simple : is_simple program ≡ true
@@ -61,8 +61,12 @@ fault_fits words e (Help text) (inl memory) fits =
     let bad : DisplayHelp ≡ OutOfMemory = sym fits ∙ memory in
     cc
 fault_fits words e (Help text) (inr among) fits = subst (λ (k : ErrorKind). IsAmong k (fault_of program words)) fits among
-fault_fits words e Usage (inl memory) fits = absurd (fits.1 memory)
-fault_fits words e Usage (inr among) fits = (kind_of e, fits.0, among)
+fault_fits words e Version (inl memory) fits =
+    let bad : DisplayVersion ≡ OutOfMemory = sym fits ∙ memory in
+    cc
+fault_fits words e Version (inr among) fits = subst (λ (k : ErrorKind). IsAmong k (fault_of program words)) fits among
+fault_fits words e Usage (inl memory) fits = absurd (fits.2 memory)
+fault_fits words e Usage (inr among) fits = (kind_of e, fits.0, fits.1, among)
 fault_fits words e Memory has fits = tt
 
 -- an argument with a simple rule is its command's own

@@ -1,3 +1,4 @@
 pub mod DefaultReads
 pub mod CommandLineSteps
+pub mod OneKind
 pub mod HelpSteps

@@ -6,15 +6,16 @@ use Rattle.pnm_image.specs.declared.format.Form.{Form}
 use Rattle.pnm_image.specs.declared.format.Form.TheVariants.{Raw, Plain}
 pub use Rattle.clap.specs.Words.{Text}
 use Rattle.clap.specs.Words.{App, Rule, IsAmong, fault_of, first_of, matches_of, one_of, new_app, new_rule, with_rule}
+use Rattle.clap.specs.Simple.{on_top}
 use Rattle.clap.specs.declared.builder.action.ArgAction.TheVariants.{Set, SetTrue}
 use Rattle.clap.specs.declared.builder.value_parser.ValueParser.{ValueParser}
 use Rattle.clap.specs.declared.builder.value_parser.ValueParser.TheVariants.{Signed}
 use Rattle.clap.specs.declared.error.kind.ErrorKind.{ErrorKind}
-use Rattle.clap.specs.declared.error.kind.ErrorKind.TheVariants.{DisplayHelp, OutOfMemory}
+use Rattle.clap.specs.declared.error.kind.ErrorKind.TheVariants.{DisplayHelp, DisplayVersion, OutOfMemory}
 use Rattle.pnm_lanes.specs.declared.lane.TheConstants.{MAX_LANES}
 use Rattle.pnm_stages.specs.declared.ring.TheConstants.{MAX_RING_CAPACITY}
 use Rattle.pnm_command_line.specs.declared.command_line.CommandLineFault.{CommandLineFault}
-use Rattle.pnm_command_line.specs.declared.command_line.CommandLineFault.TheVariants.{Help, Usage, Memory}
+use Rattle.pnm_command_line.specs.declared.command_line.CommandLineFault.TheVariants.{Help, Version, Usage, Memory}
 
 -- an option `--NAME` that takes what this parser does, where it isn't given that of this text
 abbrev pub value_rule : Text → Text → ValueParser → Rule
@@ -46,10 +47,13 @@ plain_rule = record (new_rule (codes "plain")) { long = Some (codes "plain"); ac
 abbrev pub chain_rule : Rule
 chain_rule = record (new_rule (codes "CHAIN")) { action = Some Set; required = true }
 
--- the command that the words are read by; `clap` adds `--help` and `-h` to it
+-- the program's name, and that it has a version
+abbrev pub named : App
+named = on_top (λ top. record top { has_version = true }) (new_app (codes "pnmpipe"))
+
+-- the command that the words are read by; `clap` adds `--help` and `-h` to it, and `--version` and `-V`
 abbrev pub program : App
-program = with_rule (with_rule (with_rule (with_rule (new_app (codes "pnmpipe")) ring_rule) lanes_rule) plain_rule)
-    chain_rule
+program = with_rule (with_rule (with_rule (with_rule named ring_rule) lanes_rule) plain_rule) chain_rule
 
 -- the words, of which the first is the program's name, are a command line, and this is its CHAIN
 pub record GivesChain (words : List Text) (chain : Text) : Type 0 where
@@ -101,18 +105,25 @@ GivesForm words Plain = plain_of words ≡ Some (codes "true")
 abbrev pub AsksForHelp : List Text → Type 0
 AsksForHelp words = IsAmong DisplayHelp (fault_of program words)
 
+-- it is a call for the version
+abbrev pub AsksForVersion : List Text → Type 0
+AsksForVersion words = IsAmong DisplayVersion (fault_of program words)
+
 -- it is something else
 abbrev pub IsNoCommandLine : List Text → Type 0
-IsNoCommandLine words = (kind : ErrorKind) × (kind ≢ DisplayHelp) × IsAmong kind (fault_of program words)
+IsNoCommandLine words = (kind : ErrorKind) × (kind ≢ DisplayHelp) × (kind ≢ DisplayVersion)
+    × IsAmong kind (fault_of program words)
 
 -- the fault fits the kind of an error
 abbrev pub FitsKind : ErrorKind → CommandLineFault → Type 0
 FitsKind kind (Help text) = kind ≡ DisplayHelp
-FitsKind kind Usage = (kind ≢ DisplayHelp) × (kind ≢ OutOfMemory)
+FitsKind kind Version = kind ≡ DisplayVersion
+FitsKind kind Usage = (kind ≢ DisplayHelp) × (kind ≢ DisplayVersion) × (kind ≢ OutOfMemory)
 FitsKind kind Memory = (kind ≡ OutOfMemory) ⊎ (kind ≡ DisplayHelp)
 
 -- the fault fits the words
 abbrev pub IsFaultOfWords : List Text → CommandLineFault → Type 0
 IsFaultOfWords words (Help text) = AsksForHelp words
+IsFaultOfWords words Version = AsksForVersion words
 IsFaultOfWords words Usage = IsNoCommandLine words
 IsFaultOfWords words Memory = Unit {0}

@@ -1,12 +1,13 @@
 -- Small command lines, and what they give.
 use Rattle.std.specs.Prelude.{◌≡◌, ◌∷◌, List, [], Some, codes}
 use Rattle.clap.specs.Words.{Kinds, Text, fault_of}
-use Rattle.clap.specs.declared.error.kind.ErrorKind.TheVariants.{ArgumentConflict, DisplayHelp, InvalidValue}
-use Rattle.clap.specs.declared.error.kind.ErrorKind.TheVariants.{MissingRequiredArgument, UnknownArgument}
-use Rattle.clap.specs.declared.error.kind.ErrorKind.TheVariants.{ValueValidation}
+use Rattle.clap.specs.declared.error.kind.ErrorKind.TheVariants.{ArgumentConflict, DisplayHelp, DisplayVersion}
+use Rattle.clap.specs.declared.error.kind.ErrorKind.TheVariants.{InvalidValue, MissingRequiredArgument, TooManyValues}
+use Rattle.clap.specs.declared.error.kind.ErrorKind.TheVariants.{UnknownArgument, ValueValidation}
 use Rattle.pnm_image.specs.declared.format.Form.{Form}
 use Rattle.pnm_image.specs.declared.format.Form.TheVariants.{Raw, Plain}
-use Rattle.pnm_command_line.specs.CommandLine.{GivesChain, GivesForm, lanes_of, program, ring_of}
+use Rattle.pnm_command_line.specs.CommandLine.{AsksForHelp, AsksForVersion, GivesChain, GivesForm, lanes_of, program}
+use Rattle.pnm_command_line.specs.CommandLine.{ring_of}
 
 -- `-` is code 45
 abbrev pub BeginsWithDash : Text → Type 0
@@ -34,6 +35,8 @@ FailBy words kinds = fault_of program (codes "pnmpipe" ∷ words) ≡ kinds
 pub record CommandLinesHold : Type 0 where
   -- one word after the program's name is the chain, unless it begins with a dash
   pub alone : (name chain : Text) → (BeginsWithDash chain → ⊥) → GivesChain (name ∷ chain ∷ []) chain
+  -- no words ask for help and for the version
+  pub asks_once : (words : List Text) → AsksForHelp words → AsksForVersion words → ⊥
   pub both_left_out : GivesAll (codes "pnminvert" ∷ []) (codes "pnminvert") (codes "64") (codes "1")
   pub ring_before : GivesBoth (codes "--ring" ∷ codes "1" ∷ codes "pnminvert" ∷ []) (codes "pnminvert") (codes "1")
   pub ring_after : GivesBoth (codes "pnminvert" ∷ codes "--ring" ∷ codes "1024" ∷ []) (codes "pnminvert") (codes "1024")
@@ -72,3 +75,12 @@ pub record CommandLinesHold : Type 0 where
   pub help_before_fault : FailBy (codes "--help" ∷ codes "--raw" ∷ []) (DisplayHelp ∷ [])
   pub fault_before_help : FailBy (codes "--raw" ∷ codes "--help" ∷ []) (UnknownArgument ∷ [])
   pub bad_ring_before_help : FailBy (codes "--ring" ∷ codes "0" ∷ codes "--help" ∷ []) (ValueValidation ∷ [])
+  pub version : FailBy (codes "--version" ∷ []) (DisplayVersion ∷ [])
+  pub short_version : FailBy (codes "a" ∷ codes "-V" ∷ []) (DisplayVersion ∷ [])
+  pub version_before_fault : FailBy (codes "--version" ∷ codes "--raw" ∷ []) (DisplayVersion ∷ [])
+  pub fault_before_version : FailBy (codes "--raw" ∷ codes "--version" ∷ []) (UnknownArgument ∷ [])
+  pub version_before_help : FailBy (codes "--version" ∷ codes "--help" ∷ []) (DisplayVersion ∷ [])
+  pub help_before_version : FailBy (codes "--help" ∷ codes "--version" ∷ []) (DisplayHelp ∷ [])
+  pub both_in_a_word : FailBy (codes "-hV" ∷ []) (DisplayHelp ∷ [])
+  pub version_of_value : FailBy (codes "--version=x" ∷ []) (TooManyValues ∷ [])
+  pub version_after_dashes : GivesBoth (codes "--" ∷ codes "--version" ∷ []) (codes "--version") (codes "64")

@@ -1,9 +1,9 @@
-//! The words of the command line, and the help text.
+//! The words of the command line, the help text and the version.
 
-ghost use Rattle.std.specs.Prelude.{◌≡◌, IfOk, IfErr, codes, map, string_bytes};
-ghost use Rattle.clap.specs.Words.{app_of, kind_of, new_app, rule_of};
-ghost use Rattle.pnm_command_line.specs.CommandLine.{chain_rule, form_by, lanes_rule, plain_rule, program, ring_rule};
-ghost use Rattle.pnm_command_line.specs.CommandLine.{value_rule, FitsKind};
+ghost use Rattle.std.specs.Prelude.{◌≡◌, IfOk, IfErr, map, string_bytes};
+ghost use Rattle.clap.specs.Words.{app_of, kind_of, rule_of};
+ghost use Rattle.pnm_command_line.specs.CommandLine.{chain_rule, form_by, lanes_rule, named, plain_rule, program};
+ghost use Rattle.pnm_command_line.specs.CommandLine.{ring_rule, value_rule, FitsKind};
 ghost use Rattle.pnm_command_line.specs.CommandLine.{GivesChain, GivesForm, GivesLanes, GivesRing, IsFaultOfWords};
 ghost use Rattle.pnm_command_line.specs.declared.command_line.CommandLineFault.TheVariants.{Memory};
 
@@ -14,6 +14,12 @@ use pnm_image::Form;
 use pnm_lanes::MAX_LANES;
 use pnm_stages::MAX_RING_CAPACITY;
 use std::alloc::{AllocError, Global};
+
+/// The version, as in the file VERSION.
+const VERSION: &str = "0.1.0";
+
+/// What a call for the version is answered by.
+pub const VERSION_LINE: &str = "pnmpipe 0.1.0\n";
 
 /// How the program is called.
 pub(crate) const USAGE: &str = "pnmpipe [--ring N] [--lanes K] [--plain] CHAIN";
@@ -42,7 +48,8 @@ const AFTER_HELP: &str = "Tools:
   pnmtile WIDTH HEIGHT
 
 Status: 0 all went well, 1 the input, a tool or the output failed, 2 wrong words
-64 rows suit all but huge ones. The page pnmpipe(1) has more. Version 0.1.0";
+64 rows suit all but huge ones. The page pnmpipe(1) has more.
+pnmpipe-explain CHAIN < FILE says what is wrong with a chain or an input.";
 
 /// What the words name.
 #[derive(Clone, Copy, Debug)]
@@ -62,6 +69,8 @@ pub struct CommandLine<'a> {
 pub enum CommandLineFault {
     /// They ask for help, which is this text.
     Help(String),
+    /// They ask for the version.
+    Version,
     /// They are no command line.
     Usage,
     /// Memory ran out.
@@ -123,9 +132,10 @@ fn program<'a>(alloc: Global) -> Result<Command<'a>, AllocError>
 
 /// The command before it has arguments.
 fn described<'a>(alloc: Global) -> Command<'a>
-    ensures { app_of result ≡ new_app (codes "pnmpipe") }
+    ensures { app_of result ≡ named }
 {
     Command::new(alloc, "pnmpipe")
+        .version(VERSION)
         .about(ABOUT)
         .override_usage(USAGE)
         .after_help(AFTER_HELP)
@@ -196,6 +206,7 @@ fn fault_of(alloc: Global, error: &clap::Error) -> CommandLineFault
             Ok(text) => CommandLineFault::Help(text),
             Err(_) => CommandLineFault::Memory,
         },
+        ErrorKind::DisplayVersion => CommandLineFault::Version,
         ErrorKind::OutOfMemory => CommandLineFault::Memory,
         _ => CommandLineFault::Usage,
     }

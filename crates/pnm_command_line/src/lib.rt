@@ -1,5 +1,5 @@
-//! The words of the command line: what they name, as `clap` reads them, and the help text; the lines that are printed
-//! for faults; and what the program does with its words, whatever runs the tools.
+//! The words of the command line: what they name, as `clap` reads them, the help text and the version; the lines that
+//! are printed for faults; and what the program does with its words, whatever runs the tools.
 #![tactic(auto)]
 
 mod command_line;
@@ -8,7 +8,7 @@ pub mod laws;
 mod named_run;
 mod runner;
 
-pub use command_line::{CommandLine, CommandLineFault, read_words};
+pub use command_line::{CommandLine, CommandLineFault, VERSION_LINE, read_words};
 pub use fault_line::{print_chain_fault, print_run_fault, print_usage, print_want_of_memory};
 pub use named_run::{COMMAND_LINE_FAULT, command};
 pub use runner::Runner;

@@ -3,7 +3,7 @@
 ghost use Rattle.std.specs.Prelude.{◌≡◌, ◌≢◌, ◌⊎◌, ◌≤◌, ℕ, List, map, string_bytes};
 ghost use Rattle.std.specs.Io.KnownBytes.{Appends};
 ghost use Rattle.pnm_image.specs.Devices.{AppendsPrefix, Failed};
-ghost use Rattle.pnm_command_line.specs.CommandLine.{AsksForHelp};
+ghost use Rattle.pnm_command_line.specs.CommandLine.{AsksForHelp, AsksForVersion};
 ghost use Rattle.pnm_command_line.specs.NamedRuns.{HasRunTools, HasRunWords};
 ghost use Rattle.pnm_serial.specs.Jobs.{job_of};
 ghost use Rattle.pnm_serial.specs.Runs.{change};
@@ -11,7 +11,7 @@ ghost use Rattle.pnm_lanes.specs.Limits.{IsLaneCount};
 ghost use Rattle.pnm_stages.specs.Limits.{IsRingCapacity};
 ghost use Rattle.pnm_tools.specs.Chains.{IsChain};
 
-use crate::command_line::{CommandLineFault, read_words};
+use crate::command_line::{CommandLineFault, VERSION_LINE, read_words};
 use crate::fault_line::{print_chain_fault, print_run_fault, print_usage, print_want_of_memory};
 use crate::runner::Runner;
 use pnm_chain::parse_chain;
@@ -21,7 +21,7 @@ use std::io::Write;
 use std::sync::Wait;
 use std::thread::Threads;
 
-/// The status of a run that ended well, and of help.
+/// The status of a run that ended well, and of help and the version.
 const WELL: u8 = 0;
 
 /// The status of a run that ended in a fault.
@@ -32,9 +32,9 @@ pub const COMMAND_LINE_FAULT: u8 = 2;
 
 /// Runs the program: `words` are its own name, options and the chain. By the runner it reads the images of `input`
 /// and writes those that come out to `output`, in the form that the words ask for. Where they ask for
-/// help, that is written to `output` and nothing is read. A fault prints one line to `errors`; if that
-/// can't be written, nothing else changes. The status is 0 where all went well or help was asked for, 1 after a fault
-/// of the run, and 2 where the words name no chain or memory ran out before the run, and then nothing is
+/// help or the version, that is written to `output` and nothing is read. A fault prints one line to `errors`; if that
+/// can't be written, nothing else changes. The status is 0 where all went well, or help or the version was asked for, 1
+/// after a fault of the run, and 2 where the words name no chain or memory ran out before the run, and then nothing is
 /// read or written.
 pub fn command<
     A: Runner,
@@ -49,14 +49,24 @@ pub fn command<
     ensures help { AsksForHelp (map string_bytes words.now) → (result ≢ 1) × (input.new ≡ input.old) }
     ensures helped { AsksForHelp (map string_bytes words.now) → result ≡ 0
         → (text : List ℕ) × Appends (W.held output.old) (W.held output.new) text }
-    ensures ran { result ≢ 2 → AsksForHelp (map string_bytes words.now)
+    // The version is one line, cut short only where a write failed.
+    ensures version { AsksForVersion (map string_bytes words.now) → (result ≢ 1) × (input.new ≡ input.old) }
+    ensures versioned { AsksForVersion (map string_bytes words.now) → result ≡ 0
+        → AppendsPrefix (W.held output.old) (W.held output.new) VERSION_LINE.now
+        × (Appends (W.held output.old) (W.held output.new) VERSION_LINE.now
+        ⊎ Failed (W.failures output.old) (W.failures output.new)) }
+    ensures ran { result ≢ 2 → AsksForHelp (map string_bytes words.now) ⊎ AsksForVersion (map string_bytes words.now)
         ⊎ HasRunWords A.has_run (map string_bytes words.now) result
         (change R.left R.failures input.old input.new) (change W.held W.failures output.old output.new) }
 {
     let line = match read_words(rt.alloc(), words) {
         Ok(line) => line,
         Err(CommandLineFault::Help(text)) => {
-            print_help(output, text.as_str());
+            print_text(output, text.as_str());
+            return WELL;
+        }
+        Err(CommandLineFault::Version) => {
+            print_text(output, VERSION_LINE);
             return WELL;
         }
         Err(CommandLineFault::Usage) => {
@@ -121,7 +131,7 @@ fn run_tools<A: Runner, H: AllocGlobal + Threads + Wait + Sync, R: BytesIn, W: B
 }
 
 /// Writes the text. What is left after a failed write is left out.
-fn print_help<W: BytesOut>(output: &mut W, text: &str)
+fn print_text<W: BytesOut>(output: &mut W, text: &str)
     ensures prefix { AppendsPrefix (W.held output.old) (W.held output.new) text.now }
     ensures whole { Appends (W.held output.old) (W.held output.new) text.now
         ⊎ Failed (W.failures output.old) (W.failures output.new) }

@@ -4,6 +4,7 @@ use Rattle.clap.specs.Words.{Text}
 use Rattle.clap.proofs.OnLiterals.{clap_on_literals}
 use Rattle.pnm_command_line.specs.CommandLine.{GivesChain}
 use Rattle.pnm_command_line.specs.CommandLineExamples.{BeginsWithDash, CommandLinesHold}
+use Rattle.pnm_command_line.proofs.OneKind.{asks_once}
 use Rattle.pnm_command_line.proofs.laws.command_lines_hold.Goals as goal
 
 alone : (name chain : Text) → (BeginsWithDash chain → ⊥) → GivesChain (name ∷ chain ∷ []) chain
@@ -17,6 +18,7 @@ computed : CommandLinesHold
 unfolding clap_on_literals
 computed = record {
   alone = alone;
+  asks_once = asks_once;
   both_left_out = record { both = record { chain = record { taken = refl; given = refl }; ring = refl }; lanes = refl };
   ring_before = record { chain = record { taken = refl; given = refl }; ring = refl };
   ring_after = record { chain = record { taken = refl; given = refl }; ring = refl };
@@ -50,6 +52,15 @@ computed = record {
   help_before_fault = refl;
   fault_before_help = refl;
   bad_ring_before_help = refl;
+  version = refl;
+  short_version = refl;
+  version_before_fault = refl;
+  fault_before_version = refl;
+  version_before_help = refl;
+  help_before_version = refl;
+  both_in_a_word = refl;
+  version_of_value = refl;
+  version_after_dashes = record { chain = record { taken = refl; given = refl }; ring = refl };
 }
 
 pub returns : goal.returns

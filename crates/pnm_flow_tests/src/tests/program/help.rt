@@ -15,6 +15,7 @@ Options:
       --lanes <K>  Threads of each row-wise tool, 1 to 8 [default: 1]
       --plain      Write one plain PBM, PGM or PPM image, not raw ones
   -h, --help       Print help
+  -V, --version    Print version
 
 Tools:
   pnminvert
@@ -28,5 +29,6 @@ Tools:
   pnmtile WIDTH HEIGHT
 
 Status: 0 all went well, 1 the input, a tool or the output failed, 2 wrong words
-64 rows suit all but huge ones. The page pnmpipe(1) has more. Version 0.1.0
+64 rows suit all but huge ones. The page pnmpipe(1) has more.
+pnmpipe-explain CHAIN < FILE says what is wrong with a chain or an input.
 ";
