@@ -6,14 +6,17 @@ TESTED := pnm_image_tests pnm_flow_tests
 # programs that tell what comes of written cases
 CASES := pnm_format_cases pnm_tools_cases pnm_flow_cases
 
-.PHONY: all bench bench-files bench-sweep built check controls deb dist gate help install lanes library long-stream near
-.PHONY: pass pictures recipes refused scripts soak test toolchain uninstall
+.PHONY: all bench bench-files bench-sweep built check controls deb dist gate help install install-library lanes library
+.PHONY: long-stream near pass pictures recipes refused scripts soak test toolchain uninstall wheel
 
 # where `make install` puts things, below DESTDIR
 PREFIX ?= /usr/local
 BINDIR ?= $(PREFIX)/bin
 MANDIR ?= $(PREFIX)/share/man
 LIBEXECDIR ?= $(PREFIX)/libexec
+LIBDIR ?= $(PREFIX)/lib
+INCLUDEDIR ?= $(PREFIX)/include
+install_library = $(if $(wildcard bin/libpnmpipe.so.1),install-library)
 COMPLETIONDIR ?= $(PREFIX)/share/bash-completion/completions
 ZSHDIR ?= $(PREFIX)/share/zsh/site-functions
 FISHDIR ?= $(PREFIX)/share/fish/vendor_completions.d
@@ -85,7 +88,8 @@ scripts:
 built:
 	@test -x bin/pnmpipe || { echo "there is no bin/pnmpipe: run make first" >&2; exit 1; }
 
-# the program that make has left, its pages, the completions, the helpers, and the stand-ins for Netpbm's tools
+# the program that make has left, its pages, the completions, the helpers, and the stand-ins for Netpbm's tools; and the
+# C library, where make library has left it
 install: built
 	install -d "$(DESTDIR)$(BINDIR)" "$(DESTDIR)$(MANDIR)/man1" "$(DESTDIR)$(SHIMDIR)"
 	install -d "$(DESTDIR)$(COMPLETIONDIR)" "$(DESTDIR)$(ZSHDIR)" "$(DESTDIR)$(FISHDIR)"
@@ -97,8 +101,26 @@ install: built
 	for file in $(MODULES); do install -m 644 scripts/$$file "$(DESTDIR)$(LIBEXECDIR)/pnmpipe" || exit 1; done
 	for file in $(LINKED); do ln -srf "$(DESTDIR)$(LIBEXECDIR)/pnmpipe/$$file" "$(DESTDIR)$(BINDIR)/$$file" || exit 1; done
 	for name in $(SHIMS); do ln -sf ../netpbm-shim "$(DESTDIR)$(SHIMDIR)/$$name" || exit 1; done
+	if test -n "$(install_library)"; then $(MAKE) --no-print-directory $(install_library); fi
+
+# the C library, its header, its page, and what pkg-config(1) reads
+install-library:
+	@test -e bin/libpnmpipe.so.1 || { echo "there is no bin/libpnmpipe.so.1: run make library first" >&2; exit 1; }
+	install -d "$(DESTDIR)$(LIBDIR)/pkgconfig" "$(DESTDIR)$(INCLUDEDIR)" "$(DESTDIR)$(MANDIR)/man3"
+	install -m 644 bin/libpnmpipe.a bin/libpnmpipe.so.1 "$(DESTDIR)$(LIBDIR)"
+	ln -sf libpnmpipe.so.1 "$(DESTDIR)$(LIBDIR)/libpnmpipe.so"
+	install -m 644 bin/pnmpipe.h "$(DESTDIR)$(INCLUDEDIR)"
+	install -m 644 man/pnmpipe.3 "$(DESTDIR)$(MANDIR)/man3"
+	sed -e 's|@PREFIX@|$(PREFIX)|' -e 's|@LIBDIR@|$(LIBDIR)|' -e "s|@VERSION@|$$(cat VERSION)|" \
+		library/pnmpipe.pc.in > "$(DESTDIR)$(LIBDIR)/pkgconfig/pnmpipe.pc"
+
+# a wheel of the Python module, with the C library that make library has left, in dist/
+wheel:
+	python3 scripts/wheel.py
 
 uninstall:
+	for name in libpnmpipe.a libpnmpipe.so libpnmpipe.so.1 pkgconfig/pnmpipe.pc; do rm -f "$(DESTDIR)$(LIBDIR)/$$name"; done
+	rm -f "$(DESTDIR)$(INCLUDEDIR)/pnmpipe.h" "$(DESTDIR)$(MANDIR)/man3/pnmpipe.3"
 	rm -f "$(DESTDIR)$(BINDIR)/pnmpipe" "$(DESTDIR)$(COMPLETIONDIR)/pnmpipe"
 	for file in $(LINKED) $(MODULES) netpbm-shim; do rm -f "$(DESTDIR)$(LIBEXECDIR)/pnmpipe/$$file"; done
 	for helper in $(HELPERS) $(LINKED); do rm -f "$(DESTDIR)$(BINDIR)/$$helper"; done
@@ -106,7 +128,7 @@ uninstall:
 	for name in $(SHIMS); do rm -f "$(DESTDIR)$(SHIMDIR)/$$name"; done
 	for folder in "$(DESTDIR)$(SHIMDIR)" "$(DESTDIR)$(LIBEXECDIR)/pnmpipe"; do test ! -d "$$folder" || rmdir "$$folder"; done
 
-# archives of the source and of the built program, and a Debian package, in dist/
+# archives of the source and of the built program, and Debian packages, in dist/
 dist deb: built
 	sh scripts/package.sh $@
 
@@ -180,8 +202,9 @@ help:
 	@echo "make refused         refuses each allocation and each start of a thread in turn, of the program that make has left and of tests"
 	@echo "make soak SECONDS=n  runs random chains over random streams for n seconds, in one thread and over threads"
 	@echo "make scripts         checks the layout, the stored commands, the scripts, pages and documents, with the program that make has left"
-	@echo "make install         installs the program that make has left, below PREFIX=/usr/local; make uninstall takes it away"
-	@echo "make dist, make deb  archives, and a Debian package, of the program that make has left, in dist/"
+	@echo "make wheel           leaves a wheel of the Python module, with the C library that make library has left, in dist/"
+	@echo "make install         installs the program that make has left, and the C library that make library has left, below PREFIX=/usr/local; make uninstall takes it away"
+	@echo "make dist, make deb  archives, and Debian packages, of what make and make library have left, in dist/"
 	@echo "make pictures        makes the pictures of the documents anew"
 	@echo "make recipes         runs each block of docs/RECIPES.md, with the programs that are installed"
 	@echo "make help            this list"

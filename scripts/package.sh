@@ -1,7 +1,8 @@
 #!/bin/sh
 # package.sh dist: the source as git has it, and an archive with the built program, its pages, the documents and
 # install.sh, into dist/.
-# package.sh deb: a local Debian package of the built program, into dist/. It wants dpkg-deb.
+# package.sh deb: a local Debian package of the built program, into dist/, and where make library has left the C library
+# libpnmpipe1, libpnmpipe-dev and python3-pnmpipe. It wants dpkg-deb.
 # Both want the program that make has left as bin/pnmpipe.
 set -eu
 cd "$(dirname "$0")/.."
@@ -19,7 +20,7 @@ fail() {
 staged() {
     folder=$1 prefix=$2
     shift 2
-    make -s install DESTDIR="$folder" PREFIX="$prefix" "$@" > /dev/null
+    make -s install install_library= DESTDIR="$folder" PREFIX="$prefix" "$@" > /dev/null
     if command -v strip > /dev/null; then
         strip --strip-unneeded "$folder$prefix/bin/pnmpipe"
     else
@@ -62,31 +63,82 @@ changes() {
     printf '\n -- %s  %s\n' "$maintainer" "$(LC_ALL=C git log -1 --format=%cD)"
 }
 
+# libc FILE: the newest symbols of the C library that it asks for, as a package
+libc() {
+    if ldd "$1" 2> /dev/null | grep -q 'libc\.so'; then
+        newest=$(objdump -T "$1" 2> /dev/null | sed -n 's/.*GLIBC_\([0-9.]*\).*/\1/p' | sort -V | tail -n 1)
+        echo "libc6${newest:+ (>= $newest)}"
+    fi
+}
+
+# packed NAME ARCHITECTURE SECTION: a package of what stands in root/NAME; standard input has what else control says
+packed() {
+    root=$work/root/$1
+    find "$root/usr" -path '*/man/*' -type f -exec gzip -n -9 {} +
+    mkdir -p "$root/DEBIAN" "$root/usr/share/doc/$1"
+    changes | gzip -n -9 > "$root/usr/share/doc/$1/changelog.gz"
+    {
+        printf 'Package: %s\nSource: pnmpipe\nVersion: %s\nArchitecture: %s\n' "$1" "$version" "$2"
+        printf 'Maintainer: %s\nSection: %s\nPriority: optional\n' "$maintainer" "$3"
+        echo "Installed-Size: $(du -k -s "$root/usr" | cut -f 1)"
+        cat
+    } | if [ "$1" = pnmpipe ]; then sed '/^Source:/d'; else cat; fi > "$root/DEBIAN/control"
+    (cd "$root" && find usr -type f | LC_ALL=C sort | xargs md5sum > DEBIAN/md5sums)
+    chmod -R u=rwX,go=rX "$root"
+    dpkg-deb --root-owner-group --build "$root" dist
+}
+
+# the C library in two packages, and the Python module that loads it
+library_debs() {
+    architecture=$(dpkg --print-architecture)
+    libraries=/usr/lib/$(dpkg-architecture -qDEB_HOST_MULTIARCH 2> /dev/null || echo "$machine-linux-gnu")
+    dev=$work/root/libpnmpipe-dev
+    runtime=$work/root/libpnmpipe1
+    python=$work/root/python3-pnmpipe
+    make -s install-library DESTDIR="$dev" PREFIX=/usr LIBDIR="$libraries" > /dev/null
+    mkdir -p "$runtime$libraries" "$runtime/DEBIAN" "$python/usr/lib/python3/dist-packages/pnmpipe"
+    mv "$dev$libraries/libpnmpipe.so.1" "$runtime$libraries"
+    echo 'activate-noawait ldconfig' > "$runtime/DEBIAN/triggers"
+    echo "libpnmpipe 1 libpnmpipe1 (>= $version)" > "$runtime/DEBIAN/shlibs"
+    packed libpnmpipe1 "$architecture" libs << CONTROL
+Depends: $(libc bin/libpnmpipe.so.1)
+Multi-Arch: same
+Description: chain of Netpbm tools over images in memory, shared library
+ libpnmpipe passes PBM, PGM, PPM and PAM images in memory through pnminvert,
+ pamcut, pamdepth, pamchannel, pamenlarge, pamflip and pnmtile in one call.
+CONTROL
+    packed libpnmpipe-dev "$architecture" libdevel << CONTROL
+Depends: libpnmpipe1 (= $version)
+Multi-Arch: same
+Description: chain of Netpbm tools over images in memory, header and library
+ libpnmpipe passes PBM, PGM, PPM and PAM images in memory through pnminvert,
+ pamcut, pamdepth, pamchannel, pamenlarge, pamflip and pnmtile in one call.
+ .
+ Here are its header, its static library and its manual page.
+CONTROL
+    cp library/python/pnmpipe/__init__.py library/python/pnmpipe/py.typed \
+        "$python/usr/lib/python3/dist-packages/pnmpipe"
+    packed python3-pnmpipe all python << CONTROL
+Depends: python3, libpnmpipe1 (>= $version)
+Suggests: python3-numpy
+Description: chain of Netpbm tools over images in memory, for Python
+ The module pnmpipe passes PBM, PGM, PPM and PAM images in memory through
+ pnminvert, pamcut, pamdepth, pamchannel, pamenlarge, pamflip and pnmtile in
+ one call, without the lock of the interpreter.
+CONTROL
+}
+
 deb() {
     command -v dpkg-deb > /dev/null || fail "dpkg-deb isn't there, and it makes the package"
     maintainer=${MAINTAINER:-$(git log -1 --format='%an <%ae>')}
-    root=$work/root
-    staged "$root" /usr ZSHDIR=/usr/share/zsh/vendor-completions
-    find "$root/usr/share/man" -name '*.1' -exec gzip -n -9 {} +
-    mkdir -p "$root/DEBIAN" "$root/usr/share/doc/pnmpipe"
-    cp -R README.md CHANGELOG.md docs "$root/usr/share/doc/pnmpipe"
-    changes | gzip -n -9 > "$root/usr/share/doc/pnmpipe/changelog.gz"
-    # the newest symbols of the C library that the program asks for
-    libc=
-    if ldd bin/pnmpipe 2> /dev/null | grep -q 'libc\.so'; then
-        newest=$(objdump -T bin/pnmpipe 2> /dev/null | sed -n 's/.*GLIBC_\([0-9.]*\).*/\1/p' | sort -V | tail -n 1)
-        libc="libc6${newest:+ (>= $newest)}, "
-    fi
-    cat > "$root/DEBIAN/control" << CONTROL
-Package: pnmpipe
-Version: $version
-Architecture: $(dpkg --print-architecture)
-Maintainer: $maintainer
-Section: graphics
-Priority: optional
-Depends: ${libc}python3
+    mkdir -p dist
+    staged "$work/root/pnmpipe" /usr ZSHDIR=/usr/share/zsh/vendor-completions
+    mkdir -p "$work/root/pnmpipe/usr/share/doc/pnmpipe"
+    cp -R README.md CHANGELOG.md docs "$work/root/pnmpipe/usr/share/doc/pnmpipe"
+    needs=$(libc bin/pnmpipe)
+    packed pnmpipe "$(dpkg --print-architecture)" graphics << CONTROL
+Depends: ${needs:+$needs, }python3
 Suggests: netpbm, parallel
-Installed-Size: $(du -k -s "$root/usr" | cut -f 1)
 Description: chain of Netpbm tools over a stream of images in one process
  pnmpipe reads PBM, PGM, PPM and PAM images, passes their rows through
  pnminvert, pamcut, pamdepth, pamchannel, pamenlarge, pamflip and pnmtile,
@@ -95,10 +147,7 @@ Description: chain of Netpbm tools over a stream of images in one process
  .
  It needs a processor with SSE4.2 and POPCNT (x86-64-v2).
 CONTROL
-    (cd "$root" && find usr -type f | LC_ALL=C sort | xargs md5sum > DEBIAN/md5sums)
-    chmod -R u=rwX,go=rX "$root"
-    mkdir -p dist
-    dpkg-deb --root-owner-group --build "$root" dist
+    if [ -e bin/libpnmpipe.so.1 ]; then library_debs; fi
 }
 
 [ -x bin/pnmpipe ] || fail "there is no bin/pnmpipe: run make first"

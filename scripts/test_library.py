@@ -6,7 +6,8 @@ The header, its map and the names of its codes are compared with the sources of 
 The library is linked, and exports the functions of its header alone. Each stored command of crates/pnmpipe/commands
 that names a run is run through it, in memory and between descriptors, and has to be answered as the program answers it.
 Each allocation is refused in turn; threads make calls at once, on a small stack; a C++ file and the examples are built;
-and valgrind, where it is there, finds nothing. `--archive` names the static library.
+valgrind, where it is there, finds nothing; and the Python module passes its tests, where pytest is there. `--archive`
+names the static library.
 """
 
 import argparse
@@ -16,12 +17,14 @@ import shutil
 import subprocess
 import sys
 import tempfile
+import zipfile
 
 sys.dont_write_bytecode = True
 
 import library
 import refused
 import test_commands
+import wheel
 from library import ROOT, SHARED, SOURCE, WARNINGS
 
 TESTS = os.path.join(SOURCE, "tests")
@@ -365,6 +368,23 @@ def faults_of_examples(built):
     yield from written_by("the README's line", [line], image, turned)
 
 
+def faults_of_module(folder):
+    """The tests of the Python module, by a Python that has pytest, and of the module in a wheel."""
+    pythons = [it for it in (sys.executable, "/usr/bin/python3") if os.path.exists(it)]
+    python = next((it for it in pythons if ran([it, "-c", "import pytest"]).returncode == 0), None)
+    if python is None:
+        print("test_library: pytest isn't installed, so the Python module isn't looked at")
+        return
+    shared = os.path.join(folder, SHARED)
+    with zipfile.ZipFile(wheel.make(shared, folder)) as made:
+        made.extractall(os.path.join(folder, "wheel"))
+    modules = [os.path.join(SOURCE, "python"), os.path.join(folder, "wheel")]
+    for module, of_system in zip(modules, (shared, "")):
+        own = {"PYTHONPATH": module, "PNMPIPE_LIBRARY": of_system, "PYTHONDONTWRITEBYTECODE": "1"}
+        words = [python, "-m", "pytest", "-q", "-p", "no:cacheprovider", f"{TESTS}/test_pnmpipe.py"]
+        yield from ended_well("the Python module", words, env={**os.environ, **own})
+
+
 def faults_of_library(folder):
     built = Built(folder)
     yield from exported(folder)
@@ -379,6 +399,7 @@ def faults_of_library(folder):
     yield from faults_of_memory(built)
     yield from faults_of_threads(built)
     yield from faults_of_valgrind(built, driver)
+    yield from faults_of_module(folder)
 
 
 def main():

@@ -1,0 +1,237 @@
+"""The tools of pnmpipe over images in memory.
+
+    >>> import pnmpipe
+    >>> pnmpipe.run("pamflip -lr", b"P5\\n2 1\\n9\\n\\x01\\x02")
+    b'P5\\n2 1\\n9\\n\\x02\\x01'
+
+A chain has one or more tools with bars between them, as for pnmpipe(1). Calls may be made at once from any number of
+threads: the interpreter's lock is free while the tools run. What goes wrong is raised as a Fault.
+"""
+
+from __future__ import annotations
+
+import ctypes
+import os
+import typing
+
+if typing.TYPE_CHECKING:
+    import numpy
+
+__all__ = ["Fault", "ChainFault", "InputFault", "ToolFault", "OutputFault", "MemoryFault", "Summary"]
+__all__ += ["check", "run", "run_array", "run_fd", "version"]
+
+Buffer = typing.Union[bytes, bytearray, memoryview, "numpy.ndarray"]
+
+_ABI = 1
+
+
+class Fault(Exception):
+    """What went wrong. Each fault has a class of its own, as ChainUnknownTool, below one of those that follow.
+
+    name is the one that pnmpipe(1) prints, as UnknownTool, and code its number in pnmpipe.h. stage and tool are numbers
+    from 1, or 0: of the stage of the chain's text, or the tool, that is at fault. results are the bytes that were
+    written before the fault."""
+
+    def __init__(self, code: int, name: str, number: int = 0, results: bytes = b"") -> None:
+        super().__init__(code, name, number, results)
+        self.code = code
+        self.name = name
+        self.stage = number if code // 100 == 1 else 0
+        self.tool = number if code // 100 == 3 or code == 503 else 0
+        self.results = results
+
+    def __str__(self) -> str:
+        return self.name
+
+    def _at(self, place: str) -> str:
+        return f"{place}: {self.name}"
+
+
+class ChainFault(Fault, ValueError):
+    """The text of the chain is at fault."""
+
+    def __str__(self) -> str:
+        return self._at(f"chain: stage {self.stage}" if self.stage else "chain")
+
+
+class InputFault(Fault, ValueError):
+    """The input is at fault."""
+
+    def __str__(self) -> str:
+        return self._at("input")
+
+
+class ToolFault(Fault, ValueError):
+    """A tool refuses an image."""
+
+    def __str__(self) -> str:
+        return self._at(f"tool {self.tool}")
+
+
+class OutputFault(Fault, ValueError):
+    """The results can't be written in the form that was asked for, or to the descriptor."""
+
+    def __str__(self) -> str:
+        return self._at("output")
+
+
+class MemoryFault(Fault, MemoryError):
+    """There was no memory."""
+
+
+class Summary(typing.NamedTuple):
+    """The whole images and the rows that were written."""
+
+    images: int
+    rows: int
+
+
+_CLASSES = {1: ChainFault, 2: InputFault, 3: ToolFault, 4: OutputFault, 5: MemoryFault}
+_PLACES = {1: "Chain", 2: "Input", 3: "Tool", 4: "Output"}
+
+
+class _Answer(ctypes.Structure):
+    _fields_ = [
+        ("code", ctypes.c_uint32),
+        ("reserved", ctypes.c_uint32),
+        ("number", ctypes.c_size_t),
+        ("images", ctypes.c_uint64),
+        ("rows", ctypes.c_uint64),
+        ("size", ctypes.c_size_t),
+        ("reserved_1", ctypes.c_uint64),
+        ("reserved_2", ctypes.c_uint64),
+    ]
+
+
+class _Bytes(ctypes.Structure):
+    _fields_ = [("at", ctypes.c_void_p), ("length", ctypes.c_size_t)]
+
+
+def _loaded() -> ctypes.CDLL:
+    """The library: that of the environment, the one in a wheel, or that of the system."""
+    own = os.path.join(os.path.dirname(os.path.abspath(__file__)), "libpnmpipe.so.1")
+    found = os.environ.get("PNMPIPE_LIBRARY") or (own if os.path.exists(own) else "libpnmpipe.so.1")
+    library = ctypes.CDLL(found)
+    chain = [ctypes.c_char_p, ctypes.c_size_t]
+    whole = [*chain, ctypes.c_uint32]
+    library.pnmpipe_abi_version.restype = ctypes.c_uint32
+    library.pnmpipe_version.restype = ctypes.c_char_p
+    library.pnmpipe_code_name.restype = ctypes.c_char_p
+    library.pnmpipe_code_name.argtypes = [ctypes.c_uint32]
+    library.pnmpipe_check.restype = ctypes.c_uint32
+    library.pnmpipe_check.argtypes = [*chain, ctypes.POINTER(ctypes.c_size_t)]
+    library.pnmpipe_run_new.restype = ctypes.c_uint32
+    library.pnmpipe_run_new.argtypes = [*whole, ctypes.c_void_p, ctypes.c_size_t]
+    library.pnmpipe_run_new.argtypes += [ctypes.POINTER(_Bytes), ctypes.POINTER(_Answer)]
+    library.pnmpipe_run_fd.restype = ctypes.c_uint32
+    library.pnmpipe_run_fd.argtypes = [*whole, ctypes.c_int, ctypes.c_int, ctypes.POINTER(_Answer)]
+    if library.pnmpipe_abi_version() != _ABI:
+        raise ImportError(f"{found} has another interface than {_ABI}")
+    return library
+
+
+_LIBRARY = _loaded()
+_FREE = ctypes.CDLL(None).free
+_FREE.argtypes, _FREE.restype = [ctypes.c_void_p], None
+
+
+def _name(code: int) -> str:
+    return _LIBRARY.pnmpipe_code_name(code).decode("ascii")
+
+
+def _fault_classes() -> dict[int, type[Fault]]:
+    """A class for each code that the library has, which the module has under its name."""
+    found: dict[int, type[Fault]] = {}
+    for code in range(101, 600):
+        name = _name(code)
+        if name != "Unknown":
+            base = _CLASSES[code // 100]
+            own = _PLACES[code // 100 if code < 500 else code - 500] + name
+            found[code] = type(own, (base,), {"__module__": __name__, "__doc__": f"{name}, as pnmpipe(1) has it."})
+    return found
+
+
+_FAULTS = _fault_classes()
+globals().update({it.__name__: it for it in _FAULTS.values()})
+__all__ += [it.__name__ for it in _FAULTS.values()]
+
+
+def _fault(code: int, number: int, results: bytes = b"") -> Fault:
+    return _FAULTS.get(code, Fault)(code, _name(code), number, results)
+
+
+def _text(chain: str) -> bytes:
+    return chain.encode("utf-8", "surrogateescape")
+
+
+def version() -> str:
+    """The version of the library."""
+    return _LIBRARY.pnmpipe_version().decode("ascii")
+
+
+def check(chain: str) -> None:
+    """Raises a ChainFault where the chain's text is at fault."""
+    text, stage = _text(chain), ctypes.c_size_t()
+    code = _LIBRARY.pnmpipe_check(text, len(text), ctypes.byref(stage))
+    if code:
+        raise _fault(code, stage.value)
+
+
+def run(chain: str, data: Buffer, plain: bool = False) -> bytes:
+    """Passes the images of data through the tools of the chain. Gives the results: raw images, or a plain one."""
+    view = memoryview(data)
+    if isinstance(data, bytes):
+        given: typing.Any = data
+    elif view.readonly or not view.c_contiguous:
+        given = view.tobytes()
+    else:
+        given = (ctypes.c_char * view.nbytes).from_buffer(view)
+    text, answer, results = _text(chain), _Answer(), _Bytes()
+    pointer = ctypes.cast(given, ctypes.c_void_p)
+    try:
+        code = _LIBRARY.pnmpipe_run_new(
+            text, len(text), int(plain), pointer, view.nbytes, ctypes.byref(results), ctypes.byref(answer)
+        )
+        made = ctypes.string_at(results.at, results.length) if results.length else b""
+    finally:
+        _FREE(results.at)
+    if code:
+        raise _fault(code, answer.number, made)
+    return made
+
+
+def run_fd(chain: str, source: int, target: int, plain: bool = False) -> Summary:
+    """Passes the images that one descriptor gives through the tools, and writes the results to another. Both stay open."""
+    text, answer = _text(chain), _Answer()
+    code = _LIBRARY.pnmpipe_run_fd(text, len(text), int(plain), source, target, ctypes.byref(answer))
+    if code:
+        raise _fault(code, answer.number)
+    return Summary(answer.images, answer.rows)
+
+
+def run_array(chain: str, array: numpy.ndarray) -> numpy.ndarray:
+    """Passes one image through the tools: an array of bool, uint8 or uint16 by row and column, and by plane where there
+    are several. True is white. The result has as many dimensions as its planes want."""
+    import numpy
+
+    shape = array.shape if array.ndim == 3 else (*array.shape, 1)
+    if len(shape) != 3 or array.dtype not in (numpy.bool_, numpy.uint8, numpy.uint16):
+        raise TypeError("an image is an array of bool, uint8 or uint16 in two or three dimensions")
+    maxval = 1 if array.dtype == numpy.bool_ else int(numpy.iinfo(array.dtype).max)
+    raster = numpy.ascontiguousarray(array, dtype=">u2" if maxval > 255 else numpy.uint8)
+    lines = (b"P7", b"WIDTH %d" % shape[1], b"HEIGHT %d" % shape[0], b"DEPTH %d" % shape[2], b"MAXVAL %d" % maxval)
+    return _array_of(run(chain, b"\n".join([*lines, b"ENDHDR\n"]) + raster.tobytes()), array.dtype == numpy.bool_)
+
+
+def _array_of(image: bytes, is_bool: bool) -> numpy.ndarray:
+    """The samples of a PAM image that the library has written."""
+    import numpy
+
+    head, _, raster = image.partition(b"ENDHDR\n")
+    facts = dict(line.split(b" ", 1) for line in head.split(b"\n")[1:-1])
+    height, width, depth, maxval = (int(facts[key]) for key in (b"HEIGHT", b"WIDTH", b"DEPTH", b"MAXVAL"))
+    samples = numpy.frombuffer(raster, dtype=">u2" if maxval > 255 else numpy.uint8)
+    samples = samples.reshape((height, width) if depth == 1 else (height, width, depth))
+    if is_bool and maxval == 1:
+        return samples.astype(numpy.bool_)
+    return samples.astype(numpy.uint16 if maxval > 255 else numpy.uint8)

@@ -1,0 +1,117 @@
+"""Tests of the Python module, for pytest. Expected values are worked out by hand from the tools' manual pages."""
+
+import os
+import threading
+
+import pytest
+
+import pnmpipe
+
+IMAGE = b"P5\n2 3\n9\n\x01\x02\x03\x04\x05\x06"
+
+
+def test_results():
+    assert pnmpipe.run("pamflip -r90", IMAGE) == b"P5\n3 2\n9\n\x02\x04\x06\x01\x03\x05"
+    assert pnmpipe.run("pnminvert | pamflip -lr", IMAGE) == b"P5\n2 3\n9\n\x07\x08\x05\x06\x03\x04"
+    assert pnmpipe.run("pnminvert", b"P6\n1 1\n255\nABC", plain=True) == b"P3\n1 1\n255\n190 189 188\n"
+    assert pnmpipe.run("pamflip -null", IMAGE + IMAGE) == IMAGE + IMAGE
+
+
+@pytest.mark.parametrize("kind", [bytes, bytearray, memoryview, lambda it: memoryview(bytearray(it))])
+def test_inputs(kind):
+    given = kind(IMAGE)
+    assert pnmpipe.run("pamflip -null", given) == IMAGE
+    assert bytes(given) == IMAGE
+
+
+def test_parts_of_buffers():
+    twice = bytearray(IMAGE + IMAGE)
+    assert pnmpipe.run("pamflip -null", memoryview(twice)[len(IMAGE) :]) == IMAGE
+    assert pnmpipe.run("pamflip -null", memoryview(bytes(b for it in IMAGE for b in (it, 0)))[::2]) == IMAGE
+    with pytest.raises(TypeError):
+        pnmpipe.run("pnminvert", "P1 1 1 0")
+
+
+@pytest.mark.parametrize("empty", [b"", bytearray(), memoryview(b"")])
+def test_empty_inputs(empty):
+    with pytest.raises(pnmpipe.InputEmptyInput):
+        pnmpipe.run("pnminvert", empty)
+
+
+def test_chains():
+    assert pnmpipe.check("pnminvert | pamflip -lr") is None
+    with pytest.raises(pnmpipe.ChainUnknownTool) as caught:
+        pnmpipe.check("pnminvert | pamflop -lr")
+    assert (caught.value.stage, caught.value.tool, caught.value.name) == (2, 0, "UnknownTool")
+    assert str(caught.value) == "chain: stage 2: UnknownTool"
+    assert isinstance(caught.value, pnmpipe.ChainFault) and isinstance(caught.value, ValueError)
+    with pytest.raises(pnmpipe.ChainEmpty, match="^chain: Empty$"):
+        pnmpipe.run("", IMAGE)
+    with pytest.raises(pnmpipe.ChainTooLong):
+        pnmpipe.check(" " * 4097)
+    with pytest.raises(pnmpipe.Fault, match="^BadText$"):
+        pnmpipe.check("\udcff")
+
+
+def test_faults():
+    with pytest.raises(pnmpipe.InputRasterCut) as caught:
+        pnmpipe.run("pnminvert", IMAGE[:-1])
+    assert caught.value.results == b"P5\n2 3\n9\n\x08\x07\x06\x05"
+    with pytest.raises(pnmpipe.ToolCutOutside) as caught:
+        pnmpipe.run("pnminvert | pamcut -left 7", IMAGE)
+    assert (caught.value.tool, caught.value.stage, caught.value.results) == (2, 0, b"")
+    assert str(caught.value) == "tool 2: CutOutside"
+    with pytest.raises(pnmpipe.OutputSecondPlain) as caught:
+        pnmpipe.run("pamflip -null", b"P5 1 1 9 \x05" + b"P5 1 1 9 \x06", plain=True)
+    assert caught.value.results == b"P2\n1 1\n9\n5\n"
+
+
+def test_descriptors(tmp_path):
+    path = tmp_path / "image"
+    path.write_bytes(IMAGE)
+    with open(path, "rb") as source, open(tmp_path / "turned", "w+b") as target:
+        assert pnmpipe.run_fd("pamflip -r90", source.fileno(), target.fileno()) == (1, 2)
+        target.seek(0)
+        assert target.read() == b"P5\n3 2\n9\n\x02\x04\x06\x01\x03\x05"
+    with pytest.raises(pnmpipe.InputReadFailed):
+        pnmpipe.run_fd("pnminvert", -1, 1)
+    with open(path, "rb") as source, open("/dev/full", "wb") as full:
+        with pytest.raises(pnmpipe.OutputWriteFailed):
+            pnmpipe.run_fd("pnminvert", source.fileno(), full.fileno())
+
+
+def test_interpreters_lock_is_free():
+    """A call that waits for its input leaves another thread to write it."""
+    source, sink = os.pipe()
+    back, target = os.pipe()
+    waiting = threading.Thread(target=pnmpipe.run_fd, args=("pnminvert", source, target))
+    waiting.start()
+    os.write(sink, b"P5 1 1 9 \x03")
+    os.close(sink)
+    waiting.join(10)
+    assert not waiting.is_alive()
+    assert os.read(back, 99) == b"P5\n1 1\n9\n\x06"
+    for it in (source, back, target):
+        os.close(it)
+
+
+def test_arrays():
+    numpy = pytest.importorskip("numpy")
+    gray = numpy.array([[1, 2], [3, 4], [5, 6]], numpy.uint8)
+    assert pnmpipe.run_array("pamflip -r90", gray).tolist() == [[2, 4, 6], [1, 3, 5]]
+    color = numpy.arange(12, dtype=numpy.uint8).reshape(2, 2, 3)
+    assert pnmpipe.run_array("pamflip -tb", color).tolist() == color[::-1].tolist()
+    assert pnmpipe.run_array("pamchannel 2", color).tolist() == color[:, :, 2].tolist()
+    wide = numpy.array([[0, 258, 65535]], numpy.uint16)
+    turned = pnmpipe.run_array("pnminvert", wide)
+    assert turned.dtype == numpy.uint16 and turned.tolist() == [[65535, 65277, 0]]
+    bits = numpy.array([[True, False, False]])
+    flipped = pnmpipe.run_array("pamflip -lr", bits)
+    assert flipped.dtype == numpy.bool_ and flipped.tolist() == [[False, False, True]]
+    assert pnmpipe.run_array("pamflip -lr", gray[:, ::-1]).tolist() == gray.tolist()
+    with pytest.raises(TypeError):
+        pnmpipe.run_array("pnminvert", numpy.zeros((2, 2)))
+
+
+def test_version():
+    assert pnmpipe.version().count(".") == 2
