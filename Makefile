@@ -7,7 +7,7 @@ TESTED := pnm_image_tests pnm_flow_tests
 CASES := pnm_format_cases pnm_tools_cases pnm_flow_cases
 
 .PHONY: all bench bench-files bench-sweep built check controls deb dist gate help install install-library lanes library
-.PHONY: long-stream near pass pictures recipes refused scripts soak test toolchain uninstall wheel
+.PHONY: long-stream near pass pictures recipes refused scripts soak soak-library test toolchain uninstall wheel
 
 # where `make install` puts things, below DESTDIR
 PREFIX ?= /usr/local
@@ -178,6 +178,10 @@ refused: toolchain
 	for crate in $(REFUSED); do (cd crates/$$crate && rt test) || exit 1; done
 	python3 scripts/refused.py growth start silent tests
 
+# random chains over random texts, by the C library and by the program that make and make library have left
+soak-library: built
+	python3 scripts/soak_library.py
+
 # random chains over random streams, in one thread and over threads between slow devices
 soak: toolchain
 	cd crates/pnm_soak && rt run -- 4 2 7 raw pnminvert < stdin > /dev/null
@@ -201,6 +205,7 @@ help:
 	@echo "make controls        tries the edits that keep the code's meaning, which must prove"
 	@echo "make refused         refuses each allocation and each start of a thread in turn, of the program that make has left and of tests"
 	@echo "make soak SECONDS=n  runs random chains over random streams for n seconds, in one thread and over threads"
+	@echo "make soak-library    runs 100,000 random cases by the C library and by the program, and compares"
 	@echo "make scripts         checks the layout, the stored commands, the scripts, pages and documents, with the program that make has left"
 	@echo "make wheel           leaves a wheel of the Python module, with the C library that make library has left, in dist/"
 	@echo "make install         installs the program that make has left, and the C library that make library has left, below PREFIX=/usr/local; make uninstall takes it away"

@@ -136,9 +136,18 @@ class Host:
             self.child = None
 
 
-def lacking(wants, path, host):
-    """The programs that a block wants and that aren't there."""
-    lacks = [name for name in wants if not shutil.which(name, path=f"{path}:/usr/sbin:/sbin")]
+def is_there(name, env):
+    """Whether a program is, or the C library that make library leaves, or the Python module Pillow."""
+    if name == "libpnmpipe":
+        return os.path.exists(f"{env['PREFIX']}/lib/libpnmpipe.so.1")
+    if name == "pillow":
+        return subprocess.run(["python3", "-c", "import PIL"], env=env, stderr=subprocess.DEVNULL).returncode == 0
+    return shutil.which(name, path=f"{env['PATH']}:/usr/sbin:/sbin") is not None
+
+
+def lacking(wants, env, host):
+    """What a block wants and isn't there."""
+    lacks = [name for name in wants if not is_there(name, env)]
     if "sshd" in wants and not host.child and not lacks:
         lacks.append("an sshd that can be entered")
     return lacks
@@ -184,11 +193,13 @@ def main():
         path = f"{work}/bin:{prefix}/bin:{os.environ['PATH']}"
         host = Host(work, path)
         env = {**os.environ, "PATH": path, "PREFIX": prefix, "HOME": f"{work}/home"}
+        env["EXAMPLES"], env["PYTHONPATH"] = f"{ROOT}/library/examples", f"{ROOT}/library/python"
+        env["PNMPIPE_LIBRARY"], env["PYTHONDONTWRITEBYTECODE"] = f"{prefix}/lib/libpnmpipe.so.1", "1"
         try:
             for number, (words, script) in enumerate(blocks, 1):
                 given = dict(word.split("=", 1) for word in words.split())
                 name = script.strip().split("\n")[0]
-                lacks = lacking(given.get("wants", "").split(",") if "wants" in given else [], path, host)
+                lacks = lacking(given.get("wants", "").split(",") if "wants" in given else [], env, host)
                 if lacks:
                     left_out += 1
                     print(f"left out: {name}: it wants {', '.join(lacks)}")

@@ -1,0 +1,88 @@
+#!/usr/bin/env python3
+"""Random chains over random texts, whole and cut, by the C library and by the program, which have to agree on the
+results, also before a fault, and on the fault's line. It stands outside the gate; both are those that make has left."""
+
+import argparse
+import collections
+import os
+import random
+import subprocess
+import sys
+
+ROOT = os.path.dirname(os.path.dirname(os.path.abspath(__file__)))
+PROGRAM, SHARED = os.path.join(ROOT, "bin/pnmpipe"), os.path.join(ROOT, "bin/libpnmpipe.so.1")
+
+TOOLS = ["pnminvert", "pamflip -lr", "pamflip -r90", "pamflip -tb", "pamflip -xy", "pamflip -r180", "pamdepth 255"]
+TOOLS += ["pamdepth 3", "pamcut -left 1", "pamcut -width 2 -top 1", "pamchannel 0", "pamchannel 2 0", "pamenlarge 2"]
+TOOLS += ["pamenlarge -xscale 3", "pnmtile 11 5"]
+FAULTY = ["pamflop", "pamdepth", "pamdepth 0", "", "pamcut -left 1 -left", "pamflip -lr 3", "pamcut -left 1 -left 2"]
+
+
+def image(source):
+    """An image of any kind, now and then with a size, a maxval or a sample that isn't allowed."""
+    kind = source.choice("1234567")
+    width, height = source.randint(int(source.random() > 0.05), 9), source.randint(1, 7)
+    depth = {"3": 3, "6": 3, "7": source.randint(1, 4)}.get(kind, 1)
+    maxval = 1 if kind in "14" else source.choice([1, 7, 255, 256, 65535, source.choice([65536, 9])])
+    head = f"P{kind}\n{width} {height}\n" + ("" if kind in "14" else f"{maxval}\n")
+    if kind == "7":
+        lines = f"WIDTH {width}\nHEIGHT {height}\nDEPTH {depth}\nMAXVAL {maxval}\nTUPLTYPE X\n"
+        head = f"P7\n{lines}ENDHDR\n"
+    count = width * height * depth
+    if kind == "4":
+        return head.encode() + source.randbytes((width + 7) // 8 * height)
+    samples = [source.randint(0, maxval + (source.random() < 0.01)) for _ in range(count)]
+    if kind in "123":
+        return (head + " ".join(map(str, samples)) + "\n").encode()
+    size = 1 if maxval < 256 else 2
+    return head.encode() + b"".join(min(it, 256**size - 1).to_bytes(size, "big") for it in samples)
+
+
+def case(source):
+    """A text, a chain and a form."""
+    text = b"".join(image(source) for _ in range(source.choice([0, 1, 1, 1, 2, 3])))
+    if source.random() < 0.3:
+        text = text[: source.randint(0, len(text))]
+    if source.random() < 0.1:
+        text += b"x"
+    tools = TOOLS if source.random() < 0.8 else TOOLS + FAULTY
+    chain = "|".join(source.choice(tools) for _ in range(source.choice([1, 1, 2, 3, 5])))
+    return text, chain, source.random() < 0.3
+
+
+def by_program(text, chain, plain):
+    ran = subprocess.run([PROGRAM, *["--plain"] * plain, "--", chain], input=text, capture_output=True, check=False)
+    return ran.stdout, ran.stderr.decode()
+
+
+def by_library(module, text, chain, plain):
+    try:
+        return module.run(chain, text, plain), ""
+    except module.Fault as fault:
+        return fault.results, f"pnmpipe: {fault}\n"
+
+
+def main():
+    parser = argparse.ArgumentParser(description=__doc__.split("\n")[0])
+    parser.add_argument("--cases", type=int, default=100000)
+    parser.add_argument("--seed", type=int, default=1)
+    words = parser.parse_args()
+    if not (os.path.exists(PROGRAM) and os.path.exists(SHARED)):
+        sys.exit("soak_library: run make and make library first")
+    os.environ["PNMPIPE_LIBRARY"] = SHARED
+    sys.path.insert(0, os.path.join(ROOT, "library/python"))
+    sys.dont_write_bytecode = True
+    import pnmpipe
+
+    source, lines = random.Random(words.seed), collections.Counter()
+    for number in range(words.cases):
+        given = case(source)
+        wanted, made = by_program(*given), by_library(pnmpipe, *given)
+        if made != wanted:
+            sys.exit(f"soak_library: case {number} differs: {given}: {made}, wanted {wanted}")
+        lines[made[1].rpartition(": ")[2].strip() or "well"] += 1
+    print(f"soak_library: {words.cases} cases, none differs: {dict(lines.most_common())}")
+
+
+if __name__ == "__main__":
+    main()
