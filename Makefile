@@ -7,7 +7,7 @@ TESTED := pnm_image_tests pnm_flow_tests
 CASES := pnm_format_cases pnm_tools_cases pnm_flow_cases
 
 .PHONY: all bench bench-files bench-sweep built check controls deb dist gate help install install-library lanes library
-.PHONY: long-stream near pass pictures recipes refused scripts soak soak-library test toolchain uninstall wheel
+.PHONY: long-stream model near pass pictures recipes refused scripts soak soak-library test toolchain uninstall wheel
 
 # where `make install` puts things, below DESTDIR
 PREFIX ?= /usr/local
@@ -54,7 +54,7 @@ check: toolchain
 
 # one check a processor, each of at most 4 GB; then each allocation and each start of a thread is refused in turn, of the
 # program and the tests that the gate has left, the program's input is silent, its stack is small, programs in C call the
-# library, and the scripts, pages and documents are checked
+# library, the scripts, pages and documents are checked, and the model of how threads wait is searched
 gate:
 	mkdir -p bin
 	rm -f bin/gate-failed
@@ -67,6 +67,7 @@ gate:
 	python3 scripts/test_library.py
 	$(MAKE) --no-print-directory scripts BUILT=$(PROGRAM)/out/pnmpipe
 	python3 scripts/cases.py
+	python3 model/check.py --where-installed
 
 # what rt fmt would change, lines, functions and files that are too long, the stored commands, the scripts, pages and
 # documents: in seconds, and with what is installed
@@ -84,6 +85,10 @@ scripts:
 	python3 scripts/test_build.py
 	python3 scripts/test_library.py --header
 	python3 scripts/pictures.py --check --program $(BUILT)
+
+# the model of how threads wait, searched for small sizes; the big ones too: make model ALL=1
+model:
+	python3 model/check.py $(if $(ALL),--all)
 
 built:
 	@test -x bin/pnmpipe || { echo "there is no bin/pnmpipe: run make first" >&2; exit 1; }
@@ -196,7 +201,7 @@ help:
 	@echo "make near CRATES=..  tries changed crates in minutes: layout, proof, edits that must fail, tests as they stand, and the crates above"
 	@echo "make pass CRATES=..  proves changed crates, their tests and edits from nothing, as the gate does, with what they stand on"
 	@echo "make test            the tests alone, without their proofs"
-	@echo "make check           the whole gate: every proof, the edits that must fail, the tests, the stored runs and commands, refused allocations, silent inputs, small stacks, the C library, scripts and pages"
+	@echo "make check           the whole gate: every proof, the edits that must fail, the tests, the stored runs and commands, refused allocations, silent inputs, small stacks, the C library, scripts and pages, the model"
 	@echo "make bench           times the program that make has left beside Netpbm's own tools, on large images, narrow rows and small images, and writes docs/figures.tsv"
 	@echo "make bench-sweep     all tools by kinds of images and by options, and which take more processor time than Netpbm's"
 	@echo "make bench-files     times many small files in each way, beside Netpbm's own tools"
@@ -207,6 +212,7 @@ help:
 	@echo "make soak SECONDS=n  runs random chains over random streams for n seconds, in one thread and over threads"
 	@echo "make soak-library    runs 100,000 random cases by the C library and by the program, and compares"
 	@echo "make scripts         checks the layout, the stored commands, the scripts, pages and documents, with the program that make has left"
+	@echo "make model           searches the model of how threads wait, for small sizes, with spin and gcc; ALL=1: for bigger ones too"
 	@echo "make wheel           leaves a wheel of the Python module, with the C library that make library has left, in dist/"
 	@echo "make install         installs the program that make has left, and the C library that make library has left, below PREFIX=/usr/local; make uninstall takes it away"
 	@echo "make dist, make deb  archives, and Debian packages, of what make and make library have left, in dist/"

@@ -4,7 +4,7 @@
 set -eu
 cd "$(dirname "$0")/.."
 shells='' pythons='' bashes=completions/pnmpipe.bash
-for script in scripts/* .ci/run; do
+for script in scripts/* model/* .ci/run; do
     [ -f "$script" ] || continue
     case $(head -n 1 "$script") in
         '#!'*python3) pythons="$pythons $script" ;;

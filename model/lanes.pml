@@ -1,0 +1,105 @@
+/* A row-wise tool over lanes, between a thread that sends images and one that takes what comes, or by itself
+ * (BARE).
+ *
+ * The thread that sends may drop its end at any time, unless NO_FAULTS, and the one that takes may, with
+ * TAKER_GOES.
+ *
+ * RINGS_ALONE: a lane is one ring from the dealer to the gatherer, and no thread: so more of them can be searched.
+ *
+ * AWAITS: between messages the thread that sends may wait until all has come out behind the lanes.
+ *
+ * HOME_OF_LANES: a gatherer that drains sleeps at the sending end of its output, where a lane wakes it before it
+ * sleeps for want of room, and where its stream ends.
+ *
+ * Rings: 0 to the dealer, then those to the lanes, those from them, and LAST behind the gatherer.
+ */
+#ifndef LANES
+#define LANES 2
+#endif
+#ifndef CAP
+#define CAP 1
+#endif
+#ifndef MOST_IMAGES
+#define MOST_IMAGES 1
+#endif
+#ifndef MOST_ROWS
+#define MOST_ROWS 3
+#endif
+#define NR (2 * LANES + 2)
+#define NP (2 * NR)
+#define INPUT 0
+#ifdef RINGS_ALONE
+#define TO(lane) FROM(lane)
+#else
+#define TO(lane) (1 + (lane))
+#endif
+#define FROM(lane) (1 + LANES + (lane))
+#define LAST (1 + 2 * LANES)
+#define SP(r) (2 * (r))
+#define RP(r) (2 * (r) + 1)
+#ifdef HOME_OF_LANES
+#define WAKE_HOME(r) if :: (r) > LANES && (r) < LAST -> WAKE(SP(LAST)) :: else fi
+#define WAKE_AT_END(r) WAKE_HOME(r)
+#endif
+#include "rings.pml"
+#include "lane_threads.pml"
+
+#ifndef BARE
+#ifdef AWAITS
+short owed; /* what was sent, and hasn't come out behind the lanes */
+#define OWES owed++
+#define OWES_LESS owed--
+#else
+#define OWES skip
+#define OWES_LESS skip
+#endif
+
+active proctype Source() {
+    SENDER_LOCALS
+    SOURCE_LOCALS
+    bit ok;
+    byte m;
+    do
+#ifdef AWAITS
+    :: owed != 0 -> wake_receiver(0); (owed == 0)
+#endif
+    :: true -> say(m);
+        send(0, m, 1, ok);
+        OWES;
+        if :: ENDS(m) || !ok -> break :: else -> m = 0 fi
+#ifndef NO_FAULTS
+    :: true -> drop_sender(0); break
+#endif
+    od
+}
+
+active proctype Taker() {
+    LOCALS
+    bit ok;
+    byte m;
+    do
+    :: true -> await_message(LAST, ok);
+        if
+        :: ok -> take(LAST, m); OWES_LESS; if :: ENDS(m) -> break :: else -> m = 0 fi
+        :: else -> break
+        fi
+#ifdef TAKER_GOES
+    :: true -> drop_receiver(LAST); break
+#endif
+    od
+}
+#endif
+
+init {
+    atomic {
+#ifndef RINGS_ALONE
+#if LANES > 2
+        run Lane(TO(2), FROM(2));
+#endif
+        run Lane(TO(1), FROM(1));
+        run Lane(TO(0), FROM(0));
+#endif
+        run Gatherer();
+        run Dealer()
+    }
+}
