@@ -70,7 +70,7 @@ gate:
 	python3 model/check.py --where-installed
 
 # what rt fmt would change, lines, functions and files that are too long, the stored commands, the scripts, pages and
-# documents: in seconds, and with what is installed
+# documents, and whether functions have changed that the model restates: in seconds, and with what is installed
 BUILT ?= bin/pnmpipe
 scripts:
 	python3 scripts/style.py
@@ -85,6 +85,8 @@ scripts:
 	python3 scripts/test_build.py
 	python3 scripts/test_library.py --header
 	python3 scripts/pictures.py --check --program $(BUILT)
+	python3 model/functions.py
+	python3 model/test_functions.py
 
 # the model of how threads wait, searched for small sizes; the big ones too: make model ALL=1
 model:
