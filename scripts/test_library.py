@@ -390,6 +390,7 @@ def faults_of_library(folder):
     yield from exported(folder)
     driver = built.compile(f"{TESTS}/command.c")
     yield from ended_well("nulls", [built.compile(f"{TESTS}/nulls.c"), library.version()])
+    yield from ended_well("interrupted", [built.compile(f"{TESTS}/interrupted.c", language="gnu99")])
     if shutil.which("c++"):
         yield from ended_well("plus", [built.compile(f"{TESTS}/plus.cpp", language="c++11", cc="c++")])
     header = ["-x", "c", "-std=c89", "-fsyntax-only", *WARNINGS, os.path.join(folder, library.HEADER)]
