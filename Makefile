@@ -6,8 +6,8 @@ TESTED := pnm_image_tests pnm_flow_tests
 # programs that tell what comes of written cases
 CASES := pnm_format_cases pnm_tools_cases pnm_flow_cases
 
-.PHONY: all bench bench-files bench-sweep built check controls deb dist gate help install install-library lanes library
-.PHONY: long-stream model near pass pictures recipes refused scripts soak soak-library test toolchain uninstall wheel
+.PHONY: all bench bench-files bench-sweep bench-waits built check controls deb dist gate help install install-library
+.PHONY: lanes library long-stream model near pass pictures recipes refused scripts soak soak-library test toolchain uninstall wheel
 
 # where `make install` puts things, below DESTDIR
 PREFIX ?= /usr/local
@@ -168,6 +168,10 @@ bench-sweep:
 bench-files:
 	python3 scripts/bench_files.py
 
+# the program that make has left beside busy processes on its processors, and Netpbm's tools: a table, for a quiet machine
+bench-waits: built
+	python3 scripts/bench_waits.py
+
 # the program that make has left with 1, 2, 4 and 8 lanes: a table, for a quiet machine
 lanes:
 	python3 scripts/lanes.py
@@ -207,6 +211,7 @@ help:
 	@echo "make bench           times the program that make has left beside Netpbm's own tools, on large images, narrow rows and small images, and writes docs/figures.tsv"
 	@echo "make bench-sweep     all tools by kinds of images and by options, and which take more processor time than Netpbm's"
 	@echo "make bench-files     times many small files in each way, beside Netpbm's own tools"
+	@echo "make bench-waits     times the program that make has left beside busy processes on its processors, and Netpbm's own tools"
 	@echo "make lanes           times the program that make has left with 1, 2, 4 and 8 lanes"
 	@echo "make long-stream     passes a stream of 4 GiB through the program that make has left, and wants less than 32 MB of memory"
 	@echo "make controls        tries the edits that keep the code's meaning, which must prove"

@@ -1,0 +1,134 @@
+#!/usr/bin/env python3
+"""Times how the threads of bin/pnmpipe wait: beside busy processes on the processors that it has, and a shell pipe of
+Netpbm's tools in the same conditions; from a file to memory, medians, the bytes compared.
+
+With --sweep OTHER, the path of another program, it times both in turn on a quiet machine, over numbers of processors,
+tools, places of a ring, samples of a row and lanes, and prints geometric means of this one's seconds over the other's.
+"""
+
+import argparse
+import contextlib
+import itertools
+import math
+import os
+import random
+import statistics
+import subprocess
+import sys
+import tempfile
+import time
+
+from bench import median_of, same_bytes, shown, timed
+from bench_narrow import written
+
+# processors, busy processes beside, and the name, header and bytes of an image with its tool
+COLOR = ("rows of 3 bytes", b"P6\n1 300000\n255\n", 900_000, "pamchannel 0")
+RECEIPT = ("rows of 72 bytes", b"P4\n576 300000\n", 72 * 300_000, "pamflip -tb")
+PHOTO = ("PPM, 4,032 by 3,024", b"P6\n4032 3024\n255\n", 3 * 4032 * 3024, "pnminvert")
+CELLS = [
+    *((1, 1, line) for line in (COLOR, RECEIPT, PHOTO)),
+    *((2, 2, line) for line in (COLOR, RECEIPT, PHOTO)),
+    *((1, 0, line) for line in (COLOR, RECEIPT, PHOTO)),
+]
+
+THREE = "pamchannel 0 | pnminvert | pamflip -lr"
+CHAINS = {1: "pamchannel 0", 3: THREE, 16: " | ".join([THREE] * 5 + ["pamchannel 0"])}
+FACTORS = {
+    "processors": (1, 2, 4),
+    "tools": tuple(CHAINS),
+    "ring": (1, 8, 64),
+    "samples a row": (16, 64, 1000, 20000),
+    "lanes": (1, 3, 8),
+}
+SAMPLES = 500_000
+
+
+def on(processors):
+    return ["taskset", "-c", f"0-{processors - 1}"]
+
+
+@contextlib.contextmanager
+def busy(count):
+    """So many processes that never wait, each on a processor of its own."""
+    loop = [sys.executable, "-c", "while True: pass"]
+    children = [subprocess.Popen(["taskset", "-c", str(number), *loop]) for number in range(count)]
+    time.sleep(0.3)
+    try:
+        yield
+    finally:
+        for child in children:
+            child.kill()
+            child.wait()
+
+
+def beside_busy(program, runs, folder):
+    """A line for each cell; how many give other bytes than Netpbm's tool."""
+    wanted, made = (os.path.join(folder, name) for name in ("wanted", "made"))
+    print("| processors | busy beside | image | tool | pnmpipe | Netpbm | over Netpbm |\n" + "|---" * 7 + "|")
+    differing = 0
+    for processors, count, (name, header, size, tool) in CELLS:
+        path = written(folder, "image", header, size, 1)
+        with busy(count):
+            peer = median_of([*on(processors), "sh", "-c", tool], path, wanted, runs)
+            result = median_of([*on(processors), program, tool], path, made, runs)
+        differing += not (peer and result and same_bytes(wanted, made))
+        ratio = "%.2f" % (result[0] / peer[0]) if peer and result else "-"
+        line = (processors, count, name, f"`{tool}`", shown(result), shown(peer), ratio)
+        print("| %s | %s | %s | %s | %s | %s | %s |" % line, flush=True)
+    return differing
+
+
+def mean_of(ratios):
+    return math.exp(sum(map(math.log, ratios)) / len(ratios))
+
+
+def compared(programs, runs, cell, folder):
+    """How many times the wall and processor seconds of the second program the first takes, by medians in turn."""
+    processors, tools, ring, width, lanes = cell
+    path = os.path.join(folder, str(width))
+    if not os.path.exists(path):
+        height = max(20, SAMPLES // width)
+        written(folder, str(width), b"P5\n%d %d\n255\n" % (width, height), width * height, 1)
+    words = ["--ring", str(ring), "--lanes", str(lanes), CHAINS[tools]]
+    pairs = [[timed([*on(processors), program, *words], path, os.devnull) for program in programs] for _ in range(runs)]
+    if any(None in pair for pair in pairs):
+        sys.exit(f"{words}: a run failed")
+    seconds = [[statistics.median(pair[at][kind] for pair in pairs) for kind in (0, 1)] for at in (0, 1)]
+    return [max(mine, 0.001) / max(other, 0.001) for mine, other in zip(*seconds)]
+
+
+def sweep(programs, runs, seconds, folder):
+    """Geometric means over all cells that there is time for, in random order, and by each number of a factor."""
+    cells = [cell for cell in itertools.product(*FACTORS.values()) if cell[0] <= os.cpu_count()]
+    random.Random(1).shuffle(cells)
+    start, told = time.monotonic(), []
+    for cell in cells:
+        if time.monotonic() - start > seconds:
+            break
+        told.append((cell, compared(programs, runs, cell, folder)))
+    groups = [("all", [ratios for _, ratios in told])]
+    for at, (name, numbers) in enumerate(FACTORS.items()):
+        groups += [(f"{name}: {number}", [ratios for cell, ratios in told if cell[at] == number]) for number in numbers]
+    print(f"{len(told)} of {len(cells)} cells\n| | wall | processor |\n|---|---|---|")
+    for name, ratios in groups:
+        if ratios:
+            walls, used = zip(*ratios)
+            print("| %s | %.2f | %.2f |" % (name, mean_of(walls), mean_of(used)))
+
+
+def main():
+    parser = argparse.ArgumentParser(description=__doc__.split("\n\n", maxsplit=1)[0])
+    parser.add_argument("--program", default="bin/pnmpipe")
+    parser.add_argument("--sweep", metavar="OTHER", help="another program, to compare with on a quiet machine")
+    parser.add_argument("--runs", type=int, default=7)
+    parser.add_argument("--seconds", type=float, default=3600, help="how long a sweep may take")
+    args = parser.parse_args()
+    with tempfile.TemporaryDirectory(dir="/dev/shm" if os.path.isdir("/dev/shm") else None) as folder:
+        if args.sweep:
+            sweep((args.program, args.sweep), args.runs, args.seconds, folder)
+        elif beside_busy(args.program, args.runs, folder):
+            sys.exit("some results differ from Netpbm's or failed")
+
+
+if __name__ == "__main__":
+    main()
