@@ -93,14 +93,14 @@ model:
 	python3 model/check.py $(if $(ALL),--all)
 
 built:
-	@test -x bin/pnmpipe || { echo "there is no bin/pnmpipe: run make first" >&2; exit 1; }
+	@test -x $(BUILT) || { echo "there is no $(BUILT): run make first" >&2; exit 1; }
 
 # the program that make has left, its pages, the completions, the helpers, and the stand-ins for Netpbm's tools; and the
 # C library, where make library has left it
 install: built
 	install -d "$(DESTDIR)$(BINDIR)" "$(DESTDIR)$(MANDIR)/man1" "$(DESTDIR)$(SHIMDIR)"
 	install -d "$(DESTDIR)$(COMPLETIONDIR)" "$(DESTDIR)$(ZSHDIR)" "$(DESTDIR)$(FISHDIR)"
-	install -m 755 bin/pnmpipe "$(DESTDIR)$(BINDIR)/pnmpipe"
+	install -m 755 $(BUILT) "$(DESTDIR)$(BINDIR)/pnmpipe"
 	for helper in $(HELPERS); do install -m 755 scripts/$$helper "$(DESTDIR)$(BINDIR)/$$helper" || exit 1; done
 	for page in man/*.1; do sed "s/@VERSION@/$$(cat VERSION)/" $$page > "$(DESTDIR)$(MANDIR)/man1/$${page#man/}" || exit 1; done
 	install -m 644 completions/pnmpipe.bash "$(DESTDIR)$(COMPLETIONDIR)/pnmpipe"

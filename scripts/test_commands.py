@@ -215,17 +215,25 @@ def faults_of_help(text):
             yield f"it doesn't name {name}, {known.get(name, 'which is nowhere')}"
 
 
+def stored_help():
+    with open(f"{STORED}/{HELP}", "rb") as file:
+        return file.read()
+
+
+def stored_commands():
+    """The commands of all files."""
+    with open(f"{ROOT}/VERSION", "rb") as file:
+        texts = {"helped": stored_help(), "versioned": b"pnmpipe " + file.read()}
+    names = sorted(set(os.listdir(STORED)) - {HELP})
+    return [command for name in names for command in read_commands(name, texts)]
+
+
 def main():
     parser = argparse.ArgumentParser(description=__doc__.split("\n")[0])
     parser.add_argument("--program", default=f"{ROOT}/bin/pnmpipe")
     program = os.path.abspath(parser.parse_args().program)
-    with open(f"{STORED}/{HELP}", "rb") as file:
-        help_text = file.read()
-    with open(f"{ROOT}/VERSION", "rb") as file:
-        texts = {"helped": help_text, "versioned": b"pnmpipe " + file.read()}
-    names = sorted(set(os.listdir(STORED)) - {HELP})
-    commands = [command for name in names for command in read_commands(name, texts)]
-    faults = list(faults_of_help(help_text.decode("ascii")))
+    commands = stored_commands()
+    faults = list(faults_of_help(stored_help().decode("ascii")))
     for fault in faults:
         print(f"test_commands: the help text: {fault}")
     if not os.access(program, os.X_OK):

@@ -10,7 +10,6 @@ import argparse
 import os
 import random
 import re
-import shutil
 import subprocess
 import sys
 import tempfile
@@ -22,7 +21,7 @@ from cases import SETS
 from chain_text import loaded
 from input_faults import Words, in_words
 from soak import chain_of, stream_of
-from test_commands import HELP, STORED, read_commands
+from test_commands import stored_commands
 from test_helpers import COLOR, GRAY, ROOT, SCRIPTS, run
 
 EXPLAIN = f"{SCRIPTS}/pnmpipe-explain"
@@ -233,17 +232,16 @@ class Explain(unittest.TestCase):
 
     def test_stored_commands(self):
         count = 0
-        for name in sorted(set(os.listdir(STORED)) - {HELP}):
-            for command in read_commands(name, b""):
-                words = [os.fsdecode(word) for word in command.words[1:]]
-                # help and the version are its own; that a device fails can't be seen from here
-                if not words or {"--version", "-V"} & set(words) or b"WriteFailed" in command.printed:
-                    continue
-                text, status = explained(words, command.given)
-                told = text.split("\n")[0] + "\n" if status else ""
-                wanted = command.printed.decode()
-                self.assertEqual((told, status), (wanted, 1 if command.status else 0), command.place)
-                count += 1
+        for command in stored_commands():
+            words = [os.fsdecode(word) for word in command.words[1:]]
+            # help and the version are its own; that a device fails can't be seen from here
+            if not words or {"--version", "-V"} & set(words) or b"WriteFailed" in command.printed:
+                continue
+            text, status = explained(words, command.given)
+            told = text.split("\n")[0] + "\n" if status else ""
+            wanted = command.printed.decode()
+            self.assertEqual((told, status), (wanted, 1 if command.status else 0), command.place)
+            count += 1
         self.assertGreater(count, 100)
 
 
@@ -469,11 +467,9 @@ class Program(unittest.TestCase):
         done = run(["sh", "-c", command], env={**os.environ, "PATH": f"{SCRIPTS}:{os.environ['PATH']}"})
         self.assertEqual((done.stdout.decode(), done.returncode), (wanted, 1))
 
-    @unittest.skipUnless(os.access(f"{ROOT}/bin/pnmpipe", os.X_OK), "there is no bin/pnmpipe")
-    @unittest.skipUnless(shutil.which("make"), "there is no make")
     def test_installed(self):
         with tempfile.TemporaryDirectory() as folder:
-            target = ["-s", "-C", ROOT, f"DESTDIR={folder}", "PREFIX=/usr"]
+            target = ["-s", "-C", ROOT, f"BUILT={OPTIONS.program}", f"DESTDIR={folder}", "PREFIX=/usr"]
             self.assertEqual(run(["make", "install", *target]).returncode, 0)
             done = run([f"{folder}/usr/bin/pnmpipe-explain", "pamcut -l 8"], GRAY)
             self.assertIn(b"pnmpipe 'pamcut -left 8'\n", done.stdout)
