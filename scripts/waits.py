@@ -6,7 +6,7 @@ while the last tool waits for it, wide rows beside which places stay free, lanes
 the sleeps that timed out, where it is installed; a run has to end soon in any case, since each such sleep lasts
 400 milliseconds. On a machine with too much else to do a neighbour may come late, too: so a run in which a sleep timed
 out is made again, and one of its tries has to be without. `--tries 1` wants it of each. `--runs N` makes N runs in
-all, the same ones again and again.
+all, the same ones again and again, on all processors and on one in turn.
 """
 
 import argparse
@@ -46,8 +46,10 @@ RUNS = [
     # the last tool waits for room in the caller's ring, while the caller waits for room in the first one's
     (["--ring", "1", "pamenlarge 8"], image(400_000, 4), 0),
     (["--ring", "2", "pamenlarge 4 | pnminvert"], WIDE, 0),
-    # places that stay free beside wide rows: the sender is woken where none is left, not only where half is
+    # places that stay free beside wide rows: the sender is woken where none is left, not only where half is, since
+    # the messages around a row fill places that the row keeps free, once it is there
     (["--ring", "4", "pnminvert"], WIDE, 0),
+    (["--ring", "4", "pnminvert"], image(40_000, 1) * 60, 0),
     (["--ring", "1", "pamchannel 0"], NARROW, 0),
     (["pamflip -tb | pamflip -xy"], PAGE, 0),
     (["--ring", "8", "pamcut -left 8 -right -9 -top 2 | pamenlarge 2"], LABELS, 0),
@@ -73,12 +75,15 @@ def first_fault(asked, number, folder):
 def fault_of(program, number, folder):
     """What is wrong with a run, if anything: a sleep that timed out, another status, or that it lasts too long."""
     words, source, status = RUNS[number % len(RUNS)]
+    processors = os.sched_getaffinity(0)
+    if number // len(RUNS) % 2:
+        processors = {min(processors)}
     trace = os.path.join(folder, str(number))
     tracer = [*TRACER, trace] if shutil.which("strace") else []
     start = time.monotonic()
     try:
-        run = subprocess.run([*tracer, program, *words], input=source, stdout=subprocess.DEVNULL,
-                             stderr=subprocess.DEVNULL, timeout=60, check=False)
+        run = subprocess.run([*tracer, "taskset", "-c", ",".join(map(str, processors)), program, *words], input=source,
+                             stdout=subprocess.DEVNULL, stderr=subprocess.DEVNULL, timeout=60, check=False)
     except subprocess.TimeoutExpired:
         return f"{words} doesn't end"
     seconds = time.monotonic() - start
