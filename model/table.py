@@ -60,7 +60,8 @@ edit("ends.pml", "CAP=1 M_NO_TOKEN", "a wake before the sleep is lost",
 edit("ends.pml", "CAP=1 M_NO_WAKE_BY_SENDER", "no wake by the sending end",
      "sender.rt, Sender::wake_receiver: without self.waker.wake_receiver()")
 edit("ends.pml", "CAP=1 M_NO_WAKE_AT_PUSH", "no wake after a message",
-     "sender.rt, Sender::push: without self.wake_receiver()")
+     "sender.rt, Sender::push: without self.wake_receiver()",
+     caught="scripts/waits.py, most runs")
 edit("ends.pml", "CAP=1 M_WAKE_BEFORE_TAIL", "the wake before the message is there",
      "sender.rt, Sender::push: self.waker.wake_receiver() before push_reserved, and none after it", is_big=True)
 edit("ends.pml", "CAP=1 M_HOLDS_END", "the end of the stream is held back",
@@ -70,7 +71,8 @@ edit("ends.pml", "CAP=1 M_NO_WAKE_AT_POP", "no wake after a message was taken",
 edit("ends.pml", "CAP=2 M_NO_WAKE_AT_NONE_LEFT", "no wake where none is left",
      "receiver.rt, Receiver::receive_known: left > 0 && left == self.half")
 edit("ends.pml", "CAP=4 KEPT=2 M_NO_WAKE_AT_LAST", "a wake where half is left alone, beside wide rows",
-     "receiver.rt, Receiver::receive_known: left == self.half")
+     "receiver.rt, Receiver::receive_known: left == self.half",
+     caught="pnm_flow_tests, wakes_where_none_is_left")
 edit("ends.pml", "CAP=4 M_NO_WAKE_AT_LAST", "the same without wide rows: it costs time, and no more",
      "receiver.rt, Receiver::receive_known: left == self.half", wanted="holds", is_big=True)
 edit("ends.pml", "CAP=4 KEPT=2 M_NO_WAKE_AT_HALF", "a wake where none is left alone: it costs time, and no more",
@@ -115,7 +117,8 @@ holds("turns.pml", "TOOLS=1 CAP=1 OUTER_THREADS MOST_ANSWERS=1", f"{BETWEEN}, st
 holds("turns.pml", f"{TWO} OUTER_THREADS MOST_ANSWERS=1", BETWEEN, is_big=True)
 
 edit("turns.pml", f"{SMALL} M_NO_WAKE_AT_HOME", "the caller isn't woken at home",
-     "wakers.rt, SenderWaker::sleep: without home.sender.wake()")
+     "wakers.rt, SenderWaker::sleep: without home.sender.wake()",
+     caught="pnm_flow_tests, wakes_its_home_before_it_sleeps")
 edit("turns.pml", f"{SMALL} M_NO_WAKE_BEFORE_TAKING", "no wake before the source may read",
      "turns.rt, wake_before_taking: without feeder.wake_receiver()")
 edit("turns.pml", f"{SMALL} UNASSERTED M_NO_WAKE_BEFORE_TAKING", "the same, by the sleep that it makes last",
@@ -127,7 +130,8 @@ edit("turns.pml", f"{SMALL} M_WAITS_FOR_ROOM_ALONE", "the caller sleeps at the f
 edit("turns.pml", f"{SMALL} M_WAITS_FOR_RESULTS_ALONE", "the caller sleeps at the last ring alone",
      "turns.rt, wait: collector.wait(rt) always", is_big=True)
 edit("turns.pml", f"{SMALL} M_NO_WAKE_BEFORE_INPUT", "no wake before a stage waits for input",
-     "stage.rt, wait: without output.wake_receiver()")
+     "stage.rt, wait: without output.wake_receiver()",
+     caught="scripts/waits.py, pamflip -tb and a ring of 8")
 edit("turns.pml", f"{SMALL} M_NO_WAKE_AT_PUSH", "no wake after a message, in a run",
      "sender.rt, Sender::push: without self.wake_receiver()", is_big=True)
 edit("turns.pml", f"{SMALL} M_NO_WAKE_AT_POP", "no wake after a message was taken, in a run",
