@@ -15,7 +15,7 @@ use std::sync::Wait;
 
 /// How many short messages at most are sent before the thread at the receiving end is woken for them: to wake one that
 /// sleeps costs as much as to make some of them, and so few are soon made.
-const MOST_MESSAGES: usize = 32;
+const MOST_MESSAGES: u16 = 32;
 
 /// A row of fewer bytes is short, as are the messages around rows: some of them are made in less time than a sleeping
 /// thread takes to wake.
@@ -34,11 +34,12 @@ pub struct Sender {
     /// The end itself. It comes first, since it has to be gone before the other thread is woken.
     pub(crate) ring: Producer<Parcel, Global, AnyMessage>,
     waker: SenderWaker,
-    /// The messages that were sent and woke nobody, and for how many short ones somebody is woken.
-    unwoken: usize,
-    messages_per_wake: usize,
+    /// The messages that were sent and woke nobody, and for how many short ones somebody is woken. These numbers are
+    /// narrow, since each level of a chain's starts holds a few ends.
+    unwoken: u16,
+    messages_per_wake: u16,
     /// The places that stay free, since the row that was sent last is wide.
-    kept_free: usize,
+    kept_free: u32,
 }
 
 impl Sender {
@@ -63,7 +64,8 @@ impl Sender {
         ensures ring { SameSender self.old self.new }
         ensures sent { sent self.new ≡ sent self.old }
     {
-        self.messages_per_wake = (self.ring.capacity() / 2).min(MOST_MESSAGES);
+        let half = u16::try_from(self.ring.capacity() / 2).unwrap_or(MOST_MESSAGES);
+        self.messages_per_wake = half.min(MOST_MESSAGES);
     }
 
     /// From now on the sending end of that ring, the home of this ring's receiver, is woken, too, before this end's
@@ -95,7 +97,8 @@ impl Sender {
         ensures sent { sent self.new ≡ sent self.old }
         ensures room { IsTrue result → 0 < known_free self.new }
     {
-        self.ring.cached_slots() > self.kept_free || self.ring.slots() > self.kept_free
+        let kept_free = self.kept_free as usize;
+        self.ring.cached_slots() > kept_free || self.ring.slots() > kept_free
     }
 
     /// Whether the receiving end was dropped.
@@ -219,10 +222,10 @@ fn bytes_of(parcel: &Parcel) -> Option<usize> {
 }
 
 /// The places of a ring that stay free beside rows of so many bytes.
-fn places_beyond(capacity: usize, bytes: usize) -> usize {
+fn places_beyond(capacity: usize, bytes: usize) -> u32 {
     if bytes <= BYTES_PER_PLACE {
         return 0;
     }
     let most = capacity.saturating_mul(BYTES_PER_PLACE) / bytes;
-    capacity.saturating_sub(most.max(LEAST_ROWS))
+    u32::try_from(capacity.saturating_sub(most.max(LEAST_ROWS))).unwrap_or(u32::MAX)
 }
