@@ -1,0 +1,168 @@
+#!/usr/bin/env python3
+"""Runs random chains over random streams while something disturbs them, and wants what a quiet run answers.
+
+A chain has 1 to 16 tools, rings of 1 or 2 places, and one lane or several. What disturbs a run is random, too: a slow
+writer before it and a slow reader behind it, signals that stop it and let it go on, one processor for all its threads.
+The bytes, the status and the line have to be those of a run of --reference (by default the same program) with the
+rings that it makes and one lane; after a fault one's bytes are a prefix of the other's. Each run is made of a seed.
+"""
+
+import argparse
+import concurrent.futures
+import itertools
+import os
+import random
+import signal
+import subprocess
+import sys
+import threading
+import time
+
+ROOT = os.path.dirname(os.path.dirname(os.path.abspath(__file__)))
+
+TOOLS = """pnminvert, pamflip -lr, pamflip -tb, pamflip -xy, pamflip -r90, pamflip -r180, pamflip -null, pamcut -left 1,
+pamcut -top 1, pamcut -left 1 -right -2, pamcut -width 3, pamdepth 200, pamdepth 1000, pamchannel 0, pamenlarge 2,
+pamenlarge -yscale 2, pnmtile 7 5""".replace("\n", " ").split(", ")
+
+# seconds after which a run is taken to hang
+BOUND = 60
+
+
+def image(numbers):
+    """An image, small mostly, wide or tall at times."""
+    kind = numbers.choice([4, 5, 5, 6, 7])
+    width, height = numbers.randint(1, 12), numbers.randint(1, 30)
+    form = numbers.random()
+    if form < 0.1:
+        width, height = numbers.choice([300, 5000, 40000]), numbers.randint(1, 4)
+    elif form < 0.25:
+        width, height = numbers.randint(1, 3), numbers.randint(60, 200)
+    if kind == 4:
+        return b"P4\n%d %d\n" % (width, height) + numbers.randbytes((width + 7) // 8 * height)
+    maxval = numbers.choice([1, 9, 255, 255, 300])
+    depth = {5: 1, 6: 3, 7: 2}[kind]
+    raster = numbers.randbytes(width * height * depth)
+    if maxval < 255:
+        raster = bytes(byte % (maxval + 1) for byte in raster)
+    elif maxval == 300:
+        raster = b"".join(b"\0" + bytes([byte]) for byte in raster)
+    if kind == 7:
+        return b"P7\nWIDTH %d\nHEIGHT %d\nDEPTH 2\nMAXVAL %d\nENDHDR\n" % (width, height, maxval) + raster
+    return b"P%d\n%d %d\n%d\n" % (kind, width, height, maxval) + raster
+
+
+def case(numbers):
+    """The words of a run, and its input, which is cut at times."""
+    tools = [numbers.choice(TOOLS) for _ in range(numbers.choice([1, 1, 2, 3, 5, 8, 16]))]
+    enlarges = [at for at, tool in enumerate(tools) if "enlarge" in tool]
+    for at in enlarges[2:]:
+        tools[at] = "pnminvert"
+    stream = b"".join(image(numbers) for _ in range(numbers.randint(1, 4)))
+    if numbers.random() < 0.1:
+        stream = stream[: numbers.randint(0, len(stream))]
+    ring, lanes = numbers.choice([1, 2]), numbers.choice([1, 1, 1, 2, 3, 8])
+    return ["--ring", str(ring), "--lanes", str(lanes), " | ".join(tools)], stream
+
+
+def feed(child, stream, numbers):
+    """Writes the first 4,000 bytes by parts, with pauses, where the writer is slow, and all else at once."""
+    at, is_slow = 0, numbers.random() < 0.3
+    try:
+        while at < len(stream):
+            size = numbers.choice([1, 7, 100, 1000]) if is_slow and at < 4000 else len(stream)
+            child.stdin.write(stream[at : at + size])
+            child.stdin.flush()
+            at += size
+            if is_slow and numbers.random() < 0.05:
+                time.sleep(numbers.random() * 0.004)
+        child.stdin.close()
+    except BrokenPipeError:
+        pass
+
+
+def stop_at_times(child, numbers):
+    try:
+        for _ in range(numbers.randint(1, 4)):
+            time.sleep(numbers.random() * 0.004)
+            child.send_signal(signal.SIGSTOP)
+            time.sleep(numbers.random() * 0.004)
+            child.send_signal(signal.SIGCONT)
+    except ProcessLookupError:
+        pass
+
+
+def taken(child, numbers):
+    """All bytes of the output, the first ones by parts and with pauses where the reader is slow."""
+    parts, is_slow = [], numbers.random() < 0.2
+    while True:
+        size = numbers.choice([1, 100, 65536]) if is_slow and len(parts) < 40 else 65536
+        part = os.read(child.stdout.fileno(), size)
+        if not part:
+            return b"".join(parts)
+        parts.append(part)
+        if is_slow and numbers.random() < 0.05:
+            time.sleep(numbers.random() * 0.003)
+
+
+def disturbed(program, words, stream, numbers):
+    """The bytes, status and line of a disturbed run, and its seconds."""
+    start = time.monotonic()
+    pipe = subprocess.PIPE
+    child = subprocess.Popen([program, *words], stdin=pipe, stdout=pipe, stderr=pipe)
+    if numbers.random() < 0.5:
+        os.sched_setaffinity(child.pid, {numbers.choice(sorted(os.sched_getaffinity(0)))})
+    lines = []
+    threads = [threading.Thread(target=feed, args=(child, stream, random.Random(numbers.random())))]
+    threads.append(threading.Thread(target=lambda: lines.append(child.stderr.read())))
+    if numbers.random() < 0.2:
+        threads.append(threading.Thread(target=stop_at_times, args=(child, random.Random(numbers.random()))))
+    for thread in threads:
+        thread.start()
+    bound = threading.Timer(BOUND, child.kill)
+    bound.start()
+    made = taken(child, numbers)
+    child.wait()
+    bound.cancel()
+    for thread in threads:
+        thread.join()
+    child.stdout.close()
+    child.stderr.close()
+    return made, child.returncode, lines[0], time.monotonic() - start
+
+
+def judged(asked, seed):
+    """The seconds of a run, and what is wrong with it, if anything."""
+    numbers = random.Random(seed)
+    words, stream = case(numbers)
+    quiet = [asked.reference or asked.program, words[-1]]
+    want = subprocess.run(quiet, input=stream, capture_output=True, timeout=BOUND, check=False)
+    made, status, line, seconds = disturbed(asked.program, words, stream, numbers)
+    both = sorted((made, want.stdout), key=len)
+    fits = both[0] == both[1] if status == 0 else both[1].startswith(both[0])
+    if (status, line) == (want.returncode, want.stderr) and fits:
+        return seconds, None
+    told = f"{status}, {line}, {len(made)} bytes; quiet {want.returncode}, {want.stderr}, {len(want.stdout)} bytes"
+    return seconds, f"seed {seed}: {words}: {told}"
+
+
+def main():
+    parser = argparse.ArgumentParser(description=__doc__.split("\n", maxsplit=1)[0])
+    parser.add_argument("--program", default=os.path.join(ROOT, "bin", "pnmpipe"))
+    parser.add_argument("--reference", help="the program whose quiet runs are compared with")
+    parser.add_argument("--first", type=int, default=0, help="the first seed")
+    parser.add_argument("--runs", type=int, default=1000)
+    asked = parser.parse_args()
+    wrong, longest = 0, (0.0, None)
+    seeds = range(asked.first, asked.first + asked.runs)
+    with concurrent.futures.ThreadPoolExecutor(2 * os.cpu_count()) as pool:
+        for seed, (seconds, fault) in zip(seeds, pool.map(judged, itertools.repeat(asked), seeds)):
+            longest = max(longest, (seconds, seed))
+            if fault:
+                wrong += 1
+                print(f"disturb: {fault}", flush=True)
+    print(f"disturb: {asked.runs} runs, {wrong} wrong, the longest {longest[0]:.2f} s by seed {longest[1]}")
+    return 1 if wrong else 0
+
+
+if __name__ == "__main__":
+    sys.exit(main())
