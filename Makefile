@@ -53,8 +53,8 @@ check: toolchain
 	tail -n 1 bin/gate
 
 # one check a processor, each of at most 4 GB; then each allocation and each start of a thread is refused in turn, of the
-# program and the tests that the gate has left, the program's input is silent, its stack is small, programs in C call the
-# library, the scripts, pages and documents are checked, and the model of how threads wait is searched
+# program and the tests that the gate has left, the program's input is silent, its stack is small, the C library's header
+# fits the sources, the scripts, pages and documents are checked, and the model of how threads wait is searched
 gate:
 	mkdir -p bin
 	rm -f bin/gate-failed
@@ -207,7 +207,7 @@ help:
 	@echo "make near CRATES=..  tries changed crates in minutes: layout, proof, edits that must fail, tests as they stand, and the crates above"
 	@echo "make pass CRATES=..  proves changed crates, their tests and edits from nothing, as the gate does, with what they stand on"
 	@echo "make test            the tests alone, without their proofs"
-	@echo "make check           the whole gate: every proof, the edits that must fail, the tests, the stored runs and commands, refused allocations, silent inputs, small stacks, the C library, scripts and pages, the model"
+	@echo "make check           the whole gate: every proof, the edits that must fail, the tests, the stored runs and commands, refused allocations, silent inputs, small stacks, the header of the C library, scripts and pages, the model"
 	@echo "make bench           times the program that make has left beside Netpbm's own tools, on large images, narrow rows and small images, and writes docs/figures.tsv"
 	@echo "make bench-sweep     all tools by kinds of images and by options, and which take more processor time than Netpbm's"
 	@echo "make bench-files     times many small files in each way, beside Netpbm's own tools"
