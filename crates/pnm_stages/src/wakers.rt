@@ -9,8 +9,9 @@ use std::time::Duration;
 /// cost if nobody did.
 const LONGEST_SLEEP: u64 = 400;
 
-/// What the thread at one end of a ring sleeps by. The thread at the other end alone wakes it: so to wake a thread at
-/// work costs an exchange on a cache line that no other thread writes, since it shares that with nothing.
+/// What the thread at one end of a ring sleeps by. While messages flow, the thread at the other end alone wakes it: so
+/// to wake a thread at work costs an exchange on a cache line that no other thread writes, since it shares that with
+/// nothing. The thread that has it as a home (`SenderWaker::set_home`) wakes it only before it sleeps itself.
 #[derive(Drop)]
 struct Waker {
     _before: [u64; 7],
