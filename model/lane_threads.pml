@@ -150,6 +150,9 @@ proctype Lane(byte i; byte o) {
     if :: m = ROW; goto refuse :: skip fi;
 #endif
 next:
+#ifdef LANES_GO
+    if :: drop_receiver(i); drop_sender(o); goto done :: skip fi;
+#endif
     if
     :: seen[i] == 0 -> wake_receiver(o)
     :: else
@@ -231,18 +234,14 @@ inline drain_lane(lane) {
 #if LANES == 2
 #define ONE_IS_OPEN (state[0] == OPEN || state[1] == OPEN)
 #define FIRST_OPEN (state[0] == OPEN -> 0 : 1)
-#define LAST_OPEN (state[1] == OPEN -> 1 : 0)
 #else
 #define ONE_IS_OPEN (state[0] == OPEN || state[1] == OPEN || state[2] == OPEN)
 #define FIRST_OPEN (state[0] == OPEN -> 0 : (state[1] == OPEN -> 1 : 2))
-#define LAST_OPEN (state[2] == OPEN -> 2 : (state[1] == OPEN -> 1 : 0))
 #endif
-#if defined(HOME_OF_LANES)
-#define SLEEPS_BY SP(LAST)
-#elif defined(M_SLEEPS_AT_THE_LAST_OPEN_LANE)
-#define SLEEPS_BY RP(FROM(LAST_OPEN))
-#else
+#ifdef M_SLEEPS_AT_THE_FIRST_OPEN_LANE
 #define SLEEPS_BY RP(FROM(FIRST_OPEN))
+#else
+#define SLEEPS_BY SP(LAST)
 #endif
 
 proctype Gatherer() {
@@ -317,7 +316,7 @@ drain: /* drain_all */
         if
         :: !ONE_IS_OPEN -> break
         :: ONE_IS_OPEN && moved
-        :: ONE_IS_OPEN && !moved -> park(SLEEPS_BY) /* wait */
+        :: ONE_IS_OPEN && !moved -> park(SLEEPS_BY) /* Sender::sleep, at the output */
         fi
     od;
 done:

@@ -8,8 +8,9 @@
  *
  * AWAITS: between messages the thread that sends may wait until all has come out behind the lanes.
  *
- * HOME_OF_LANES: a gatherer that drains sleeps at the sending end of its output, where a lane wakes it before it
- * sleeps for want of room, and where its stream ends.
+ * LANES_GO: a lane's ends may go between two messages.
+ *
+ * A gatherer that drains sleeps at the sending end of its output, the home of the rings from the lanes.
  *
  * Rings: 0 to the dealer, then those to the lanes, those from them, and LAST behind the gatherer.
  */
@@ -37,10 +38,8 @@
 #define LAST (1 + 2 * LANES)
 #define SP(r) (2 * (r))
 #define RP(r) (2 * (r) + 1)
-#ifdef HOME_OF_LANES
-#define WAKE_HOME(r) if :: (r) > LANES && (r) < LAST -> WAKE(SP(LAST)) :: else fi
-#define WAKE_AT_END(r) WAKE_HOME(r)
-#endif
+#define HAS_HOME(r) ((r) > LANES && (r) < LAST)
+#define HOME SP(LAST)
 #include "rings.pml"
 #include "lane_threads.pml"
 

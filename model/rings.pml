@@ -12,7 +12,7 @@
  * Nothing times out: a sleep that no other thread ends is a state in which the search finds that thread stuck.
  *
  * The includer defines NR (rings), CAP (places of each), NP (parkers), SP(r) and RP(r) (those of the sending and
- * of the receiving end).
+ * of the receiving end), and, where some rings have a home, HAS_HOME(r) and HOME, the parker there.
  */
 #define EMPTY    0
 #define NOTIFIED 1
@@ -88,14 +88,10 @@ inline park(p) {
 #define SENDER_LOCALS byte room[NR] = CAP; byte kept[NR]; bit unw[NR]; bit st; bit hold; PARK_LOCALS
 #define LOCALS SENDER_LOCALS byte seen[NR]; byte half[NR]; bit edge;
 
-/* SenderWaker::sleep: whom a thread wakes besides, before it sleeps for want of room in this ring (turns.pml) */
-#ifndef WAKE_HOME
-#define WAKE_HOME(r) skip
-#endif
-
-/* whom it wakes besides where it ends the stream, or goes (lanes.pml, HOME_OF_LANES) */
-#ifndef WAKE_AT_END
-#define WAKE_AT_END(r) skip
+/* SenderWaker::wake_home: whom a thread wakes besides, before it sleeps for want of room in a ring that HAS_HOME,
+ * where it ends the stream, and where its end goes */
+#ifdef HAS_HOME
+#define WAKE_HOME(r) if :: HAS_HOME(r) -> WAKE(HOME) :: else fi
 #endif
 
 /* Sender::has_room */
@@ -154,9 +150,11 @@ inline put(r, m, holds) {
     :: hold -> hold = 0
     :: else ->
         unw[r] = 0;
+#if defined(HAS_HOME) && !defined(M_NO_WAKE_AT_HOME_AT_END)
+        if :: ENDS(m) -> WAKE_HOME(r) :: else fi;
+#endif
 #if !defined(M_WAKE_BEFORE_TAIL) && !defined(M_NO_WAKE_AT_PUSH) && !defined(M_NO_WAKE_BY_SENDER)
-        WAKE(RP(r));
-        if :: ENDS(m) -> WAKE_AT_END(r) :: else fi
+        WAKE(RP(r))
 #endif
     fi
 }
@@ -169,7 +167,9 @@ inline put(r, m, holds) {
 #endif
 inline wait_at_sender(r) {
     WAKE_BEFORE_ROOM(r);
+#if defined(HAS_HOME) && !defined(M_NO_WAKE_AT_HOME_BEFORE_ROOM)
     WAKE_HOME(r);
+#endif
     park(SP(r))
 }
 
@@ -202,9 +202,11 @@ inline drop_sender(r) {
     WAKE(RP(r)); gone[r] = 1
 #else
     gone[r] = 1;
+#if defined(HAS_HOME) && !defined(M_NO_WAKE_AT_HOME_AT_DROP)
+    WAKE_HOME(r);
+#endif
 #ifndef M_NO_WAKE_AT_SENDER_DROP
-    WAKE(RP(r));
-    WAKE_AT_END(r)
+    WAKE(RP(r))
 #endif
 #endif
     }

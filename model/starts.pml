@@ -29,6 +29,8 @@
 #define FROM(lane) (4 + (lane))
 #define LAST 6
 #define TOLD 7
+#define HAS_HOME(r) ((r) >= FROM(0) && (r) < LAST)
+#define HOME SP(LAST)
 #else
 #ifndef TOOLS
 #define TOOLS 3

@@ -116,8 +116,8 @@ holds("turns.pml", f"{SMALL} OUTER_THREADS MOST_ANSWERS=1", BETWEEN)
 holds("turns.pml", "TOOLS=1 CAP=1 OUTER_THREADS MOST_ANSWERS=1", f"{BETWEEN}, step by step", is_big=True)
 holds("turns.pml", f"{TWO} OUTER_THREADS MOST_ANSWERS=1", BETWEEN, is_big=True)
 
-edit("turns.pml", f"{SMALL} M_NO_WAKE_AT_HOME", "the caller isn't woken at home",
-     "wakers.rt, SenderWaker::sleep: without home.sender.wake()",
+edit("turns.pml", f"{SMALL} M_NO_WAKE_AT_HOME_BEFORE_ROOM", "the caller isn't woken at home",
+     "wakers.rt, SenderWaker::sleep: without self.wake_home()",
      caught="pnm_flow_tests, wakes_its_home_before_it_sleeps")
 edit("turns.pml", f"{SMALL} M_NO_WAKE_BEFORE_TAKING", "no wake before the source may read",
      "turns.rt, wake_before_taking: without feeder.wake_receiver()")
@@ -157,31 +157,48 @@ for rows in (2, 3, 6):
     holds("lanes.pml", f"{BARE} MOST_ROWS={rows} ONE_HEIGHT DRAINS NO_FAULTS", DRAINED, is_big=True)
 holds("lanes.pml", f"{BARE} MOST_ROWS=3 DRAINS NO_FAULTS", DRAINED, is_big=True)
 holds("lanes.pml", "BARE CAP=2 COARSE HOLDS=0 MOST_ROWS=3 ONE_HEIGHT DRAINS NO_FAULTS", DRAINED, is_long=True)
-ALONE = "MOST_IMAGES=2 ONE_HEIGHT DRAINS NO_FAULTS RINGS_ALONE"
+ALONE = "MOST_IMAGES=2 ONE_HEIGHT NO_FAULTS RINGS_ALONE"
 for size, is_big in ("LANES=3 BARE CAP=1 COARSE MOST_ROWS=4", False), ("LANES=3 BARE CAP=2 COARSE MOST_ROWS=8", True):
-    holds("lanes.pml", f"{size} {ALONE}", f"{DRAINED}; each a ring alone", is_big=is_big)
-edit("lanes.pml", f"LANES=3 BARE CAP=1 COARSE MOST_ROWS=4 {ALONE} M_SLEEPS_AT_THE_LAST_OPEN_LANE",
-     "a gatherer that drains three sleeps at the last lane that is open",
-     "drain.rt, wait: rposition in place of position", is_big=True)
+    holds("lanes.pml", f"{size} {ALONE} DRAINS", f"{DRAINED}; each a ring alone", is_big=is_big)
+    holds("lanes.pml", f"{size} {ALONE}", f"{LANES}; each a ring alone", is_big=is_big)
+holds("lanes.pml", f"BARE CAP=4 COARSE KEPT=2 MOST_ROWS=4 {ALONE} DRAINS",
+      f"{DRAINED}; each a ring alone, beside wide rows", is_big=True)
+holds("lanes.pml", f"LANES=3 BARE CAP=4 COARSE HOLDS=0 KEPT=2 MOST_ROWS=3 {ALONE} DRAINS",
+      f"{DRAINED}; each a ring alone, beside wide rows", is_long=True)
+holds("lanes.pml", "BARE CAP=3 COARSE HOLDS=0 KEPT=1 MOST_ROWS=2 ONE_HEIGHT DRAINS NO_FAULTS",
+      f"{DRAINED}, beside wide rows", is_long=True)
 WIDE = "BARE CAP=4 COARSE HOLDS=0 KEPT=2 MOST_ROWS=2 MOST_IMAGES=2 ONE_HEIGHT DRAINS NO_FAULTS"
-TABLE.append(Line("lanes.pml", WIDE, "deadlock", "fails",
-                  "lanes that are drained, beside wide rows: the gatherer's sleep has to time out"))
-holds("lanes.pml", f"{BARE} MOST_ROWS=3 ONE_HEIGHT DRAINS NO_FAULTS HOME_OF_LANES", f"{DRAINED}, at a home",
-      is_big=True)
+GOES = f"{BARE} ONE_HEIGHT DRAINS NO_FAULTS LANES_GO"
+holds("lanes.pml", f"{GOES} MOST_ROWS=0 MOST_IMAGES=0", f"{DRAINED}; lanes may go")
+holds("lanes.pml", f"{GOES} MOST_ROWS=1", f"{DRAINED}; lanes may go", is_big=True)
+edit("lanes.pml", f"{WIDE} M_SLEEPS_AT_THE_FIRST_OPEN_LANE",
+     "beside wide rows a gatherer that drains sleeps at the first lane that is open",
+     "drain.rt, drain_all: the first open lane's Receiver::wait in place of output.sleep(rt)",
+     caught="pnm_flow_tests, drains_whichever_lane_has_no_room")
+edit("lanes.pml", f"{BARE} MOST_ROWS=2 ONE_HEIGHT DRAINS NO_FAULTS M_NO_WAKE_AT_HOME_BEFORE_ROOM",
+     "a lane that sleeps for want of room doesn't wake the gatherer at home",
+     "wakers.rt, SenderWaker::sleep: without self.wake_home()",
+     caught="pnm_flow_tests, drains_whichever_lane_has_no_room")
+edit("lanes.pml", f"{BARE} MOST_ROWS=2 ONE_HEIGHT DRAINS NO_FAULTS M_NO_WAKE_AT_HOME_AT_END",
+     "a lane whose stream ends doesn't wake the gatherer at home",
+     "sender.rt, Sender::push: without self.waker.wake_home()", caught="pnm_flow_tests, wakes_its_home_at_the_end")
+edit("lanes.pml", f"{GOES} MOST_ROWS=0 MOST_IMAGES=0 M_NO_WAKE_AT_HOME_AT_DROP",
+     "a lane that goes doesn't wake the gatherer at home",
+     "wakers.rt, drop of SenderWaker: without self.wake_home()", caught="pnm_flow_tests, wakes_its_home_at_the_end")
 for size in ("MOST_ROWS=3 TAKER_GOES NO_FAULTS", "MOST_ROWS=1 TAKER_GOES"):
     holds("lanes.pml", f"{BARE} {size}", LANES, is_long=True)
 holds("lanes.pml", "CAP=1 COARSE HOLDS=0 MOST_ROWS=0 NO_FAULTS", f"{LANES}, between two threads", is_long=True)
 
-edit("lanes.pml", f"{BARE} MOST_ROWS=3 ONE_HEIGHT DRAINS NO_FAULTS M_SLEEPS_AT_THE_LAST_OPEN_LANE",
-     "a gatherer that drains sleeps at the last lane that is open", "drain.rt, wait: rposition in place of position",
-     is_big=True)
 edit("lanes.pml", f"{BARE} MOST_ROWS=6 ONE_HEIGHT DRAINS NO_FAULTS M_DRAINS_ONE_BY_ONE",
      "the gatherer drains one lane after another", "drain.rt, drain_all: each input.drain(rt) in turn", is_big=True)
 edit("lanes.pml", f"{BARE} MOST_ROWS=4 TAKER_GOES M_NO_DRAIN_BY_GATHERER", "the gatherer doesn't drain",
      "gathering.rt, gather_all and break_off: without drain_all(..)", is_big=True)
 edit("lanes.pml", f"LANES=3 BARE CAP=1 COARSE MOST_ROWS=4 {ALONE} M_NO_WAKE_BEFORE_ROOM_BY_DEALER",
-     "the dealer wakes no other lane before it waits for room",
+     "the dealer wakes no other lane before it waits for room, where each is a ring alone",
      "dealing.rt, wake_before_room: without wake_each(..)")
+edit("lanes.pml", "BARE CAP=1 COARSE MOST_ROWS=3 ONE_HEIGHT NO_FAULTS M_NO_WAKE_BEFORE_ROOM_BY_DEALER",
+     "the same with threads for lanes: it costs time, and no more",
+     "dealing.rt, wake_before_room: without wake_each(..)", wanted="holds", is_big=True)
 edit("lanes.pml", "CAP=1 COARSE MOST_ROWS=0 NO_FAULTS AWAITS M_NO_WAKE_BEFORE_INPUT_BY_DEALER",
      "the dealer wakes no lane before it waits for input", "dealing.rt, wake_before_input: without wake_each(..)")
 edit("lanes.pml", f"{BARE} MOST_ROWS=4 M_NO_DRAIN_AT_REFUSAL", "a lane that refuses doesn't drain its input",

@@ -1,8 +1,8 @@
 /* A tool in a thread of its own between two rings: stage.rt, run_filter.
  *
- * It makes up to MOST_ANSWERS rows of a message, and up to twice as many of rows that come together, or else
- * rows together of these at once; one end of an image of each; and it refuses at any message, or before the
- * first one, unless NO_FAULTS.
+ * It answers a message by up to MOST_ANSWERS rows or (BLOCKS) rows together, and rows that come together by up
+ * to twice as many; an end of an image by one besides; and it refuses at any message, or before the first one,
+ * unless NO_FAULTS. Rows together of many bytes are as a wide row is.
  */
 #ifndef MOST_ANSWERS
 #define MOST_ANSWERS 2
@@ -50,9 +50,12 @@ next:
         send(o, WIDE, 1, ok);
         if :: ok :: else -> goto output_gone fi
 #endif
-    :: m == BLOCK && k == 0 ->
+#ifdef BLOCKS
+    :: !ENDS(m) && MAY_ANSWER(m, k) ->
+        k++;
         send(o, BLOCK, 1, ok);
-        if :: ok -> goto next :: else -> goto output_gone fi
+        if :: ok :: else -> goto output_gone fi
+#endif
     :: m == ROW || m == BLOCK || m == WIDE -> k = 0; goto next
     :: m == IEND ->
         k = 0;

@@ -22,9 +22,10 @@
 #define LAST TOOLS /* the ring behind the last tool */
 #define SP(r) (2 * (r))
 #define RP(r) (2 * (r) + 1)
-#if !defined(OUTER_THREADS) && !defined(M_NO_WAKE_AT_HOME)
+#ifndef OUTER_THREADS
 /* the caller sends on ring 0 as well, and may sleep there */
-#define WAKE_HOME(r) if :: (r) == LAST -> WAKE(SP(0)) :: else fi
+#define HAS_HOME(r) ((r) == LAST)
+#define HOME SP(0)
 #endif
 #include "rings.pml"
 #include "tool.pml"

@@ -1,10 +1,13 @@
 -- How a tool at work gives what waits.
-use Rattle.std.proofs.Common.{◌≡◌, inl, inr, ℕ, true, List, [], ◌∷◌, ◌++◌, map, refl, sym, ap, subst, ◌∙◌, append_assoc, Option, Some, None}
+use Rattle.std.proofs.Common.{◌≡◌, ◌≤◌, inl, inr, ℕ, true, List, [], ◌∷◌, ◌++◌, length, map, refl, sym, ap, subst, ◌∙◌, append_assoc, Option, Some, None, arith}
 use Rattle.std.specs.Prelude.{IfSome, IfNone}
 use Rattle.std.proofs.lemmas.List.{same_from_push}
 use Rattle.pnm_image.specs.declared.shape.Shape.{Shape}
 use Rattle.pnm_image.specs.declared.message.Message.{Message}
 use Rattle.pnm_image.specs.declared.message.Message.TheVariants.{Begin, Row, ImageEnd, StreamEnd, Stop}
+use Rattle.pnm_image.specs.declared.parcel.Parcel.{Parcel}
+use Rattle.pnm_image.specs.declared.parcel.Parcel.TheVariants.{Message as One}
+use Rattle.pnm_image.specs.Parcels.{messages_in}
 use Rattle.pnm_image.specs.declared.place.Place.{Place}
 use Rattle.pnm_image.specs.declared.place.Place.TheVariants.{Between, Inside, After}
 use Rattle.pnm_image.specs.Places.{IsLawfulFrom, place_after, place_of}
@@ -40,26 +43,26 @@ none_kept kept old new After gone none = gone
 
 pub ended : {W : Type 0} (tool_at : W → Tool) (ready_for : W → Shape → List (List ℕ) → Type 0) (due kept : W → List (List ℕ)) (old new : W) (before : Pending)
     → before ≡ RowsAndEnd → due old ≡ [] → tool_at new ≡ tool_at old → kept new ≡ []
-    → IsGiven tool_at ready_for due kept old before new Nothing (Some ImageEnd)
+    → IsGiven tool_at ready_for due kept old before new Nothing (Some (One ImageEnd))
 ended tool_at ready_for due kept old new before ending none same gone = record {
   waits = ap (λ (p : Pending). waiting_in p (due old)) ending ∙ ap (λ (rows : List (List ℕ)). map Row rows ++ ImageEnd ∷ []) none;
-  told = (ap is_all_given ending, refl);
+  told = (ap is_all_given ending, refl, omega arith);
   tool = same;
   ready = λ place rows keeps r. none_inside ready_for kept old new place rows (subst (KeepsNone kept old place) ending keeps) r;
   none = λ place keeps. none_kept kept old new place gone (subst (KeepsNone kept old place) ending keeps);
 }
 
--- the first of the messages that waited is given
+-- the first of the messages that waited are given
 pub gave : {W : Type 0} (tool_at : W → Tool) (ready_for : W → Shape → List (List ℕ) → Type 0) (due kept : W → List (List ℕ)) (old : Standing W) (new : W)
-    (after : Pending) (fault : Option ToolFault) (m : Message) (t : Tool) (l g : List Message)
-    → IsAt tool_at ready_for due kept old t l g → IsGiven tool_at ready_for due kept old.work old.pending new after (Some m)
-    → IsAt tool_at ready_for due kept (standing new old.place after fault) t l (g ++ m ∷ [])
-gave tool_at ready_for due kept old new after fault m t l g at gives =
+    (after : Pending) (fault : Option ToolFault) (p : Parcel) (t : Tool) (l g : List Message)
+    → IsAt tool_at ready_for due kept old t l g → IsGiven tool_at ready_for due kept old.work old.pending new after (Some p)
+    → IsAt tool_at ready_for due kept (standing new old.place after fault) t l (g ++ messages_in p)
+gave tool_at ready_for due kept old new after fault p t l g at gives =
     let rest : List Message = waiting_in after (due new) in
-    let waits : IsAnswering t l (g ++ m ∷ []) rest = record {
+    let waits : IsAnswering t l (g ++ messages_in p) rest = record {
       lawful = at.answering.lawful;
       taken = at.answering.taken;
-      given = at.answering.given ∙ ap (λ (x : List Message). g ++ x) gives.waits ∙ sym (append_assoc g (m ∷ []) rest);
+      given = at.answering.given ∙ ap (λ (x : List Message). g ++ x) gives.waits ∙ sym (append_assoc g (messages_in p) rest);
     } in
     record {
       tool = gives.tool ∙ at.tool;
@@ -68,7 +71,7 @@ gave tool_at ready_for due kept old new after fault m t l g at gives =
       place = at.place;
       ready = gives.ready old.place (rows_come [] l) at.none at.ready;
       none = gives.none old.place at.none;
-      answers = answering_answers t l (g ++ m ∷ []) rest (tool_answers_images t at.options) waits;
+      answers = answering_answers t l (g ++ messages_in p) rest (tool_answers_images t at.options) waits;
     }
 
 -- none waited
@@ -116,43 +119,53 @@ no_rows_after kept work After Rows gives none e = none
 no_rows_after kept work After RowsAndEnd gives none e = none
 no_rows_after kept work After Nothing gives none e = gives
 
-alone : (before : Pending) (due : List (List ℕ)) (m : Message) (rest : List Message) → waiting_in before due ≡ m ∷ rest → (GivesRows before → ⊥)
-    → waiting_in before due ≡ m ∷ []
-alone AllGiven due m rest e none = absurd cc
-alone (Waiting message) due m rest e none = ap (λ (x : Message). x ∷ []) cc
-alone Rows due m rest e none = absurd (none tt)
-alone RowsAndEnd due m rest e none = absurd (none tt)
-alone Nothing due m rest e none = absurd cc
+-- of some messages that are the first of one, there is that one
+one_alone : (message : Message) (first rest : List Message) → 1 ≤ length first → message ∷ [] ≡ first ++ rest → first ≡ message ∷ []
+one_alone message [] rest some e = let no : ⊥ = omega (arith, some) in absurd no
+one_alone message (m ∷ []) rest some e = ap (λ (x : Message). x ∷ []) cc
+one_alone message (m ∷ n ∷ first) rest some e = absurd cc
+
+alone : (before : Pending) (due : List (List ℕ)) (first rest : List Message) → 1 ≤ length first → waiting_in before due ≡ first ++ rest
+    → (GivesRows before → ⊥)
+    → (m : Message) × (first ≡ m ∷ []) × (waiting_in before due ≡ m ∷ [])
+alone AllGiven due [] rest some e none = let no : ⊥ = omega (arith, some) in absurd no
+alone AllGiven due (m ∷ first) rest some e none = absurd cc
+alone (Waiting message) due first rest some e none = (message, one_alone message first rest some e, refl)
+alone Rows due first rest some e none = absurd (none tt)
+alone RowsAndEnd due first rest some e none = absurd (none tt)
+alone Nothing due [] rest some e none = let no : ⊥ = omega (arith, some) in absurd no
+alone Nothing due (m ∷ first) rest some e none = absurd cc
 
 pub gave_stop : {W : Type 0} (tool_at : W → Tool) (ready_for : W → Shape → List (List ℕ) → Type 0) (due kept : W → List (List ℕ)) (old : Standing W) (new : W)
-    (after : Pending) (m : Message) (t : Tool) (l g : List Message)
-    → IsAt tool_at ready_for due kept old t l g → IsGiven tool_at ready_for due kept old.work old.pending new after (Some m) → EndsBy BrokenOff l → m ≡ Stop
-gave_stop tool_at ready_for due kept old new after m t l g at gives ends =
+    (after : Pending) (p : Parcel) (t : Tool) (l g : List Message)
+    → IsAt tool_at ready_for due kept old t l g → IsGiven tool_at ready_for due kept old.work old.pending new after (Some p) → EndsBy BrokenOff l
+    → messages_in p ≡ Stop ∷ []
+gave_stop tool_at ready_for due kept old new after p t l g at gives ends =
     let stops = lawful_stops Between l at.answering.lawful in
-    let last = alone old.pending (due old.work) m (waiting_in after (due new)) gives.waits
+    let last = alone old.pending (due old.work) (messages_in p) (waiting_in after (due new)) gives.told.2 gives.waits
     (λ rows. no_rows_after kept old.work old.place old.pending rows at.none (at.place ∙ stopped_after l stops ends)) in
-    stop_waits t l g m (subst (IsAnswering t l g) last at.answering) stops ends
+    last.1 ∙ ap (λ (m : Message). m ∷ []) (stop_waits t l g last.0 (subst (IsAnswering t l g) last.2 at.answering) stops ends)
 
 -- ---- whether one waits or none
 
 pub given_by : {W : Type 0} (tool_at : W → Tool) (ready_for : W → Shape → List (List ℕ) → Type 0) (due kept : W → List (List ℕ)) (old : Standing W) (new : W)
-    (after : Pending) (fault : Option ToolFault) (given : Option Message)
+    (after : Pending) (fault : Option ToolFault) (given : Option Parcel)
     → IsGiven tool_at ready_for due kept old.work old.pending new after given
-    → IfSome given (λ m. (t : Tool) (l g : List Message) → IsAt tool_at ready_for due kept old t l g
-    → IsAt tool_at ready_for due kept (standing new old.place after fault) t l (g ++ m ∷ []))
+    → IfSome given (λ p. (t : Tool) (l g : List Message) → IsAt tool_at ready_for due kept old t l g
+    → IsAt tool_at ready_for due kept (standing new old.place after fault) t l (g ++ messages_in p))
 given_by tool_at ready_for due kept old new after fault None gives = tt
-given_by tool_at ready_for due kept old new after fault (Some m) gives = λ t l g at. gave tool_at ready_for due kept old new after fault m t l g at gives
+given_by tool_at ready_for due kept old new after fault (Some p) gives = λ t l g at. gave tool_at ready_for due kept old new after fault p t l g at gives
 
 pub stop_alone_by : {W : Type 0} (tool_at : W → Tool) (ready_for : W → Shape → List (List ℕ) → Type 0) (due kept : W → List (List ℕ)) (old : Standing W)
-    (new : W) (after : Pending) (given : Option Message)
+    (new : W) (after : Pending) (given : Option Parcel)
     → IsGiven tool_at ready_for due kept old.work old.pending new after given
-    → IfSome given (λ m. (t : Tool) (l g : List Message) → IsAt tool_at ready_for due kept old t l g → EndsBy BrokenOff l → m ≡ Stop)
+    → IfSome given (λ p. (t : Tool) (l g : List Message) → IsAt tool_at ready_for due kept old t l g → EndsBy BrokenOff l → messages_in p ≡ Stop ∷ [])
 stop_alone_by tool_at ready_for due kept old new after None gives = tt
-stop_alone_by tool_at ready_for due kept old new after (Some m) gives = λ t l g at ends. gave_stop tool_at ready_for due kept old new after m t l g at gives
+stop_alone_by tool_at ready_for due kept old new after (Some p) gives = λ t l g at ends. gave_stop tool_at ready_for due kept old new after p t l g at gives
     ends
 
 pub full_by : {W : Type 0} (tool_at : W → Tool) (ready_for : W → Shape → List (List ℕ) → Type 0) (due kept : W → List (List ℕ)) (old : Standing W) (new : W)
-    (after : Pending) (fault : Option ToolFault) (given : Option Message)
+    (after : Pending) (fault : Option ToolFault) (given : Option Parcel)
     → IsGiven tool_at ready_for due kept old.work old.pending new after given
     → IfNone given
     ((is_all_given after ≡ true)
@@ -160,7 +173,7 @@ pub full_by : {W : Type 0} (tool_at : W → Tool) (ready_for : W → Shape → L
     → IsAt tool_at ready_for due kept (standing new old.place after fault) t l g × AnswersInFull t l g))
 full_by tool_at ready_for due kept old new after fault None gives =
     (ap is_all_given gives.told, λ t l g at. gave_all tool_at ready_for due kept old new after fault t l g at gives)
-full_by tool_at ready_for due kept old new after fault (Some m) gives = tt
+full_by tool_at ready_for due kept old new after fault (Some p) gives = tt
 
 -- ---- want of memory
 

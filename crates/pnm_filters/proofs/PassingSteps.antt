@@ -2,7 +2,7 @@
 use Rattle.std.proofs.Common.{◌≡◌, ℕ, ◌+◌, true, false, List, [], ◌∷◌, ◌++◌, length, map, Option, Some, None, Result, Ok, Err, IfOk, IfErr}
 use Rattle.std.proofs.Common.{refl, sym, ap, subst, ◌∙◌, append-nil, append_assoc, arith}
 use Rattle.std.specs.Option.{is_some}
-use Rattle.std.proofs.lemmas.List.{length-append}
+use Rattle.std.proofs.lemmas.List.{length-append, map-append}
 use Rattle.pnm_image.specs.declared.shape.Shape.{Shape}
 use Rattle.pnm_image.specs.declared.message.Message.{Message}
 use Rattle.pnm_image.specs.declared.message.Message.TheVariants.{Begin, Row, ImageEnd, StreamEnd, Stop}
@@ -14,8 +14,8 @@ use Rattle.pnm_image.proofs.Places.{place_of-append, place_of-rows}
 use Rattle.pnm_tools.specs.declared.fault.ToolFault.{ToolFault}
 use Rattle.pnm_tools.specs.declared.tool.Tool.{Tool}
 use Rattle.pnm_tools.specs.Answers.{AnswersInFull}
-use Rattle.pnm_tools.specs.Answering.{AreRowAnswers, IsAnswering, answers_from, rows_after, rows_come}
-use Rattle.pnm_tools.specs.Tools.{AreTaken, IsLawfulTool}
+use Rattle.pnm_tools.specs.Answering.{IsAnswering, answers_from, rows_after, rows_answer, rows_come, rows_list}
+use Rattle.pnm_tools.specs.Tools.{AreTaken, IsLawfulTool, row_answer}
 use Rattle.pnm_tools.proofs.AnsweringLaws.{answers_from-append}
 use Rattle.pnm_tools.proofs.AtLaws.{answering_answers}
 use Rattle.pnm_tools.proofs.FullLaws.{answering_in_full}
@@ -25,7 +25,6 @@ use Rattle.pnm_filters.specs.declared.state.Owed.TheVariants.{Told, One, Rest, R
 use Rattle.pnm_filters.specs.Pendings.{Pending, AllGiven, pending_of, is_told}
 use Rattle.pnm_filters.specs.States.{Standing, standing, IsAt, IsReadyFor, IsStanding, KeepsNone, waiting_in}
 use Rattle.pnm_filters.specs.Steps.{ArePassed}
-use Rattle.pnm_row_tools.proofs.RowsLaws.{answers_are_many}
 
 -- ---- messages that follow others
 
@@ -57,19 +56,17 @@ taken_append tool (Stop ∷ a) b first then = taken_append tool a b first then
 
 -- ---- a state passes rows
 
--- the rows that stand in their places are the answers to them
-answers_to_rows : (tool : Tool) (s : Shape) (y : ℕ) (come rows made : List (List ℕ)) → AreRowAnswers tool s y rows made
-    → answers_from tool (Inside s y) come (row_messages rows) ≡ row_messages made
-answers_to_rows tool s y come [] [] are = refl
-answers_to_rows tool s y come [] (m ∷ made) are = absurd are
-answers_to_rows tool s y come (row ∷ rows) [] are = absurd are
-answers_to_rows tool s y come (row ∷ rows) (m ∷ made) are =
-    ap (λ (answer : List (List ℕ)). map Row answer ++ answers_from tool (Inside s (y + 1)) (come ++ row ∷ []) (row_messages rows)) are.0
-    ∙ ap (λ (rest : List Message). Row m ∷ rest) (answers_to_rows tool s (y + 1) (come ++ row ∷ []) rows made are.1)
+-- the messages of the rows that answer rows
+answers_to_rows : (tool : Tool) (s : Shape) (y : ℕ) (come rows : List (List ℕ))
+    → answers_from tool (Inside s y) come (row_messages rows) ≡ row_messages (rows_answer tool s y rows)
+answers_to_rows tool s y come [] = refl
+answers_to_rows tool s y come (row ∷ rows) =
+    ap (λ (rest : List Message). map Row (row_answer tool s y row) ++ rest) (answers_to_rows tool s (y + 1) (come ++ row ∷ []) rows)
+    ∙ sym (map-append Row (row_answer tool s y row) (rows_answer tool s (y + 1) rows))
 
 -- nothing waited, and nothing waits
 answering_rows : (t : Tool) (l g : List Message) (s : Shape) (y : ℕ) (rows made : List (List ℕ)) → IsAnswering t l g [] → place_of Between l ≡ Inside s y
-    → IsLawfulFrom (Inside s y) (row_messages rows) → AreRowAnswers t s y rows made
+    → IsLawfulFrom (Inside s y) (row_messages rows) → rows_answer t s y rows ≡ made
     → IsAnswering t (l ++ row_messages rows) (g ++ row_messages made) []
 answering_rows t l g s y rows made a place lawful are =
     let come : List (List ℕ) = rows_come [] l in
@@ -79,19 +76,19 @@ answering_rows t l g s y rows made a place lawful are =
       given = answers_from-append t Between [] l (row_messages rows)
           ∙ ap (λ (first : List Message). first ++ answers_from t (place_of Between l) come (row_messages rows)) (a.given ∙ append-nil g)
           ∙ ap (λ (p : Place). g ++ answers_from t p come (row_messages rows)) place
-          ∙ ap (λ (x : List Message). g ++ x) (answers_to_rows t s y come rows made are)
+          ∙ ap (λ (x : List Message). g ++ x) (answers_to_rows t s y come rows ∙ ap row_messages are)
           ∙ sym (append-nil (g ++ row_messages made));
     }
 
 -- after rows it stands further on in the image
-stands_on : {W : Type 0} (tool_at : W → Tool) (ready_for : W → Shape → List (List ℕ) → Type 0) (old new : W) (from to : Place) (rows made : List (List ℕ))
-    (pass : ArePassed tool_at ready_for old from rows new to made) → to ≡ Inside pass.shape (pass.y + length rows)
+stands_on : {W : Type 0} (tool_at : W → Tool) (ready_for : W → Shape → List (List ℕ) → Type 0) (old new : W) (from to : Place) (rows : List (List ℕ))
+    (made : Option (List (List ℕ))) (pass : ArePassed tool_at ready_for old from rows new to made) → to ≡ Inside pass.shape (pass.y + length rows)
 stands_on tool_at ready_for old new from to rows made pass =
     pass.place ∙ ap (λ (p : Place). place_of p (row_messages rows)) pass.inside ∙ place_of-rows pass.shape pass.y rows
 
 -- it is ready for the next of them
 goes_on_ready : {W : Type 0} (tool_at : W → Tool) (ready_for : W → Shape → List (List ℕ) → Type 0) (old new : W) (from to : Place)
-    (rows made come : List (List ℕ)) (pass : ArePassed tool_at ready_for old from rows new to made)
+    (rows : List (List ℕ)) (made : Option (List (List ℕ))) (come : List (List ℕ)) (pass : ArePassed tool_at ready_for old from rows new to made)
     → IsReadyFor ready_for old (Inside pass.shape pass.y) come → IsReadyFor ready_for new to (come ++ rows)
 goes_on_ready tool_at ready_for old new from to rows made come pass ready =
     let next : IsReadyFor ready_for new (Inside pass.shape (pass.y + length rows)) (come ++ rows) =
@@ -100,15 +97,15 @@ goes_on_ready tool_at ready_for old new from to rows made come pass ready =
 
 -- there it may keep rows
 keeps_on : {W : Type 0} (tool_at : W → Tool) (ready_for : W → Shape → List (List ℕ) → Type 0) (kept : W → List (List ℕ)) (old new : W) (from to : Place)
-    (rows made : List (List ℕ)) → ArePassed tool_at ready_for old from rows new to made → KeepsNone kept new to AllGiven
+    (rows : List (List ℕ)) (made : Option (List (List ℕ))) → ArePassed tool_at ready_for old from rows new to made → KeepsNone kept new to AllGiven
 keeps_on tool_at ready_for kept old new from to rows made pass =
     subst (λ (p : Place). KeepsNone kept new p AllGiven) (sym (stands_on tool_at ready_for old new from to rows made pass)) tt
 
 pub passed : {W : Type 0} (tool_at : W → Tool) (ready_for : W → Shape → List (List ℕ) → Type 0) (due kept : W → List (List ℕ)) (old : Standing W) (new : W)
-    (to : Place) (rows made : List (List ℕ)) (fault : Option ToolFault) (t : Tool) (l g : List Message)
+    (to : Place) (rows : List (List ℕ)) (made : Option (List (List ℕ))) (fault : Option ToolFault) (t : Tool) (l g : List Message)
     → IsAt tool_at ready_for due kept old t l g → old.pending ≡ AllGiven → ArePassed tool_at ready_for old.work old.place rows new to made
-    → IsAt tool_at ready_for due kept (standing new to old.pending fault) t (l ++ row_messages rows) (g ++ row_messages made)
-    × AnswersInFull t (l ++ row_messages rows) (g ++ row_messages made)
+    → IsAt tool_at ready_for due kept (standing new to old.pending fault) t (l ++ row_messages rows) (g ++ row_messages (rows_list made))
+    × AnswersInFull t (l ++ row_messages rows) (g ++ row_messages (rows_list made))
 passed tool_at ready_for due kept old new to rows made fault t l g at told pass =
     let s : Shape = pass.shape in
     let y : ℕ = pass.y in
@@ -117,21 +114,22 @@ passed tool_at ready_for due kept old new to rows made fault t l g at told pass 
     let given : IsAnswering t l g [] = subst (λ (p : Pending). IsAnswering t l g (waiting_in p (due old.work))) told at.answering in
     let inside : place_of Between l ≡ Inside s y = sym at.place ∙ pass.inside in
     let lawful : IsLawfulFrom (Inside s y) more = subst (λ (p : Place). IsLawfulFrom p more) pass.inside pass.lawful in
-    let are : AreRowAnswers t s y rows made = subst (λ (k : Tool). AreRowAnswers k s y rows made) at.tool pass.answers in
-    let all : IsAnswering t (l ++ more) (g ++ row_messages made) [] = answering_rows t l g s y rows made given inside lawful are in
+    let given_rows : List (List ℕ) = rows_list made in
+    let are : rows_answer t s y rows ≡ given_rows = subst (λ (k : Tool). rows_answer k s y rows ≡ given_rows) at.tool pass.answers in
+    let all : IsAnswering t (l ++ more) (g ++ row_messages given_rows) [] = answering_rows t l g s y rows given_rows given inside lawful are in
     let ready : IsReadyFor ready_for old.work (Inside s y) come = subst (λ (p : Place). IsReadyFor ready_for old.work p come) pass.inside at.ready in
     let next : IsReadyFor ready_for new to (come ++ rows) = goes_on_ready tool_at ready_for old.work new old.place to rows made come pass ready in
     let has_come : come ++ rows ≡ rows_come [] (l ++ more) = sym (come_append [] l more ∙ rows_have_come come rows) in (
       record {
         tool = pass.tool ∙ at.tool;
         options = at.options;
-        answering = subst (λ (p : Pending). IsAnswering t (l ++ more) (g ++ row_messages made) (waiting_in p (due new))) (sym told) all;
+        answering = subst (λ (p : Pending). IsAnswering t (l ++ more) (g ++ row_messages given_rows) (waiting_in p (due new))) (sym told) all;
         place = pass.place ∙ ap (λ (p : Place). place_of p more) at.place ∙ sym (place_of-append Between l more);
         ready = subst (IsReadyFor ready_for new to) has_come next;
         none = subst (KeepsNone kept new to) (sym told) (keeps_on tool_at ready_for kept old.work new old.place to rows made pass);
-        answers = answering_answers t (l ++ more) (g ++ row_messages made) [] (tool_answers_images t at.options) all;
+        answers = answering_answers t (l ++ more) (g ++ row_messages given_rows) [] (tool_answers_images t at.options) all;
       },
-      answering_in_full t (l ++ more) (g ++ row_messages made) (tool_answers_images t at.options) all,
+      answering_in_full t (l ++ more) (g ++ row_messages given_rows) (tool_answers_images t at.options) all,
     )
 
 -- ---- whether rows are passed or not
@@ -149,23 +147,17 @@ no_fault_yet None e = refl
 no_fault_yet (Some fault) e = absurd cc
 
 abbrev PassedRows : Type 0
-PassedRows = Result (List (List ℕ)) (List (List ℕ))
+PassedRows = Result (Option (List (List ℕ))) (List (List ℕ))
 
 pub passed_by : {W : Type 0} (tool_at : W → Tool) (ready_for : W → Shape → List (List ℕ) → Type 0) (due kept : W → List (List ℕ)) (old : Standing W) (new : W)
     (to : Place) (rows : List (List ℕ)) (fault : Option ToolFault) (result : PassedRows) → old.pending ≡ AllGiven
     → IfOk result (ArePassed tool_at ready_for old.work old.place rows new to)
     → IfOk result (λ made. (t : Tool) (l g : List Message) → IsAt tool_at ready_for due kept old t l g
-    → IsAt tool_at ready_for due kept (standing new to old.pending fault) t (l ++ row_messages rows) (g ++ row_messages made)
-    × AnswersInFull t (l ++ row_messages rows) (g ++ row_messages made))
+    → IsAt tool_at ready_for due kept (standing new to old.pending fault) t (l ++ row_messages rows) (g ++ row_messages (rows_list made))
+    × AnswersInFull t (l ++ row_messages rows) (g ++ row_messages (rows_list made)))
 passed_by tool_at ready_for due kept old new to rows fault (Ok made) told pass = λ t l g at.
     passed tool_at ready_for due kept old new to rows made fault t l g at told pass
 passed_by tool_at ready_for due kept old new to rows fault (Err same) told pass = tt
-
--- as many rows are made as come
-pub each_by : {W : Type 0} (tool_at : W → Tool) (ready_for : W → Shape → List (List ℕ) → Type 0) (old new : W) (from to : Place) (rows : List (List ℕ))
-    (result : PassedRows) → IfOk result (ArePassed tool_at ready_for old from rows new to) → IfOk result (λ made. length made ≡ length rows)
-each_by tool_at ready_for old new from to rows (Ok made) pass = answers_are_many (tool_at old) pass.shape pass.y rows made pass.answers
-each_by tool_at ready_for old new from to rows (Err same) pass = tt
 
 -- a state stays sound
 pub stands_by : {W : Type 0} (tool_at : W → Tool) (ready_for : W → Shape → List (List ℕ) → Type 0) (kept : W → List (List ℕ)) (old new : W) (from to : Place)

@@ -1,6 +1,9 @@
 -- A row-wise tool at work in a lane takes and gives messages as the tool does.
 use Rattle.std.proofs.Common.{◌≡◌, ℕ, Bool, true, List, [], ◌∷◌, ◌++◌, Option, Some, None, Result, Ok, Err, OnOk, IfOk, IfSome, IfNone}
 use Rattle.pnm_image.specs.declared.message.Message.{Message}
+use Rattle.pnm_image.specs.declared.parcel.Parcel.{Parcel}
+use Rattle.pnm_image.specs.Parcels.{messages_in}
+use Rattle.pnm_tools.specs.Answering.{rows_list}
 use Rattle.pnm_tools.specs.declared.fault.ToolFault.{ToolFault}
 use Rattle.pnm_filters.specs.declared.row_state.RowState.{RowState}
 use Rattle.pnm_tools.specs.declared.tool.Tool.{Tool}
@@ -22,19 +25,19 @@ pub lane_takes : (r : Result (Unit {0}) ToolFault) (old new : Standing AnyTool) 
 lane_takes (Ok done) old new m takes = λ t l g at. record { state = takes t l g at.state; row_wise = at.row_wise }
 lane_takes (Err fault) old new m takes = takes
 
--- a message was given
-pub lane_gives : (r : Result (Option Message) ToolFault) (old new : Standing AnyTool)
-    → IfOk r (λ o. IfSome o (λ m. (t : Tool) (l g : List Message) → IsToolAt old t l g → IsToolAt new t l (g ++ m ∷ [])))
-    → IfOk r (λ o. IfSome o (λ m. (t : Tool) (l g : List Message) → IsRowWiseAt (lane_of old) t l g → IsRowWiseAt (lane_of new) t l (g ++ m ∷ [])))
-lane_gives (Ok (Some m)) old new gives = λ t l g at. record { state = gives t l g at.state; row_wise = at.row_wise }
+-- a message was given, or rows together
+pub lane_gives : (r : Result (Option Parcel) ToolFault) (old new : Standing AnyTool)
+    → IfOk r (λ o. IfSome o (λ p. (t : Tool) (l g : List Message) → IsToolAt old t l g → IsToolAt new t l (g ++ messages_in p)))
+    → IfOk r (λ o. IfSome o (λ p. (t : Tool) (l g : List Message) → IsRowWiseAt (lane_of old) t l g → IsRowWiseAt (lane_of new) t l (g ++ messages_in p)))
+lane_gives (Ok (Some p)) old new gives = λ t l g at. record { state = gives t l g at.state; row_wise = at.row_wise }
 lane_gives (Ok None) old new gives = gives
 lane_gives (Err fault) old new gives = gives
 
 -- where the end of what was accepted is Stop, Stop was given
-pub lane_stops : (r : Result (Option Message) ToolFault) (old : Standing AnyTool) (P : Message → Type 0)
-    → IfOk r (λ o. IfSome o (λ m. (t : Tool) (l g : List Message) → IsToolAt old t l g → EndsBy BrokenOff l → P m))
-    → IfOk r (λ o. IfSome o (λ m. (t : Tool) (l g : List Message) → IsRowWiseAt (lane_of old) t l g → EndsBy BrokenOff l → P m))
-lane_stops (Ok (Some m)) old P stops = λ t l g at ends. stops t l g at.state ends
+pub lane_stops : (r : Result (Option Parcel) ToolFault) (old : Standing AnyTool) (P : Parcel → Type 0)
+    → IfOk r (λ o. IfSome o (λ p. (t : Tool) (l g : List Message) → IsToolAt old t l g → EndsBy BrokenOff l → P p))
+    → IfOk r (λ o. IfSome o (λ p. (t : Tool) (l g : List Message) → IsRowWiseAt (lane_of old) t l g → EndsBy BrokenOff l → P p))
+lane_stops (Ok (Some p)) old P stops = λ t l g at ends. stops t l g at.state ends
 lane_stops (Ok None) old P stops = stops
 lane_stops (Err fault) old P stops = stops
 
@@ -46,21 +49,23 @@ pub lane_told : (r : Bool) (old new : Standing AnyTool)
 lane_told r old new full = λ e. ((full e).0, λ t l g at. let both = (full e).1 t l g at.state in (record { state = both.0; row_wise = at.row_wise }, both.1))
 
 -- all was given
-pub lane_is_full : (r : Result (Option Message) ToolFault) (old new : Standing AnyTool)
+pub lane_is_full : (r : Result (Option Parcel) ToolFault) (old new : Standing AnyTool)
     → IfOk r (λ o.
     IfNone o ((is_all_given new.pending ≡ true) × ((t : Tool) (l g : List Message) → IsToolAt old t l g → IsToolAt new t l g × AnswersInFull t l g)))
     → IfOk r (λ o.
     IfNone o ((is_all_given new.pending ≡ true)
     × ((t : Tool) (l g : List Message) → IsRowWiseAt (lane_of old) t l g → IsRowWiseAt (lane_of new) t l g × AnswersInFull t l g)))
-lane_is_full (Ok (Some m)) old new full = full
+lane_is_full (Ok (Some p)) old new full = full
 lane_is_full (Ok None) old new full = (full.0, λ t l g at. let both = full.1 t l g at.state in (record { state = both.0; row_wise = at.row_wise }, both.1))
 lane_is_full (Err fault) old new full = full
 
 -- rows were passed
-pub lane_passes : (r : Result (List (List ℕ)) (List (List ℕ))) (old new : Standing AnyTool) (rows : List (List ℕ))
+pub lane_passes : (r : Result (Option (List (List ℕ))) (List (List ℕ))) (old new : Standing AnyTool) (rows : List (List ℕ))
     → IfOk r (λ made. (t : Tool) (l g : List Message) → IsToolAt old t l g
-    → IsToolAt new t (l ++ row_messages rows) (g ++ row_messages made) × AnswersInFull t (l ++ row_messages rows) (g ++ row_messages made))
+    → IsToolAt new t (l ++ row_messages rows) (g ++ row_messages (rows_list made))
+    × AnswersInFull t (l ++ row_messages rows) (g ++ row_messages (rows_list made)))
     → IfOk r (λ made. (t : Tool) (l g : List Message) → IsRowWiseAt (lane_of old) t l g
-    → IsRowWiseAt (lane_of new) t (l ++ row_messages rows) (g ++ row_messages made) × AnswersInFull t (l ++ row_messages rows) (g ++ row_messages made))
+    → IsRowWiseAt (lane_of new) t (l ++ row_messages rows) (g ++ row_messages (rows_list made))
+    × AnswersInFull t (l ++ row_messages rows) (g ++ row_messages (rows_list made)))
 lane_passes (Ok made) old new rows passes = λ t l g at. let both = passes t l g at.state in (record { state = both.0; row_wise = at.row_wise }, both.1)
 lane_passes (Err same) old new rows passes = passes

@@ -1,17 +1,20 @@
 -- How a tool at work answers one message, and how it gives one.
-use Rattle.std.specs.Prelude.{◌≡◌, ◌⊎◌, ℕ, Bool, true, false, List, [], ◌∷◌, ◌++◌, Option, Some, None, Result, Ok, Err}
+use Rattle.std.specs.Prelude.{◌≡◌, ◌≤◌, ◌⊎◌, ℕ, length, Bool, true, false, List, [], ◌++◌, Option, Some, None}
+use Rattle.std.specs.Prelude.{Result, Ok, Err}
 use Rattle.pnm_image.specs.declared.shape.Shape.{Shape}
 use Rattle.pnm_image.specs.declared.message.Message.{Message}
 use Rattle.pnm_image.specs.declared.place.Place.{Place}
 use Rattle.pnm_image.specs.declared.place.Place.TheVariants.{Inside}
 use Rattle.pnm_image.specs.Places.{Accepts, IsLawfulFrom, place_after, place_of}
 use Rattle.pnm_image.specs.Rows.{row_messages}
+use Rattle.pnm_image.specs.Parcels.{messages_in}
+use Rattle.pnm_image.specs.declared.parcel.Parcel.{Parcel}
 use Rattle.pnm_tools.specs.declared.fault.ToolFault.{ToolFault}
 use Rattle.pnm_tools.specs.declared.fault.ToolFault.TheVariants.{OutOfOrder, Memory}
 use Rattle.pnm_filters.specs.Pendings.{Pending, AllGiven, Waiting, Rows, RowsAndEnd, Nothing}
 use Rattle.pnm_tools.specs.declared.tool.Tool.{Tool}
 use Rattle.pnm_tools.specs.Answers.{Begins, RefusesHead}
-use Rattle.pnm_tools.specs.Answering.{AreRowAnswers, answers_at, rows_after}
+use Rattle.pnm_tools.specs.Answering.{answers_at, rows_after, rows_answer, rows_list}
 use Rattle.pnm_filters.specs.States.{is_all_given, waiting_in, IsReadyFor, KeepsNone}
 
 -- ---- a message is fed, at a place
@@ -50,9 +53,9 @@ Answered tool_at ready_for due kept all_given old from m new to pending (Err fau
 
 -- ---- rows are passed, from a place on
 
--- each of them is answered by the row that stands in its place, whatever rows of the image have come before them
+-- the rows that answer them are made, whatever rows of the image have come before them
 pub record ArePassed {W : Type 0} (tool_at : W → Tool) (ready_for : W → Shape → List (List ℕ) → Type 0) (old : W)
-    (from : Place) (rows : List (List ℕ)) (new : W) (to : Place) (made : List (List ℕ)) : Type 0 where
+    (from : Place) (rows : List (List ℕ)) (new : W) (to : Place) (made : Option (List (List ℕ))) : Type 0 where
   pub shape : Shape
   pub y : ℕ
   pub inside : from ≡ Inside shape y
@@ -60,23 +63,23 @@ pub record ArePassed {W : Type 0} (tool_at : W → Tool) (ready_for : W → Shap
   pub tool : tool_at new ≡ tool_at old
   pub place : to ≡ place_of from (row_messages rows)
   pub ready : (come : List (List ℕ)) → ready_for old shape come → ready_for new shape (come ++ rows)
-  pub answers : AreRowAnswers (tool_at old) shape y rows made
+  pub answers : rows_answer (tool_at old) shape y rows ≡ rows_list made
 
 -- ---- a message is given
 
-abbrev pub message_list : Option Message → List Message
+abbrev pub message_list : Option Parcel → List Message
 message_list None = []
-message_list (Some m) = m ∷ []
+message_list (Some p) = messages_in p
 
--- where none is given, that is told
-abbrev pub IsTold : Option Message → Pending → Pending → Type 0
+-- where none is given, that is told; else some messages are
+abbrev pub IsTold : Option Parcel → Pending → Pending → Type 0
 IsTold None old new = new ≡ AllGiven
-IsTold (Some m) old new = (is_all_given old ≡ false) × (is_all_given new ≡ false)
+IsTold (Some p) old new = (is_all_given old ≡ false) × (is_all_given new ≡ false) × (1 ≤ length (messages_in p))
 
--- the first of the messages that wait is given, if one does, and the others wait
+-- the first of the messages that wait, or rows among them, are given, if some do, and the others wait
 pub record IsGiven {W : Type 0} (tool_at : W → Tool) (ready_for : W → Shape → List (List ℕ) → Type 0)
     (due kept : W → List (List ℕ)) (old : W) (before : Pending) (new : W) (after : Pending)
-    (given : Option Message) : Type 0 where
+    (given : Option Parcel) : Type 0 where
   pub waits : waiting_in before (due old) ≡ message_list given ++ waiting_in after (due new)
   pub told : IsTold given before after
   pub tool : tool_at new ≡ tool_at old
@@ -93,7 +96,7 @@ GivesRows RowsAndEnd = Unit {0}
 GivesRows Nothing = ⊥
 
 abbrev pub Gave : {W : Type 0} → (W → Tool) → (W → Shape → List (List ℕ) → Type 0) → (W → List (List ℕ))
-    → (W → List (List ℕ)) → W → Pending → W → Pending → Result (Option Message) ToolFault → Type 0
+    → (W → List (List ℕ)) → W → Pending → W → Pending → Result (Option Parcel) ToolFault → Type 0
 Gave tool_at ready_for due kept old before new after (Ok given) =
     IsGiven tool_at ready_for due kept old before new after given
 Gave tool_at ready_for due kept old before new after (Err fault) = (fault ≡ Memory) × GivesRows before

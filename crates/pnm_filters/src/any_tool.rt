@@ -67,7 +67,13 @@ impl ImageTool for AnyTool {
     }
 
     #[inline(never)]
-    fn rows(&mut self, alloc: Global, shape: Shape, y: u32, rows: Rows) -> Result<Rows, Rows> {
+    fn rows(
+        &mut self,
+        alloc: Global,
+        shape: Shape,
+        y: u32,
+        rows: Rows,
+    ) -> Result<Option<Rows>, Rows> {
         with_tool!(self, work => work.rows(alloc, shape, y, rows))
     }
 
@@ -78,7 +84,7 @@ impl ImageTool for AnyTool {
 
     // Which tool it is was seen as it took the row: the choice stands beside the state's own.
     #[inline(always)]
-    fn give(&mut self, alloc: Global) -> Result<Option<Samples>, ToolFault> {
+    fn give(&mut self, alloc: Global) -> Result<Option<Rows>, ToolFault> {
         with_tool!(self, work => work.give(alloc))
     }
 

@@ -6,7 +6,7 @@ ghost use Rattle.pnm_filters.specs.States.{waiting_in, is_all_given, IsReadyFor}
 ghost use Rattle.pnm_tools.specs.Tools.{IsLawfulTool};
 ghost use Rattle.pnm_filters.specs.Steps.{Answered, ArePassed, Gave, IsGiven};
 
-use pnm_image::{Message, Place, Rows};
+use pnm_image::{Message, Parcel, Place, Rows};
 use pnm_tools::{Filter, ImageTool, ToolFault};
 use std::alloc::Global;
 use std::marker::Model;
@@ -88,7 +88,7 @@ impl<T: ImageTool> Filter for State<T> {
     }
 
     #[inline(always)]
-    fn next(&mut self) -> Result<Option<Message>, ToolFault> {
+    fn next(&mut self) -> Result<Option<Parcel>, ToolFault> {
         if let Some(fault) = self.fault {
             return Err(fault);
         }
@@ -98,7 +98,7 @@ impl<T: ImageTool> Filter for State<T> {
             &mut self.owed,
             &mut self.waiting,
         ) {
-            Ok(message) => Ok(message),
+            Ok(given) => Ok(given),
             Err(fault) => {
                 self.work.release(self.alloc);
                 self.fault = Some(fault);
@@ -111,7 +111,7 @@ impl<T: ImageTool> Filter for State<T> {
         tell(&self.work, &mut self.owed, &self.waiting)
     }
 
-    fn pass_rows(&mut self, rows: Rows) -> Result<Rows, Rows> {
+    fn pass_rows(&mut self, rows: Rows) -> Result<Option<Rows>, Rows> {
         if self.fault.is_some() || !is_told(self.owed) {
             return Err(rows);
         }
@@ -140,7 +140,7 @@ impl<T: ImageTool> State<T> {
     }
 }
 
-/// Passes rows, if they may come at this place, to the tool, which makes of each of them a row of the result at once.
+/// Passes rows, if they may come at this place, to the tool, which makes the rows that answer them at once.
 ///
 /// # Errors
 ///
@@ -150,7 +150,7 @@ fn pass<T: ImageTool>(
     work: &mut T,
     place: &mut Place,
     rows: Rows,
-) -> Result<Rows, Rows>
+) -> Result<Option<Rows>, Rows>
     requires lawful { IsLawfulTool (T.tool work.old) }
     requires ready { (come : List (List ℕ)) × IsReadyFor T.ready work.old place.old come }
     ensures passed { IfOk result (ArePassed T.tool T.ready work.old place.old rows work.new place.new) }
@@ -231,14 +231,14 @@ fn owe_one(owed: &mut Owed, waiting: &mut Option<Message>, message: Message)
     *waiting = Some(message);
 }
 
-/// The next message that is owed, if one is.
+/// The next message that is owed, or rows that follow one another, if some are.
 #[inline(always)]
 fn give<T: ImageTool>(
     alloc: Global,
     work: &mut T,
     owed: &mut Owed,
     waiting: &mut Option<Message>,
-) -> Result<Option<Message>, ToolFault>
+) -> Result<Option<Parcel>, ToolFault>
     ensures { Gave T.tool T.ready T.due T.kept work.old (pending_of owed.old waiting.old) work.new
         (pending_of owed.new waiting.new) result }
 {
@@ -249,21 +249,21 @@ fn give<T: ImageTool>(
             Ok(None)
         }
         Owed::Rest => match work.give(alloc)? {
-            Some(row) => Ok(Some(Message::Row(row))),
+            Some(rows) => Ok(Some(Parcel::of_rows(rows))),
             None => {
                 *owed = Owed::Told;
                 Ok(None)
             }
         },
         Owed::RestAndEnd => match work.give(alloc)? {
-            Some(row) => Ok(Some(Message::Row(row))),
+            Some(rows) => Ok(Some(Parcel::of_rows(rows))),
             None => {
                 work.release(alloc);
                 *owed = Owed::Untold;
-                Ok(Some(Message::ImageEnd))
+                Ok(Some(Parcel::Message(Message::ImageEnd)))
             }
         },
-        Owed::One => Ok(give_one(owed, waiting)),
+        Owed::One => Ok(give_one(owed, waiting).map(Parcel::Message)),
     }
 }
 

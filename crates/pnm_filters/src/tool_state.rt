@@ -66,15 +66,16 @@ fn by_row<T: RowTool>(tool: T) -> ByRow<T>
     ByRow { tool, made: None }
 }
 
-/// Whether the tool passes rows together that are held so, as far as can be told beforehand: of each it makes one row
-/// by itself. It takes them one by one all the same where some are cut off, where they are bits of several planes that
-/// it would turn round, and where there is no memory for the bits that it makes of bits.
-pub fn passes_rows(tool: &Tool, sample_width: SampleWidth) -> bool {
+/// Whether the tool passes rows together that are held so, as far as can be told beforehand. It takes them one by one
+/// all the same where they are bits of several planes that it would turn round, or bits of a maxval beyond 1, and where
+/// there is no memory for the rows that it makes or keeps.
+pub fn passes_rows(tool: &Tool, _sample_width: SampleWidth) -> bool {
     match tool {
-        Tool::Invert | Tool::Flip(FlipWay::Null) => true,
-        Tool::Cut(_) | Tool::Flip(FlipWay::LeftRight) => sample_width != SampleWidth::Words,
-        Tool::Depth(maxval) => sample_width == SampleWidth::Bytes && *maxval <= 255,
-        Tool::Channel(_) | Tool::Enlarge(_, _) | Tool::Flip(_) | Tool::Tile(_, _) => false,
+        Tool::Invert | Tool::Cut(_) | Tool::Depth(_) | Tool::Channel(_) => true,
+        Tool::Flip(way) => !way.turn().exchanged,
+        // More than that isn't made at once of rows that fill a buffer.
+        Tool::Enlarge(across, down) => across.saturating_mul(*down) <= 16,
+        Tool::Tile(_, _) => false,
     }
 }
 

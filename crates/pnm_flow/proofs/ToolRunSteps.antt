@@ -12,7 +12,11 @@ use Rattle.pnm_lanes.specs.declared.around.OuterRingEnds.{OuterRingEnds}
 use Rattle.pnm_lanes.specs.declared.joining.LanesDone.{LanesDone}
 use Rattle.pnm_lanes.specs.declared.lane_rings.LaneRingEnds.{LaneRingEnds}
 use Rattle.pnm_lanes.specs.declared.lane_rings.LaneRings.{LaneRings}
-use Rattle.pnm_lanes.specs.LaneRuns.{AreLanesRun, HaveDealtAndGathered, HaveRun}
+use Rattle.pnm_image.specs.declared.message.Message.{Message}
+use Rattle.pnm_stages.specs.Rings.{sent, received, known_items, SameSender}
+use Rattle.pnm_stages.specs.Stages.{HasRunStage}
+use Rattle.pnm_stages.proofs.RingSteps.{same_output}
+use Rattle.pnm_lanes.specs.LaneRuns.{AreLanesRun, HaveDealtAndGathered, HaveRun, IsLaneRun}
 use Rattle.pnm_flow.specs.Chains.{RunsInLanes, IsAcross, IsToolRun, IsLanesRun}
 
 -- what threads, and what was done beside them, came back with
@@ -43,6 +47,15 @@ pub lanes_came_back : (lanes : ℕ) (tool : Tool) (across : Across) (rings : Lan
 lanes_came_back lanes tool across rings tells hears input output result done over is has came =
     lanes_ran lanes tool input output done (subst (IsAcross lanes tool) is over).0
     (came_so (IsLanesRun tool input output) result done has came)
+
+-- a lane whose sending end has its home has run as one whose end hasn't
+pub ran_from_home : (tool : Tool) (input : Receiver) (before output : Sender) (done : StageDone) → SameSender before output → sent output ≡ sent before
+    → IsLaneRun tool input output done → IsLaneRun tool input before done
+ran_from_home tool input before output done same as_sent run = (
+  run.0,
+  same_output before output done.output same run.1,
+  subst (λ (l : List Message). HasRunStage tool done.end (received input) (received done.input) (known_items done.input) l (sent done.output)) as_sent run.2,
+)
 
 -- the threads around lanes came back, of which none is left
 pub none_left : {B : Type 0} (tool : Tool) (lanes : List LaneRingEnds) (outer : OuterRingEnds) (reserved : Vec StageDone) (result : Option (LanesDone × B))

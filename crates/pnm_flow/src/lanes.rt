@@ -65,8 +65,8 @@ pub fn run_lanes<R: Threads + Wait + Sync, G: Gate>(
 }
 
 /// Passes what comes on `input` through a row-wise tool to `output`, as `run_lanes` does, over the lanes of these
-/// rings. Once each of its threads is started, other work is done in this one. None where a thread can't be started:
-/// that work isn't done then, and the threads that were started have ended.
+/// rings. Once each of its threads is started, other work is done in this one. None where a thread can't be started, or
+/// the output's wakers have too many owners: that work isn't done then, and the threads that were started have ended.
 pub fn run_lanes_beside<R: Threads + Wait + Sync, G: Gate, T: Task<Output = B> + Drop, B: Drop>(
     rt: &R,
     alloc: Global,
@@ -149,7 +149,7 @@ impl<'a, R: Wait, G: Gate> Task for Lane<'a, R, G> {
 }
 
 /// The threads of these lanes, from the last one on, and of those that deal and gather; then the work beside them. None
-/// where one can't be started: all that were have ended then.
+/// where one can't be started, or a lane can't have its home: all that were started have ended then.
 fn run_threads<R: Threads + Wait + Sync, G: Gate, T: Task<Output = B> + Drop, B: Drop>(
     rt: &R,
     alloc: Global,
@@ -170,9 +170,13 @@ fn run_threads<R: Threads + Wait + Sync, G: Gate, T: Task<Output = B> + Drop, B:
     ensures beside { IfSome result (λ r. T.run_gives beside r.1) }
 {
     let mut others = lanes;
-    let Some(ends) = others.pop() else {
+    let Some(mut ends) = others.pop() else {
         return deal_and_gather(rt, alloc, outer, reserved, beside);
     };
+    // The thread that gathers sleeps there while it drains the lanes.
+    if !ends.output.set_home(&outer.output) {
+        return None;
+    }
     let last = Lane {
         rt,
         alloc,

@@ -3,6 +3,7 @@
 #![tactic(auto)]
 
 mod chain;
+mod joined_rows;
 mod lanes;
 mod serial;
 mod stage;
@@ -11,11 +12,12 @@ mod tool_run;
 
 pub use chain::{ChainDone, Link, run_chain};
 pub use lanes::run_lanes;
+pub use pnm_image::Parcel;
 pub use pnm_lanes::{DealDone, GatherDone, MAX_LANES, deal, gather};
 pub use pnm_serial::{RunFault, Summary};
 pub use pnm_stages::{
-    AnyMessage, Gate, MAX_RING_CAPACITY, NoStart, OpenGate, Parcel, Receiver, Sender, StageDone,
-    StageEnd, new_ring,
+    AnyMessage, Gate, MAX_RING_CAPACITY, NoStart, OpenGate, Receiver, Sender, StageDone, StageEnd,
+    new_ring,
 };
 pub use serial::run_serial;
 pub use stage::run_stage;

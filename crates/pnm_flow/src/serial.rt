@@ -7,6 +7,7 @@ ghost use Rattle.pnm_serial.specs.Jobs.{job_of};
 ghost use Rattle.pnm_serial.specs.Runs.{change, HasRunInOneThread};
 ghost use Rattle.pnm_flow.specs.SerialTools.{AreFresh};
 
+use crate::joined_rows::joined_rows;
 use pnm_filters::{ToolState, filter_of};
 use pnm_image::{BytesIn, BytesOut, Form};
 use pnm_serial::{RunFault, Summary, run_filters};
@@ -18,8 +19,8 @@ use std::alloc::Global;
 /// all of them before the output's: the writer's, or that the form can't hold the results. After a
 /// fault of a tool or of the output it goes on reading, and so it does after want of memory for one of
 /// the tools, so that a fault that comes before that one in this order is still met; where there is no
-/// memory for the list of the tools, nothing is read and the fault is that of tool 1. An input of which
-/// `u64::MAX` messages are said is answered by `ReadFailed` after them.
+/// memory for the list of the tools, nothing is read and the fault is that of tool 1. After `u64::MAX` messages, or
+/// rows that pass together, it answers `ReadFailed`.
 pub fn run_serial<R: BytesIn, W: BytesOut>(
     alloc: Global,
     reader: &mut R,
@@ -37,7 +38,8 @@ pub fn run_serial<R: BytesIn, W: BytesOut>(
         Ok(stages) => stages,
         Err(fault) => return Err(RunFault::Tool(1, fault)),
     };
-    run_filters(alloc, reader, writer, stages.as_mut_slice(), form)
+    let joined = joined_rows(tools, form, 1);
+    run_filters(alloc, reader, writer, stages.as_mut_slice(), form, joined)
 }
 
 /// Each tool at work, fused; one for which there is no memory has refused. The only fault is

@@ -22,10 +22,10 @@ ghost use Rattle.pnm_flow.specs.Chains.{HasRunChain};
 ghost use Rattle.pnm_flow.specs.ThreadedRuns.{answer_over, fault_of_end, first_fault_from, HasRunOverThreads};
 
 use crate::chain::{ChainDone, run_chain_beside};
-use pnm_filters::passes_rows;
-use pnm_image::{BytesIn, BytesOut, Form, SampleWidth};
+use crate::joined_rows::joined_rows;
+use pnm_image::{BytesIn, BytesOut, Form};
 use pnm_read::{InputFault, Source};
-use pnm_serial::{Buffers, Collector, Feeder, JoinedRows, RunFault, Summary, Turns};
+use pnm_serial::{Buffers, Collector, Feeder, RunFault, Summary, Turns};
 use pnm_stages::{Gate, Receiver, Sender, StageEnd, new_ring};
 use pnm_tools::Tool;
 use pnm_write::SinkFault;
@@ -88,22 +88,6 @@ pub fn run<H: Threads + Wait + Sync, R: BytesIn, W: BytesOut, G: Gate>(
     let _ = &*read;
     let _ = &*written;
     answer
-}
-
-/// Which short rows are sent together: those that each tool passes so, as far as its options tell, over one lane, and
-/// that are written raw. Others would have to be taken out again.
-fn joined_rows(tools: &[Tool], form: Form, lanes: usize) -> JoinedRows {
-    let may_join = lanes == 1 && form == Form::Raw;
-    JoinedRows {
-        bits: may_join
-            && tools
-                .iter()
-                .all(|tool| passes_rows(tool, SampleWidth::Bits)),
-        bytes: may_join
-            && tools
-                .iter()
-                .all(|tool| passes_rows(tool, SampleWidth::Bytes)),
-    }
 }
 
 /// Runs the chain, and the caller's turns beside it, once each of its threads is started; none where one can't be.

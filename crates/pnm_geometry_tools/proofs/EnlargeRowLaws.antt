@@ -30,7 +30,7 @@ one_more {X = X} f n =
     ∙ ap (λ (l : List X). flat_map f (range_with_len 0 n) ++ l) (append-nil (f n))
 
 -- one column more
-one_more_column : {X : Type 0} (across depth : ℕ) (row : List X) (n : ℕ) → columns_repeated across depth row (n + 1) ≡ columns_repeated across depth row n
+pub one_more_column : {X : Type 0} (across depth : ℕ) (row : List X) (n : ℕ) → columns_repeated across depth row (n + 1) ≡ columns_repeated across depth row n
     ++ copies_of across (pixel_of depth row n)
 one_more_column across depth row n = one_more (λ x. copies_of across (pixel_of depth row x)) n
 
@@ -182,6 +182,33 @@ pixel_there row width depth x k m p long column at size below =
     let within : suc x * depth ≤ width * depth = mul-le-mul {n₁ = suc x} {m₁ = depth} {n₂ = width} {m₂ = depth} (omega arith) (omega arith) in
     omega (arith, length-take m (drop k row), length-drop k row)
 
+-- so long is a pixel of many samples
+wide_pixel : {X : Type 0} (row : List X) (width depth x k m : ℕ) → length row ≡ width * depth → x < width → k ≡ x * depth → m ≡ depth
+    → length (take m (drop k row)) ≡ depth
+wide_pixel row width depth x k m long column at size =
+    let within : suc x * depth ≤ width * depth = mul-le-mul {n₁ = suc x} {m₁ = depth} {n₂ = width} {m₂ = depth} (omega arith) (omega arith) in
+    omega (arith, length-take m (drop k row), length-drop k row)
+
+-- there is room for it
+pub wide_there : {X : Type 0} (row : List X) (width across depth x n k m at start count size : ℕ) → x < width → n < across → at ≡ start + n * depth
+    → start ≡ x * across * depth → count ≡ width * depth → size ≡ count * across → length row ≡ width * depth → k ≡ x * depth → m ≡ depth
+    → at + length (take m (drop k row)) ≤ size
+wide_there row width across depth x n k m at start count size column time is first long all have from many =
+    omega (
+      arith,
+      place_there width across depth x n at start count size column time is first long all,
+      wide_pixel row width depth x k m have column from many,
+    )
+
+-- it stands once more
+pub wide_more : {X : Type 0} (start buffer new row : List X) (width depth x k m at count : ℕ) → length row ≡ width * depth → x < width → k ≡ x * depth
+    → m ≡ depth → take at buffer ≡ start ++ copies_of count (take m (drop k row))
+    → take (at + length (take m (drop k row))) new ≡ take at buffer ++ take m (drop k row)
+    → take (at + depth) new ≡ start ++ copies_of (count + 1) (take m (drop k row))
+wide_more {X = X} start buffer new row width depth x k m at count long column from size was is =
+    ap (λ (n : ℕ). take (at + n) new) (sym (wide_pixel row width depth x k m long column from size))
+    ∙ pixel_more start (take at buffer) (take (at + length (take m (drop k row))) new) (take m (drop k row)) count was is
+
 -- nothing of the pixel yet
 pub none_stored : {X : Type 0} (buffer pixel : List X) (at : ℕ) → take (at + 0) buffer ≡ take at buffer ++ take 0 pixel
 none_stored {X = X} buffer pixel at =
@@ -238,9 +265,7 @@ pub unchanged_row : (across : ℕ) (s : Shape) (row : List ℕ) → across ≡ 1
 unchanged_row across s row once count =
     sym (ap (λ (k : ℕ). enlarged_row k s row) once ∙ columns_once s.depth row s.width ∙ take_all (s.width * s.depth) row (omega (arith, count)))
 
--- the rows that a row makes, of which one is left to give and so many more
-pub rows_due : (across down : ℕ) (s : Shape) (y : ℕ) (row made : List ℕ) → 1 ≤ down → made ≡ enlarged_row across s row
-    → replicate (down - 1 + 1) made ≡ row_answer (Enlarge across down) s y row
-rows_due across down s y row made some is =
-    let count : down - 1 + 1 ≡ down = omega arith in
-    ap (λ (n : ℕ). replicate n made) count ∙ ap (replicate down) is ∙ sym (row_of_enlarge across down s y row)
+-- the rows that a row makes
+pub rows_due : (across down : ℕ) (s : Shape) (y : ℕ) (row made : List ℕ) → made ≡ enlarged_row across s row
+    → replicate down made ≡ row_answer (Enlarge across down) s y row
+rows_due across down s y row made is = ap (replicate down) is ∙ sym (row_of_enlarge across down s y row)

@@ -7,3 +7,4 @@ pub mod EnlargeRowLaws
 pub mod CopyLaws
 pub mod TileRowLaws
 pub mod RepeatedBitLaws
+pub mod EnlargedRowsLaws

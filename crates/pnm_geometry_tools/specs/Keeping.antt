@@ -31,11 +31,13 @@ pub record IsEnlarging (across : ℕ) (s : Shape) : Type 0 where
   pub width : s.width * across ≤ MAX_SIDE
   pub row : s.width * across * s.depth ≤ MAX_ROW_LENGTH
 
+-- a row that is to be given so many times
+abbrev pub copies_due : Option (List ℕ) → ℕ → List (List ℕ)
+copies_due None left = []
+copies_due (Some row) left = replicate left row
+
 abbrev pub enlarged_due : Enlarger → List (List ℕ)
-enlarged_due w = elim w.row [
-  | None ↦ []
-  | Some row ↦ replicate (w.more + 1) row
-]
+enlarged_due w = copies_due w.row w.left
 
 -- ---- pamflip where columns and rows are exchanged: all rows, and a batch of rows of the result
 

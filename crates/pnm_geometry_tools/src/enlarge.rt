@@ -1,22 +1,22 @@
 //! `pamenlarge`: each pixel so many times across and so many times down, from pamenlarge(1).
 
-ghost use Rattle.std.specs.Prelude.{◌≡◌, ◌≤◌, ◌+◌, ◌*◌, ◌++◌, ◌∷◌, [], ◌⊎◌, length, replicate, take, OnOk, IfOk};
-ghost use Rattle.std.specs.Prelude.{IfErr, Ok, Err, None};
-ghost use Rattle.std.specs.List.{flat_map, range_with_len};
+ghost use Rattle.std.specs.Prelude.{◌≡◌, ◌≤◌, ◌*◌, ◌⊎◌, length, replicate, OnOk, IfOk};
+ghost use Rattle.std.specs.Prelude.{IfErr, IfSome, Ok, Err, None, All, ℕ};
+ghost use Rattle.std.specs.List.{AllByRecursion};
 ghost use Rattle.pnm_image.specs.Heads.{row_length};
 ghost use Rattle.pnm_image.specs.Places.{IsRowOf};
+ghost use Rattle.pnm_image.specs.declared.limits.TheConstants.{MAX_ROW_LENGTH};
+ghost use Rattle.pnm_samples.specs.SampleVecs.{samples_of};
 ghost use Rattle.pnm_tools.specs.declared.fault.ToolFault.TheVariants.{Memory};
 ghost use Rattle.pnm_tools.specs.declared.tool.Tool.TheVariants.{Enlarge};
-ghost use Rattle.pnm_tools.specs.Answering.{row_list};
-ghost use Rattle.pnm_tools.specs.Enlarge.{enlarged_row, copies_of};
-ghost use Rattle.pnm_tools.specs.Pixels.{pixel_of};
+ghost use Rattle.pnm_tools.specs.Answering.{row_list, rows_answer};
+ghost use Rattle.pnm_tools.specs.Enlarge.{enlarged_row};
 ghost use Rattle.pnm_geometry_tools.specs.Keeping.{IsEnlarging, across_of, down_of, enlarged_due, kept_row};
 ghost use Rattle.pnm_tools.specs.Limits.{IsExtent};
 ghost use Rattle.pnm_tools.specs.Tools.{TakesHead, result_head};
 
-use crate::buffer::store;
-use crate::color::color_at;
-use pnm_image::{Bits, Head, SampleVec, Samples, Shape};
+use crate::repeat::{repeat_bits, repeat_pixels, repeat_runs};
+use pnm_image::{Head, Kind, Rows, SampleSlice, SampleVec, Samples, Shape};
 use pnm_tools::{ImageTool, ToolFault, head_within_limits};
 use std::alloc::Global;
 use std::mem;
@@ -26,229 +26,181 @@ use std::mem;
 pub struct Enlarger {
     across: u32,
     down: u32,
-    /// The row that is to be given, and how many more times after that.
+    /// The row that is to be given, and how many times.
     row: Option<Samples>,
-    more: u32,
+    left: u32,
 }
+
+/// The most bytes of the result that are made at once of rows that come together: an image of small rows is
+/// made of few of them, and where each makes much they would fill the memory that rows wait in.
+const MOST_MADE: u32 = 1_048_576;
+
+/// The most bytes of copies of a row that are given at once.
+const MOST_GIVEN: u32 = 65_536;
 
 /// The row with each pixel repeated so many times, held as it was, but bits of several planes as bytes.
 ///
 /// # Errors
 ///
 /// `Memory`, where there is none for the row.
-fn enlarge_row(alloc: Global, across: u32, shape: Shape, row: Samples) -> Result<Samples, ToolFault>
-    requires row { IsRowOf shape row }
-    requires ready { IsEnlarging across shape }
-    ensures made { IfOk result (λ made. made ≡ enlarged_row across shape row) }
-    ensures refused { IfErr result (λ fault. fault ≡ Memory) }
-{
-    match row.into_vec() {
-        SampleVec::Bits(bits) if shape.depth == 1 => {
-            let bits = repeat_bits(alloc, across, shape, &bits)?;
-            Ok(Samples::from_vec(SampleVec::Bits(bits)))
-        }
-        SampleVec::Bits(bits) => {
-            let unpacked = bits.to_bytes(alloc)?;
-            let bytes = repeat_pixels(alloc, across, shape, unpacked.as_slice())?;
-            Ok(Samples::within(SampleVec::Bytes(bytes), shape.maxval))
-        }
-        SampleVec::Bytes(bytes) => {
-            let bytes = repeat_pixels(alloc, across, shape, bytes.as_slice())?;
-            Ok(Samples::within(SampleVec::Bytes(bytes), shape.maxval))
-        }
-        SampleVec::Words(words) => {
-            let words = repeat_pixels(alloc, across, shape, words.as_slice())?;
-            Ok(Samples::within(SampleVec::Words(words), shape.maxval))
-        }
-    }
-}
-
-/// The row of one plane with each pixel repeated so many times.
-fn repeat_bits(alloc: Global, across: u32, shape: Shape, row: &Bits) -> Result<Bits, ToolFault>
-    requires plane { shape.depth ≡ 1 }
-    requires row { length row.now ≡ row_length shape }
-    ensures made { IfOk result (λ made. made ≡ enlarged_row across shape row.now) }
-    ensures refused { IfErr result (λ fault. fault ≡ Memory) }
-{
-    Ok(row.repeat(alloc, across as usize)?)
-}
-
-/// The row with each pixel repeated so many times.
-fn repeat_pixels<T: Copy>(
+fn enlarge_row(
     alloc: Global,
     across: u32,
     shape: Shape,
-    row: &[T],
-) -> Result<Vec<T>, ToolFault>
-    requires row { length row.now ≡ row_length shape }
-    requires ready { IsEnlarging across shape }
-    ensures made { IfOk result (λ made. made.items ≡ enlarged_row across shape row.now) }
+    row: &Samples,
+) -> Result<SampleVec, ToolFault>
+    requires { length row.now ≡ row_length shape }
+    ensures made { IfOk result (λ made. samples_of made ≡ enlarged_row across shape row.now) }
     ensures refused { IfErr result (λ fault. fault ≡ Memory) }
 {
-    // The buffer is there first, and the stores then grow nothing.
-    let mut enlarged = Vec::from_elem(alloc, row[0], row.len() * across as usize)?;
-    repeat_into(across, shape, row, enlarged.as_mut_slice());
-    Ok(enlarged)
-}
-
-/// Fills the buffer with the row, each pixel so many times, by the loop for so many and such pixels.
-fn repeat_into<T: Copy>(across: u32, shape: Shape, row: &[T], buffer: &mut [T])
-    requires row { length row.now ≡ row_length shape }
-    requires buffer { length buffer.old ≡ length row.now * across }
-    ensures { buffer.new ≡ enlarged_row across shape row.now }
-{
-    match (across, shape.depth) {
-        (2, 1) => double_samples(shape, row, buffer),
-        (2, 3) => double_colors(shape, row, buffer),
-        (_, 1) => repeat_samples(across, shape, row, buffer),
-        (_, 3) => repeat_colors(across, shape, row, buffer),
-        _ => repeat_each(across, shape, row, buffer),
-    }
-}
-
-/// Fills the buffer with the row, each pixel twice, where a pixel is one sample.
-fn double_samples<T: Copy>(shape: Shape, row: &[T], buffer: &mut [T])
-    requires depth { shape.depth ≡ 1 }
-    requires row { length row.now ≡ row_length shape }
-    requires buffer { length buffer.old ≡ length row.now * 2 }
-    ensures { buffer.new ≡ enlarged_row 2 shape row.now }
-{
-    for i in 0..row.len() {
-        let sample = row[i];
-        buffer[2 * i] = sample;
-        buffer[2 * i + 1] = sample;
-    }
-}
-
-/// Fills the buffer with the row, each pixel twice, where a pixel is three samples.
-fn double_colors<T: Copy>(shape: Shape, row: &[T], buffer: &mut [T])
-    requires depth { shape.depth ≡ 3 }
-    requires row { length row.now ≡ row_length shape }
-    requires buffer { length buffer.old ≡ length row.now * 2 }
-    ensures { buffer.new ≡ enlarged_row 2 shape row.now }
-{
-    let width = shape.width as usize;
-    let fours = width / 4;
-    for x in 0..fours {
-        double_four_colors(&row[12 * x..12 * x + 12], &mut buffer[24 * x..24 * x + 24]);
-    }
-    for x in 4 * fours..width {
-        put_twice(buffer, 6 * x, color_at(row, 3 * x));
-    }
-}
-
-/// Stores four pixels of three samples, each twice. All samples are taken first, so that the compiler
-/// moves them side by side.
-fn double_four_colors<T: Copy>(row: &[T], buffer: &mut [T])
-    requires row { length row.now ≡ 12 }
-    requires buffer { length buffer.old ≡ 24 }
-    ensures { buffer.new ≡ flat_map (λ x. copies_of 2 (pixel_of 3 row.now x)) (range_with_len 0 4) }
-{
-    let (first, second) = (color_at(row, 0), color_at(row, 3));
-    let (third, fourth) = (color_at(row, 6), color_at(row, 9));
-    put_twice(buffer, 0, first);
-    put_twice(buffer, 6, second);
-    put_twice(buffer, 12, third);
-    put_twice(buffer, 18, fourth);
-}
-
-/// Stores three samples twice from this place on.
-#[inline(always)]
-fn put_twice<T: Copy>(buffer: &mut [T], at: usize, color: (T, T, T))
-    requires { at + 6 ≤ length buffer.old }
-    ensures long { length buffer.new ≡ length buffer.old }
-    ensures stored { take (at + 6) buffer.new
-        ≡ take at buffer.old ++ copies_of 2 (color.0 ∷ color.1 ∷ color.2 ∷ []) }
-{
-    let (a, b, c) = color;
-    store(buffer, at, &[a, b, c, a, b, c]);
-}
-
-/// Fills the buffer with the row, each pixel so many times, where a pixel is one sample.
-fn repeat_samples<T: Copy>(across: u32, shape: Shape, row: &[T], buffer: &mut [T])
-    requires depth { shape.depth ≡ 1 }
-    requires row { length row.now ≡ row_length shape }
-    requires buffer { length buffer.old ≡ length row.now * across }
-    ensures { buffer.new ≡ enlarged_row across shape row.now }
-{
-    let across = across as usize;
-    for i in 0..row.len() {
-        put_copies(buffer, i * across, across, row[i]);
-    }
-}
-
-/// Stores a sample so many times from this place on. Sixteen are stored at once where there is room for
-/// them, since what stands behind the last one is stored later.
-fn put_copies<T: Copy>(buffer: &mut [T], at: usize, count: usize, sample: T)
-    requires { at + count ≤ length buffer.old }
-    ensures long { length buffer.new ≡ length buffer.old }
-    ensures stored { take (at + count) buffer.new ≡ take at buffer.old ++ replicate count sample }
-{
-    let end = at + count;
-    let mut place = at;
-    while place < end {
-        if buffer.len() - place >= 16 {
-            buffer[place..place + 16].copy_from_slice(&[sample; 16]);
-            place += 16;
-        } else {
-            buffer[place] = sample;
-            place += 1;
+    match row.as_slice() {
+        SampleSlice::Bits(bits) if shape.depth == 1 => {
+            let bits = repeat_bits(alloc, across, shape, bits)?;
+            Ok(SampleVec::Bits(bits))
+        }
+        SampleSlice::Bits(bits) => {
+            let unpacked = bits.to_bytes(alloc)?;
+            let bytes = repeat_pixels(alloc, across, shape, unpacked.as_slice())?;
+            Ok(SampleVec::Bytes(bytes))
+        }
+        SampleSlice::Bytes(bytes) => {
+            let bytes = repeat_pixels(alloc, across, shape, bytes)?;
+            Ok(SampleVec::Bytes(bytes))
+        }
+        SampleSlice::Words(words) => {
+            let words = repeat_pixels(alloc, across, shape, words)?;
+            Ok(SampleVec::Words(words))
         }
     }
 }
 
-/// Fills the buffer with the row, each pixel so many times, where a pixel is three samples.
-fn repeat_colors<T: Copy>(across: u32, shape: Shape, row: &[T], buffer: &mut [T])
-    requires depth { shape.depth ≡ 3 }
-    requires row { length row.now ≡ row_length shape }
-    requires buffer { length buffer.old ≡ length row.now * across }
-    ensures { buffer.new ≡ enlarged_row across shape row.now }
+/// Rows that are held one after another, each so many times, held as they were. The shape has a row in place
+/// of a pixel: its width is how many rows these are, and its depth how many samples a row has.
+///
+/// # Errors
+///
+/// `Memory`, where there is none for the rows.
+fn repeat_rows(
+    alloc: Global,
+    down: u32,
+    shape: Shape,
+    rows: &Samples,
+) -> Result<SampleVec, ToolFault>
+    requires { length rows.now ≡ row_length shape }
+    ensures made { IfOk result (λ made. samples_of made ≡ enlarged_row down shape rows.now) }
+    ensures refused { IfErr result (λ fault. fault ≡ Memory) }
 {
-    let (width, across) = (shape.width as usize, across as usize);
-    for x in 0..width {
-        put_colors(buffer, 3 * x * across, across, color_at(row, 3 * x));
-    }
-}
-
-/// Stores three samples so many times from this place on, as `put_copies` does one.
-fn put_colors<T: Copy>(buffer: &mut [T], at: usize, count: usize, color: (T, T, T))
-    requires { at + 3 * count ≤ length buffer.old }
-    ensures long { length buffer.new ≡ length buffer.old }
-    ensures stored { take (at + 3 * count) buffer.new
-        ≡ take at buffer.old ++ copies_of count (color.0 ∷ color.1 ∷ color.2 ∷ []) }
-{
-    let (a, b, c) = color;
-    let mut stored = 0;
-    while stored < count {
-        let place = at + 3 * stored;
-        if buffer.len() - place >= 15 {
-            let five = [a, b, c, a, b, c, a, b, c, a, b, c, a, b, c];
-            store(buffer, place, &five);
-            stored += 5;
-        } else {
-            store(buffer, place, &[a, b, c]);
-            stored += 1;
+    match rows.as_slice() {
+        SampleSlice::Bits(bits) => {
+            let bits = repeat_runs(alloc, down, shape, bits)?;
+            Ok(SampleVec::Bits(bits))
+        }
+        SampleSlice::Bytes(bytes) => {
+            let bytes = repeat_pixels(alloc, down, shape, bytes)?;
+            Ok(SampleVec::Bytes(bytes))
+        }
+        SampleSlice::Words(words) => {
+            let words = repeat_pixels(alloc, down, shape, words)?;
+            Ok(SampleVec::Words(words))
         }
     }
 }
 
-/// Fills the buffer with the row, each pixel so many times.
-fn repeat_each<T: Copy>(across: u32, shape: Shape, row: &[T], buffer: &mut [T])
-    requires row { length row.now ≡ row_length shape }
-    requires buffer { length buffer.old ≡ length row.now * across }
-    ensures { buffer.new ≡ enlarged_row across shape row.now }
+/// How many samples that are held as these take so many bytes, where bits of several planes become bytes.
+fn samples_in(samples: &Samples, depth: u32, bytes: u32) -> u32
+    requires { bytes ≤ MAX_ROW_LENGTH }
+    ensures { result ≤ 8 * bytes }
 {
-    let (width, depth) = (shape.width as usize, shape.depth as usize);
-    let mut at = 0;
-    for x in 0..width {
-        let pixel = &row[x * depth..(x + 1) * depth];
-        for _ in 0..across {
-            for p in 0..depth {
-                buffer[at + p] = pixel[p];
-            }
-            at += depth;
-        }
+    match samples.as_slice() {
+        SampleSlice::Bits(_) if depth == 1 => 8 * bytes,
+        SampleSlice::Words(_) => bytes / 2,
+        _ => bytes,
     }
+}
+
+/// As many copies of a row as are given at once, but no more than these.
+fn copies_of_row(alloc: Global, most: u32, row: &Samples) -> Result<Rows, ToolFault>
+    requires { 1 ≤ most }
+    ensures copies { IfOk result (λ rows. rows ≡ replicate (length rows) row.now) }
+    ensures most { IfOk result (λ rows. length rows ≤ most) }
+    ensures refused { IfErr result (λ fault. fault ≡ Memory) }
+{
+    let (row_length, given) = (row.len(), samples_in(row, 1, MOST_GIVEN));
+    if row_length == 0 || row_length > given as usize {
+        let copy = row.copy(alloc)?;
+        return Ok(Rows::one(copy));
+    }
+    let depth = row_length as u32;
+    let count = most.min(given / depth).max(1);
+    let shape = Shape {
+        kind: Kind::Pam,
+        width: 1,
+        height: 1,
+        depth,
+        maxval: 1,
+    };
+    let copies = repeat_rows(alloc, count, shape, row)?;
+    Ok(Rows::new(Samples::from_vec(copies), count, row_length))
+}
+
+/// The rows of the result that rows of an image of this shape make, unless they are too many, or there is no
+/// memory for them.
+fn enlarge_rows(alloc: Global, across: u32, down: u32, shape: Shape, rows: &Rows) -> Option<Rows>
+    requires lawful { IsExtent across × IsExtent down }
+    requires ready { IsEnlarging across shape }
+    requires rows { AllByRecursion (IsRowOf shape) rows.now }
+    ensures { IfSome result (λ made. (y : ℕ) → rows_answer (Enlarge across down) shape y rows.now ≡ made) }
+{
+    let (count, samples) = (rows.count(), rows.samples());
+    let wide = rows.row_length() * across as usize;
+    let Some(filled) = (count as usize).checked_mul(wide * down as usize) else {
+        return None;
+    };
+    if filled > samples_in(samples, shape.depth, MOST_MADE) as usize {
+        return None;
+    }
+    let long = Shape {
+        width: shape.width * count,
+        ..shape
+    };
+    let tall = Shape {
+        width: count,
+        depth: wide as u32,
+        ..shape
+    };
+    let Ok(enlarged) = enlarge_samples(alloc, across, down, long, tall, samples) else {
+        return None;
+    };
+    Some(Rows::new(enlarged, count * down, wide))
+}
+
+/// The samples of rows, the pixels of all of which are seen as one long row, each so many times across; and
+/// the rows, seen as pixels of one tall column, each so many times down.
+fn enlarge_samples(
+    alloc: Global,
+    across: u32,
+    down: u32,
+    long: Shape,
+    tall: Shape,
+    samples: &Samples,
+) -> Result<Samples, ToolFault>
+    requires long { length samples.now ≡ row_length long }
+    requires tall { row_length tall ≡ row_length long * across }
+    requires range { All (λ sample. sample ≤ long.maxval) samples.now }
+    ensures made { IfOk result (λ made. made ≡ enlarged_row down tall (enlarged_row across long samples.now)) }
+    ensures refused { IfErr result (λ fault. fault ≡ Memory) }
+{
+    if across == 1 {
+        let repeated = repeat_rows(alloc, down, tall, samples)?;
+        return Ok(Samples::within(repeated, long.maxval));
+    }
+    let wide = enlarge_row(alloc, across, long, samples)?;
+    let wide = Samples::within(wide, long.maxval);
+    if down == 1 {
+        return Ok(wide);
+    }
+    let both = repeat_rows(alloc, down, tall, &wide)?;
+    Ok(Samples::within(both, long.maxval))
 }
 
 impl ImageTool for Enlarger {
@@ -271,33 +223,54 @@ impl ImageTool for Enlarger {
         _y: u32,
         row: Samples,
     ) -> Result<(), ToolFault> {
-        let row = if self.across == 1 {
+        let made = if self.across == 1 {
             row
         } else {
-            enlarge_row(alloc, self.across, shape, row)?
+            let held = enlarge_row(alloc, self.across, shape, &row)?;
+            Samples::within(held, shape.maxval)
         };
-        self.row = Some(row);
-        self.more = self.down - 1;
+        self.row = Some(made);
+        self.left = self.down;
         Ok(())
+    }
+
+    /// Answers rows of which no more is made than is to wait at once.
+    fn rows(
+        &mut self,
+        alloc: Global,
+        shape: Shape,
+        _y: u32,
+        rows: Rows,
+    ) -> Result<Option<Rows>, Rows> {
+        if self.row.is_some() {
+            return Err(rows);
+        }
+        match enlarge_rows(alloc, self.across, self.down, shape, &rows) {
+            Some(made) => Ok(Some(made)),
+            None => Err(rows),
+        }
     }
 
     fn end(&mut self, _shape: Shape) {
         self.row = None;
     }
 
-    /// Gives the row itself the last time, and copies of it before.
+    /// Gives the row itself where it is wanted once, and copies of it else.
     #[inline(never)]
-    fn give(&mut self, alloc: Global) -> Result<Option<Samples>, ToolFault> {
+    fn give(&mut self, alloc: Global) -> Result<Option<Rows>, ToolFault> {
         let Some(row) = mem::replace(&mut self.row, None) else {
             return Ok(None);
         };
-        if self.more == 0 {
-            return Ok(Some(row));
+        if self.left == 0 {
+            return Ok(None);
         }
-        let copy = row.copy(alloc)?;
+        if self.left == 1 {
+            return Ok(Some(Rows::one(row)));
+        }
+        let copies = copies_of_row(alloc, self.left, &row)?;
+        self.left -= copies.count();
         self.row = Some(row);
-        self.more -= 1;
-        Ok(Some(copy))
+        Ok(Some(copies))
     }
 
     fn may_give(&self) -> bool {
@@ -320,7 +293,7 @@ impl Enlarger {
             across,
             down,
             row: None,
-            more: 0,
+            left: 0,
         }
     }
 }

@@ -6,6 +6,7 @@ mod batch;
 mod buffer;
 mod color;
 mod enlarge;
+mod repeat;
 mod row_of;
 mod sample_rows;
 mod strip;

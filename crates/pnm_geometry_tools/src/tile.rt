@@ -10,7 +10,7 @@ ghost use Rattle.pnm_geometry_tools.specs.Keeping.{IsTiling, shown_row, tiled_du
 ghost use Rattle.pnm_tools.specs.Limits.{IsExtent};
 ghost use Rattle.pnm_tools.specs.Tools.{TakesHead, result_head};
 
-use pnm_image::{Bits, Head, Kind, SampleSlice, SampleVec, Samples, Shape};
+use pnm_image::{Bits, Head, Kind, Rows, SampleSlice, SampleVec, Samples, Shape};
 use pnm_tools::{ImageTool, ToolFault, head_within_limits};
 use std::alloc::Global;
 use std::collections::VecDeque;
@@ -218,7 +218,7 @@ impl ImageTool for Tiler {
 
     /// A row that is wanted again goes to the end. After a fault no row is left.
     #[inline(never)]
-    fn give(&mut self, alloc: Global) -> Result<Option<Samples>, ToolFault> {
+    fn give(&mut self, alloc: Global) -> Result<Option<Rows>, ToolFault> {
         if self.left == 0 {
             return Ok(None);
         }
@@ -235,7 +235,7 @@ impl ImageTool for Tiler {
             tile_last_row(alloc, self.width, self.shape, row)?
         };
         self.left = left;
-        Ok(Some(tiled))
+        Ok(Some(Rows::one(tiled)))
     }
 
     fn may_give(&self) -> bool {

@@ -7,7 +7,7 @@ ghost use Rattle.pnm_tools.specs.Flip.{turn_of};
 ghost use Rattle.pnm_geometry_tools.specs.Keeping.{IsTransposing, transposed_due};
 
 use crate::sample_rows::SampleRows;
-use pnm_image::{Head, SampleWidth, Samples, Shape};
+use pnm_image::{Head, Rows, SampleWidth, Samples, Shape};
 use pnm_tools::{FlipWay, ImageTool, ToolFault, flipped_head};
 use std::alloc::Global;
 use std::marker::Model;
@@ -80,7 +80,7 @@ impl ImageTool for Transposer {
     }
 
     #[inline(never)]
-    fn give(&mut self, alloc: Global) -> Result<Option<Samples>, ToolFault> {
+    fn give(&mut self, alloc: Global) -> Result<Option<Rows>, ToolFault> {
         if self.batch.is_empty() && self.next < self.columns {
             if self.way.turn().columns_reversed {
                 self.make_last(alloc)?;
@@ -88,7 +88,7 @@ impl ImageTool for Transposer {
                 self.make_first(alloc)?;
             }
         }
-        Ok(self.batch.pop())
+        Ok(self.batch.pop().map(Rows::one))
     }
 
     fn may_give(&self) -> bool {

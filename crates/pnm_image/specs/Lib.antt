@@ -7,5 +7,6 @@ pub mod SampleWidths
 pub mod Messages
 pub mod Places
 pub mod Rows
+pub mod Parcels
 pub mod Images
 pub mod Completion

@@ -1,6 +1,6 @@
 //! Several rows of an image in one.
 
-ghost use Rattle.std.specs.Prelude.{◌≡◌, ◌≤◌, ◌<◌, ◌+◌, ◌*◌, All, IfOk, length, take, drop, ◌++◌, ◌∷◌};
+ghost use Rattle.std.specs.Prelude.{◌≡◌, ◌≤◌, ◌<◌, ◌+◌, ◌*◌, All, IfOk, length, take, drop, ◌++◌, ◌∷◌, [], IfErr};
 ghost use Rattle.std.specs.List.{concat};
 ghost use Rattle.pnm_image.specs.Images.{cut_rows};
 
@@ -40,6 +40,36 @@ impl Rows {
             samples,
             count,
             row_length,
+        }
+    }
+
+    /// A row by itself.
+    #[inline(always)]
+    pub fn one(row: Samples) -> Rows
+        ensures { result ≡ row ∷ [] }
+    {
+        let row_length = row.len();
+        Rows {
+            samples: row,
+            count: 1,
+            row_length,
+        }
+    }
+
+    /// The row, where it is one by itself.
+    ///
+    /// # Errors
+    ///
+    /// The rows themselves, where they are several.
+    #[inline(always)]
+    pub fn into_one(self) -> Result<Samples, Rows>
+        ensures one { IfOk result (λ row. self ≡ row ∷ []) }
+        ensures several { IfErr result (λ same. same ≡ self) }
+    {
+        if self.count == 1 {
+            Ok(self.samples)
+        } else {
+            Err(self)
         }
     }
 

@@ -16,8 +16,8 @@ use Rattle.pnm_lanes.specs.declared.lane.LaneState.{LaneState}
 use Rattle.pnm_lanes.specs.declared.lane.LaneState.TheVariants.{Open, Ended, Gone}
 use Rattle.pnm_lanes.specs.Gathers.{at_lane, AreSameInputs}
 use Rattle.std.specs.List.{AllByRecursion}
-use Rattle.pnm_stages.specs.declared.parcel.Parcel.{Parcel}
-use Rattle.pnm_stages.specs.Parcels.{messages_in, ending_of_parcel}
+use Rattle.pnm_image.specs.declared.parcel.Parcel.{Parcel}
+use Rattle.pnm_image.specs.Parcels.{messages_in, ending_of_parcel}
 use Rattle.pnm_stages.proofs.ParcelLaws.{ends_with_parcel}
 use Rattle.pnm_lanes.specs.GatherParts.{state_at, state_by, HasDrainedOne, IsLane, CarriesOn}
 use Rattle.pnm_lanes.proofs.DealtParts.{all_of_both}

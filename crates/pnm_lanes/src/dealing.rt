@@ -3,7 +3,7 @@
 ghost use Rattle.std.specs.Prelude.{◌≡◌, ◌⊎◌, ◌<◌, ◌≤◌, ◌∷◌, [], length, IfSome, IsTrue, IsFalse};
 ghost use Rattle.pnm_image.specs.declared.message.Ending.TheVariants.{More, Whole, BrokenOff};
 ghost use Rattle.pnm_image.specs.Rows.{row_messages};
-ghost use Rattle.pnm_stages.specs.Parcels.{messages_in};
+ghost use Rattle.pnm_image.specs.Parcels.{messages_in};
 ghost use Rattle.pnm_stages.specs.Rings.{sent, received, known_items, SameReceiver};
 ghost use Rattle.pnm_image.specs.Places.{Accepts};
 ghost use Rattle.pnm_tools.specs.declared.fault.ToolFault.TheVariants.{OutOfOrder};
@@ -15,8 +15,8 @@ ghost use Rattle.pnm_lanes.specs.DealParts.{IsRow, IsSameEnd, part_at, row_part,
 ghost use Rattle.pnm_lanes.specs.DealParts.{HasDealtMessages, HasBrokenOffDealing};
 ghost use Rattle.pnm_lanes.specs.declared.lane.TheConstants.{MAX_LANES};
 
-use pnm_image::{Ending, Message, Place, Rows, Samples};
-use pnm_stages::{Parcel, Receiver, Sender, StageEnd};
+use pnm_image::{Ending, Message, Parcel, Place, Rows, Samples};
+use pnm_stages::{Receiver, Sender, StageEnd};
 use pnm_tools::ToolFault;
 use std::alloc::Global;
 use std::sync::Wait;

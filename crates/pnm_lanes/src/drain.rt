@@ -3,18 +3,24 @@
 
 ghost use Rattle.std.specs.Prelude.{◌≡◌, ◌<◌, ◌≤◌, length, IfSome};
 ghost use Rattle.pnm_stages.specs.Rings.{received, known_items, SameReceiver};
-ghost use Rattle.pnm_stages.specs.Parcels.{ending_of_parcel};
+ghost use Rattle.pnm_image.specs.Parcels.{ending_of_parcel};
 ghost use Rattle.pnm_lanes.specs.Gathers.{at_lane, AreSameInputs};
 ghost use Rattle.pnm_lanes.specs.GatherParts.{HasDrainedOne, CarriesOn, HasDrainedAll, AreDone, state_by};
 
 use crate::lane::LaneState;
-use pnm_image::Ending;
-use pnm_stages::{Parcel, Receiver};
+use pnm_image::{Ending, Parcel};
+use pnm_stages::{Receiver, Sender};
 use std::sync::Wait;
 
 /// Takes and drops what comes from the lanes that haven't ended, each through the end of its stream or Stop. It tries
-/// them in turn, and waits for none of them alone. False where a lane's other end was seen dropped before.
-pub fn drain_all<R: Wait>(rt: &R, inputs: &mut [Receiver], states: &mut [LaneState]) -> bool
+/// them in turn, and waits for none of them alone: it sleeps at the output, the home of their sending ends. False where
+/// a lane's other end was seen dropped before.
+pub fn drain_all<R: Wait>(
+    rt: &R,
+    inputs: &mut [Receiver],
+    states: &mut [LaneState],
+    output: &Sender,
+) -> bool
     requires some { 1 ≤ length inputs.old }
     requires states { length inputs.old ≡ length states.old }
     ensures inputs { AreSameInputs inputs.old inputs.new }
@@ -27,18 +33,10 @@ pub fn drain_all<R: Wait>(rt: &R, inputs: &mut [Receiver], states: &mut [LaneSta
             return have_ended;
         }
         if !has_moved {
-            wait(rt, inputs, states);
+            output.sleep(rt);
         }
     }
     unreachable!()
-}
-
-/// One turn of waiting for a message of the first lane that is open.
-fn wait<R: Wait>(rt: &R, inputs: &[Receiver], states: &[LaneState]) {
-    let first_open = states.iter().position(|state| *state == LaneState::Open);
-    if let Some(input) = first_open.and_then(|lane| inputs.get(lane)) {
-        input.wait(rt);
-    }
 }
 
 /// Tries each lane that hasn't ended once; whether one had a message, or was seen to have lost its other end.

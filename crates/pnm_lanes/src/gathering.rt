@@ -31,6 +31,8 @@ pub struct GatherDone {
 /// for alone. Where the other end of a ring was seen dropped it ends by `PeerGone`, and has sent Stop, where there is
 /// someone to take it, and drained the lanes. No memory is taken: it ends so, too, where rows come together, which no
 /// lane sends.
+///
+/// The lanes' sending ends have `output` as their home (`Sender::set_home`), where this thread sleeps while it drains.
 pub fn gather<R: Wait>(rt: &R, inputs: Vec<Receiver>, output: Sender) -> GatherDone
     requires { IsLaneCount (length inputs.items) }
     ensures inputs { AreSameInputs inputs.items result.inputs.items }
@@ -70,7 +72,7 @@ fn gather_all<R: Wait>(rt: &R, inputs: &mut [Receiver], output: &mut Sender) -> 
         let ending = message.ending();
         place.step(&message);
         if !output.send(rt, message) {
-            drain_all(rt, inputs, states);
+            drain_all(rt, inputs, states, output);
             return StageEnd::PeerGone;
         }
         match ending {
@@ -101,7 +103,7 @@ fn break_off<R: Wait>(
         (sent output.new) }
 {
     let told = output.send(rt, Message::Stop);
-    let drained = drain_all(rt, inputs, states);
+    let drained = drain_all(rt, inputs, states, output);
     if told && drained {
         end
     } else {

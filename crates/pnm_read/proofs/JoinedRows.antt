@@ -84,7 +84,7 @@ not_wide Words s fits e = fits
 -- ---- rows in turn
 
 -- a row, and what is left of the text
-abbrev row_done : List ℕ → List ℕ → Result (List ℕ × List ℕ) InputFault
+abbrev pub row_done : List ℕ → List ℕ → Result (List ℕ × List ℕ) InputFault
 row_done row rest = Ok (row, rest)
 
 -- the row that so many bytes are
@@ -98,14 +98,14 @@ first_row p s bytes rest is_width fits count within =
     ∙ ap (λ (l : List ℕ). row_done l rest) (ap (take (row_length s)) (sym found.1))
 
 -- a row before others
-row_before : (item : List ℕ → Result (List ℕ × List ℕ) InputFault) (n : ℕ) (text left rest row : List ℕ) (rows : List (List ℕ)) → item text ≡ Ok (row, left)
+pub row_before : (item : List ℕ → Result (List ℕ × List ℕ) InputFault) (n : ℕ) (text left rest row : List ℕ) (rows : List (List ℕ)) → item text ≡ Ok (row, left)
     → in_turn item n left ≡ Ok (rows, rest) → in_turn item (suc n) text ≡ Ok (row ∷ rows, rest)
 unfolding in_turn
 row_before item n text left rest row rows first others =
     ap (λ (r : Result (List ℕ × List ℕ) InputFault). r >>= λ one. in_turn item n one.1 >>= λ more. turned (one.0 ∷ more.0) more.1) first
     ∙ ap (λ (r : Result (List (List ℕ) × List ℕ) InputFault). r >>= λ more. turned (row ∷ more.0) more.1) others
 
-no_rows : (item : List ℕ → Result (List ℕ × List ℕ) InputFault) (bytes rest : List ℕ) → bytes ≡ [] → in_turn item zero (bytes ++ rest) ≡ Ok ([], rest)
+pub no_rows : (item : List ℕ → Result (List ℕ × List ℕ) InputFault) (bytes rest : List ℕ) → bytes ≡ [] → in_turn item zero (bytes ++ rest) ≡ Ok ([], rest)
 unfolding in_turn
 no_rows item bytes rest none = ap (λ (l : List ℕ). turned [] (l ++ rest)) none
 

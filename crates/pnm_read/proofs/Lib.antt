@@ -24,6 +24,7 @@ pub mod HeaderSteps
 pub mod MagicSteps
 pub mod HeldRows
 pub mod JoinedRows
+pub mod HeldWords
 pub mod RowsGiven
 pub mod HeldShapes
 pub mod HeadSteps

@@ -24,8 +24,14 @@ FillsBytes Words s = ⊥
 pub record AreHeld (raster : Raster) (count : ℕ) (bytes : List ℕ) : Type 0 where
   pub fits : FitsBytes raster.sample_width raster.shape
   pub long : count * raster.units ≤ length bytes
-  pub size : count * raster.units ≤ 4096
+  pub size : count * raster.units ≤ 65536
   pub within : AreBytesWithin raster.sample_width raster.shape.maxval (take (count * raster.units) bytes)
+
+-- so many rows of samples of two bytes lie in these bytes
+pub record AreHeldWide (raster : Raster) (count : ℕ) (bytes : List ℕ) : Type 0 where
+  pub sample_width : raster.sample_width ≡ Words
+  pub long : count * raster.units * 2 ≤ length bytes
+  pub size : count * raster.units * 2 ≤ 65536
 
 -- the samples of so many rows, without a gap between them: of each those of its bytes, without those of spare bits
 abbrev pub rows_samples : SampleWidth → Shape → ℕ → List ℕ → List ℕ

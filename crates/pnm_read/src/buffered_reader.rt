@@ -9,8 +9,12 @@ use crate::fault::InputFault;
 use pnm_image::BytesIn;
 use std::alloc::Global;
 
-/// The bytes of the smallest buffer, and of the smallest target that is read into past a buffer of any size.
+/// The bytes of the smallest buffer.
 const LEAST_BYTES: usize = 4096;
+
+/// The bytes of the smallest target that is read into past the buffer. What a smaller one wants comes with what is
+/// behind it in one read.
+const LEAST_BYTES_PAST: usize = 16_384;
 
 /// A buffer of 4,096 bytes or more for what is read of an input.
 #[derive(Drop)]
@@ -155,14 +159,14 @@ impl<R: BytesIn> BufferedReader<R> {
 
     /// Takes the next bytes into the front of the target, and answers how many came: 0 only at the end of
     /// the input. They are those that are held, or where none is, those of one read, straight into a
-    /// target of at least 4,096 bytes. The only fault is `ReadFailed`.
+    /// target of at least 16,384 bytes. The only fault is `ReadFailed`.
     pub fn read(&mut self, target: &mut [u8]) -> Result<usize, InputFault>
         requires { 0 < length target.old }
         ensures read_call { ReadCall R.left R.failures R.same self.old self.new result (Reads target.new result) }
         ensures bound { IfOk result (λ count. count ≤ length target.new) }
         ensures failed { IfErr result (λ fault. fault ≡ ReadFailed) }
     {
-        if self.at == self.end && target.len() >= LEAST_BYTES {
+        if self.at == self.end && target.len() >= LEAST_BYTES_PAST {
             return self.read_past(target);
         }
         self.fill(1)?;

@@ -14,27 +14,26 @@ use crate::units::are_units_within;
 use pnm_image::{Bits, BytesIn, Rows, SampleVec, SampleWidth, Samples};
 use std::alloc::{AllocError, Global};
 
-/// The most bytes of a row that is handed over together with others. Of a longer one a message of its own costs little
-/// beside its samples.
-const MOST_ROW_BYTES: usize = 512;
+/// The most bytes of a row that is handed over together with others. A longer one is mostly read past the buffer.
+const MOST_ROW_BYTES: usize = 16_384;
 
-/// The most bytes of rows that are handed over together, by which the room of a ring is counted.
-const MOST_BYTES: usize = 4096;
+/// The most bytes of rows that are handed over together.
+const MOST_BYTES: usize = 65_536;
 
-/// How many of the next rows can be handed over together: all that are held whole and left in the image, up to 4,096
+/// How many of the next rows can be handed over together: all that are held whole and left in the image, up to 65,536
 /// bytes; 0 where these are fewer than two, one of them has a sample above the maxval, or they are too long or have
 /// samples of two bytes.
 pub fn count_held<R: BytesIn>(input: &BufferedReader<R>, raster: &Raster) -> u32
     ensures left { result ≤ raster.now.shape.height - raster.now.y }
     ensures held { 1 ≤ result → AreHeld raster.now result (held_of input.now) }
 {
-    if raster.units > MOST_ROW_BYTES || !fits_bytes(raster) {
+    if !fits_bytes(raster) {
         return 0;
     }
     let count = count_whole(input, raster.units, raster.shape.height - raster.y);
     let size = count as usize * raster.units;
     let bytes = &input.bytes()[..size];
-    if count > 1 && are_units_within(bytes, raster.sample_width, raster.shape.maxval) {
+    if are_units_within(bytes, raster.sample_width, raster.shape.maxval) {
         count
     } else {
         0
@@ -63,16 +62,18 @@ fn fills_bytes(raster: &Raster) -> bool
     }
 }
 
-/// How many rows of so many bytes are held whole and handed over together, at most this many.
-fn count_whole<R: BytesIn>(input: &BufferedReader<R>, row_bytes: usize, most: u32) -> u32
+/// How many rows of so many bytes are held whole and handed over together, at most this many; 0 of one alone, and of
+/// rows that are too long.
+pub fn count_whole<R: BytesIn>(input: &BufferedReader<R>, row_bytes: usize, most: u32) -> u32
     ensures most { result ≤ most }
     ensures held { result * row_bytes ≤ length (held_of input.now) }
-    ensures size { result * row_bytes ≤ 4096 }
+    ensures size { result * row_bytes ≤ 65536 }
 {
-    if row_bytes == 0 {
+    if row_bytes == 0 || row_bytes > MOST_ROW_BYTES {
         return 0;
     }
-    (input.bytes().len().min(MOST_BYTES) / row_bytes).min(most as usize) as u32
+    let count = (input.bytes().len().min(MOST_BYTES) / row_bytes).min(most as usize) as u32;
+    if count > 1 { count } else { 0 }
 }
 
 /// The next rows, so many of them, which are held: in a spare row, if there is one that they fit in.
@@ -117,7 +118,7 @@ fn samples_in(
     bytes: &[u8],
 ) -> Result<Samples, AllocError>
     requires size { length bytes.now ≡ count * raster.now.units }
-    requires few { length bytes.now ≤ 4096 }
+    requires few { length bytes.now ≤ 65536 }
     requires fits { FitsBytes raster.now.sample_width raster.now.shape }
     requires within { AreBytesWithin raster.now.sample_width raster.now.shape.maxval bytes.now }
     ensures { IfOk result
@@ -169,7 +170,7 @@ fn append_runs(
 
 /// The samples of these bytes, with those of spare bits.
 fn samples_of(bytes: Vec<u8>, sample_width: SampleWidth, maxval: u32) -> Samples
-    requires size { length bytes.items ≤ 4096 }
+    requires size { length bytes.items ≤ 65536 }
     requires within { AreBytesWithin sample_width maxval bytes.items }
     ensures { result ≡ samples_of_bytes sample_width bytes.items }
 {

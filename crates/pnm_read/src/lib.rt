@@ -11,6 +11,7 @@ mod fault;
 mod fields;
 mod header;
 mod held_rows;
+mod held_words;
 mod judgement;
 pub mod laws;
 mod leading;

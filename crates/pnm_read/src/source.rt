@@ -1,6 +1,7 @@
 //! The source of a stream: the bytes of a reader as messages.
 
-ghost use Rattle.std.specs.Prelude.{◌≡◌, List, ℕ, ◌<◌, ◌-◌, ◌⊎◌, ◌↔◌, IsTrue, true, false, Some, None, Ok, Err};
+ghost use Rattle.std.specs.Prelude.{◌≡◌, List, ℕ, ◌<◌, ◌≤◌, ◌-◌, ◌⊎◌, ◌↔◌, IsTrue, true, false, Some, None, Ok};
+ghost use Rattle.std.specs.Prelude.{Err};
 ghost use Rattle.std.specs.Prelude.{IfOk, IfErr, IfSome};
 ghost use Rattle.pnm_image.specs.Devices.{Failed};
 ghost use Rattle.pnm_image.specs.Formats.{is_plain_form};
@@ -8,7 +9,8 @@ ghost use Rattle.pnm_image.specs.declared.message.Message.TheVariants.{ImageEnd,
 ghost use Rattle.pnm_read.specs.declared.fault.InputFault.{InputFault as Fault};
 ghost use Rattle.pnm_read.specs.declared.fault.InputFault.TheVariants.{ReadFailed, Memory};
 ghost use Rattle.pnm_read.specs.declared.source.Awaited.{Awaited as AwaitedValue};
-ghost use Rattle.pnm_read.specs.BufferedReaders.{ReadCall, Finds};
+ghost use Rattle.pnm_read.specs.BufferedReaders.{ReadCall, Finds, held_of};
+ghost use Rattle.pnm_read.specs.HeldRows.{TakesRows};
 ghost use Rattle.pnm_read.specs.Awaiting.{awaited_after, row_of, HasRow, AnswersNext, Steps, StepsAtStart, SeesText};
 
 use crate::buffered_reader::{BufferedReader, ReadBuffer};
@@ -16,7 +18,7 @@ use crate::fault::InputFault;
 use crate::header::{is_told, read_format, read_head};
 use crate::raster::Raster;
 use crate::spare_rows::SpareRows;
-use crate::{held_rows, plain, raw};
+use crate::{held_rows, held_words, plain, raw};
 use pnm_image::{BytesIn, Format, Message, Rows, Samples};
 use std::alloc::Global;
 
@@ -127,7 +129,7 @@ impl<R: BytesIn> Source<R> {
     }
 
     /// The next rows of a raw image together, which `next` would give one after another: all that are held whole, up to
-    /// 4,096 bytes, where these are two or more of at most 512 bytes each, of bits or of a byte a sample. Otherwise,
+    /// 65,536 bytes, where these are two or more of at most 16,384 bytes each. Otherwise,
     /// and where one of them has a sample above the maxval, `None`: then `next` tells what comes. It makes no read.
     ///
     /// The only fault is `Memory`, after which this answers `None` and `next` the fault. The memory of the rows is
@@ -156,15 +158,12 @@ impl<R: BytesIn> Source<R> {
         let Some(raster) = raw_raster(&self.state) else {
             return Ok(None);
         };
-        let count = held_rows::count_held(&self.input, &raster);
-        if count == 0 {
-            return Ok(None);
-        }
-        match held_rows::take_rows(&mut self.input, spares, &raster, count) {
-            Ok(rows) => {
+        match take_held(&mut self.input, spares, &raster) {
+            Ok(Some((count, rows))) => {
                 self.state = State::Awaits(Awaited::RowOrEnd(raster.after_rows(count)));
                 Ok(Some(rows))
             }
+            Ok(None) => Ok(None),
             Err(found) => {
                 self.state = State::Failed(found);
                 Err(found)
@@ -274,6 +273,40 @@ fn raw_raster(state: &State) -> Option<Raster>
     match state {
         State::Awaits(Awaited::RowOrEnd(raster)) if !raster.format.is_plain() => Some(*raster),
         State::Awaits(_) | State::Ended | State::Failed(_) => None,
+    }
+}
+
+/// The next rows of the raster together, and how many they are, where two or more are held whole and none has a sample
+/// above the maxval.
+///
+/// # Errors
+///
+/// `Memory` where there is none for them.
+fn take_held<R: BytesIn>(
+    input: &mut BufferedReader<R>,
+    spares: &mut SpareRows,
+    raster: &Raster,
+) -> Result<Option<(u32, Rows)>, InputFault>
+    ensures left { IfOk result (λ r. IfSome r (λ p. p.0 ≤ raster.now.shape.height - raster.now.y)) }
+    ensures rows { IfOk result (λ r. IfSome r (λ p. TakesRows raster.now.shape p.0 p.1
+        (held_of input.old) (held_of input.new))) }
+    ensures none { result ≡ Ok None → input.new ≡ input.old }
+    ensures reader { input.new.reader ≡ input.old.reader }
+    ensures ended { input.new.ended ≡ input.old.ended }
+    ensures refused { IfErr result (λ fault. (fault ≡ Memory) × (input.new ≡ input.old)) }
+{
+    let count = held_rows::count_held(input, raster);
+    if count > 0 {
+        let rows = held_rows::take_rows(input, spares, raster, count)?;
+        return Ok(Some((count, rows)));
+    }
+    let count = held_words::count_held(input, raster);
+    if count == 0 {
+        return Ok(None);
+    }
+    match held_words::take_rows(input, raster, count)? {
+        Some(rows) => Ok(Some((count, rows))),
+        None => Ok(None),
     }
 }
 

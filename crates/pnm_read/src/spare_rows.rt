@@ -9,11 +9,11 @@ use std::collections::VecDeque;
 /// The most rows that are kept.
 const MOST_ROWS: usize = 128;
 
-/// The most bytes that a row takes which is kept.
-const MOST_BYTES: usize = 4096;
+/// The most bytes that a row takes which is kept, or rows that were handed over together.
+const MOST_BYTES: usize = 65_536;
 
 /// Rows that were let go, whose memory a source takes for its next ones: first the one that was let go first. At most
-/// 128 of at most 4,096 bytes are kept, and none before a source has asked for a row.
+/// 128 of at most 65,536 bytes are kept, and none before a source has asked for a row.
 #[derive(Drop)]
 pub struct SpareRows {
     rows: VecDeque<Vec<u8>>,

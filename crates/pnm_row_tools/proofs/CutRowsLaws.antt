@@ -1,69 +1,232 @@
 -- The columns that are kept of rows that are held one after another.
-use Rattle.std.proofs.Common.{◌≡◌, ℕ, ◌+◌, ◌-◌, ◌*◌, ◌<◌, ◌≤◌, Some, Result, Ok, Err, IfOk, List, [], ◌∷◌, length, map}
-use Rattle.std.proofs.Common.{refl, sym, ap, subst, ◌∙◌, arith, add-mul, mul-le-mul}
+use Rattle.std.proofs.Common.{◌≡◌, ◌⊎◌, inl, inr, ℕ, zero, suc, ◌+◌, ◌-◌, ◌*◌, ◌<◌, ◌≤◌, Some, List, [], ◌∷◌, ◌++◌, length, map, take, drop, All}
+use Rattle.std.proofs.Common.{refl, sym, ap, subst, ◌∙◌, arith, add-mul, mul-le-mul, length-drop}
 use Rattle.std.specs.List.{AllByRecursion}
+use Rattle.std.proofs.lemmas.List.{take_all}
 use Rattle.pnm_image.specs.declared.shape.Shape.{Shape}
 use Rattle.pnm_image.specs.Heads.{row_length}
 use Rattle.pnm_image.specs.Images.{cut_rows}
 use Rattle.pnm_image.specs.Places.{IsRowOf}
-use Rattle.pnm_tools.specs.Answering.{AreRowAnswers}
-use Rattle.pnm_tools.specs.Cut.{columns_of_row, columns_kept, rows_kept}
+use Rattle.pnm_tools.specs.Answering.{rows_answer}
+use Rattle.pnm_tools.specs.Cut.{columns_of_row, columns_kept, rows_kept, span_count}
 use Rattle.pnm_tools.specs.declared.cut.CutBox.{CutBox}
 use Rattle.pnm_tools.specs.declared.cut.Span.{Span}
 use Rattle.pnm_tools.specs.declared.tool.Tool.TheVariants.{Cut}
-use Rattle.pnm_tools.proofs.CutRowLaws.{all_kept, cut_row_by, row_inside}
-use Rattle.pnm_row_tools.proofs.EachRowLaws.{changed, cut_again, each_answered, each_of_shape, part, part_long}
+use Rattle.pnm_tools.proofs.CutRowLaws.{all_kept, cut_row_by, row_inside, row_outside}
+use Rattle.pnm_samples.proofs.CutLaws.{length-cut_rows}
+use Rattle.pnm_row_tools.specs.declared.cut.Parts.{Parts}
+use Rattle.pnm_row_tools.specs.EachRow.{changed, part, parts_of}
+use Rattle.pnm_row_tools.specs.Keeping.{parts_kept}
+use Rattle.pnm_row_tools.proofs.EachRowLaws.{changed_within, cut_again, cut_between, each_of_shape, length-changed, part_long, part_within, rows_between}
 
 -- the columns lie among those of an image of this shape
 abbrev pub LieIn : Span → Shape → Type 0
 LieIn columns s = (columns.first ≤ columns.last) × (columns.last < s.width)
 
--- the samples of a row that are kept, from the first of them on
-abbrev pub kept_from : Span → Shape → ℕ
-kept_from columns s = columns.first * s.depth
-
-abbrev pub kept_size : Span → Shape → ℕ
-kept_size columns s = (columns.last - columns.first + 1) * s.depth
-
--- they lie in a row
-pub kept_fit : (columns : Span) (s : Shape) (each : ℕ) → LieIn columns s → each ≡ row_length s → kept_from columns s + kept_size columns s ≤ each
+-- the samples of a row that are kept lie in it
+pub kept_fit : (columns : Span) (s : Shape) (each : ℕ) → LieIn columns s → each ≡ row_length s
+    → columns.first * s.depth + span_count columns * s.depth ≤ each
 kept_fit columns s each lie is =
-    let n : ℕ = columns.last - columns.first + 1 in
+    let n : ℕ = span_count columns in
     let fit : (columns.first + n) * s.depth ≤ s.width * s.depth =
     mul-le-mul {n₁ = columns.first + n} {m₁ = s.depth} {n₂ = s.width} {m₂ = s.depth} (omega (arith, lie.0, lie.1)) (omega arith) in
     omega (arith, fit, is, add-mul columns.first n s.depth)
 
 -- the parts of all rows, one after another, are the columns that are kept of each
-pub columns_of_rows : (columns : Span) (s : Shape) (count each : ℕ) (samples : List ℕ) → LieIn columns s → 1 ≤ count → length samples ≡ count * each
-    → AllByRecursion (IsRowOf s) (cut_rows count each samples)
-    → cut_rows count (kept_size columns s) (changed (part (kept_from columns s) (kept_size columns s)) count each samples)
+pub columns_of_rows : (columns : Span) (s : Shape) (count each : ℕ) (samples : List ℕ) → LieIn columns s → each ≡ row_length s
+    → count * each ≤ length samples
+    → cut_rows count (span_count columns * s.depth) (changed (part (columns.first * s.depth) (span_count columns * s.depth)) count each samples)
     ≡ map (columns_of_row columns s.depth) (cut_rows count each samples)
-columns_of_rows columns s count each samples lie some long are =
-    let fits : kept_from columns s + kept_size columns s ≤ each = kept_fit columns s each lie (each_of_shape s count each samples some long are) in
-    let same : columns.last - columns.first + 1 ≡ (columns.last + 1) - columns.first = omega (arith, lie.0) in
-    cut_again (part (kept_from columns s) (kept_size columns s)) each (kept_size columns s) (part_long (kept_from columns s) (kept_size columns s) each fits)
-    count samples (omega (arith, long))
-    ∙ ap (λ (n : ℕ). map (part (kept_from columns s) (n * s.depth)) (cut_rows count each samples)) same
+columns_of_rows columns s count each samples lie is enough =
+    let size : ℕ = span_count columns * s.depth in
+    let fits : columns.first * s.depth + size ≤ each = kept_fit columns s each lie is in
+    cut_again (part (columns.first * s.depth) size) each size (part_long (columns.first * s.depth) size each fits) count samples enough
 
 -- rows of which all columns are kept
-pub all_columns : (columns : Span) (s : Shape) (rows : List (List ℕ)) → LieIn columns s → kept_size columns s ≡ row_length s
+pub all_columns : (columns : Span) (s : Shape) (rows : List (List ℕ)) → LieIn columns s → span_count columns * s.depth ≡ row_length s
     → AllByRecursion (IsRowOf s) rows → rows ≡ map (columns_of_row columns s.depth) rows
 all_columns columns s [] lie all are = refl
 all_columns columns s (row ∷ rows) lie all are =
     let within : (columns.last + 1) * s.depth ≤ s.width * s.depth =
     mul-le-mul {n₁ = columns.last + 1} {m₁ = s.depth} {n₂ = s.width} {m₂ = s.depth} (omega (arith, lie.1)) (omega arith) in
+    let same : span_count columns ≡ columns.last - columns.first + 1 = omega (arith, lie.0) in
     ap (λ (r : List ℕ). r ∷ rows)
-    (all_kept columns s.depth (kept_size columns s) row (lie.0, omega (arith, within, are.0.count)) refl (all ∙ sym are.0.count))
+    (all_kept columns s.depth (span_count columns * s.depth) row (lie.0, omega (arith, within, are.0.count)) (ap (λ (n : ℕ). n * s.depth) same)
+    (all ∙ sym are.0.count))
     ∙ ap (λ (l : List (List ℕ)). columns_of_row columns s.depth row ∷ l) (all_columns columns s rows lie all are.1)
 
--- where all rows are kept each is answered by its columns
-pub rows_answered : (box : CutBox) (s : Shape) (columns kept : Span) (y count : ℕ) (rows : List (List ℕ)) (result : Result (List (List ℕ)) (List (List ℕ)))
-    → columns_kept box s ≡ Some columns → rows_kept box s ≡ Some kept → kept.first ≤ y → count ≡ length rows → 1 ≤ count
-    → y + (count - 1) ≤ kept.last → IfOk result (λ made. made ≡ map (columns_of_row columns s.depth) rows)
-    → IfOk result (λ made. AreRowAnswers (Cut box) s y rows made)
-rows_answered box s columns kept y count rows (Ok made) has_columns has_rows low many some high is =
-    subst (AreRowAnswers (Cut box) s y rows) (sym is)
-    (each_answered (Cut box) s (columns_of_row columns s.depth) y rows (λ k row from to.
-    cut_row_by box s k row (Some columns) (Some kept) (sym has_columns) (sym has_rows)
-    ∙ row_inside columns kept s.depth k row (omega (arith, low, from)) (omega (arith, high, to, many, some))))
-rows_answered box s columns kept y count rows (Err same) has_columns has_rows low many some high is = tt
+-- ---- some of the rows, and some of their columns
+
+-- samples that are rows of a shape, of which some are kept, and columns of them
+pub record AreCut (columns among : Span) (s : Shape) (count each : ℕ) (samples : List ℕ) (rows : List (List ℕ)) : Type 0 where
+  pub lie : LieIn columns s
+  pub some : among.first ≤ among.last
+  pub below : among.last < count
+  pub each_is : each ≡ row_length s
+  pub long : length samples ≡ count * each
+  pub cut : rows ≡ cut_rows count each samples
+  pub are : AllByRecursion (IsRowOf s) rows
+
+pub are_cut : (columns among : Span) (s : Shape) (count each : ℕ) (samples : List ℕ) (rows : List (List ℕ)) → LieIn columns s
+    → (among.first ≤ among.last) × (among.last < length rows) → 1 ≤ count → length samples ≡ count * each → rows ≡ cut_rows count each samples
+    → AllByRecursion (IsRowOf s) rows → AreCut columns among s count each samples rows
+are_cut columns among s count each samples rows lie within some long cut are = record {
+  lie = lie;
+  some = within.0;
+  below = omega (arith, within.1, ap length cut, length-cut_rows count each samples);
+  each_is = each_of_shape s count each samples some long (subst (AllByRecursion (IsRowOf s)) cut are);
+  long = long;
+  cut = cut;
+  are = are;
+}
+
+-- the rows that are kept lie in the samples
+pub rows_fit : (columns among : Span) (s : Shape) (count each : ℕ) (samples : List ℕ) (rows : List (List ℕ)) → AreCut columns among s count each samples rows
+    → among.first * each + span_count among * each ≤ length samples
+rows_fit columns among s count each samples rows h =
+    let n : ℕ = span_count among in
+    let within : (among.first + n) * each ≤ count * each =
+    mul-le-mul {n₁ = among.first + n} {m₁ = each} {n₂ = count} {m₂ = each} (omega (arith, h.some, h.below)) (omega arith) in
+    omega (arith, within, h.long, add-mul among.first n each)
+
+-- the rows that are kept are those that are cut from the samples from the first of them on
+rows_of_span : (columns among : Span) (s : Shape) (count each : ℕ) (samples : List ℕ) (rows : List (List ℕ)) → AreCut columns among s count each samples rows
+    → cut_rows (span_count among) each (drop (among.first * each) samples) ≡ take (span_count among) (drop among.first rows)
+rows_of_span columns among s count each samples rows h =
+    cut_between among.first (span_count among) count each samples (omega (arith, h.some, h.below))
+    ∙ ap (λ (l : List (List ℕ)). take (span_count among) (drop among.first l)) (sym h.cut)
+
+rows_of_kept : (columns among : Span) (s : Shape) (count each : ℕ) (samples : List ℕ) (rows : List (List ℕ)) → AreCut columns among s count each samples rows
+    → AllByRecursion (IsRowOf s) (cut_rows (span_count among) each (drop (among.first * each) samples))
+rows_of_kept columns among s count each samples rows h =
+    subst (AllByRecursion (IsRowOf s)) (sym (rows_of_span columns among s count each samples rows h))
+    (rows_between (IsRowOf s) among.first (span_count among) rows h.are)
+
+-- so do the parts that are kept, and the samples that hold them are as many
+pub parts_fit : (columns among : Span) (s : Shape) (count each : ℕ) (parts : Parts) (samples items : List ℕ) (rows : List (List ℕ))
+    → AreCut columns among s count each samples rows → parts ≡ parts_kept columns among s.depth each → items ≡ samples
+    → parts.skipped + parts.count * parts.row_length ≤ length items
+parts_fit columns among s count each parts samples items rows h is same =
+    subst (λ (p : Parts). p.skipped + p.count * p.row_length ≤ length items) (sym is)
+    (omega (arith, rows_fit columns among s count each samples rows h, ap length same))
+
+pub part_fits : (columns among : Span) (s : Shape) (count each : ℕ) (parts : Parts) (samples : List ℕ) (rows : List (List ℕ))
+    → AreCut columns among s count each samples rows → parts ≡ parts_kept columns among s.depth each → parts.first + parts.kept ≤ parts.row_length
+part_fits columns among s count each parts samples rows h is =
+    subst (λ (p : Parts). p.first + p.kept ≤ p.row_length) (sym is) (kept_fit columns s each h.lie h.each_is)
+
+-- what is kept, one row after another
+abbrev kept_of : Span → Span → Shape → ℕ → List ℕ → List ℕ
+kept_of columns among s each samples = parts_of (parts_kept columns among s.depth each) samples
+
+made_of : (columns among : Span) (s : Shape) (each : ℕ) (parts : Parts) (samples items made : List ℕ) → parts ≡ parts_kept columns among s.depth each
+    → items ≡ samples → made ≡ parts_of parts items → made ≡ kept_of columns among s each samples
+made_of columns among s each parts samples items made is same made_is =
+    made_is ∙ ap (λ (p : Parts). parts_of p items) is ∙ ap (parts_of (parts_kept columns among s.depth each)) same
+
+-- as many samples are kept
+pub kept_long : (columns among : Span) (s : Shape) (count each kept_rows : ℕ) (parts : Parts) (samples items made : List ℕ) (rows : List (List ℕ))
+    → AreCut columns among s count each samples rows → parts ≡ parts_kept columns among s.depth each → items ≡ samples → made ≡ parts_of parts items
+    → kept_rows ≡ among.last - among.first + 1 → length made ≡ kept_rows * parts.kept
+kept_long columns among s count each kept_rows parts samples items made rows h is same made_is many =
+    let start : ℕ = columns.first * s.depth in
+    let size : ℕ = span_count columns * s.depth in
+    let rest : List ℕ = drop (among.first * each) samples in
+    let enough : span_count among * each ≤ length rest =
+    omega (arith, rows_fit columns among s count each samples rows h, length-drop (among.first * each) samples) in
+    ap length (made_of columns among s each parts samples items made is same made_is)
+    ∙ length-changed (part start size) each size (part_long start size each (kept_fit columns s each h.lie h.each_is)) (span_count among) rest enough
+    ∙ ap (λ (n : ℕ). n * size) (omega (arith, many, h.some)) ∙ ap (λ (p : Parts). kept_rows * p.kept) (sym is)
+
+-- none of them is above the maxval
+pub kept_within_maxval : (columns among : Span) (s : Shape) (count each : ℕ) (parts : Parts) (samples items made : List ℕ) (rows : List (List ℕ))
+    → AreCut columns among s count each samples rows → parts ≡ parts_kept columns among s.depth each → items ≡ samples → made ≡ parts_of parts items
+    → All (λ sample. sample ≤ s.maxval) made
+kept_within_maxval columns among s count each parts samples items made rows h is same made_is =
+    let start : ℕ = columns.first * s.depth in
+    let size : ℕ = span_count columns * s.depth in
+    subst (All (λ sample. sample ≤ s.maxval)) (sym (made_of columns among s each parts samples items made is same made_is))
+    (changed_within (part start size) s (part_within start size s) (span_count among) each (drop (among.first * each) samples) (rows_of_kept columns among s
+    count each samples rows h))
+
+-- cut again they are the columns of the rows that are kept
+pub kept_rows_of : (columns among : Span) (s : Shape) (count each kept_rows : ℕ) (parts : Parts) (samples items made : List ℕ) (rows : List (List ℕ))
+    → AreCut columns among s count each samples rows → parts ≡ parts_kept columns among s.depth each → items ≡ samples → made ≡ parts_of parts items
+    → kept_rows ≡ among.last - among.first + 1
+    → cut_rows kept_rows parts.kept made ≡ map (columns_of_row columns s.depth) (take (span_count among) (drop among.first rows))
+kept_rows_of columns among s count each kept_rows parts samples items made rows h is same made_is many =
+    let size : ℕ = span_count columns * s.depth in
+    let rest : List ℕ = drop (among.first * each) samples in
+    let enough : span_count among * each ≤ length rest =
+    omega (arith, rows_fit columns among s count each samples rows h, length-drop (among.first * each) samples) in
+    ap (cut_rows kept_rows parts.kept) (made_of columns among s each parts samples items made is same made_is)
+    ∙ ap (λ (p : Parts). cut_rows kept_rows p.kept (kept_of columns among s each samples)) is
+    ∙ ap (λ (n : ℕ). cut_rows n size (kept_of columns among s each samples)) (omega (arith, many, h.some))
+    ∙ columns_of_rows columns s (span_count among) each rest h.lie h.each_is enough
+    ∙ ap (map (columns_of_row columns s.depth)) (rows_of_span columns among s count each samples rows h)
+
+-- where all rows are among those that are kept
+pub all_rows : (columns among : Span) (s : Shape) (rows : List (List ℕ)) → LieIn columns s → span_count columns * s.depth ≡ row_length s
+    → AllByRecursion (IsRowOf s) rows → span_count among ≡ length rows → (among.first ≤ among.last) × (among.last < length rows)
+    → rows ≡ map (columns_of_row columns s.depth) (take (span_count among) (drop among.first rows))
+all_rows columns among s rows lie all are many within =
+    let none : among.first ≡ 0 = omega (arith, many, within.0, within.1) in
+    all_columns columns s rows lie all are
+    ∙ ap (map (columns_of_row columns s.depth)) (sym (take_all (span_count among) rows (omega (arith, many))))
+    ∙ ap (λ (n : ℕ). map (columns_of_row columns s.depth) (take (span_count among) (drop n rows))) (sym none)
+
+-- ---- the rows that answer
+
+-- those before the first row that is kept are answered by none
+none_before : (box : CutBox) (s : Shape) (columns kept : Span) (y : ℕ) (rows : List (List ℕ)) → columns_kept box s ≡ Some columns
+    → rows_kept box s ≡ Some kept → y + length rows ≤ kept.first → rows_answer (Cut box) s y rows ≡ []
+none_before box s columns kept y [] has_columns has_rows before = refl
+none_before box s columns kept y (row ∷ rows) has_columns has_rows before =
+    ap (λ (l : List (List ℕ)). l ++ rows_answer (Cut box) s (y + 1) rows)
+    (cut_row_by box s y row (Some columns) (Some kept) (sym has_columns) (sym has_rows)
+    ∙ row_outside columns kept s.depth y row (inl (omega (arith, before))))
+    ∙ none_before box s columns kept (y + 1) rows has_columns has_rows (omega (arith, before))
+
+-- and so are those behind the last one
+none_behind : (box : CutBox) (s : Shape) (columns kept : Span) (y : ℕ) (rows : List (List ℕ)) → columns_kept box s ≡ Some columns
+    → rows_kept box s ≡ Some kept → kept.first ≤ kept.last → kept.last < y → rows_answer (Cut box) s y rows ≡ []
+none_behind box s columns kept y [] has_columns has_rows some behind = refl
+none_behind box s columns kept y (row ∷ rows) has_columns has_rows some behind =
+    ap (λ (l : List (List ℕ)). l ++ rows_answer (Cut box) s (y + 1) rows)
+    (cut_row_by box s y row (Some columns) (Some kept) (sym has_columns) (sym has_rows)
+    ∙ row_outside columns kept s.depth y row (inr (omega (arith, some, behind), behind)))
+    ∙ none_behind box s columns kept (y + 1) rows has_columns has_rows some (omega (arith, behind))
+
+-- where none is kept
+pub none_answers : (box : CutBox) (s : Shape) (columns kept : Span) (y count : ℕ) (rows : List (List ℕ)) → columns_kept box s ≡ Some columns
+    → rows_kept box s ≡ Some kept → kept.first ≤ kept.last → count ≡ length rows → (y + count ≤ kept.first) ⊎ (kept.last < y)
+    → rows_answer (Cut box) s y rows ≡ []
+none_answers box s columns kept y count rows has_columns has_rows some many (inl before) =
+    none_before box s columns kept y rows has_columns has_rows (omega (arith, before, many))
+none_answers box s columns kept y count rows has_columns has_rows some many (inr behind) = none_behind box s columns kept y rows has_columns
+    has_rows some behind
+
+-- those that are kept are answered by their columns, so many behind the first ones
+pub some_answer : (box : CutBox) (s : Shape) (columns kept : Span) (y skipped count : ℕ) (rows : List (List ℕ)) → columns_kept box s ≡ Some columns
+    → rows_kept box s ≡ Some kept → kept.first ≤ kept.last → skipped ≡ kept.first - y → y + skipped + count ≤ kept.last + 1
+    → length rows ≡ skipped + count + ((y + length rows) - (kept.last + 1))
+    → rows_answer (Cut box) s y rows ≡ map (columns_of_row columns s.depth) (take count (drop skipped rows))
+some_answer box s columns kept y zero zero [] has_columns has_rows some before inside behind = refl
+some_answer box s columns kept y zero (suc count) [] has_columns has_rows some before inside behind = refl
+some_answer box s columns kept y (suc skipped) zero [] has_columns has_rows some before inside behind = refl
+some_answer box s columns kept y (suc skipped) (suc count) [] has_columns has_rows some before inside behind = refl
+some_answer box s columns kept y zero zero (row ∷ rows) has_columns has_rows some before inside behind =
+    none_behind box s columns kept y (row ∷ rows) has_columns has_rows some (omega (arith, before, behind))
+some_answer box s columns kept y zero (suc count) (row ∷ rows) has_columns has_rows some before inside behind =
+    ap (λ (l : List (List ℕ)). l ++ rows_answer (Cut box) s (y + 1) rows)
+    (cut_row_by box s y row (Some columns) (Some kept) (sym has_columns) (sym has_rows)
+    ∙ row_inside columns kept s.depth y row (omega (arith, before)) (omega (arith, inside)))
+    ∙ ap (λ (l : List (List ℕ)). columns_of_row columns s.depth row ∷ l)
+    (some_answer box s columns kept (y + 1) zero count rows has_columns has_rows some (omega (arith, before)) (omega (arith, inside))
+    (omega (arith, behind)))
+some_answer box s columns kept y (suc skipped) count (row ∷ rows) has_columns has_rows some before inside behind =
+    ap (λ (l : List (List ℕ)). l ++ rows_answer (Cut box) s (y + 1) rows)
+    (cut_row_by box s y row (Some columns) (Some kept) (sym has_columns) (sym has_rows)
+    ∙ row_outside columns kept s.depth y row (inl (omega (arith, before))))
+    ∙ some_answer box s columns kept (y + 1) skipped count rows has_columns has_rows some (omega (arith, before)) (omega (arith, inside))
+    (omega (arith, behind))

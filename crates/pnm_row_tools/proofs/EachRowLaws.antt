@@ -1,7 +1,7 @@
 -- Rows that are held one after another, of which each becomes another row.
 use Rattle.std.proofs.Common.{◌≡◌, ℕ, zero, suc, ◌+◌, ◌*◌, ◌<◌, ◌≤◌, List, [], ◌∷◌, ◌++◌, length, map, take, drop, All, refl, sym, ap, ◌∙◌, ◌-◌}
 use Rattle.std.proofs.Common.{arith, append-nil, append_assoc, length-take-le, length-drop, mul-le-mul, suc-mul, zero-mul}
-use Rattle.std.specs.List.{AllByRecursion, concat, copy_within}
+use Rattle.std.specs.List.{AllByRecursion, copy_within}
 use Rattle.std.proofs.Math.Seq.{paste}
 use Rattle.std.proofs.lemmas.List.{drop_at, drop-drop, drop-take, length-append, take_at, take-take}
 use Rattle.std.proofs.lemmas.List.Edits.{drop-paste, length-paste, take-paste}
@@ -12,33 +12,30 @@ use Rattle.pnm_image.specs.Places.{IsRowOf}
 use Rattle.pnm_image.specs.Heads.{row_length}
 use Rattle.pnm_image.specs.declared.shape.Shape.{Shape}
 use Rattle.pnm_tools.specs.declared.tool.Tool.{Tool}
-use Rattle.pnm_tools.specs.Answering.{AreRowAnswers}
+use Rattle.pnm_tools.specs.Answering.{rows_answer}
 use Rattle.pnm_tools.specs.Tools.{row_answer}
-
--- so many rows of so many samples, each changed, one after another
-abbrev pub changed : (List ℕ → List ℕ) → ℕ → ℕ → List ℕ → List ℕ
-changed f count each samples = concat (map f (cut_rows count each samples))
+use Rattle.pnm_row_tools.specs.EachRow.{changed, part}
 
 -- a row more
-pub one_row_more : (f : List ℕ → List ℕ) (each i : ℕ) (samples : List ℕ)
+pub one_row_more : {X : Type 0} (f : List X → List X) (each i : ℕ) (samples : List X)
     → changed f (suc i) each samples ≡ changed f i each samples ++ f (take each (drop (i * each) samples))
-one_row_more f each zero samples =
+one_row_more {X = X} f each zero samples =
     append-nil (f (take each samples)) ∙ ap (λ (start : ℕ). f (take each (drop start samples))) (sym (zero-mul each))
-one_row_more f each (suc i) samples =
-    let first : List ℕ = f (take each samples) in
-    let later : List ℕ = changed f i each (drop each samples) in
+one_row_more {X = X} f each (suc i) samples =
+    let first : List X = f (take each samples) in
+    let later : List X = changed f i each (drop each samples) in
     let place : each + i * each ≡ suc i * each = omega (arith, suc-mul i each) in
     let start : drop (i * each) (drop each samples) ≡ drop (suc i * each) samples = drop-drop (i * each) each samples ∙ ap (λ (n : ℕ). drop n samples) place in
-    ap (λ (rest : List ℕ). first ++ rest) (one_row_more f each i (drop each samples))
+    ap (λ (rest : List X). first ++ rest) (one_row_more f each i (drop each samples))
     ∙ sym (append_assoc first later (f (take each (drop (i * each) (drop each samples)))))
-    ∙ ap (λ (row : List ℕ). (first ++ later) ++ f (take each row)) start
+    ∙ ap (λ (row : List X). (first ++ later) ++ f (take each row)) start
 
 -- how many samples they have
-pub length-changed : (f : List ℕ → List ℕ) (each size : ℕ) → ((row : List ℕ) → length row ≡ each → length (f row) ≡ size)
-    → (count : ℕ) (samples : List ℕ) → count * each ≤ length samples → length (changed f count each samples) ≡ count * size
+pub length-changed : {X : Type 0} (f : List X → List X) (each size : ℕ) → ((row : List X) → length row ≡ each → length (f row) ≡ size)
+    → (count : ℕ) (samples : List X) → count * each ≤ length samples → length (changed f count each samples) ≡ count * size
 length-changed f each size long zero samples le = sym (zero-mul size)
-length-changed f each size long (suc count) samples le =
-    let rest : List ℕ = drop each samples in
+length-changed {X = X} f each size long (suc count) samples le =
+    let rest : List X = drop each samples in
     let first : length (take each samples) ≡ each = length-take-le each samples (omega (arith, le, suc-mul count each)) in
     let enough : count * each ≤ length rest = omega (arith, le, suc-mul count each, length-drop each samples) in
     omega (
@@ -67,17 +64,21 @@ cut_again f each size long (suc count) samples le =
 
 -- no sample is above the maxval where none of a changed row is
 pub changed_within : (f : List ℕ → List ℕ) (s : Shape) → ((row : List ℕ) → IsRowOf s row → All (λ sample. sample ≤ s.maxval) (f row))
-    → (rows : List (List ℕ)) → AllByRecursion (IsRowOf s) rows → All (λ sample. sample ≤ s.maxval) (concat (map f rows))
-changed_within f s stays [] are = All-nil (λ sample. sample ≤ s.maxval)
-changed_within f s stays (row ∷ rows) are =
-    All-append (λ sample. sample ≤ s.maxval) (f row) (concat (map f rows)) (stays row are.0) (changed_within f s stays rows are.1)
+    → (count each : ℕ) (samples : List ℕ) → AllByRecursion (IsRowOf s) (cut_rows count each samples)
+    → All (λ sample. sample ≤ s.maxval) (changed f count each samples)
+changed_within f s stays zero each samples are = All-nil (λ sample. sample ≤ s.maxval)
+changed_within f s stays (suc count) each samples are =
+    All-append (λ sample. sample ≤ s.maxval) (f (take each samples)) (changed f count each (drop each samples)) (stays (take each samples) are.0)
+    (changed_within f s stays count each (drop each samples) are.1)
 
 -- each is answered by the changed row
 pub each_answered : (tool : Tool) (s : Shape) (f : List ℕ → List ℕ) (y : ℕ) (rows : List (List ℕ))
-    → ((k : ℕ) (row : List ℕ) → y ≤ k → k < y + length rows → row_answer tool s k row ≡ f row ∷ []) → AreRowAnswers tool s y rows (map f rows)
-each_answered tool s f y [] answers = tt
+    → ((k : ℕ) (row : List ℕ) → y ≤ k → k < y + length rows → row_answer tool s k row ≡ f row ∷ []) → rows_answer tool s y rows ≡ map f rows
+each_answered tool s f y [] answers = refl
 each_answered tool s f y (row ∷ rows) answers =
-    (answers y row (omega arith) (omega arith), each_answered tool s f (y + 1) rows (λ k r low high. answers k r (omega (arith, low)) (omega (arith, high))))
+    ap (λ (l : List (List ℕ)). l ++ rows_answer tool s (y + 1) rows) (answers y row (omega arith) (omega arith))
+    ∙ ap (λ (l : List (List ℕ)). f row ∷ l)
+    (each_answered tool s f (y + 1) rows (λ k r low high. answers k r (omega (arith, low)) (omega (arith, high))))
 
 -- the rows that are cut from samples, at least one, have the shape's row length
 pub each_of_shape : (s : Shape) (count each : ℕ) (samples : List ℕ) → 1 ≤ count → length samples ≡ count * each
@@ -86,60 +87,92 @@ each_of_shape s zero each samples some long are = let no : ⊥ = omega (arith, s
 each_of_shape s (suc count) each samples some long are =
     sym (length-take-le each samples (omega (arith, long, suc-mul count each))) ∙ are.0.count
 
+-- ---- some of the rows that are held
+
+-- rows from one on are those that are cut from the samples from there on
+pub cut_between : (skipped kept count each : ℕ) (samples : List ℕ) → skipped + kept ≤ count
+    → cut_rows kept each (drop (skipped * each) samples) ≡ take kept (drop skipped (cut_rows count each samples))
+cut_between zero zero count each samples fits = refl
+cut_between zero (suc kept) zero each samples fits = let no : ⊥ = omega (arith, fits) in absurd no
+cut_between zero (suc kept) (suc count) each samples fits =
+    let none : zero * each ≡ 0 = zero-mul each in
+    ap (λ (n : ℕ). cut_rows (suc kept) each (drop n samples)) none
+    ∙ ap (λ (rows : List (List ℕ)). take each samples ∷ rows)
+    (ap (λ (n : ℕ). cut_rows kept each (drop n (drop each samples))) (sym none) ∙ cut_between zero kept count each (drop each samples) (omega (arith, fits)))
+cut_between (suc skipped) kept zero each samples fits = let no : ⊥ = omega (arith, fits) in absurd no
+cut_between (suc skipped) kept (suc count) each samples fits =
+    let place : suc skipped * each ≡ each + skipped * each = omega (arith, suc-mul skipped each) in
+    ap (λ (n : ℕ). cut_rows kept each (drop n samples)) place
+    ∙ ap (cut_rows kept each) (sym (drop-drop (skipped * each) each samples))
+    ∙ cut_between skipped kept count each (drop each samples) (omega (arith, fits))
+
+-- what holds of each row holds of some of them
+pub rows_between : (P : List ℕ → Type 0) (skipped kept : ℕ) (rows : List (List ℕ)) → AllByRecursion P rows → AllByRecursion P (take kept (drop skipped rows))
+rows_between P zero zero rows are = tt
+rows_between P zero (suc kept) [] are = tt
+rows_between P zero (suc kept) (row ∷ rows) are = (are.0, rows_between P zero kept rows are.1)
+rows_between P (suc skipped) zero [] are = tt
+rows_between P (suc skipped) (suc kept) [] are = tt
+rows_between P (suc skipped) kept (row ∷ rows) are = rows_between P skipped kept rows are.1
+
 -- ---- a part of each row, moved to the front
 
--- so many samples of a row, from one on
-abbrev pub part : ℕ → ℕ → List ℕ → List ℕ
-part start size row = take size (drop start row)
-
 -- the parts of so many rows are moved; the rows behind them are as they were
-pub record AreMoved (start size each i : ℕ) (old now : List ℕ) : Type 0 where
-  pub front : take (i * size) now ≡ changed (part start size) i each old
-  pub rest : drop (i * each) now ≡ drop (i * each) old
+pub record AreMoved {X : Type 0} (base start size each i : ℕ) (old now : List X) : Type 0 where
+  pub front : take (i * size) now ≡ changed (part start size) i each (drop base old)
+  pub rest : drop (base + i * each) now ≡ drop (base + i * each) old
   pub long : length now ≡ length old
 
 -- the part of a row that lies among others
-part_among : (start size each at : ℕ) (samples : List ℕ) → start + size ≤ each
+part_among : {X : Type 0} (start size each at : ℕ) (samples : List X) → start + size ≤ each
     → part start size (take each (drop at samples)) ≡ take size (drop start (drop at samples))
-part_among start size each at samples fits =
-    let row : List ℕ = drop at samples in
+part_among {X = X} start size each at samples fits =
+    let row : List X = drop at samples in
     let left : ℕ = each - start in
     let parts : each ≡ start + left = omega (arith, fits) in
     ap (λ (n : ℕ). take size (drop start (take n row))) parts ∙ ap (take size) (drop-take start left row)
     ∙ take-take size left (drop start row) (omega (arith, fits))
 
+-- one row more of those behind the first samples
+row_behind : {X : Type 0} (base start size each i : ℕ) (samples : List X) → start + size ≤ each
+    → changed (part start size) (suc i) each (drop base samples)
+    ≡ changed (part start size) i each (drop base samples) ++ take size (drop start (drop (base + i * each) samples))
+row_behind {X = X} base start size each i samples fits =
+    let before : List X = changed (part start size) i each (drop base samples) in
+    one_row_more (part start size) each i (drop base samples)
+    ∙ ap (λ (l : List X). before ++ part start size (take each l)) (drop-drop (i * each) base samples)
+    ∙ ap (λ (l : List X). before ++ l) (part_among start size each (base + i * each) samples fits)
+
 -- the part of one row more is moved
-pub part_moved : (start size each i count from to dest : ℕ) (old now new : List ℕ) → new ≡ copy_within now from to dest → from ≡ i * each + start
-    → to ≡ from + size → dest ≡ i * size → start + size ≤ each → i < count → length old ≡ count * each → AreMoved start size each i old now
-    → AreMoved start size each (i + 1) old new
-part_moved start size each i count from to dest old now new made from_is to_is dest_is fits below count_is moved =
-    let at : ℕ = i * each in
+pub part_moved : {X : Type 0} (base start size each i count from to dest : ℕ) (old now new : List X) → new ≡ copy_within now from to dest
+    → from ≡ base + i * each + start → to ≡ from + size → dest ≡ i * size → start + size ≤ each → i < count → base + count * each ≤ length old
+    → AreMoved base start size each i old now → AreMoved base start size each (i + 1) old new
+part_moved {X = X} base start size each i count from to dest old now new made from_is to_is dest_is fits below count_is moved =
+    let at : ℕ = base + i * each in
     let to_front : ℕ = i * size in
     let next : suc i ≡ i + 1 = omega arith in
     let within : at + each ≤ length now = omega (arith, row_ends_within count each i below, count_is, moved.long) in
-    let ahead : to_front ≤ at = mul-le-mul {n₁ = i} {m₁ = size} {n₂ = i} {m₂ = each} (omega arith) (omega (arith, fits)) in
+    let ahead : to_front ≤ at = omega (arith, mul-le-mul {n₁ = i} {m₁ = size} {n₂ = i} {m₂ = each} (omega arith) (omega (arith, fits))) in
     let ends : to_front + size ≤ length now = omega (arith, within, ahead, fits) in
-    let source : List ℕ = drop from now in
+    let source : List X = drop from now in
     let enough : size ≤ length source = omega (arith, length-drop from now, from_is, within, fits) in
     let is : new ≡ paste now to_front source size =
     made ∙ ap (λ (n : ℕ). paste now dest source n) (omega (arith, to_is)) ∙ ap (λ (n : ℕ). paste now n source size) dest_is in
     let behind : source ≡ drop start (drop at old) =
     ap (λ (n : ℕ). drop n now) from_is ∙ sym (drop-drop start at now) ∙ ap (drop start) moved.rest in
-    let made_part : take size source ≡ part start size (take each (drop at old)) =
-    ap (take size) behind ∙ sym (part_among start size each at old fits) in
     let front_to : (i + 1) * size ≡ to_front + size = omega arith in
-    let rest_from : at + each ≡ (i + 1) * each = omega arith in
+    let rest_from : at + each ≡ base + (i + 1) * each = omega arith in
     let gap : ℕ = (at + each) - (to_front + size) in
     let parts : at + each ≡ (to_front + size) + gap = omega (arith, ahead, fits) in
     record {
       front = ap (λ (n : ℕ). take n new) front_to ∙ ap (take (to_front + size)) is
           ∙ take-paste now to_front source size (omega (arith, ends)) enough
-          ∙ ap (λ (l : List ℕ). l ++ take size source) moved.front
-          ∙ ap (λ (l : List ℕ). changed (part start size) i each old ++ l) made_part
-          ∙ sym (one_row_more (part start size) each i old)
-          ∙ ap (λ (n : ℕ). changed (part start size) n each old) next;
+          ∙ ap (λ (l : List X). l ++ take size source) moved.front
+          ∙ ap (λ (l : List X). changed (part start size) i each (drop base old) ++ take size l) behind
+          ∙ sym (row_behind base start size each i old fits)
+          ∙ ap (λ (n : ℕ). changed (part start size) n each (drop base old)) next;
       rest = ap (λ (n : ℕ). drop n new) (sym rest_from ∙ parts) ∙ sym (drop-drop gap (to_front + size) new)
-          ∙ ap (λ (l : List ℕ). drop gap (drop (to_front + size) l)) is
+          ∙ ap (λ (l : List X). drop gap (drop (to_front + size) l)) is
           ∙ ap (drop gap) (drop-paste now to_front source size (omega (arith, ends)) enough)
           ∙ drop-drop gap (to_front + size) now ∙ ap (λ (n : ℕ). drop n now) (sym parts)
           ∙ sym (drop-drop each at now) ∙ ap (drop each) moved.rest ∙ drop-drop each at old
@@ -148,28 +181,28 @@ part_moved start size each i count from to dest old now new made from_is to_is d
     }
 
 -- the part of one row more is appended
-pub part_appended : (start size each i from : ℕ) (samples old new : List ℕ) → start + size ≤ each → old ≡ changed (part start size) i each samples
-    → new ≡ old ++ take size (drop from samples) → from ≡ start + i * each → new ≡ changed (part start size) (i + 1) each samples
-part_appended start size each i from samples old new fits before made is =
-    let at : ℕ = i * each in
+pub part_appended : (base start size each i from : ℕ) (samples old new : List ℕ) → start + size ≤ each
+    → old ≡ changed (part start size) i each (drop base samples) → new ≡ old ++ take size (drop from samples) → from ≡ base + i * each + start
+    → new ≡ changed (part start size) (i + 1) each (drop base samples)
+part_appended base start size each i from samples old new fits before made is =
+    let at : ℕ = base + i * each in
     let next : suc i ≡ i + 1 = omega arith in
-    let run : drop from samples ≡ drop start (drop at samples) = ap (λ (n : ℕ). drop n samples) (omega (arith, is)) ∙ sym (drop-drop start at samples) in
+    let run : drop from samples ≡ drop start (drop at samples) = ap (λ (n : ℕ). drop n samples) is ∙ sym (drop-drop start at samples) in
     made ∙ ap (λ (l : List ℕ). l ++ take size (drop from samples)) before
-    ∙ ap (λ (l : List ℕ). changed (part start size) i each samples ++ take size l) run
-    ∙ ap (λ (l : List ℕ). changed (part start size) i each samples ++ l) (sym (part_among start size each at samples fits))
-    ∙ sym (one_row_more (part start size) each i samples)
-    ∙ ap (λ (n : ℕ). changed (part start size) n each samples) next
+    ∙ ap (λ (l : List ℕ). changed (part start size) i each (drop base samples) ++ take size l) run
+    ∙ sym (row_behind base start size each i samples fits)
+    ∙ ap (λ (n : ℕ). changed (part start size) n each (drop base samples)) next
 
 -- before the first
-pub none_moved : (start size each : ℕ) (old : List ℕ) → AreMoved start size each 0 old old
-none_moved start size each old = record {
+pub none_moved : {X : Type 0} (base start size each : ℕ) (old : List X) → AreMoved base start size each 0 old old
+none_moved base start size each old = record {
   front = ap (λ (n : ℕ). take n old) (zero-mul size);
   rest = refl;
   long = refl;
 }
 
 -- where a part is as long as it is to be
-pub part_long : (start size each : ℕ) → start + size ≤ each → (row : List ℕ) → length row ≡ each → length (part start size row) ≡ size
+pub part_long : {X : Type 0} (start size each : ℕ) → start + size ≤ each → (row : List X) → length row ≡ each → length (part start size row) ≡ size
 part_long start size each fits row long = length-take-le size (drop start row) (omega (arith, length-drop start row, long, fits))
 
 -- a part of a row has no sample above the maxval
@@ -179,7 +212,7 @@ part_within start size s row is =
     All-take P size (drop start row) (All-drop P start row is.range)
 
 -- once the parts of all rows are moved, and the rest is cut off
-pub all_moved : (start size each i count : ℕ) (old now new : List ℕ) → i ≡ count → AreMoved start size each i old now → new ≡ take (count * size) now
-    → new ≡ changed (part start size) count each old
-all_moved start size each i count old now new all moved is =
-    is ∙ ap (λ (n : ℕ). take (n * size) now) (sym all) ∙ moved.front ∙ ap (λ (n : ℕ). changed (part start size) n each old) all
+pub all_moved : {X : Type 0} (base start size each i count : ℕ) (old now new : List X) → i ≡ count → AreMoved base start size each i old now
+    → new ≡ take (count * size) now → new ≡ changed (part start size) count each (drop base old)
+all_moved {X = X} base start size each i count old now new all moved is =
+    is ∙ ap (λ (n : ℕ). take (n * size) now) (sym all) ∙ moved.front ∙ ap (λ (n : ℕ). changed (part start size) n each (drop base old)) all

@@ -6,12 +6,14 @@ use borrow.Rule.Slice.PartMut.{put_mid}
 use Rattle.std.proofs.lemmas.List.{append_assoc, length-append, reverse-append, reverse-reverse, length-reverse, take-append-drop, take_at, drop_at, drop-drop}
 use Rattle.std.proofs.lemmas.List.{take_more, drop_more, take_all, drop_all, append-nil}
 use Rattle.pnm_image.specs.declared.shape.Shape.{Shape}
-use Rattle.pnm_tools.specs.Flip.{turn_of, mirrored_row}
+use Rattle.pnm_tools.specs.Flip.{turn_of}
 use Rattle.pnm_tools.specs.Pixels.{pixel_of}
 use Rattle.pnm_tools.proofs.PickLaws.{flat_map_one_more, pieces_within}
+use Rattle.std.proofs.lemmas.Grind.{flat_map-append}
 use Rattle.std.proofs.lemmas.List.Elements.{All-take, All-drop}
 use Rattle.pnm_tools.specs.declared.tool.Tool.TheVariants.{Flip}
-use Rattle.pnm_row_tools.specs.Keeping.{Reversed, reversed, reversed_due}
+use Rattle.pnm_row_tools.specs.EachRow.{last_first}
+use Rattle.pnm_row_tools.specs.Keeping.{Reversed, joined, reversed, reversed_due}
 use Rattle.pnm_tools.specs.Flip.{ReversesRows}
 use Rattle.pnm_tools.specs.Tools.{row_answer}
 use Rattle.pnm_tools.proofs.TurnLaws.{reversed_moves, row_moved}
@@ -91,25 +93,24 @@ single_pixels {X = X} width row d (suc n) count le =
     ∙ ap (λ (l : List X). take n (reverse row) ++ l) pixel
     ∙ sym (take_more (reverse row) n d here) ∙ ap (λ (k : ℕ). take k (reverse row)) (sym more)
 
--- the row of one plane that has a sample, from behind
-some_pixels : {X : Type 0} (s : Shape) (row samples : List X) (d : X) → 0 < s.depth → s.depth ≤ 1 → length row ≡ s.width * s.depth → samples ≡ reverse row
-    → samples ≡ mirrored_row s row
-some_pixels s row samples d some one count is =
-    let depth : s.depth ≡ 1 = omega arith in
-    let long : length row ≡ s.width * 1 = count ∙ ap (λ (k : ℕ). s.width * k) depth in
-    is ∙ sym (take_all s.width (reverse row) (omega (arith, length-reverse row))) ∙ sym (single_pixels s.width row d s.width long (omega arith))
-    ∙ ap (λ (k : ℕ). last_pixels s.width k row s.width) (sym depth)
+-- pixels of one sample, from behind
+some_pixels : {X : Type 0} (pixels size : ℕ) (row samples : List X) (d : X) → 1 ≤ size → size ≤ 1 → length row ≡ pixels * size → samples ≡ reverse row
+    → samples ≡ last_first pixels size row
+some_pixels pixels size row samples d some one count is =
+    let single : size ≡ 1 = omega arith in
+    let long : length row ≡ pixels * 1 = count ∙ ap (λ (k : ℕ). pixels * k) single in
+    is ∙ sym (take_all pixels (reverse row) (omega (arith, length-reverse row))) ∙ sym (single_pixels pixels row d pixels long (omega arith))
+    ∙ ap (λ (k : ℕ). last_pixels pixels k row pixels) (sym single)
 
--- the row of one plane, from behind
-pub one_plane : {X : Type 0} (s : Shape) (row samples : List X) → 0 < s.depth → s.depth ≤ 1 → length row ≡ s.width * s.depth → samples ≡ reverse row
-    → samples ≡ mirrored_row s row
-one_plane {X = X} s [] samples some one count is =
+pub one_plane : {X : Type 0} (pixels size : ℕ) (row samples : List X) → 1 ≤ size → size ≤ 1 → length row ≡ pixels * size → samples ≡ reverse row
+    → samples ≡ last_first pixels size row
+one_plane {X = X} pixels size [] samples some one count is =
     let none : List X = [] in
-    let depth : s.depth ≡ 1 = omega arith in
-    let wide : s.width * s.depth ≡ s.width = ap (λ (k : ℕ). s.width * k) depth ∙ omega arith in
-    let width : 0 ≡ s.width = omega (arith, count, wide) in
-    is ∙ ap (λ (k : ℕ). last_pixels s.width s.depth none k) width
-one_plane s (x ∷ row) samples some one count is = some_pixels s (x ∷ row) samples x some one count is
+    let single : size ≡ 1 = omega arith in
+    let wide : pixels * size ≡ pixels = ap (λ (k : ℕ). pixels * k) single ∙ omega arith in
+    let width : 0 ≡ pixels = omega (arith, count, wide) in
+    is ∙ ap (λ (k : ℕ). last_pixels pixels size none k) width
+one_plane pixels size (x ∷ row) samples some one count is = some_pixels pixels size (x ∷ row) samples x some one count is
 
 -- three samples, the last one first
 pub three_reversed : {X : Type 0} (xs : List X) (a c : X) → length xs ≡ 3 → a ≡ get_or xs 0 a → c ≡ get_or xs 2 c → set (set xs 0 c) 2 a ≡ reverse xs
@@ -119,33 +120,43 @@ three_reversed (p ∷ q ∷ []) a c three first last = absurd (omega arith)
 three_reversed {X = X} (p ∷ q ∷ r ∷ []) a c three first last = ap (λ (x : X). x ∷ q ∷ a ∷ []) last ∙ ap (λ (x : X). r ∷ q ∷ x ∷ []) first
 three_reversed (p ∷ q ∷ r ∷ s ∷ xs) a c three first last = absurd (omega arith)
 
--- once all pixels of three samples are turned back
-pub colors_turned : {X : Type 0} (s : Shape) (row samples : List X) (n : ℕ) → s.depth ≡ 3 → length row ≡ s.width * s.depth → n ≡ s.width
-    → samples ≡ last_pixels s.width 3 row n ++ drop (n * 3) (reverse row) → samples ≡ mirrored_row s row
-colors_turned {X = X} s row samples n depth count all is =
-    let long : length row ≡ s.width * 3 = count ∙ ap (λ (d : ℕ). s.width * d) depth in
-    let none : drop (n * 3) (reverse row) ≡ [] = drop_all (n * 3) (reverse row) (omega (arith, length-reverse row)) in
-    is ∙ ap (λ (l : List X). last_pixels s.width 3 row n ++ l) none ∙ append-nil (last_pixels s.width 3 row n)
-    ∙ ap (λ (k : ℕ). last_pixels s.width 3 row k) all ∙ ap (λ (d : ℕ). last_pixels s.width d row s.width) (sym depth)
+-- once all pixels are turned back
+pub pixels_turned : {X : Type 0} (pixels size : ℕ) (row samples : List X) (n : ℕ) → length row ≡ pixels * size → n ≡ pixels
+    → samples ≡ last_pixels pixels size row n ++ drop (n * size) (reverse row) → samples ≡ last_first pixels size row
+pixels_turned {X = X} pixels size row samples n count all is =
+    let none : drop (n * size) (reverse row) ≡ [] =
+    drop_all (n * size) (reverse row) (omega (arith, length-reverse row, count, ap (λ (k : ℕ). k * size) all)) in
+    is ∙ ap (λ (l : List X). last_pixels pixels size row n ++ l) none ∙ append-nil (last_pixels pixels size row n)
+    ∙ ap (λ (k : ℕ). last_pixels pixels size row k) all
 
 -- samples within a maxval stay so in a pixel
 pixel_within : (maxval depth x : ℕ) (row : List ℕ) → All (λ sample. sample ≤ maxval) row → All (λ sample. sample ≤ maxval) (pixel_of depth row x)
 pixel_within maxval depth x row h = All-take (λ sample. sample ≤ maxval) depth (drop (x * depth) row) (All-drop (λ sample. sample ≤ maxval) (x * depth) row h)
 
--- samples within a maxval stay so in the mirrored row
-pub mirrored_within : (s : Shape) (row new : List ℕ) → new ≡ mirrored_row s row → All (λ sample. sample ≤ s.maxval) row → All (λ sample. sample ≤ s.maxval) new
-mirrored_within s row new is h =
-    subst (All (λ sample. sample ≤ s.maxval)) (sym is)
-    (pieces_within s.maxval (λ x. pixel_of s.depth row (s.width - 1 - x)) 0 s.width (λ x. pixel_within s.maxval s.depth (s.width - 1 - x) row h))
+-- samples within a maxval stay so, the last pixel first
+pub mirrored_within : (maxval pixels size : ℕ) (row new : List ℕ) → new ≡ last_first pixels size row → All (λ sample. sample ≤ maxval) row
+    → All (λ sample. sample ≤ maxval) new
+mirrored_within maxval pixels size row new is h =
+    subst (All (λ sample. sample ≤ maxval)) (sym is)
+    (pieces_within maxval (λ x. pixel_of size row (pixels - 1 - x)) 0 pixels (λ x. pixel_within maxval size (pixels - 1 - x) row h))
 
--- a row that is mirrored in place
-pub mirrored_in_place : (s : Shape) (row items lent new : List ℕ) (len : ℕ) → new ≡ mirrored_row s lent → length new ≡ length lent → lent ≡ items → items ≡ row
-    → len ≡ length items → take len (new ++ drop (length new) items) ≡ mirrored_row s row
-mirrored_in_place s row items lent new len made long same given count =
-    let size : length new ≡ len = long ∙ ap length same ∙ sym count in
-    take_at new (drop (length new) items) len size ∙ made ∙ ap (mirrored_row s) (same ∙ given)
+-- pixels that change places
+pub mirrored_in_place : (pixels size : ℕ) (row items lent new : List ℕ) (len : ℕ) → new ≡ last_first pixels size lent → length new ≡ length lent
+    → lent ≡ items → items ≡ row → len ≡ length items → take len (new ++ drop (length new) items) ≡ last_first pixels size row
+mirrored_in_place pixels size row items lent new len made long same given count =
+    let all : length new ≡ len = long ∙ ap length same ∙ sym count in
+    take_at new (drop (length new) items) len all ∙ made ∙ ap (last_first pixels size) (same ∙ given)
 
 -- ---- the rows that a reverser has still to give
+
+-- rows that come together come behind the others
+pub rows_joined : (blocks : List (List (List ℕ))) (rows : List (List ℕ)) → joined (blocks ++ rows ∷ []) ≡ joined blocks ++ rows
+rows_joined blocks rows =
+    flat_map-append (λ (l : List (List ℕ)). l) blocks (rows ∷ []) ∙ ap (λ (l : List (List ℕ)). joined blocks ++ l) (append-nil rows)
+
+-- one row by itself is one row more
+pub row_joined : (blocks : List (List (List ℕ))) (row : List ℕ) → joined (blocks ++ (row ∷ []) ∷ []) ≡ joined blocks ++ row ∷ []
+row_joined blocks row = rows_joined blocks (row ∷ [])
 
 -- nothing is due before the image has ended
 pub none_reversed : (w : Reversed) (s : Shape) (y : ℕ) (row : List ℕ) → ReversesRows (turn_of w.way) → w.ended ≡ None

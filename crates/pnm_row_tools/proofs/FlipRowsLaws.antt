@@ -1,81 +1,87 @@
 -- Rows that are held one after another, each turned the last pixel first.
-use Rattle.std.proofs.Common.{◌≡◌, ℕ, suc, ◌+◌, ◌-◌, ◌*◌, ◌<◌, ◌≤◌, Bool, true, false, if◌then◌else◌, Result, Ok, Err, IfOk, List, [], ◌∷◌}
-use Rattle.std.proofs.Common.{◌++◌, length, map, take, drop, All, refl, sym, ap, subst, ◌∙◌, arith, mul-le-mul, append-nil, append_assoc}
-use Rattle.std.proofs.Common.{length-take-le, length-drop, reverse, suc-mul, zero-mul}
-use Rattle.std.specs.List.{AllByRecursion}
+use Rattle.std.proofs.Common.{◌≡◌, ℕ, zero, suc, ◌+◌, ◌-◌, ◌*◌, ◌<◌, ◌≤◌, Bool, true, false, if◌then◌else◌, Option, Some, List, [], ◌∷◌}
+use Rattle.std.proofs.Common.{◌++◌, length, map, take, drop, All, refl, sym, ap, ap₂, subst, ◌∙◌, arith, mul-le-mul, append-nil, append_assoc}
+use Rattle.std.proofs.Common.{add-mul, length-take-le, length-drop, mul_assoc, reverse, suc-mul, zero-mul}
+use Rattle.std.specs.List.{AllByRecursion, flat_map, range_with_len}
 use borrow.Rule.Slice.PartMut.{put_mid}
-use Rattle.std.proofs.lemmas.List.{drop_all, drop_at, drop-drop, reverse-append, take_at}
+use Rattle.std.proofs.lemmas.List.{drop-append-le, drop_all, drop_at, drop-drop, drop-take, map-append, map-id, nil_from_length, reverse-append, take-append-le}
+use Rattle.std.proofs.lemmas.List.{take-take, take_all, take_at}
+use Rattle.std.proofs.lemmas.List.Elements.{All-append, All-drop, All-take}
 use Rattle.pnm_image.specs.declared.shape.Shape.{Shape}
-use Rattle.pnm_image.proofs.RowLaws.{row_ends_within}
+use Rattle.pnm_image.proofs.RowLaws.{lengths_of_cut_rows, row_ends_within}
 use Rattle.pnm_image.specs.Heads.{row_length}
 use Rattle.pnm_image.specs.Images.{cut_rows}
 use Rattle.pnm_image.specs.Places.{IsRowOf}
-use Rattle.pnm_tools.specs.Answering.{AreRowAnswers}
-use Rattle.pnm_tools.specs.Flip.{mirrored_row, moves_rows, turn_of}
+use Rattle.pnm_tools.specs.Answering.{rows_answer}
+use Rattle.pnm_tools.specs.Flip.{mirrored_row, moves_rows, turn_of, turned_row}
 use Rattle.pnm_tools.specs.Pixels.{pixel_of}
 use Rattle.pnm_tools.specs.declared.flip.FlipWay.{FlipWay}
+use Rattle.pnm_tools.specs.declared.flip.Turn.{Turn}
 use Rattle.pnm_tools.specs.declared.tool.Tool.TheVariants.{Flip}
 use Rattle.pnm_tools.proofs.PickLaws.{columns_end}
-use Rattle.pnm_tools.proofs.RangeLaws.{length_of_equals}
-use Rattle.pnm_tools.proofs.TurnLaws.{row_stays}
-use Rattle.pnm_row_tools.proofs.EachRowLaws.{changed, changed_within, cut_again, each_answered, length-changed, one_row_more}
-use Rattle.pnm_row_tools.proofs.FlipRowLaws.{mirrored_within, one_plane}
+use Rattle.pnm_tools.proofs.RangeLaws.{length_of_equals, pieces_alike, pieces_alike_from, pieces_in_parts}
+use Rattle.pnm_tools.proofs.TurnLaws.{row_moved, row_stays}
+use Rattle.pnm_row_tools.specs.EachRow.{changed, last_first}
+use Rattle.pnm_row_tools.specs.Keeping.{AreRowsOf, IsReversingRows, Reversed, joined, reversed, reversed_due}
+use Rattle.pnm_row_tools.proofs.EachRowLaws.{changed_within, cut_again, each_answered, length-changed, one_row_more}
+use Rattle.pnm_row_tools.proofs.FlipRowLaws.{last_pixels, mirrored_within, one_pixel_more, one_plane, rows_joined}
 
 -- a pixel of a row has a sample of each plane
-pixel_long : (width depth x : ℕ) (row : List ℕ) → x < width → length row ≡ width * depth → length (pixel_of depth row x) ≡ depth
+pixel_long : {X : Type 0} (width depth x : ℕ) (row : List X) → x < width → length row ≡ width * depth → length (pixel_of depth row x) ≡ depth
 pixel_long width depth x row below count =
     length-take-le depth (drop (x * depth) row) (omega (arith, columns_end width depth x below, length-drop (x * depth) row, count))
 
 -- the mirrored row is as long
-pub mirrored_long : (s : Shape) → 0 < s.width → (row : List ℕ) → length row ≡ row_length s → length (mirrored_row s row) ≡ row_length s
+pub mirrored_long : {X : Type 0} (s : Shape) → 0 < s.width → (row : List X) → length row ≡ row_length s → length (mirrored_row s row) ≡ row_length s
 mirrored_long s some row count =
     length_of_equals (λ x. pixel_of s.depth row (s.width - 1 - x)) s.depth 0 s.width
     (λ x. pixel_long s.width s.depth (s.width - 1 - x) row (omega (arith, some)) count)
 
 -- the rows that have passed are mirrored, and those behind them as they were
-pub record AreMirrored (s : Shape) (each i : ℕ) (old now : List ℕ) : Type 0 where
+pub record AreMirrored {X : Type 0} (s : Shape) (each i : ℕ) (old now : List X) : Type 0 where
   pub is : now ≡ changed (mirrored_row s) i each old ++ drop (i * each) old
 
 -- before the first
-pub none_mirrored : (s : Shape) (each : ℕ) (old : List ℕ) → AreMirrored s each 0 old old
+pub none_mirrored : {X : Type 0} (s : Shape) (each : ℕ) (old : List X) → AreMirrored s each 0 old old
 none_mirrored s each old = record { is = ap (λ (n : ℕ). drop n old) (sym (zero-mul each)) }
 
 -- one row more
-pub row_mirrored : (s : Shape) (each i count m : ℕ) (old now turned : List ℕ) → 0 < s.width → each ≡ row_length s → i < count → length old ≡ count * each
+pub row_mirrored : {X : Type 0} (s : Shape) (each i count m : ℕ) (old now turned : List X) → 0 < s.width → each ≡ row_length s → i < count
+    → length old ≡ count * each
     → AreMirrored s each i old now → m ≡ each → turned ≡ mirrored_row s (take m (drop (i * each) now))
     → AreMirrored s each (i + 1) old (put_mid (i * each) m now turned)
-row_mirrored s each i count m old now turned some is_each below count_is mirrored size made =
-    let f : List ℕ → List ℕ = mirrored_row s in
+row_mirrored {X = X} s each i count m old now turned some is_each below count_is mirrored size made =
+    let f : List X → List X = mirrored_row s in
     let at : ℕ = i * each in
-    let prefix : List ℕ = changed f i each old in
-    let back : List ℕ = drop at old in
-    let keeps : (row : List ℕ) → length row ≡ each → length (f row) ≡ each = λ row long. mirrored_long s some row (long ∙ is_each) ∙ sym is_each in
+    let prefix : List X = changed f i each old in
+    let back : List X = drop at old in
+    let keeps : (row : List X) → length row ≡ each → length (f row) ≡ each = λ row long. mirrored_long s some row (long ∙ is_each) ∙ sym is_each in
     let reach : at ≤ count * each = mul-le-mul {n₁ = i} {m₁ = each} {n₂ = count} {m₂ = each} (omega (arith, below)) (omega arith) in
     let long : length prefix ≡ at = length-changed f each each keeps i old (omega (arith, reach, count_is)) in
     let before : take at now ≡ prefix = ap (take at) mirrored.is ∙ take_at prefix back at long in
     let rest : drop at now ≡ back = ap (drop at) mirrored.is ∙ drop_at prefix back at long in
-    let row : List ℕ = f (take each back) in
-    let turned_is : turned ≡ row = made ∙ ap (λ (l : List ℕ). f (take m l)) rest ∙ ap (λ (n : ℕ). f (take n back)) size in
+    let row : List X = f (take each back) in
+    let turned_is : turned ≡ row = made ∙ ap (λ (l : List X). f (take m l)) rest ∙ ap (λ (n : ℕ). f (take n back)) size in
     let next_at : at + each ≡ (i + 1) * each = omega arith in
     let next : suc i ≡ i + 1 = omega arith in
     let behind : drop m (drop at now) ≡ drop ((i + 1) * each) old =
     ap (drop m) rest ∙ ap (λ (n : ℕ). drop n back) size ∙ drop-drop each at old ∙ ap (λ (n : ℕ). drop n old) next_at in
     record {
-      is = ap (λ (l : List ℕ). l ++ (turned ++ drop m (drop at now))) before
-          ∙ ap (λ (l : List ℕ). prefix ++ (l ++ drop m (drop at now))) turned_is
-          ∙ ap (λ (l : List ℕ). prefix ++ (row ++ l)) behind
+      is = ap (λ (l : List X). l ++ (turned ++ drop m (drop at now))) before
+          ∙ ap (λ (l : List X). prefix ++ (l ++ drop m (drop at now))) turned_is
+          ∙ ap (λ (l : List X). prefix ++ (row ++ l)) behind
           ∙ sym (append_assoc prefix row (drop ((i + 1) * each) old))
-          ∙ ap (λ (l : List ℕ). l ++ drop ((i + 1) * each) old) (sym (one_row_more f each i old))
+          ∙ ap (λ (l : List X). l ++ drop ((i + 1) * each) old) (sym (one_row_more f each i old))
           ∙ ap (λ (n : ℕ). changed f n each old ++ drop ((i + 1) * each) old) next;
     }
 
 -- once all rows have passed
-pub all_mirrored : (s : Shape) (each i count : ℕ) (old now : List ℕ) → i ≡ count → length old ≡ count * each → AreMirrored s each i old now
+pub all_mirrored : {X : Type 0} (s : Shape) (each i count : ℕ) (old now : List X) → i ≡ count → length old ≡ count * each → AreMirrored s each i old now
     → now ≡ changed (mirrored_row s) count each old
-all_mirrored s each i count old now all long mirrored =
+all_mirrored {X = X} s each i count old now all long mirrored =
     let none : drop (count * each) old ≡ [] = drop_all (count * each) old (omega (arith, long)) in
     mirrored.is ∙ ap (λ (n : ℕ). changed (mirrored_row s) n each old ++ drop (n * each) old) all
-    ∙ ap (λ (l : List ℕ). changed (mirrored_row s) count each old ++ l) none ∙ append-nil (changed (mirrored_row s) count each old)
+    ∙ ap (λ (l : List X). changed (mirrored_row s) count each old ++ l) none ∙ append-nil (changed (mirrored_row s) count each old)
 
 -- ---- the same of rows that are copied in the other order, and then turned round as one
 
@@ -101,7 +107,7 @@ row_copied s count each i last old copy new plane is_each below long copied made
     let enough : each ≤ length rest =
     omega (arith, length-drop from old, long, row_ends_within count each last (omega (arith, below, is))) in
     let whole : length row ≡ s.width * s.depth = length-take-le each rest enough ∙ is_each in
-    let turned : reverse row ≡ f row = one_plane s row (reverse row) (omega (arith, plane)) (omega (arith, plane)) whole refl in
+    let turned : reverse row ≡ f row = one_plane s.width s.depth row (reverse row) (omega (arith, plane)) (omega (arith, plane)) whole refl in
     let next : suc i ≡ i + 1 = omega arith in
     record {
       is = ap (λ (l : List ℕ). reverse l) made ∙ reverse-append copy row
@@ -113,17 +119,27 @@ row_copied s count each i last old copy new plane is_each below long copied made
           ∙ ap (λ (n : ℕ). changed f (i + 1) each (drop n old)) (sym place);
     }
 
--- once all rows are copied, and the copy is turned round
-pub all_copied : (s : Shape) (count each i : ℕ) (old copy new : List ℕ) → i ≡ count → AreCopied s count each i old copy → new ≡ reverse copy
-    → new ≡ changed (mirrored_row s) count each old
-all_copied s count each i old copy new all copied made =
-    let none : (count - i) * each ≡ 0 = ap (λ (n : ℕ). n * each) (omega (arith, all)) ∙ zero-mul each in
-    made ∙ copied.is ∙ ap (λ (n : ℕ). changed (mirrored_row s) i each (drop n old)) none
-    ∙ ap (λ (n : ℕ). changed (mirrored_row s) n each old) all
+-- so many of the last rows, the last one first
+last_copied : (s : Shape) (count each i : ℕ) (old : List ℕ) → s.depth ≡ 1 → each ≡ row_length s → length old ≡ count * each → i ≤ count
+    → AreCopied s count each i old (last_pixels count each old i)
+last_copied s count each zero old plane is long fits = none_copied s count each old [] refl
+last_copied s count each (suc i) old plane is long fits =
+    let next : i + 1 ≡ suc i = omega arith in
+    subst (λ (n : ℕ). AreCopied s count each n old (last_pixels count each old n)) next
+    (row_copied s count each i (count - 1 - i) old (last_pixels count each old i) (last_pixels count each old (i + 1)) plane is (omega (arith, fits)) long
+    (last_copied s count each i old plane is long (omega (arith, fits))) (one_pixel_more count each old i) refl)
+
+-- rows that were copied, the last one first, and are turned round
+pub copy_mirrored : (s : Shape) (count each : ℕ) (old copy new : List ℕ) → s.depth ≡ 1 → each ≡ row_length s → length old ≡ count * each
+    → copy ≡ last_first count each old → new ≡ reverse copy → new ≡ changed (mirrored_row s) count each old
+copy_mirrored s count each old copy new plane is long copied made =
+    let none : (count - count) * each ≡ 0 = ap (λ (n : ℕ). n * each) (omega arith) ∙ zero-mul each in
+    made ∙ ap (λ (l : List ℕ). reverse l) copied ∙ (last_copied s count each count old plane is long (omega arith)).is
+    ∙ ap (λ (n : ℕ). changed (mirrored_row s) count each (drop n old)) none
 
 -- a mirrored row has no sample above the maxval
 each_within : (s : Shape) (row : List ℕ) → IsRowOf s row → All (λ sample. sample ≤ s.maxval) (mirrored_row s row)
-each_within s row is = mirrored_within s row (mirrored_row s row) refl is.range
+each_within s row is = mirrored_within s.maxval s.width s.depth row (mirrored_row s row) refl is.range
 
 -- rows that are mirrored in place
 pub rows_in_place : (s : Shape) (count each len : ℕ) (samples items lent new : List ℕ) → new ≡ changed (mirrored_row s) count each lent
@@ -137,7 +153,7 @@ rows_in_place s count each len samples items lent new made long same given count
 pub rows_within : (s : Shape) (count each : ℕ) (samples new : List ℕ) → new ≡ changed (mirrored_row s) count each samples
     → AllByRecursion (IsRowOf s) (cut_rows count each samples) → All (λ sample. sample ≤ s.maxval) new
 rows_within s count each samples new is are =
-    subst (All (λ sample. sample ≤ s.maxval)) (sym is) (changed_within (mirrored_row s) s (each_within s) (cut_rows count each samples) are)
+    subst (All (λ sample. sample ≤ s.maxval)) (sym is) (changed_within (mirrored_row s) s (each_within s) count each samples are)
 
 -- they are as many samples
 pub rows_long : (s : Shape) (count each : ℕ) (samples : List ℕ) → 0 < s.width → each ≡ row_length s → length samples ≡ count * each
@@ -152,11 +168,190 @@ rows_cut_again s count each samples some is long =
     cut_again (mirrored_row s) each each (λ row whole. mirrored_long s some row (whole ∙ is) ∙ sym is) count samples (omega (arith, long))
 
 -- each row is answered by what the way makes of it
-pub rows_turned : (way : FlipWay) (s : Shape) (y : ℕ) (rows : List (List ℕ)) (result : Result (List (List ℕ)) (List (List ℕ)))
-    → moves_rows (turn_of way) ≡ false → (turn_of way).columns_reversed ≡ true
-    → IfOk result (λ made. made ≡ map (mirrored_row s) rows) → IfOk result (λ made. AreRowAnswers (Flip way) s y rows made)
-rows_turned way s y rows (Ok made) stays reversed is =
-    subst (AreRowAnswers (Flip way) s y rows) (sym is)
-    (each_answered (Flip way) s (mirrored_row s) y rows (λ k row from to.
-    row_stays way s k row stays ∙ ap (λ (b : Bool). (if b then mirrored_row s row else row) ∷ []) reversed))
-rows_turned way s y rows (Err same) stays reversed is = tt
+pub rows_turned : (way : FlipWay) (s : Shape) (y : ℕ) (rows made : List (List ℕ)) → moves_rows (turn_of way) ≡ false → (turn_of way).columns_reversed ≡ true
+    → made ≡ map (mirrored_row s) rows → rows_answer (Flip way) s y rows ≡ made
+rows_turned way s y rows made stays reversed is =
+    each_answered (Flip way) s (mirrored_row s) y rows (λ k row from to.
+    row_stays way s k row stays ∙ ap (λ (b : Bool). (if b then mirrored_row s row else row) ∷ []) reversed) ∙ sym is
+
+-- ---- rows that are reversed, as pixels of one long row or as they are
+
+-- rows and one row behind them, cut again
+cut_behind : (count each : ℕ) (before row : List ℕ) → length before ≡ count * each → length row ≡ each
+    → cut_rows (suc count) each (before ++ row) ≡ cut_rows count each before ++ row ∷ []
+cut_behind zero each before row long whole =
+    let none : before ≡ [] = nil_from_length before (long ∙ zero-mul each) in
+    ap (λ (l : List ℕ). take each (l ++ row) ∷ []) none ∙ ap (λ (l : List ℕ). l ∷ []) (take_all each row (omega (arith, whole)))
+cut_behind (suc count) each before row long whole =
+    let enough : each ≤ length before = omega (arith, long, suc-mul count each) in
+    let rest : length (drop each before) ≡ count * each = omega (arith, length-drop each before, long, suc-mul count each) in
+    ap (λ (l : List ℕ). l ∷ cut_rows (suc count) each (drop each (before ++ row))) (take-append-le each before row enough)
+    ∙ ap (λ (l : List ℕ). take each before ∷ cut_rows (suc count) each l) (drop-append-le each before row enough)
+    ∙ ap (λ (l : List (List ℕ)). take each before ∷ l) (cut_behind count each (drop each before) row rest whole)
+
+-- pixels behind a row are those of the rest
+pixels_behind : (pixels size : ℕ) (samples : List ℕ) (y : ℕ) → pixel_of size samples (pixels + y) ≡ pixel_of size (drop (pixels * size) samples) y
+pixels_behind pixels size samples y =
+    ap (λ (n : ℕ). take size (drop n samples)) (add-mul pixels y size) ∙ ap (take size) (sym (drop-drop (y * size) (pixels * size) samples))
+
+-- pixels of a row are those of the samples
+pixels_ahead : (pixels size : ℕ) (samples : List ℕ) (y : ℕ) → y < pixels → pixel_of size (take (pixels * size) samples) y ≡ pixel_of size samples y
+pixels_ahead pixels size samples y below =
+    let start : ℕ = y * size in
+    let left : ℕ = pixels * size - start in
+    let fits : (y + 1) * size ≤ pixels * size = columns_end pixels size y below in
+    let parts : pixels * size ≡ start + left = omega (arith, fits) in
+    ap (λ (n : ℕ). take size (drop start (take n samples))) parts ∙ ap (take size) (drop-take start left samples)
+    ∙ take-take size left (drop start samples) (omega (arith, fits))
+
+-- the last pixel of one row more first
+one_row_turned : (count pixels size : ℕ) (samples : List ℕ)
+    → last_first (suc count * pixels) size samples
+    ≡ last_first (count * pixels) size (drop (pixels * size) samples) ++ last_first pixels size (take (pixels * size) samples)
+one_row_turned count pixels size samples =
+    let m : ℕ = count * pixels in
+    let all : suc count * pixels ≡ m + pixels = omega (arith, suc-mul count pixels) in
+    let start : 0 + m ≡ m = omega arith in
+    let f : ℕ → List ℕ = λ x. pixel_of size samples (m + pixels - 1 - x) in
+    let later : ℕ → List ℕ = λ x. pixel_of size (drop (pixels * size) samples) (m - 1 - x) in
+    let first : ℕ → List ℕ = λ x. pixel_of size (take (pixels * size) samples) (pixels - 1 - x) in
+    ap (λ (n : ℕ). last_first n size samples) all ∙ pieces_in_parts f 0 m pixels
+    ∙ ap (λ (from : ℕ). flat_map f (range_with_len 0 m) ++ flat_map f (range_with_len from pixels)) start
+    ∙ ap (λ (l : List ℕ). l ++ flat_map f (range_with_len m pixels))
+    (pieces_alike f later 0 m (λ x lt.
+    ap (pixel_of size samples) (omega (arith, lt)) ∙ pixels_behind pixels size samples (m - 1 - x)))
+    ∙ ap (λ (l : List ℕ). flat_map later (range_with_len 0 m) ++ l)
+    (pieces_alike_from f first m 0 pixels (λ i lt.
+    ap (pixel_of size samples) (omega (arith, lt)) ∙ sym (pixels_ahead pixels size samples (pixels - 1 - (0 + i)) (omega (arith, lt)))))
+
+-- it has as many samples
+last_first_long : (pixels size : ℕ) (samples : List ℕ) → length samples ≡ pixels * size → length (last_first pixels size samples) ≡ pixels * size
+last_first_long zero size samples long = sym (zero-mul size)
+last_first_long (suc n) size samples long =
+    length_of_equals (λ x. pixel_of size samples (suc n - 1 - x)) size 0 (suc n) (λ x. pixel_long (suc n) size (suc n - 1 - x) samples (omega arith) long)
+
+reverse_cons : {X : Type 0} (x : X) (xs : List X) → reverse (x ∷ xs) ≡ reverse xs ++ x ∷ []
+reverse_cons x xs = reverse-append (x ∷ []) xs
+
+-- all pixels, the last one first, cut again, are the rows, the last one first, each so
+pub all_turned : (count pixels size : ℕ) (samples : List ℕ) → length samples ≡ count * (pixels * size)
+    → cut_rows count (pixels * size) (last_first (count * pixels) size samples) ≡ reverse (map (last_first pixels size) (cut_rows count (pixels *
+    size) samples))
+all_turned zero pixels size samples long = refl
+all_turned (suc count) pixels size samples long =
+    let each : ℕ = pixels * size in
+    let rest : List ℕ = drop each samples in
+    let row : List ℕ = last_first pixels size (take each samples) in
+    let enough : each ≤ length samples = omega (arith, long, suc-mul count each) in
+    let left : length rest ≡ count * each = omega (arith, length-drop each samples, long, suc-mul count each) in
+    let whole : length row ≡ each = last_first_long pixels size (take each samples) (length-take-le each samples enough) in
+    let before : length (last_first (count * pixels) size rest) ≡ count * each =
+    last_first_long (count * pixels) size rest (left ∙ sym (mul_assoc count pixels size)) ∙ mul_assoc count pixels size in
+    ap (cut_rows (suc count) each) (one_row_turned count pixels size samples)
+    ∙ cut_behind count each (last_first (count * pixels) size rest) row before whole
+    ∙ ap (λ (l : List (List ℕ)). l ++ row ∷ []) (all_turned count pixels size rest left)
+    ∙ sym (reverse_cons row (map (last_first pixels size) (cut_rows count each rest)))
+
+map_reversed : (f : List ℕ → List ℕ) (rows : List (List ℕ)) → map f (reverse rows) ≡ reverse (map f rows)
+map_reversed f [] = refl
+map_reversed f (row ∷ rows) =
+    ap (map f) (reverse_cons row rows) ∙ map-append f (reverse rows) (row ∷ []) ∙ ap (λ (l : List (List ℕ)). l ++ f row ∷ []) (map_reversed f rows)
+    ∙ sym (reverse_cons (f row) (map f rows))
+
+-- a row that is one piece stays as it is
+one_piece : (size : ℕ) (row : List ℕ) → length row ≡ size → last_first 1 size row ≡ row
+one_piece size row long =
+    append-nil (take size (drop (0 * size) row)) ∙ ap (λ (n : ℕ). take size (drop n row)) (zero-mul size) ∙ take_all size row (omega (arith, long))
+
+pub one_row_reversed : (count each : ℕ) (samples : List ℕ) → count ≡ 1 → length samples ≡ count * each → samples ≡ last_first count each samples
+one_row_reversed count each samples one long =
+    sym (one_piece each samples (omega (arith, long, ap (λ (n : ℕ). n * each) one))) ∙ ap (λ (n : ℕ). last_first n each samples) (sym one)
+
+pieces_stay : (size : ℕ) (rows : List (List ℕ)) → AllByRecursion (λ row. length row ≡ size) rows → map (last_first 1 size) rows ≡ rows
+pieces_stay size [] long = refl
+pieces_stay size (row ∷ rows) long = ap₂ (λ (r : List ℕ) (l : List (List ℕ)). r ∷ l) (one_piece size row long.0) (pieces_stay size rows long.1)
+
+-- rows, the last one first
+rows_reversed : (count each : ℕ) (samples : List ℕ) → length samples ≡ count * each
+    → cut_rows count each (last_first count each samples) ≡ reverse (cut_rows count each samples)
+rows_reversed count each samples long =
+    let one : 1 * each ≡ each = omega arith in
+    let all : count * 1 ≡ count = omega arith in
+    ap (λ (n : ℕ). cut_rows count n (last_first count each samples)) (sym one)
+    ∙ ap (λ (n : ℕ). cut_rows count (1 * each) (last_first n each samples)) (sym all)
+    ∙ all_turned count 1 each samples (long ∙ ap (λ (n : ℕ). count * n) (sym one))
+    ∙ ap (λ (n : ℕ). reverse (map (last_first 1 each) (cut_rows count n samples))) one
+    ∙ ap (λ (l : List (List ℕ)). reverse l) (pieces_stay each (cut_rows count each samples) (lengths_of_cut_rows count each samples long))
+
+-- the rows of a block, the last one first, each the last pixel first
+pub rows_mirrored : (t : Turn) (s : Shape) (count each : ℕ) (samples made : List ℕ) (rows : List (List ℕ)) → t.columns_reversed ≡ true → each ≡ row_length s
+    → length samples ≡ count * each → rows ≡ cut_rows count each samples → made ≡ last_first (count * s.width) s.depth samples
+    → cut_rows count each made ≡ map (turned_row t s) (reverse rows)
+rows_mirrored t s count each samples made rows mirrors is long cut made_is =
+    ap (cut_rows count each) made_is ∙ ap (λ (n : ℕ). cut_rows count n (last_first (count * s.width) s.depth samples)) is
+    ∙ all_turned count s.width s.depth samples (long ∙ ap (λ (n : ℕ). count * n) is)
+    ∙ sym (map_reversed (mirrored_row s) (cut_rows count (row_length s) samples))
+    ∙ ap (λ (n : ℕ). map (mirrored_row s) (reverse (cut_rows count n samples))) (sym is)
+    ∙ ap (λ (l : List (List ℕ)). map (mirrored_row s) (reverse l)) (sym cut)
+    ∙ ap (λ (b : Bool). map (λ (row : List ℕ). if b then mirrored_row s row else row) (reverse rows)) (sym mirrors)
+
+-- and each as it is
+pub rows_as_they_are : (t : Turn) (s : Shape) (count each : ℕ) (samples made : List ℕ) (rows : List (List ℕ)) → t.columns_reversed ≡ false
+    → length samples ≡ count * each → rows ≡ cut_rows count each samples → made ≡ last_first count each samples
+    → cut_rows count each made ≡ map (turned_row t s) (reverse rows)
+rows_as_they_are t s count each samples made rows stays long cut made_is =
+    ap (cut_rows count each) made_is ∙ rows_reversed count each samples long ∙ ap (λ (l : List (List ℕ)). reverse l) (sym cut)
+    ∙ sym (map-id (reverse rows))
+    ∙ ap (λ (b : Bool). map (λ (row : List ℕ). if b then mirrored_row s row else row) (reverse rows)) (sym stays)
+
+-- they are as many samples
+pub turned_long : (count each pixels size : ℕ) (samples made : List ℕ) → length samples ≡ count * each → count * each ≡ pixels * size
+    → made ≡ last_first pixels size samples → length made ≡ count * each
+turned_long count each pixels size samples made long same made_is =
+    ap length made_is ∙ last_first_long pixels size samples (long ∙ same) ∙ sym same
+
+-- rows that answer nothing yet
+pub none_answer : (way : FlipWay) (s : Shape) (y : ℕ) (rows : List (List ℕ)) → moves_rows (turn_of way) ≡ true → rows_answer (Flip way) s y rows ≡ []
+none_answer way s y [] moves = refl
+none_answer way s y (row ∷ rows) moves =
+    ap (λ (l : List (List ℕ)). l ++ rows_answer (Flip way) s (y + 1) rows) (row_moved way s y row moves) ∙ none_answer way s (y + 1) rows moves
+
+-- ---- the rows that a reverser keeps
+
+-- more rows are kept
+pub more_kept : (w : Reversed) (way : FlipWay) (kept now : List (List (List ℕ))) (more come : List (List ℕ)) (ended : Option Shape) (s : Shape)
+    → reversed way (joined kept) ended ≡ w → joined now ≡ joined kept ++ more → All (IsRowOf s) more → IsReversingRows w s come
+    → IsReversingRows (reversed way (joined now) ended) s (come ++ more)
+more_kept w way kept now more come ended s view is all ready = record {
+  limits = ready.limits;
+  rows = is ∙ ap (λ (l : List (List ℕ)). l ++ more) (ap (λ (v : Reversed). v.rows) view ∙ ready.rows);
+  each = All-append (IsRowOf s) come more ready.each all;
+  none_given = ap (λ (v : Reversed). v.ended) view ∙ ready.none_given;
+}
+
+-- the rows of the block that is given, and those that stay
+pub rows_parted : (ended : Option Shape) (s : Shape) (kept rest : List (List (List ℕ))) (block : List (List ℕ)) → ended ≡ Some s
+    → AreRowsOf ended (joined kept) → kept ≡ rest ++ block ∷ [] → All (IsRowOf s) block × AreRowsOf ended (joined rest)
+rows_parted ended s kept rest block is are parts =
+    let P : List ℕ → Type 0 = IsRowOf s in
+    let before : List (List ℕ) = joined rest in
+    let rows : joined kept ≡ before ++ block = ap joined parts ∙ rows_joined rest block in
+    let known = subst (λ (e : Option Shape). AreRowsOf e (joined kept)) is are in
+    let all : All P (before ++ block) = subst (All P) rows known.1 in
+    let behind : All P block = subst (All P) (drop_at before block (length before) refl) (All-drop P (length before) (before ++ block) all) in
+    let ahead : All P before = subst (All P) (take_at before block (length before) refl) (All-take P (length before) (before ++ block) all) in
+    (behind, subst (λ (e : Option Shape). AreRowsOf e before) (sym is) (known.0, ahead))
+
+-- the rows that are given, and those that are still due
+pub block_given : (w : Reversed) (way : FlipWay) (ended : Option Shape) (t : Turn) (s : Shape) (kept rest : List (List (List ℕ)))
+    (block made : List (List ℕ)) → reversed way (joined kept) ended ≡ w → ended ≡ Some s → t ≡ turn_of way → kept ≡ rest ++ block ∷ []
+    → made ≡ map (turned_row t s) (reverse block) → reversed_due w ≡ made ++ reversed_due (reversed way (joined rest) ended)
+block_given w way ended t s kept rest block made view is turn parts made_is =
+    let f : List ℕ → List ℕ = turned_row (turn_of way) s in
+    let later : List (List ℕ) = map f (reverse (joined rest)) in
+    sym (ap reversed_due view) ∙ ap (λ (e : Option Shape). reversed_due (reversed way (joined kept) e)) is
+    ∙ ap (λ (l : List (List ℕ)). map f (reverse l)) (ap joined parts ∙ rows_joined rest block)
+    ∙ ap (map f) (reverse-append (joined rest) block) ∙ map-append f (reverse block) (reverse (joined rest))
+    ∙ ap (λ (u : Turn). map (turned_row u s) (reverse block) ++ later) (sym turn)
+    ∙ ap (λ (l : List (List ℕ)). l ++ later) (sym made_is)
+    ∙ ap (λ (e : Option Shape). made ++ reversed_due (reversed way (joined rest) e)) (sym is)

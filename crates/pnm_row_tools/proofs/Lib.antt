@@ -5,3 +5,4 @@ pub mod RowsLaws
 pub mod EachRowLaws
 pub mod CutRowsLaws
 pub mod FlipRowsLaws
+pub mod ChannelRowsLaws

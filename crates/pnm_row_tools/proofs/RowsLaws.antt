@@ -1,5 +1,5 @@
 -- Rows that are handed over together: their samples, and the rows that answer them.
-use Rattle.std.proofs.Common.{◌≡◌, ℕ, zero, suc, ◌+◌, ◌*◌, ◌≤◌, List, [], ◌∷◌, length, take, drop, All, refl, sym, ap, subst, arith, suc-mul}
+use Rattle.std.proofs.Common.{◌≡◌, ℕ, zero, suc, ◌+◌, ◌*◌, ◌≤◌, List, [], ◌∷◌, length, take, drop, All, refl, sym, ap, subst, ◌∙◌, ◌++◌, arith, suc-mul}
 use Rattle.std.specs.List.{AllByRecursion}
 use Rattle.std.proofs.lemmas.List.{take-append-drop, length-drop, nil_from_length}
 use Rattle.std.proofs.lemmas.List.Elements.{All-nil, All-append}
@@ -7,7 +7,7 @@ use Rattle.pnm_image.specs.declared.shape.Shape.{Shape}
 use Rattle.pnm_image.specs.Images.{cut_rows}
 use Rattle.pnm_image.specs.Places.{IsRowOf}
 use Rattle.pnm_tools.specs.declared.tool.Tool.{Tool}
-use Rattle.pnm_tools.specs.Answering.{AreRowAnswers}
+use Rattle.pnm_tools.specs.Answering.{rows_answer}
 use Rattle.pnm_tools.specs.Tools.{row_answer}
 
 -- where each is a row of a shape, none of their samples is above its maxval
@@ -21,15 +21,9 @@ range_of_rows s (suc count) each samples long are =
     subst (All P) (take-append-drop each samples)
     (All-append P (take each samples) (drop each samples) are.0.range (range_of_rows s count each (drop each samples) rest are.1))
 
--- as many rows answer rows
-pub answers_are_many : (tool : Tool) (s : Shape) (y : ℕ) (rows made : List (List ℕ)) → AreRowAnswers tool s y rows made → length made ≡ length rows
-answers_are_many tool s y [] [] are = refl
-answers_are_many tool s y [] (m ∷ made) are = absurd are
-answers_are_many tool s y (row ∷ rows) [] are = absurd are
-answers_are_many tool s y (row ∷ rows) (m ∷ made) are = ap suc (answers_are_many tool s (y + 1) rows made are.1)
-
 -- rows that each answer themselves
 pub rows_stay : (tool : Tool) (s : Shape) (y : ℕ) (rows : List (List ℕ)) → ((k : ℕ) (row : List ℕ) → row_answer tool s k row ≡ row ∷ [])
-    → AreRowAnswers tool s y rows rows
-rows_stay tool s y [] stay = tt
-rows_stay tool s y (row ∷ rows) stay = (stay y row, rows_stay tool s (y + 1) rows stay)
+    → rows_answer tool s y rows ≡ rows
+rows_stay tool s y [] stay = refl
+rows_stay tool s y (row ∷ rows) stay =
+    ap (λ (l : List (List ℕ)). l ++ rows_answer tool s (y + 1) rows) (stay y row) ∙ ap (λ (l : List (List ℕ)). row ∷ l) (rows_stay tool s (y + 1) rows stay)

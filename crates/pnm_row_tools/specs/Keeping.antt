@@ -1,16 +1,18 @@
 -- What tools keep while the rows of an image come, and the rows of the result that they still give.
-use Rattle.std.specs.Prelude.{◌≡◌, ℕ, ◌+◌, ◌≤◌, false, List, [], map, reverse, All, Option, Some, None}
-use Rattle.std.specs.List.{range_with_len}
+use Rattle.std.specs.Prelude.{◌≡◌, ℕ, ◌+◌, ◌*◌, ◌≤◌, false, List, [], map, reverse, All, Option, Some, None}
+use Rattle.std.specs.List.{flat_map, range_with_len}
 use Rattle.pnm_image.specs.declared.shape.Shape.{Shape}
 use Rattle.pnm_image.specs.Heads.{IsWithinLimits}
 use Rattle.pnm_image.specs.Places.{IsRowOf}
 use Rattle.pnm_row_tools.specs.declared.cut.Cutter.{Cutter}
+use Rattle.pnm_row_tools.specs.declared.cut.Parts.{Parts}
 use Rattle.pnm_row_tools.specs.declared.depth.Rescaler.{Rescaler}
 use Rattle.pnm_row_tools.specs.declared.depth.Table.{Table}
 use Rattle.pnm_row_tools.specs.declared.depth.Table.TheVariants.{Absent, Bytes, Words}
 use Rattle.pnm_tools.specs.declared.cut.CutBox.{CutBox}
+use Rattle.pnm_tools.specs.declared.cut.Span.{Span}
 use Rattle.pnm_tools.specs.declared.flip.FlipWay.{FlipWay}
-use Rattle.pnm_tools.specs.Cut.{columns_kept, rows_kept}
+use Rattle.pnm_tools.specs.Cut.{columns_kept, rows_kept, span_count}
 use Rattle.pnm_tools.specs.Depth.{nearest_sample}
 use Rattle.pnm_tools.specs.Flip.{ReversesRows, turn_of, moves_rows, turned_row}
 
@@ -22,6 +24,16 @@ cut_of w = w.cut
 pub record HasSpans (w : Cutter) (s : Shape) : Type 0 where
   pub columns : columns_kept w.cut s ≡ Some w.columns
   pub rows : rows_kept w.cut s ≡ Some w.rows
+
+-- what is kept of these of the rows of so many samples, where these columns of so many planes are
+abbrev pub parts_kept : Span → Span → ℕ → ℕ → Parts
+parts_kept columns among depth row_length = record {
+  skipped = among.first * row_length;
+  count = span_count among;
+  row_length = row_length;
+  first = columns.first * depth;
+  kept = span_count columns * depth;
+}
 
 -- ---- pamdepth: a table of the rescaled samples, or none, where each is computed
 
@@ -37,6 +49,12 @@ IsTable new old (Words words) = words.items ≡ map (nearest_sample new old) (ra
 abbrev pub HasTable : Rescaler → Shape → Type 0
 HasTable r s = IsTable r.maxval s.maxval r.table
 
+-- ---- pamchannel
+
+-- the shape with so many columns, as that of one long row of all pixels
+abbrev pub as_wide : ℕ → Shape → Shape
+as_wide width s = record s { width = width }
+
 -- ---- pamflip where rows stay in their places
 
 abbrev pub KeepsRows : FlipWay → Type 0
@@ -48,6 +66,10 @@ pub record FlipsInRows (way : FlipWay) (s : Shape) : Type 0 where
   pub stays : KeepsRows way
 
 -- ---- pamflip where the order of rows is reversed: all rows
+
+-- rows that were handed over together, one after another
+abbrev pub joined : List (List (List ℕ)) → List (List ℕ)
+joined blocks = flat_map (λ rows. rows) blocks
 
 -- the way, the rows that are kept, and once the image has ended its shape
 pub record Reversed : Type 0 where

@@ -35,7 +35,13 @@ impl<T: RowTool> ImageTool for ByRow<T> {
         Ok(())
     }
 
-    fn rows(&mut self, alloc: Global, shape: Shape, y: u32, rows: Rows) -> Result<Rows, Rows> {
+    fn rows(
+        &mut self,
+        alloc: Global,
+        shape: Shape,
+        y: u32,
+        rows: Rows,
+    ) -> Result<Option<Rows>, Rows> {
         if self.made.is_some() {
             return Err(rows);
         }
@@ -46,8 +52,8 @@ impl<T: RowTool> ImageTool for ByRow<T> {
         self.made = None;
     }
 
-    fn give(&mut self, _alloc: Global) -> Result<Option<Samples>, ToolFault> {
-        Ok(mem::replace(&mut self.made, None))
+    fn give(&mut self, _alloc: Global) -> Result<Option<Rows>, ToolFault> {
+        Ok(mem::replace(&mut self.made, None).map(Rows::one))
     }
 
     fn may_give(&self) -> bool {

@@ -1,21 +1,19 @@
 //! `pamchannel`: planes of the image, in the order in which they are named, from pamchannel(1).
 
-ghost use Rattle.std.specs.Prelude.{◌≡◌, ◌≤◌, ◌<◌, ◌↔◌, ◌⊎◌, ◌+◌, All, IsTrue, OnOk, IfOk, IfErr, Ok, Err, length};
+ghost use Rattle.std.specs.Prelude.{◌≡◌, ◌<◌, ◌≤◌, ◌↔◌, ◌⊎◌, ◌+◌, ◌*◌, All, IsTrue, OnOk, IfOk, IfErr, Ok, Err, length};
 ghost use Rattle.std.specs.Prelude.{map, slice_index_or, []};
-ghost use Rattle.pnm_image.specs.Heads.{row_length};
-ghost use Rattle.pnm_image.specs.Places.{IsRowOf};
 ghost use Rattle.pnm_tools.specs.declared.fault.ToolFault.TheVariants.{Memory};
 ghost use Rattle.pnm_tools.specs.declared.tool.Tool.TheVariants.{Channel};
 ghost use Rattle.pnm_tools.specs.Channel.{picked_or, picked_samples, IsLawfulPick, HasPlanes};
 ghost use Rattle.pnm_tools.specs.Tools.{TakesHead, result_head};
+ghost use Rattle.pnm_row_tools.specs.Keeping.{as_wide};
 
 use crate::row_tool::RowTool;
-use pnm_image::limits::MAX_DEPTH;
-use pnm_image::{Head, Kind, SampleVec, Samples, Shape};
+use pnm_image::{Head, Kind, Rows, SampleSlice, SampleVec, Samples, Shape};
 use pnm_tools::{Planes, ToolFault, head_within_limits};
 use std::alloc::{AllocError, Global};
 
-/// The samples of these planes of a row, held as the row is, but bits as bytes.
+/// The samples of these planes of so many pixels of an image of this shape, held as the pixels are, but bits as bytes.
 ///
 /// # Errors
 ///
@@ -24,31 +22,32 @@ fn pick_planes(
     alloc: Global,
     numbers: &[u16],
     shape: Shape,
-    row: Samples,
+    pixels: usize,
+    samples: &Samples,
 ) -> Result<Samples, AllocError>
     requires numbers { All (λ number. number < shape.depth) numbers.now }
-    requires row { IsRowOf shape row }
-    requires limits { length numbers.now ≤ MAX_DEPTH }
-    ensures { IfOk result (λ picked. picked ≡ picked_samples numbers.now shape row) }
+    requires pixels { length samples.now ≡ pixels * shape.depth }
+    requires range { All (λ sample. sample ≤ shape.maxval) samples.now }
+    ensures { IfOk result (λ picked. picked ≡ picked_samples numbers.now (as_wide pixels shape) samples.now) }
 {
-    match row.into_vec() {
-        SampleVec::Bits(bits) => {
+    match samples.as_slice() {
+        SampleSlice::Bits(bits) => {
             let unpacked = bits.to_bytes(alloc)?;
-            let samples = pick(alloc, numbers, shape, unpacked.as_slice())?;
-            Ok(Samples::within(SampleVec::Bytes(samples), shape.maxval))
-        }
-        SampleVec::Bytes(bytes) => {
-            let picked = pick(alloc, numbers, shape, bytes.as_slice())?;
+            let picked = pick(alloc, numbers, shape, pixels, unpacked.as_slice())?;
             Ok(Samples::within(SampleVec::Bytes(picked), shape.maxval))
         }
-        SampleVec::Words(words) => {
-            let picked = pick(alloc, numbers, shape, words.as_slice())?;
+        SampleSlice::Bytes(bytes) => {
+            let picked = pick(alloc, numbers, shape, pixels, bytes)?;
+            Ok(Samples::within(SampleVec::Bytes(picked), shape.maxval))
+        }
+        SampleSlice::Words(words) => {
+            let picked = pick(alloc, numbers, shape, pixels, words)?;
             Ok(Samples::within(SampleVec::Words(picked), shape.maxval))
         }
     }
 }
 
-/// The samples of these planes of a row.
+/// The samples of these planes of so many pixels of an image of this shape.
 ///
 /// # Errors
 ///
@@ -57,21 +56,25 @@ fn pick<T: Copy + Default>(
     alloc: Global,
     numbers: &[u16],
     shape: Shape,
-    row: &[T],
+    pixels: usize,
+    samples: &[T],
 ) -> Result<Vec<T>, AllocError>
     requires numbers { All (λ number. number < shape.depth) numbers.now }
-    requires row { length row.now ≡ row_length shape }
-    requires limits { length numbers.now ≤ MAX_DEPTH }
-    ensures { IfOk result (λ picked. (past : T) → picked.items ≡ picked_or past numbers.now shape row.now) }
+    requires pixels { length samples.now ≡ pixels * shape.depth }
+    ensures { IfOk result
+        (λ picked. (past : T) → picked.items ≡ picked_or past numbers.now (as_wide pixels shape) samples.now) }
 {
-    let (width, depth, count) = (shape.width as usize, shape.depth as usize, numbers.len());
-    let mut picked = Vec::from_elem(alloc, T::default(), width * count)?;
+    let (depth, count) = (shape.depth as usize, numbers.len());
+    let Some(size) = pixels.checked_mul(count) else {
+        return Err(AllocError);
+    };
+    let mut picked = Vec::from_elem(alloc, T::default(), size)?;
     let buffer = picked.as_mut_slice();
-    for x in 0..width {
+    for x in 0..pixels {
         pick_pixel(
             &mut buffer[x * count..(x + 1) * count],
             numbers,
-            row,
+            samples,
             x * depth,
         );
     }
@@ -109,7 +112,22 @@ impl RowTool for Planes {
         row: Samples,
     ) -> Result<Option<Samples>, ToolFault> {
         let numbers = self.numbers();
-        Ok(Some(pick_planes(alloc, numbers, shape, row)?))
+        let picked = pick_planes(alloc, numbers, shape, shape.width as usize, &row)?;
+        Ok(Some(picked))
+    }
+
+    /// Makes new rows, of all pixels at once.
+    fn rows(&self, alloc: Global, shape: Shape, _y: u32, rows: Rows) -> Result<Option<Rows>, Rows> {
+        let numbers = self.numbers();
+        let (samples, count, row_length) = rows.into_parts();
+        let pixels = count as usize * shape.width as usize;
+        match pick_planes(alloc, numbers, shape, pixels, &samples) {
+            Ok(picked) => {
+                let made = Rows::new(picked, count, shape.width as usize * numbers.len());
+                Ok(Some(made))
+            }
+            Err(_) => Err(Rows::new(samples, count, row_length)),
+        }
     }
 }
 

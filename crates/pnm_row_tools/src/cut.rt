@@ -1,13 +1,15 @@
 //! `pamcut`: a rectangle of the image, from pamcut(1).
 
-ghost use Rattle.std.specs.Prelude.{◌≡◌, ◌≤◌, ◌+◌, ◌*◌, All, IfOk, IfErr, [], ◌<◌, length, map, take, drop};
-ghost use Rattle.std.specs.List.{AllByRecursion, concat};
-ghost use Rattle.pnm_image.specs.Images.{cut_rows};
+ghost use Rattle.std.specs.Prelude.{◌≡◌, ◌≤◌, ◌+◌, ◌-◌, ◌*◌, ◌^◌, ◌⊎◌, All, IfOk, IfErr, [], ◌<◌, length, map};
+ghost use Rattle.std.specs.Prelude.{IfSome, IfNone, take, drop};
+ghost use Rattle.std.specs.List.{AllByRecursion};
 ghost use Rattle.pnm_image.specs.Places.{IsRowOf};
 ghost use Rattle.pnm_image.specs.declared.limits.TheConstants.{MAX_SIDE};
 ghost use Rattle.pnm_tools.specs.Cut.{IsLawfulAxis, KeepsWithin, columns_of_row, span_of, first_kept, last_kept};
 ghost use Rattle.pnm_tools.specs.Cut.{edge_of, IsLawfulBox, columns_kept, rows_kept, span_count};
 ghost use Rattle.pnm_tools.specs.declared.tool.Tool.TheVariants.{Cut};
+ghost use Rattle.pnm_row_tools.specs.Keeping.{parts_kept};
+ghost use Rattle.pnm_row_tools.specs.EachRow.{parts_of};
 
 use crate::bit_rows::{room_for_pixels, rows_of_bits};
 use crate::row_tool::RowTool;
@@ -67,82 +69,111 @@ fn keep<T: Copy>(row: &mut Vec<T>, columns: Span, depth: usize)
     }
 }
 
-/// These columns of each of the rows of an image of this shape: bytes are moved to the front in place, bits copied.
+/// Of each of some rows that follow one another the samples that are kept.
+#[derive(Clone, Copy)]
+struct Parts {
+    /// The samples before the first of these rows.
+    skipped: usize,
+    /// How many rows these are.
+    count: usize,
+    /// The samples of a row.
+    row_length: usize,
+    /// The first sample of a row that is kept, and how many are.
+    first: usize,
+    kept: usize,
+}
+
+/// These columns of these of the rows of an image of this shape: bytes and words are moved to the front in place, bits
+/// copied.
 ///
 /// # Errors
 ///
-/// The rows themselves, where they are cut and are held as words, or as bits and there is no memory for these columns.
+/// The rows themselves, where they are cut and are held as bits, and there is no memory for what is kept of them.
 fn keep_columns_of_rows(
     alloc: Global,
     columns: Span,
+    among: Span,
     shape: Shape,
     rows: Rows,
 ) -> Result<Rows, Rows>
     requires columns { (columns.first ≤ columns.last) × (columns.last < shape.width) }
+    requires among { (among.first ≤ among.last) × (among.last < length rows) }
     requires rows { AllByRecursion (IsRowOf shape) rows }
-    ensures kept { IfOk result (λ kept. kept ≡ map (columns_of_row columns shape.depth) rows) }
+    ensures kept { IfOk result
+        (λ kept. kept ≡ map (columns_of_row columns shape.depth) (take (span_count among) (drop among.first rows))) }
     ensures same { IfErr result (λ same. same ≡ rows) }
 {
     let (samples, count, row_length) = rows.into_parts();
-    let depth = shape.depth as usize;
-    let kept = (columns.last as usize - columns.first as usize + 1) * depth;
-    if kept == row_length {
+    // No effect at run time: a proof learns of this that no place in the rows is beyond this machine's numbers.
+    let _ = samples.len();
+    let kept_rows = among.last - among.first + 1;
+    let parts = parts_kept(columns, among, shape.depth as usize, row_length);
+    if parts.kept == row_length && kept_rows == count {
         return Ok(Rows::new(samples, count, row_length));
     }
-    let first = columns.first as usize * depth;
     match samples.into_vec() {
-        SampleVec::Bits(bits) => {
-            match keep_bits_of_each(alloc, &bits, count as usize, row_length, first, kept) {
-                Ok(made) => Ok(rows_of_bits(made, count, kept)),
-                Err(_) => Err(rows_of_bits(bits, count, row_length)),
-            }
-        }
+        SampleVec::Bits(bits) => match bits_of_each(alloc, &bits, parts) {
+            Ok(made) => Ok(rows_of_bits(made, kept_rows, parts.kept)),
+            Err(_) => Err(rows_of_bits(bits, count, row_length)),
+        },
         SampleVec::Bytes(mut bytes) => {
-            keep_of_each(&mut bytes, count as usize, row_length, first, kept);
+            keep_of_each(&mut bytes, parts);
             let samples = Samples::within(SampleVec::Bytes(bytes), shape.maxval);
-            Ok(Rows::new(samples, count, kept))
+            Ok(Rows::new(samples, kept_rows, parts.kept))
         }
-        held => Err(Rows::new(Samples::within(held, shape.maxval), count, row_length)),
+        SampleVec::Words(mut words) => {
+            keep_of_each(&mut words, parts);
+            let samples = Samples::within(SampleVec::Words(words), shape.maxval);
+            Ok(Rows::new(samples, kept_rows, parts.kept))
+        }
     }
 }
 
-/// Keeps of each of so many rows so many bytes, from one on, those of the first row first, in place.
-fn keep_of_each(bytes: &mut Vec<u8>, count: usize, row_length: usize, first: usize, kept: usize)
-    requires rows { length bytes.old.items ≡ count * row_length }
-    requires within { first + kept ≤ row_length }
-    ensures { bytes.new.items
-        ≡ concat (map (λ row. take kept (drop first row)) (cut_rows count row_length bytes.old.items)) }
+/// What is kept of these of the rows, where these columns are.
+fn parts_kept(columns: Span, among: Span, depth: usize, row_length: usize) -> Parts
+    requires columns { (columns.first ≤ columns.last) × ((columns.last + 1) * depth < 2 ^ 64) }
+    requires among { (among.first ≤ among.last) × (among.first * row_length < 2 ^ 64) }
+    ensures { result ≡ parts_kept columns among depth row_length }
 {
-    for i in 0..count {
-        let start = i * row_length + first;
-        bytes.copy_within(start..start + kept, i * kept);
+    Parts {
+        skipped: among.first as usize * row_length,
+        count: (among.last - among.first) as usize + 1,
+        row_length,
+        first: columns.first as usize * depth,
+        kept: (columns.last as usize - columns.first as usize + 1) * depth,
     }
-    bytes.truncate(count * kept);
 }
 
-/// Of each of so many rows so many pixels, from one on, those of the first row first.
+/// Keeps these parts of rows, those of the first row first, in place.
+fn keep_of_each<T: Copy>(samples: &mut Vec<T>, parts: Parts)
+    requires rows { parts.skipped + parts.count * parts.row_length ≤ length samples.old.items }
+    requires within { parts.first + parts.kept ≤ parts.row_length }
+    ensures { samples.new.items ≡ parts_of parts samples.old.items }
+{
+    let kept = parts.kept;
+    for i in 0..parts.count {
+        let start = parts.skipped + i * parts.row_length + parts.first;
+        samples.copy_within(start..start + kept, i * kept);
+    }
+    samples.truncate(parts.count * kept);
+}
+
+/// These parts of rows of pixels, those of the first row first.
 ///
 /// # Errors
 ///
 /// Where there is no memory for them.
-fn keep_bits_of_each(
-    alloc: Global,
-    bits: &Bits,
-    count: usize,
-    row_length: usize,
-    first: usize,
-    kept: usize,
-) -> Result<Bits, AllocError>
-    requires rows { length bits.now ≡ count * row_length }
-    requires within { first + kept ≤ row_length }
-    ensures { IfOk result (λ made. made
-        ≡ concat (map (λ row. take kept (drop first row)) (cut_rows count row_length bits.now))) }
+fn bits_of_each(alloc: Global, bits: &Bits, parts: Parts) -> Result<Bits, AllocError>
+    requires rows { parts.skipped + parts.count * parts.row_length ≤ length bits.now }
+    requires within { parts.first + parts.kept ≤ parts.row_length }
+    ensures { IfOk result (λ made. made ≡ parts_of parts bits.now) }
 {
     // No effect at run time: a proof learns of this that no place in the rows is beyond this machine's numbers.
     let _ = bits.len();
-    let mut made = room_for_pixels(alloc, count * kept)?;
-    for i in 0..count {
-        made.append(bits, first + i * row_length, kept)?;
+    let mut made = room_for_pixels(alloc, parts.count * parts.kept)?;
+    for i in 0..parts.count {
+        let start = parts.skipped + i * parts.row_length + parts.first;
+        made.append(bits, start, parts.kept)?;
     }
     Ok(made)
 }
@@ -201,14 +232,14 @@ impl RowTool for Cutter {
         Ok(Some(kept))
     }
 
-    /// Keeps the columns of each row, where all of the rows are kept: those of bytes are moved to the front, and those
-    /// of bits to bytes of their own.
-    fn rows(&self, alloc: Global, shape: Shape, y: u32, rows: Rows) -> Result<Rows, Rows> {
-        let last = y + (rows.count() - 1);
-        if y < self.rows.first || self.rows.last < last {
-            return Err(rows);
-        }
-        keep_columns_of_rows(alloc, self.columns, shape, rows)
+    /// Drops the rows that aren't kept, and keeps the columns of the others: those of bytes and words are moved to the
+    /// front, and those of bits to bytes of their own.
+    fn rows(&self, alloc: Global, shape: Shape, y: u32, rows: Rows) -> Result<Option<Rows>, Rows> {
+        let Some(among) = kept_among(self.rows, y, rows.count()) else {
+            return Ok(None);
+        };
+        let kept = keep_columns_of_rows(alloc, self.columns, among, shape, rows)?;
+        Ok(Some(kept))
     }
 }
 
@@ -242,6 +273,26 @@ fn rows_kept(cut: &CutBox, shape: Shape) -> Option<Span>
     ensures { result ≡ rows_kept cut.now shape }
 {
     span_of(shape.height, cut.top, cut.bottom, cut.height)
+}
+
+/// Which of so many rows, from row y on, are kept, the first of them counted as 0; none where none is.
+fn kept_among(kept: Span, y: u32, count: u32) -> Option<Span>
+    requires kept { kept.first ≤ kept.last }
+    requires some { 1 ≤ count }
+    requires within { y + count < 2 ^ 32 }
+    ensures before { IfSome result (λ among. among.first ≡ kept.first - y) }
+    ensures among { IfSome result (λ among. (among.first ≤ among.last) × (y + among.last ≤ kept.last)) }
+    ensures behind { IfSome result (λ among. count ≡ among.last + 1 + ((y + count) - (kept.last + 1))) }
+    ensures none { IfNone result ((y + count ≤ kept.first) ⊎ (kept.last < y)) }
+{
+    let last = y + (count - 1);
+    if last < kept.first || kept.last < y {
+        return None;
+    }
+    Some(Span {
+        first: kept.first.saturating_sub(y),
+        last: kept.last.min(last) - y,
+    })
 }
 
 /// How many columns or rows these are.

@@ -11,7 +11,7 @@ ghost use Rattle.pnm_row_tools.specs.Keeping.{IsTable};
 ghost use Rattle.pnm_tools.specs.Tools.{TakesHead, result_head};
 
 use crate::row_tool::RowTool;
-use pnm_image::{Head, Kind, Rows, SampleVec, Samples, Shape};
+use pnm_image::{Head, Kind, Rows, SampleSlice, SampleVec, Samples, Shape};
 use pnm_tools::{ToolFault, head_within_limits};
 use std::alloc::{AllocError, Global};
 
@@ -93,6 +93,69 @@ fn bytes_by_table(bytes: Vec<u8>, table: &[u8], new: u32, old: u32) -> Samples
     Samples::within(SampleVec::Bytes(bytes), new)
 }
 
+/// The words, each taken from the table, changed in place.
+fn words_by_table(words: Vec<u16>, table: &[u16], new: u32, old: u32) -> Samples
+    requires old { 1 ≤ old }
+    requires table { table.now ≡ map (nearest_sample new old) (range_with_len 0 (old + 1)) }
+    requires words { All (λ sample. sample ≤ old) words.items }
+    ensures { result ≡ map (nearest_sample new old) words.items }
+{
+    let mut words = words;
+    rescale_by_table(words.as_mut_slice(), table, new, old);
+    Samples::within(SampleVec::Words(words), new)
+}
+
+/// The words, each taken from the table, as bytes.
+///
+/// # Errors
+///
+/// Where there is no memory for the bytes.
+fn narrow_by_table(
+    alloc: Global,
+    words: &[u16],
+    table: &[u16],
+    new: u32,
+    old: u32,
+) -> Result<Samples, AllocError>
+    requires new { new ≤ 255 }
+    requires old { 1 ≤ old }
+    requires table { table.now ≡ map (nearest_sample new old) (range_with_len 0 (old + 1)) }
+    requires words { All (λ sample. sample ≤ old) words.now }
+    ensures { IfOk result (λ made. made ≡ map (nearest_sample new old) words.now) }
+{
+    let mut bytes = Vec::from_elem(alloc, 0, words.len())?;
+    for at in 0..words.len() {
+        let rescaled = table[words[at] as usize];
+        bytes[at] = rescaled as u8;
+    }
+    Ok(Samples::within(SampleVec::Bytes(bytes), new))
+}
+
+/// The bytes, each taken from the table, as words.
+///
+/// # Errors
+///
+/// Where there is no memory for the words.
+fn widen_by_table(
+    alloc: Global,
+    bytes: &[u8],
+    table: &[u16],
+    new: u32,
+    old: u32,
+) -> Result<Samples, AllocError>
+    requires old { 1 ≤ old }
+    requires table { table.now ≡ map (nearest_sample new old) (range_with_len 0 (old + 1)) }
+    requires bytes { All (λ sample. sample ≤ old) bytes.now }
+    ensures { IfOk result (λ made. made ≡ map (nearest_sample new old) bytes.now) }
+{
+    let mut words = Vec::from_elem(alloc, 0, bytes.len())?;
+    for at in 0..bytes.len() {
+        let rescaled = table[bytes[at] as usize];
+        words[at] = rescaled;
+    }
+    Ok(Samples::within(SampleVec::Words(words), new))
+}
+
 /// The samples, all within this maxval, as bytes where it is at most 255.
 ///
 /// # Errors
@@ -155,11 +218,34 @@ impl Rescaler {
         }
     }
 
+    /// Samples of an image of this maxval, with the new one: changed in place where they stay as wide as they are held,
+    /// and else a copy.
+    ///
+    /// # Errors
+    ///
+    /// The samples themselves, where there is no memory for the copy.
+    fn rescale_samples(&self, alloc: Global, old: u32, samples: Samples) -> Result<Samples, Samples>
+        requires new { (1 ≤ self.now.maxval) × (self.now.maxval ≤ MAX_MAXVAL) }
+        requires old { (1 ≤ old) × (old ≤ MAX_MAXVAL) }
+        requires table { IsTable self.now.maxval old self.now.table }
+        requires range { All (λ sample. sample ≤ old) samples }
+        ensures rescaled { IfOk result (λ made. made ≡ map (nearest_sample self.now.maxval old) samples) }
+        ensures same { IfErr result (λ same. same ≡ samples) }
+    {
+        match self.rescale_in_place(old, samples) {
+            Ok(rescaled) => Ok(rescaled),
+            Err(samples) => match self.rescale_copy(alloc, old, &samples) {
+                Ok(rescaled) => Ok(rescaled),
+                Err(_) => Err(samples),
+            },
+        }
+    }
+
     /// The samples of an image of this maxval, with the new one, changed in place.
     ///
     /// # Errors
     ///
-    /// The samples themselves, where they aren't bytes that stay bytes, or there is no table of them.
+    /// The samples themselves, where they don't stay as wide as they are held, or there is no table of them.
     fn rescale_in_place(&self, old: u32, samples: Samples) -> Result<Samples, Samples>
         requires old { 1 ≤ old }
         requires table { IsTable self.now.maxval old self.now.table }
@@ -167,14 +253,76 @@ impl Rescaler {
         ensures rescaled { IfOk result (λ made. made ≡ map (nearest_sample self.now.maxval old) samples) }
         ensures same { IfErr result (λ same. same ≡ samples) }
     {
-        let Table::Bytes(table) = &self.table else {
-            return Err(samples);
-        };
-        match samples.into_vec() {
-            SampleVec::Bytes(bytes) => {
-                Ok(bytes_by_table(bytes, table.as_slice(), self.maxval, old))
+        match &self.table {
+            Table::Absent => Err(samples),
+            Table::Bytes(table) => match samples.into_vec() {
+                SampleVec::Bytes(bytes) => {
+                    Ok(bytes_by_table(bytes, table.as_slice(), self.maxval, old))
+                }
+                held => Err(Samples::within(held, old)),
+            },
+            Table::Words(table) => match samples.into_vec() {
+                SampleVec::Words(words) if self.maxval > GREATEST_BYTE => {
+                    Ok(words_by_table(words, table.as_slice(), self.maxval, old))
+                }
+                held => Err(Samples::within(held, old)),
+            },
+        }
+    }
+
+    /// A copy of samples of an image of this maxval, with the new one, held as those of a row are.
+    ///
+    /// # Errors
+    ///
+    /// Where there is no memory for it.
+    fn rescale_copy(
+        &self,
+        alloc: Global,
+        old: u32,
+        samples: &Samples,
+    ) -> Result<Samples, AllocError>
+        requires new { (1 ≤ self.now.maxval) × (self.now.maxval ≤ MAX_MAXVAL) }
+        requires old { (1 ≤ old) × (old ≤ MAX_MAXVAL) }
+        requires table { IsTable self.now.maxval old self.now.table }
+        requires range { All (λ sample. sample ≤ old) samples.now }
+        ensures { IfOk result (λ rescaled. rescaled ≡ map (nearest_sample self.now.maxval old) samples.now) }
+    {
+        if let Table::Words(table) = &self.table {
+            return self.rescale_words(alloc, table.as_slice(), old, samples);
+        }
+        let copy = samples.copy(alloc)?;
+        self.rescale_row(alloc, old, copy)
+    }
+
+    /// The same by a table of words: words become bytes, and bytes words, as they are copied.
+    ///
+    /// # Errors
+    ///
+    /// Where there is no memory for the copy.
+    fn rescale_words(
+        &self,
+        alloc: Global,
+        table: &[u16],
+        old: u32,
+        samples: &Samples,
+    ) -> Result<Samples, AllocError>
+        requires old { 1 ≤ old }
+        requires table { table.now ≡ map (nearest_sample self.now.maxval old) (range_with_len 0 (old + 1)) }
+        requires range { All (λ sample. sample ≤ old) samples.now }
+        ensures { IfOk result (λ rescaled. rescaled ≡ map (nearest_sample self.now.maxval old) samples.now) }
+    {
+        let new = self.maxval;
+        match samples.as_slice() {
+            SampleSlice::Words(words) if new <= GREATEST_BYTE => {
+                narrow_by_table(alloc, words, table, new, old)
             }
-            held => Err(Samples::within(held, old)),
+            SampleSlice::Bytes(bytes) if new > GREATEST_BYTE => {
+                widen_by_table(alloc, bytes, table, new, old)
+            }
+            _ => {
+                let words = samples.to_words(alloc)?;
+                Ok(words_by_table(words, table, new, old))
+            }
         }
     }
 }
@@ -210,10 +358,10 @@ impl RowTool for Rescaler {
         Ok(Some(self.rescale_row(alloc, shape.maxval, row)?))
     }
 
-    fn rows(&self, _alloc: Global, shape: Shape, _y: u32, rows: Rows) -> Result<Rows, Rows> {
+    fn rows(&self, alloc: Global, shape: Shape, _y: u32, rows: Rows) -> Result<Option<Rows>, Rows> {
         let (samples, count, row_length) = rows.into_parts();
-        match self.rescale_in_place(shape.maxval, samples) {
-            Ok(rescaled) => Ok(Rows::new(rescaled, count, row_length)),
+        match self.rescale_samples(alloc, shape.maxval, samples) {
+            Ok(rescaled) => Ok(Some(Rows::new(rescaled, count, row_length))),
             Err(samples) => Err(Rows::new(samples, count, row_length)),
         }
     }

@@ -104,10 +104,16 @@ impl RowTool for Inverter {
         Ok(Some(invert_row(alloc, shape.maxval, row)?))
     }
 
-    fn rows(&self, _alloc: Global, shape: Shape, _y: u32, rows: Rows) -> Result<Rows, Rows> {
+    fn rows(
+        &self,
+        _alloc: Global,
+        shape: Shape,
+        _y: u32,
+        rows: Rows,
+    ) -> Result<Option<Rows>, Rows> {
         let (samples, count, row_length) = rows.into_parts();
         match invert_in_place(shape.maxval, samples) {
-            Ok(inverted) => Ok(Rows::new(inverted, count, row_length)),
+            Ok(inverted) => Ok(Some(Rows::new(inverted, count, row_length))),
             Err(samples) => Err(Rows::new(samples, count, row_length)),
         }
     }

@@ -7,7 +7,7 @@ ghost use Rattle.pnm_image.specs.Places.{IsRowOf};
 ghost use Rattle.pnm_image.specs.declared.shape.Shape.{Shape as ShapeValue};
 ghost use Rattle.pnm_tools.specs.declared.fault.ToolFault.TheVariants.{Memory};
 ghost use Rattle.pnm_tools.specs.declared.tool.Tool.{Tool as ToolValue};
-ghost use Rattle.pnm_tools.specs.Answering.{AreRowAnswers, row_list};
+ghost use Rattle.pnm_tools.specs.Answering.{rows_answer, row_list, rows_list};
 ghost use Rattle.pnm_tools.specs.Tools.{IsLawfulTool, TakesHead, result_head, row_answer, end_answer};
 
 use pnm_image::{Head, Rows, Samples, Shape};
@@ -47,16 +47,17 @@ pub trait RowTool {
         ensures row { IfOk result (λ made. row_answer (tool self.now) shape y row ≡ row_list made) }
         ensures refused { IfErr result (λ fault. fault ≡ Memory) };
 
-    /// Makes of each row, from row `y` of an image of this shape on, the row of the result, all at once.
+    /// The rows of the result that rows of an image of this shape make, from row `y` on, all at once, if they make
+    /// some.
     ///
     /// # Errors
     ///
     /// The rows themselves, where each is to be taken by itself, as where there is no memory to make all at once.
-    fn rows(&self, alloc: Global, shape: Shape, y: u32, rows: Rows) -> Result<Rows, Rows>
+    fn rows(&self, alloc: Global, shape: Shape, y: u32, rows: Rows) -> Result<Option<Rows>, Rows>
         requires lawful { IsLawfulTool (tool self.now) }
         requires ready { ready self.now shape }
         requires rows { (y + length rows ≤ shape.height) × AllByRecursion (IsRowOf shape) rows }
-        ensures made { IfOk result (λ made. AreRowAnswers (tool self.now) shape y rows made) }
+        ensures made { IfOk result (λ made. rows_answer (tool self.now) shape y rows ≡ rows_list made) }
         ensures same { IfErr result (λ same. same ≡ rows) }
     {
         Err(rows)

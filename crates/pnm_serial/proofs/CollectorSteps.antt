@@ -10,7 +10,7 @@ use Rattle.pnm_image.specs.declared.message.Ending.TheVariants.{More, Whole, Bro
 use Rattle.pnm_tools.proofs.SoundLaws.{IsUnbroken, unbroken_keeps_all}
 use Rattle.pnm_image.specs.Rows.{row_messages}
 use Rattle.pnm_tools.proofs.InFullLaws.{ends_after}
-use Rattle.pnm_stages.specs.declared.parcel.Parcel.{Parcel}
+use Rattle.pnm_image.specs.declared.parcel.Parcel.{Parcel}
 use Rattle.pnm_serial.specs.declared.collector.Collector.{Collector}
 use Rattle.pnm_serial.specs.declared.downstream.Downstream.{Downstream}
 use Rattle.pnm_serial.specs.Downstreams.{HasTaken}

@@ -3,16 +3,18 @@ use Rattle.std.proofs.Common.{◌≡◌, ◌⊎◌, ℕ, ◌+◌, ◌-◌, ◌^�
 use Rattle.std.proofs.Common.{subst, ◌∙◌, arith, inl, inr}
 use Rattle.std.specs.Io.KnownBytes.{Consumes}
 use Rattle.std.specs.List.{AllByRecursion}
-use Rattle.std.proofs.lemmas.List.{append-nil, length-append}
+use Rattle.std.proofs.lemmas.List.{append-nil, length-append, length-map}
 use Rattle.pnm_image.specs.Devices.{Failed}
 use Rattle.pnm_image.specs.declared.format.Form.{Form}
 use Rattle.pnm_image.specs.declared.message.Message.{Message}
+use Rattle.pnm_image.specs.declared.message.Message.TheVariants.{Row}
 use Rattle.pnm_image.specs.Completion.{IsPrefixOf}
+use Rattle.pnm_image.specs.Rows.{row_messages}
 use Rattle.pnm_read.specs.declared.fault.InputFault.{InputFault}
-use Rattle.pnm_read.specs.declared.fault.InputFault.TheVariants.{ReadFailed}
+use Rattle.pnm_read.specs.declared.fault.InputFault.TheVariants.{Memory, ReadFailed}
 use Rattle.pnm_read.specs.declared.source.Source.{Source}
 use Rattle.pnm_read.specs.Said.{said_of}
-use Rattle.pnm_read.specs.Sources.{reader_of, stopped_by, MayGive, MayGiveMore, SeesEnd, HasGiven, Tells, IsFreshSource as IsUnread}
+use Rattle.pnm_read.specs.Sources.{reader_of, stopped_by, MayGive, MayGiveMore, SeesEnd, HasGiven, Tells, TellsRows, IsFreshSource as IsUnread}
 use Rattle.pnm_read.proofs.Consumed.{consumes_nothing, consumes_then}
 use Rattle.pnm_read.proofs.Turns.{no_fault}
 use Rattle.pnm_read.proofs.SaidLaws.{said_is_lawful}
@@ -79,7 +81,7 @@ given_is_sound s read given h =
     let prefix = given_is_prefix s read given [] h (nothing_may_come s) in
     sound_prefix given prefix.0 (subst AreSound prefix.1 (said_are_sound (read ++ [])))
 
--- so many messages have passed, and no fault of the input has come
+-- so many messages have passed at least, and no fault of the input has come
 pub record Going {R F W : Type 0} (left : R → Option (List ℕ)) (reader_failures : R → ℕ) (at : F → Tool → List Message → List Message → Type 0)
     (all_given : F → Bool) (stopped : F → Option ToolFault) (held : W → Option (List ℕ)) (writer_failures : W → ℕ) (first source : Source R)
     (old new : List (FusedFilter F)) (start now : Downstream W) (count : ℕ) : Type 0 where
@@ -89,7 +91,7 @@ pub record Going {R F W : Type 0} (left : R → Option (List ℕ)) (reader_failu
   pub told : HasGiven source read given
   pub end : SeesEnd left source
   pub unread : HasMore (left (reader_of source)) → (rest : List ℕ) → MayGive source rest
-  pub many : length given ≡ count
+  pub many : count ≤ length given
   pub sound : reader_failures (reader_of source) ≡ reader_failures (reader_of first)
   pub output : HaveTaken at all_given stopped held writer_failures given old new start now
 
@@ -105,22 +107,24 @@ going_none left reader_failures at all_given stopped held writer_failures source
   told = unread.nothing_given;
   end = unread.end left;
   unread = λ more. unread.unread;
-  many = refl;
+  many = omega arith;
   sound = refl;
-  output = record { out = []; stages = λ tools is. is; taken = λ form start is. is };
+  output = record { out = []; stages = λ tools lawful is. is; taken = λ form start is. is };
 }
 
--- one message more has passed
+-- more has passed
 have_taken_more : {F W : Type 0} (at : F → Tool → List Message → List Message → Type 0) (all_given : F → Bool) (stopped : F → Option ToolFault)
-    (held : W → Option (List ℕ)) (failures : W → ℕ) (given : List Message) (m : Message) (old now next : List (FusedFilter F)) (before d after : Downstream W)
-    → HaveTaken at all_given stopped held failures given old now before d → FeedsThrough at all_given stopped held failures now m next d after
-    → HaveTaken at all_given stopped held failures (given ++ m ∷ []) old next before after
-have_taken_more at all_given stopped held failures given m old now next before d after was passes = record {
+    (held : W → Option (List ℕ)) (failures : W → ℕ) (given passed : List Message) (old now next : List (FusedFilter F)) (before d after : Downstream W)
+    → AreSound (given ++ passed) → HaveTaken at all_given stopped held failures given old now before d
+    → FeedsThrough at all_given stopped held failures now passed next d after
+    → HaveTaken at all_given stopped held failures (given ++ passed) old next before after
+have_taken_more at all_given stopped held failures given passed old now next before d after sound was passes = record {
   out = was.out ++ passes.more;
-  stages = λ tools is. passes.stages tools given was.out (was.stages tools is);
+  stages = λ tools lawful is. passes.stages tools given was.out lawful sound (was.stages tools lawful is);
   taken = λ form start is. passes.taken form start was.out (was.taken form start is);
 }
 
+-- one message more has passed
 pub going_more : {R F W : Type 0} (left : R → Option (List ℕ)) (reader_failures : R → ℕ) (at : F → Tool → List Message → List Message → Type 0)
     (all_given : F → Bool) (stopped : F → Option ToolFault) (held : W → Option (List ℕ)) (writer_failures : W → ℕ) (first source next : Source R)
     (old now after : List (FusedFilter F)) (start d new : Downstream W) (count : ℕ) (m : Message)
@@ -129,7 +133,7 @@ pub going_more : {R F W : Type 0} (left : R → Option (List ℕ)) (reader_failu
     → (SeesEnd left source → SeesEnd left next)
     → IsUnreadAfter left source next
     → reader_failures (reader_of next) ≡ reader_failures (reader_of source)
-    → FeedsThrough at all_given stopped held writer_failures now m after d new
+    → FeedsThrough at all_given stopped held writer_failures now (m ∷ []) after d new
     → Going left reader_failures at all_given stopped held writer_failures first next old after start new (count + 1)
 going_more left reader_failures at all_given stopped held writer_failures first source next old now after start d new count m going t end unread sound passes =
     record {
@@ -141,32 +145,60 @@ going_more left reader_failures at all_given stopped held writer_failures first 
       unread = unread_after left source next going.end unread;
       many = let before = going.many in omega (arith, length-append going.given (m ∷ []));
       sound = sound ∙ going.sound;
-      output = have_taken_more at all_given stopped held writer_failures going.given m old now after start d new going.output passes;
+      output = have_taken_more at all_given stopped held writer_failures going.given (m ∷ []) old now after start d new
+          (given_is_sound next (going.read ++ t.more) (going.given ++ m ∷ []) (t.told going.read going.given going.told)) going.output passes;
     }
 
--- what has passed stays so where the sink has taken what it had
+-- rows have passed together, for which nothing was read
+pub going_rows : {R F W : Type 0} (left : R → Option (List ℕ)) (reader_failures : R → ℕ) (at : F → Tool → List Message → List Message → Type 0)
+    (all_given : F → Bool) (stopped : F → Option ToolFault) (held : W → Option (List ℕ)) (writer_failures : W → ℕ) (first source next : Source R)
+    (old now after : List (FusedFilter F)) (start d new : Downstream W) (count : ℕ) (rows : List (List ℕ))
+    → (going : Going left reader_failures at all_given stopped held writer_failures first source old now start d count)
+    → 1 ≤ length rows
+    → TellsRows source next rows → reader_of next ≡ reader_of source
+    → (SeesEnd left source → SeesEnd left next) → ((rest : List ℕ) → MayGive source rest → MayGive next rest)
+    → FeedsThrough at all_given stopped held writer_failures now (row_messages rows) after d new
+    → Going left reader_failures at all_given stopped held writer_failures first next old after start new (count + 1)
+going_rows left reader_failures at all_given stopped held writer_failures first source next old now after start d new count rows going some tells same end comes
+    passes = record {
+      read = going.read;
+      given = going.given ++ row_messages rows;
+      consumed = subst (λ r. Consumes (left (reader_of first)) (left r) going.read) (sym same) going.consumed;
+      told = tells going.read going.given going.told;
+      end = end going.end;
+      unread = λ has rest. comes rest (going.unread (subst (λ r. HasMore (left r)) same has) rest);
+      many = omega (arith, going.many, some, length-append going.given (row_messages rows), length-map rows Row);
+      sound = ap reader_failures same ∙ going.sound;
+      output = have_taken_more at all_given stopped held writer_failures going.given (row_messages rows) old now after start d new
+          (given_is_sound next going.read (going.given ++ row_messages rows) (tells going.read going.given going.told)) going.output passes;
+    }
+
+-- what has passed stays so where the sink has taken what it had, and the source is the same
 pub going_flushed : {R F W : Type 0} (left : R → Option (List ℕ)) (reader_failures : R → ℕ) (at : F → Tool → List Message → List Message → Type 0)
-    (all_given : F → Bool) (stopped : F → Option ToolFault) (held : W → Option (List ℕ)) (writer_failures : W → ℕ) (first source : Source R)
+    (all_given : F → Bool) (stopped : F → Option ToolFault) (held : W → Option (List ℕ)) (writer_failures : W → ℕ) (first source source_now : Source R)
     (old now : List (FusedFilter F)) (start d new : Downstream W) (count : ℕ)
+    → source_now ≡ source
     → Going left reader_failures at all_given stopped held writer_failures first source old now start d count
     → ((form : Form) (begun : W) (messages : List Message) → HasTaken held writer_failures form begun messages d
     → HasTaken held writer_failures form begun messages new)
-    → Going left reader_failures at all_given stopped held writer_failures first source old now start new count
-going_flushed left reader_failures at all_given stopped held writer_failures first source old now start d new count going same = record {
-  read = going.read;
-  given = going.given;
-  consumed = going.consumed;
-  told = going.told;
-  end = going.end;
-  unread = going.unread;
-  many = going.many;
-  sound = going.sound;
-  output = record {
-    out = going.output.out;
-    stages = going.output.stages;
-    taken = λ form begun was. same form begun going.output.out (going.output.taken form begun was);
-  };
-}
+    → Going left reader_failures at all_given stopped held writer_failures first source_now old now start new count
+going_flushed left reader_failures at all_given stopped held writer_failures first source source_now old now start d new count same going flushes =
+    subst (λ (s : Source _). Going left reader_failures at all_given stopped held writer_failures first s old now start new count) (sym same)
+    (record {
+      read = going.read;
+      given = going.given;
+      consumed = going.consumed;
+      told = going.told;
+      end = going.end;
+      unread = going.unread;
+      many = going.many;
+      sound = going.sound;
+      output = record {
+        out = going.output.out;
+        stages = going.output.stages;
+        taken = λ form begun was. flushes form begun going.output.out (going.output.taken form begun was);
+      };
+    })
 
 -- the end of the stream
 pub fed_all : {R F W : Type 0} (left : R → Option (List ℕ)) (reader_failures : R → ℕ) (at : F → Tool → List Message → List Message → Type 0)
@@ -233,8 +265,22 @@ fed_until left reader_failures at all_given stopped held writer_failures first s
       output = going.output;
     }
 
+-- there was no memory for rows
+pub fed_until_rows : {R F W : Type 0} (left : R → Option (List ℕ)) (reader_failures : R → ℕ) (at : F → Tool → List Message → List Message → Type 0)
+    (all_given : F → Bool) (stopped : F → Option ToolFault) (held : W → Option (List ℕ)) (writer_failures : W → ℕ) (first source next : Source R)
+    (old new : List (FusedFilter F)) (start now : Downstream W) (messages : ℕ) (fault : InputFault)
+    → Going left reader_failures at all_given stopped held writer_failures first source old new start now messages
+    → fault ≡ Memory → Tells left source (Err fault) next → reader_of next ≡ reader_of source
+    → (SeesEnd left source → SeesEnd left next) → ((rest : List ℕ) → MayGive source rest → MayGive next rest)
+    → HasFed left reader_failures at all_given stopped held writer_failures first next (Err fault) old new start now
+fed_until_rows left reader_failures at all_given stopped held writer_failures first source next old new start now messages fault going memory t same end comes =
+    let no : fault ≡ ReadFailed → ⊥ = λ failed. let e : Memory ≡ ReadFailed = sym memory ∙ failed in absurd cc in
+    fed_until left reader_failures at all_given stopped held writer_failures first source next old new start now messages fault going t end
+    (λ sees byte more is rest. comes rest (going.unread (subst (λ r. HasMore (left r)) same (subst HasMore (sym is) tt)) rest))
+    (λ failed. absurd (no failed)) (λ failed. absurd (no failed)) (λ not. ap reader_failures same)
+
 -- a prefix is at most as long
-prefix_is_shorter : (given whole : List Message) (count : ℕ) → length given ≡ count → IsPrefixOf given whole → count ≤ length whole
+prefix_is_shorter : (given whole : List Message) (count : ℕ) → count ≤ length given → IsPrefixOf given whole → count ≤ length whole
 prefix_is_shorter given whole count many prefix = omega (arith, length-append given prefix.0, ap (λ (l : List Message). length l) prefix.1)
 
 -- the reader hasn't failed where its count is the same and as many messages came as a run takes

@@ -2,6 +2,7 @@ pub mod MessageSteps
 pub mod FormSteps
 pub mod DownstreamSteps
 pub mod RowSteps
+pub mod SoundSteps
 pub mod PassingSteps
 pub mod FaultSteps
 pub mod FeedingSteps

@@ -409,11 +409,11 @@ pub stages_answered : {R F W : Type 0} (left : R → Option (List ℕ)) (reader_
     (at : F → Tool → List Message → List Message → Type 0) (all_given : F → Bool) (stopped : F → Option ToolFault) (held : W → Option (List ℕ))
     (failures : W → ℕ) (source source_new : Source R) (result : Result (Unit {0}) InputFault) (old new : List (FusedFilter F)) (before after : Downstream W)
     (tools : List Tool)
-    → FiltersAt at all_given stopped old tools [] []
+    → AreLawfulTools tools → FiltersAt at all_given stopped old tools [] []
     → (fed : HasFed left reader_failures at all_given stopped held failures source source_new result old new before after)
     → HaveAnswered tools (refusals_in new) fed.given fed.output.out
-stages_answered left reader_failures at all_given stopped held failures source source_new result old new before after tools fresh fed =
-    have_answered at all_given stopped new tools fed.given fed.output.out (fed.output.stages tools fresh)
+stages_answered left reader_failures at all_given stopped held failures source source_new result old new before after tools lawful fresh fed =
+    have_answered at all_given stopped new tools fed.given fed.output.out (fed.output.stages tools lawful fresh)
 
 -- the end of the source's messages
 pub ran_of : {R F W : Type 0} (left : R → Option (List ℕ)) (reader_failures : R → ℕ)
@@ -425,7 +425,8 @@ pub ran_of : {R F W : Type 0} (left : R → Option (List ℕ)) (reader_failures 
     → (fed : HasFed left reader_failures at all_given stopped held failures source source_new result old new before after)
     → Ran held failures (output_of before) job fed.given fed.output.out after
 ran_of left reader_failures at all_given stopped held failures source source_new result old new before after job lawful fresh start fed =
-    let have = stages_answered left reader_failures at all_given stopped held failures source source_new result old new before after job.tools fresh fed in
+    let have = stages_answered left reader_failures at all_given stopped held failures source source_new result old new before after job.tools lawful fresh
+    fed in
     record {
       lawful = lawful;
       sound = fed.sound;

@@ -11,6 +11,7 @@ use Rattle.pnm_read.specs.declared.source.Source.{Source}
 use Rattle.pnm_read.specs.Said.{said_of, fault_of}
 use Rattle.pnm_read.specs.BufferedReaders.{IsOutsideFault}
 use Rattle.pnm_read.specs.Sources.{reader_of}
+use Rattle.pnm_tools.specs.Chains.{AreLawfulTools}
 use Rattle.pnm_tools.specs.ChainAnswers.{AreSound}
 use Rattle.pnm_tools.specs.declared.fault.ToolFault.{ToolFault}
 use Rattle.pnm_tools.specs.declared.tool.Tool.{Tool}
@@ -32,7 +33,7 @@ pub record HaveTaken {F W : Type 0} (at : F → Tool → List Message → List M
     (stopped : F → Option ToolFault) (held : W → Option (List ℕ)) (failures : W → ℕ)
     (given : List Message) (old new : List (FusedFilter F)) (before after : Downstream W) : Type 0 where
   pub out : List Message
-  pub stages : (tools : List Tool) → FiltersAt at all_given stopped old tools [] []
+  pub stages : (tools : List Tool) → AreLawfulTools tools → FiltersAt at all_given stopped old tools [] []
       → FiltersAt at all_given stopped new tools given out
   pub taken : (form : Form) (start : W) → HasTaken held failures form start [] before
       → HasTaken held failures form start out after

@@ -5,6 +5,8 @@ use Rattle.pnm_image.specs.declared.message.Message.{Message}
 use Rattle.pnm_tools.specs.declared.fault.ToolFault.{ToolFault}
 use Rattle.pnm_tools.specs.declared.tool.Tool.{Tool}
 use Rattle.pnm_tools.specs.declared.fused_filter.FusedFilter.{FusedFilter}
+use Rattle.pnm_tools.specs.Chains.{AreLawfulTools}
+use Rattle.pnm_tools.specs.ChainAnswers.{AreSound}
 use Rattle.pnm_tools.specs.FusedFilters.{FilterAt, refusal_in}
 use Rattle.pnm_serial.specs.declared.downstream.Downstream.{Downstream}
 use Rattle.pnm_serial.specs.Downstreams.{HasTaken}
@@ -19,13 +21,15 @@ FiltersAt at all_given stopped (stage ∷ stages) (tool ∷ tools) received give
     × FilterAt at all_given stopped stage tool received middle
     × FiltersAt at all_given stopped stages tools middle given
 
--- a message has passed through the stages, and the sink has taken what came of it
+-- messages have passed through the stages, where they may come, and the sink has taken what came of them
 pub record FeedsThrough {F W : Type 0} (at : F → Tool → List Message → List Message → Type 0) (all_given : F → Bool)
     (stopped : F → Option ToolFault) (held : W → Option (List ℕ)) (failures : W → ℕ)
-    (old : List (FusedFilter F)) (m : Message) (new : List (FusedFilter F)) (before after : Downstream W) : Type 0 where
+    (old : List (FusedFilter F)) (passed : List Message) (new : List (FusedFilter F)) (before after : Downstream W)
+    : Type 0 where
   pub more : List Message
-  pub stages : (tools : List Tool) (l g : List Message) → FiltersAt at all_given stopped old tools l g
-      → FiltersAt at all_given stopped new tools (l ++ m ∷ []) (g ++ more)
+  pub stages : (tools : List Tool) (l g : List Message) → AreLawfulTools tools → AreSound (l ++ passed)
+      → FiltersAt at all_given stopped old tools l g
+      → FiltersAt at all_given stopped new tools (l ++ passed) (g ++ more)
   pub taken : (form : Form) (start : W) (messages : List Message) → HasTaken held failures form start messages before
       → HasTaken held failures form start (messages ++ more) after
 

@@ -1,7 +1,7 @@
 //! What stands behind the tools of a run: the ring that their results come from, and what is written of them.
 
 ghost use Rattle.std.specs.Prelude.{◌≡◌, ◌⊎◌, [], ◌∷◌, ◌++◌, List, true, false};
-ghost use Rattle.pnm_stages.specs.Parcels.{messages_in};
+ghost use Rattle.pnm_image.specs.Parcels.{messages_in};
 ghost use Rattle.pnm_stages.specs.Rings.{received, sent, known_items, IsPair, SameSender, SameReceiver};
 ghost use Rattle.pnm_image.specs.declared.format.Form.{Form as FormValue};
 ghost use Rattle.pnm_image.specs.declared.message.Message.{Message as MessageValue};
@@ -10,9 +10,9 @@ ghost use Rattle.pnm_serial.specs.Downstreams.{output_of};
 
 use crate::downstream::Downstream;
 use crate::summary::count_image;
-use pnm_image::{BytesOut, Ending, Form, Message, Rows};
+use pnm_image::{BytesOut, Ending, Form, Message, Parcel, Rows};
 use pnm_read::SpareRows;
-use pnm_stages::{Parcel, Receiver, Sender};
+use pnm_stages::{Receiver, Sender};
 use pnm_write::WriteBuffer;
 use std::sync::Wait;
 

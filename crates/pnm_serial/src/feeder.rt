@@ -14,13 +14,15 @@ use std::sync::Wait;
 /// So many messages are sent in a turn at most, beside the first.
 const MOST_MESSAGES: u32 = 64;
 
-/// Of which images a feeder sends the rows together that its source holds whole, by how they are held.
+/// Of which images the rows are passed on together that a source holds whole, by how they are held.
 #[derive(Clone, Copy)]
 pub struct JoinedRows {
     /// Of those of bits.
     pub bits: bool,
     /// Of those of bytes.
     pub bytes: bool,
+    /// Of those of samples of two bytes.
+    pub words: bool,
 }
 
 /// The source of a run, and the ring that its messages go into.
@@ -226,9 +228,9 @@ impl<R: BytesIn + Drop> Feeder<R> {
     }
 }
 
-/// Whether the rows that come after the message are sent together, where those before it are or not: of an image that
-/// has several.
-fn joins_next(joined: JoinedRows, joins_rows: bool, message: &Message) -> bool {
+/// Whether the rows that come after the message are passed on together, where those before it are or not: of an image
+/// that has several.
+pub fn joins_next(joined: JoinedRows, joins_rows: bool, message: &Message) -> bool {
     match message {
         Message::Begin(head) => {
             let shape = head.shape();
@@ -236,7 +238,7 @@ fn joins_next(joined: JoinedRows, joins_rows: bool, message: &Message) -> bool {
                 && match SampleWidth::of(shape.kind, shape.maxval) {
                     SampleWidth::Bits => joined.bits,
                     SampleWidth::Bytes => joined.bytes,
-                    SampleWidth::Words => false,
+                    SampleWidth::Words => joined.words,
                 }
         }
         Message::Row(_) => joins_rows,

@@ -1,28 +1,101 @@
-//! A message through the tools of a chain, in one thread.
+//! What is handed over at once through the tools of a chain, in one thread.
 
+ghost use Rattle.std.specs.Prelude.{◌∷◌, [], ◌<◌, length};
+ghost use Rattle.pnm_image.specs.Parcels.{messages_in};
+ghost use Rattle.pnm_image.specs.Rows.{row_messages};
 ghost use Rattle.pnm_serial.specs.Downstreams.{output_of};
 ghost use Rattle.pnm_serial.specs.SerialChains.{FeedsThrough};
 
 use crate::downstream::Downstream;
-use pnm_image::{BytesOut, Message};
+use pnm_image::{BytesOut, Message, Parcel, Rows};
 use pnm_tools::{Filter, FusedFilter};
+use std::alloc::Global;
 
-/// Passes a message through the filters, and writes what the last of them gives.
+/// Passes a message, or rows together, through the filters, and writes what the last of them gives. Rows stay together
+/// as far as each filter takes them so.
+#[cycle(through)]
 pub fn feed_through<F: Filter + Drop, W: BytesOut + Drop>(
+    alloc: Global,
+    stages: &mut [FusedFilter<F>],
+    parcel: Parcel,
+    downstream: &mut Downstream<W>,
+)
+    ensures fed { FeedsThrough F.at F.all_given F.stopped W.held W.failures
+        stages.old (messages_in parcel) stages.new downstream.old downstream.new }
+    ensures same_device { W.same (output_of downstream.old) (output_of downstream.new) }
+{
+    if stages.is_empty() {
+        downstream.put_parcel(&parcel);
+        drop(parcel);
+        return;
+    }
+    match parcel {
+        Parcel::Message(message) => feed(alloc, stages, message, downstream),
+        Parcel::Rows(rows) => feed_rows(alloc, stages, rows, downstream),
+    }
+}
+
+/// Feeds the first filter a message, and passes what it gives through the others.
+#[cycle(through)]
+fn feed<F: Filter + Drop, W: BytesOut + Drop>(
+    alloc: Global,
     stages: &mut [FusedFilter<F>],
     message: Message,
     downstream: &mut Downstream<W>,
 )
+    requires some { 0 < length stages.old }
     ensures fed { FeedsThrough F.at F.all_given F.stopped W.held W.failures
-        stages.old message stages.new downstream.old downstream.new }
+        stages.old (message ∷ []) stages.new downstream.old downstream.new }
     ensures same_device { W.same (output_of downstream.old) (output_of downstream.new) }
 {
-    if stages.is_empty() {
-        downstream.put(&message);
-        return;
-    }
     stages[0].feed(message);
     while let Some(answer) = stages[0].next() {
-        feed_through(&mut stages[1..], answer, downstream);
+        feed_through(alloc, &mut stages[1..], answer, downstream);
+    }
+}
+
+/// Passes the first filter rows, together if it takes them so, and what it gives through the others.
+#[inline(never)]
+#[cycle(through)]
+fn feed_rows<F: Filter + Drop, W: BytesOut + Drop>(
+    alloc: Global,
+    stages: &mut [FusedFilter<F>],
+    rows: Rows,
+    downstream: &mut Downstream<W>,
+)
+    requires some { 0 < length stages.old }
+    ensures fed { FeedsThrough F.at F.all_given F.stopped W.held W.failures
+        stages.old (row_messages rows) stages.new downstream.old downstream.new }
+    ensures same_device { W.same (output_of downstream.old) (output_of downstream.new) }
+{
+    match stages[0].pass_rows(rows) {
+        Ok(Some(made)) => {
+            feed_through(alloc, &mut stages[1..], Parcel::of_rows(made), downstream);
+        }
+        Ok(None) => {}
+        Err(rows) => feed_each(alloc, stages, &rows, downstream),
+    }
+}
+
+/// Feeds the first filter each of the rows by itself, and passes what it gives through the others. Each is copied:
+/// without memory for that the filter refuses by `Memory`.
+#[cycle(through)]
+fn feed_each<F: Filter + Drop, W: BytesOut + Drop>(
+    alloc: Global,
+    stages: &mut [FusedFilter<F>],
+    rows: &Rows,
+    downstream: &mut Downstream<W>,
+)
+    requires some { 0 < length stages.old }
+    ensures fed { FeedsThrough F.at F.all_given F.stopped W.held W.failures
+        stages.old (row_messages rows.now) stages.new downstream.old downstream.new }
+    ensures same_device { W.same (output_of downstream.old) (output_of downstream.new) }
+{
+    for at in 0..rows.count() {
+        let Ok(row) = rows.row(alloc, at) else {
+            stages[0].refuse_for_memory();
+            return;
+        };
+        feed(alloc, stages, Message::Row(row), downstream);
     }
 }

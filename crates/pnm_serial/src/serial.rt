@@ -15,22 +15,25 @@ ghost use Rattle.pnm_serial.specs.Feeding.{HasFed};
 use crate::buffers::Buffers;
 use crate::downstream::Downstream;
 use crate::fault::RunFault;
+use crate::feeder::{JoinedRows, joins_next};
 use crate::passing::feed_through;
 use crate::summary::Summary;
-use pnm_image::{BytesIn, BytesOut, Form};
+use pnm_image::{BytesIn, BytesOut, Form, Parcel};
 use pnm_read::{InputFault, Source, SpareRows};
 use pnm_tools::{Filter, FusedFilter, ToolFault};
 use pnm_write::SinkFault;
 use std::alloc::Global;
 
 /// Reads the images of the reader, passes them through the tools that these filters are, each before its first message,
-/// and writes what comes out in the form, as `run_serial` does once it has made them.
+/// and writes what comes out in the form, as `run_serial` does once it has made them. Of the images that are named it
+/// passes those rows on together that the source holds whole.
 pub fn run_filters<R: BytesIn, F: Filter + Drop, W: BytesOut>(
     alloc: Global,
     reader: &mut R,
     writer: &mut W,
     stages: &mut [FusedFilter<F>],
     form: Form,
+    joined: JoinedRows,
 ) -> Result<Summary, RunFault>
     ensures ran { (tools : List ToolValue) → AreLawfulTools tools
         → FiltersAt F.at F.all_given F.stopped stages.old tools [] []
@@ -45,7 +48,7 @@ pub fn run_filters<R: BytesIn, F: Filter + Drop, W: BytesOut>(
     };
     let mut source = Source::with_buffer(read, &mut *reader);
     let mut downstream = Downstream::new(write, &mut *writer, form);
-    let input = feed_all(alloc, &mut source, stages, &mut downstream);
+    let input = feed_all(alloc, &mut source, joined, stages, &mut downstream);
     let read = source.into_reader();
     let (written, output) = downstream.finish();
     // No effect at run time. The proof reads from these uses what the two devices hold.
@@ -82,11 +85,13 @@ fn first_fault<F: Filter + Drop>(stages: &[FusedFilter<F>]) -> Option<(usize, To
     None
 }
 
-/// Passes on all messages of the source, through to its end or its fault. After `u64::MAX` of them
-/// it answers `ReadFailed`.
+/// Passes on all messages of the source, through to its end or its fault; rows that are to be joined it passes on
+/// together, as far as the source holds them whole. After it has asked for `u64::MAX` messages or rows together it
+/// answers `ReadFailed`.
 fn feed_all<R: BytesIn, F: Filter + Drop, W: BytesOut + Drop>(
     alloc: Global,
     source: &mut Source<R>,
+    joined: JoinedRows,
     stages: &mut [FusedFilter<F>],
     downstream: &mut Downstream<W>,
 ) -> Result<(), InputFault>
@@ -97,10 +102,22 @@ fn feed_all<R: BytesIn, F: Filter + Drop, W: BytesOut + Drop>(
     ensures same_writer { W.same (output_of downstream.old) (output_of downstream.new) }
 {
     let mut spares = SpareRows::none(alloc);
+    let mut joins_rows = false;
     for _ in 0..u64::MAX {
         flush_before_read(source, downstream);
+        if joins_rows {
+            if let Some(rows) = source.next_rows(&mut spares)? {
+                // Each turn passes something on.
+                prove!(rows.count() > 0);
+                feed_through(alloc, stages, Parcel::Rows(rows), downstream);
+                continue;
+            }
+        }
         match source.next(&mut spares)? {
-            Some(message) => feed_through(stages, message, downstream),
+            Some(message) => {
+                joins_rows = joins_next(joined, joins_rows, &message);
+                feed_through(alloc, stages, Parcel::Message(message), downstream);
+            }
             None => return Ok(()),
         }
     }

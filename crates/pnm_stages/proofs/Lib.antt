@@ -5,4 +5,4 @@ pub mod PrefixLaws
 mod LongestPrefixes
 pub mod SendingSteps
 pub mod StagedSteps
-mod PassingSteps
+pub mod PassingSteps

@@ -10,11 +10,12 @@ use Rattle.pnm_image.specs.declared.message.Ending.{Ending}
 use Rattle.pnm_image.specs.Messages.{IsMessage, EndsBy}
 use Rattle.pnm_image.specs.Rows.{row_messages}
 use Rattle.pnm_tools.proofs.InFullLaws.{ends_after}
-use Rattle.pnm_stages.specs.declared.parcel.Parcel.{Parcel}
-use Rattle.pnm_stages.specs.declared.parcel.Parcel.TheVariants.{Message as One, Rows as Together}
+use Rattle.pnm_image.specs.declared.parcel.Parcel.{Parcel}
+use Rattle.pnm_image.specs.declared.parcel.Parcel.TheVariants.{Message as One, Rows as Together}
 use Rattle.pnm_tools.proofs.SoundLaws.{both_all}
 use Rattle.pnm_stages.specs.Rings.{Extends, IsEnded}
-use Rattle.pnm_stages.specs.Parcels.{messages_in, messages_of, ending_of_parcel}
+use Rattle.pnm_image.specs.Parcels.{messages_in, ending_of_parcel}
+use Rattle.pnm_stages.specs.Parcels.{messages_of}
 use Rattle.pnm_stages.proofs.RingSteps.{ends_nothing, ends_with}
 
 -- no parcels

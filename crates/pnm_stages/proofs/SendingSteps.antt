@@ -1,5 +1,5 @@
 -- What a tool at work sends, answer by answer.
-use Rattle.std.proofs.Common.{◌≡◌, Bool, true, false, List, [], ◌∷◌, ◌++◌, Option, sym, ap, subst, ◌∙◌, append_assoc, append-nil}
+use Rattle.std.proofs.Common.{◌≡◌, Bool, true, false, List, [], ◌++◌, Option, sym, ap, subst, ◌∙◌, append_assoc, append-nil}
 use Rattle.pnm_image.specs.declared.message.Message.{Message}
 use Rattle.pnm_tools.specs.declared.fault.ToolFault.{ToolFault}
 use Rattle.pnm_tools.specs.declared.tool.Tool.{Tool}
@@ -30,15 +30,15 @@ pub sends_nothing_yet : {F : Type 0} (at : F → Tool → List Message → List 
 sends_nothing_yet at stopped stage s =
     record { more = []; added = sym (append-nil s); busy = λ tool l g busy. subst (FilterBusy at stopped stage tool l) (sym (append-nil g)) busy }
 
--- one answer more was sent
-pub sends_on : {F : Type 0} (at : F → Tool → List Message → List Message → Type 0) (stopped : F → Option ToolFault) (old now next : FusedFilter F) (m : Message)
-    (s s_now s_new : List Message) → IsSending at stopped old now s s_now
-    → ((tool : Tool) (l g : List Message) → FilterBusy at stopped now tool l g → FilterBusy at stopped next tool l (g ++ m ∷ [])) → s_new ≡ s_now ++ m ∷ []
+-- an answer more was sent: a message, or rows together
+pub sends_on : {F : Type 0} (at : F → Tool → List Message → List Message → Type 0) (stopped : F → Option ToolFault) (old now next : FusedFilter F)
+    (m s s_now s_new : List Message) → IsSending at stopped old now s s_now
+    → ((tool : Tool) (l g : List Message) → FilterBusy at stopped now tool l g → FilterBusy at stopped next tool l (g ++ m)) → s_new ≡ s_now ++ m
     → IsSending at stopped old next s s_new
 sends_on at stopped old now next m s s_now s_new sending gives added = record {
-  more = sending.more ++ m ∷ [];
-  added = added ∙ ap (λ (x : List Message). x ++ m ∷ []) sending.added ∙ append_assoc s sending.more (m ∷ []);
-  busy = λ tool l g busy. subst (FilterBusy at stopped next tool l) (append_assoc g sending.more (m ∷ []))
+  more = sending.more ++ m;
+  added = added ∙ ap (λ (x : List Message). x ++ m) sending.added ∙ append_assoc s sending.more m;
+  busy = λ tool l g busy. subst (FilterBusy at stopped next tool l) (append_assoc g sending.more m)
       (gives tool l (g ++ sending.more) (sending.busy tool l g busy));
 }
 

@@ -27,8 +27,8 @@ use Rattle.pnm_stages.specs.StageParts.{HasAnsweredPart, HasPassed, HasBrokenOff
 use Rattle.pnm_tools.specs.Tools.{output_due}
 use Rattle.pnm_tools.proofs.InFullLaws.{ends_after}
 use Rattle.pnm_tools.proofs.SoundLaws.{both_all}
-use Rattle.pnm_stages.specs.declared.parcel.Parcel.{Parcel}
-use Rattle.pnm_stages.specs.Parcels.{messages_in, ending_of_parcel}
+use Rattle.pnm_image.specs.declared.parcel.Parcel.{Parcel}
+use Rattle.pnm_image.specs.Parcels.{messages_in, ending_of_parcel}
 use Rattle.pnm_stages.proofs.ParcelLaws.{ends_with_parcel}
 use Rattle.pnm_stages.proofs.RingSteps.{ends_nothing}
 use Rattle.pnm_stages.proofs.EndingLaws.{prefix_goes_on, ends_stream}

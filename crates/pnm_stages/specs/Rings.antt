@@ -8,7 +8,7 @@ use Rattle.pnm_image.specs.declared.message.Ending.TheVariants.{More, Whole, Bro
 use Rattle.rtrb.specs.Ring.{sent as sent_on, received as received_on, known_items as known_items_on}
 use Rattle.rtrb.specs.Ring.{known_free as known_free_on, IsPair as AreEndsOfRing, SameProducer as IsSameSendingEnd}
 use Rattle.rtrb.specs.Ring.{SameConsumer as IsSameReceivingEnd}
-use Rattle.pnm_stages.specs.declared.parcel.Parcel.{Parcel}
+use Rattle.pnm_image.specs.declared.parcel.Parcel.{Parcel}
 use Rattle.pnm_stages.specs.declared.sender.Sender.{Sender}
 use Rattle.pnm_stages.specs.declared.receiver.Receiver.{Receiver}
 use Rattle.pnm_stages.specs.Parcels.{messages_of}

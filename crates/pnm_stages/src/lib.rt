@@ -4,7 +4,6 @@
 
 mod branches;
 pub mod laws;
-mod parcel;
 mod receiver;
 mod ring;
 mod sender;
@@ -12,7 +11,6 @@ mod stage;
 mod wakers;
 
 pub use branches::{Call, Idle, NoStart, Task, run_both};
-pub use parcel::Parcel;
 pub use receiver::Receiver;
 pub use ring::{AnyMessage, MAX_RING_CAPACITY, new_ring};
 pub use sender::Sender;

@@ -5,14 +5,14 @@ ghost use Rattle.std.specs.List.{AllByRecursion};
 ghost use Rattle.pnm_image.specs.Messages.{IsMessage};
 ghost use Rattle.pnm_stages.specs.Rings.{sent, received, known_items, IsPair, SameSender, SameReceiver, HasDrained};
 ghost use Rattle.pnm_stages.specs.Rings.{known_parcels, HasDrainedAfter};
-ghost use Rattle.pnm_stages.specs.Parcels.{messages_in, BeginsByNoMessage};
-ghost use Rattle.pnm_stages.specs.declared.parcel.Parcel.{Parcel as ParcelValue};
+ghost use Rattle.pnm_image.specs.Parcels.{messages_in};
+ghost use Rattle.pnm_stages.specs.Parcels.{BeginsByNoMessage};
+ghost use Rattle.pnm_image.specs.declared.parcel.Parcel.{Parcel as ParcelValue};
 
-use crate::parcel::Parcel;
 use crate::ring::AnyMessage;
 use crate::sender::Sender;
 use crate::wakers::ReceiverWaker;
-use pnm_image::{Ending, Message};
+use pnm_image::{Ending, Message, Parcel};
 use rtrb::Consumer;
 use std::alloc::Global;
 use std::sync::Wait;

@@ -3,10 +3,10 @@
 ghost use Rattle.std.specs.Prelude.{◌≡◌, [], IfSome};
 ghost use Rattle.pnm_stages.specs.Rings.{sent, received, IsPair};
 
-use crate::parcel::Parcel;
 use crate::receiver::Receiver;
 use crate::sender::Sender;
 use crate::wakers::new_wakers;
+use pnm_image::Parcel;
 use rtrb::{Protocol, RingBuffer};
 use std::alloc::Global;
 

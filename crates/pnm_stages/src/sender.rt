@@ -2,13 +2,12 @@
 
 ghost use Rattle.std.specs.Prelude.{◌≡◌, ◌<◌, [], ◌∷◌, ◌++◌, IsTrue, IsFalse};
 ghost use Rattle.pnm_image.specs.Rows.{row_messages};
-ghost use Rattle.pnm_stages.specs.Parcels.{messages_in};
+ghost use Rattle.pnm_image.specs.Parcels.{messages_in};
 ghost use Rattle.pnm_stages.specs.Rings.{sent, known_free, SameSender};
 
-use crate::parcel::Parcel;
 use crate::ring::AnyMessage;
 use crate::wakers::SenderWaker;
-use pnm_image::{Message, Rows, SampleSlice};
+use pnm_image::{Message, Parcel, Rows, SampleSlice, Samples};
 use rtrb::Producer;
 use std::alloc::Global;
 use std::sync::Wait;
@@ -27,6 +26,9 @@ const BYTES_PER_PLACE: usize = 16_384;
 
 /// But for so many rows, however wide, so that the threads at both ends have something to do.
 const LEAST_ROWS: usize = 2;
+
+/// Rows together of no more bytes are soon made, since their bytes are copied alone: they are short as well.
+const FEW_TOGETHER: usize = 4_096;
 
 /// The sending end of a ring of messages. Once it goes, the thread at the receiving end is woken, and sees that.
 #[derive(Drop)]
@@ -69,8 +71,9 @@ impl Sender {
     }
 
     /// From now on the sending end of that ring, the home of this ring's receiver, is woken, too, before this end's
-    /// thread sleeps for want of room. The thread at the receiving end sends on that ring, and so it may sleep there
-    /// while this ring is full. False, and nobody else is woken, where that ring's wakers have too many owners.
+    /// thread sleeps for want of room, where it ends the stream, and once this end goes. The thread at the receiving
+    /// end sends on that ring, and so it may sleep there while this ring is full, or has all that will come. False, and
+    /// nobody else is woken, where that ring's wakers have too many owners.
     pub fn set_home(&mut self, home: &Sender) -> bool
         ensures ring { SameSender self.old self.new }
         ensures sent { sent self.new ≡ sent self.old }
@@ -143,6 +146,8 @@ impl Sender {
             if bytes < SHORT && self.unwoken < self.messages_per_wake {
                 return;
             }
+        } else {
+            self.waker.wake_home();
         }
         self.wake_receiver();
     }
@@ -176,6 +181,21 @@ impl Sender {
         true
     }
 
+    /// Sends the parcel, once there is room; false, and the parcel is lost, where there is none and the receiving end
+    /// was seen dropped.
+    #[inline(always)]
+    pub fn send_parcel<R: Wait>(&mut self, rt: &R, parcel: Parcel) -> bool
+        ensures ring { SameSender self.old self.new }
+        ensures given { IsTrue result → sent self.new ≡ sent self.old ++ messages_in parcel }
+        ensures gone { IsFalse result → sent self.new ≡ sent self.old }
+    {
+        let room = self.has_room() || self.wait_for_room(rt);
+        if room {
+            self.push(parcel);
+        }
+        room
+    }
+
     /// Waits until there is room; false where there is none and the receiving end was seen dropped. It stands apart
     /// from `send`, which mostly finds room.
     #[inline(never)]
@@ -202,22 +222,36 @@ impl Sender {
         ensures sent { sent self.new ≡ sent self.old }
     {
         self.wake_receiver();
+        self.sleep(rt);
+    }
+
+    /// One turn of waiting at this end for something else than room, as for the senders that have it as their home. It
+    /// wakes nobody for messages that were held back.
+    pub fn sleep<R: Wait>(&self, rt: &R) {
         self.waker.sleep(rt);
     }
 }
 
-/// The bytes that a message's samples take, and 0 of rows together, which are soon made, as their bytes are copied
-/// alone; none of one that ends the stream, which is waited for.
+/// The bytes that a parcel's samples take, and 0 of few rows together; none of a message that ends the stream, which is
+/// waited for.
 fn bytes_of(parcel: &Parcel) -> Option<usize> {
     match parcel {
-        Parcel::Message(Message::Row(row)) => Some(match row.as_slice() {
-            SampleSlice::Bits(bits) => bits.as_bytes().len(),
-            SampleSlice::Bytes(bytes) => bytes.len(),
-            SampleSlice::Words(words) => words.len().saturating_mul(2),
-        }),
-        Parcel::Rows(_) => Some(0),
+        Parcel::Message(Message::Row(row)) => Some(held_bytes(row)),
+        Parcel::Rows(rows) => match held_bytes(rows.samples()) {
+            0..=FEW_TOGETHER => Some(0),
+            bytes => Some(bytes),
+        },
         Parcel::Message(Message::Begin(_) | Message::ImageEnd) => Some(0),
         Parcel::Message(Message::StreamEnd | Message::Stop) => None,
+    }
+}
+
+/// The bytes in which the samples are held.
+fn held_bytes(samples: &Samples) -> usize {
+    match samples.as_slice() {
+        SampleSlice::Bits(bits) => bits.as_bytes().len(),
+        SampleSlice::Bytes(bytes) => bytes.len(),
+        SampleSlice::Words(words) => words.len().saturating_mul(2),
     }
 }
 

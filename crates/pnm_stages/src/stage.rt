@@ -3,16 +3,15 @@
 ghost use Rattle.std.specs.Prelude.{◌≡◌, ◌<◌, [], length, IsTrue, IsFalse};
 ghost use Rattle.pnm_image.specs.Rows.{row_messages};
 ghost use Rattle.pnm_tools.specs.declared.tool.Tool.{Tool as ToolValue};
-ghost use Rattle.pnm_stages.specs.Parcels.{messages_in};
+ghost use Rattle.pnm_image.specs.Parcels.{messages_in};
 ghost use Rattle.pnm_stages.specs.Rings.{sent, received, known_items, known_parcels, SameSender, SameReceiver};
 ghost use Rattle.pnm_tools.specs.FusedFilters.{FilterAt};
 ghost use Rattle.pnm_stages.specs.Stages.{HasRunStage};
 ghost use Rattle.pnm_stages.specs.StageParts.{HasPassed, HasSentAnswers, HasBrokenOffAfter};
 
-use crate::parcel::Parcel;
 use crate::receiver::Receiver;
 use crate::sender::Sender;
-use pnm_image::{Ending, Message, Rows};
+use pnm_image::{Ending, Message, Parcel, Rows};
 use pnm_tools::{Filter, FusedFilter, ToolFault};
 use std::alloc::Global;
 use std::sync::Wait;
@@ -189,7 +188,8 @@ fn pass_rows<R: Wait, F: Filter + Drop>(
         (sent output.old) (sent output.new) }
 {
     match stage.pass_rows(rows) {
-        Ok(made) => output.send_rows(rt, made),
+        Ok(Some(made)) => output.send_parcel(rt, Parcel::of_rows(made)),
+        Ok(None) => true,
         Err(rows) => pass_each(rt, alloc, stage, &rows, output),
     }
 }
@@ -232,7 +232,7 @@ fn send_answers<R: Wait, F: Filter + Drop>(
         (sent output.new) }
 {
     while let Some(answer) = stage.next() {
-        if !output.send(rt, answer) {
+        if !output.send_parcel(rt, answer) {
             return false;
         }
         if stage.gave_all() {

@@ -11,7 +11,8 @@ const LONGEST_SLEEP: u64 = 400;
 
 /// What the thread at one end of a ring sleeps by. While messages flow, the thread at the other end alone wakes it: so
 /// to wake a thread at work costs an exchange on a cache line that no other thread writes, since it shares that with
-/// nothing. The thread that has it as a home (`SenderWaker::set_home`) wakes it only before it sleeps itself.
+/// nothing. The threads that have it as a home (`SenderWaker::set_home`) wake it only before they sleep themselves, and
+/// once their stream ends.
 #[derive(Drop)]
 struct Waker {
     _before: [u64; 7],
@@ -46,7 +47,8 @@ struct Wakers {
     receiver: Waker,
 }
 
-/// What the sending end has of its ring's wakers. Once it goes, the thread at the receiving end is woken.
+/// What the sending end has of its ring's wakers. Once it goes, the thread at the receiving end is woken, and at its
+/// home too.
 pub struct SenderWaker {
     wakers: Arc<Wakers>,
     /// Those of the ring at whose sending end the thread at the receiving end may sleep as well.
@@ -73,7 +75,7 @@ pub fn new_wakers(alloc: Global) -> Option<(SenderWaker, ReceiverWaker)> {
 
 impl SenderWaker {
     /// From now on the thread at the receiving end, which sends on that ring too, is woken there as well before this
-    /// end's thread sleeps. False where as many share that ring's wakers as may.
+    /// end's thread sleeps, and once this end goes. False where as many share that ring's wakers as may.
     pub fn set_home(&mut self, home: &SenderWaker) -> bool {
         self.home = Arc::try_clone(&home.wakers).ok();
         self.home.is_some()
@@ -81,10 +83,15 @@ impl SenderWaker {
 
     /// Sleeps until the thread at the receiving end wakes this one; not at all where it did since the last sleep.
     pub fn sleep<R: Wait>(&self, rt: &R) {
+        self.wake_home();
+        self.wakers.sender.sleep(rt);
+    }
+
+    /// Wakes the thread at the receiving end where it sleeps at its home, if it has one.
+    pub fn wake_home(&self) {
         if let Some(home) = &self.home {
             home.sender.wake();
         }
-        self.wakers.sender.sleep(rt);
     }
 
     /// Wakes the thread at the receiving end.
@@ -95,6 +102,7 @@ impl SenderWaker {
 
 impl Drop for SenderWaker {
     fn drop(self) {
+        self.wake_home();
         self.wake_receiver();
         let SenderWaker { wakers: _, home: _ } = self;
     }

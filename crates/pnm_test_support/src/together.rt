@@ -1,9 +1,9 @@
 //! Rows that are handed over together. They are written, and told, one after another between braces.
 
 use super::messages::{Unmade, held_by, messages_of};
-use super::telling::tell_row;
+use super::telling::{tell_message, tell_row};
 use super::writing::cut_at;
-use pnm_image::{Message, Rows, Samples};
+use pnm_image::{Message, Parcel, Rows, Samples};
 use std::alloc::{AllocError, Global};
 
 /// What is handed over at once.
@@ -87,9 +87,23 @@ fn cut_into(samples: Samples, count: usize, row_length: usize) -> Result<Rows, U
 /// Adds the rows, between braces.
 pub fn tell_rows(alloc: Global, told: &mut String, rows: &Rows) -> Result<(), AllocError> {
     told.push_str(" {")?;
+    tell_each_row(alloc, told, rows)?;
+    told.push_str(" }")
+}
+
+/// Adds the rows, each as a row by itself is told.
+pub fn tell_each_row(alloc: Global, told: &mut String, rows: &Rows) -> Result<(), AllocError> {
     for at in 0..rows.count() {
         let row = rows.row(alloc, at)?;
         tell_row(told, &row)?;
     }
-    told.push_str(" }")
+    Ok(())
+}
+
+/// Adds what is handed over at once, rows that are handed over together between braces.
+pub fn tell_parcel(alloc: Global, told: &mut String, parcel: &Parcel) -> Result<(), AllocError> {
+    match parcel {
+        Parcel::Message(message) => tell_message(told, message),
+        Parcel::Rows(rows) => tell_rows(alloc, told, rows),
+    }
 }

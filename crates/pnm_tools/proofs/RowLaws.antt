@@ -8,7 +8,7 @@ use Rattle.std.proofs.lemmas.List.FromFn.{get_or-map-range_with_len, length-map-
 use Rattle.pnm_image.specs.declared.shape.Shape.{Shape}
 use Rattle.pnm_image.specs.Images.{cut_rows}
 use Rattle.pnm_tools.specs.declared.tool.Tool.{Tool}
-use Rattle.pnm_tools.specs.Answering.{AreRowAnswers}
+use Rattle.pnm_tools.specs.Answering.{rows_answer}
 use Rattle.pnm_tools.specs.declared.cut.CutBox.{CutBox}
 use Rattle.pnm_tools.specs.declared.flip.FlipWay.{FlipWay}
 use Rattle.pnm_tools.specs.declared.tool.Tool.TheVariants.{Invert, Cut, Depth, Channel, Enlarge, Flip}
@@ -47,14 +47,14 @@ row_of_flip way s y row = refl
 -- rows that are changed sample by sample, all at once, where each is answered by the row so changed
 pub changed_rows : (tool : Tool) (s : Shape) (f : ℕ → ℕ) (y count each : ℕ) (samples : List ℕ)
     → ((k : ℕ) (row : List ℕ) → row_answer tool s k row ≡ map f row ∷ [])
-    → AreRowAnswers tool s y (cut_rows count each samples) (cut_rows count each (map f samples))
-changed_rows tool s f y zero each samples answers = tt
+    → rows_answer tool s y (cut_rows count each samples) ≡ cut_rows count each (map f samples)
+changed_rows tool s f y zero each samples answers = refl
 changed_rows tool s f y (suc count) each samples answers =
-    let rest : List ℕ = drop each samples in (
-      answers y (take each samples) ∙ ap (λ (row : List ℕ). row ∷ []) (sym (take-map f each samples)),
-      subst (λ (l : List ℕ). AreRowAnswers tool s (y + 1) (cut_rows count each rest) (cut_rows count each l)) (sym (drop-map f each samples))
-          (changed_rows tool s f (y + 1) count each rest answers),
-    )
+    let rest : List ℕ = drop each samples in
+    ap (λ (l : List (List ℕ)). l ++ rows_answer tool s (y + 1) (cut_rows count each rest))
+    (answers y (take each samples) ∙ ap (λ (row : List ℕ). row ∷ []) (sym (take-map f each samples)))
+    ∙ ap (λ (l : List (List ℕ)). take each (map f samples) ∷ l)
+    (changed_rows tool s f (y + 1) count each rest answers ∙ ap (cut_rows count each) (sym (drop-map f each samples)))
 
 -- a row that is changed in place, sample by sample
 pub changed_in_place : (g : ℕ → ℕ) (row items lent new : List ℕ) (len : ℕ) → new ≡ map g lent → lent ≡ items → items ≡ row → len ≡ length items

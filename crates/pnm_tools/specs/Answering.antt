@@ -14,13 +14,15 @@ abbrev pub row_list : Option (List ℕ) → List (List ℕ)
 row_list None = []
 row_list (Some row) = row ∷ []
 
--- each of the rows of an image of this shape, from row y on, is answered by the row that stands in its place
-abbrev pub AreRowAnswers : Tool → Shape → ℕ → List (List ℕ) → List (List ℕ) → Type 0
-AreRowAnswers tool s y [] [] = Unit {0}
-AreRowAnswers tool s y [] (m ∷ made) = ⊥
-AreRowAnswers tool s y (row ∷ rows) [] = ⊥
-AreRowAnswers tool s y (row ∷ rows) (m ∷ made) = (row_answer tool s y row ≡ m ∷ []) × AreRowAnswers tool s (y + 1) rows
-    made
+-- rows that are handed over together, or none
+abbrev pub rows_list : Option (List (List ℕ)) → List (List ℕ)
+rows_list None = []
+rows_list (Some rows) = rows
+
+-- the rows that answer rows of an image of this shape, from row y on
+abbrev pub rows_answer : Tool → Shape → ℕ → List (List ℕ) → List (List ℕ)
+rows_answer tool s y [] = []
+rows_answer tool s y (row ∷ rows) = row_answer tool s y row ++ rows_answer tool s (y + 1) rows
 
 -- the rows of an image that have come, with a message more
 abbrev pub rows_after : List (List ℕ) → Message → List (List ℕ)

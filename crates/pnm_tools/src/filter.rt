@@ -1,7 +1,7 @@
 //! What a tool is to those who run it: a filter of messages.
 
 ghost use Rattle.std.specs.Prelude.{◌≡◌, ℕ, ◌<◌, List, [], ◌∷◌, ◌++◌, Bool, true, false, Option, Some, None, OnOk};
-ghost use Rattle.std.specs.Prelude.{IfOk, IfErr, IfSome, IfNone, Err, length};
+ghost use Rattle.std.specs.Prelude.{IfOk, IfErr, IfSome, IfNone, Err};
 ghost use Rattle.pnm_image.specs.declared.message.Message.{Message as MessageValue};
 ghost use Rattle.pnm_image.specs.declared.message.Message.TheVariants.{Stop};
 ghost use Rattle.pnm_tools.specs.declared.fault.ToolFault.{ToolFault as Fault};
@@ -9,11 +9,13 @@ ghost use Rattle.pnm_tools.specs.declared.fault.ToolFault.TheVariants.{Memory};
 ghost use Rattle.pnm_tools.specs.declared.tool.Tool.{Tool as ToolValue};
 ghost use Rattle.pnm_image.specs.declared.message.Ending.TheVariants.{More, BrokenOff};
 ghost use Rattle.pnm_image.specs.Messages.{EndsBy};
+ghost use Rattle.pnm_image.specs.Parcels.{messages_in};
 ghost use Rattle.pnm_image.specs.Rows.{row_messages};
+ghost use Rattle.pnm_tools.specs.Answering.{rows_list};
 ghost use Rattle.pnm_tools.specs.Answers.{Answers, AnswersInFull, Judges};
 
 use crate::fault::ToolFault;
-use pnm_image::{Message, Rows};
+use pnm_image::{Message, Parcel, Rows};
 
 /// A tool at work: it takes the messages of images one by one, and gives those of their results.
 ///
@@ -51,18 +53,18 @@ pub trait Filter {
         ensures goes_on { OnOk result ((stopped self.old ≡ None) × (stopped self.new ≡ None)) }
         ensures stays { (k : Fault) → stopped self.old ≡ Some k → result ≡ Err k };
 
-    /// The next message of the results, or `None` where all that is owed was given. After a fault it
-    /// is answered for good. The only fault that begins here is `Memory`, and not once the end of the
-    /// stream or Stop was given.
-    fn next(&mut self) -> Result<Option<Message>, ToolFault>
+    /// The next message of the results, or rows of them that follow one another, or `None` where all that is owed was
+    /// given. After a fault it is answered for good. The only fault that begins here is `Memory`, and not once the end
+    /// of the stream or Stop was given.
+    fn next(&mut self) -> Result<Option<Parcel>, ToolFault>
         ensures given { IfOk result
-            (λ r. IfSome r (λ m. (t : ToolValue) (l g : List MessageValue) → at self.old t l g
-            → at self.new t l (g ++ m ∷ []))) }
+            (λ r. IfSome r (λ p. (t : ToolValue) (l g : List MessageValue) → at self.old t l g
+            → at self.new t l (g ++ messages_in p))) }
         ensures stop_alone { IfOk result
-            (λ r. IfSome r (λ m. (t : ToolValue) (l g : List MessageValue) → at self.old t l g
-            → EndsBy BrokenOff l → m ≡ Stop)) }
+            (λ r. IfSome r (λ p. (t : ToolValue) (l g : List MessageValue) → at self.old t l g
+            → EndsBy BrokenOff l → messages_in p ≡ Stop ∷ [])) }
         ensures fewer { IfOk result
-            (λ r. IfSome r (λ m. (waiting self.new < waiting self.old) × (all_given self.old ≡ false)
+            (λ r. IfSome r (λ p. (waiting self.new < waiting self.old) × (all_given self.old ≡ false)
             × (all_given self.new ≡ false))) }
         ensures full { IfOk result
             (λ r. IfNone r
@@ -86,17 +88,16 @@ pub trait Filter {
         ensures unknown { result ≡ false → self.new ≡ self.old }
         ensures same { stopped self.new ≡ stopped self.old };
 
-    /// Passes rows of an image that come next, all at once: each is answered by the row that stands in its place, and
-    /// nothing more is owed then.
+    /// Passes rows of an image that come next, all at once: the rows of the result that answer them are given, if some
+    /// do, and nothing more is owed then.
     ///
     /// # Errors
     ///
     /// The rows themselves, and nothing has changed, where they are to be fed one by one.
-    fn pass_rows(&mut self, rows: Rows) -> Result<Rows, Rows>
+    fn pass_rows(&mut self, rows: Rows) -> Result<Option<Rows>, Rows>
         ensures passed { IfOk result (λ made. (t : ToolValue) (l g : List MessageValue) → at self.old t l g
-            → at self.new t (l ++ row_messages rows) (g ++ row_messages made)
-            × AnswersInFull t (l ++ row_messages rows) (g ++ row_messages made)) }
-        ensures each { IfOk result (λ made. length made ≡ length rows) }
+            → at self.new t (l ++ row_messages rows) (g ++ row_messages (rows_list made))
+            × AnswersInFull t (l ++ row_messages rows) (g ++ row_messages (rows_list made))) }
         ensures told { OnOk result (all_given self.new ≡ true) }
         ensures goes_on { OnOk result ((stopped self.old ≡ None) × (stopped self.new ≡ None)) }
         ensures kept { IfErr result (λ same. (same ≡ rows) × (self.new ≡ self.old)) };

@@ -1,11 +1,13 @@
 //! A tool at work: what it is fed, what it gives, and its refusal.
 
 ghost use Rattle.std.specs.Prelude.{◌≡◌, ◌<◌, ◌∷◌, ◌++◌, [], List, true, IfSome, IfNone, IsTrue, IsFalse};
-ghost use Rattle.std.specs.Prelude.{OnOk, IfOk, IfErr, Some, None, length};
+ghost use Rattle.std.specs.Prelude.{OnOk, IfOk, IfErr, Some, None};
 ghost use Rattle.pnm_image.specs.declared.message.Ending.TheVariants.{More};
 ghost use Rattle.pnm_image.specs.declared.message.Message.{Message as MessageValue};
 ghost use Rattle.pnm_image.specs.Messages.{EndsBy};
+ghost use Rattle.pnm_image.specs.Parcels.{messages_in};
 ghost use Rattle.pnm_image.specs.Rows.{row_messages};
+ghost use Rattle.pnm_tools.specs.Answering.{rows_list};
 ghost use Rattle.pnm_tools.specs.declared.fault.ToolFault.{ToolFault as Fault};
 ghost use Rattle.pnm_tools.specs.declared.fault.ToolFault.TheVariants.{Memory};
 ghost use Rattle.pnm_tools.specs.declared.tool.Tool.{Tool as ToolValue};
@@ -13,7 +15,7 @@ ghost use Rattle.pnm_tools.specs.FusedFilters.{refusal_in, waiting_at, FilterAt,
 
 use crate::fault::ToolFault;
 use crate::filter::Filter;
-use pnm_image::{Message, Rows};
+use pnm_image::{Message, Parcel, Rows};
 
 /// A filter of a chain, which takes nothing more once it has refused.
 #[derive(Drop)]
@@ -49,12 +51,12 @@ impl<F: Filter + Drop> FusedFilter<F> {
         }
     }
 
-    /// The next message that the tool gives, until it has given all, or refused.
+    /// The next message that the tool gives, or rows that follow one another, until it has given all, or refused.
     #[inline(always)]
-    pub fn next(&mut self) -> Option<Message>
-        ensures given { IfSome result (λ m. (tool : ToolValue) (l g : List MessageValue)
+    pub fn next(&mut self) -> Option<Parcel>
+        ensures given { IfSome result (λ p. (tool : ToolValue) (l g : List MessageValue)
             → FilterBusy F.at F.stopped self.old tool l g
-            → FilterBusy F.at F.stopped self.new tool l (g ++ m ∷ [])) }
+            → FilterBusy F.at F.stopped self.new tool l (g ++ messages_in p)) }
         ensures fewer { IfSome result (λ _. waiting_at F.waiting self.new < waiting_at F.waiting self.old) }
         ensures full { IfNone result ((tool : ToolValue) (l g : List MessageValue)
             → FilterBusy F.at F.stopped self.old tool l g
@@ -93,17 +95,17 @@ impl<F: Filter + Drop> FusedFilter<F> {
         }
     }
 
-    /// Passes the tool rows of an image that come next, all at once: each is answered by the row that stands in its
-    /// place, and the tool has given all then.
+    /// Passes the tool rows of an image that come next, all at once: the rows of the result that answer them are given,
+    /// if some do, and the tool has given all then.
     ///
     /// # Errors
     ///
     /// The rows themselves, and nothing has changed, where they are to be fed one by one; so they are after a refusal.
-    pub fn pass_rows(&mut self, rows: Rows) -> Result<Rows, Rows>
+    pub fn pass_rows(&mut self, rows: Rows) -> Result<Option<Rows>, Rows>
         ensures passed { IfOk result (λ made. (tool : ToolValue) (l g : List MessageValue)
             → FilterAt F.at F.all_given F.stopped self.old tool l g
-            → FilterAt F.at F.all_given F.stopped self.new tool (l ++ row_messages rows) (g ++ row_messages made)) }
-        ensures each { IfOk result (λ made. length made ≡ length rows) }
+            → FilterAt F.at F.all_given F.stopped self.new tool (l ++ row_messages rows)
+            (g ++ row_messages (rows_list made))) }
         ensures goes_on { OnOk result ((refusal_in self.old ≡ None) × (refusal_in self.new ≡ None)) }
         ensures kept { IfErr result (λ same. (same ≡ rows) × (self.new ≡ self.old)) }
     {

@@ -6,7 +6,7 @@ ghost use Rattle.std.specs.Prelude.{IfNone, Ok, Err, ◌+◌, ◌≤◌};
 ghost use Rattle.std.specs.List.{AllByRecursion};
 ghost use Rattle.pnm_image.specs.Places.{IsRowOf};
 ghost use Rattle.pnm_image.specs.declared.shape.Shape.{Shape as ShapeValue};
-ghost use Rattle.pnm_tools.specs.Answering.{AreRowAnswers, row_list};
+ghost use Rattle.pnm_tools.specs.Answering.{rows_answer, rows_list};
 ghost use Rattle.pnm_tools.specs.declared.fault.ToolFault.TheVariants.{Memory};
 ghost use Rattle.pnm_tools.specs.declared.tool.Tool.{Tool as ToolValue};
 ghost use Rattle.pnm_tools.specs.Tools.{IsLawfulTool, TakesHead, result_head, row_answer, end_answer};
@@ -50,21 +50,27 @@ pub trait ImageTool {
         ensures due { OnOk result (due self.new ≡ row_answer (tool self.old) shape y row) }
         ensures refused { IfErr result (λ fault. fault ≡ Memory) };
 
-    /// Makes of each row, from row `y` of an image of this shape on, the row of the result, all at once; no row is due
-    /// then.
+    /// Takes rows of an image of this shape, from row `y` on, all at once, and makes the rows of the result that answer
+    /// them, if some do; no row is due then.
     ///
     /// # Errors
     ///
     /// The rows themselves, and nothing has changed, where each is to be taken by itself, as where there is no memory
     /// to make all at once.
-    fn rows(&mut self, alloc: Global, shape: Shape, y: u32, rows: Rows) -> Result<Rows, Rows>
+    fn rows(
+        &mut self,
+        alloc: Global,
+        shape: Shape,
+        y: u32,
+        rows: Rows,
+    ) -> Result<Option<Rows>, Rows>
         requires lawful { IsLawfulTool (tool self.old) }
         requires rows { (y + length rows ≤ shape.height) × AllByRecursion (IsRowOf shape) rows }
         requires ready { (before : List (List ℕ)) × (length before ≡ y) × ready self.old shape before }
         ensures same { tool self.new ≡ tool self.old }
         ensures ready { OnOk result ((before : List (List ℕ))
             → ready self.old shape before → ready self.new shape (before ++ rows)) }
-        ensures made { IfOk result (λ made. AreRowAnswers (tool self.old) shape y rows made) }
+        ensures made { IfOk result (λ made. rows_answer (tool self.old) shape y rows ≡ rows_list made) }
         ensures due { OnOk result (due self.new ≡ []) }
         ensures kept { IfErr result (λ same. (same ≡ rows) × (self.new ≡ self.old)) }
     {
@@ -79,13 +85,13 @@ pub trait ImageTool {
         ensures due { (rows : List (List ℕ)) → length rows ≡ shape.height → ready self.old shape rows
             → due self.new ≡ end_answer (tool self.old) shape rows };
 
-    /// The next row of the result, if one is due. The only fault is `Memory`.
-    fn give(&mut self, alloc: Global) -> Result<Option<Samples>, ToolFault>
+    /// The next rows of the result, if some are due. The only fault is `Memory`.
+    fn give(&mut self, alloc: Global) -> Result<Option<Rows>, ToolFault>
         ensures same { tool self.new ≡ tool self.old }
         ensures ready { OnOk result ((shape : ShapeValue) (rows : List (List ℕ))
             → ready self.old shape rows → ready self.new shape rows) }
-        ensures due { IfOk result (λ row. due self.old ≡ row_list row ++ due self.new) }
-        ensures all { IfOk result (λ row. IfNone row (due self.new ≡ [])) }
+        ensures due { IfOk result (λ rows. due self.old ≡ rows_list rows ++ due self.new) }
+        ensures all { IfOk result (λ rows. IfNone rows (due self.new ≡ [])) }
         ensures refused { IfErr result (λ fault. fault ≡ Memory) };
 
     /// Whether a row of the result may be due, as far as a look shows.

@@ -1,12 +1,16 @@
 //! Steps of a tool at work. A message is fed, and all is taken that the tool gives then. With a `~` before it, no
 //! message is told; with a `!`, nothing is taken. `?` takes one answer. A fault is told, and whether it doesn't stay.
-//! Rows between braces, in as few bits as hold their samples, are passed together: if the tool takes them so, what it
-//! makes of them stands between braces too, and else they are fed one by one.
+//! Rows between braces, in as few bits as hold their samples, are passed together: if the tool takes them so, the rows
+//! that it makes of them, if any, stand between braces too, and else they are fed one by one. Rows that a tool gives
+//! together are told as one by one, but by `?`: there they stand between braces, as one answer.
 
 use super::tasks::{Task, tell_at_work};
 use pnm_filters::{RowState, RowWise};
-use pnm_image::{Message, Rows};
-use pnm_test_support::{Unmade, cut_at, cut_messages, rows_of, tell_message, tell_rows, width_of};
+use pnm_image::{Message, Parcel, Rows};
+use pnm_test_support::{
+    Unmade, cut_at, cut_messages, rows_of, tell_each_row, tell_message, tell_parcel, tell_rows,
+    width_of,
+};
 use pnm_tools::{Filter, Tool, ToolFault};
 use std::alloc::{AllocError, Global};
 
@@ -85,7 +89,7 @@ pub fn go<F: Filter>(
             None => break,
             Some((b' ', after)) => after,
             Some((b'?', after)) => {
-                tell_next(state, told)?;
+                tell_next(alloc, state, told)?;
                 after
             }
             Some((b'{', after)) => {
@@ -123,20 +127,21 @@ fn pass<'a, F: Filter>(
     let mut messages = Vec::new(alloc);
     let rest = cut_messages(alloc, text, is_narrow, &mut messages)?;
     for message in messages {
-        pass_one(state, step, message, told)?;
+        pass_one(alloc, state, step, message, told)?;
     }
     Ok(rest)
 }
 
 /// Passes on a message, and adds all that is given then, or the fault, and whether it doesn't stay.
 pub fn pass_one<F: Filter>(
+    alloc: Global,
     state: &mut F,
     step: Step,
     message: Message,
     told: &mut String,
 ) -> Result<(), AllocError> {
     match state.feed(message) {
-        Ok(()) => take_all(state, step, told),
+        Ok(()) => take_all(alloc, state, step, told),
         Err(fault) => {
             write!(told, " {fault}")?;
             tell_stays(state, fault, told)
@@ -159,14 +164,15 @@ fn pass_together<F: Filter>(
 fn tell_passed<F: Filter>(
     alloc: Global,
     state: &mut F,
-    answer: Result<Rows, Rows>,
+    answer: Result<Option<Rows>, Rows>,
     told: &mut String,
 ) -> Result<(), AllocError> {
     match answer {
-        Ok(made) => {
+        Ok(Some(made)) => {
             tell_rows(alloc, told, &made)?;
-            take_all(state, Step::Passes, told)
+            take_all(alloc, state, Step::Passes, told)
         }
+        Ok(None) => take_all(alloc, state, Step::Passes, told),
         Err(rows) => pass_each(alloc, state, &rows, told),
     }
 }
@@ -180,28 +186,33 @@ fn pass_each<F: Filter>(
 ) -> Result<(), AllocError> {
     for at in 0..rows.count() {
         let row = rows.row(alloc, at)?;
-        pass_one(state, Step::Passes, Message::Row(row), told)?;
+        pass_one(alloc, state, Step::Passes, Message::Row(row), told)?;
     }
     Ok(())
 }
 
 /// Adds the next answer.
-fn tell_next<F: Filter>(state: &mut F, told: &mut String) -> Result<(), AllocError> {
+fn tell_next<F: Filter>(alloc: Global, state: &mut F, told: &mut String) -> Result<(), AllocError> {
     match state.next() {
-        Ok(Some(message)) => tell_message(told, &message),
+        Ok(Some(parcel)) => tell_parcel(alloc, told, &parcel),
         Ok(None) => told.push_str(" nothing"),
         Err(fault) => write!(told, " {fault}"),
     }
 }
 
 /// Takes all that is given until nothing is, and adds of it what the step tells, and a fault.
-fn take_all<F: Filter>(state: &mut F, step: Step, told: &mut String) -> Result<(), AllocError> {
+fn take_all<F: Filter>(
+    alloc: Global,
+    state: &mut F,
+    step: Step,
+    told: &mut String,
+) -> Result<(), AllocError> {
     if matches!(step, Step::Takes) {
         return Ok(());
     }
     for _ in 0..MOST_ANSWERS {
         match state.next() {
-            Ok(Some(message)) => tell_taken(step, &message, told)?,
+            Ok(Some(parcel)) => tell_taken(alloc, step, &parcel, told)?,
             Ok(None) => return Ok(()),
             Err(fault) => return write!(told, " {fault}"),
         }
@@ -209,13 +220,28 @@ fn take_all<F: Filter>(state: &mut F, step: Step, told: &mut String) -> Result<(
     told.push_str(" and more")
 }
 
-/// Adds what a step tells of a message that is given.
-fn tell_taken(step: Step, message: &Message, told: &mut String) -> Result<(), AllocError> {
-    match (step, message) {
-        (Step::Passes, _) => tell_message(told, message),
-        (Step::Widths, Message::Row(row)) => told.push_str(width_of(row)),
+/// Adds what a step tells of what is given.
+fn tell_taken(
+    alloc: Global,
+    step: Step,
+    parcel: &Parcel,
+    told: &mut String,
+) -> Result<(), AllocError> {
+    match (step, parcel) {
+        (Step::Passes, Parcel::Message(message)) => tell_message(told, message),
+        (Step::Passes, Parcel::Rows(rows)) => tell_each_row(alloc, told, rows),
+        (Step::Widths, Parcel::Message(Message::Row(row))) => told.push_str(width_of(row)),
+        (Step::Widths, Parcel::Rows(rows)) => tell_widths(rows, told),
         _ => Ok(()),
     }
+}
+
+/// Adds of each of the rows how wide it is held.
+fn tell_widths(rows: &Rows, told: &mut String) -> Result<(), AllocError> {
+    for _ in 0..rows.count() {
+        told.push_str(width_of(rows.samples()))?;
+    }
+    Ok(())
 }
 
 /// Adds a word where anything but this fault is answered.
@@ -242,7 +268,7 @@ fn end_of(number: usize) -> Message {
 }
 
 /// Whether an answer is this fault.
-fn is_fault(answer: Result<Option<Message>, ToolFault>, fault: ToolFault) -> bool {
+fn is_fault(answer: Result<Option<Parcel>, ToolFault>, fault: ToolFault) -> bool {
     match answer {
         Ok(_) => false,
         Err(other) => other == fault,

@@ -82,22 +82,27 @@ pub fn feed_image<F: Filter>(
 ) -> Result<(), Unmade> {
     let tuple_type: &[u8] = if shape.kind == Kind::Pam { b"A B" } else { b"" };
     let head = head_of(alloc, shape, tuple_type)?;
-    pass_one(state, Step::Passes, Message::Begin(head), told)?;
+    pass_one(alloc, state, Step::Passes, Message::Begin(head), told)?;
     if told.as_str().starts_with(" CutOutside") {
         return Ok(());
     }
     for y in 0..shape.height {
         let row = row_of(alloc, shape, y)?;
         let row = held(alloc, row.as_slice(), sample_width)?;
-        pass_one(state, Step::Passes, Message::Row(row), told)?;
+        pass_one(alloc, state, Step::Passes, Message::Row(row), told)?;
     }
-    Ok(pass_one(state, Step::Passes, Message::ImageEnd, told)?)
+    Ok(pass_one(alloc, state, Step::Passes, Message::ImageEnd, told)?)
 }
 
 /// Adds what it gives for the end of the stream, where that comes.
-pub fn feed_end<F: Filter>(state: &mut F, is_ended: bool, told: &mut String) -> Result<(), Unmade> {
+pub fn feed_end<F: Filter>(
+    alloc: Global,
+    state: &mut F,
+    is_ended: bool,
+    told: &mut String,
+) -> Result<(), Unmade> {
     if is_ended {
-        pass_one(state, Step::Passes, Message::StreamEnd, told)?;
+        pass_one(alloc, state, Step::Passes, Message::StreamEnd, told)?;
     }
     Ok(())
 }
@@ -122,7 +127,7 @@ pub fn tell_stream<F: Filter>(
         rest = after;
     }
     sweep.tell(told)?;
-    feed_end(state, true, told)
+    feed_end(alloc, state, true, told)
 }
 
 /// The columns, rows and planes of an image, and what follows them.

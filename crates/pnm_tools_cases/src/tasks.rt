@@ -31,7 +31,7 @@ impl Task<'_> {
             Task::Stream(text) => sweeps::tell_stream(alloc, state, text, told),
             Task::Image(shape, held, is_ended) => {
                 sweeps::feed_image(alloc, state, shape, held, told)?;
-                sweeps::feed_end(state, is_ended, told)
+                sweeps::feed_end(alloc, state, is_ended, told)
             }
         }
     }

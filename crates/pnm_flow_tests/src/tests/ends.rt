@@ -3,8 +3,8 @@
 use super::is_so;
 use super::rings::{holds, is_one_of, send_all};
 use pnm_flow::new_ring;
-use pnm_image::{Kind, Message, SampleVec, Samples};
-use pnm_stages::{Parcel, Receiver, Sender};
+use pnm_image::{Kind, Message, Parcel, Rows, SampleVec, Samples};
+use pnm_stages::{Receiver, Sender};
 use pnm_test_support::{Part, message};
 use std::alloc::Global;
 use std::process::Abort;
@@ -84,19 +84,40 @@ fn sends_nothing_where_nobody_receives(rt: HostRuntime) {
     assert!(rt; !is_sent);
 }
 
-/// How many rows of so many bytes an empty ring has room for, up to nine. They are sent and dropped.
+/// Sends a row of so many bytes, or as many rows of a byte together, where there is room.
+fn send_bytes(
+    rt: &impl Abort,
+    alloc: Global,
+    sender: &mut Sender,
+    bytes: u32,
+    is_together: bool,
+) -> bool {
+    let row = Vec::from_elem(alloc, 0, bytes as usize).expect(rt, "a row");
+    let samples = Samples::from_vec(SampleVec::Bytes(row));
+    if !sender.has_room() {
+        return false;
+    }
+    if is_together && bytes > 0 {
+        sender.send_rows_reserved(Rows::new(samples, bytes, 1));
+    } else {
+        sender.send_reserved(Message::Row(samples));
+    }
+    true
+}
+
+/// How many rows of so many bytes an empty ring has room for, or as many rows of a byte together, up to nine. They are
+/// sent and dropped.
 fn count_rows(
     rt: &impl Abort,
     alloc: Global,
     sender: &mut Sender,
     receiver: &mut Receiver,
-    bytes: usize,
+    bytes: u32,
+    is_together: bool,
 ) -> u32 {
     let mut count = 0_u32;
     for _ in 0..9 {
-        if sender.has_room() {
-            let row = Vec::from_elem(alloc, 0, bytes).expect(rt, "a row");
-            sender.send_reserved(Message::Row(Samples::from_vec(SampleVec::Bytes(row))));
+        if send_bytes(rt, alloc, sender, bytes, is_together) {
             count = count.saturating_add(1);
         }
     }
@@ -109,7 +130,7 @@ fn count_rows(
 }
 
 /// Sizes of rows, and how many of them a ring of capacity 8 has room for.
-const ROOMS: &[(usize, u32)] = &[
+const ROOMS: &[(u32, u32)] = &[
     (1, 8),
     (16_384, 8),
     (16_385, 7),
@@ -118,12 +139,16 @@ const ROOMS: &[(usize, u32)] = &[
     (64, 8),
 ];
 
-/// Of rows of more than 16,384 bytes no more than come to so many a place of the ring, and two at least.
+/// Of rows of more than 16,384 bytes no more than come to so many a place of the ring, and two at least; so it is of
+/// rows together.
 #[test]
 fn leaves_room_beside_wide_rows(rt: HostRuntime) {
     let (mut sender, mut receiver) = new_ring(rt.alloc(), 8).expect(&rt, "a ring");
-    for (bytes, most) in ROOMS {
-        let count = count_rows(&rt, rt.alloc(), &mut sender, &mut receiver, *bytes);
-        is_so(&rt, count == *most, &(*bytes, count));
+    for is_together in [false, true] {
+        for (bytes, most) in ROOMS {
+            let alloc = rt.alloc();
+            let count = count_rows(&rt, alloc, &mut sender, &mut receiver, *bytes, is_together);
+            is_so(&rt, count == *most, &(*bytes, count));
+        }
     }
 }

@@ -27,7 +27,7 @@ pub fn dealt(
 }
 
 /// Gathers from the inputs, of which there have to be 1 to 8.
-fn gathered(rt: &(impl Wait + Abort), inputs: Vec<Receiver>, output: Sender) -> GatherDone {
+pub fn gathered(rt: &(impl Wait + Abort), inputs: Vec<Receiver>, output: Sender) -> GatherDone {
     assert!(rt; 1 <= inputs.len() && inputs.len() <= 8);
     gather(rt, inputs, output)
 }

@@ -36,6 +36,13 @@ const SAMPLE_DOUBLED: Written<'static> = (Form::Raw, SAMPLE, DOUBLED);
 /// What `pamenlarge 2 | pnminvert` makes of it in plain form.
 const PLAIN_DOUBLED: Written<'static> = (Form::Plain, SAMPLE, b"P2\n2 2\n9\n2 2\n2 2\n");
 
+/// Rows of bits that pass together, and what `pamcut -right -1 -width 1 | pnminvert` makes of them.
+const LAST_BITS: Written<'static> = (
+    Form::Raw,
+    b"P4\n11 3\n\x12\x60\xff\xe0\x00\x00",
+    b"P4\n1 3\n\x00\x00\x80",
+);
+
 /// What a run over three tools answers; none where there is no memory for these.
 fn run_short_of_memory<H: Threads + Wait + Abort + Sync>(
     rt: &H,
@@ -185,6 +192,33 @@ fn writes_plain_with_memory(rt: HostRuntime) {
     }
 }
 
+/// What a run answers whose tools take rows together.
+fn pass_rows_short_of_memory<H: Threads + Wait + Abort + Sync>(
+    rt: &H,
+    alloc: Global,
+    way: Way,
+) -> Option<Summary> {
+    let tools = [Tool::Cut(LAST_COLUMN), Tool::Invert];
+    make_short_of_memory(rt, alloc, way, &tools, LAST_BITS)
+}
+
+/// Each growth of a run whose tools take rows together may be refused: then they go one by one, or the tool runs out.
+#[test]
+fn passes_rows_or_runs_out(rt: HostRuntime) {
+    for way in WAYS {
+        let _ = pass_rows_short_of_memory(&rt, rt.alloc(), *way);
+    }
+}
+
+/// Where no growth is refused the rows are passed.
+#[test]
+fn passes_rows_with_memory(rt: HostRuntime) {
+    for way in WAYS {
+        let summary = pass_rows_short_of_memory(&rt, rt.alloc(), *way);
+        has_passed(&rt, summary, 1, 3);
+    }
+}
+
 /// Whether Stop is the last that the ring holds. Before it there is a prefix of these, and after it nothing.
 fn ends_by_stop(rt: &impl Abort, input: &mut Receiver, whole: &[Part<'_>]) -> bool {
     for part in whole {
@@ -272,14 +306,14 @@ fn ends_well_in_threads_with_memory(rt: HostRuntime) {
     assert!(rt; is_well);
 }
 
-/// An image whose rows come together, and what `pamenlarge -xscale 2` makes of it: it takes each row by itself.
+/// An image whose rows come together, and what `pnmtile 4 3` makes of it, which takes each row by itself.
 const TOGETHER: &[u8] = b"Gray 2 3 1 9 {[1 2] [3 4] [5 6]} ImageEnd StreamEnd";
 
-const WIDENED: &[Part<'static>] = &[
+const TILED: &[Part<'static>] = &[
     Part::Begin(Kind::Gray, 4, 3, 9),
-    Part::Row(&[1, 1, 2, 2]),
-    Part::Row(&[3, 3, 4, 4]),
-    Part::Row(&[5, 5, 6, 6]),
+    Part::Row(&[1, 2, 1, 2]),
+    Part::Row(&[3, 4, 3, 4]),
+    Part::Row(&[5, 6, 5, 6]),
     Part::ImageEnd,
     Part::StreamEnd,
 ];
@@ -288,13 +322,13 @@ const WIDENED: &[Part<'static>] = &[
 fn takes_rows_apart<R: Wait + Abort>(rt: &R, alloc: Global) -> Option<bool> {
     let (_producer, input) = holding_written(alloc, TOGETHER)?;
     let (output, mut consumer) = new_ring(alloc, 8)?;
-    let done = widens(rt, alloc, &Tool::Enlarge(2, 1), input, output);
-    let is_stopped = ends_by_stop(rt, &mut consumer, WIDENED);
+    let done = stage(rt, alloc, &Tool::Tile(4, 3), input, output);
+    let is_stopped = ends_by_stop(rt, &mut consumer, TILED);
     Some(is_well_or_short(rt, done.end, is_stopped))
 }
 
 /// The stage of this tool, which has to be lawful.
-fn widens<R: Wait + Abort>(
+fn stage<R: Wait + Abort>(
     rt: &R,
     alloc: Global,
     tool: &Tool,
@@ -319,7 +353,7 @@ fn takes_rows_apart_or_runs_out(rt: HostRuntime) {
     let _ = takes_rows_apart(&rt, rt.alloc());
 }
 
-/// Where no growth is refused each of the rows is widened.
+/// Where no growth is refused each of the rows is repeated.
 #[test]
 fn takes_rows_apart_with_memory(rt: HostRuntime) {
     let is_well = takes_rows_apart(&rt, rt.alloc()).unwrap_or(false);

@@ -3,7 +3,7 @@
 
 use super::is_so;
 use pnm_flow::{Parcel, Receiver, Sender, StageEnd, new_ring};
-use pnm_image::Kind;
+use pnm_image::{Kind, Message, Rows};
 use pnm_test_support::{Handed, Part, handed_of, is_made_of, message};
 use std::alloc::Global;
 use std::process::Abort;
@@ -142,15 +142,66 @@ pub fn sends(alloc: Global, output: &mut Sender, part: Part<'_>) -> bool {
     false
 }
 
-/// Whether the next message that comes, by a counted number of tries, is made of this.
-pub fn comes(input: &mut Receiver, part: Part<'_>) -> bool {
+/// What comes next, by a counted number of tries.
+fn next_parcel(input: &mut Receiver) -> Option<Parcel> {
     for _ in 0..TURNS {
         if input.has_message() {
-            return has_next(input, part);
+            return Some(input.receive_known());
         }
         thread::yield_now();
     }
-    false
+    None
+}
+
+/// Whether the next message that comes, by a counted number of tries, is made of this.
+pub fn comes(input: &mut Receiver, part: Part<'_>) -> bool {
+    match next_parcel(input) {
+        Some(parcel) => is_one_of(&parcel, part),
+        None => false,
+    }
+}
+
+/// Whether these come, each by a counted number of tries: rows one by one or together.
+pub fn all_come(alloc: Global, input: &mut Receiver, parts: &[Part<'_>]) -> bool {
+    let mut rest = parts;
+    for _ in 0..parts.len() {
+        if rest.is_empty() {
+            break;
+        }
+        let Some(parcel) = next_parcel(input) else {
+            return false;
+        };
+        let Some(after) = after_parcel(alloc, &parcel, rest) else {
+            return false;
+        };
+        rest = after;
+    }
+    rest.is_empty()
+}
+
+/// The parts that follow those of which the parcel is made; none if it isn't made of the first ones.
+fn after_parcel<'a>(
+    alloc: Global,
+    parcel: &Parcel,
+    parts: &'a [Part<'a>],
+) -> Option<&'a [Part<'a>]> {
+    match parcel {
+        Parcel::Message(message) => after_message(message, parts),
+        Parcel::Rows(rows) => {
+            let mut rest = parts;
+            for at in 0..rows.count() {
+                let row = rows.row(alloc, at).ok()?;
+                rest = after_message(&Message::Row(row), rest)?;
+            }
+            Some(rest)
+        }
+    }
+}
+
+/// The parts that follow the first one, if the message is made of this.
+fn after_message<'a>(message: &Message, parts: &'a [Part<'a>]) -> Option<&'a [Part<'a>]> {
+    let (first, rest) = parts.split_first()?;
+    is_made_of(message, *first).then_some(rest)
 }
 
 /// Sends a message to a thread, and takes what comes of it; whether it came as it was sent.

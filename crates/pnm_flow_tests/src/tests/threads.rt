@@ -2,7 +2,7 @@
 
 use super::chains::{FROM_SECOND, are_limits, is_chain};
 use super::is_so;
-use super::rings::{IMAGE, TURNS, begins_with, comes, holding, holds, is_end, sends};
+use super::rings::{IMAGE, TURNS, all_come, begins_with, holding, holds, is_end, sends};
 use pnm_flow::{
     ChainDone, Gate, NoStart, OpenGate, Receiver, Sender, StageEnd, new_ring, run_chain,
 };
@@ -411,15 +411,7 @@ const DOUBLED: &[Step<'static>] = &[
 
 /// Sends a message, and takes all that comes of it; whether it all came.
 fn gives(alloc: Global, producer: &mut Sender, consumer: &mut Receiver, step: &Step<'_>) -> bool {
-    if !sends(alloc, producer, step.0) {
-        return false;
-    }
-    for answer in step.1 {
-        if !comes(consumer, *answer) {
-            return false;
-        }
-    }
-    true
+    sends(alloc, producer, step.0) && all_come(alloc, consumer, step.1)
 }
 
 /// Sends each message only once all that comes of the one before was taken; whether it all came.

@@ -1,14 +1,17 @@
 //! How a thread sleeps at an end of a ring.
 
 use super::is_so;
+use super::lanes::{gathered, rings};
 use super::rings::send_all;
 use pnm_flow::new_ring;
 use pnm_image::{Kind, Message, SampleVec, Samples};
-use pnm_stages::{Receiver, Sender};
-use pnm_test_support::Part;
+use pnm_stages::{Receiver, Sender, StageEnd};
+use pnm_test_support::{Part, message};
 use std::alloc::Global;
 use std::process::Abort;
 use std::rt::Clock;
+use std::sync::Wait;
+use std::thread;
 use std::time::{Duration, Instant};
 
 /// A thread that was woken sleeps for fewer milliseconds, and one that wasn't for more, on a machine that isn't stopped
@@ -46,6 +49,92 @@ fn wakes_its_home_before_it_sleeps(rt: HostRuntime) {
     let start = Instant::now(&rt).expect(&rt, "a clock");
     home.wait(&rt);
     is_so(&rt, was_short(&rt, start), &"woken");
+}
+
+/// A thread that ends a stream, and a sending end that goes, wake the sender of the ring that is the receiver's home.
+#[test]
+fn wakes_its_home_at_the_end(rt: HostRuntime) {
+    let (home, _receiver) = new_ring(rt.alloc(), 1).expect(&rt, "a ring");
+    let (mut sender, _end) = new_ring(rt.alloc(), 2).expect(&rt, "a ring");
+    is_so(&rt, sender.set_home(&home), &"shared");
+    for (part, is_woken) in [(Part::ImageEnd, false), (Part::StreamEnd, true)] {
+        is_so(&rt, send_all(rt.alloc(), &mut sender, &[part]), &"sent");
+        is_so(&rt, sleeps_shortly(&rt, &home) == is_woken, &is_woken);
+    }
+    drop(sender);
+    is_so(&rt, sleeps_shortly(&rt, &home), &"gone");
+}
+
+/// Whether a sleep at this end is short.
+fn sleeps_shortly(rt: &(impl Clock + Wait + Abort), sender: &Sender) -> bool {
+    let start = Instant::now(rt).expect(rt, "a clock");
+    sender.sleep(rt);
+    was_short(rt, start)
+}
+
+/// A thread that has nothing to do for so many milliseconds sleeps by then.
+const PAUSE: u64 = 5;
+
+/// Two messages of a lane, and the end of its stream.
+const OF_A_LANE: &[Part<'static>] = &[Part::ImageEnd, Part::ImageEnd, Part::StreamEnd];
+
+/// Sends these, each after a pause and once there is room; whether each could be made and was sent.
+fn send_slowly(
+    rt: &(impl Clock + Wait),
+    alloc: Global,
+    sender: &mut Sender,
+    parts: &[Part<'_>],
+) -> bool {
+    for part in parts {
+        let Ok(message) = message(alloc, *part) else {
+            return false;
+        };
+        thread::sleep(rt, Duration::from_millis(PAUSE));
+        if !sender.send(rt, message) {
+            return false;
+        }
+    }
+    true
+}
+
+/// Sends Stop on the first lane; then all messages of the last one, and of each before it.
+fn send_from_last(rt: &(impl Clock + Wait), alloc: Global, lanes: Vec<Sender>) -> bool {
+    let mut lanes = lanes;
+    for (lane, sender) in lanes.iter_mut().enumerate() {
+        if lane == 0 && !send_slowly(rt, alloc, sender, &[Part::Stop]) {
+            return false;
+        }
+    }
+    for _ in 0..lanes.len() {
+        let Some(mut sender) = lanes.pop() else {
+            return false;
+        };
+        if !lanes.is_empty() && !send_slowly(rt, alloc, &mut sender, OF_A_LANE) {
+            return false;
+        }
+    }
+    true
+}
+
+/// A gatherer that drains takes what comes from any lane: no sleep of it lasts, though the lanes before that one are
+/// silent.
+#[test]
+fn drains_whichever_lane_has_no_room(rt: HostRuntime) {
+    let (output, _consumer) = new_ring(rt.alloc(), 1).expect(&rt, "a ring");
+    let (mut lanes, inputs) = rings(rt.alloc(), 4, 1).expect(&rt, "rings");
+    for sender in lanes.iter_mut() {
+        is_so(&rt, sender.set_home(&output), &"shared");
+    }
+    let alloc = rt.alloc();
+    let host = &rt;
+    let start = Instant::now(&rt).expect(&rt, "a clock");
+    let both = thread::join(
+        &rt,
+        move || gathered(host, inputs, output).end == StageEnd::Broken,
+        move || send_from_last(host, alloc, lanes),
+    );
+    is_so(&rt, both.0 && both.1, &"gathered");
+    is_so(&rt, was_short(&rt, start), &"no sleep lasted");
 }
 
 /// Sends a row that is wide enough for a ring of four to keep two places free beside it, if there is room.

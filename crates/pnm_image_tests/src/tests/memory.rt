@@ -2,10 +2,11 @@
 //! answers `Memory`, and a tool at work answers it for good though memory is there again.
 //! `scripts/refused.py tests` refuses each allocation of these tests in turn.
 
+use super::rows_memory::are_wanted;
 use super::tools::{WHOLE, channel, picks, stays};
 use super::{holds, same};
 use pnm_filters::{ToolState, result_head, start_tool};
-use pnm_image::{Head, Kind, Message, Shape};
+use pnm_image::{Head, Kind, Message, Parcel, Shape};
 use pnm_test_support::{Part, head_of, is_made_of, message};
 use pnm_tools::{CutBox, Filter, FlipWay, Tool, ToolFault};
 use std::alloc::Global;
@@ -191,19 +192,29 @@ fn has_run_out<F: Filter>(rt: &impl Abort, state: &mut F, fault: ToolFault) {
 /// tool goes on.
 fn takes<F: Filter>(rt: &impl Abort, state: &mut F, wants: &[Part<'_>], given: &mut usize) -> bool {
     for _ in 0..wants.len() + 1 {
-        if let Some(goes_on) = takes_next(rt, state, wants.get(*given)) {
+        if let Some(goes_on) = takes_next(rt, state, wants, given) {
             return goes_on;
         }
-        *given = given.wrapping_add(1);
     }
     panic!(rt; "the answers have no end")
 }
 
-/// Takes what the tool gives next, which is made of this part. Whether the tool goes on, where it gives nothing.
-fn takes_next<F: Filter>(rt: &impl Abort, state: &mut F, want: Option<&Part<'_>>) -> Option<bool> {
+/// Takes what the tool gives next, which is made of the parts that are next among these. Whether the tool goes on,
+/// where it gives nothing.
+fn takes_next<F: Filter>(
+    rt: &impl Abort,
+    state: &mut F,
+    wants: &[Part<'_>],
+    given: &mut usize,
+) -> Option<bool> {
     match state.next() {
-        Ok(Some(message)) => {
-            is_wanted(rt, &message, want);
+        Ok(Some(Parcel::Message(message))) => {
+            is_wanted(rt, &message, wants.get(*given));
+            *given = given.wrapping_add(1);
+            None
+        }
+        Ok(Some(Parcel::Rows(rows))) => {
+            are_wanted(rt, &rows, wants, given);
             None
         }
         Ok(None) => Some(true),

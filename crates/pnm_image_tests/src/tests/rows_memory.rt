@@ -1,11 +1,13 @@
 //! Want of memory for rows that are handed over together. `scripts/refused.py tests` refuses each allocation of these
 //! tests in turn.
 
-use super::holds;
 use super::memory::{REST, answers_parts, start};
-use pnm_image::{Kind, Rows};
+use super::tools::WHOLE;
+use super::{holds, same};
+use pnm_filters::passes_rows;
+use pnm_image::{Kind, Rows, SampleWidth};
 use pnm_test_support::{Part, rows_of};
-use pnm_tools::{Filter, FlipWay, Tool};
+use pnm_tools::{CutBox, Filter, FlipWay, Tool};
 use std::alloc::Global;
 use std::process::Abort;
 
@@ -18,13 +20,28 @@ const IMAGE: &[Part<'static>] = &[
     Part::Row(&[0, 1, 1, 1, 1]),
     Part::Row(&[0, 0, 1, 0, 1]),
     Part::Row(&[1, 1, 0, 0, 0]),
+    Part::ImageEnd,
+    Part::StreamEnd,
 ];
+
+/// Where the image's end stands there.
+const END: usize = 4;
 
 const CUT: &[Part<'static>] = &[
     Part::Begin(Kind::Bit, 4, 3, 1),
     Part::Row(&[1, 1, 1, 1]),
     Part::Row(&[0, 1, 0, 1]),
     Part::Row(&[1, 0, 0, 0]),
+    Part::ImageEnd,
+    Part::StreamEnd,
+];
+
+const LOWER: &[Part<'static>] = &[
+    Part::Begin(Kind::Bit, 5, 2, 1),
+    Part::Row(&[0, 0, 1, 0, 1]),
+    Part::Row(&[1, 1, 0, 0, 0]),
+    Part::ImageEnd,
+    Part::StreamEnd,
 ];
 
 const MIRRORED: &[Part<'static>] = &[
@@ -32,20 +49,95 @@ const MIRRORED: &[Part<'static>] = &[
     Part::Row(&[1, 1, 1, 1, 0]),
     Part::Row(&[1, 0, 1, 0, 0]),
     Part::Row(&[0, 0, 0, 1, 1]),
+    Part::ImageEnd,
+    Part::StreamEnd,
 ];
 
-/// The rows are those of the image.
-fn are_rows(rt: &impl Abort, rows: &Rows, image: &[Part<'_>]) {
-    let mut end = 0;
-    let mut count: u32 = 0;
-    for part in image {
-        if let Part::Row(row) = part {
-            end = has_row(rt, rows, end, row);
-            count = count.wrapping_add(1);
-        }
+const TURNED: &[Part<'static>] = &[
+    Part::Begin(Kind::Bit, 5, 3, 1),
+    Part::Row(&[1, 1, 0, 0, 0]),
+    Part::Row(&[0, 0, 1, 0, 1]),
+    Part::Row(&[0, 1, 1, 1, 1]),
+    Part::ImageEnd,
+    Part::StreamEnd,
+];
+
+const HALF: &[Part<'static>] = &[
+    Part::Begin(Kind::Bit, 5, 3, 1),
+    Part::Row(&[0, 0, 0, 1, 1]),
+    Part::Row(&[1, 0, 1, 0, 0]),
+    Part::Row(&[1, 1, 1, 1, 0]),
+    Part::ImageEnd,
+    Part::StreamEnd,
+];
+
+const QUARTER: &[Part<'static>] = &[
+    Part::Begin(Kind::Bit, 3, 5, 1),
+    Part::Row(&[1, 1, 0]),
+    Part::Row(&[1, 0, 0]),
+    Part::Row(&[1, 1, 0]),
+    Part::Row(&[1, 0, 1]),
+    Part::Row(&[0, 0, 1]),
+    Part::ImageEnd,
+    Part::StreamEnd,
+];
+
+const ENLARGED: &[Part<'static>] = &[
+    Part::Begin(Kind::Bit, 10, 6, 1),
+    Part::Row(&[0, 0, 1, 1, 1, 1, 1, 1, 1, 1]),
+    Part::Row(&[0, 0, 1, 1, 1, 1, 1, 1, 1, 1]),
+    Part::Row(&[0, 0, 0, 0, 1, 1, 0, 0, 1, 1]),
+    Part::Row(&[0, 0, 0, 0, 1, 1, 0, 0, 1, 1]),
+    Part::Row(&[1, 1, 1, 1, 0, 0, 0, 0, 0, 0]),
+    Part::Row(&[1, 1, 1, 1, 0, 0, 0, 0, 0, 0]),
+    Part::ImageEnd,
+    Part::StreamEnd,
+];
+
+const TILED: &[Part<'static>] = &[
+    Part::Begin(Kind::Bit, 6, 4, 1),
+    Part::Row(&[0, 1, 1, 1, 1, 0]),
+    Part::Row(&[0, 0, 1, 0, 1, 0]),
+    Part::Row(&[1, 1, 0, 0, 0, 1]),
+    Part::Row(&[0, 1, 1, 1, 1, 0]),
+    Part::ImageEnd,
+    Part::StreamEnd,
+];
+
+/// All but the first row.
+const BELOW: CutBox = CutBox {
+    top: Some(1),
+    ..WHOLE
+};
+
+/// How many tools the rows are given to.
+const TOOLS: usize = 8;
+
+/// Each of them, and what it gives for the image.
+fn tool_at_work(number: usize) -> (Tool, &'static [Part<'static>]) {
+    match number {
+        0 => (Tool::Cut(REST), CUT),
+        1 => (Tool::Cut(BELOW), LOWER),
+        2 => (Tool::Flip(FlipWay::LeftRight), MIRRORED),
+        3 => (Tool::Flip(FlipWay::TopBottom), TURNED),
+        4 => (Tool::Flip(FlipWay::Rotate180), HALF),
+        5 => (Tool::Flip(FlipWay::Rotate90), QUARTER),
+        6 => (Tool::Enlarge(2, 2), ENLARGED),
+        _ => (Tool::Tile(6, 4), TILED),
     }
-    let is_all = rows.count() == count && rows.samples().len() == end;
-    holds(rt, is_all, rows, &image, &"all rows");
+}
+
+/// The rows are made of the parts that are next among these.
+pub(super) fn are_wanted(rt: &impl Abort, rows: &Rows, wants: &[Part<'_>], given: &mut usize) {
+    let mut end = 0;
+    for _ in 0..rows.count() {
+        match wants.get(*given) {
+            Some(Part::Row(row)) => end = has_row(rt, rows, end, row),
+            want => holds(rt, false, rows, &want, &"rows"),
+        }
+        *given = given.wrapping_add(1);
+    }
+    holds(rt, rows.samples().len() == end, rows, &wants, &"all rows");
 }
 
 /// The samples of the rows from this one on are those of the row. The number of the next.
@@ -60,27 +152,26 @@ fn has_row(rt: &impl Abort, rows: &Rows, start: usize, row: &[u16]) -> usize {
     at
 }
 
-/// The tool takes the rows of the image together, and makes of them those of another. Where memory runs out it gives
-/// them back as they were, and makes the same of each by itself then. Whether nothing was refused.
+/// The tool takes the rows of the image together, and answers the image with these parts. Where memory runs out, or it
+/// doesn't take them so, it gives them back as they were, and answers each by itself then. Whether it took them.
 fn answers_rows(rt: &impl Abort, alloc: Global, tool: &Tool, wants: &[Part<'_>]) -> bool {
     answers_at_work(rt, alloc, start(rt, alloc, tool), wants)
 }
 
-/// The tool at work, if there is one, is fed the head of the image, and then its rows together.
+/// The tool at work, if there is one, is fed the head of the image, its rows together, and its end.
 fn answers_at_work<F: Filter + Drop>(
     rt: &impl Abort,
     alloc: Global,
     state: Option<F>,
     wants: &[Part<'_>],
 ) -> bool {
-    match state {
-        Some(mut state) => {
-            let mut given = 0;
-            answers_parts(rt, alloc, &mut state, &IMAGE[..1], wants, &mut given)
-                && takes_together(rt, alloc, &mut state, wants, &mut given)
-        }
-        None => false,
-    }
+    let Some(mut state) = state else {
+        return false;
+    };
+    let mut given = 0;
+    answers_parts(rt, alloc, &mut state, &IMAGE[..1], wants, &mut given)
+        && takes_together(rt, alloc, &mut state, wants, &mut given)
+        && answers_rest(rt, alloc, &mut state, &IMAGE[END..], wants, &mut given)
 }
 
 /// The tool at work takes the rows together, or answers each by itself once it gave them back.
@@ -95,32 +186,50 @@ fn takes_together<F: Filter>(
         return false;
     };
     match state.pass_rows(rows) {
-        Ok(made) => {
-            are_rows(rt, &made, wants);
+        Ok(Some(made)) => {
+            are_wanted(rt, &made, wants, given);
             true
         }
+        Ok(None) => true,
         Err(same) => {
-            are_rows(rt, &same, IMAGE);
-            let _ = answers_parts(rt, alloc, state, &IMAGE[1..], wants, given);
+            let mut first = 1;
+            are_wanted(rt, &same, IMAGE, &mut first);
+            let _ = answers_rest(rt, alloc, state, &IMAGE[1..], wants, given);
             false
         }
     }
 }
 
-#[test]
-fn cuts_rows_or_gives_them_back(rt: HostRuntime) {
-    let _ = answers_rows(&rt, rt.alloc(), &Tool::Cut(REST), CUT);
+/// The tool at work answers these parts with all that is left of the wanted ones, or `Memory`. Whether it goes on.
+fn answers_rest<F: Filter>(
+    rt: &impl Abort,
+    alloc: Global,
+    state: &mut F,
+    parts: &[Part<'_>],
+    wants: &[Part<'_>],
+    given: &mut usize,
+) -> bool {
+    let goes_on = answers_parts(rt, alloc, state, parts, wants, given);
+    if goes_on {
+        holds(rt, *given == wants.len(), given, &wants, &"a tool");
+    }
+    goes_on
 }
 
 #[test]
-fn mirrors_rows_or_gives_them_back(rt: HostRuntime) {
-    let _ = answers_rows(&rt, rt.alloc(), &Tool::Flip(FlipWay::LeftRight), MIRRORED);
+fn takes_rows_or_gives_them_back(rt: HostRuntime) {
+    for number in 0..TOOLS {
+        let (tool, wants) = tool_at_work(number);
+        let _ = answers_rows(&rt, rt.alloc(), &tool, wants);
+    }
 }
 
-/// Where nothing is refused the rows are made at once.
+/// Where nothing is refused those tools take rows of bits together that are said to.
 #[test]
-fn makes_rows_at_once_with_memory(rt: HostRuntime) {
-    assert!(rt; answers_rows(&rt, rt.alloc(), &Tool::Cut(REST), CUT));
-    let flip = Tool::Flip(FlipWay::LeftRight);
-    assert!(rt; answers_rows(&rt, rt.alloc(), &flip, MIRRORED));
+fn takes_rows_with_memory(rt: HostRuntime) {
+    for number in 0..TOOLS {
+        let (tool, wants) = tool_at_work(number);
+        let takes = answers_rows(&rt, rt.alloc(), &tool, wants);
+        same(&rt, &takes, &passes_rows(&tool, SampleWidth::Bits), &number);
+    }
 }

@@ -1,7 +1,7 @@
 use Rattle.std.proofs.Common.{◌≡◌, arith, length, vec_capacity}
 use Rattle.pnm_lanes.proofs.LaneRunSteps.{as_many_run, came_back, has_run_more}
 use Rattle.pnm_lanes.specs.LaneRuns.{HaveRun}
-use Rattle.pnm_flow.proofs.ToolRunSteps.{came_so, none_left}
+use Rattle.pnm_flow.proofs.ToolRunSteps.{came_so, none_left, ran_from_home}
 use Rattle.pnm_flow.proofs.lanes.+fn-run_threads-Call+run_threads.Goals as goal
 
 pub push_reserved-requires : goal.push_reserved-requires
@@ -20,7 +20,9 @@ returns-clause-ran g t c =
     let run = came_back c.args.tool.now c.pop.new.self.items c.args.outer (vec_capacity c.args.reserved) _ c.in_ok-done.rest c.in_ok-all.all c.in_ok-all.beside
     c.in_ok-done.ensures.1 c.in_ok-all.was in
     has_run_more c.args.tool.now c.args.lanes.items c.pop.new.self.items c.args.outer (vec_capacity c.args.reserved) c.in_ok-all.all c.push_reserved.new.self
-    c.in-Some.ends c.in_ok-done.done run c.in_ok-done.ensures.0
+    c.in-Some.ends c.in_ok-done.done run
+    (ran_from_home c.args.tool.now c.in-Some.ends.input c.in-Some.ends.output c.set_home.new.self c.in_ok-done.done c.set_home.ensures.ring
+    c.set_home.ensures.sent c.in_ok-done.ensures.0)
     c.in-Some.ensures.items c.push_reserved.ensures.items c.push_reserved.ensures.capacity
 
 pub returns-clause-beside : goal.returns-clause-beside

@@ -1,6 +1,6 @@
 use Rattle.std.proofs.Common.{sym, subst}
-use Rattle.pnm_stages.specs.declared.parcel.Parcel.{Parcel}
-use Rattle.pnm_stages.specs.Parcels.{messages_in}
+use Rattle.pnm_image.specs.declared.parcel.Parcel.{Parcel}
+use Rattle.pnm_image.specs.Parcels.{messages_in}
 use Rattle.pnm_lanes.specs.DealParts.{HasDealtMessages}
 use Rattle.pnm_lanes.proofs.dealing.deal_parcel.Goals as goal
 

@@ -1,7 +1,7 @@
 use Rattle.std.proofs.Common.{subst, sym, ap, ◌∙◌, ◌++◌, List, Some}
 use Rattle.pnm_image.specs.declared.message.Message.{Message}
 use Rattle.pnm_stages.specs.Rings.{received, known_items}
-use Rattle.pnm_stages.specs.Parcels.{messages_in}
+use Rattle.pnm_image.specs.Parcels.{messages_in}
 use Rattle.pnm_lanes.specs.declared.lane.LaneState.{LaneState}
 use Rattle.pnm_lanes.specs.GatherParts.{HasDrainedOne}
 use Rattle.pnm_lanes.proofs.DrainSteps.{parcel_taken}

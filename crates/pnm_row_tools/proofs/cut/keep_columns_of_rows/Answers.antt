@@ -1,130 +1,157 @@
-use Rattle.std.proofs.Common.{◌≡◌, ℕ, List, All, ◌≤◌, length, map, ap, sym, subst, ◌∙◌, arith}
-use Rattle.std.specs.List.{AllByRecursion}
+use Rattle.std.proofs.Common.{◌≡◌, ◌+◌, ◌-◌, ◌*◌, length, ap, sym, refl, ◌∙◌, arith}
 use Rattle.pnm_image.specs.Heads.{row_length}
 use Rattle.pnm_image.specs.Images.{cut_rows}
-use Rattle.pnm_image.specs.Places.{IsRowOf}
-use Rattle.pnm_tools.specs.Cut.{columns_of_row}
-use Rattle.pnm_row_tools.proofs.CutRowsLaws.{all_columns, columns_of_rows, kept_fit, kept_from, kept_size}
-use Rattle.pnm_row_tools.proofs.EachRowLaws.{changed, changed_within, each_of_shape, length-changed, part, part_long, part_within}
-use Rattle.pnm_row_tools.proofs.RowsLaws.{range_of_rows}
+use Rattle.pnm_tools.specs.Cut.{span_count}
+use Rattle.pnm_samples.proofs.CutLaws.{length-cut_rows}
+use Rattle.pnm_row_tools.specs.declared.cut.Parts.{Parts}
+use Rattle.pnm_row_tools.proofs.CutRowsLaws.{all_rows, are_cut, kept_long, kept_rows_of, kept_within_maxval, part_fits, parts_fit, rows_fit}
 use Rattle.pnm_row_tools.proofs.cut.keep_columns_of_rows.Goals as goal
 
-pub returns-then-kept-row_length-clause-kept : goal.returns-then-kept-row_length-clause-kept
-returns-then-kept-row_length-clause-kept c =
+pub overflow_add-kept_rows : goal.overflow_add-kept_rows
+overflow_add-kept_rows c =
     let parts = c.into_parts-samples in
-    let s = c.args.shape in
-    let are = subst (AllByRecursion (IsRowOf s)) parts.ensures.rows c.requires.rows in
-    let each : parts.result.2 ≡ row_length s = each_of_shape s parts.result.1 parts.result.2 parts.result.0 parts.ensures.some parts.ensures.whole are in
-    c.new.ensures ∙ sym parts.ensures.rows ∙ all_columns c.args.columns s c.args.rows c.requires.columns (c.if-kept-row_length.true ∙ each) c.requires.rows
+    omega (arith, c.requires.among, ap length parts.ensures.rows, length-cut_rows parts.result.1 parts.result.2 parts.result.0)
 
-pub keep_bits_of_each-requires-clause-within : goal.keep_bits_of_each-requires-clause-within
-keep_bits_of_each-requires-clause-within c =
+pub parts_kept-parts-requires-clause-among : goal.parts_kept-parts-requires-clause-among
+parts_kept-parts-requires-clause-among c =
     let parts = c.into_parts-samples in
+    let cut = are_cut c.args.columns c.args.among c.args.shape parts.result.1 parts.result.2 parts.result.0 c.args.rows c.requires.columns c.requires.among
+    parts.ensures.some parts.ensures.whole parts.ensures.rows c.requires.rows in
+    let fit = rows_fit c.args.columns c.args.among c.args.shape parts.result.1 parts.result.2 parts.result.0 c.args.rows cut in
+    (c.requires.among.0, omega (arith, fit, c.len.ensures))
+
+pub returns-then-kept_rows-count-clause-kept : goal.returns-then-kept_rows-count-clause-kept
+returns-then-kept_rows-count-clause-kept c =
+    let parts = c.into_parts-samples in
+    let cut = are_cut c.args.columns c.args.among c.args.shape parts.result.1 parts.result.2 parts.result.0 c.args.rows c.requires.columns c.requires.among
+    parts.ensures.some parts.ensures.whole parts.ensures.rows c.requires.rows in
     let s = c.args.shape in
-    let are = subst (AllByRecursion (IsRowOf s)) parts.ensures.rows c.requires.rows in
-    kept_fit c.args.columns s parts.result.2 c.requires.columns
-    (each_of_shape s parts.result.1 parts.result.2 parts.result.0 parts.ensures.some parts.ensures.whole are)
+    let is = c.parts_kept-parts.ensures in
+    let all : span_count c.args.columns * s.depth ≡ row_length s =
+    ap (λ (p : Parts). p.kept) (sym is) ∙ c.if-parts-row_length.true ∙ cut.each_is in
+    let many : span_count c.args.among ≡ length c.args.rows =
+    omega (arith, c.requires.among.0, c.if-kept_rows-count.true, ap length parts.ensures.rows, length-cut_rows parts.result.1 parts.result.2 parts.result.0) in
+    c.new.ensures ∙ sym parts.ensures.rows ∙ all_rows c.args.columns c.args.among s c.args.rows c.requires.columns all c.requires.rows many c.requires.among
+
+pub bits_of_each-requires-clause-rows : goal.bits_of_each-requires-clause-rows
+bits_of_each-requires-clause-rows c =
+    let parts = c.into_parts-samples in
+    let cut = are_cut c.args.columns c.args.among c.args.shape parts.result.1 parts.result.2 parts.result.0 c.args.rows c.requires.columns c.requires.among
+    parts.ensures.some parts.ensures.whole parts.ensures.rows c.requires.rows in
+    parts_fit c.args.columns c.args.among c.args.shape parts.result.1 parts.result.2 c.parts_kept-parts.result parts.result.0 c.in-Bits.bits c.args.rows cut
+    c.parts_kept-parts.ensures c.in-Bits.ensures
+
+pub bits_of_each-requires-clause-within : goal.bits_of_each-requires-clause-within
+bits_of_each-requires-clause-within c =
+    let parts = c.into_parts-samples in
+    let cut = are_cut c.args.columns c.args.among c.args.shape parts.result.1 parts.result.2 parts.result.0 c.args.rows c.requires.columns c.requires.among
+    parts.ensures.some parts.ensures.whole parts.ensures.rows c.requires.rows in
+    part_fits c.args.columns c.args.among c.args.shape parts.result.1 parts.result.2 c.parts_kept-parts.result parts.result.0 c.args.rows cut
+    c.parts_kept-parts.ensures
 
 pub rows_of_bits-requires-clause-whole : goal.rows_of_bits-requires-clause-whole
 rows_of_bits-requires-clause-whole c =
     let parts = c.into_parts-samples in
-    let s = c.args.shape in
-    let start = kept_from c.args.columns s in
-    let size = kept_size c.args.columns s in
-    let are = subst (AllByRecursion (IsRowOf s)) parts.ensures.rows c.requires.rows in
-    let fits = kept_fit c.args.columns s parts.result.2 c.requires.columns
-    (each_of_shape s parts.result.1 parts.result.2 parts.result.0 parts.ensures.some parts.ensures.whole are) in
-    let made = c.in-Ok.ensures ∙ ap (λ (l : List ℕ). changed (part start size) parts.result.1 parts.result.2 l) c.in-Bits.ensures in
-    ap length made
-    ∙ length-changed (part start size) parts.result.2 size (part_long start size parts.result.2 fits) parts.result.1 parts.result.0
-    (omega (arith, parts.ensures.whole))
+    let cut = are_cut c.args.columns c.args.among c.args.shape parts.result.1 parts.result.2 parts.result.0 c.args.rows c.requires.columns c.requires.among
+    parts.ensures.some parts.ensures.whole parts.ensures.rows c.requires.rows in
+    kept_long c.args.columns c.args.among c.args.shape parts.result.1 parts.result.2 (c.args.among.last - c.args.among.first + 1)
+    c.parts_kept-parts.result parts.result.0 c.in-Bits.bits _ c.args.rows cut c.parts_kept-parts.ensures c.in-Bits.ensures c.in-Ok.ensures refl
 
-pub returns-in-Ok-clause-kept : goal.returns-in-Ok-clause-kept
-returns-in-Ok-clause-kept c =
+pub keep_of_each-requires-clause-rows : goal.keep_of_each-requires-clause-rows
+keep_of_each-requires-clause-rows c =
     let parts = c.into_parts-samples in
-    let s = c.args.shape in
-    let columns = c.args.columns in
-    let start = kept_from columns s in
-    let size = kept_size columns s in
-    let are = subst (AllByRecursion (IsRowOf s)) parts.ensures.rows c.requires.rows in
-    let made = c.in-Ok.ensures ∙ ap (λ (l : List ℕ). changed (part start size) parts.result.1 parts.result.2 l) c.in-Bits.ensures in
-    subst (λ (rows : List (List ℕ)). c.rows_of_bits.result ≡ map (columns_of_row columns s.depth) rows) (sym parts.ensures.rows)
-    (c.rows_of_bits.ensures ∙ ap (λ (l : List ℕ). cut_rows parts.result.1 size l) made
-    ∙ columns_of_rows columns s parts.result.1 parts.result.2 parts.result.0 c.requires.columns parts.ensures.some parts.ensures.whole are)
+    let cut = are_cut c.args.columns c.args.among c.args.shape parts.result.1 parts.result.2 parts.result.0 c.args.rows c.requires.columns c.requires.among
+    parts.ensures.some parts.ensures.whole parts.ensures.rows c.requires.rows in
+    parts_fit c.args.columns c.args.among c.args.shape parts.result.1 parts.result.2 c.parts_kept-parts.result parts.result.0 c.in-Bytes.bytes.items
+    c.args.rows cut
+    c.parts_kept-parts.ensures c.in-Bytes.ensures
 
 pub keep_of_each-requires-clause-within : goal.keep_of_each-requires-clause-within
 keep_of_each-requires-clause-within c =
     let parts = c.into_parts-samples in
-    let s = c.args.shape in
-    let are = subst (AllByRecursion (IsRowOf s)) parts.ensures.rows c.requires.rows in
-    kept_fit c.args.columns s parts.result.2 c.requires.columns
-    (each_of_shape s parts.result.1 parts.result.2 parts.result.0 parts.ensures.some parts.ensures.whole are)
+    let cut = are_cut c.args.columns c.args.among c.args.shape parts.result.1 parts.result.2 parts.result.0 c.args.rows c.requires.columns c.requires.among
+    parts.ensures.some parts.ensures.whole parts.ensures.rows c.requires.rows in
+    part_fits c.args.columns c.args.among c.args.shape parts.result.1 parts.result.2 c.parts_kept-parts.result parts.result.0 c.args.rows cut
+    c.parts_kept-parts.ensures
+
+pub keep_of_each-requires-in-Words-clause-rows : goal.keep_of_each-requires-in-Words-clause-rows
+keep_of_each-requires-in-Words-clause-rows c =
+    let parts = c.into_parts-samples in
+    let cut = are_cut c.args.columns c.args.among c.args.shape parts.result.1 parts.result.2 parts.result.0 c.args.rows c.requires.columns c.requires.among
+    parts.ensures.some parts.ensures.whole parts.ensures.rows c.requires.rows in
+    parts_fit c.args.columns c.args.among c.args.shape parts.result.1 parts.result.2 c.parts_kept-parts.result parts.result.0 c.in-Words.words.items
+    c.args.rows cut
+    c.parts_kept-parts.ensures c.in-Words.ensures
+
+pub keep_of_each-requires-in-Words-clause-within : goal.keep_of_each-requires-in-Words-clause-within
+keep_of_each-requires-in-Words-clause-within c =
+    let parts = c.into_parts-samples in
+    let cut = are_cut c.args.columns c.args.among c.args.shape parts.result.1 parts.result.2 parts.result.0 c.args.rows c.requires.columns c.requires.among
+    parts.ensures.some parts.ensures.whole parts.ensures.rows c.requires.rows in
+    part_fits c.args.columns c.args.among c.args.shape parts.result.1 parts.result.2 c.parts_kept-parts.result parts.result.0 c.args.rows cut
+    c.parts_kept-parts.ensures
 
 pub within-samples-requires : goal.within-samples-requires
 within-samples-requires c =
     let parts = c.into_parts-samples in
-    let s = c.args.shape in
-    let start = kept_from c.args.columns s in
-    let size = kept_size c.args.columns s in
-    let are = subst (AllByRecursion (IsRowOf s)) parts.ensures.rows c.requires.rows in
-    let made = c.keep_of_each.ensures ∙ ap (λ (l : List ℕ). changed (part start size) parts.result.1 parts.result.2 l) c.in-Bytes.ensures in
-    subst (All (λ sample. sample ≤ s.maxval)) (sym made)
-    (changed_within (part start size) s (part_within start size s) (cut_rows parts.result.1 parts.result.2 parts.result.0) are)
+    let cut = are_cut c.args.columns c.args.among c.args.shape parts.result.1 parts.result.2 parts.result.0 c.args.rows c.requires.columns c.requires.among
+    parts.ensures.some parts.ensures.whole parts.ensures.rows c.requires.rows in
+    kept_within_maxval c.args.columns c.args.among c.args.shape parts.result.1 parts.result.2 c.parts_kept-parts.result parts.result.0
+    c.in-Bytes.bytes.items _ c.args.rows cut
+    c.parts_kept-parts.ensures c.in-Bytes.ensures c.keep_of_each.ensures
+
+pub within-samples-requires-in-Words : goal.within-samples-requires-in-Words
+within-samples-requires-in-Words c =
+    let parts = c.into_parts-samples in
+    let cut = are_cut c.args.columns c.args.among c.args.shape parts.result.1 parts.result.2 parts.result.0 c.args.rows c.requires.columns c.requires.among
+    parts.ensures.some parts.ensures.whole parts.ensures.rows c.requires.rows in
+    kept_within_maxval c.args.columns c.args.among c.args.shape parts.result.1 parts.result.2 c.parts_kept-parts.result parts.result.0
+    c.in-Words.words.items _ c.args.rows cut
+    c.parts_kept-parts.ensures c.in-Words.ensures c.keep_of_each-in-Words.ensures
 
 pub new-requires-in-Bytes-clause-whole : goal.new-requires-in-Bytes-clause-whole
 new-requires-in-Bytes-clause-whole c =
     let parts = c.into_parts-samples in
-    let s = c.args.shape in
-    let start = kept_from c.args.columns s in
-    let size = kept_size c.args.columns s in
-    let are = subst (AllByRecursion (IsRowOf s)) parts.ensures.rows c.requires.rows in
-    let fits = kept_fit c.args.columns s parts.result.2 c.requires.columns
-    (each_of_shape s parts.result.1 parts.result.2 parts.result.0 parts.ensures.some parts.ensures.whole are) in
-    let made = c.keep_of_each.ensures ∙ ap (λ (l : List ℕ). changed (part start size) parts.result.1 parts.result.2 l) c.in-Bytes.ensures in
-    ap length (c.within-samples.ensures ∙ made)
-    ∙ length-changed (part start size) parts.result.2 size (part_long start size parts.result.2 fits) parts.result.1 parts.result.0
-    (omega (arith, parts.ensures.whole))
+    let cut = are_cut c.args.columns c.args.among c.args.shape parts.result.1 parts.result.2 parts.result.0 c.args.rows c.requires.columns c.requires.among
+    parts.ensures.some parts.ensures.whole parts.ensures.rows c.requires.rows in
+    ap length c.within-samples.ensures
+    ∙ kept_long c.args.columns c.args.among c.args.shape parts.result.1 parts.result.2 (c.args.among.last - c.args.among.first + 1)
+    c.parts_kept-parts.result parts.result.0 c.in-Bytes.bytes.items _ c.args.rows cut c.parts_kept-parts.ensures c.in-Bytes.ensures c.keep_of_each.ensures refl
 
-pub within-requires : goal.within-requires
-within-requires c =
+pub new-requires-in-Words-clause-whole : goal.new-requires-in-Words-clause-whole
+new-requires-in-Words-clause-whole c =
     let parts = c.into_parts-samples in
-    let s = c.args.shape in
-    subst (All (λ sample. sample ≤ s.maxval)) (sym c.into_vec.ensures)
-    (range_of_rows s parts.result.1 parts.result.2 parts.result.0 parts.ensures.whole
-    (subst (AllByRecursion (IsRowOf s)) parts.ensures.rows c.requires.rows))
+    let cut = are_cut c.args.columns c.args.among c.args.shape parts.result.1 parts.result.2 parts.result.0 c.args.rows c.requires.columns c.requires.among
+    parts.ensures.some parts.ensures.whole parts.ensures.rows c.requires.rows in
+    ap length c.within-samples-in-Words.ensures
+    ∙ kept_long c.args.columns c.args.among c.args.shape parts.result.1 parts.result.2 (c.args.among.last - c.args.among.first + 1)
+    c.parts_kept-parts.result parts.result.0 c.in-Words.words.items _ c.args.rows cut c.parts_kept-parts.ensures c.in-Words.ensures
+    c.keep_of_each-in-Words.ensures refl
+
+pub returns-in-Ok-clause-kept : goal.returns-in-Ok-clause-kept
+returns-in-Ok-clause-kept c =
+    let parts = c.into_parts-samples in
+    let cut = are_cut c.args.columns c.args.among c.args.shape parts.result.1 parts.result.2 parts.result.0 c.args.rows c.requires.columns c.requires.among
+    parts.ensures.some parts.ensures.whole parts.ensures.rows c.requires.rows in
+    c.rows_of_bits.ensures
+    ∙ kept_rows_of c.args.columns c.args.among c.args.shape parts.result.1 parts.result.2 (c.args.among.last - c.args.among.first + 1)
+    c.parts_kept-parts.result parts.result.0 c.in-Bits.bits _ c.args.rows cut c.parts_kept-parts.ensures c.in-Bits.ensures c.in-Ok.ensures refl
 
 pub returns-in-Bytes-clause-kept : goal.returns-in-Bytes-clause-kept
 returns-in-Bytes-clause-kept c =
     let parts = c.into_parts-samples in
-    let s = c.args.shape in
-    let columns = c.args.columns in
-    let start = kept_from columns s in
-    let size = kept_size columns s in
-    let are = subst (AllByRecursion (IsRowOf s)) parts.ensures.rows c.requires.rows in
-    let made = c.keep_of_each.ensures ∙ ap (λ (l : List ℕ). changed (part start size) parts.result.1 parts.result.2 l) c.in-Bytes.ensures in
-    subst (λ (rows : List (List ℕ)). c.new-in-Bytes.result ≡ map (columns_of_row columns s.depth) rows) (sym parts.ensures.rows)
-    (c.new-in-Bytes.ensures ∙ ap (λ (l : List ℕ). cut_rows parts.result.1 size l) (c.within-samples.ensures ∙ made)
-    ∙ columns_of_rows columns s parts.result.1 parts.result.2 parts.result.0 c.requires.columns parts.ensures.some parts.ensures.whole are)
+    let cut = are_cut c.args.columns c.args.among c.args.shape parts.result.1 parts.result.2 parts.result.0 c.args.rows c.requires.columns c.requires.among
+    parts.ensures.some parts.ensures.whole parts.ensures.rows c.requires.rows in
+    c.new-in-Bytes.ensures ∙ ap (cut_rows _ _) c.within-samples.ensures
+    ∙ kept_rows_of c.args.columns c.args.among c.args.shape parts.result.1 parts.result.2 (c.args.among.last - c.args.among.first + 1)
+    c.parts_kept-parts.result parts.result.0 c.in-Bytes.bytes.items _ c.args.rows cut c.parts_kept-parts.ensures c.in-Bytes.ensures c.keep_of_each.ensures refl
 
-pub rows_of_bits-requires-in-Err-clause-whole : goal.rows_of_bits-requires-in-Err-clause-whole
-rows_of_bits-requires-in-Err-clause-whole c = ap length c.in-Bits.ensures ∙ c.into_parts-samples.ensures.whole
-
-pub keep_bits_of_each-requires-clause-rows : goal.keep_bits_of_each-requires-clause-rows
-keep_bits_of_each-requires-clause-rows c = ap length c.in-Bits.ensures ∙ c.into_parts-samples.ensures.whole
-
-pub keep_of_each-requires-clause-rows : goal.keep_of_each-requires-clause-rows
-keep_of_each-requires-clause-rows c = ap length c.in-Bytes.ensures ∙ c.into_parts-samples.ensures.whole
-
-pub new-requires-in_default-clause-whole : goal.new-requires-in_default-clause-whole
-new-requires-in_default-clause-whole c = ap length (c.within.ensures ∙ c.into_vec.ensures) ∙ c.into_parts-samples.ensures.whole
-
-pub returns-in-Err-clause-same : goal.returns-in-Err-clause-same
-returns-in-Err-clause-same c =
+pub returns-in-Words-clause-kept : goal.returns-in-Words-clause-kept
+returns-in-Words-clause-kept c =
     let parts = c.into_parts-samples in
-    c.rows_of_bits-in-Err.ensures ∙ ap (λ (samples : List ℕ). cut_rows parts.result.1 parts.result.2 samples) c.in-Bits.ensures ∙ sym parts.ensures.rows
-
-pub returns-in_default-clause-same : goal.returns-in_default-clause-same
-returns-in_default-clause-same c =
-    let parts = c.into_parts-samples in
-    c.new-in_default.ensures ∙ ap (λ (samples : List ℕ). cut_rows parts.result.1 parts.result.2 samples) (c.within.ensures ∙ c.into_vec.ensures)
-    ∙ sym parts.ensures.rows
+    let cut = are_cut c.args.columns c.args.among c.args.shape parts.result.1 parts.result.2 parts.result.0 c.args.rows c.requires.columns c.requires.among
+    parts.ensures.some parts.ensures.whole parts.ensures.rows c.requires.rows in
+    c.new-in-Words.ensures ∙ ap (cut_rows _ _) c.within-samples-in-Words.ensures
+    ∙ kept_rows_of c.args.columns c.args.among c.args.shape parts.result.1 parts.result.2 (c.args.among.last - c.args.among.first + 1)
+    c.parts_kept-parts.result parts.result.0 c.in-Words.words.items _ c.args.rows cut c.parts_kept-parts.ensures c.in-Words.ensures
+    c.keep_of_each-in-Words.ensures refl

@@ -3,4 +3,4 @@ use Rattle.pnm_row_tools.proofs.FlipRowLaws.{one_plane}
 use Rattle.pnm_row_tools.proofs.flip.mirror_bits.Goals as goal
 
 pub returns : goal.returns
-returns c = one_plane c.args.shape c.args.bits c.reverse.new.self (omega arith) (omega arith) c.requires.row c.reverse.ensures
+returns c = one_plane c.args.pixels 1 c.args.bits c.reverse.new.self (omega arith) (omega arith) (omega (arith, c.requires)) c.reverse.ensures

@@ -3,14 +3,14 @@ use Rattle.pnm_row_tools.proofs.FlipRowsLaws.{all_mirrored, none_mirrored, row_m
 use Rattle.pnm_row_tools.proofs.flip.reverse_each.Goals as goal
 
 pub loop-i-init : goal.loop-i-init
-loop-i-init c = none_mirrored c.args.shape c.args.each c.args.bytes.now
+loop-i-init g c = none_mirrored c.args.shape c.args.each c.args.samples.now
 
 pub loop-i-preserved : goal.loop-i-preserved
-loop-i-preserved c =
-    row_mirrored c.args.shape c.args.each c.loop-i.i c.args.count _ c.args.bytes.now c.loop-i.bytes c.reverse_pixels.new.samples c.requires.limits.width_low
+loop-i-preserved g c =
+    row_mirrored c.args.shape c.args.each c.loop-i.i c.args.count _ c.args.samples.now c.loop-i.samples c.reverse_pixels.new.samples c.requires.limits.width_low
     c.requires.row (omega (arith, c.loop-i-test.true)) c.requires.rows c.loop-i.invariant (omega arith) c.reverse_pixels.ensures
 
 pub returns : goal.returns
-returns c =
-    all_mirrored c.args.shape c.args.each c.loop-i.i c.args.count c.args.bytes.now c.loop-i.bytes (omega (arith, c.loop-i-test.false, c.loop-i.auto.i-end))
+returns g c =
+    all_mirrored c.args.shape c.args.each c.loop-i.i c.args.count c.args.samples.now c.loop-i.samples (omega (arith, c.loop-i-test.false, c.loop-i.auto.i-end))
     c.requires.rows c.loop-i.invariant

@@ -3,4 +3,4 @@ use Rattle.pnm_row_tools.proofs.flip.reverse_each.Given as goal
 
 -- the rows that have passed are mirrored
 abbrev pub invariant-loop-i : goal.invariant-loop-i
-invariant-loop-i l = AreMirrored l.fn.shape l.each l.i l.fn.bytes l.bytes
+invariant-loop-i g l = AreMirrored l.fn.shape l.each l.i l.fn.samples l.samples

@@ -1,37 +1,38 @@
 use Rattle.std.proofs.Common.{◌≡◌, ◌*◌, ◌∙◌, ℕ, ap, drop, reverse, arith}
-use Rattle.pnm_row_tools.proofs.FlipRowLaws.{pixel_more, one_plane}
+use Rattle.pnm_row_tools.proofs.FlipRowLaws.{pixel_more, pixels_turned, one_plane}
 use Rattle.pnm_tools.proofs.PickLaws.{columns_end}
 use Rattle.std.proofs.lemmas.Grind.{common_steps}
 use Rattle.pnm_row_tools.proofs.flip.reverse_pixels.Goals as goal
 
 pub loop-x-preserved : goal.loop-x-preserved
 loop-x-preserved g c =
-    pixel_more c.args.shape.width c.args.shape.depth c.args.samples.now c.loop-x.x _ c.loop-x.samples c.reverse-in-loop-x.new.self c.loop-x-test.true
-    c.requires.row (omega arith) c.loop-x.invariant c.reverse-in-loop-x.ensures.after (omega arith)
+    pixel_more c.args.pixels c.args.size c.args.samples.now c.loop-x.x _ c.loop-x.samples c.reverse-in-loop-x.new.self c.loop-x-test.true
+    c.requires.pixels (omega arith) c.loop-x.invariant c.reverse-in-loop-x.ensures.after (omega arith)
 
-pub returns-else-shape-gt1 : goal.returns-else-shape-gt1
-returns-else-shape-gt1 g c = one_plane c.args.shape c.args.samples.now c.reverse.new.self c.requires.limits.depth_low c.if-shape-gt1.false c.requires.row
+pub returns-else-size-gt1 : goal.returns-else-size-gt1
+returns-else-size-gt1 g c = one_plane c.args.pixels c.args.size c.args.samples.now c.reverse.new.self c.requires.size c.if-size-gt1.false c.requires.pixels
     c.reverse.ensures.after
 
 pub overflow_mul-x : goal.overflow_mul-x
 overflow_mul-x g c =
-    omega (arith, columns_end c.args.shape.width c.args.shape.depth c.loop-x.x c.loop-x-test.true, c.requires.row)
+    omega (arith, columns_end c.args.pixels c.args.size c.loop-x.x c.loop-x-test.true, c.requires.pixels)
 
 pub overflow_mul-x-in-loop-x : goal.overflow_mul-x-in-loop-x
 overflow_mul-x-in-loop-x g c =
-    omega (arith, columns_end c.args.shape.width c.args.shape.depth c.loop-x.x c.loop-x-test.true, c.requires.row)
+    omega (arith, columns_end c.args.pixels c.args.size c.loop-x.x c.loop-x-test.true, c.requires.pixels)
 
 pub loop-x-init : goal.loop-x-init
 loop-x-init g c =
-    let none : 0 ≡ 0 * c.args.shape.depth = omega arith in
+    let none : 0 ≡ 0 * c.args.size = omega arith in
     c.reverse.ensures.after ∙ ap (λ (n : ℕ). drop n (reverse c.args.samples.now)) none
 
 pub slice_bounds-reverse-end : goal.slice_bounds-reverse-end
 slice_bounds-reverse-end g c =
-    omega (arith, columns_end c.args.shape.width c.args.shape.depth c.loop-x.x c.loop-x-test.true, c.requires.row)
+    omega (arith, columns_end c.args.pixels c.args.size c.loop-x.x c.loop-x-test.true, c.requires.pixels)
 
 pub offset_bounds-samples-x : goal.offset_bounds-samples-x
 offset_bounds-samples-x g c = grind (arith, common_steps)
 
 pub returns-after-loop-x : goal.returns-after-loop-x
-returns-after-loop-x g c = grind (arith, common_steps)
+returns-after-loop-x g c =
+    pixels_turned c.args.pixels c.args.size c.args.samples.now c.loop-x.samples c.loop-x.x c.requires.pixels (omega arith) c.loop-x.invariant

@@ -4,4 +4,4 @@ use Rattle.pnm_row_tools.proofs.flip.reverse_pixels.Given as goal
 
 -- the columns that have passed are those of the mirrored row
 abbrev pub invariant-loop-x : goal.invariant-loop-x
-invariant-loop-x g l = l.samples ≡ last_pixels l.fn.shape.width l.fn.shape.depth l.fn.samples l.x ++ drop (l.x * l.fn.shape.depth) (reverse l.fn.samples)
+invariant-loop-x g l = l.samples ≡ last_pixels l.pixels l.size l.fn.samples l.x ++ drop (l.x * l.size) (reverse l.fn.samples)

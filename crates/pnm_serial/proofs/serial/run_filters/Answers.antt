@@ -38,7 +38,7 @@ returns-clause-ran g c = λ tools lawful fresh.
     let answered = stages_answered (λ r. g.R.BytesIn.left r.now) (λ r. g.R.BytesIn.failures r.now) g.F.Filter.at g.F.Filter.all_given g.F.Filter.stopped
     (λ w. g.W.BytesOut.held w.now) (λ w. g.W.BytesOut.failures w.now)
     c.with_buffer-source.result c.feed_all-input.new.source c.feed_all-input.result c.args.stages.now c.feed_all-input.new.stages
-    c.new-downstream.result c.feed_all-input.new.downstream tools fresh fed in
+    c.new-downstream.result c.feed_all-input.new.downstream tools lawful fresh fed in
     let stages : HaveEnded tools (refusals_in c.feed_all-input.new.stages) fed.given fed.output.out c.first_fault.result = record {
       last = fed.output.out;
       answered = answered;

@@ -1,7 +1,7 @@
 use Rattle.std.proofs.Common.{refl, sym, ◌∙◌}
 use Rattle.pnm_stages.specs.Rings.{sent, received, known_items}
 use Rattle.pnm_image.specs.declared.message.Ending.TheVariants.{More}
-use Rattle.pnm_stages.specs.Parcels.{ending_of_parcel, messages_in}
+use Rattle.pnm_image.specs.Parcels.{ending_of_parcel, messages_in}
 use Rattle.pnm_stages.proofs.RingSteps.{arrived, same_input, same_output, itself_input, itself_output}
 use Rattle.pnm_stages.proofs.StagedSteps.{passes_nothing, passes_parcel, still_sent, still_going, input_gone, output_gone, breaks_off, ends_well, ends_broken}
 use Rattle.pnm_stages.proofs.stage.pass_all.Goals as goal

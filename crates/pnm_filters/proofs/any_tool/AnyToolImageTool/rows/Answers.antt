@@ -1,4 +1,4 @@
-use Rattle.std.proofs.Common.{◌≡◌, ℕ, List, ap, Result, Ok, Err}
+use Rattle.std.proofs.Common.{◌≡◌, ℕ, List, Option, ap, Result, Ok, Err}
 use Rattle.std.specs.Prelude.{IfErr}
 use Rattle.pnm_filters.specs.declared.any_tool.AnyTool.{AnyTool}
 use Rattle.pnm_filters.specs.declared.any_tool.AnyTool.TheVariants.{Inverting, Cutting, Rescaling, Picking, Enlarging}
@@ -6,7 +6,7 @@ use Rattle.pnm_filters.specs.declared.any_tool.AnyTool.TheVariants.{FlippingRows
 use Rattle.pnm_filters.proofs.any_tool.AnyToolImageTool.rows.Goals as goal
 
 -- rows that are handed back are the same, and so is whichever tool handed them back
-same_rows : {W : Type 0} (tool : W → AnyTool) (rows : List (List ℕ)) (old new : W) (made : Result (List (List ℕ)) (List (List ℕ)))
+same_rows : {W : Type 0} (tool : W → AnyTool) (rows : List (List ℕ)) (old new : W) (made : Result (Option (List (List ℕ))) (List (List ℕ)))
     → IfErr made (λ same. (same ≡ rows) × (new ≡ old)) → IfErr made (λ same. (same ≡ rows) × (tool new ≡ tool old))
 same_rows tool rows old new (Ok made) kept = kept
 same_rows tool rows old new (Err same) kept = (kept.0, ap tool kept.1)

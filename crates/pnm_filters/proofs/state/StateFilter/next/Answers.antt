@@ -11,14 +11,14 @@ returns-in-Ok-clause-given g c =
     let s = c.self.inside in
     rw (← c.self.view_is)
     (given_by g.T.ImageTool.tool g.T.ImageTool.ready g.T.ImageTool.due g.T.ImageTool.kept (standing s.work s.place (pending_of s.owed s.waiting) s.fault)
-    c.give.new.work (pending_of c.give.new.owed c.give.new.waiting) s.fault c.in-Ok.message c.in-Ok.ensures)
+    c.give.new.work (pending_of c.give.new.owed c.give.new.waiting) s.fault c.in-Ok.given c.in-Ok.ensures)
 
 pub returns-in-Ok-clause-stop_alone : goal.returns-in-Ok-clause-stop_alone
 returns-in-Ok-clause-stop_alone g c =
     let s = c.self.inside in
     rw (← c.self.view_is)
     (stop_alone_by g.T.ImageTool.tool g.T.ImageTool.ready g.T.ImageTool.due g.T.ImageTool.kept
-    (standing s.work s.place (pending_of s.owed s.waiting) s.fault) c.give.new.work (pending_of c.give.new.owed c.give.new.waiting) c.in-Ok.message
+    (standing s.work s.place (pending_of s.owed s.waiting) s.fault) c.give.new.work (pending_of c.give.new.owed c.give.new.waiting) c.in-Ok.given
     c.in-Ok.ensures)
 
 pub returns-in-Ok-clause-full : goal.returns-in-Ok-clause-full
@@ -26,7 +26,7 @@ returns-in-Ok-clause-full g c =
     let s = c.self.inside in
     rw (← c.self.view_is)
     (full_by g.T.ImageTool.tool g.T.ImageTool.ready g.T.ImageTool.due g.T.ImageTool.kept (standing s.work s.place (pending_of s.owed s.waiting) s.fault)
-    c.give.new.work (pending_of c.give.new.owed c.give.new.waiting) s.fault c.in-Ok.message c.in-Ok.ensures)
+    c.give.new.work (pending_of c.give.new.owed c.give.new.waiting) s.fault c.in-Ok.given c.in-Ok.ensures)
 
 pub returns-in-Err-clause-failed : goal.returns-in-Err-clause-failed
 returns-in-Err-clause-failed g c = λ none. (
@@ -42,7 +42,7 @@ pub invariant_of-self : goal.invariant_of-self
 invariant_of-self g c =
     let s = c.self.inside in (
       subst IsLawfulTool (sym c.in-Ok.ensures.tool) c.self.invariant.0,
-      sound_given g.T.ImageTool.tool g.T.ImageTool.ready g.T.ImageTool.due g.T.ImageTool.kept s.work c.give.new.work s.place c.in-Ok.message
+      sound_given g.T.ImageTool.tool g.T.ImageTool.ready g.T.ImageTool.due g.T.ImageTool.kept s.work c.give.new.work s.place c.in-Ok.given
           (pending_of s.owed s.waiting) (pending_of c.give.new.owed c.give.new.waiting) s.fault c.in_default.is c.self.invariant.1 c.in-Ok.ensures,
     )
 

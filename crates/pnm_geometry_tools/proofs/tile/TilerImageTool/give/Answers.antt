@@ -1,4 +1,4 @@
-use Rattle.std.proofs.Common.{rules, ◌≡◌, inl, inr, suc, ◌-◌, ◌≤◌, ◌∷◌, length, refl, ap, subst, sym, ◌∙◌, arith, List, ℕ}
+use Rattle.std.proofs.Common.{rules, ◌≡◌, inl, inr, suc, ◌-◌, ◌≤◌, ◌∷◌, ◌++◌, length, refl, ap, subst, sym, ◌∙◌, arith, List, ℕ}
 use Rattle.pnm_geometry_tools.specs.declared.tile.Tiler.TheInside.{Inside}
 use Rattle.pnm_geometry_tools.specs.Keeping.{HasTiles, AreWithin, tiled, tiled_due, Tiled}
 use Rattle.pnm_geometry_tools.proofs.TileRowLaws.{given_of_queue, tiles_left, left_within}
@@ -39,6 +39,7 @@ returns-clause-due c =
     let row = c.in-Some.row in
     let queue : x.rows.items ≡ row ∷ rest = search rules in
     let more : x.left ≡ suc (x.left - 1) = omega arith in
+    let i = c.if-len-left.self-inside in
     let back = λ (i : Inside). c.if-len-left.tiled ∷ tiled_due (tiled i.width i.height i.shape.width i.shape.depth i.rows.items (x.left - 1)) in
     ap tiled_due (sym c.self.view_is) ∙ elim c.if-len-left.branch [
       | then-len-left+in_ok-tiled+in_ok-push_back v ↦
@@ -49,6 +50,7 @@ returns-clause-due c =
           given_of_queue w row c.if-len-left.tiled rest rest (x.left - 1) queue more (v.tiled-is ∙ v.in_ok-tiled-2.ensures.made) (inr (refl, enough))
           ∙ ap back (sym v.self-inside-is)
     ]
+    ∙ ap (λ (l : List (List ℕ)). l ++ tiled_due (tiled i.width i.height i.shape.width i.shape.depth i.rows.items (x.left - 1))) (sym c.one.ensures)
 
 pub tile_row-requires-clause-range : goal.tile_row-requires-clause-range
 tile_row-requires-clause-range c = grind (arith, common_steps)

@@ -7,4 +7,4 @@ pub returns-clause-row : goal.returns-clause-row
 returns-clause-row c =
     let s = c.args.shape in
     row_of_channel c.args.self.now s c.args._y c.args.row
-    ∙ ap (λ (l : List ℕ). l ∷ []) (sym (c.in_ok-pick_planes.ensures ∙ ap (λ (l : List ℕ). picked_samples l s c.args.row) c.numbers-numbers.ensures))
+    ∙ ap (λ (l : List ℕ). l ∷ []) (sym (c.in_ok-picked.ensures ∙ ap (λ (l : List ℕ). picked_samples l s c.args.row) c.numbers-numbers.ensures))

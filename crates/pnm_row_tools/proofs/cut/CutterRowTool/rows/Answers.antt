@@ -1,15 +1,21 @@
-use Rattle.std.proofs.Common.{sym, arith}
-use Rattle.pnm_tools.proofs.CutRowLaws.{columns_lie}
-use Rattle.pnm_row_tools.proofs.CutRowsLaws.{rows_answered}
+use Rattle.std.proofs.Common.{sym, ◌∙◌, arith}
+use Rattle.pnm_tools.proofs.CutRowLaws.{rows_lie}
+use Rattle.pnm_row_tools.proofs.CutRowsLaws.{none_answers, some_answer}
 use Rattle.pnm_row_tools.proofs.cut.CutterRowTool.rows.Goals as goal
 
-pub keep_columns_of_rows-requires-clause-columns : goal.keep_columns_of_rows-requires-clause-columns
-keep_columns_of_rows-requires-clause-columns c =
-    columns_lie c.args.self.now.cut c.args.shape c.args.self.now.columns (sym c.requires.ready.columns)
+pub returns-in_default-clause-made : goal.returns-in_default-clause-made
+returns-in_default-clause-made c =
+    let w = c.args.self.now in
+    let s = c.args.shape in
+    none_answers w.cut s w.columns w.rows c.args.y c.count.result c.args.rows c.requires.ready.columns c.requires.ready.rows
+    (rows_lie w.cut s w.rows (sym c.requires.ready.rows)).0 c.count.ensures.rows c.in_default.ensures.none
 
 pub returns-clause-made : goal.returns-clause-made
 returns-clause-made c =
     let w = c.args.self.now in
-    rows_answered w.cut c.args.shape w.columns w.rows c.args.y c.count.result c.args.rows c.keep_columns_of_rows.result c.requires.ready.columns
-    c.requires.ready.rows c.if-y-self.false c.count.ensures.rows c.count.ensures.some (omega (arith, c.if-self-last.false))
-    c.keep_columns_of_rows.ensures.kept
+    let s = c.args.shape in
+    let lie = rows_lie w.cut s w.rows (sym c.requires.ready.rows) in
+    let among = c.in-Some.among in
+    some_answer w.cut s w.columns w.rows c.args.y among.first _ c.args.rows c.requires.ready.columns c.requires.ready.rows lie.0
+    c.in-Some.ensures.before (omega (arith, c.in-Some.ensures.among)) (omega (arith, c.in-Some.ensures.among, c.in-Some.ensures.behind, c.count.ensures.rows))
+    ∙ sym c.in_ok-kept.ensures.kept

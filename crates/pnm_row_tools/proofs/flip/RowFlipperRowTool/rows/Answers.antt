@@ -7,11 +7,11 @@ use Rattle.pnm_row_tools.proofs.FlipRowsLaws.{rows_turned}
 use Rattle.pnm_row_tools.proofs.RowsLaws.{rows_stay}
 use Rattle.pnm_row_tools.proofs.flip.RowFlipperRowTool.rows.Goals as goal
 
-pub returns-then-turn-clause-made : goal.returns-then-turn-clause-made
-returns-then-turn-clause-made c =
-    rows_turned c.args.self.now c.args.shape c.args._y c.args.rows c.mirror_rows.result c.requires.ready.stays
+pub returns-in_ok-mirrored-clause-made : goal.returns-in_ok-mirrored-clause-made
+returns-in_ok-mirrored-clause-made c =
+    rows_turned c.args.self.now c.args.shape c.args._y c.args.rows c.in_ok-mirrored.mirrored c.requires.ready.stays
     (ap (λ (t : Turn). t.columns_reversed) (sym (c.turn.ensures ∙ ap turn_of c.self.view_is)) ∙ c.if-turn.true)
-    c.mirror_rows.ensures.mirrored
+    c.in_ok-mirrored.ensures.mirrored
 
 pub returns-else-turn-clause-made : goal.returns-else-turn-clause-made
 returns-else-turn-clause-made c =

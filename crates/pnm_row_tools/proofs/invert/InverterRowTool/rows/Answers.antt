@@ -2,7 +2,7 @@ use Rattle.std.proofs.Common.{◌-◌, List, ℕ, ap, sym, subst, ◌∙◌, len
 use Rattle.std.specs.List.{AllByRecursion}
 use Rattle.pnm_image.specs.Images.{cut_rows}
 use Rattle.pnm_image.specs.Places.{IsRowOf}
-use Rattle.pnm_tools.specs.Answering.{AreRowAnswers}
+use Rattle.pnm_tools.specs.Answering.{rows_answer}
 use Rattle.pnm_tools.specs.declared.tool.Tool.TheVariants.{Invert}
 use Rattle.pnm_tools.proofs.RowLaws.{changed_rows, row_of_invert}
 use Rattle.pnm_row_tools.proofs.RowsLaws.{range_of_rows}
@@ -19,9 +19,8 @@ returns-in-Ok-clause-made c =
     let parts = c.into_parts-samples in
     let s = c.args.shape in
     let made = c.new.ensures ∙ ap (λ (samples : List ℕ). cut_rows parts.result.1 parts.result.2 samples) c.in-Ok.ensures.inverted in
-    subst (λ (rows : List (List ℕ)). AreRowAnswers Invert s c.args._y rows c.new.result) (sym parts.ensures.rows)
-    (subst (AreRowAnswers Invert s c.args._y (cut_rows parts.result.1 parts.result.2 parts.result.0)) (sym made)
-    (changed_rows Invert s (λ sample. s.maxval - sample) c.args._y parts.result.1 parts.result.2 parts.result.0 (row_of_invert s)))
+    ap (rows_answer Invert s c.args._y) parts.ensures.rows
+    ∙ changed_rows Invert s (λ sample. s.maxval - sample) c.args._y parts.result.1 parts.result.2 parts.result.0 (row_of_invert s) ∙ sym made
 
 pub returns-in-Err-clause-same : goal.returns-in-Err-clause-same
 returns-in-Err-clause-same c =

@@ -1,5 +1,5 @@
 use Rattle.pnm_stages.specs.Rings.{sent, received, known_items}
-use Rattle.pnm_stages.specs.Parcels.{messages_in}
+use Rattle.pnm_image.specs.Parcels.{messages_in}
 use Rattle.pnm_stages.proofs.ParcelLaws.{known_by}
 use Rattle.pnm_stages.proofs.RingSteps.{same_input}
 use Rattle.pnm_serial.proofs.CollectorSteps.{collects_some, still_all}

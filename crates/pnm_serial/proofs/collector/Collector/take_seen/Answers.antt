@@ -1,6 +1,6 @@
 use Rattle.std.proofs.Common.{sym, subst, ◌∙◌, ◌++◌}
-use Rattle.pnm_stages.specs.declared.parcel.Parcel.{Parcel}
-use Rattle.pnm_stages.specs.Parcels.{messages_in}
+use Rattle.pnm_image.specs.declared.parcel.Parcel.{Parcel}
+use Rattle.pnm_image.specs.Parcels.{messages_in}
 use Rattle.pnm_serial.specs.Collectors.{HasCollected}
 use Rattle.pnm_stages.proofs.RingSteps.{same_input}
 use Rattle.pnm_serial.proofs.CollectorSteps.{collects_some, first_is}

@@ -1,5 +1,5 @@
 use Rattle.std.proofs.Common.{◌≡◌, ◌∷◌, ap, sym, subst, ◌∙◌}
-use Rattle.pnm_stages.specs.declared.parcel.Parcel.{Parcel}
+use Rattle.pnm_image.specs.declared.parcel.Parcel.{Parcel}
 use Rattle.pnm_stages.specs.Parcels.{BeginsByNoMessage}
 use Rattle.pnm_stages.specs.Rings.{received, SameReceiver}
 use Rattle.pnm_stages.proofs.RingSteps.{same_input}

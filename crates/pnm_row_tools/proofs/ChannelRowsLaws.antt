@@ -1,0 +1,86 @@
+-- Planes that are picked of rows that are held one after another.
+use Rattle.std.proofs.Common.{◌≡◌, ℕ, zero, suc, ◌+◌, ◌*◌, ◌<◌, ◌≤◌, List, [], ◌∷◌, ◌++◌, length, map, take, drop, get_or, slice_index, All, refl, sym, ap}
+use Rattle.std.proofs.Common.{ap₂, ◌∙◌, arith, add-mul, mul_assoc, suc-mul, zero-mul}
+use Rattle.std.specs.List.{flat_map, range_with_len}
+use Rattle.std.proofs.lemmas.List.{get_or-drop, get_or-take, length-map}
+use Rattle.std.proofs.lemmas.List.Elements.{All-head, All-tail}
+use Rattle.pnm_image.specs.declared.shape.Shape.{Shape}
+use Rattle.pnm_image.specs.Heads.{row_length}
+use Rattle.pnm_image.specs.Images.{cut_rows}
+use Rattle.pnm_tools.specs.Answering.{rows_answer}
+use Rattle.pnm_tools.specs.Channel.{Picks, picked_samples}
+use Rattle.pnm_tools.specs.declared.tool.Tool.TheVariants.{Channel}
+use Rattle.pnm_tools.proofs.PickLaws.{plane_there}
+use Rattle.pnm_tools.proofs.RangeLaws.{length_of_equals, pieces_alike, pieces_alike_from, pieces_in_parts}
+use Rattle.pnm_tools.proofs.RowLaws.{row_of_channel}
+use Rattle.pnm_row_tools.specs.EachRow.{changed}
+use Rattle.pnm_row_tools.specs.Keeping.{as_wide}
+use Rattle.pnm_row_tools.proofs.EachRowLaws.{cut_again, each_answered}
+
+-- what is made of numbers of which something holds
+alike_where : (P : ℕ → Type 0) (f g : ℕ → ℕ) (xs : List ℕ) → All P xs → ((x : ℕ) → P x → f x ≡ g x) → map f xs ≡ map g xs
+alike_where P f g [] all same = refl
+alike_where P f g (x ∷ xs) all same =
+    ap₂ (λ (y : ℕ) (ys : List ℕ). y ∷ ys) (same x (All-head P x xs all)) (alike_where P f g xs (All-tail P x xs all) same)
+
+-- the planes of a pixel
+abbrev planes_at : List ℕ → Shape → List ℕ → ℕ → List ℕ
+planes_at numbers s samples x = map (λ number. slice_index samples (x * s.depth + number)) numbers
+
+-- the pixels of the first row
+first_row : (numbers : List ℕ) (s : Shape) (each : ℕ) (samples : List ℕ) → All (λ number. number < s.depth) numbers → each ≡ row_length s
+    → flat_map (planes_at numbers s samples) (range_with_len 0 s.width) ≡ picked_samples numbers s (take each samples)
+first_row numbers s each samples below is =
+    pieces_alike (planes_at numbers s samples) (planes_at numbers s (take each samples)) 0 s.width (λ x column.
+    alike_where (λ number. number < s.depth) (λ number. slice_index samples (x * s.depth + number))
+    (λ number. slice_index (take each samples) (x * s.depth + number)) numbers below (λ number plane.
+    sym (get_or-take each samples (x * s.depth + number) 0 (plane_there s.width s.depth x number each (omega (arith, column)) plane is))))
+
+-- the pixels of the others
+other_rows : (numbers : List ℕ) (s : Shape) (count each : ℕ) (samples : List ℕ) → each ≡ row_length s
+    → flat_map (planes_at numbers s samples) (range_with_len s.width count) ≡ picked_samples numbers (as_wide count s) (drop each samples)
+other_rows numbers s count each samples is =
+    pieces_alike_from (planes_at numbers s samples) (planes_at numbers s (drop each samples)) s.width 0 count (λ i lt.
+    alike_where (λ number. number ≤ number) (λ number. slice_index samples ((s.width + i) * s.depth + number))
+    (λ number. slice_index (drop each samples) (i * s.depth + number)) numbers (λ k d below. omega arith) (λ number any.
+    let place : (s.width + i) * s.depth + number ≡ each + (i * s.depth + number) = omega (arith, add-mul s.width i s.depth, is) in
+    ap (λ (n : ℕ). get_or samples n 0) place ∙ sym (get_or-drop each samples (i * s.depth + number) 0))
+    ∙ (let from : i ≡ 0 + i = omega arith in ap (planes_at numbers s (drop each samples)) from))
+
+-- the planes of all pixels are those of each row, one after another
+pub rows_picked : (numbers : List ℕ) (s : Shape) (count each : ℕ) (samples : List ℕ) → All (λ number. number < s.depth) numbers → each ≡ row_length s
+    → picked_samples numbers (as_wide (count * s.width) s) samples ≡ changed (picked_samples numbers s) count each samples
+rows_picked numbers s zero each samples below is = ap (λ (n : ℕ). picked_samples numbers (as_wide n s) samples) (zero-mul s.width)
+rows_picked numbers s (suc count) each samples below is =
+    let f : ℕ → List ℕ = planes_at numbers s samples in
+    let all : suc count * s.width ≡ s.width + count * s.width = omega (arith, suc-mul count s.width) in
+    let start : 0 + s.width ≡ s.width = omega arith in
+    ap (λ (n : ℕ). flat_map f (range_with_len 0 n)) all ∙ pieces_in_parts f 0 s.width (count * s.width)
+    ∙ ap (λ (from : ℕ). flat_map f (range_with_len 0 s.width) ++ flat_map f (range_with_len from (count * s.width))) start
+    ∙ ap (λ (l : List ℕ). l ++ flat_map f (range_with_len s.width (count * s.width))) (first_row numbers s each samples below is)
+    ∙ ap (λ (l : List ℕ). picked_samples numbers s (take each samples) ++ l)
+    (other_rows numbers s (count * s.width) each samples is ∙ rows_picked numbers s count each (drop each samples) below is)
+
+-- a row of them has so many samples
+picked_long : (numbers : List ℕ) (s : Shape) (row : List ℕ) → length (picked_samples numbers s row) ≡ s.width * length numbers
+picked_long numbers s row =
+    length_of_equals (planes_at numbers s row) (length numbers) 0 s.width (λ x. length-map numbers (λ number. slice_index row (x * s.depth + number)))
+
+-- all of them are as many as their rows' samples
+pub all_picked_long : (numbers : List ℕ) (s : Shape) (count size : ℕ) (samples made : List ℕ) → size ≡ s.width * length numbers
+    → made ≡ picked_samples numbers (as_wide (count * s.width) s) samples → length made ≡ count * size
+all_picked_long numbers s count size samples made is made_is =
+    ap length made_is ∙ picked_long numbers (as_wide (count * s.width) s) samples
+    ∙ omega (arith, mul_assoc count s.width (length numbers), ap (λ (n : ℕ). count * n) is)
+
+-- cut again they are the planes of each row, which answer it
+pub picked_rows_answer : (planes : Picks) (s : Shape) (y count each size : ℕ) (samples made : List ℕ) (rows : List (List ℕ))
+    → All (λ number. number < s.depth) planes.numbers → each ≡ row_length s → length samples ≡ count * each → size ≡ s.width * length planes.numbers
+    → made ≡ picked_samples planes.numbers (as_wide (count * s.width) s) samples → rows ≡ cut_rows count each samples
+    → rows_answer (Channel planes) s y rows ≡ cut_rows count size made
+picked_rows_answer planes s y count each size samples made rows below is long size_is made_is cut =
+    let f : List ℕ → List ℕ = picked_samples planes.numbers s in
+    each_answered (Channel planes) s f y rows (λ k row from to. row_of_channel planes s k row)
+    ∙ ap (map f) cut
+    ∙ sym (cut_again f each size (λ row whole. picked_long planes.numbers s row ∙ sym size_is) count samples (omega (arith, long)))
+    ∙ ap (cut_rows count size) (sym (rows_picked planes.numbers s count each samples below is) ∙ sym made_is)

@@ -1,0 +1,33 @@
+use Rattle.std.proofs.Common.{length, take, ◌*◌, ◌+◌, ◌∷◌, []}
+use Rattle.pnm_image.specs.Rows.{row_messages}
+use Rattle.pnm_serial.specs.Downstreams.{output_of}
+use Rattle.pnm_serial.specs.SerialChains.{FeedsThrough}
+use Rattle.pnm_serial.proofs.PassingSteps.{Going, first_waiting}
+use Rattle.pnm_serial.proofs.passing.+through.Given as goal
+
+-- the number of stages, and how far what is passed has come before the first of them
+abbrev pub decreases-feed : goal.decreases-feed
+decreases-feed g l = 4 * length l.stages.now
+
+abbrev pub decreases-feed_each : goal.decreases-feed_each
+decreases-feed_each g l = 4 * length l.stages.now + 1
+
+abbrev pub decreases-feed_rows : goal.decreases-feed_rows
+decreases-feed_rows g l = 4 * length l.stages.now + 2
+
+abbrev pub decreases-feed_through : goal.decreases-feed_through
+decreases-feed_through g l = 4 * length l.stages.now + 3
+
+abbrev pub invariant-feed-loop-answer : goal.invariant-feed-loop-answer
+invariant-feed-loop-answer g l = Going g.F.Filter.at g.F.Filter.all_given g.F.Filter.stopped g.W.BytesOut.held g.W.BytesOut.failures l.fn.stages
+    (l.fn.message ∷ []) l.stages l.fn.downstream l.downstream × g.W.BytesOut.same (output_of l.fn.downstream) (output_of l.downstream)
+
+abbrev pub decreases-feed-loop-answer : goal.decreases-feed-loop-answer
+decreases-feed-loop-answer g l = first_waiting g.F.Filter.waiting l.stages
+
+-- the rows before this one have passed
+abbrev pub invariant-feed_each-loop-at : goal.invariant-feed_each-loop-at
+invariant-feed_each-loop-at g l =
+    FeedsThrough g.F.Filter.at g.F.Filter.all_given g.F.Filter.stopped g.W.BytesOut.held g.W.BytesOut.failures l.fn.stages
+    (row_messages (take l.at l.fn.rows)) l.stages l.fn.downstream l.downstream
+    × g.W.BytesOut.same (output_of l.fn.downstream) (output_of l.downstream)
