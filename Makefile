@@ -6,7 +6,7 @@ TESTED := pnm_image_tests pnm_flow_tests
 # programs that tell what comes of written cases
 CASES := pnm_format_cases pnm_tools_cases pnm_flow_cases
 
-.PHONY: all bench bench-files bench-sweep bench-waits built check controls deb dist gate help install install-library
+.PHONY: all bench bench-files bench-library bench-sweep bench-waits built check controls deb dist gate help install install-library
 .PHONY: lanes library long-stream model near pass pictures recipes refused scripts soak soak-library test toolchain uninstall wheel
 
 # where `make install` puts things, below DESTDIR
@@ -21,10 +21,10 @@ COMPLETIONDIR ?= $(PREFIX)/share/bash-completion/completions
 ZSHDIR ?= $(PREFIX)/share/zsh/site-functions
 FISHDIR ?= $(PREFIX)/share/fish/vendor_completions.d
 SHIMDIR = $(LIBEXECDIR)/pnmpipe/netpbm
-HELPERS := pnmpipe-split
 # helpers that stand beside the modules they use, with a link in BINDIR
-LINKED := pnmpipe-explain pnmpipe-files pnmpipe-translate
-MODULES := chain_text.py image_stream.py input_faults.py netpbm_words.py shell_reader.py slow_reader.py
+HELPERS := pnmpipe-explain pnmpipe-files pnmpipe-split pnmpipe-translate
+MODULES := chain_text.py file_machines.py file_tasks.py file_workers.py image_stream.py input_faults.py netpbm_words.py
+MODULES += shell_reader.py slow_reader.py
 SHIMS := pnminvert pamcut pamdepth pamchannel pamenlarge pamflip pnmtile pnmcut pnmdepth pnmenlarge pnmflip
 
 # crates whose tests of want of memory are refused each allocation
@@ -38,8 +38,8 @@ SECONDS ?= 60
 all: toolchain
 	python3 scripts/build.py
 
-# the crates that the C library stands on, over what make has proved of them, and the library, as bin/libpnmpipe.a,
-# bin/libpnmpipe.so.1 and bin/pnmpipe.h
+# the same with the crates that the C library stands on, and the library, as bin/libpnmpipe.a, bin/libpnmpipe.so.1 and
+# bin/pnmpipe.h
 library: toolchain
 	python3 scripts/build.py library
 
@@ -53,8 +53,9 @@ check: toolchain
 	tail -n 1 bin/gate
 
 # one check a processor, each of at most 4 GB; then each allocation and each start of a thread is refused in turn, of the
-# program and the tests that the gate has left, the program's input is silent, its stack is small, the C library's header
-# fits the sources, the scripts, pages and documents are checked, and the model of how threads wait is searched
+# program and the tests that the gate has left, the program's input is silent, its stack is small, the C library is built
+# over what was proved and tested, the scripts, pages and documents are checked, and the model of how threads wait is
+# searched
 gate:
 	mkdir -p bin
 	rm -f bin/gate-failed
@@ -64,7 +65,7 @@ gate:
 	python3 scripts/idle.py --program $(PROGRAM)/out/pnmpipe
 	python3 scripts/waits.py --program $(PROGRAM)/out/pnmpipe
 	python3 scripts/room.py --program $(PROGRAM)/out/pnmpipe
-	python3 scripts/test_library.py
+	python3 scripts/gate_library.py --program $(PROGRAM)/out/pnmpipe
 	$(MAKE) --no-print-directory scripts BUILT=$(PROGRAM)/out/pnmpipe
 	python3 scripts/cases.py
 	python3 model/check.py --where-installed
@@ -80,6 +81,8 @@ scripts:
 	python3 scripts/test_commands.py --program $(BUILT)
 	python3 scripts/test_translate.py --program $(BUILT)
 	python3 scripts/test_helpers.py --program $(BUILT)
+	python3 scripts/test_files.py --program $(BUILT)
+	python3 scripts/test_machines.py --program $(BUILT)
 	python3 scripts/test_pages.py --program $(BUILT)
 	python3 scripts/test_explain.py --program $(BUILT)
 	python3 scripts/test_build.py
@@ -101,12 +104,13 @@ install: built
 	install -d "$(DESTDIR)$(BINDIR)" "$(DESTDIR)$(MANDIR)/man1" "$(DESTDIR)$(SHIMDIR)"
 	install -d "$(DESTDIR)$(COMPLETIONDIR)" "$(DESTDIR)$(ZSHDIR)" "$(DESTDIR)$(FISHDIR)"
 	install -m 755 $(BUILT) "$(DESTDIR)$(BINDIR)/pnmpipe"
-	for helper in $(HELPERS); do install -m 755 scripts/$$helper "$(DESTDIR)$(BINDIR)/$$helper" || exit 1; done
 	for page in man/*.1; do sed "s/@VERSION@/$$(cat VERSION)/" $$page > "$(DESTDIR)$(MANDIR)/man1/$${page#man/}" || exit 1; done
 	install -m 644 completions/pnmpipe.bash "$(DESTDIR)$(COMPLETIONDIR)/pnmpipe"
-	for file in $(LINKED) netpbm-shim; do install -m 755 scripts/$$file "$(DESTDIR)$(LIBEXECDIR)/pnmpipe" || exit 1; done
+	for file in $(HELPERS) netpbm-shim; do install -m 755 scripts/$$file "$(DESTDIR)$(LIBEXECDIR)/pnmpipe" || exit 1; done
 	for file in $(MODULES); do install -m 644 scripts/$$file "$(DESTDIR)$(LIBEXECDIR)/pnmpipe" || exit 1; done
-	for file in $(LINKED); do ln -srf "$(DESTDIR)$(LIBEXECDIR)/pnmpipe/$$file" "$(DESTDIR)$(BINDIR)/$$file" || exit 1; done
+	install -d "$(DESTDIR)$(LIBEXECDIR)/pnmpipe/pnmpipe"
+	install -m 644 library/python/pnmpipe/__init__.py "$(DESTDIR)$(LIBEXECDIR)/pnmpipe/pnmpipe"
+	for file in $(HELPERS); do ln -srf "$(DESTDIR)$(LIBEXECDIR)/pnmpipe/$$file" "$(DESTDIR)$(BINDIR)/$$file" || exit 1; done
 	for name in $(SHIMS); do ln -sf ../netpbm-shim "$(DESTDIR)$(SHIMDIR)/$$name" || exit 1; done
 	if test -n "$(install_library)"; then $(MAKE) --no-print-directory $(install_library); fi
 
@@ -129,11 +133,11 @@ uninstall:
 	for name in libpnmpipe.a libpnmpipe.so libpnmpipe.so.1 pkgconfig/pnmpipe.pc; do rm -f "$(DESTDIR)$(LIBDIR)/$$name"; done
 	rm -f "$(DESTDIR)$(INCLUDEDIR)/pnmpipe.h" "$(DESTDIR)$(MANDIR)/man3/pnmpipe.3"
 	rm -f "$(DESTDIR)$(BINDIR)/pnmpipe" "$(DESTDIR)$(COMPLETIONDIR)/pnmpipe"
-	for file in $(LINKED) $(MODULES) netpbm-shim; do rm -f "$(DESTDIR)$(LIBEXECDIR)/pnmpipe/$$file"; done
-	for helper in $(HELPERS) $(LINKED); do rm -f "$(DESTDIR)$(BINDIR)/$$helper"; done
+	for file in $(HELPERS) $(MODULES) netpbm-shim pnmpipe/__init__.py; do rm -f "$(DESTDIR)$(LIBEXECDIR)/pnmpipe/$$file"; done
+	for helper in $(HELPERS); do rm -f "$(DESTDIR)$(BINDIR)/$$helper"; done
 	for page in man/*.1; do rm -f "$(DESTDIR)$(MANDIR)/man1/$${page#man/}"; done
 	for name in $(SHIMS); do rm -f "$(DESTDIR)$(SHIMDIR)/$$name"; done
-	for folder in "$(DESTDIR)$(SHIMDIR)" "$(DESTDIR)$(LIBEXECDIR)/pnmpipe"; do test ! -d "$$folder" || rmdir "$$folder"; done
+	for folder in /netpbm /pnmpipe ''; do folder="$(DESTDIR)$(LIBEXECDIR)/pnmpipe$$folder"; test ! -d "$$folder" || rmdir "$$folder"; done
 
 # archives of the source and of the built program, and Debian packages, in dist/
 dist deb: built
@@ -164,13 +168,18 @@ bench:
 bench-sweep:
 	python3 scripts/bench.py --sweep
 
-# many small files in each way, beside Netpbm: a table, for a quiet machine
+# many files in each way, beside Netpbm: a table, for a quiet machine, with what make and make library have left
 bench-files:
 	python3 scripts/bench_files.py
 
 # the program that make has left beside busy processes on its processors, and Netpbm's tools: a table, for a quiet machine
 bench-waits: built
 	python3 scripts/bench_waits.py
+
+# calls of the C library that make library has left, in C and in Python, beside a process of pnmpipe a file, Pillow, numpy
+# and libvips: a table, for a quiet machine
+bench-library: built
+	python3 scripts/bench_library.py
 
 # the program that make has left with 1, 2, 4 and 8 lanes: a table, for a quiet machine
 lanes:
@@ -203,15 +212,16 @@ toolchain:
 
 help:
 	@echo "make                 proves the crates that the program stands on, builds it and leaves it as bin/pnmpipe"
-	@echo "make library         proves the crates that the C library stands on, builds it and leaves it as bin/libpnmpipe.a and bin/libpnmpipe.so.1, with bin/pnmpipe.h"
+	@echo "make library         does what make does, and beside it the same for the C library, as bin/libpnmpipe.a and bin/libpnmpipe.so.1, with bin/pnmpipe.h"
 	@echo "make near CRATES=..  tries changed crates in minutes: layout, proof, edits that must fail, tests as they stand, and the crates above"
 	@echo "make pass CRATES=..  proves changed crates, their tests and edits from nothing, as the gate does, with what they stand on"
 	@echo "make test            the tests alone, without their proofs"
-	@echo "make check           the whole gate: every proof, the edits that must fail, the tests, the stored runs and commands, refused allocations, silent inputs, small stacks, the header of the C library, scripts and pages, the model"
+	@echo "make check           the whole gate: every proof, the edits that must fail, the tests, the stored runs and commands, refused allocations, silent inputs, small stacks, the C library, scripts and pages, the model"
 	@echo "make bench           times the program that make has left beside Netpbm's own tools, on large images, narrow rows and small images, and writes docs/figures.tsv"
 	@echo "make bench-sweep     all tools by kinds of images and by options, and which take more processor time than Netpbm's"
-	@echo "make bench-files     times many small files in each way, beside Netpbm's own tools"
+	@echo "make bench-files     times many files in each way, beside Netpbm's own tools"
 	@echo "make bench-waits     times the program that make has left beside busy processes on its processors, and Netpbm's own tools"
+	@echo "make bench-library   times calls of the C library in C and in Python, beside a process a file, Pillow, numpy and libvips"
 	@echo "make lanes           times the program that make has left with 1, 2, 4 and 8 lanes"
 	@echo "make long-stream     passes a stream of 4 GiB through the program that make has left, and wants less than 32 MB of memory"
 	@echo "make controls        tries the edits that keep the code's meaning, which must prove"

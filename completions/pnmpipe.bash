@@ -53,7 +53,7 @@ _pnmpipe_value() {
     case $1 in
         --ring) words='1 16 64 256 1024' ;;
         --lanes) words='1 2 4 8' ;;
-        --jobs | --start | --digits) ;;
+        --jobs | --small | --machines | --start | --digits) ;;
         *) return 1 ;;
     esac
     mapfile -t COMPREPLY < <(compgen -W "$words" -- "$2")
@@ -64,7 +64,7 @@ _pnmpipe_at_chain() {
     local at
     for ((at = 1; at < COMP_CWORD; at++)); do
         case ${COMP_WORDS[at]} in
-            --ring | --lanes | --jobs) at=$((at + 1)) ;;
+            --ring | --lanes | --jobs | --small | --machines) at=$((at + 1)) ;;
             -*) ;;
             *) return 1 ;;
         esac
@@ -78,7 +78,8 @@ _pnmpipe() {
         pnmpipe) options='--ring --lanes --plain --help --version' ;;
         pnmpipe-explain) options='--brief --no-input --ring --lanes --plain --help --version' ;;
         pnmpipe-files)
-            options='--jobs --resume --keep-folders --suffix --bar --names --ring --lanes --plain --help --version'
+            options='--jobs --resume --keep-folders --suffix --bar --small --machines --names --names0 --ring --lanes'
+            options="$options --plain --help --version"
             ;;
         pnmpipe-split) options='--start --digits --names --force --help --version' ;;
         pnmpipe-translate) options='--file --help --version' ;;

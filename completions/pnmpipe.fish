@@ -22,12 +22,30 @@ function __pnmpipe_chain
         case pamflip
             set words -lr -tb -xy -r90 -r180 -r270 -null -leftright -topbottom -transpose
     end
+    # a word that alone goes on would close the quote, and a second one that does keeps it open
+    if string match -qr '^[\'"]' -- (commandline -ct)
+        set -l found (string match -r -- '^'(string escape --style=regex -- "$last")'.*' $words)
+        test (count $found) -ne 1; or set words "$found " "$found |"
+    end
     string join \n -- $before$words
 end
 
 # whether no word but options stands before the one that is typed
 function __pnmpipe_at_chain
-    test (count (commandline -opc | string match -v -- '-*' | string match -vr '^[0-9]+$')) -eq 1
+    set -l count 0
+    set -l is_value 0
+    for word in (commandline -opc)
+        switch $word
+            case --ring --lanes --jobs --small --machines
+                set is_value 1
+            case '-*'
+                set is_value 0
+            case '*'
+                test $is_value -eq 1; or set count (math $count + 1)
+                set is_value 0
+        end
+    end
+    test $count -eq 1
 end
 
 for name in pnmpipe pnmpipe-explain pnmpipe-files
@@ -42,12 +60,15 @@ for name in pnmpipe pnmpipe-explain pnmpipe-files pnmpipe-split pnmpipe-translat
 end
 complete -c pnmpipe-explain -l brief -d 'one line'
 complete -c pnmpipe-explain -l no-input -d 'judge the chain alone'
-complete -c pnmpipe-files -l jobs -x -d 'calls at a time'
+complete -c pnmpipe-files -l jobs -x -d 'files at a time'
+complete -c pnmpipe-files -l small -x -d 'the most bytes of a small file'
+complete -c pnmpipe-files -l machines -x -d 'machines that files go to'
 complete -c pnmpipe-files -l resume -d 'leave out files that are done'
 complete -c pnmpipe-files -l keep-folders -d 'keep the folders of the files'
 complete -c pnmpipe-files -l suffix -d 'name results by their kind'
 complete -c pnmpipe-files -l bar -d 'show the progress'
 complete -c pnmpipe-files -l names -r -d 'a list of files'
+complete -c pnmpipe-files -l names0 -r -d 'a list of names that end in a byte 0'
 complete -c pnmpipe-split -l start -x -d 'the first number'
 complete -c pnmpipe-split -l digits -x -d 'digits of a number'
 complete -c pnmpipe-split -l names -r -d 'a list of names'

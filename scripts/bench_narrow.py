@@ -2,7 +2,7 @@
 """Times bin/pnmpipe over narrow rows and small images beside a shell pipe of Netpbm's tools, in one run: file to
 memory, medians, the bytes compared. A line for each image and chain: wall seconds, processor seconds and the greatest
 resident memory in MB of the program, of each program named by --beside NAME=PATH and of the pipe, and the program's
-wall time over the pipe's."""
+wall time over the pipe's, with its processor time over the pipe's behind it."""
 
 import argparse
 import os
@@ -16,14 +16,32 @@ PAGE_CHAIN = "pamcut -left 8 -right -9 | pamflip -lr | pnminvert"
 LETTER_CHAIN = "pamcut -left 75 -right -76 | pamflip -lr | pnminvert"
 ICON_CHAINS = ["pamcut -left 8", "pamcut -left 8 | pamdepth 127"]
 
+CUT = "pamcut -left 8 -right -9 -top 8 -bottom -9"
+FOUR = "pamcut -left 8 -right -9 | pamflip -lr | pnminvert | pamenlarge 2"
+TURNS = ["pamflip -tb", "pamflip -r180", "pamflip -r90"]
+RGBA = b"P7\nWIDTH 32\nHEIGHT 32\nDEPTH 4\nMAXVAL 255\nTUPLTYPE RGB_ALPHA\nENDHDR\n"
+
 # the name, the header and the bytes of the raster of an image, how many there are, and the chains
 STREAMS = [
-    ("page", b"P4\n2480 56128\n", 310 * 56128, 1, ["pnminvert", PAGE_CHAIN]),
+    ("page", b"P4\n2480 56128\n", 310 * 56128, 1, ["pnminvert", PAGE_CHAIN, "pamflip -tb", "pamenlarge 2"]),
     ("letter", b"P4\n2550 56128\n", 319 * 56128, 1, ["pnminvert", LETTER_CHAIN]),
+    ("page at 600", b"P4\n4960 28060\n", 620 * 28060, 1, [CUT]),
+    ("page at 1200", b"P4\n9921 14031\n", 1241 * 14031, 1, [CUT]),
     ("label", b"P4\n384 400000\n", 48 * 400000, 1, ["pnminvert"]),
-    ("narrow", b"P5\n64 500000\n255\n", 64 * 500000, 1, ["pamcut -left 8 | pamdepth 127"]),
+    ("receipt", b"P4\n576 200000\n", 72 * 200000, 1, [*TURNS, "pamenlarge 2", "pamenlarge 4", FOUR]),
+    ("label of 812", b"P4\n812 100000\n", 102 * 100000, 1, ["pamflip -r90", "pamenlarge 2", FOUR]),
+    ("narrow", b"P5\n64 500000\n255\n", 64 * 500000, 1, ["pamcut -left 8 | pamdepth 127", "pamflip -tb"]),
+    ("16 a row", b"P5\n16 500000\n255\n", 16 * 500000, 1, ["pamcut -left 2", "pamenlarge 2"]),
+    ("color, 16", b"P6\n16 200000\n255\n", 48 * 200000, 1, ["pamchannel 1", "pamenlarge 3"]),
+    ("16 bits, 64", b"P5\n64 100000\n65535\n", 128 * 100000, 1, ["pnminvert", "pamcut -left 4", "pamdepth 255"]),
+    ("stamps", b"P4\n200 100\n", 2500, 10000, [CUT]),
+    ("digits", b"P5\n28 28\n255\n", 784, 20000, [CUT]),
+    ("rgba icons", RGBA, 4096, 8000, [CUT, "pamchannel 0 -tupletype GRAYSCALE"]),
     ("icons", b"P5\n64 64\n255\n", 64 * 64, 20000, ICON_CHAINS),
     ("dots", b"P5\n1 1\n255\n", 1, 100000, ["pamcut | pamcut | pamcut"]),
+    ("gray page", b"P5\n2480 7016\n255\n", 2480 * 7016, 1, ["pnminvert"]),
+    ("color page", b"P6\n2480 3508\n255\n", 7440 * 3508, 1, ["pnminvert", "pamenlarge 2"]),
+    ("photo", b"P6\n4032 3024\n255\n", 12096 * 3024, 1, ["pnminvert"]),
 ]
 
 
@@ -35,6 +53,11 @@ def written(folder, name, header, size, count):
             file.write(header)
             file.write(numbers.randbytes(size))
     return path
+
+
+def over(result, peer):
+    """The wall and the processor seconds of a run over those of its peer."""
+    return result[0] / peer[0], result[1] / max(peer[1], 0.001)
 
 
 def main():
@@ -68,7 +91,7 @@ def main():
                     cells.append(shown(result) + ("" if fits else " (OTHER BYTES)"))
                 if results[0] and peer:
                     figures[name, chain] = results[0][0], peer[0]
-                ratio = "%.2f" % (results[0][0] / peer[0]) if results[0] and peer else "-"
+                ratio = "%.2f, %.2f" % over(results[0], peer) if results[0] and peer else "-"
                 print("| %s | `%s` | %s | %s | %s |" % (name, chain, " | ".join(cells), shown(peer), ratio), flush=True)
             os.remove(path)
     if args.figures:

@@ -1,6 +1,7 @@
 #!/usr/bin/env python3
-"""Proves the crates that the program stands on, and no more, and builds it as bin/pnmpipe; or, as `build.py library`,
-those that the C library stands on, and builds that as bin/libpnmpipe.a and bin/libpnmpipe.so.1, with its header.
+"""Proves the crates that the program stands on, and no more, and builds it as bin/pnmpipe; as `build.py library` those
+that the C library stands on, too, and builds that beside it, as bin/libpnmpipe.a and bin/libpnmpipe.so.1, with its
+header.
 
 Each crate is checked from nothing by `rattle build`, over the statements of the crates below it, as the gate checks it:
 the proofs of libraries aren't loaded, as `rt check` loads them to begin with what it kept. Crates that don't stand on
@@ -80,9 +81,9 @@ def proved(file):
     return os.path.join(PROVED, file)
 
 
-def made_of(name):
+def made_of(name, at=PROVED):
     """What is left of a crate that is proved: the program, the static library, or what crates above it read."""
-    return proved({PROGRAM: PROGRAM, LIBRARY: f"lib{LIBRARY}.a"}.get(name, f"{name}.rlib"))
+    return os.path.join(at, {PROGRAM: PROGRAM, LIBRARY: f"lib{LIBRARY}.a"}.get(name, f"{name}.rlib"))
 
 
 def text_of(path):
@@ -127,24 +128,25 @@ class Toolchain:
                 made.update(repr((os.path.relpath(path, ROOT), file.read())).encode())
         return made.hexdigest()
 
-    def build(self, name, jobs):
-        """Checks the crate and writes its statements, the program's object file, or the static library."""
+    def build(self, name, jobs, at=PROVED):
+        """Checks the crate over what the folder has of those below it, and writes there its statements, the program's
+        object file, or the static library."""
         is_program = name == PROGRAM
         words = [self.path("bin/rattle"), "build", "--crate-name", name]
         words += ["src/main.rt" if is_program else "src/lib.rt"]
         for library in ["std", *self.lines[name]]:
             own = library in self.lines
-            folder = proved(f"{library}.rlib") if own else self.path(f"rlibs/{library}.rlib")
+            folder = made_of(library, at) if own else self.path(f"rlibs/{library}.rlib")
             words += ["--extern", f"{library}={folder}"]
-        words += ["-L", f"dependency={PROVED}", "-L", f"dependency={self.path('rlibs')}"]
+        words += ["-L", f"dependency={at}", "-L", f"dependency={self.path('rlibs')}"]
         words += ["--antt-project", self.path("rattle/logic/antt-project.json")]
         words += ["--logic-built", self.path("logic_built"), "--jobs", str(jobs), "--links", f"{name}="]
         if is_program:
-            return [*words, "--toolchain", self.path("toolchain"), "-o", proved(f"{name}.o")]
+            return [*words, "--toolchain", self.path("toolchain"), "-o", os.path.join(at, f"{name}.o")]
         if name == LIBRARY:
             words += ["--crate-type", "staticlib", "--toolchain", self.path("toolchain")]
-            return [*words, "-o", made_of(name)]
-        return [*words, "--statements", "-o", made_of(name)]
+            return [*words, "-o", made_of(name, at)]
+        return [*words, "--statements", "-o", made_of(name, at)]
 
     def link(self, program):
         """Links the program's object file with what the standard library needs of C."""
@@ -189,13 +191,14 @@ class Run:
 class Build:
     """The crates that are left, and the checks that run."""
 
-    def __init__(self, toolchain, most, target=PROGRAM):
+    def __init__(self, toolchain, most, targets=(PROGRAM,)):
         crates = read_crates()
         self.toolchain = toolchain
-        self.target = target
+        self.targets = targets
         # how many checks may run at a time
         self.most = most
-        self.crates = {name: below(crates, name) for name in crates if name in below(crates, target) | {target}}
+        wanted = set(targets).union(*(below(crates, it) for it in targets))
+        self.crates = {name: below(crates, name) for name in crates if name in wanted}
         self.sums = {}
         for name in self.crates:
             self.sums[name] = toolchain.sum(name, self.sums)
@@ -210,6 +213,9 @@ class Build:
         for name in reversed(self.crates):
             above = [self.behind[it] for it in self.crates if name in self.crates[it]]
             self.behind[name] = lines_of(name) + max(above, default=0)
+        # the program's check takes as long as those of the crates that are the library's alone, which have more lines
+        others = set(self.crates) - below(crates, PROGRAM)
+        self.behind[PROGRAM] = max(self.behind[it] for it in others)
 
     def is_proved(self, name):
         """Whether what an earlier call made of the crate is there, and still the same would be made."""
@@ -269,7 +275,7 @@ class Build:
                 file.write(self.sums[name])
 
     def prove(self):
-        """Proves the crates, the program or the library last. Gives the status."""
+        """Proves the crates, the program and the library last. Gives the status."""
         told = time.monotonic()
         while self.left or self.runs:
             self.fill()
@@ -296,9 +302,9 @@ class Build:
 
     def finish(self):
         """Makes of what was built what is left in bin. Gives the status."""
-        if self.target == PROGRAM:
+        if LIBRARY not in self.targets:
             return self.link()
-        return library.make(made_of(LIBRARY), os.path.join(ROOT, "bin"), self.toolchain.path("c"))
+        return self.link() or library.make(made_of(LIBRARY), os.path.join(ROOT, "bin"), self.toolchain.path("c"))
 
     def link(self):
         """Links the program where it was built anew, and has it pass its stored run. Gives the status."""
@@ -327,11 +333,11 @@ class Build:
             run.stop()
 
 
-def build(target):
+def build(targets):
     start = time.monotonic()
-    this = Build(Toolchain(), max(1, min(processors(), free_memory() // MEMORY_OF_ONE)), target)
+    this = Build(Toolchain(), max(1, min(processors(), free_memory() // MEMORY_OF_ONE)), targets)
     taken = f"; {len(this.done)} were proved before" if this.done else ""
-    named = "program" if target == PROGRAM else "library"
+    named = "program and the library" if LIBRARY in targets else "program"
     say(f"{len(this.crates)} crates, the {named} among them, on {processors()} processors{taken}")
     if not this.done:
         say(TOLD)
@@ -341,8 +347,8 @@ def build(target):
         this.stop()
     if not status:
         minutes, seconds = divmod(round(time.monotonic() - start), 60)
-        left = PROGRAM if target == PROGRAM else library.SHARED
-        say(f"bin/{left} is built: {minutes} min {seconds} s")
+        left = f"bin/{library.SHARED} are" if LIBRARY in targets else "is"
+        say(f"bin/{PROGRAM} {'and ' if LIBRARY in targets else ''}{left} built: {minutes} min {seconds} s")
     return status
 
 
@@ -353,7 +359,7 @@ def main():
     os.makedirs(os.path.join(ROOT, "bin/log"), exist_ok=True)
     try:
         with alone():
-            return build(LIBRARY if sys.argv[1:] else PROGRAM)
+            return build((PROGRAM, LIBRARY) if sys.argv[1:] else (PROGRAM,))
     except Ended as ended:
         say("ended by a signal; a next call goes on with what is proved")
         return 128 + ended.args[0]

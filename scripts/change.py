@@ -115,16 +115,21 @@ def near(crates, names):
     return 0
 
 
+def lay_out(folder, taken, whole):
+    """A copy of these crates that rt ci takes: of some all but what checks left, of the others what a check reads."""
+    # (rt ci wants crates.txt at the top of a repository)
+    os.mkdir(os.path.join(folder, ".git"))
+    shutil.copy(os.path.join(ROOT, "HANDLES"), folder)
+    copy_lines(taken, folder)
+    for name in taken:
+        copied(name, folder, () if name in whole else SOURCES)
+
+
 def pass_alone(crates, names):
     whole = set(names).union(*(tests_of(crates, name) for name in names))
     taken = whole.union(*(below(crates, name) for name in whole))
     with tempfile.TemporaryDirectory(prefix="pnmpipe-pass-") as folder:
-        # (rt ci wants crates.txt at the top of a repository)
-        os.mkdir(os.path.join(folder, ".git"))
-        shutil.copy(os.path.join(ROOT, "HANDLES"), folder)
-        copy_lines(taken, folder)
-        for name in taken:
-            copied(name, folder, () if name in whole else SOURCES)
+        lay_out(folder, taken, whole)
         named = ", ".join(it for it in crates if it in whole)
         say(f"rt ci over {named}, and {len(taken - whole)} crates that these stand on")
         environment = {"RT_JOBS": str(len(os.sched_getaffinity(0))), **os.environ}

@@ -1,5 +1,5 @@
 """Reads a stream of Netpbm images by blocks, in little memory: the head of each, or the stream's first fault, with its
-place and what stands there. `pnmpipe-explain` uses it."""
+place and what stands there. `pnmpipe-explain` and `pnmpipe-split` use it."""
 
 import os
 import re
@@ -61,6 +61,11 @@ class Stream:
         self.held, self.at = b"".join(parts), 0
         return self.held[:count]
 
+    def some(self, count):
+        """Some of the next bytes, which stay: what is there, at most so many; none at the end."""
+        self.peek(1)
+        return self.held[self.at : self.at + count]
+
     def skip(self, count):
         """Takes bytes that are held."""
         self.at += count
@@ -106,17 +111,20 @@ class Reader:
     def images(self):
         """Each image, once all of it was read; a fault is raised with its place in the stream."""
         while not self.is_over:
-            number = self.image.number + 1 if self.image else 1
-            if number > 1 and not self.stream.peek(1) and not self.stream.failure:
+            if self.image and not self.stream.peek(1) and not self.stream.failure:
                 return
-            self.before, self.image = self.image, Image(number, self.stream.place)
-            self.read_header()
-            if self.image.is_plain:
+            if self.next_image().is_plain:
                 PlainRaster(self.stream, self.image).read()
                 self.is_over = True
             else:
                 self.read_raster()
             yield self.image
+
+    def next_image(self):
+        """The next image, whose header is read; the raster before it was taken."""
+        self.before, self.image = self.image, Image(self.image.number + 1 if self.image else 1, self.stream.place)
+        self.read_header()
+        return self.image
 
     def read_header(self):
         """Reads the image's header."""

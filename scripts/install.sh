@@ -28,7 +28,7 @@ find bin libexec share ! -type d | while IFS= read -r file; do
     cp -P "$file" "$folder/$file"
 done
 if [ -n "$away" ]; then
-    rmdir "$folder/libexec/pnmpipe/netpbm" "$folder/libexec/pnmpipe"
+    rmdir "$folder/libexec/pnmpipe/netpbm" "$folder/libexec/pnmpipe/pnmpipe" "$folder/libexec/pnmpipe"
 else
     echo "pnmpipe is installed as $folder/bin/pnmpipe"
 fi

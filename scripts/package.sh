@@ -63,6 +63,22 @@ changes() {
     printf '\n -- %s  %s\n' "$maintainer" "$(LC_ALL=C git log -1 --format=%cD)"
 }
 
+# what Debian wants to be told of copyright and license; the source states no license unless it has a file LICENSE
+copyright() {
+    echo "Format: https://www.debian.org/doc/packaging-manuals/copyright-format/1.0/"
+    printf 'Upstream-Name: pnmpipe\nUpstream-Contact: %s\n\n' "$maintainer"
+    year=$(git log -1 --format=%cd --date=format:%Y)
+    printf 'Files: *\nCopyright: %s, the authors of pnmpipe\nLicense: ' "$year"
+    if [ -e LICENSE ]; then
+        echo "as-stated"
+        sed -e 's/^$/./' -e 's/^/ /' LICENSE
+    else
+        echo "none-stated"
+        echo " The source of pnmpipe states no license. This package is made by \`make deb'"
+        echo " for the machines of who made it."
+    fi
+}
+
 # libc FILE: the newest symbols of the C library that it asks for, as a package
 libc() {
     if ldd "$1" 2> /dev/null | grep -q 'libc\.so'; then
@@ -77,6 +93,8 @@ packed() {
     find "$root/usr" -path '*/man/*' -type f -exec gzip -n -9 {} +
     mkdir -p "$root/DEBIAN" "$root/usr/share/doc/$1"
     changes | gzip -n -9 > "$root/usr/share/doc/$1/changelog.gz"
+    copyright > "$root/usr/share/doc/$1/copyright"
+    find "$root/usr" -type d -empty -delete
     {
         printf 'Package: %s\nSource: pnmpipe\nVersion: %s\nArchitecture: %s\n' "$1" "$version" "$2"
         printf 'Maintainer: %s\nSection: %s\nPriority: optional\n' "$maintainer" "$3"
@@ -138,7 +156,7 @@ deb() {
     needs=$(libc bin/pnmpipe)
     packed pnmpipe "$(dpkg --print-architecture)" graphics << CONTROL
 Depends: ${needs:+$needs, }python3
-Suggests: netpbm, parallel
+Suggests: libpnmpipe1 (= $version), netpbm, parallel, rsync
 Description: chain of Netpbm tools over a stream of images in one process
  pnmpipe reads PBM, PGM, PPM and PAM images, passes their rows through
  pnminvert, pamcut, pamdepth, pamchannel, pamenlarge, pamflip and pnmtile,

@@ -133,6 +133,7 @@ class Host:
         if self.child:
             self.child.terminate()
             self.child.wait()
+            self.log.close()
             self.child = None
 
 

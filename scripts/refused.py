@@ -141,8 +141,20 @@ WHOLE = [
     ),
 ]
 
-# of these the tools that copy rows of bits which come together
-COPYING = ["pamflip -lr", "pamcut -left 1"]
+# the tools that copy or keep rows of these images which come together, and how many calls they make for that at most:
+# each row is taken by itself where one of them is refused
+COPYING = {
+    "pamflip -lr": 1,
+    "pamflip -tb": 3,
+    "pamflip -r180": 3,
+    "pamcut -left 1": 1,
+    "pamcut -top 1 -height 1": 1,
+    "pamdepth 18": 7,
+    "pamchannel 0 0 -tupletype T": 4,
+    "pamenlarge 2": 6,
+    "pamenlarge -xscale 2": 3,
+    "pamenlarge -yscale 2": 3,
+}
 
 # rows of eight pixels, and what is made of them
 EIGHT = bits("00110101", "11110000", "01000001")
@@ -170,7 +182,7 @@ def commands_over(lanes):
         return command(*facts, form=["--plain"], **options)
 
     for facts, tools in ((ROW_WISE, (1, 0)), (WHOLE, (0, 1))):
-        yield from (command(chain, STREAM, whole, *tools, spared=int(chain in COPYING)) for chain, whole in facts)
+        yield from (command(chain, STREAM, whole, *tools, spared=COPYING.get(chain, 0)) for chain, whole in facts)
     yield command("pamflip -lr", EIGHT, TURNED, 1, 0, spared=1)
     yield command("pamcut -left 3 | pamflip -lr", EIGHT, CUT_AND_TURNED, 1, 1, spared=2)
     yield command("pamenlarge 2 | pnminvert", gray(9, [7]), gray(9, [2, 2], [2, 2]), 1, 1)

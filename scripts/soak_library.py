@@ -1,11 +1,13 @@
 #!/usr/bin/env python3
-"""Random chains over random texts, whole and cut, by the C library and by the program, which have to agree on the
-results, also before a fault, and on the fault's line. It stands outside the gate; both are those that make has left."""
+"""Random chains over random texts, whole and cut, by the C library, in memory and between descriptors, and by the
+program, which have to agree on the results, also before a fault, and on the fault's line. The gate tries a few cases,
+with the program and library that it has built; without these words both are those that make has left."""
 
 import argparse
 import collections
 import os
 import random
+import socket
 import subprocess
 import sys
 
@@ -50,8 +52,8 @@ def case(source):
     return text, chain, source.random() < 0.3
 
 
-def by_program(text, chain, plain):
-    ran = subprocess.run([PROGRAM, *["--plain"] * plain, "--", chain], input=text, capture_output=True, check=False)
+def by_program(program, text, chain, plain):
+    ran = subprocess.run([program, *["--plain"] * plain, "--", chain], input=text, capture_output=True, check=False)
     return ran.stdout, ran.stderr.decode()
 
 
@@ -62,14 +64,34 @@ def by_library(module, text, chain, plain):
         return fault.results, f"pnmpipe: {fault}\n"
 
 
+def by_descriptors(module, text, chain, plain, source):
+    """The same from a socket, each packet of which is what one read gives, to a file."""
+    cuts = sorted(source.randint(0, len(text)) for _ in range(source.choice([0, 1, 2, 9])))
+    packets = [text[at:end] for at, end in zip([0, *cuts], [*cuts, len(text)]) if at < end]
+    given, taken = socket.socketpair(socket.AF_UNIX, socket.SOCK_SEQPACKET)
+    with given, taken, open(os.memfd_create("results"), "w+b") as target:
+        for packet in packets:
+            given.send(packet)
+        given.close()
+        line = ""
+        try:
+            module.run_fd(chain, taken.fileno(), target.fileno(), plain)
+        except module.Fault as fault:
+            line = f"pnmpipe: {fault}\n"
+        target.seek(0)
+        return target.read(), line
+
+
 def main():
     parser = argparse.ArgumentParser(description=__doc__.split("\n")[0])
     parser.add_argument("--cases", type=int, default=100000)
     parser.add_argument("--seed", type=int, default=1)
+    parser.add_argument("--program", default=PROGRAM)
+    parser.add_argument("--library", default=SHARED)
     words = parser.parse_args()
-    if not (os.path.exists(PROGRAM) and os.path.exists(SHARED)):
-        sys.exit("soak_library: run make and make library first")
-    os.environ["PNMPIPE_LIBRARY"] = SHARED
+    if not (os.path.exists(words.program) and os.path.exists(words.library)):
+        sys.exit(f"soak_library: there is no {words.program} or {words.library}: run make and make library first")
+    os.environ["PNMPIPE_LIBRARY"] = words.library
     sys.path.insert(0, os.path.join(ROOT, "library/python"))
     sys.dont_write_bytecode = True
     import pnmpipe
@@ -77,11 +99,15 @@ def main():
     source, lines = random.Random(words.seed), collections.Counter()
     for number in range(words.cases):
         given = case(source)
-        wanted, made = by_program(*given), by_library(pnmpipe, *given)
+        wanted, made = by_program(words.program, *given), by_library(pnmpipe, *given)
         if made != wanted:
             sys.exit(f"soak_library: case {number} differs: {given}: {made}, wanted {wanted}")
+        made = by_descriptors(pnmpipe, *given, source)
+        if made != wanted:
+            sys.exit(f"soak_library: case {number} differs between descriptors: {given}: {made}, wanted {wanted}")
         lines[made[1].rpartition(": ")[2].strip() or "well"] += 1
-    print(f"soak_library: {words.cases} cases, none differs: {dict(lines.most_common())}")
+    told = dict(lines.most_common())
+    print(f"soak_library: {words.cases} cases, seed {words.seed}, none differs: {told}")
 
 
 if __name__ == "__main__":

@@ -1,5 +1,6 @@
 #!/usr/bin/env python3
-"""Tests of build.py and change.py, over a small repository and stand-ins for rt and rattle that prove nothing.
+"""Tests of build.py, change.py and gate_library.py, over a small repository and stand-ins for rt and rattle that prove
+nothing.
 
 The stand-ins note each call and leave what the toolchain leaves. `make scripts` runs this.
 """
@@ -67,6 +68,8 @@ if words[0] == "run":
 if words[0] == "ci":
     note("ci sees " + " ".join(sorted(os.listdir("crates"))))
     note("edits of " + " ".join(it for it in sorted(os.listdir("crates")) if os.path.isdir(f"crates/{it}/must-fail")))
+    for crate in os.listdir("crates"):
+        os.makedirs(f"crates/{crate}/out/rlib/{crate}.rlib")
 sys.exit(1 if fault == words[0] else 0)
 '''
 
@@ -121,7 +124,7 @@ class Repository(unittest.TestCase):
         self.folder = os.path.realpath(tempfile.mkdtemp())
         self.addCleanup(shutil.rmtree, self.folder)
         self.root = self.path("root")
-        for file in ("build.py", "change.py", "crates.py", "library.py"):
+        for file in ("build.py", "change.py", "crates.py", "gate_library.py", "library.py"):
             os.makedirs(self.path("root/scripts"), exist_ok=True)
             shutil.copy(os.path.join(SCRIPTS, file), self.path("root/scripts"))
         self.write("root/crates.txt", CRATES)
@@ -236,12 +239,12 @@ class Building(Repository):
         self.assertIn("6 were proved before", printed)
         first.communicate()
 
-    def begun(self, proved, at_work=(), number=4, most=4):
+    def begun(self, proved, at_work=(), number=4, most=4, targets=(build.PROGRAM,)):
         """What a build of this repository begins once these are proved, on how many processors, beside others."""
         toolchain = types.SimpleNamespace(sum=lambda name, sums: f"no sum of {name}")
         self.ways = {}
         with unittest.mock.patch.dict(os.environ, {"RT_JOBS": str(number)}):
-            this = build.Build(toolchain, most)
+            this = build.Build(toolchain, most, targets)
             this.done = set(proved)
             this.runs = [types.SimpleNamespace(name=name, jobs=jobs) for name, jobs in at_work]
             this.left = [name for name in this.crates if name not in {*proved, *(name for name, _ in at_work)}]
@@ -269,14 +272,14 @@ class Building(Repository):
         self.assertEqual(self.begun(low, most=1), [("pnm_read", 4)])
         at_work = [("pnm_write", 1)]
         low += ["pnm_tools", "pnm_read"]
-        self.assertEqual(self.begun(low, at_work), [("pnm_stages", 1), ("pnm_geometry_tools", 1), ("pnm_row_tools", 1)])
+        self.assertEqual(self.begun(low, at_work), [("pnm_row_tools", 1), ("pnm_geometry_tools", 1), ("pnm_stages", 1)])
 
     def test_shorter_chains_give_way_to_the_longest(self):
         low = ["pnm_streams", "pnm_samples", "pnm_image"]
         self.begun(low)
         self.assertEqual(self.ways["pnm_read"], 0)
         self.assertLess(4, self.ways["pnm_tools"])
-        self.assertLess(self.ways["pnm_tools"], self.ways["pnm_write"])
+        self.assertLessEqual(self.ways["pnm_tools"], self.ways["pnm_write"])
         self.assertLess(self.ways["pnm_write"], 16)
 
     def test_the_longest_chain_has_what_others_leave(self):
@@ -284,13 +287,19 @@ class Building(Repository):
         low = [name for name in build.read_crates() if name not in last]
         self.assertEqual(self.begun(low), [("pnm_flow", 3), ("pnm_command_line", 1)])
 
+    def test_the_library_takes_no_longer_than_the_program_beside_it(self):
+        low = [name for name in build.read_crates() if name not in ("pnmpipe", "pnm_memory", "pnm_c")]
+        made = self.begun(low, targets=(build.PROGRAM, build.LIBRARY))
+        self.assertCountEqual(made, [("pnm_memory", 3), ("pnmpipe", 2)])
+        self.assertEqual(set(self.ways.values()), {0})
+
     def test_the_library_is_proved_over_what_the_program_left(self):
         self.assertEqual(self.run_script("build.py", RT_JOBS="2")[0], 0)
         self.notes()
         status, printed = self.run_script("build.py", "library", RT_JOBS="2")
         self.assertEqual(status, 0, printed)
         self.assertEqual(self.notes(), ["pnm_c over std right, 2 jobs", "cc", "ld", "objcopy", "ar", "cc", "strip"])
-        self.assertIn("bin/libpnmpipe.so.1 is built", printed)
+        self.assertIn("bin/pnmpipe and bin/libpnmpipe.so.1 are built", printed)
         left = set(os.listdir(self.path("root/bin")))
         self.assertLess({"libpnmpipe.a", "libpnmpipe.so.1", "pnmpipe.h", "pnmpipe"}, left)
         self.assertEqual(self.run_script("build.py", "library", RT_JOBS="2")[0], 0)
@@ -300,6 +309,16 @@ class Building(Repository):
             self.assertEqual(self.run_script("build.py", "library", RT_JOBS="2", FAULT=fault)[0], 1, fault)
         self.assertEqual(set(os.listdir(self.path("root/bin"))), left)
         self.assertEqual(self.run_script("build.py", "lib")[0], 1)
+
+    def test_the_library_is_proved_beside_the_program(self):
+        status, printed = self.run_script("build.py", "library", RT_JOBS="4", SECONDS="1")
+        self.assertEqual(status, 0, printed)
+        proved = [line.split()[0] for line in self.notes() if " over " in line]
+        self.assertCountEqual(proved, ["left", "longest", "low", "pnm_c", "pnmpipe", "right", "top"])
+        self.assertLess(proved.index("pnm_c"), proved.index("pnmpipe"))
+        self.assertLess({"libpnmpipe.so.1", "pnmpipe"}, set(os.listdir(self.path("root/bin"))))
+        self.assertEqual(self.run_script("build.py", RT_JOBS="4")[0], 0)
+        self.assertEqual(self.proved(), [])
 
     def test_one_processor_proves_one_at_a_time(self):
         status, printed = self.run_script("build.py", RT_JOBS="1")
@@ -382,6 +401,39 @@ class Changing(Repository):
     def test_names_have_to_be_crates(self):
         for words in (["near"], ["pass", "lows"], ["far", "low"]):
             self.assertEqual(self.run_script("change.py", *words)[0], 2)
+
+
+# what is noted of the tests of the library: what they are given, and what the archive is
+TESTS = r'''import os, sys
+with open(os.environ["NOTES"], "a") as notes:
+    given = dict(zip(sys.argv[1::2], sys.argv[2::2]))
+    archive = given.pop("--archive", None)
+    notes.write(f"tests of {open(archive).readline().strip() if archive else None}, {given}\n")
+sys.exit(3 if os.environ.get("FAULT") == "tests" else 0)
+'''
+
+
+class Gate(Repository):
+    def setUp(self):
+        super().setUp()
+        self.write("root/scripts/test_library.py", TESTS)
+
+    def test_the_library_is_built_over_what_the_gate_has_proved(self):
+        status, printed = self.run_script("gate_library.py", "--program", "out/it")
+        self.assertEqual(status, 0, printed)
+        jobs = min(4, len(os.sched_getaffinity(0)))
+        calls = ["ci", "ci sees low pnm_c right", "edits of ", f"pnm_c over std right, {jobs} jobs"]
+        program = {"--program": os.path.join(self.root, "out/it")}
+        self.assertEqual(self.notes(), [*calls, f"tests of #!/bin/sh, {program}"])
+
+    def test_faults_end_it(self):
+        for fault, calls in (("ci", 3), ("pnm_c", 4), ("tests", 5)):
+            status, printed = self.run_script("gate_library.py", "--program", "out/it", FAULT=fault)
+            self.assertEqual((status, len(self.notes())), (3 if fault == "tests" else 1, calls), printed)
+
+    def test_without_a_compiler_nothing_is_built(self):
+        self.assertEqual(self.run_script("gate_library.py", "--program", "out/it", CC="no-compiler")[0], 0)
+        self.assertEqual(self.notes(), ["tests of None, {}"])
 
 
 if __name__ == "__main__":

@@ -8,6 +8,7 @@ The stand-ins are tried over scripts that only tell how they were called.
 import argparse
 import os
 import pty
+import random
 import select
 import shutil
 import signal
@@ -20,9 +21,31 @@ import unittest
 sys.dont_write_bytecode = True
 
 # pylint: disable=wrong-import-position
-from test_support import COLOR, GRAY, ROOT, SCRIPTS, SHIMS, Folder, program_of, run
+from test_support import COLOR, GRAY, ROOT, SCRIPTS, SHIMS, Folder, loaded, program_of, run
 
 PROGRAM = None
+
+
+def random_header(numbers):
+    """A header of a raw image, most of whose parts are as they should be."""
+
+    def some(good, bad):
+        return numbers.choice(good if numbers.random() < 0.93 else bad)
+
+    def blank():
+        return some([b" ", b"\n", b"\t", b"\r", b"\r\n", b" # c\n", b"#\r "], [b"\v", b"\f", b"", b"#c\n", b"\0", b"x"])
+
+    def word():
+        return some([b"1", b"2", b"007", b"19", b"1#\n3", b"255"], [b"0", b"x", b"-1", b"65536", b"16777217", b"\xb2"])
+
+    kind = numbers.choice([b"P4", b"P5", b"P6", b"P7"])
+    if kind != b"P7":
+        return kind + b"".join(blank() + word() for _ in range(2 if kind == b"P4" else 3)) + blank()
+    blanks = ([b" ", b"\t", b"\r"], [b"\v", b"\f", b"", b"\0"])
+    fields = [b"WIDTH", b"HEIGHT", b"DEPTH", b"MAXVAL"] + [some([b"# c", b"TUPLTYPE", b""], [b"WIDTH", b"X"])]
+    numbers.shuffle(fields)
+    lines = [field + some(*blanks) + some([b"1", b"05", b"9"], [b"0", b"", b"x", b"300"]) for field in fields]
+    return b"\n".join([b"P7", *(some([b"", b" "], [b"\f"]) + line for line in lines), some([b"ENDHDR"], [b"END"]), b""])
 
 
 class Split(Folder):
@@ -53,6 +76,43 @@ class Split(Folder):
             os.remove(self.path("x-000001.pgm"))
         done = self.split(b"")
         self.assertEqual((done.returncode, done.stderr), (1, b"pnmpipe-split: input: EmptyInput\n"))
+
+    def test_white_space(self):
+        """White space is blank, TAB, CR and LF, in the words of a PAM line too; a digit after the magic isn't."""
+        pam = b"P7\nWIDTH%b1\nHEIGHT 1\nDEPTH 1\nMAXVAL 9%bx\n%bENDHDR\n\x02"
+        for good in (b" ", b"\t", b"\r"):
+            self.assertEqual(self.split(pam % (good, good, good), "--force").returncode, 0, good)
+        for bad in (b"\v", b"\f"):
+            for given in [
+                *(b"P5%b2%b1%b9%b\x01\x02" % tuple(bad if at == it else b" " for it in range(4)) for at in range(4)),
+                *(pam % tuple(bad if at == it else b" " for it in range(3)) for at in range(3)),
+            ]:
+                self.assertEqual(self.split(given, "--force").returncode, 1, given)
+        self.assertEqual(self.split(b"P52 1 9\n\x01\x02", "--force").returncode, 1)
+
+    def test_headers_as_the_program_reads_them(self):
+        """Of random headers those are taken that the program takes, with the same length of the raster."""
+        if PROGRAM is None:
+            self.skipTest("there is no program")
+        split, numbers, taken = loaded("pnmpipe-split"), random.Random(7), 0
+        for _ in range(300):
+            given = random_header(numbers)
+            source, target = os.pipe()
+            os.write(target, given + bytes(20_000))
+            os.close(target)
+            try:
+                header, _, length = split.Stream(source).next_image()
+            except split.Fault:
+                header, length = given, 0
+            finally:
+                os.close(source)
+            done = run([PROGRAM, "pamcut"], header + bytes(length))
+            self.assertEqual(done.returncode == 0, length > 0, (given, done.stderr))
+            # (a byte less is a cut raster)
+            cut = run([PROGRAM, "pamcut"], header + bytes(max(length - 1, 0)))
+            self.assertTrue(length == 0 or cut.stderr == b"pnmpipe: input: RasterCut\n", (given, cut.stderr))
+            taken += length > 0
+        self.assertTrue(60 < taken < 240, taken)
 
     def test_full_disk(self):
         """A file that can't be written is named, and not standard input."""
@@ -167,96 +227,6 @@ class StandIns(Folder):
         self.assertIn(b"pnmpipe does not take -pad", done.stderr)
 
 
-class Files(Folder):
-    def setUp(self):
-        super().setUp()
-        if PROGRAM is None:
-            self.skipTest("there is no program")
-        for name, data in [("a b.pgm", GRAY), ("c.ppm", COLOR), ("cut.pgm", GRAY[:-1]), ("-d.pgm", GRAY)]:
-            self.write("in/" + name, data)
-
-    def files(self, *words):
-        return run([f"{SCRIPTS}/pnmpipe-files", *words], cwd=self.folder, env={**os.environ, "PNMPIPE": PROGRAM})
-
-    def test_some(self):
-        done = self.files("pnminvert", "out", *["in/" + name for name in os.listdir(self.path("in"))])
-        self.assertEqual(done.returncode, 1)
-        self.assertIn(b"in/cut.pgm: pnmpipe: input: RasterCut", done.stderr)
-        self.assertEqual(sorted(os.listdir(self.path("out"))), ["-d.pgm", "a b.pgm", "c.ppm", "pnmpipe-files.log"])
-        self.assertEqual(self.read("out/a b.pgm"), GRAY[:-2] + b"\x08\x07")
-        self.write("in/cut.pgm", GRAY)
-        made = os.stat(self.path("out/c.ppm"))
-        done = self.files("--resume", "pnminvert", "out", *["in/" + name for name in os.listdir(self.path("in"))])
-        self.assertEqual((done.returncode, done.stderr), (0, b"1 files, 0 failed, 3 left out\n"))
-        self.assertEqual(os.stat(self.path("out/c.ppm")), made)
-        self.assertEqual(self.files("--resume", "pamcut", "out", "in/c.ppm").returncode, 2)
-        self.write("list", b"in/a b.pgm\nin/c.ppm")
-        self.assertEqual(self.files("pamflip -lr", "out", "--names", "list").returncode, 0)
-        self.assertEqual(self.read("out/a b.pgm"), GRAY[:-2] + b"\x02\x01")
-
-    def test_changed_file(self):
-        """A file that has changed since its result was made is done again, one that was put there as well."""
-        self.files("pnminvert", "out", "in/c.ppm", "in/-d.pgm", "in/a b.pgm")
-        self.write("in/c.ppm", COLOR[:-1] + b"\x06")
-        self.write("other", GRAY[:-1] + b"\x03")
-        os.utime(self.path("other"), (1, 1))
-        os.rename(self.path("other"), self.path("in/-d.pgm"))
-        done = self.files("--resume", "pnminvert", "out", "in/c.ppm", "in/-d.pgm", "in/a b.pgm")
-        self.assertEqual(done.stderr, b"2 files, 0 failed, 1 left out\n")
-        self.assertEqual((self.read("out/c.ppm")[-1], self.read("out/-d.pgm")[-1]), (3, 6))
-
-    def test_folders_and_suffixes(self):
-        self.write("in/1/x.pbm", b"P4\n1 1\n\x80")
-        self.write("in/2/x.pbm", b"P4\n1 1\n\x00")
-        names = ["in/1/x.pbm", "./in//2/x.pbm"]
-        self.assertEqual(self.files("pamdepth 255", "out", *names).returncode, 2)
-        self.assertEqual(self.files("--keep-folders", "pamcut", "out", *names).returncode, 0)
-        self.assertEqual(self.read("out/in/2/x.pbm"), b"P4\n1 1\n\x00")
-        self.assertEqual(self.files("--suffix", "pamdepth 255", "out", *names[:1], "in/c.ppm").returncode, 0)
-        self.assertEqual(sorted(os.listdir(self.path("out"))), ["c.ppm", "in", "pnmpipe-files.log", "x.pgm"])
-        self.assertEqual(self.read("out/x.pgm"), b"P5\n1 1\n255\n\x00")
-        done = self.files("--resume", "--suffix", "pamdepth 255", "out", *names[:1])
-        self.assertEqual(done.stderr, b"0 files, 0 failed, 1 left out\n")
-
-    def test_signals(self):
-        """A signal ends it and its calls within a second, and leaves no part; --resume goes on."""
-        slow = f"[ ! -c /dev/stdin ] || exec {PROGRAM} \"$@\"\nprintf P5\necho $$ >> calls\nexec sleep 60\n"
-        self.write("slow", b"#!/bin/sh\n" + slow.encode(), 0o755)
-        names = ["in/c.ppm", "in/-d.pgm", "in/a b.pgm"]
-        words = [f"{SCRIPTS}/pnmpipe-files", "--jobs", "2", "pnminvert", "out", *names]
-        environment = {**os.environ, "PNMPIPE": self.path("slow")}
-        for number in (signal.SIGTERM, signal.SIGINT, signal.SIGHUP):
-            self.write("calls", b"")
-            with subprocess.Popen(words, cwd=self.folder, env=environment, stderr=subprocess.DEVNULL) as child:
-                while len(self.read("calls").split()) < 2:
-                    time.sleep(0.01)
-                start = time.monotonic()
-                child.send_signal(number)
-                self.assertEqual(child.wait(timeout=10), -number)
-                self.assertLess(time.monotonic() - start, 1)
-            for process in self.read("calls").split():
-                self.assertRaises(ProcessLookupError, os.killpg, int(process), 0)
-            self.assertEqual(os.listdir(self.path("out")), ["pnmpipe-files.log"])
-        self.assertEqual(self.files("--resume", "pnminvert", "out", *names).stderr, b"3 files, 0 failed, 0 left out\n")
-
-    def test_refuses(self):
-        for words in [
-            ("pnmscale 2", "out", "in/c.ppm"),
-            ("pnminvert", "in", "in/c.ppm"),
-            ("pnminvert", "out", "in/c.ppm", "./in/c.ppm"),
-            ("pnminvert", "out", "in/pnmpipe-files.log"),
-            ("--keep-folders", "pnminvert", "out", "../in/c.ppm"),
-            ("--keep-folders", "pnminvert", ".", "in/c.ppm"),
-            ("--suffix", "pnminvert", "out", "in/c.ppm", "in/c.pgm"),
-            ("pnminvert", "out"),
-            ("pnminvert", "out", "--names", "no list"),
-            ("pnminvert", "out", "in/two\nlines"),
-            ("--jobs", "x", "pnminvert", "out", "in/c.ppm"),
-        ]:
-            self.assertEqual(self.files(*words).returncode, 2, words)
-            self.assertEqual(self.read("in/c.ppm"), COLOR)
-
-
 class LongRows(unittest.TestCase):
     """Rows that the program writes past its output's buffer, between some that it keeps back."""
 
@@ -316,6 +286,7 @@ class Completion(unittest.TestCase):
         self.assertEqual(self.replies("pnmpipe", '"pamcut -left 8|pamflip -l'), ways)
         self.assertEqual(self.replies("pnmpipe-files", "--jobs", "2", "--res"), ["--resume"])
         self.assertEqual(self.replies("pnmpipe-files", "--jobs", "2", "'pamd"), ["pamdepth ", "pamdepth |"])
+        self.assertEqual(self.replies("pnmpipe-files", "--machines", "a,:", "'pamd"), ["pamdepth ", "pamdepth |"])
         self.assertEqual(self.replies("pnmpipe-files", "pnminvert", "out", f"{ROOT}/VERS"), [f"{ROOT}/VERSION"])
         self.assertEqual(self.replies("pnmpipe-split", "--fo"), ["--force"])
 
@@ -323,15 +294,37 @@ class Completion(unittest.TestCase):
     def test_fish(self):
         for typed, wanted in [
             ("pnmpipe --l", ["--lanes"]),
-            ("pnmpipe 'pamcut -wi", ["pamcut -width"]),
+            ("pnmpipe 'pamcut -wi", ["pamcut -width ", "pamcut -width |"]),
             ("pnmpipe 'pamcut -left 8|pamflip -l", ["pamcut -left 8|pamflip -leftright", "pamcut -left 8|pamflip -lr"]),
             ("pnmpipe-files --jobs 2 pnmt", ["pnmtile"]),
+            ("pnmpipe-files --machines host,: --suffix 'pnmt", ["pnmtile ", "pnmtile |"]),
             ("pnmpipe-files --res", ["--resume"]),
             ("pnmpipe-split --fo", ["--force"]),
         ]:
             code = f"source {ROOT}/completions/pnmpipe.fish; complete -C $argv[1]"
             made = run(["fish", "-N", "-c", code, typed], cwd=ROOT).stdout.decode().splitlines()
             self.assertEqual([line.split("\t")[0] for line in made], wanted, typed)
+
+    @unittest.skipIf(shutil.which("fish") is None, "fish isn't installed")
+    def test_fish_on_a_terminal(self):
+        """A chain whose opening quote is typed goes on in its quote, which closes where the user closes it."""
+        start = f"source {ROOT}/completions/pnmpipe.fish; function pnmpipe; echo (count $argv)=\"$argv\"; end; "
+        for typed, completed, rest, wanted in [
+            ("pnmpipe 'pamcut -wi", "'pamcut -width ", "5'", "1=pamcut -width 5"),
+            ('pnmpipe "pamcut|pamflip -nu', '"pamcut|pamflip -null ', '"', "1=pamcut|pamflip -null"),
+            ("pnmpipe --lanes 2 'pamcut|pnmt", "'pamcut|pnmtile ", "4 5'", "3=--lanes 2 pamcut|pnmtile 4 5"),
+        ]:
+            process, terminal = pty.fork()
+            if process == 0:
+                home = {"HOME": "/nonexistent", "XDG_CONFIG_HOME": "/nonexistent", "XDG_DATA_HOME": "/nonexistent"}
+                os.execvpe("fish", ["fish", "-N", "-i"], {**os.environ, **home, "TERM": "dumb"})
+            self.typed(terminal, start + "echo rea''dy\n", b"\nready")
+            self.assertIn(completed.encode(), self.typed(terminal, typed + "\t", completed.encode()))
+            shown = self.typed(terminal, rest + "\n", b"\n" + wanted.encode())
+            os.kill(process, signal.SIGKILL)
+            os.waitpid(process, 0)
+            os.close(terminal)
+            self.assertIn(wanted.encode(), shown, typed)
 
     @unittest.skipIf(shutil.which("zsh") is None, "zsh isn't installed")
     def test_zsh(self):

@@ -7,12 +7,13 @@ The library is linked, and exports the functions of its header alone. Each store
 that names a run is run through it, in memory and between descriptors, and has to be answered as the program answers it.
 Each allocation is refused in turn; threads make calls at once, on a small stack; a C++ file and the examples are built;
 valgrind, where it is there, finds nothing; and the Python module passes its tests, where pytest is there. `--archive`
-names the static library.
+names the static library, and `--program` a program beside which random cases are tried.
 """
 
 import argparse
 import os
 import re
+import resource
 import shutil
 import subprocess
 import sys
@@ -32,6 +33,7 @@ EXAMPLES = os.path.join(SOURCE, "examples")
 
 # a library whose names are those of the header
 ARCHIVE = os.path.join(ROOT, "crates/pnm_c/out/libpnm_c.a")
+PROGRAM = os.path.join(ROOT, "bin/pnmpipe")
 
 SECONDS = 120
 
@@ -57,6 +59,20 @@ WATCHED = [
 
 # what a thread's stack has, as the manual page says
 STACK = 128 << 10
+
+# streams of so many images of so many columns and rows go from descriptor to descriptor in so much memory
+IMAGES, SIDE, MEMORY = 600, 300, 16 << 20
+
+# the headers of images of each raw kind, and the bytes of a row
+RAW_KINDS = [
+    (f"P4\n{8 * SIDE} {SIDE}\n", SIDE),
+    (f"P5\n{SIDE} {SIDE}\n255\n", SIDE),
+    (f"P6\n{SIDE} {SIDE}\n65535\n", 6 * SIDE),
+    (f"P7\nWIDTH {SIDE}\nHEIGHT {SIDE}\nDEPTH 2\nMAXVAL 255\nENDHDR\n", 2 * SIDE),
+]
+
+# random cases that are tried beside the program
+CASES = 1000
 
 # the type of a field or parameter in C
 TYPES = {
@@ -303,6 +319,22 @@ def faults_of_memory(built):
     yield from ended_well("refused, cut", [program, "raw", "pamflip -tb"], refused.STREAM[:-1])
 
 
+def faults_of_streams(driver):
+    """Streams that are longer than the memory that there is for them, between descriptors."""
+    little = {"preexec_fn": lambda: resource.setrlimit(resource.RLIMIT_AS, (MEMORY, MEMORY))}
+    words = [driver, "fd", "raw", "pamflip -r180 | pnminvert"]
+    for header, row in RAW_KINDS:
+        count = IMAGES * SIDE // row
+        image, due = (header.encode() + it * (row * SIDE) for it in (b"\x00", b"\xff"))
+        yield from written_by(f"a long stream of {header[:2]}", words, image * count, due * count, **little)
+
+
+def faults_of_cases(program, shared):
+    script = os.path.join(ROOT, "scripts/soak_library.py")
+    words = ["--cases", str(CASES), "--program", program, "--library", shared]
+    yield from ended_well("random cases", [sys.executable, script, *words])
+
+
 def faults_of_threads(built):
     program = built.compile(f"{TESTS}/threads.c", "-pthread")
     many = " | ".join(["pamflip -r90"] * refused.MOST_TOOLS)
@@ -332,7 +364,8 @@ def faults_of_valgrind(built, driver):
 def written_by(what, words, given, wanted, **how):
     made = ran(words, given, **how)
     if (made.returncode, made.stdout) != (0, wanted):
-        yield f"{what}: status {made.returncode}, {made.stdout!r}, wanted {wanted!r}; {made.stderr!r}"
+        told, due = made.stdout[:500], wanted[:500]
+        yield f"{what}: status {made.returncode}, {told!r}, wanted {due!r}; {made.stderr!r}"
 
 
 def example_of_page():
@@ -383,7 +416,7 @@ def faults_of_module(folder):
         yield from ended_well("the Python module", words, env={**os.environ, **own})
 
 
-def faults_of_library(folder):
+def faults_of_library(folder, program):
     built = Built(folder)
     yield from exported(folder)
     driver = built.compile(f"{TESTS}/command.c")
@@ -396,6 +429,9 @@ def faults_of_library(folder):
     yield from faults_of_examples(built)
     yield from faults_of_commands(driver)
     yield from faults_of_memory(built)
+    yield from faults_of_streams(driver)
+    if os.path.exists(program):
+        yield from faults_of_cases(program, os.path.join(folder, SHARED))
     yield from faults_of_threads(built)
     yield from faults_of_valgrind(built, driver)
     yield from faults_of_module(folder)
@@ -404,6 +440,7 @@ def faults_of_library(folder):
 def main():
     parser = argparse.ArgumentParser(description=__doc__.split("\n")[0])
     parser.add_argument("--archive", default=ARCHIVE)
+    parser.add_argument("--program", default=PROGRAM)
     parser.add_argument("--header", action="store_true", help="look at the header alone")
     words = parser.parse_args()
     archive, found = words.archive, list(faults_of_header())
@@ -419,7 +456,7 @@ def main():
             if library.make(archive, folder, os.path.join(os.path.dirname(told), "c")):
                 found.append("the library can't be made")
             else:
-                found += faults_of_library(folder)
+                found += faults_of_library(folder, words.program)
     for fault in found:
         print(f"test_library: {fault}")
     print(f"test_library: {len(found)} faults")

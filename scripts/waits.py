@@ -2,11 +2,12 @@
 """Wants no sleep of a run to be ended by its time-out: a neighbour wakes each thread that waits.
 
 Each run has chains, rings and lanes whose threads wait for one another in a way of their own: the caller for room
-while the last tool waits for it, wide rows beside which places stay free, lanes that are broken off. `strace` counts
-the sleeps that timed out, where it is installed; a run has to end soon in any case, since each such sleep lasts
-400 milliseconds. On a machine with too much else to do a neighbour may come late, too: so a run in which a sleep timed
-out is made again, and one of its tries has to be without. `--tries 1` wants it of each. `--runs N` makes N runs in
-all, the same ones again and again, on all processors and on one in turn.
+while the last tool waits for it, wide rows beside which places stay free, lanes that are broken off. `timed_out.c`,
+compiled here and loaded before the program, counts the sleeps that timed out, where there is a C compiler; a run has to
+end soon in any case, since each such sleep lasts 400 milliseconds. On a machine with too much else to do a neighbour
+may come late, too: so a run in which a sleep timed out is made again, and one of its tries has to be without.
+`--tries 1` wants it of each. `--runs N` makes N runs in all, the same ones again and again, on all processors and on
+one in turn.
 """
 
 import argparse
@@ -22,8 +23,15 @@ import time
 
 ROOT = os.path.dirname(os.path.dirname(os.path.abspath(__file__)))
 
-# calls of futex that fail, of all threads: those that time out are ETIMEDOUT
-TRACER = ["strace", "-f", "-qq", "-e", "trace=futex", "-e", "status=failed", "-o"]
+# a call of futex, of number 202, that times out after a millisecond, and then another call
+SLEEPS_ONCE = """
+import ctypes
+word, time = ctypes.c_int(0), (ctypes.c_long * 2)(0, 1000000)
+words = [ctypes.c_long(it) for it in (202, ctypes.addressof(word), 128, 0, ctypes.addressof(time), 0, 0)]
+syscall = ctypes.CDLL(None).syscall
+syscall(*words)
+syscall(ctypes.c_long(39), *words[1:])
+"""
 
 # seconds within which each run ends where no thread waits in vain
 BOUND = 5
@@ -63,35 +71,64 @@ RUNS = [
 ]
 
 
-def first_fault(asked, number, folder):
+def counter_in(folder):
+    """What counts the sleeps that time out, built in this folder; None where there is no compiler."""
+    if not shutil.which("cc"):
+        return None
+    counter = os.path.join(folder, "timed_out.so")
+    source = os.path.join(ROOT, "scripts", "timed_out.c")
+    subprocess.run(["cc", "-O2", "-Wall", "-Wextra", "-Werror", "-shared", "-fPIC", source, "-o", counter], check=True)
+    told = os.path.join(folder, "told")
+    subprocess.run([sys.executable, "-c", SLEEPS_ONCE], env=counted_in(counter, told), check=True)
+    if sleeps_told_in(told) != (0, 1):
+        sys.exit("waits: the counter doesn't count a sleep that times out")
+    return counter
+
+
+def sleeps_told_in(path):
+    """How many sleeps timed out by this file, and went on with nothing, and with something. The file goes."""
+    with open(path, "rb") as file:
+        told = file.read()
+    os.remove(path)
+    return told.count(b"a"), told.count(b"b")
+
+
+def counted_in(counter, path):
+    """The environment of a run that adds a byte to this new file for each of its sleeps that times out."""
+    if not counter:
+        return dict(os.environ)
+    with open(path, "wb"):
+        pass
+    return {**os.environ, "LD_PRELOAD": counter, "TIMED_OUT": path}
+
+
+def first_fault(asked, number, counter, folder):
     """What is wrong with each try of a run, if anything."""
     for _ in range(asked.tries):
-        told = fault_of(asked.program, number, folder)
+        told = fault_of(asked.program, number, counter, folder)
         if told is None:
             return None
     return told
 
 
-def fault_of(program, number, folder):
+def fault_of(program, number, counter, folder):
     """What is wrong with a run, if anything: a sleep that timed out, another status, or that it lasts too long."""
     words, source, status = RUNS[number % len(RUNS)]
     processors = os.sched_getaffinity(0)
     if number // len(RUNS) % 2:
         processors = {min(processors)}
-    trace = os.path.join(folder, str(number))
-    tracer = [*TRACER, trace] if shutil.which("strace") else []
+    told = os.path.join(folder, str(number))
     start = time.monotonic()
     try:
-        run = subprocess.run([*tracer, "taskset", "-c", ",".join(map(str, processors)), program, *words], input=source,
-                             stdout=subprocess.DEVNULL, stderr=subprocess.DEVNULL, timeout=60, check=False)
+        run = subprocess.run([program, *words], input=source, env=counted_in(counter, told), timeout=60, check=False,
+                             stdout=subprocess.DEVNULL, stderr=subprocess.DEVNULL,
+                             preexec_fn=lambda: os.sched_setaffinity(0, processors))
     except subprocess.TimeoutExpired:
         return f"{words} doesn't end"
     seconds = time.monotonic() - start
     sleeps = 0
-    if tracer:
-        with open(trace, encoding="utf-8", errors="replace") as lines:
-            sleeps = sum("ETIMEDOUT" in line for line in lines)
-        os.remove(trace)
+    if counter:
+        sleeps = sum(sleeps_told_in(told))
     if sleeps:
         return f"{words}: {sleeps} sleeps timed out"
     if run.returncode != status:
@@ -108,10 +145,13 @@ def main():
     parser.add_argument("--runs", type=int, default=4 * len(RUNS), help="how many runs (default: %(default)s)")
     parser.add_argument("--tries", type=int, default=4, help="how many tries a run has (default: %(default)s)")
     asked = parser.parse_args()
-    if not shutil.which("strace"):
-        print("waits: without strace sleeps that time out are seen by the time that a run takes alone", file=sys.stderr)
+    asked.program = os.path.abspath(asked.program)
     with tempfile.TemporaryDirectory() as folder, concurrent.futures.ThreadPoolExecutor(os.cpu_count()) as pool:
-        told = pool.map(first_fault, itertools.repeat(asked), range(asked.runs), itertools.repeat(folder))
+        counter = counter_in(folder)
+        if not counter:
+            print("waits: without a C compiler sleeps that time out are seen by how long a run takes", file=sys.stderr)
+        told = pool.map(first_fault, itertools.repeat(asked), range(asked.runs), itertools.repeat(counter),
+                        itertools.repeat(folder))
         wrong = [line for line in told if line]
     for line in wrong[:20]:
         print(f"waits: {line}")

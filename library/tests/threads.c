@@ -14,6 +14,24 @@ static const char *chain;
 static uint32_t form;
 static long calls;
 
+/* Whether a call from one file to another writes the same. */
+static int between(uint8_t *room, size_t length) {
+    FILE *from = tmpfile(), *to = tmpfile();
+    int is_well = from && to && fwrite(images, 1, images_length, from) == images_length && !fflush(from);
+    if (is_well) {
+        rewind(from);
+        is_well = pnmpipe_run_fd(chain, length, form, fileno(from), fileno(to), NULL) == PNMPIPE_OK;
+        rewind(to);
+        is_well = is_well && fread(room, 1, wanted.length + 1, to) == wanted.length;
+        is_well = is_well && !memcmp(room, wanted.at, wanted.length);
+    }
+    if (from)
+        fclose(from);
+    if (to)
+        fclose(to);
+    return is_well;
+}
+
 static void *work(void *unused) {
     uint8_t *room = malloc(wanted.length + 1);
     long call;
@@ -29,6 +47,8 @@ static void *work(void *unused) {
             pnmpipe_check(chain, length, NULL) || pnmpipe_check("pamflop", 7, NULL) != PNMPIPE_CHAIN_UNKNOWN_TOOL)
             return (void *)"differs";
         free(made.at);
+        if (!between(room, length))
+            return (void *)"differs between descriptors";
     }
     free(room);
     return room ? NULL : (void *)"no memory";

@@ -1,0 +1,80 @@
+#!/usr/bin/env python3
+"""Builds the C library over what the gate's `rt ci` has just proved, and tests it (test_library.py).
+
+`rt ci` proves a static library, and compiles none. What it proved of each crate it keeps on this machine, by the sums
+of all that it read. So a second `rt ci`, over a copy of the crates that the library stands on, without their edits,
+proves nothing that the first one did, and leaves in the copy what crates above these read: their statements, and the
+code that was proved. Over that `rattle build` checks pnm_c once more, from nothing, and compiles all, as `make library`
+does over what make has proved. Where nothing could be kept the copy is proved anew.
+"""
+
+import argparse
+import os
+import subprocess
+import sys
+import tempfile
+import time
+
+import library
+from build import LIBRARY, Toolchain, made_of
+from change import lay_out
+from crates import ROOT, Ended, below, end_by_signals, read_crates
+
+TESTS = os.path.join(ROOT, "scripts/test_library.py")
+
+
+def say(text):
+    print(f"gate_library: {text}", flush=True)
+
+
+def ended_well(what, words, folder):
+    """Whether a command ended with status 0; else what it printed is shown."""
+    start = time.monotonic()
+    environment = {"RT_JOBS": str(len(os.sched_getaffinity(0))), **os.environ}
+    streams = {"stdin": subprocess.DEVNULL, "stdout": subprocess.PIPE, "stderr": subprocess.STDOUT}
+    ran = subprocess.run(words, cwd=folder, env=environment, errors="replace", check=False, **streams)
+    if ran.returncode:
+        print(ran.stdout, end="", flush=True)
+    told = f"FAILED, status {ran.returncode}" if ran.returncode else f"{time.monotonic() - start:.0f} s"
+    say(f"{what}: {told}")
+    return ran.returncode == 0
+
+
+def built(folder):
+    """The static library, made in a copy in the folder; None where a check has failed."""
+    crates, toolchain = read_crates(), Toolchain()
+    taken = below(crates, LIBRARY) | {LIBRARY}
+    lay_out(folder, taken, set())
+    if not ended_well(f"rt ci over {len(taken)} crates that were proved", ["rt", "ci"], folder):
+        return None
+    proved = os.path.join(folder, "proved")
+    os.mkdir(proved)
+    for name in taken - {LIBRARY}:
+        os.symlink(os.path.join(folder, "crates", name, "out/rlib", f"{name}.rlib"), made_of(name, proved))
+    words = toolchain.build(LIBRARY, min(4, len(os.sched_getaffinity(0))), proved)
+    if not ended_well(f"{LIBRARY} is checked and compiled", words, os.path.join(folder, "crates", LIBRARY)):
+        return None
+    return made_of(LIBRARY, proved)
+
+
+def main():
+    parser = argparse.ArgumentParser(description=__doc__.split("\n")[0])
+    parser.add_argument("--program", required=True, help="the program that the gate has built")
+    words = parser.parse_args()
+    end_by_signals()
+    if not library.compiler():
+        # (that the tests say)
+        return subprocess.run([sys.executable, TESTS]).returncode
+    try:
+        with tempfile.TemporaryDirectory(prefix="pnmpipe-library-") as folder:
+            archive = built(folder)
+            if archive is None:
+                return 1
+            given = ["--archive", archive, "--program", os.path.join(ROOT, words.program)]
+            return subprocess.run([sys.executable, TESTS, *given]).returncode
+    except Ended as ended:
+        return 128 + ended.args[0]
+
+
+if __name__ == "__main__":
+    sys.exit(main())
