@@ -76,6 +76,7 @@ BUILT ?= bin/pnmpipe
 scripts:
 	python3 scripts/style.py
 	python3 scripts/test_style.py
+	python3 scripts/test_cases.py
 	python3 scripts/check_page.py
 	sh scripts/check_scripts.sh
 	python3 scripts/test_commands.py --program $(BUILT)

@@ -1,6 +1,7 @@
-"""What a text says as a stream of images, worked out slowly from the formats' description. The limits on the lengths
-of headers, tuple types and gaps are left out. Numbers of answers are as the programs of cases tell them."""
+"""What a text says as a stream of images, worked out slowly from the formats' description. Numbers of answers are as
+the programs of cases tell them."""
 
+import re
 import sys
 import zlib
 from array import array
@@ -20,6 +21,14 @@ MOST = 16_777_216
 BLANKS = b" \t\r"
 FIELDS = (b"WIDTH", b"HEIGHT", b"DEPTH", b"MAXVAL")
 
+# the most bytes of a header, and of a plain raster from one sample's last digit through the next one's
+MOST_HEADER, MOST_GAP = 65_536, 1_048_576
+
+# a comment goes through the next CR or LF; what any other byte is
+COMMENT = re.compile(rb"#[^\r\n]*[\r\n]?")
+BLANKS_OF_RASTER, DIGITS = re.compile("[ #]*"), re.compile("0*")
+MARKS = bytes(b"0"[0] if 48 <= byte <= 57 else b" "[0] if byte in b" \t\r\n" else b"x"[0] for byte in range(256))
+
 
 class Fault(Exception):
     """A fault, by its name, ends the stream. Of a header's fault is known where it stands there, and what does."""
@@ -37,7 +46,7 @@ def answers(text):
     try:
         while rest or not given:
             kind, is_plain = magic(rest, bool(given))
-            head, length = pam_head(rest) if kind == "Pam" else pnm_head(kind, rest)
+            head, length = read_head(kind, rest)
             given.append(head)
             raster = plain_raster if is_plain else raw_raster
             rest = raster(rest[length:], head, given)
@@ -45,6 +54,31 @@ def answers(text):
     except Fault as fault:
         given.append(str(fault))
     return given
+
+
+# what is answered where a byte is missing
+MISSING = ("EmptyInput", "HeaderCut", "RasterCut")
+
+
+def answers_to_all(text):
+    """What is answered to each text that begins with this one, before another byte is needed, and whether more is."""
+    at_end, before_junk = answers(text), answers(text + b"x")
+    given = []
+    for one, other in zip(at_end, before_junk):
+        if one != other or one in MISSING:
+            break
+        given.append(one)
+    return given, not (given and isinstance(given[-1], str) and given[-1] != "ImageEnd")
+
+
+def read_head(kind, text):
+    """The head of a header, which has so many bytes at most, and its bytes."""
+    try:
+        return pam_head(text[:MOST_HEADER]) if kind == "Pam" else pnm_head(kind, text[:MOST_HEADER])
+    except Fault as fault:
+        if str(fault) == "HeaderCut" and len(text) > MOST_HEADER:
+            raise Fault("TooLong") from None
+        raise
 
 
 def magic(text, is_later):
@@ -76,17 +110,12 @@ def judged(kind, width, height, depth, maxval, tuple_type):
 
 
 def marks(text):
-    """What each byte is, in turn: # in a comment, which goes through the next CR or LF, blank for white space, 0 for a
-    digit, and x for any other."""
-    is_comment = False
-    for byte in text:
-        if is_comment or byte == ord("#"):
-            yield "#"
-            is_comment = byte not in b"\r\n"
-        elif byte in b" \t\r\n":
-            yield " "
-        else:
-            yield "0" if chr(byte) in "0123456789" else "x"
+    """What each byte is, in turn: # in a comment, blank for white space, 0 for a digit, and x for any other."""
+    parts, at = [], 0
+    for found in COMMENT.finditer(text):
+        parts += [text[at : found.start()].translate(MARKS), b"#" * len(found[0])]
+        at = found.end()
+    return b"".join([*parts, text[at:].translate(MARKS)]).decode()
 
 
 def pnm_head(kind, text):
@@ -164,29 +193,32 @@ def number_fault(numbers, name, word):
 def raw_raster(raster, head, given):
     """Adds the rows, and gives what follows the raster."""
     kind, width, height, depth, maxval, _ = head
-    size = 1 if maxval < 256 else 2
-    at = 0
-    for _ in range(height):
-        row = []
-        for x in range(width * depth):
-            place = at + (x // 8 if kind == "Bit" else size * x)
-            unit = raster[place : place + (1 if kind == "Bit" else size)]
-            if len(unit) < (1 if kind == "Bit" else size):
-                raise Fault("RasterCut")
-            sample = 1 - (unit[0] >> (7 - x % 8) & 1) if kind == "Bit" else int.from_bytes(unit, "big")
-            if sample > maxval:
-                raise Fault("SampleAboveMaxval")
-            row.append(sample)
+    size = (width + 7) // 8 if kind == "Bit" else width * depth * (1 if maxval < 256 else 2)
+    for y in range(height):
+        row = raw_samples(raster[y * size : (y + 1) * size], kind, maxval)[: width * depth]
+        if row and max(row) > maxval:
+            raise Fault("SampleAboveMaxval")
+        if len(row) < width * depth:
+            raise Fault("RasterCut")
         given.append(row)
-        at += (width + 7) // 8 if kind == "Bit" else size * width * depth
     given.append("ImageEnd")
-    return raster[at:]
+    return raster[height * size :]
+
+
+def raw_samples(text, kind, maxval):
+    """The samples of bytes, the last of which may be half of one."""
+    if kind == "Bit":
+        bits = f"{int.from_bytes(text, 'big'):0{8 * len(text)}b}" if text else ""
+        return [ord("1") - bit for bit in bits.encode()]
+    if maxval < 256:
+        return list(text)
+    return [256 * high + low for high, low in zip(text[::2], text[1::2])]
 
 
 def plain_raster(raster, head, given):
     """Adds the rows. What follows the raster is ignored, but for the byte right after it."""
     kind, width, height, depth, maxval, _ = head
-    kinds = list(marks(raster))
+    kinds = marks(raster)
     at = 0
     for y in range(height):
         row = []
@@ -202,24 +234,27 @@ def plain_raster(raster, head, given):
 
 
 def plain_sample(raster, kinds, at, kind, maxval):
-    """The next sample, and where the byte after it stands."""
-    while at < len(raster) and kinds[at] in " #":
-        at += 1
+    """The next sample, and where the byte after it stands. Each byte through its last digit comes early enough."""
+    late = at + MOST_GAP
+    at = BLANKS_OF_RASTER.match(kinds, at).end()
+    if at >= late and late < len(raster):
+        raise Fault("TooLong")
     if at == len(raster):
         raise Fault("RasterCut")
     if kinds[at] == "x" or (kind == "Bit" and raster[at] not in b"01"):
         raise Fault("BadSample")
     if kind == "Bit":
         return 1 - int(chr(raster[at])), at + 1
-    number = 0
-    while at < len(raster) and kinds[at] == "0":
-        number = 10 * number + int(chr(raster[at]))
-        at += 1
-    if at < len(raster) and kinds[at] == "x":
+    end = DIGITS.match(kinds, at).end()
+    if end > late:
+        raise Fault("TooLong")
+    if end < len(raster) and kinds[end] == "x":
         raise Fault("BadSample")
-    if number > maxval:
+    # (a number of many digits is above each maxval)
+    digits = raster[at:end].lstrip(b"0")[:9]
+    if int(digits or b"0") > maxval:
         raise Fault("SampleAboveMaxval")
-    return number, at
+    return int(digits or b"0"), end
 
 
 def tell_bytes(text):
@@ -258,5 +293,5 @@ def tell(given):
         if isinstance(answer, str):
             told += f" {answer}"
         else:
-            told += tell_row(answer) if isinstance(answer, list) else tell_head(*answer)
+            told += tell_head(*answer) if isinstance(answer, tuple) else tell_row(answer)
     return told

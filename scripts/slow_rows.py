@@ -20,8 +20,9 @@ def made_up(kind, count):
 
 def packed(pixels):
     """The bytes of pixels, the spare bits white."""
-    bits = "".join(str(1 - pixel) for pixel in pixels)
-    return bytes(int(bits[at : at + 8].ljust(8, "0"), 2) for at in range(0, len(bits), 8))
+    size = (len(pixels) + 7) // 8
+    bits = bytes([ord("1") - pixel for pixel in pixels]).decode().ljust(8 * size, "0")
+    return int(bits or "0", 2).to_bytes(size, "big")
 
 
 def pixels_in(text):

@@ -17,7 +17,7 @@ indented below one for that alone:
   printed-room N   so does standard error
   lanes N N ..     it is run with `--lanes N` before its other words, for each N
 
-Bytes and words have the escapes of the stored cases (scripts/cases.py), as \\x0a and \\63(pnminvert|). A line that
+Bytes and words have the escapes of the stored cases (scripts/case_text.py), as \\x0a and \\63(pnminvert|). A line that
 begins with `#` says what the next ones show.
 """
 
@@ -36,7 +36,7 @@ import typing
 
 sys.dont_write_bytecode = True
 
-from cases import text_of
+from case_text import text_of
 
 ROOT = os.path.dirname(os.path.dirname(os.path.abspath(__file__)))
 STORED = f"{ROOT}/crates/pnmpipe/commands"

@@ -17,7 +17,7 @@ import unittest
 
 sys.dont_write_bytecode = True
 
-from cases import SETS
+from judge_formats import SETS
 from chain_text import loaded
 from input_faults import Words, in_words
 from soak import chain_of, stream_of

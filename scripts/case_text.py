@@ -1,0 +1,154 @@
+"""How the programs of cases are written to, and how they tell: texts with escapes, messages, rows that are handed over
+together between braces, sweeps, and answers with the number from which on they are those."""
+
+import re
+import zlib
+from array import array
+
+ESCAPES = {"n": b"\n", "r": b"\r", "t": b"\t"}
+
+ESCAPE = re.compile(r"\\(?:#(\d+),(\d+),(\d+),(\d+),(\d+);|(\d+)\(((?:\\.|[^)])*)\)|x(..)|(.))")
+
+
+def text_of(written):
+    """The bytes that a written text stands for."""
+
+    def meant(found):
+        *numbers, times, part, code, mark = found.groups()
+        if code:
+            return chr(int(code, 16))
+        if mark:
+            return ESCAPES.get(mark, mark.encode()).decode("latin-1")
+        if times:
+            return int(times) * ESCAPE.sub(meant, part)
+        count, first, step, modulus, size = map(int, numbers)
+        counted = (first + k * step % modulus for k in range(count))
+        if not size:
+            return "".join(f"{number} " for number in counted)
+        return b"".join(number.to_bytes(size, "big") for number in counted).decode("latin-1")
+
+    return ESCAPE.sub(meant, written).encode("latin-1")
+
+
+def numbers_in(text):
+    """All numbers of a text."""
+    return [int(word) for word in re.findall(r"\d+", text)]
+
+
+# --- messages: a head is a tuple, a row an array, and each other message its name
+
+
+class Together(list):
+    """Rows that are handed over together."""
+
+
+# a mark of a step, a head, a row, an end, or a brace
+HEAD = r"(Bit|Gray|Color|Pam) (\d+) (\d+) (\d+) (\d+)(?: \(([^)]*)\))?"
+MESSAGE = re.compile(rf" *(?:([?~!{{}}])|{HEAD}|\[([^]]*)\]|(ImageEnd|StreamEnd|Stop))")
+
+
+def rows_in(written):
+    """The rows that are written between brackets: one, or so many as numbers by a rule fill."""
+    if not written.startswith("#"):
+        return [array("H", map(int, written.split()))]
+    count, first, step, modulus, length = numbers_in(written)
+    samples = array("H", [first + k * step % modulus for k in range(count)])
+    return [samples[at : at + length] for at in range(0, count, length)] if length else []
+
+
+def parts_in(text):
+    """The messages and marks of a text, one by one."""
+    at = 0
+    text = text.rstrip(" ")
+    while at < len(text):
+        found = MESSAGE.match(text, at)
+        if not found:
+            raise ValueError(f"no message begins at {text[at : at + 20]!r}")
+        mark, kind, *numbers, tuple_type, row, end = found.groups()
+        at = found.end()
+        if kind:
+            yield (kind, *map(int, numbers), (tuple_type or "").encode("latin-1"))
+        elif row is not None:
+            yield from rows_in(row)
+        else:
+            yield mark or end
+
+
+def handed_in(text):
+    """What a text hands over: messages, and rows together that stand between braces."""
+    handed, rows = [], None
+    for part in parts_in(text):
+        if part == "{":
+            rows = Together()
+        elif part == "}":
+            handed.append(rows)
+            rows = None
+        elif rows is not None:
+            rows.append(part)
+        else:
+            handed.append(part)
+    return handed
+
+
+def one_by_one(handed):
+    """The messages of what is handed over."""
+    return [message for it in handed for message in (it if isinstance(it, Together) else [it])]
+
+
+def is_head(message):
+    return isinstance(message, tuple)
+
+
+def is_row(message):
+    return isinstance(message, (list, array))
+
+
+# --- what is told
+
+
+class Sweep(list):
+    """The answers to many cases, of which their number and a CRC-32 are told."""
+
+    def __str__(self):
+        return f" {len(self)} cases {zlib.crc32(''.join(self).encode()):08x}"
+
+
+# around rows that are handed over together, and what may stand between these
+BRACES = re.compile(r" [{}]")
+GROUP = re.compile(r" \{((?: \[[^]]*\])+) \}")
+
+
+class Apart(str):
+    """What a line tells, but for the braces around rows that are handed over together."""
+
+    OPEN = "where braces stand around rows, since rows may go together or one by one"
+
+    def allows(self, told):
+        return BRACES.search(GROUP.sub(r"\1", told)) is None and BRACES.sub("", told) == self
+
+
+class OneOf(tuple):
+    """What a line tells is one of these."""
+
+    OPEN = "which of two ends it is, since rows that go together may take one place of a ring or several"
+
+    def allows(self, told):
+        return any(allows(want, told) for want in self)
+
+    def __str__(self):
+        return " or ".join(map(str, self))
+
+
+def allows(want, told):
+    """Whether a line may tell this."""
+    return want.allows(told) if hasattr(want, "allows") else str(want) == told
+
+
+def changes(told):
+    """Answers by number, each with the number from which on they are those."""
+    out, before = "", ""
+    for number, answer in enumerate(told):
+        if answer != before:
+            out += f" | {number}:{answer}"
+        before = answer
+    return out

@@ -1,0 +1,182 @@
+"""What pnm_flow_cases has to tell of threads at rings whose messages are there before they begin: a stage, the dealing
+to lanes, the gathering from them, and a chain over lanes. Rows that lie in a ring together are passed on one by one, or
+together, as the tool likes."""
+
+import re
+
+from case_text import Apart, OneOf, Together, handed_in, is_head, is_row, one_by_one
+from chain_text import read_chain
+from slow_reader import MOST, tell
+from slow_tools import Place, is_row_wise, named_tool, stage
+
+WORDS = ("stage", "deal", "gather", "chain", "heights")
+
+# how many places a ring has
+PLACES = 8
+
+ENDS = ("StreamEnd", "Stop")
+
+STAGE = re.compile(r"(\d+) (?:(\w+) )?\(([^)]*)\) ?(.*)", re.S)
+
+
+def want(word, text):
+    """What is told of a line."""
+    if word == "heights":
+        lanes, height = map(int, text.split())
+        return "".join(f" {dealt_height(height, lane, lanes)}" for lane in range(lanes))
+    if word in ("stage", "chain"):
+        found = STAGE.fullmatch(text)
+        if not found:
+            raise ValueError("no tool in parentheses")
+        number, gone, chain, takes = found.groups()
+        tools = [named_tool(tool) for tool in read_chain(chain)]
+        handed = handed_in(takes)
+        if len(handed) > PLACES:
+            return " no case"
+        if word == "chain":
+            return want_of_chain(tools, handed, int(number))
+        return want_of_stage(tools[0], handed, int(number), gone)
+    number, gone, *takes = text.split(" ", 2)
+    if word == "deal":
+        handed = handed_in(takes[0] if takes else "")
+        return " no case" if len(handed) > PLACES else want_of_deal(one_by_one(handed), int(number), gone)
+    if word == "gather":
+        lanes = [handed_in(lane) for lane in (takes[0].split("|") if takes else [])]
+        return want_of_gather(lanes, int(number), gone)
+    raise ValueError("no such word")
+
+
+def told_after(word, messages):
+    return f" {word}{tell(messages)}" if messages else ""
+
+
+# --- stages
+
+
+def want_of_stage(tool, handed, room, gone):
+    """How a stage ends, what it leaves of what came, and what it sends."""
+    messages = one_by_one(handed)
+    end, sent, taken = stage(tool, messages)
+    left = told_after("left", messages[taken:])
+    if gone != "output":
+        return may_go_together(handed, f" {end}{left}{told_after('sent', sent)}")
+    # that nobody takes it is seen where no place is left, and rows that came together may take one place
+    if len(sent) <= room:
+        return f" {end}{left}"
+    least = sum(not is_row(it) for it in sent) + any(map(is_row, sent))
+    is_open = any(isinstance(it, Together) for it in handed) and least <= room
+    return OneOf((f" {end}{left}", " PeerGone")) if is_open else " PeerGone"
+
+
+def may_go_together(handed, told):
+    """What is told, where rows that came together may go on so."""
+    return Apart(told) if any(isinstance(it, Together) for it in handed) else told
+
+
+def want_of_chain(tools, handed, lanes):
+    """How each tool of a chain ends, over however many lanes, and what the last one sends."""
+    messages, told, left = one_by_one(handed), "", ""
+    for number, tool in enumerate(tools):
+        end, sent, taken = stage(tool, messages)
+        left = left if number else told_after("left", messages[taken:])
+        told, messages = f"{told} {end}", sent
+    told = f"{told}{left}{told_after('sent', messages)}"
+    # over a lane's rings rows go one by one
+    return told if lanes > 1 and is_row_wise(tools[-1]) else may_go_together(handed, told)
+
+
+# --- lanes
+
+
+def dealt_height(height, lane, lanes):
+    """How many of so many rows a lane gets, row y going to lane y mod the number of lanes."""
+    return len(range(lane, height, lanes))
+
+
+def with_height(head, height):
+    return (*head[:2], height, *head[3:])
+
+
+def want_of_deal(messages, lanes, gone):
+    """How the dealing ends, what it leaves of what came, and what each lane is sent that is there."""
+    sent, place, end = [[] for _ in range(lanes)], Place(), "PeerGone"
+    missed = int(gone) if gone.isdigit() else None
+    taken = len(messages)
+    for count, message in enumerate(messages, 1):
+        if not place.accepts(message):
+            end = "Fault(OutOfOrder)"
+            break
+        to = [place.row % lanes] if is_row(message) else range(lanes)
+        for lane in to:
+            is_cut = is_head(message)
+            sent[lane].append(with_height(message, dealt_height(message[2], lane, lanes)) if is_cut else message)
+        place.step(message)
+        # the ring of the lane that is gone has one place
+        if missed is not None and len(sent[missed]) > 1:
+            break
+        if message in ENDS:
+            end, taken = "Well" if message == "StreamEnd" else "Broken", count
+            break
+    for lane in sent:
+        if not lane or lane[-1] not in ENDS:
+            lane.append("Stop")
+    if end.startswith("Fault") or missed is not None:
+        ends = [at for at, it in enumerate(messages) if it in ENDS]
+        taken = ends[0] + 1 if ends else len(messages)
+    told = "".join(f" |{tell(it)}" for lane, it in enumerate(sent) if lane != missed)
+    return f" {end}{told_after('left', messages[taken:])}{told}"
+
+
+class Over(Exception):
+    """The gathering is over by this end."""
+
+
+def want_of_gather(lanes, room, gone):
+    """How the gathering ends, and what it sends; each lane is drained."""
+    sent = []
+    try:
+        gather([list(lane) for lane in lanes], sent)
+    except Over as over:
+        end = str(over)
+    if gone == "output":
+        return " PeerGone" if len(sent) > room else f" {end}"
+    return f" {end}{told_after('sent', sent)}"
+
+
+def gather(lanes, sent):
+    """Sends what lanes give, row y from lane y mod their number, and everything else once all of them agree."""
+    place = Place()
+
+    def send(message, end=None):
+        sent.append(message)
+        if end:
+            raise Over(end)
+        place.step(message)
+
+    def take(lane):
+        message = lanes[lane].pop(0) if lanes[lane] else None
+        # rows together come as nothing more does
+        if message is None or isinstance(message, Together):
+            send("Stop", "PeerGone")
+        if message == "Stop":
+            send("Stop", "Broken")
+        return message
+
+    while True:
+        if place.head and place.row < place.head[2]:
+            message = take(place.row % len(lanes))
+        else:
+            message = agreed([take(lane) for lane in range(len(lanes))])
+        if message is None or not place.accepts(message):
+            send("Stop", "Fault(OutOfOrder)")
+        send(message, "Well" if message == "StreamEnd" else None)
+
+
+def agreed(given):
+    """The message that lanes give together: an end that is the same of each, or the head of their rows; else none."""
+    if not all(map(is_head, given)):
+        return given[0] if all(it == given[0] for it in given) and not is_row(given[0]) else None
+    height = sum(head[2] for head in given)
+    head = with_height(given[0], height)
+    is_dealt = all(it == with_height(head, dealt_height(height, lane, len(given))) for lane, it in enumerate(given))
+    return head if is_dealt and height <= MOST else None

@@ -1,0 +1,97 @@
+"""When a source reads of a text, how much it asks for and gets, and which rows come together, worked out slowly from
+what docs/ARCHITECTURE.md says of the path of a row: a read is made where what has come doesn't tell the next answer."""
+
+from bisect import bisect_right
+
+from slow_reader import answers, answers_to_all, tell
+
+# a row of bytes that wants so many more is read past the buffer
+STRAIGHT = 16_384
+
+# the most bytes of a row that comes together with others, and of all that come so
+MOST_ROW, MOST_ROWS = 16_384, 65_536
+
+
+class Known:
+    """How many answers are known by each front of a text."""
+
+    def __init__(self, text):
+        self.text = text
+
+    def __len__(self):
+        return len(self.text) + 1
+
+    def __getitem__(self, length):
+        return len(answers_to_all(self.text[:length])[0])
+
+
+def needs(text):
+    """By how many bytes of a text each answer is known, one more than there are where the end has to be found."""
+    known = Known(text)
+    return [bisect_right(known, number) for number in range(len(answers(text)))]
+
+
+class Reading:
+    """What a source answers that reads a text through a buffer of this size, a read giving some bytes at most and the
+    one with a number failing, 0 for none."""
+
+    def __init__(self, text, size, most, failing):
+        self.text, self.size, self.most, self.failing = text, size, most, failing
+        self.whole, self.needs = answers(text), needs(text)
+        # the bytes that have come; what each read asked for, and what it got
+        self.come, self.calls = 0, []
+        # of a raw image's rows the bytes of each, of a sample in it, and how many are left
+        self.row, self.sample, self.rows = 0, 1, 0
+
+    def read(self, are_joined):
+        """Tells all answers, rows together between braces where they are asked for so."""
+        told, number = "", 0
+        while number < len(self.whole):
+            count = self.together(number) if are_joined else 0
+            if not count and not self.wait(number):
+                return f"{told} ReadFailed"
+            given = self.whole[number : number + max(count, 1)]
+            told += f" {{{tell(given)} }}" if count else tell(given)
+            if isinstance(given[0], tuple):
+                self.begin(given[0], number)
+            self.rows -= len(given) if isinstance(given[0], list) else 0
+            number += len(given)
+        return told
+
+    def begin(self, head, number):
+        """Begins an image, whose header ends where its head is known."""
+        kind, width, height, depth, maxval, _ = head
+        start = self.needs[number - 1] if number else 0
+        self.sample = 2 if maxval > 255 else 1
+        self.row = (width + 7) // 8 if kind == "Bit" else width * depth * self.sample
+        self.rows = height if self.text[start + 1 : start + 2] in b"4567" else 0
+
+    def together(self, number):
+        """How many rows come together, none for a row by itself."""
+        if self.rows < 2 or not isinstance(self.whole[number], list) or self.row > MOST_ROW:
+            return 0
+        held = self.come - (self.needs[number] - self.row)
+        count = min(self.rows, held // self.row, MOST_ROWS // self.row)
+        are_rows = all(isinstance(it, list) for it in self.whole[number : number + count])
+        return count if count > 1 and are_rows else 0
+
+    def wait(self, number):
+        """Reads until an answer is known; whether no read fails."""
+        is_row = isinstance(self.whole[number], list) and self.rows
+        while self.come < self.needs[number]:
+            left = self.needs[number] - self.come
+            asked = self.size
+            if is_row and self.sample == 1 and left >= STRAIGHT:
+                asked = left
+            elif is_row and self.sample == 2:
+                asked -= (self.row - left) % 2
+            is_failing = len(self.calls) + 1 == self.failing
+            got = 0 if is_failing else min(asked, self.most, len(self.text) - self.come)
+            self.calls.append((asked, got))
+            if is_failing:
+                return False
+            if not got:
+                # the end is found
+                self.come = len(self.text) + 1
+            self.come += got
+        return True

@@ -1,0 +1,240 @@
+#!/usr/bin/env python3
+"""Tests of cases.py: what is stored is allowed, and a changed answer is refused. Of each word of the programs of cases
+some lines are worked out, and what is stored of each is changed: a number is turned, a row is dropped, two messages are
+exchanged, another fault or end is named, a byte or a digit of a CRC-32 is another, the last word is missing, or one
+more is there. `make scripts` runs it."""
+
+import re
+import unittest
+from collections import Counter
+
+import cases
+import judge_formats
+import judge_tools
+from case_text import Apart, OneOf, allows, handed_in, numbers_in
+
+FAULTS = set(" ".join([*judge_formats.FAULTS.values(), *judge_tools.FAULTS.values()]).split())
+ENDS = {"Well": "Broken", "Broken": "PeerGone", "PeerGone": "Well"}
+
+# so many lines of a word, spread over all of them; of sweeps fewer
+MOST, MOST_SWEEPS = 24, 3
+SWEEPS = ("types", "images", "axes", "changes", "inserts", "streams", "after", "cuts")
+
+# the most samples of a row, and of an image of a sweep, that are worked out
+MOST_SAMPLES = 100_000
+
+# what the next lines are about
+NAMING = ("tool", "none", "image", "axis")
+
+DIGEST = re.compile(r"(?<= )[0-9a-f]{8}(?=\]| |$)")
+
+MESSAGE = r"(?:Bit|Gray|Color|Pam) \d+ \d+ \d+ \d+(?: \([^)]*\))?|\[[^]]*\]|ImageEnd|StreamEnd|Stop"
+
+
+def two_of(found):
+    """The first and the last one."""
+    found = list(found)
+    return found[:1] + found[1:][-1:]
+
+
+def other_numbers(told):
+    for found in two_of(re.finditer(r"(?<![\w\\])\d+(?!\w)", told)):
+        yield told[: found.start()] + str(int(found[0]) + 1) + told[found.end() :]
+
+
+def dropped_rows(told):
+    for found in two_of(re.finditer(r" \[[^]]*\]", told)):
+        yield told[: found.start()] + told[found.end() :]
+
+
+def exchanged_messages(told):
+    # (the lines that tell of rows and of fields have lists of other things between brackets)
+    pairs = re.finditer(rf"({MESSAGE}) (?=({MESSAGE}))", told)
+    for found in two_of(it for it in pairs if it[1] != it[2]):
+        yield f"{told[: found.start()]}{found[2]} {found[1]}{told[found.end(2) :]}"
+
+
+def other_faults(told):
+    for found in two_of(it for it in re.finditer(r"[A-Z]\w+", told) if it[0] in FAULTS):
+        for name in two_of(sorted(FAULTS - {found[0]})):
+            yield told[: found.start()] + name + told[found.end() :]
+
+
+def other_ends(told):
+    for found in two_of(re.finditer("|".join(ENDS), told)):
+        yield told[: found.start()] + ENDS[found[0]] + told[found.end() :]
+
+
+def other_digests(told):
+    for found in two_of(DIGEST.finditer(told)):
+        yield told[: found.end() - 1] + f"{int(found[0][-1], 16) ^ 1:x}" + told[found.end() :]
+
+
+def other_bytes(told):
+    if re.search(r"P[1-7](\\n|$| )", told):
+        yield told[:-1] + chr(ord(told[-1]) ^ 1)
+
+
+def shorter(told):
+    if told.strip():
+        yield told.rstrip(" ").rpartition(" ")[0]
+
+
+def longer(told):
+    yield told + " StreamEnd"
+
+
+CHANGES = {
+    "number": other_numbers,
+    "row": dropped_rows,
+    "messages": exchanged_messages,
+    "fault": other_faults,
+    "end": other_ends,
+    "digest": other_digests,
+    "byte": other_bytes,
+    "shorter": shorter,
+    "longer": longer,
+}
+
+# the changes that are tried at least once of lines with these words
+WANTED = {
+    "pnm_tools_cases": {
+        "run": "number row messages fault digest shorter longer",
+        "lane": "number row messages shorter longer",
+        "head": "number fault shorter longer",
+        "axis": "number fault shorter longer",
+        "chain": "number fault shorter longer",
+        "copy": "number shorter longer",
+        "judge tool held": "shorter longer",
+        "types images axes": "number digest shorter longer",
+        "names": "fault shorter longer",
+    },
+    "pnm_format_cases": {
+        "text long": "number row messages fault digest shorter longer",
+        "cuts fails": "number row messages fault shorter longer",
+        "joins joins_by": "number row messages shorter longer",
+        "reads reads_by": "number shorter longer",
+        "changes inserts streams after": "number digest shorter longer",
+        "ahead held": "number shorter longer",
+        "width": "shorter longer",
+        "raw plain sips": "number fault byte shorter longer",
+        "numbers bitmaps columns append repeat": "number digest shorter longer",
+        "pixels words bytes": "number shorter longer",
+        "names": "fault shorter longer",
+    },
+    "pnm_flow_cases": {
+        "raw": "number fault byte digest shorter longer",
+        "plain cuts reads writes flushes never room buffered": "number fault byte shorter longer",
+        "stage": "number row messages fault end shorter longer",
+        "deal": "number row messages fault end shorter longer",
+        "gather": "number row messages fault end shorter longer",
+        "chain": "number row messages fault end shorter longer",
+        "heights": "number shorter longer",
+    },
+}
+
+
+def is_short(word, line, told):
+    """Whether a line is worked out soon."""
+    if word == "types":
+        first, last, _, width, _, height = numbers_in(line)
+        return (last + 1 - first) * width * height <= MOST_SAMPLES // 10
+    if word in ("run", "lane", "raw", "plain"):
+        return max(numbers_in(f"{line} {told} 0")) <= MOST_SAMPLES
+    return True
+
+
+def chosen(crate):
+    """The lines whose answers are changed, by their numbers."""
+    words, with_digests = {}, {}
+    for number, (line, told) in enumerate(zip(cases.stored(crate, "stdin"), cases.stored(crate, "stdout"))):
+        word = line.partition(" ")[0]
+        if word != "#" and is_short(word, line, told):
+            words.setdefault(word, []).append(number)
+            with_digests.setdefault(word, []).extend([number] if DIGEST.search(told) else [])
+    numbers = {number for all_of_word in with_digests.values() for number in all_of_word[:1]}
+    for word, all_of_word in words.items():
+        most = MOST_SWEEPS if word in SWEEPS else MOST
+        step = max(1, len(all_of_word) // most)
+        numbers.update(all_of_word[::step])
+    return numbers
+
+
+class Answers(unittest.TestCase):
+    def setUp(self):
+        self.tried = Counter()
+
+    def each_of(self, crate):
+        """Works out the chosen lines of a program, and wants changed answers to be refused."""
+        at_work, numbers = cases.JUDGES[crate].Lines(), chosen(crate)
+        for number, (line, told) in enumerate(zip(cases.stored(crate, "stdin"), cases.stored(crate, "stdout"))):
+            word = line.partition(" ")[0]
+            if number not in numbers and word not in NAMING:
+                continue
+            want = at_work.want(line)
+            if number in numbers and word not in ("none", "image"):
+                with self.subTest(line=line):
+                    self.assertTrue(allows(want, told))
+                    self.is_refused(word, want, told)
+        for words, kinds in WANTED[crate].items():
+            for word in words.split():
+                with self.subTest(word=word):
+                    self.assertEqual([kind for kind in kinds.split() if not self.tried[word, kind]], [])
+
+    def is_refused(self, word, want, told):
+        for kind, change in CHANGES.items():
+            for changed in change(told):
+                if changed != told and not (isinstance(want, OneOf) and kind == "end"):
+                    self.tried[word, kind] += 1
+                    self.assertFalse(allows(want, changed), f"{kind}: {changed}")
+
+    def test_tools(self):
+        self.each_of("pnm_tools_cases")
+
+    def test_formats(self):
+        self.each_of("pnm_format_cases")
+
+    def test_flow(self):
+        self.each_of("pnm_flow_cases")
+
+
+class OpenParts(unittest.TestCase):
+    """What is left open of an answer, and no more."""
+
+    def test_braces(self):
+        want = Apart(" Well [1] [2] [3]")
+        for told in (" Well [1] [2] [3]", " Well { [1] [2] } [3]", " Well { [1] } { [2] [3] }"):
+            self.assertTrue(allows(want, told), told)
+        for told in (" Well { [2] [1] } [3]", " Well { [1] [2] [3]", " { Well [1] } [2] [3]", " Well { } [1] [2] [3]"):
+            self.assertFalse(allows(want, told), told)
+
+    def test_one_of_two_ends(self):
+        want = OneOf((" Well", " PeerGone"))
+        self.assertTrue(allows(want, " Well") and allows(want, " PeerGone"))
+        self.assertFalse(allows(want, " Broken") or allows(want, " Well sent Stop"))
+
+    def test_held(self):
+        want = judge_tools.Held(handed_in("Gray 2 3 1 300 [0 1] [2 255] [256 0] ImageEnd"))
+        for told in (" bits bytes words", " words words words", " bytes words words"):
+            self.assertTrue(allows(want, told), told)
+        for told in (" bits bits words", " bits bytes bytes", " bits bytes", " bits bytes words words", " a b c"):
+            self.assertFalse(allows(want, told), told)
+        want = judge_tools.HeldByEach([judge_tools.Held(handed_in(row)) for row in ("[1]", "[1]", "[300]")])
+        for told in (" | 0: bits | 2: words", " | 0: words", " | 0: bits | 1: bytes | 2: words"):
+            self.assertTrue(allows(want, told), told)
+        for told in (" | 0: bits", " | 1: words", " | 0: bits | 2: bytes", " | 0: bits | 3: words", " words", ""):
+            self.assertFalse(allows(want, told), told)
+
+
+class Lines(unittest.TestCase):
+    def test_unknown_words(self):
+        for judge in cases.JUDGES.values():
+            for line in ("unknown 1", "", "Raw (pnminvert) P5"):
+                with self.subTest(judge=judge.__name__, line=line), self.assertRaises((ValueError, LookupError)):
+                    at_work = judge.Lines()
+                    at_work.tools = [judge_tools.written_tool("invert")]
+                    at_work.want(line)
+
+
+if __name__ == "__main__":
+    unittest.main()
