@@ -21,6 +21,9 @@ FAULTS = {
     "MissingArgument ExtraArgument Memory",
 }
 
+# the words that are about the tools so far
+OF_TOOLS = ("head", "run", "lane", "held", "images", "types")
+
 # what each way to hold a row has room for
 ROOM = {"bits": 1, "bytes": 255, "words": 65_535}
 
@@ -57,6 +60,8 @@ class Lines:
 
     def want_of_each(self, word, rest):
         """What is told of each tool."""
+        if word not in OF_TOOLS:
+            raise ValueError("no such word")
         wants = [want_of_tool(tool, word, rest) for tool in self.tools]
         if len(wants) == 1:
             return wants[0]
@@ -79,8 +84,6 @@ def want_of_tool(tool, word, rest):
         return told_head(tool, next(parts_in(text)))
     if word == "held":
         return Held(steps_of(tool, text))
-    if word not in ("run", "lane"):
-        raise ValueError("no such word")
     if word == "lane" and not is_row_wise(tool):
         return " no case"
     told = tell(steps_of(tool, text))
