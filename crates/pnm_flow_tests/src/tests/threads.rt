@@ -384,26 +384,27 @@ fn gives_each_tool_a_thread(rt: HostRuntime) {
 /// A message, and what comes of it.
 type Step<'a> = (Part<'a>, &'a [Part<'a>]);
 
-/// What comes of an image in `pnminvert | pnminvert`.
-const TWICE: &[Step<'static>] = &[
+/// What comes of an image of two rows in `pnminvert`: of two lanes each gets one.
+const ROWS_INVERTED: &[Step<'static>] = &[
     (
-        Part::Begin(Kind::Gray, 2, 1, 122),
-        &[Part::Begin(Kind::Gray, 2, 1, 122)],
+        Part::Begin(Kind::Gray, 1, 2, 9),
+        &[Part::Begin(Kind::Gray, 1, 2, 9)],
     ),
-    (Part::Row(&[65, 66]), &[Part::Row(&[65, 66])]),
+    (Part::Row(&[1]), &[Part::Row(&[8])]),
+    (Part::Row(&[2]), &[Part::Row(&[7])]),
     (Part::ImageEnd, &[Part::ImageEnd]),
     (Part::StreamEnd, &[Part::StreamEnd]),
 ];
 
-/// What comes of it in `pamenlarge 2 | pnminvert`.
-const DOUBLED: &[Step<'static>] = &[
+/// What comes of one sample in `pamenlarge 2 | pnminvert`.
+const SAMPLE_DOUBLED: &[Step<'static>] = &[
     (
-        Part::Begin(Kind::Gray, 2, 1, 122),
-        &[Part::Begin(Kind::Gray, 4, 2, 122)],
+        Part::Begin(Kind::Gray, 1, 1, 9),
+        &[Part::Begin(Kind::Gray, 2, 2, 9)],
     ),
     (
-        Part::Row(&[65, 66]),
-        &[Part::Row(&[57, 57, 56, 56]), Part::Row(&[57, 57, 56, 56])],
+        Part::Row(&[7]),
+        &[Part::Row(&[2, 2]), Part::Row(&[2, 2])],
     ),
     (Part::ImageEnd, &[Part::ImageEnd]),
     (Part::StreamEnd, &[Part::StreamEnd]),
@@ -429,18 +430,18 @@ fn one_by_one(
     true
 }
 
-const INVERTING: [Tool; 2] = [Tool::Invert, Tool::Invert];
+const INVERTING: [Tool; 1] = [Tool::Invert];
 
 const DOUBLING: [Tool; 2] = [Tool::Enlarge(2, 2), Tool::Invert];
 
-/// What comes of each message passes through two tools before the next one is there, over rings of capacity 1, and over
+/// What comes of each message passes through the tools before the next one is there, over rings of capacity 1, and over
 /// two lanes too.
 #[test]
 fn passes_each_message_on_at_once(rt: HostRuntime) {
     let (inverting, doubling) = (INVERTING, DOUBLING);
     for lanes in 1..3 {
-        passes_on(&rt, rt.alloc(), &inverting, lanes, TWICE);
-        passes_on(&rt, rt.alloc(), &doubling, lanes, DOUBLED);
+        passes_on(&rt, rt.alloc(), &inverting, lanes, ROWS_INVERTED);
+        passes_on(&rt, rt.alloc(), &doubling, lanes, SAMPLE_DOUBLED);
     }
 }
 
