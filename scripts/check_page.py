@@ -2,8 +2,9 @@
 """Wants the manual page, the documents and the completion to say what the sources do.
 
 The page's SYNOPSIS is the usage line of the program, and the page names each fault, tool and option that the crates
-name. Each edit that docs/PROMISES.md names stands in a crate's must-fail, each link of the README and of docs leads
-to a file, and lines there wrap at 100 columns but for tables. Options and tools of the completions stand in the pages,
+name. Each edit that docs/PROMISES.md names stands in a crate's must-fail. Each link of the README and of docs leads to
+a file, and to a heading of it. Lines there wrap at 100 columns, but for tables where WIDE_TABLES names the document;
+ARCHITECTURE.md has 25 KB at most, and the README 8,192 bytes. Options and tools of the completions stand in the pages,
 and the other way round. Figures of the documents' tables are those of docs/figures.tsv, which `make bench` writes.
 Where mandoc is installed, it has to find nothing in the pages.
 """
@@ -110,6 +111,32 @@ def faults_of_completions():
     return found
 
 
+DOCUMENTS = ["README.md"] + [f"docs/{name}.md" for name in ("ARCHITECTURE", "PROOFS", "PROMISES")]
+DOCUMENTS += [f"docs/{name}.md" for name in ("PERFORMANCE", "NETPBM", "RECIPES")]
+# documents with tables whose rows are longer than a line
+WIDE_TABLES = {"README.md", "docs/PERFORMANCE.md", "docs/NETPBM.md", "docs/RECIPES.md"}
+MOST_BYTES = {"README.md": 8_192, "docs/ARCHITECTURE.md": 25_000}
+
+
+def anchors(text):
+    """The names by which links lead to the headings of a document."""
+    headings = re.findall(r"^#+ (.*)$", re.sub(r"^```.*?^```$", "", text, flags=re.M | re.S), re.M)
+    return {re.sub(r"[^\w -]", "", heading.lower()).replace(" ", "-") for heading in headings}
+
+
+def faults_of_links(path, text):
+    for link, anchor in re.findall(r"\]\(([^)#:]*)#?([^)]*)\)", text):
+        to = os.path.normpath(os.path.join(os.path.dirname(path), link)) if link else path
+        if ":" in anchor:
+            continue
+        if not os.path.exists(os.path.join(ROOT, to)):
+            yield f"{path} leads to {link}, which isn't there"
+        elif not re.match(r"docs/|[A-Z]+(\.md)?$", to):
+            yield f"{path} leads to {link}, which the archive of the built program lacks"
+        elif anchor and anchor not in anchors(read(to)):
+            yield f"{path} leads to #{anchor} of {to}, which has no such heading"
+
+
 def faults_of_documents():
     edits = {os.path.basename(path)[:-5] for path in glob.glob(os.path.join(ROOT, "crates/*/must-fail/*.edit"))}
     found = []
@@ -117,19 +144,15 @@ def faults_of_documents():
         for name in re.findall(r"`(\w+)`", block):
             if name not in edits:
                 found.append(f"docs/PROMISES.md names the edit {name}, which no crate has")
-    for path in ["README.md"] + [f"docs/{name}.md" for name in ("PROMISES", "PERFORMANCE", "NETPBM", "RECIPES")]:
+    for path in DOCUMENTS:
         text = read(path)
         for number, line in enumerate(text.split("\n"), 1):
-            if len(line) > 100 and not line.startswith("|"):
+            if len(line) > 100 and not (path in WIDE_TABLES and line.startswith("|")):
                 found.append(f"{path}:{number} has {len(line)} columns")
-        for link in re.findall(r"\]\(([^)#:]+)(?:#[^)]*)?\)", text):
-            if not os.path.exists(os.path.join(ROOT, os.path.dirname(path), link)):
-                found.append(f"{path} leads to {link}, which isn't there")
-            elif not re.match(r"docs/|[A-Z]+(\.md)?$", os.path.normpath(os.path.join(os.path.dirname(path), link))):
-                found.append(f"{path} leads to {link}, which the archive of the built program lacks")
-    size = len(read("README.md").encode())
-    if size > 8192:
-        found.append(f"README.md has {size} bytes, more than 8,192")
+        found += faults_of_links(path, text)
+        size, most = len(text.encode()), MOST_BYTES.get(path)
+        if most and size > most:
+            found.append(f"{path} has {size:,} bytes, more than {most:,}")
     return found
 
 
