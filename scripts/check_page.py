@@ -3,8 +3,8 @@
 
 The page's SYNOPSIS is the usage line of the program, and the page names each fault, tool and option that the crates
 name. Each edit that docs/PROMISES.md names stands in a crate's must-fail. Each link of the README and of docs leads to
-a file, and to a heading of it. Lines there wrap at 100 columns, but for tables where WIDE_TABLES names the document;
-ARCHITECTURE.md has 25 KB at most, and the README 8,192 bytes. Options and tools of the completions stand in the pages,
+a file, and to a heading of it. Lines there wrap at 100 columns, but for tables of most documents (NARROW_TABLES);
+ARCHITECTURE.md has 25,000 bytes at most, and the README 8,192. Options and tools of the completions stand in the pages,
 and the other way round. Figures of the documents' tables are those of docs/figures.tsv, which `make bench` writes.
 Where mandoc is installed, it has to find nothing in the pages.
 """
@@ -111,10 +111,9 @@ def faults_of_completions():
     return found
 
 
-DOCUMENTS = ["README.md"] + [f"docs/{name}.md" for name in ("ARCHITECTURE", "PROOFS", "PROMISES")]
-DOCUMENTS += [f"docs/{name}.md" for name in ("PERFORMANCE", "NETPBM", "RECIPES")]
-# documents with tables whose rows are longer than a line
-WIDE_TABLES = {"README.md", "docs/PERFORMANCE.md", "docs/NETPBM.md", "docs/RECIPES.md"}
+DOCUMENTS = ["README.md", *sorted(f"docs/{name}" for name in os.listdir(f"{ROOT}/docs") if name.endswith(".md"))]
+# documents without rows of tables that are longer than a line
+NARROW_TABLES = {"docs/ARCHITECTURE.md", "docs/PROOFS.md", "docs/PROMISES.md"}
 MOST_BYTES = {"README.md": 8_192, "docs/ARCHITECTURE.md": 25_000}
 
 
@@ -147,7 +146,7 @@ def faults_of_documents():
     for path in DOCUMENTS:
         text = read(path)
         for number, line in enumerate(text.split("\n"), 1):
-            if len(line) > 100 and not (path in WIDE_TABLES and line.startswith("|")):
+            if len(line) > 100 and (path in NARROW_TABLES or not line.startswith("|")):
                 found.append(f"{path}:{number} has {len(line)} columns")
         found += faults_of_links(path, text)
         size, most = len(text.encode()), MOST_BYTES.get(path)
