@@ -1,5 +1,5 @@
 """When a source reads of a text, how much it asks for and gets, and which rows come together, worked out slowly from
-what docs/ARCHITECTURE.md says of the path of a row: a read is made where what has come doesn't tell the next answer."""
+what docs/ARCHITECTURE.md says of one row's way: a read is made where what has come doesn't tell the next answer."""
 
 from bisect import bisect_right
 
