@@ -67,12 +67,12 @@ fn by_row<T: RowTool>(tool: T) -> ByRow<T>
 }
 
 /// Whether the tool passes rows together that are held so, as far as can be told beforehand. It takes them one by one
-/// all the same where they are bits of several planes that it would turn round, or bits of a maxval beyond 1, and where
-/// there is no memory for the rows that it makes or keeps.
+/// all the same where they are bits of several planes that it would turn round, or bits of a maxval beyond 1, where it
+/// exchanges columns and rows of a tall image and they are long, and where there is no memory for the rows that it makes
+/// or keeps.
 pub fn passes_rows(tool: &Tool, _sample_width: SampleWidth) -> bool {
     match tool {
-        Tool::Invert | Tool::Cut(_) | Tool::Depth(_) | Tool::Channel(_) => true,
-        Tool::Flip(way) => !way.turn().exchanged,
+        Tool::Invert | Tool::Cut(_) | Tool::Depth(_) | Tool::Channel(_) | Tool::Flip(_) => true,
         // More than that isn't made at once of rows that fill a buffer.
         Tool::Enlarge(across, down) => across.saturating_mul(*down) <= 16,
         Tool::Tile(_, _) => false,

@@ -5,6 +5,7 @@ pub mod TransposeLaws
 pub mod BitColumnLaws
 pub mod EnlargeRowLaws
 pub mod CopyLaws
+pub mod CutRowsLaws
 pub mod TileRowLaws
 pub mod RepeatedBitLaws
 pub mod EnlargedRowsLaws

@@ -1,6 +1,6 @@
 -- The rows that a transposer keeps, and what is still to be given of them.
 use Rattle.std.proofs.Common.{◌≡◌, ℕ, ◌+◌, ◌-◌, ◌*◌, ◌<◌, ◌≤◌, List, [], ◌∷◌, ◌++◌, length, reverse, refl, sym, ap, ◌∙◌, arith, map, subst, Bool, true, false}
-use Rattle.std.proofs.Common.{if◌then◌else◌, Ok, nat_lt, append_assoc, append-nil}
+use Rattle.std.proofs.Common.{if◌then◌else◌, Ok, nat_lt, append_assoc, All}
 use Rattle.std.specs.List.{range_with_len}
 use Rattle.std.proofs.lemmas.Bool.{ltb-true}
 use Rattle.std.proofs.lemmas.Grind.{flat_map-append}
@@ -18,11 +18,12 @@ use Rattle.pnm_tools.specs.declared.flip.FlipWay.{FlipWay}
 use Rattle.pnm_tools.specs.declared.flip.Turn.{Turn}
 use Rattle.pnm_geometry_tools.specs.declared.strip.TheConstants.{STRIP_ROWS}
 use Rattle.pnm_tools.specs.declared.tool.Tool.TheVariants.{Flip}
-use Rattle.pnm_tools.specs.Flip.{turn_of, in_order, column_of, moved_rows, turned_at_end, turned_row, transposed_head_value}
+use Rattle.pnm_tools.specs.Flip.{turn_of, in_order, column_of, moved_rows, moves_rows, turned_at_end, turned_row, transposed_head_value}
 use Rattle.pnm_geometry_tools.specs.Keeping.{Transposed, IsTransposing, transposed, transposed_due}
 use Rattle.pnm_tools.specs.Pixels.{pixel_of}
 use Rattle.pnm_geometry_tools.specs.SampleRows.{SuitsShape}
 use Rattle.pnm_geometry_tools.specs.Strips.{KeepColumns, coming_column, kept_column}
+use Rattle.pnm_tools.specs.Answering.{rows_answer}
 use Rattle.pnm_tools.specs.Tools.{result_head, row_answer, end_answer}
 use Rattle.pnm_tools.proofs.HeadLaws.{small_row}
 use Rattle.pnm_tools.proofs.RangeLaws.{alike_from, map_in_parts}
@@ -31,48 +32,72 @@ use Rattle.pnm_tools.proofs.WholeHeadLaws.{is_turned}
 
 -- ---- the rows that come
 
--- the columns of rows, with one more
-column_with : {X : Type 0} (depth x : ℕ) (rows : List (List X)) (row : List X) → column_of depth (rows ++ row ∷ []) x ≡ column_of depth rows x
-    ++ pixel_of depth row x
-column_with {X = X} depth x rows row =
-    flat_map-append (λ (l : List X). pixel_of depth l x) rows (row ∷ []) ∙ ap (λ (l : List X). column_of depth rows x ++ l) (append-nil (pixel_of depth row x))
+-- the columns of rows, with more of them
+column_with : {X : Type 0} (depth x : ℕ) (rows more : List (List X)) → column_of depth (rows ++ more) x ≡ column_of depth rows x ++ column_of depth more x
+column_with {X = X} depth x rows more = flat_map-append (λ (l : List X). pixel_of depth l x) rows more
 
-column_more : {X : Type 0} (b : Bool) (depth x : ℕ) (strips rows come : List (List X)) (row : List X)
+column_more : {X : Type 0} (b : Bool) (depth x : ℕ) (strips rows come more : List (List X))
     → coming_column b depth strips rows x ≡ column_of depth (in_order b come) x
-    → coming_column b depth strips (rows ++ row ∷ []) x ≡ column_of depth (in_order b (come ++ row ∷ [])) x
-column_more {X = X} true depth x strips rows come row same =
+    → coming_column b depth strips (rows ++ more) x ≡ column_of depth (in_order b (come ++ more)) x
+column_more {X = X} true depth x strips rows come more same =
     let parts : List X = column_of (STRIP_ROWS * depth) (reverse strips) x in
-    ap (λ (l : List (List X)). column_of depth l x ++ parts) (reverse-append rows (row ∷ []))
-    ∙ append_assoc (pixel_of depth row x) (column_of depth (reverse rows) x) parts
-    ∙ ap (λ (l : List X). pixel_of depth row x ++ l) same
-    ∙ ap (λ (l : List (List X)). column_of depth l x) (sym (reverse-append come (row ∷ [])))
-column_more {X = X} false depth x strips rows come row same =
+    let last : List X = column_of depth (reverse more) x in
+    ap (λ (l : List (List X)). column_of depth l x ++ parts) (reverse-append rows more)
+    ∙ ap (λ (l : List X). l ++ parts) (column_with depth x (reverse more) (reverse rows))
+    ∙ append_assoc last (column_of depth (reverse rows) x) parts
+    ∙ ap (λ (l : List X). last ++ l) same
+    ∙ sym (column_with depth x (reverse more) (reverse come))
+    ∙ ap (λ (l : List (List X)). column_of depth l x) (sym (reverse-append come more))
+column_more {X = X} false depth x strips rows come more same =
     let parts : List X = column_of (STRIP_ROWS * depth) strips x in
-    ap (λ (l : List X). parts ++ l) (column_with depth x rows row)
-    ∙ sym (append_assoc parts (column_of depth rows x) (pixel_of depth row x))
-    ∙ ap (λ (l : List X). l ++ pixel_of depth row x) same
-    ∙ sym (column_with depth x come row)
+    let last : List X = column_of depth more x in
+    ap (λ (l : List X). parts ++ l) (column_with depth x rows more)
+    ∙ sym (append_assoc parts (column_of depth rows x) last)
+    ∙ ap (λ (l : List X). l ++ last) same
+    ∙ sym (column_with depth x come more)
 
--- a row more
-pub row_taken : (way : FlipWay) (depth : ℕ) (sample_width : SampleWidth) (next columns : ℕ) (strips rows rows' batch come : List (List ℕ)) (row : List ℕ)
-    (s : Shape) → length row ≡ row_length s → rows' ≡ rows ++ row ∷ []
+-- more rows
+pub rows_taken : (way : FlipWay) (depth : ℕ) (sample_width : SampleWidth) (next columns : ℕ) (strips rows rows' batch come more : List (List ℕ))
+    (s : Shape) → All (λ row. length row ≡ row_length s) more → rows' ≡ rows ++ more
     → IsTransposing (transposed way depth sample_width strips rows batch next columns) s come
-    → IsTransposing (transposed way depth sample_width strips rows' batch next columns) s (come ++ row ∷ [])
-row_taken way depth sample_width next columns strips rows rows' batch come row s long added h =
-    subst (λ (l : List (List ℕ)). IsTransposing (transposed way depth sample_width strips l batch next columns) s (come ++ row ∷ [])) (sym added)
+    → IsTransposing (transposed way depth sample_width strips rows' batch next columns) s (come ++ more)
+rows_taken way depth sample_width next columns strips rows rows' batch come more s long added h =
+    subst (λ (l : List (List ℕ)). IsTransposing (transposed way depth sample_width strips l batch next columns) s (come ++ more)) (sym added)
     record {
       limits = h.limits;
       column = h.column;
       sample_width = h.sample_width;
-      count = omega (arith, h.count, length-append rows (row ∷ []), length-append come (row ∷ []));
-      same = λ x below. column_more (turn_of way).rows_reversed s.depth x strips rows come row (h.same x below);
+      count = omega (arith, h.count, length-append rows more, length-append come more);
+      same = λ x below. column_more (turn_of way).rows_reversed s.depth x strips rows come more (h.same x below);
       sizes = record {
         each_strip = h.sizes.each_strip;
-        each_row = All-append (λ (l : List ℕ). length l ≡ row_length s) rows (row ∷ []) h.sizes.each_row
-            (All-cons (λ (l : List ℕ). length l ≡ row_length s) row [] long (All-nil (λ (l : List ℕ). length l ≡ row_length s)));
+        each_row = All-append (λ (l : List ℕ). length l ≡ row_length s) rows more h.sizes.each_row long;
       };
       none_made = h.none_made;
     }
+
+-- a row more
+row_taken : (way : FlipWay) (depth : ℕ) (sample_width : SampleWidth) (next columns : ℕ) (strips rows rows' batch come : List (List ℕ)) (row : List ℕ)
+    (s : Shape) → length row ≡ row_length s → rows' ≡ rows ++ row ∷ []
+    → IsTransposing (transposed way depth sample_width strips rows batch next columns) s come
+    → IsTransposing (transposed way depth sample_width strips rows' batch next columns) s (come ++ row ∷ [])
+row_taken way depth sample_width next columns strips rows rows' batch come row s long added h =
+    rows_taken way depth sample_width next columns strips rows rows' batch come (row ∷ []) s
+    (All-cons (λ (l : List ℕ). length l ≡ row_length s) row [] long (All-nil (λ (l : List ℕ). length l ≡ row_length s))) added h
+
+-- rows that were added together
+pub rows_kept : (w : Transposed) (way : FlipWay) (depth : ℕ) (width width' : SampleWidth) (next columns : ℕ)
+    (strips strips' rows rows' batch come more : List (List ℕ)) (s : Shape)
+    → transposed way depth width strips rows batch next columns ≡ w → All (λ row. length row ≡ row_length s) more → width' ≡ width → strips' ≡ strips
+    → rows' ≡ rows ++ more → IsTransposing w s come
+    → IsTransposing (transposed way depth width' strips' rows' batch next columns) s (come ++ more)
+rows_kept w way depth width width' next columns strips strips' rows rows' batch come more s is long same_width same_strips added h =
+    let before : IsTransposing (transposed way depth width strips rows batch next columns) s come =
+    subst (λ (v : Transposed). IsTransposing v s come) (sym is) h in
+    let after : IsTransposing (transposed way depth width strips rows' batch next columns) s (come ++ more) =
+    rows_taken way depth width next columns strips rows rows' batch come more s long added before in
+    subst (λ (v : SampleWidth). IsTransposing (transposed way depth v strips' rows' batch next columns) s (come ++ more)) (sym same_width)
+    (subst (λ (l : List (List ℕ)). IsTransposing (transposed way depth width l rows' batch next columns) s (come ++ more)) (sym same_strips) after)
 
 -- rows that went into a strip
 pub strip_filled : (way : FlipWay) (depth : ℕ) (sample_width : SampleWidth) (next columns : ℕ) (strips strips' rows rows' batch come : List (List ℕ))
@@ -173,6 +198,12 @@ none_made way depth sample_width next columns strips rows batch s y row exchange
     ∙ ap (λ (n : ℕ). in_order last_first (map (kept_column (turn_of way).rows_reversed depth strips rows) (range_with_len next n))) none
     ∙ in_order_nil last_first
     ∙ sym (row_moved way s y row (exchanged_moves (turn_of way) exchanged))
+
+-- nor do rows that come answer anything
+pub none_answer : (way : FlipWay) (s : Shape) (y : ℕ) (rows : List (List ℕ)) → moves_rows (turn_of way) ≡ true → rows_answer (Flip way) s y rows ≡ []
+none_answer way s y [] moves = refl
+none_answer way s y (row ∷ rows) moves =
+    ap (λ (l : List (List ℕ)). l ++ rows_answer (Flip way) s (y + 1) rows) (row_moved way s y row moves) ∙ none_answer way s (y + 1) rows moves
 
 -- the batch that is made holds the columns that were the next to be made
 pub first_made : (way : FlipWay) (depth : ℕ) (sample_width : SampleWidth) (next columns count : ℕ) (b : Bool) (strips rows batch : List (List ℕ))

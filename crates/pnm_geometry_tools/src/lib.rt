@@ -5,6 +5,7 @@
 mod batch;
 mod buffer;
 mod color;
+mod cut_rows;
 mod enlarge;
 mod repeat;
 mod row_of;

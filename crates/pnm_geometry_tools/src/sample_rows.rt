@@ -1,9 +1,11 @@
 //! Rows whose samples are all of one width, which a transposer keeps.
 
-ghost use Rattle.std.specs.Prelude.{◌≡◌, ◌≤◌, ◌<◌, ◌+◌, ◌*◌, ◌++◌, ◌∷◌, [], OnOk, OnErr, IfOk, IfErr, map, reverse};
+ghost use Rattle.std.specs.Prelude.{◌≡◌, ◌≤◌, ◌<◌, ◌+◌, ◌*◌, ◌++◌, ◌∷◌, [], OnOk, OnErr, IfOk, IfErr, length, map};
+ghost use Rattle.std.specs.Prelude.{reverse};
 ghost use Rattle.std.specs.List.{range_with_len};
 ghost use Rattle.pnm_image.specs.declared.limits.TheConstants.{MAX_DEPTH, MAX_ROW_LENGTH};
 ghost use Rattle.pnm_image.specs.Heads.{IsWithinLimits};
+ghost use Rattle.pnm_image.specs.Images.{cut_rows};
 ghost use Rattle.pnm_tools.specs.declared.fault.ToolFault.TheVariants.{Memory};
 ghost use Rattle.pnm_tools.specs.Flip.{in_order};
 ghost use Rattle.pnm_geometry_tools.specs.SampleRows.{row_lists, strip_lists, rows_width, FitsWidth, IsBatchOfBits};
@@ -11,10 +13,12 @@ ghost use Rattle.pnm_geometry_tools.specs.SampleRows.{batch_length};
 ghost use Rattle.pnm_geometry_tools.specs.Strips.{HaveSizes, KeepColumns, ReachColumns, kept_column, kept_count};
 
 use crate::batch::{columns_of, last_first};
+use crate::cut_rows::{cut_bits, cut_samples};
+use crate::row_of::RowOf;
 use crate::strip::StripedRows;
-use pnm_image::{Bits, SampleWidth, Samples, Shape};
+use pnm_image::{Bits, SampleSlice, SampleWidth, Samples, Shape};
 use pnm_tools::ToolFault;
-use std::alloc::Global;
+use std::alloc::{AllocError, Global};
 
 /// How many columns are made side by side. One at a time would fetch each row of the image from
 /// memory once for each of its columns. As many bytes of a row lie in a line of the processor's cache.
@@ -26,6 +30,10 @@ const BATCH_OF_BITS: u32 = 256;
 /// How many rows an image has at least whose rows are put into strips as they come: so the strip that is made
 /// takes little memory beside the image.
 const LEAST_HEIGHT: u32 = 1024;
+
+/// How many samples a row has at most that is kept as it is where rows come together in such an image: of short rows
+/// many lie in the processor's cache once they are exchanged, and to make strips of them takes longer than it saves.
+const MOST_SAMPLES: u64 = 256;
 
 /// The rows of an image, top to bottom, all of one width of samples.
 #[derive(Drop)]
@@ -71,6 +79,41 @@ impl SampleRows {
             SampleRows::Bits(rows) => Ok(rows.push(row.into_bits(alloc)?)?),
             SampleRows::Bytes(kept) => kept.push(row.into_bytes(alloc)?),
             SampleRows::Words(kept) => kept.push(row.into_words(alloc)?),
+        }
+    }
+
+    /// Whether rows of an image of this shape are rather put into strips, for which each has to come by itself.
+    pub fn prefers_strips(&self, shape: Shape) -> bool {
+        match self {
+            SampleRows::Bits(_) => false,
+            SampleRows::Bytes(_) | SampleRows::Words(_) => {
+                shape.height >= LEAST_HEIGHT && shape.row_length() > MOST_SAMPLES
+            }
+        }
+    }
+
+    /// Adds so many rows of so many samples each at the end, which are held one after another.
+    ///
+    /// # Errors
+    ///
+    /// Where there is no memory for them, or they are held in another width. Then nothing has changed.
+    pub fn push_rows(
+        &mut self,
+        alloc: Global,
+        samples: &Samples,
+        count: usize,
+        each: usize,
+    ) -> Result<(), AllocError>
+        requires { length samples.now ≡ count * each }
+        ensures sample_width { rows_width self.new ≡ rows_width self.old }
+        ensures strips { strip_lists self.new ≡ strip_lists self.old }
+        ensures added { OnOk result (row_lists self.new ≡ row_lists self.old ++ cut_rows count each samples.now) }
+        ensures unchanged { OnErr result (row_lists self.new ≡ row_lists self.old) }
+    {
+        match self {
+            SampleRows::Bits(rows) => push_bits(alloc, rows, samples, count, each),
+            SampleRows::Bytes(kept) => push_bytes(alloc, &mut kept.rows, samples, count, each),
+            SampleRows::Words(kept) => push_words(alloc, &mut kept.rows, samples, count, each),
         }
     }
 
@@ -170,4 +213,73 @@ impl SampleRows {
             }
         }
     }
+}
+
+/// Adds so many rows of so many pixels each at the end.
+///
+/// # Errors
+///
+/// Where there is no memory for them, or they aren't held as pixels. Then nothing has changed.
+fn push_bits(
+    alloc: Global,
+    rows: &mut Vec<Bits>,
+    samples: &Samples,
+    count: usize,
+    each: usize,
+) -> Result<(), AllocError>
+    requires { length samples.now ≡ count * each }
+    ensures added { OnOk result (rows.new.items ≡ rows.old.items ++ cut_rows count each samples.now) }
+    ensures unchanged { OnErr result (rows.new.items ≡ rows.old.items) }
+{
+    let SampleSlice::Bits(bits) = samples.as_slice() else {
+        return Err(AllocError);
+    };
+    let mut added = cut_bits(alloc, bits, count, each)?;
+    rows.append(&mut added)
+}
+
+/// Adds so many rows of so many bytes each at the end.
+///
+/// # Errors
+///
+/// Where there is no memory for them, or they aren't held as bytes. Then nothing has changed.
+fn push_bytes(
+    alloc: Global,
+    rows: &mut Vec<RowOf<u8>>,
+    samples: &Samples,
+    count: usize,
+    each: usize,
+) -> Result<(), AllocError>
+    requires { length samples.now ≡ count * each }
+    ensures added { OnOk result (rows.new.items ≡ rows.old.items ++ cut_rows count each samples.now) }
+    ensures unchanged { OnErr result (rows.new.items ≡ rows.old.items) }
+{
+    let SampleSlice::Bytes(bytes) = samples.as_slice() else {
+        return Err(AllocError);
+    };
+    let mut added = cut_samples(alloc, bytes, count, each)?;
+    rows.append(&mut added)
+}
+
+/// Adds so many rows of so many words each at the end.
+///
+/// # Errors
+///
+/// Where there is no memory for them, or they aren't held as words. Then nothing has changed.
+fn push_words(
+    alloc: Global,
+    rows: &mut Vec<RowOf<u16>>,
+    samples: &Samples,
+    count: usize,
+    each: usize,
+) -> Result<(), AllocError>
+    requires { length samples.now ≡ count * each }
+    ensures added { OnOk result (rows.new.items ≡ rows.old.items ++ cut_rows count each samples.now) }
+    ensures unchanged { OnErr result (rows.new.items ≡ rows.old.items) }
+{
+    let SampleSlice::Words(words) = samples.as_slice() else {
+        return Err(AllocError);
+    };
+    let mut added = cut_samples(alloc, words, count, each)?;
+    rows.append(&mut added)
 }

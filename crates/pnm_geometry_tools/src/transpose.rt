@@ -72,6 +72,27 @@ impl ImageTool for Transposer {
         self.rows.fill_strip(alloc, last_first, shape)
     }
 
+    /// Keeps copies of the rows, which are answered by none.
+    fn rows(
+        &mut self,
+        alloc: Global,
+        shape: Shape,
+        _y: u32,
+        rows: Rows,
+    ) -> Result<Option<Rows>, Rows> {
+        if self.rows.prefers_strips(shape) {
+            return Err(rows);
+        }
+        let (samples, count, row_length) = rows.into_parts();
+        let Ok(()) = self
+            .rows
+            .push_rows(alloc, &samples, count as usize, row_length)
+        else {
+            return Err(Rows::new(samples, count, row_length));
+        };
+        Ok(None)
+    }
+
     fn end(&mut self, shape: Shape) {
         let last_first = self.way.turn().rows_reversed;
         self.rows.put_in_order(last_first);
