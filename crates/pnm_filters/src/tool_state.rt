@@ -75,7 +75,7 @@ pub fn passes_rows(tool: &Tool, _sample_width: SampleWidth) -> bool {
         Tool::Invert | Tool::Cut(_) | Tool::Depth(_) | Tool::Channel(_) | Tool::Flip(_) => true,
         // More than that isn't made at once of rows that fill a buffer.
         Tool::Enlarge(across, down) => across.saturating_mul(*down) <= 16,
-        Tool::Tile(_, _) => false,
+        Tool::Tile(_, _) => true,
     }
 }
 

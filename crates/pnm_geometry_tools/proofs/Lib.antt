@@ -7,5 +7,6 @@ pub mod EnlargeRowLaws
 pub mod CopyLaws
 pub mod CutRowsLaws
 pub mod TileRowLaws
+pub mod TileRowsLaws
 pub mod RepeatedBitLaws
 pub mod EnlargedRowsLaws

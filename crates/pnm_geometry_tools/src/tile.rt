@@ -1,11 +1,13 @@
 //! `pnmtile`: the image side by side, from pnmtile(1).
 
-ghost use Rattle.std.specs.Prelude.{◌≡◌, ◌≤◌, ◌<◌, ◌*◌, ◌⊎◌, length, take, All, OnOk, IfOk, IfErr, Ok, Err, []};
+ghost use Rattle.std.specs.Prelude.{◌≡◌, ◌≤◌, ◌<◌, ◌*◌, ◌⊎◌, length, map, take, All, OnOk, IfOk, IfErr, Ok, Err};
+ghost use Rattle.std.specs.Prelude.{[]};
 ghost use Rattle.pnm_image.specs.declared.limits.TheConstants.{MAX_ROW_LENGTH};
 ghost use Rattle.pnm_tools.specs.declared.fault.ToolFault.TheVariants.{Memory};
 ghost use Rattle.pnm_tools.specs.declared.tool.Tool.TheVariants.{Tile};
 ghost use Rattle.pnm_tools.specs.Tile.{tiled_row};
 ghost use Rattle.pnm_image.specs.Heads.{IsWithinLimits, row_length};
+ghost use Rattle.pnm_image.specs.Places.{IsRowOf};
 ghost use Rattle.pnm_geometry_tools.specs.Keeping.{IsTiling, shown_row, tiled_due};
 ghost use Rattle.pnm_tools.specs.Limits.{IsExtent};
 ghost use Rattle.pnm_tools.specs.Tools.{TakesHead, result_head};
@@ -113,6 +115,31 @@ fn shown_part(alloc: Global, width: u32, shape: Shape, row: Samples) -> Result<S
     }
 }
 
+/// What the result shows of the first of these rows of an image of this shape, as many as are asked for, in queue.
+///
+/// # Errors
+///
+/// `Memory`, where there is none for it.
+fn shown_rows(
+    alloc: Global,
+    width: u32,
+    shape: Shape,
+    count: u32,
+    rows: &Rows,
+) -> Result<VecDeque<Samples>, ToolFault>
+    requires count { count ≤ length rows.now }
+    requires rows { All (IsRowOf shape) rows.now }
+    ensures { IfOk result (λ shown. shown.items ≡ map (shown_row width shape) (take count rows.now)) }
+{
+    let mut shown = VecDeque::with_capacity(alloc, count as usize)?;
+    for at in 0..count {
+        let row = rows.row(alloc, at)?;
+        let part = shown_part(alloc, width, shape, row)?;
+        shown.push_back(part)?;
+    }
+    Ok(shown)
+}
+
 /// The first samples of a row. A vector keeps the memory of what is cut off, so that few of them
 /// are copied into one of their own.
 fn prefix<T: Copy>(alloc: Global, mut row: Vec<T>, count: usize) -> Result<Vec<T>, ToolFault>
@@ -208,6 +235,27 @@ impl ImageTool for Tiler {
             self.rows.push_back(shown)?;
         }
         Ok(())
+    }
+
+    /// Keeps copies of what the result shows of the rows, which are answered by none.
+    fn rows(
+        &mut self,
+        alloc: Global,
+        shape: Shape,
+        y: u32,
+        rows: Rows,
+    ) -> Result<Option<Rows>, Rows> {
+        if y >= self.height {
+            return Ok(None);
+        }
+        let count = (self.height - y).min(rows.count());
+        let Ok(mut shown) = shown_rows(alloc, self.width, shape, count, &rows) else {
+            return Err(rows);
+        };
+        let Ok(()) = self.rows.append(&mut shown) else {
+            return Err(rows);
+        };
+        Ok(None)
     }
 
     fn end(&mut self, shape: Shape) {
