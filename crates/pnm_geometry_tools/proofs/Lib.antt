@@ -6,6 +6,7 @@ pub mod BitColumnLaws
 pub mod EnlargeRowLaws
 pub mod CopyLaws
 pub mod CutRowsLaws
+pub mod JoinLaws
 pub mod TileRowLaws
 pub mod TileRowsLaws
 pub mod RepeatedBitLaws

@@ -7,6 +7,7 @@ mod buffer;
 mod color;
 mod cut_rows;
 mod enlarge;
+mod join;
 mod repeat;
 mod row_of;
 mod sample_rows;

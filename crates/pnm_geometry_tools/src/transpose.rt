@@ -6,6 +6,7 @@ ghost use Rattle.pnm_tools.specs.declared.tool.Tool.TheVariants.{Flip};
 ghost use Rattle.pnm_tools.specs.Flip.{turn_of};
 ghost use Rattle.pnm_geometry_tools.specs.Keeping.{IsTransposing, transposed_due};
 
+use crate::join::next_columns;
 use crate::sample_rows::SampleRows;
 use pnm_image::{Head, Rows, SampleWidth, Samples, Shape};
 use pnm_tools::{FlipWay, ImageTool, ToolFault, flipped_head};
@@ -100,6 +101,7 @@ impl ImageTool for Transposer {
         self.columns = shape.width;
     }
 
+    /// Gives the next columns of a batch, or makes one first.
     #[inline(never)]
     fn give(&mut self, alloc: Global) -> Result<Option<Rows>, ToolFault> {
         if self.batch.is_empty() && self.next < self.columns {
@@ -109,7 +111,7 @@ impl ImageTool for Transposer {
                 self.make_first(alloc)?;
             }
         }
-        Ok(self.batch.pop().map(Rows::one))
+        next_columns(alloc, &mut self.batch)
     }
 
     fn may_give(&self) -> bool {
