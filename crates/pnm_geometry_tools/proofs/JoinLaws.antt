@@ -4,7 +4,7 @@ use Rattle.std.proofs.lemmas.List.{append_assoc, drop-append-le, length-append, 
 use Rattle.pnm_image.specs.Images.{cut_rows}
 
 -- a row more behind those that are held
-pub cut_more : (count each : ℕ) (held row : List ℕ) → length held ≡ count * each → length row ≡ each
+cut_more : (count each : ℕ) (held row : List ℕ) → length held ≡ count * each → length row ≡ each
     → cut_rows (suc count) each (held ++ row) ≡ cut_rows count each held ++ row ∷ []
 cut_more zero each held row many long =
     let none : length held ≡ 0 = omega arith in
@@ -18,16 +18,21 @@ cut_more (suc count) each held row many long =
     ∙ ap (λ (l : List ℕ). take each held ∷ cut_rows (suc count) each l) rest
     ∙ ap (λ (l : List (List ℕ)). take each held ∷ l) (cut_more count each (drop each held) row left long)
 
+pub cut_with : (count each : ℕ) (held both row : List ℕ) → length held ≡ count * each → length row ≡ each → both ≡ held ++ row
+    → cut_rows (count + 1) each both ≡ cut_rows count each held ++ row ∷ []
+cut_with count each held both row many long is =
+    let more : count + 1 ≡ suc count = omega arith in
+    ap (cut_rows (count + 1) each) is ∙ ap (λ (n : ℕ). cut_rows n each (held ++ row)) more ∙ cut_more count each held row many long
+
 -- the next column of a batch goes over to those that are held
 pub column_over : (count each : ℕ) (held both next : List ℕ) (all batch rest : List (List ℕ)) → length held ≡ count * each → length next ≡ each
     → both ≡ held ++ next → batch ≡ rest ++ next ∷ [] → all ≡ cut_rows count each held ++ reverse batch
     → all ≡ cut_rows (count + 1) each both ++ reverse rest
 column_over count each held both next all batch rest many long is parts were =
     let cut : List (List ℕ) = cut_rows count each held in
-    let more : count + 1 ≡ suc count = omega arith in
     were ∙ ap (λ (l : List (List ℕ)). cut ++ reverse l) parts ∙ ap (λ (l : List (List ℕ)). cut ++ l) (reverse-append rest (next ∷ []))
     ∙ sym (append_assoc cut (next ∷ []) (reverse rest))
-    ∙ ap (λ (l : List (List ℕ)). l ++ reverse rest) (sym (ap (cut_rows (count + 1) each) is ∙ ap (λ (n : ℕ). cut_rows n each (held ++ next)) more ∙ cut_more count each held next many long))
+    ∙ ap (λ (l : List (List ℕ)). l ++ reverse rest) (sym (cut_with count each held both next many long is))
 
 -- how many samples they are then
 pub length_over : (count each : ℕ) (held both next : List ℕ) → length held ≡ count * each → length next ≡ each → both ≡ held ++ next

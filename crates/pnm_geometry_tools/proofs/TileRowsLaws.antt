@@ -1,16 +1,19 @@
 -- Rows of an image that come together to be tiled, and rows of the result that are given together.
-use Rattle.std.proofs.Common.{◌≡◌, ℕ, ◌+◌, ◌-◌, ◌<◌, ◌≤◌, List, [], ◌∷◌, ◌++◌, length, map, take, drop, min, All, refl, sym, ap, ◌∙◌, arith, append-nil, get_or, subst}
+use Rattle.std.proofs.Common.{◌≡◌, inl, ℕ, ◌+◌, ◌-◌, ◌*◌, ◌<◌, ◌≤◌, List, [], ◌∷◌, ◌++◌, length, map, take, drop, min, All, refl, sym, ap, ◌∙◌, arith, append-nil, get_or, subst}
 use Rattle.std.specs.List.{AllByRecursion}
 use Rattle.std.proofs.lemmas.List.{take_all, take_min, take-append-le, take-append-drop, map-append, length-map, length-append, length-take, append_assoc, get_or_at}
-use Rattle.std.proofs.lemmas.List.Elements.{All-append, All-from_recursion}
+use Rattle.std.proofs.lemmas.List.Elements.{All-append, All-from_recursion, All-head, All-same}
 use Rattle.std.proofs.Math.Seq.{take-append-add}
 use Rattle.pnm_image.specs.declared.shape.Shape.{Shape}
 use Rattle.pnm_image.specs.Heads.{row_length}
 use Rattle.pnm_image.specs.Places.{IsRowOf}
 use Rattle.pnm_tools.specs.declared.tool.Tool.TheVariants.{Tile}
 use Rattle.pnm_tools.specs.Answering.{rows_answer}
-use Rattle.pnm_geometry_tools.specs.Keeping.{Tiled, IsTiling, AreWithin, tiled, shown_row}
-use Rattle.pnm_geometry_tools.proofs.TileRowLaws.{row_of_tile}
+use Rattle.pnm_geometry_tools.specs.Keeping.{Tiled, IsTiling, AreWithin, tiled, tiled_due, shown_row, HasTiles, GivesRow, GivesRows}
+use Rattle.pnm_geometry_tools.proofs.TileRowLaws.{row_of_tile, given_of_queue, left_within, length_tiled, tiled_within, tiles_left}
+use Rattle.pnm_geometry_tools.proofs.JoinLaws.{cut_with}
+use Rattle.pnm_tools.specs.Tile.{tiled_row}
+use Rattle.pnm_image.specs.Images.{cut_rows}
 use Rattle.pnm_geometry_tools.proofs.CutRowsLaws.{lengths_of}
 
 -- no row is answered before the image has ended
@@ -90,3 +93,50 @@ tiling_behind w v s come rows same none kept are ready = record {
       (All-from_recursion (λ (row : List ℕ). All (λ sample. sample ≤ s.maxval) row) rows (within_each s rows are));
   none_given = none;
 }
+
+-- ---- rows of the result that are given together
+
+-- there are rows to give, however many are left
+pub tiles_same : (across down down' width depth left left' : ℕ) (rows : List (List ℕ)) → HasTiles (tiled across down width depth rows left)
+    → HasTiles (tiled across down' width depth rows left')
+tiles_same across down down' width depth left left' rows h = record { some = h.some; lengths = h.lengths; width = h.width; filled = h.filled }
+
+-- the first row in queue is given, and goes to the end
+pub row_given : (across : ℕ) (s : Shape) (row made : List ℕ) (old rest new : List (List ℕ)) → HasTiles (tiled across 0 s.width s.depth old 0)
+    → AreWithin s.maxval old → old ≡ row ∷ rest → made ≡ tiled_row across s.width s.depth row → new ≡ rest ++ row ∷ [] → GivesRow across s old made new
+row_given across s row made old rest new h range queue is again =
+    let P : List ℕ → Type 0 = λ r. length r ≡ s.width * s.depth in
+    let W : List ℕ → Type 0 = λ r. All (λ sample. sample ≤ s.maxval) r in
+    let first : P row = All-head P row rest (All-same P (row ∷ rest) old (sym queue) h.lengths) in
+    let small : W row = All-head W row rest (All-same W (row ∷ rest) old (sym queue) range) in
+    let left : HasTiles (tiled across 0 s.width s.depth new 1) =
+    tiles_left (tiled across 0 s.width s.depth old 0) row rest new 1 h queue (inl again) (omega arith) in
+    record {
+      tiles = tiles_same across 0 0 s.width s.depth 1 0 new left;
+      range = left_within s.maxval 0 row old rest new range queue (inl again);
+      long = ap length is ∙ length_tiled across s.width s.depth row h.width first;
+      within = tiled_within s.maxval across s.width s.depth row row made is refl small;
+      due = λ height left. given_of_queue (tiled across height s.width s.depth old (left + 1)) row made rest new left queue (omega arith) is (inl again);
+    }
+
+-- a row more is given
+pub rows_given : (n each across : ℕ) (s : Shape) (held both made : List ℕ) (old now new : List (List ℕ))
+    → GivesRows n across s old (cut_rows n each held) now → GivesRow across s now made new → length held ≡ n * each → length made ≡ each
+    → both ≡ held ++ made → GivesRows (n + 1) across s old (cut_rows (n + 1) each both) new
+rows_given n each across s held both made old now new h g many long is = record {
+  tiles = g.tiles;
+  range = g.range;
+  due = λ height left.
+      let place : left + (n + 1) ≡ (left + 1) + n = omega arith in
+      let cut : List (List ℕ) = cut_rows n each held in
+      let behind : List (List ℕ) = tiled_due (tiled across height s.width s.depth new left) in
+      ap (λ (k : ℕ). tiled_due (tiled across height s.width s.depth old k)) place ∙ h.due height (left + 1)
+      ∙ ap (λ (l : List (List ℕ)). cut ++ l) (g.due height left) ∙ sym (append_assoc cut (made ∷ []) behind)
+      ∙ ap (λ (l : List (List ℕ)). l ++ behind) (sym (cut_with n each held both made many long is));
+}
+
+-- the samples of all are within the maxval
+pub both_within : (maxval : ℕ) (held both made : List ℕ) → All (λ sample. sample ≤ maxval) held → All (λ sample. sample ≤ maxval) made
+    → both ≡ held ++ made → All (λ sample. sample ≤ maxval) both
+both_within maxval held both made small more is =
+    All-same (λ (sample : ℕ). sample ≤ maxval) both (held ++ made) is (All-append (λ (sample : ℕ). sample ≤ maxval) held made small more)

@@ -1,5 +1,5 @@
 -- What tools keep while the rows of an image come, and the rows of the result that they still give.
-use Rattle.std.specs.Prelude.{◌≡◌, ℕ, ◌+◌, ◌-◌, ◌*◌, ◌<◌, ◌≤◌, ◌%◌, true, List, [], ◌++◌, map, length, min, take}
+use Rattle.std.specs.Prelude.{◌≡◌, ℕ, ◌+◌, ◌-◌, ◌*◌, ◌<◌, ◌≤◌, ◌%◌, true, List, [], ◌∷◌, ◌++◌, map, length, min, take}
 use Rattle.std.specs.Prelude.{reverse, replicate, slice_index_or, All, Option, Some, None}
 use Rattle.std.specs.List.{range_with_len}
 use Rattle.pnm_image.specs.declared.limits.TheConstants.{MAX_DEPTH, MAX_ROW_LENGTH, MAX_SIDE}
@@ -137,3 +137,19 @@ pub record IsTiling (w : Tiled) (s : Shape) (come : List (List ℕ)) : Type 0 wh
 abbrev pub tiled_due : Tiled → List (List ℕ)
 tiled_due w = map (λ y. tiled_row w.width w.image_width w.depth (slice_index_or w.rows (y % length w.rows) []))
     (range_with_len 0 w.left)
+
+-- the next row of the result, of rows in queue, and the queue after it: so many columns of an image of this shape
+pub record GivesRow (width : ℕ) (s : Shape) (old : List (List ℕ)) (made : List ℕ) (new : List (List ℕ)) : Type 0 where
+  pub tiles : HasTiles (tiled width 0 s.width s.depth new 0)
+  pub range : AreWithin s.maxval new
+  pub long : length made ≡ width * s.depth
+  pub within : All (λ sample. sample ≤ s.maxval) made
+  pub due : (height left : ℕ) → tiled_due (tiled width height s.width s.depth old (left + 1))
+      ≡ made ∷ tiled_due (tiled width height s.width s.depth new left)
+
+-- the next rows of the result, so many of them
+pub record GivesRows (count width : ℕ) (s : Shape) (old made new : List (List ℕ)) : Type 0 where
+  pub tiles : HasTiles (tiled width 0 s.width s.depth new 0)
+  pub range : AreWithin s.maxval new
+  pub due : (height left : ℕ) → tiled_due (tiled width height s.width s.depth old (left + count))
+      ≡ made ++ tiled_due (tiled width height s.width s.depth new left)

@@ -1,6 +1,6 @@
 //! Rows that are given together.
 
-ghost use Rattle.std.specs.Prelude.{◌≡◌, ◌++◌, [], IfOk, IfErr, IfNone, reverse};
+ghost use Rattle.std.specs.Prelude.{◌≡◌, ◌≤◌, ◌++◌, [], IfOk, IfErr, IfNone, reverse};
 ghost use Rattle.pnm_samples.specs.SampleVecs.{samples_of};
 ghost use Rattle.pnm_tools.specs.declared.fault.ToolFault.TheVariants.{Memory};
 ghost use Rattle.pnm_tools.specs.Answering.{rows_list};
@@ -17,6 +17,16 @@ const MOST_TOGETHER: usize = 32_768;
 
 /// The most rows that are given together.
 const MOST_ROWS: u32 = 256;
+
+/// How many of so many rows of this length are given together: one where they are long.
+pub(crate) fn count_together(each: usize, rows: u32) -> u32
+    ensures { result ≤ rows }
+{
+    if each == 0 || each > MOST_SAMPLES {
+        return rows.min(1);
+    }
+    rows.min((MOST_TOGETHER / each) as u32)
+}
 
 /// The next columns of a batch, of which the last one is the next: as many together as are short and alike, or one.
 /// The only fault is `Memory`.

@@ -8,10 +8,11 @@ ghost use Rattle.pnm_tools.specs.declared.tool.Tool.TheVariants.{Tile};
 ghost use Rattle.pnm_tools.specs.Tile.{tiled_row};
 ghost use Rattle.pnm_image.specs.Heads.{IsWithinLimits, row_length};
 ghost use Rattle.pnm_image.specs.Places.{IsRowOf};
-ghost use Rattle.pnm_geometry_tools.specs.Keeping.{IsTiling, shown_row, tiled_due};
+ghost use Rattle.pnm_geometry_tools.specs.Keeping.{IsTiling, shown_row, tiled, tiled_due, AreWithin, GivesRow, GivesRows, HasTiles};
 ghost use Rattle.pnm_tools.specs.Limits.{IsExtent};
 ghost use Rattle.pnm_tools.specs.Tools.{TakesHead, result_head};
 
+use crate::join::{append, count_together};
 use pnm_image::{Bits, Head, Kind, Rows, SampleSlice, SampleVec, Samples, Shape};
 use pnm_tools::{ImageTool, ToolFault, head_within_limits};
 use std::alloc::Global;
@@ -58,6 +59,59 @@ fn tile_row(alloc: Global, width: u32, shape: Shape, row: &Samples) -> Result<Sa
             Ok(Samples::within(SampleVec::Words(words), shape.maxval))
         }
     }
+}
+
+/// The next row of the result: the first one in queue side by side, held as it is. That one goes to the end.
+///
+/// # Errors
+///
+/// `Memory`, where there is none for the row.
+fn next_tiled(
+    alloc: Global,
+    width: u32,
+    shape: Shape,
+    rows: &mut VecDeque<Samples>,
+) -> Result<Samples, ToolFault>
+    requires tiles { HasTiles (tiled width 0 shape.width shape.depth rows.old.items 0) }
+    requires range { AreWithin shape.maxval rows.old.items }
+    ensures given { IfOk result (λ made. GivesRow width shape rows.old.items made rows.new.items) }
+    ensures refused { IfErr result (λ fault. fault ≡ Memory) }
+{
+    let Some(row) = rows.pop_front() else {
+        unreachable!();
+    };
+    let made = tile_row(alloc, width, shape, &row)?;
+    rows.push_back(row)?;
+    Ok(made)
+}
+
+/// The next rows of the result, so many together.
+///
+/// # Errors
+///
+/// `Memory`, where there is none for them.
+fn tile_rows(
+    alloc: Global,
+    width: u32,
+    shape: Shape,
+    rows: &mut VecDeque<Samples>,
+    count: u32,
+) -> Result<Rows, ToolFault>
+    requires some { 1 ≤ count }
+    requires tiles { HasTiles (tiled width 0 shape.width shape.depth rows.old.items 0) }
+    requires range { AreWithin shape.maxval rows.old.items }
+    ensures given { IfOk result (λ made. GivesRows count width shape rows.old.items made rows.new.items) }
+    ensures refused { IfErr result (λ fault. fault ≡ Memory) }
+{
+    let first = next_tiled(alloc, width, shape, rows)?;
+    let each = first.len();
+    let mut held = first.into_vec();
+    for _ in 1..count {
+        let row = next_tiled(alloc, width, shape, rows)?;
+        held = append(alloc, held, &row)?;
+    }
+    let samples = Samples::within(held, shape.maxval);
+    Ok(Rows::new(samples, count, each))
 }
 
 /// The first columns of copies of a row that isn't wanted again: the row itself, where it has those columns.
@@ -264,11 +318,20 @@ impl ImageTool for Tiler {
         self.left = self.height;
     }
 
-    /// A row that is wanted again goes to the end. After a fault no row is left.
+    /// Gives short rows together. A row that is wanted again goes to the end. After a fault no row is left.
     #[inline(never)]
     fn give(&mut self, alloc: Global) -> Result<Option<Rows>, ToolFault> {
         if self.left == 0 {
             return Ok(None);
+        }
+        let row_length = self.width as usize * self.shape.depth as usize;
+        let together = count_together(row_length, self.left);
+        if together > 1 {
+            let left = self.left - together;
+            self.left = 0;
+            let given = tile_rows(alloc, self.width, self.shape, &mut self.rows, together)?;
+            self.left = left;
+            return Ok(Some(given));
         }
         let Some(row) = self.rows.pop_front() else {
             return Ok(None);
