@@ -68,8 +68,8 @@ fn by_row<T: RowTool>(tool: T) -> ByRow<T>
 
 /// Whether the tool passes rows together that are held so, as far as can be told beforehand. It takes them one by one
 /// all the same where they are bits of several planes that it would turn round, or bits of a maxval beyond 1, where it
-/// exchanges columns and rows of a tall image and they are long, and where there is no memory for the rows that it makes
-/// or keeps.
+/// exchanges columns and rows of a tall image whose rows are long, and where there is no memory for the rows that it
+/// makes or keeps.
 pub fn passes_rows(tool: &Tool, _sample_width: SampleWidth) -> bool {
     match tool {
         Tool::Invert | Tool::Cut(_) | Tool::Depth(_) | Tool::Channel(_) | Tool::Flip(_) => true,

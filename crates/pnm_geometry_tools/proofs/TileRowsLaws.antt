@@ -1,7 +1,9 @@
 -- Rows of an image that come together to be tiled, and rows of the result that are given together.
-use Rattle.std.proofs.Common.{◌≡◌, inl, ℕ, ◌+◌, ◌-◌, ◌*◌, ◌<◌, ◌≤◌, List, [], ◌∷◌, ◌++◌, length, map, take, drop, min, All, refl, sym, ap, ◌∙◌, arith, append-nil, get_or, subst}
+use Rattle.std.proofs.Common.{◌≡◌, inl, ℕ, ◌+◌, ◌-◌, ◌*◌, ◌<◌, ◌≤◌, List, [], ◌∷◌, ◌++◌, length, map, take, drop, min, All}
+use Rattle.std.proofs.Common.{refl, sym, ap, ◌∙◌, arith, append-nil, get_or, subst}
 use Rattle.std.specs.List.{AllByRecursion}
-use Rattle.std.proofs.lemmas.List.{take_all, take_min, take-append-le, take-append-drop, map-append, length-map, length-append, length-take, append_assoc, get_or_at}
+use Rattle.std.proofs.lemmas.List.{take_all, take_min, take-append-le, take-append-drop, map-append}
+use Rattle.std.proofs.lemmas.List.{length-map, length-append, length-take, append_assoc, get_or_at}
 use Rattle.std.proofs.lemmas.List.Elements.{All-append, All-from_recursion, All-head, All-same}
 use Rattle.std.proofs.Math.Seq.{take-append-add}
 use Rattle.pnm_image.specs.declared.shape.Shape.{Shape}

@@ -66,11 +66,7 @@ pub(crate) fn next_columns(
 /// # Errors
 ///
 /// Where there is no memory for them.
-pub(crate) fn append(
-    alloc: Global,
-    held: SampleVec,
-    row: &Samples,
-) -> Result<SampleVec, AllocError>
+pub(crate) fn append(alloc: Global, held: SampleVec, row: &Samples) -> Result<SampleVec, AllocError>
     ensures { IfOk result (λ both. samples_of both ≡ samples_of held ++ row.now) }
 {
     match held {

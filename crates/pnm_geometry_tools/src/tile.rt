@@ -8,7 +8,8 @@ ghost use Rattle.pnm_tools.specs.declared.tool.Tool.TheVariants.{Tile};
 ghost use Rattle.pnm_tools.specs.Tile.{tiled_row};
 ghost use Rattle.pnm_image.specs.Heads.{IsWithinLimits, row_length};
 ghost use Rattle.pnm_image.specs.Places.{IsRowOf};
-ghost use Rattle.pnm_geometry_tools.specs.Keeping.{IsTiling, shown_row, tiled, tiled_due, AreWithin, GivesRow, GivesRows, HasTiles};
+ghost use Rattle.pnm_geometry_tools.specs.Keeping.{AreWithin, HasTiles, GivesRow, GivesRows, IsTiling};
+ghost use Rattle.pnm_geometry_tools.specs.Keeping.{shown_row, tiled, tiled_due};
 ghost use Rattle.pnm_tools.specs.Limits.{IsExtent};
 ghost use Rattle.pnm_tools.specs.Tools.{TakesHead, result_head};
 

@@ -10,8 +10,7 @@ loop-count-preserved c =
     let rest = c.pop-in-loop-count.new.self.items in
     let popped : c.pop-in-loop-count.result ≡ Some next = search rules in
     let parts : batch ≡ rest ++ next ∷ [] = c.pop-in-loop-count.ensures.items ∙ ap (λ (o : Option (List ℕ)). rest ++ option_to_list o) popped in
-    let long : length next ≡ c.len-each.result = omega (arith, c.if-len-each.false, c.len.ensures) in
-    (
+    let long : length next ≡ c.len-each.result = omega (arith, c.if-len-each.false, c.len.ensures) in (
       omega arith,
       omega arith,
       length_over _ c.len-each.result _ _ next held.2 long c.in_ok-held.ensures,
