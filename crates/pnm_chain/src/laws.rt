@@ -3,6 +3,8 @@
 
 ghost use Rattle.pnm_chain.specs.ChainExamples.{ChainTextsHold};
 ghost use Rattle.pnm_chain.specs.ChainText.{ChainFaultsArePlaced, OneChainOrOneFault, SpelledChainsAreLawful};
+ghost use Rattle.pnm_chain.specs.declared.chain_text.TheConstants.{MAX_TEXT_LENGTH};
+ghost use Rattle.std.specs.Prelude.{◌≡◌};
 
 /// Small texts of chains, their faults and what they mean, as the definitions compute them.
 pub fn chain_texts_hold()
@@ -23,4 +25,9 @@ pub fn chain_faults_are_placed()
 /// The tools that a text spells are 1 to `MAX_TOOLS`, and their options are in their ranges.
 pub fn spelled_chains_are_lawful()
     ensures { SpelledChainsAreLawful }
+{}
+
+/// The limit of a chain's text in a number: the definitions have it by its name, from the code.
+pub fn limits_are()
+    ensures text_length { MAX_TEXT_LENGTH ≡ 4096 }
 {}

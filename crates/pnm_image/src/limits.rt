@@ -1,5 +1,5 @@
 //! The limits of images: own ones, which no page has, but for the maxval's. What is proved of them and
-//! what is done by them names these numbers and says them nowhere again.
+//! what is done by them names these numbers; the law `laws::limits_are` alone says them again.
 
 /// The greatest width and the greatest height.
 pub const MAX_SIDE: u32 = 16_777_216;

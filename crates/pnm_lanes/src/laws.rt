@@ -4,6 +4,8 @@ ghost use Rattle.pnm_lanes.specs.Deals.{LongestPrefixIsDealt};
 ghost use Rattle.pnm_lanes.specs.Lanes.{LanesAreAStage};
 ghost use Rattle.pnm_lanes.specs.LaneLaws.{StreamsAreDealt, DueIsDealt, ResultsAreDealt, GatheredIsDue};
 ghost use Rattle.pnm_lanes.specs.LaneLaws.{RefusalsAreDealt, OwedIsDealt};
+ghost use Rattle.pnm_lanes.specs.declared.lane.TheConstants.{MAX_LANES};
+ghost use Rattle.std.specs.Prelude.{◌≡◌};
 
 /// What was sent to a lane is a prefix of what is dealt to it of the longest lawful prefix of the messages that were
 /// received.
@@ -50,4 +52,9 @@ pub fn owed_is_dealt()
 /// what they have received and sent together is what one stage of the tool may have, by how they have ended.
 pub fn lanes_are_a_stage()
     ensures { LanesAreAStage }
+{}
+
+/// The limit of lanes in a number: the definitions have it by its name, from the code.
+pub fn limits_are()
+    ensures lanes { MAX_LANES ≡ 8 }
 {}

@@ -5,6 +5,8 @@ ghost use Rattle.pnm_read.specs.Examples.{TextExamplesHold};
 ghost use Rattle.pnm_read.specs.TextLaws.{SpelledIsSaid, SaidIsSpelled, SpelledAreImages, OneStreamOrOneFault};
 ghost use Rattle.pnm_read.specs.TextLaws.{SaidBeforeFaultIsSpelled, SaidIsLawful, SaidAreMessages};
 ghost use Rattle.pnm_read.specs.TextLaws.{EndIsSaidWithoutFault, FaultsAreOfTexts};
+ghost use Rattle.pnm_read.specs.declared.decimal.TheConstants.{GAP_LIMIT};
+ghost use Rattle.std.specs.Prelude.{◌≡◌};
 
 /// Of a text that spells images the messages of these images are said, without a fault.
 pub fn spelled_is_said()
@@ -52,4 +54,10 @@ pub fn faults_are_of_texts()
 /// Small texts, as the definitions compute them.
 pub fn examples_hold()
     ensures { TextExamplesHold }
+{}
+
+/// The limit of plain rasters in a number, from the end of one sample through that of the next: the definitions have
+/// it by its name, from the code. They have that of headers in numbers.
+pub fn limits_are()
+    ensures gap { GAP_LIMIT ≡ 1048576 }
 {}

@@ -6,6 +6,8 @@ ghost use Rattle.pnm_tools.specs.Dealing.{RowWiseToolsCommuteWithDealing, DealtE
 ghost use Rattle.pnm_tools.specs.Laws.{HeadsAreRefusedByName, QuarterTurnsAddUp, ResultsAreImages};
 ghost use Rattle.pnm_tools.specs.Laws.{SamplesAreByTheFormula, SamplesAreNearest, StreamsAreAnswered};
 ghost use Rattle.pnm_tools.specs.Laws.{FirstFaultIsTheRefusal, AnswersAreDue};
+ghost use Rattle.pnm_tools.specs.declared.limits.TheConstants.{MAX_EXTENT, MAX_TOOLS};
+ghost use Rattle.std.specs.Prelude.{◌≡◌};
 
 /// A full answer to a stream is the tool's stream: the results of all its images, none of which is
 /// refused.
@@ -70,4 +72,10 @@ pub fn row_wise_tools_commute_with_dealing()
 /// Small images and lists of messages, dealt.
 pub fn dealt_examples_hold()
     ensures { DealtExamplesHold }
+{}
+
+/// The limits of options and of chains in numbers: the definitions have them by their names, from the code.
+pub fn limits_are()
+    ensures extent { MAX_EXTENT ≡ 16777216 }
+    ensures tools { MAX_TOOLS ≡ 64 }
 {}
