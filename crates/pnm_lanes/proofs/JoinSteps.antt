@@ -11,7 +11,7 @@ use Rattle.pnm_stages.specs.declared.stage.StageEnd.{StageEnd}
 use Rattle.pnm_stages.specs.declared.stage.StageDone.{StageDone}
 use Rattle.pnm_lanes.specs.declared.lane_rings.LaneRingEnds.{LaneRingEnds}
 use Rattle.pnm_lanes.specs.LaneRings.{AreUnused, ArePairs}
-use Rattle.pnm_lanes.specs.LaneRuns.{end_of_both}
+use Rattle.pnm_lanes.specs.LaneRuns.{end_of_both, end_of_lanes}
 
 one_more : {X : Type 0} (xs : List X) (x : X) → length (xs ++ x ∷ []) ≡ suc (length xs)
 one_more xs x = let both = length-append xs (x ∷ []) in omega (arith, both)
@@ -77,11 +77,6 @@ HavePassed [] (d ∷ ds) rs = ⊥
 HavePassed (s ∷ ss) [] rs = ⊥
 HavePassed (s ∷ ss) (d ∷ ds) [] = ⊥
 HavePassed (s ∷ ss) (d ∷ ds) (r ∷ rs) = IsPrefixOf (received d.input) (sent s) × IsPrefixOf (received r) (sent d.output) × HavePassed ss ds rs
-
--- the end of lanes, and of the thread behind them
-abbrev pub end_of_lanes : List StageDone → StageEnd → StageEnd
-end_of_lanes [] gatherer = gatherer
-end_of_lanes (lane ∷ lanes) gatherer = end_of_both lane.end (end_of_lanes lanes gatherer)
 
 -- some of the last lanes were looked at: what had passed over their rings, and their end with that of the thread behind them
 pub record IsJoining (all_ss : List Sender) (all_ds : List StageDone) (all_rs : List Receiver) (gatherer : StageEnd)

@@ -19,9 +19,9 @@ use Rattle.pnm_lanes.specs.declared.around.OuterRingEnds.{OuterRingEnds}
 use Rattle.pnm_lanes.specs.Deals.{AtEachFrom, HasLane, HasSentSo, IsPrefixOfDealt}
 use Rattle.pnm_lanes.specs.Gathers.{at_lane, AreSameInputs, IsGathered}
 use Rattle.pnm_lanes.specs.LaneRings.{AreUnused, ArePairs}
-use Rattle.pnm_lanes.specs.LaneRuns.{end_of_both, AreLanesRun, HaveRun, HasRunLanes}
+use Rattle.pnm_lanes.specs.LaneRuns.{end_of_both, end_of_lanes, AreLanesRun, HaveRun, HasRunLanes}
 use Rattle.pnm_lanes.specs.Lanes.{IsFine, IsEndOfAll, HaveRunTogether}
-use Rattle.pnm_lanes.proofs.JoinSteps.{HavePassed, end_of_lanes}
+use Rattle.pnm_lanes.proofs.JoinSteps.{HavePassed}
 use Rattle.pnm_lanes.proofs.LaneRuns.{lanes_are_a_stage}
 
 -- ---- the rings

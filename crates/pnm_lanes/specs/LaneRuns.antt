@@ -34,6 +34,15 @@ end_of_both (Fault fault) (Fault later) = Fault fault
 end_of_both Well other = other
 end_of_both Broken other = other
 
+-- the end of lanes in their order, the first one before the others, and of the thread behind them
+abbrev pub end_of_lanes : List StageDone → StageEnd → StageEnd
+end_of_lanes [] gatherer = gatherer
+end_of_lanes (lane ∷ lanes) gatherer = end_of_both lane.end (end_of_lanes lanes gatherer)
+
+-- the end of all threads: of the dealer, of the lanes and of the gatherer
+abbrev pub end_of_threads : LanesDone → StageEnd
+end_of_threads done = end_of_both done.dealt.end (end_of_lanes done.lanes.items done.gathered.end)
+
 -- ---- the run
 
 -- a tool over several lanes has ended so, by the messages that its two outer rings had passed before and have passed

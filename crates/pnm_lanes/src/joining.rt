@@ -7,7 +7,7 @@ ghost use Rattle.pnm_tools.specs.Tools.{IsLawfulTool, is_row_wise};
 ghost use Rattle.pnm_lanes.specs.declared.lane_rings.LaneRingEnds.{LaneRingEnds};
 ghost use Rattle.pnm_lanes.specs.declared.around.OuterRingEnds.{OuterRingEnds};
 ghost use Rattle.pnm_lanes.specs.LaneRings.{AreUnused, ArePairs};
-ghost use Rattle.pnm_lanes.specs.LaneRuns.{end_of_both, HaveRun, HasRunLanes};
+ghost use Rattle.pnm_lanes.specs.LaneRuns.{end_of_both, end_of_threads, HaveRun, HasRunLanes};
 
 use crate::dealing::DealDone;
 use crate::gathering::GatherDone;
@@ -29,6 +29,7 @@ pub struct LanesDone {
 pub fn joined(done: LanesDone) -> StageDone
     requires rings { ArePairs done.dealt.outputs.items done.lanes.items done.gathered.inputs.items }
     ensures outer { (result.input ≡ done.dealt.input) × (result.output ≡ done.gathered.output) }
+    ensures end { result.end ≡ end_of_threads done }
     ensures ran { (tool : Tool) (lanes : List LaneRingEnds) (outer : OuterRingEnds) (reserved : ℕ)
         → IsLawfulTool tool → is_row_wise tool ≡ true → 0 < length lanes
         → AreUnused outer.outputs.items lanes outer.inputs.items → HaveRun tool lanes outer reserved done

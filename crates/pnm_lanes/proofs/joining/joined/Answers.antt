@@ -49,6 +49,13 @@ loop-lane-preserved c =
     )
     c.end_of_both-end.ensures
 
+pub returns-clause-end : goal.returns-clause-end
+returns-clause-end c =
+    let all = joins_all c.args.done.dealt.outputs.items c.args.done.lanes.items c.args.done.gathered.inputs.items c.args.done.gathered.end
+    c.loop-lane.outputs.items c.loop-lane.lanes.items c.loop-lane.inputs.items c.loop-lane.end c.loop-lane.invariant (let ok = c.loop-lane.lanes.ok in
+    let none = c.in_default.ensures.cases.0 in omega (arith, ok, none)) in
+    c.end_of_both.ensures ∙ ap (end_of_both c.args.done.dealt.end) all.1
+
 pub returns-clause-ran : goal.returns-clause-ran
 returns-clause-ran c tool lanes outer reserved lawful row_wise some unused run =
     let all = joins_all c.args.done.dealt.outputs.items c.args.done.lanes.items c.args.done.gathered.inputs.items c.args.done.gathered.end
