@@ -9,9 +9,13 @@ use Rattle.pnm_row_tools.proofs.flip.RowFlipperRowTool.rows.Goals as goal
 
 pub returns-in_ok-mirrored-clause-made : goal.returns-in_ok-mirrored-clause-made
 returns-in_ok-mirrored-clause-made c =
-    rows_turned c.args.self.now c.args.shape c.args._y c.args.rows c.in_ok-mirrored.mirrored c.requires.ready.stays
+    let turned = rows_turned c.args.self.now c.args.shape c.args._y c.args.rows c.in_ok-mirrored.mirrored c.requires.ready.stays
     (ap (λ (t : Turn). t.columns_reversed) (sym (c.turn.ensures ∙ ap turn_of c.self.view_is)) ∙ c.if-turn.true)
-    c.in_ok-mirrored.ensures.mirrored
+    c.in_ok-mirrored.ensures.mirrored in
+    assumption turned
+
+pub returns-in_ok-mirrored-clause-same : goal.returns-in_ok-mirrored-clause-same
+returns-in_ok-mirrored-clause-same c = assumption
 
 pub returns-else-turn-clause-made : goal.returns-else-turn-clause-made
 returns-else-turn-clause-made c =

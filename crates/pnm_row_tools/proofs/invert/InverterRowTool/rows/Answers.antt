@@ -25,7 +25,12 @@ returns-in-Ok-clause-made c =
 pub returns-in-Err-clause-same : goal.returns-in-Err-clause-same
 returns-in-Err-clause-same c =
     let parts = c.into_parts-samples in
-    c.new-in-Err.ensures ∙ ap (λ (samples : List ℕ). cut_rows parts.result.1 parts.result.2 samples) c.in-Err.ensures.same ∙ sym parts.ensures.rows
+    let same = c.new-in-Err.ensures ∙ ap (λ (samples : List ℕ). cut_rows parts.result.1 parts.result.2 samples) c.in-Err.ensures.same
+    ∙ sym parts.ensures.rows in
+    assumption same
+
+pub returns-in-Err-clause-made : goal.returns-in-Err-clause-made
+returns-in-Err-clause-made c = assumption
 
 pub new-requires-in-Err-clause-whole : goal.new-requires-in-Err-clause-whole
 new-requires-in-Err-clause-whole c = ap length c.in-Err.ensures.same ∙ c.into_parts-samples.ensures.whole

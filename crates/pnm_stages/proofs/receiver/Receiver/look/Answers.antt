@@ -1,6 +1,7 @@
+use Rattle.std.proofs.Common.{arith}
 use Rattle.pnm_stages.proofs.ParcelLaws.{none_known}
 use Rattle.rtrb.specs.Ring.{known_items}
 use Rattle.pnm_stages.proofs.receiver.Receiver.look.Goals as goal
 
 pub returns-clause-none : goal.returns-clause-none
-returns-clause-none c = none_known (known_items c.slots-seen.new.self) c.slots-seen.result c.slots-seen.ensures.value
+returns-clause-none c = λ none. none_known (known_items c.slots-seen.new.self) c.slots-seen.result c.slots-seen.ensures.value (grind (arith, none))
