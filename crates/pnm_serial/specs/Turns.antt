@@ -1,5 +1,5 @@
 -- What the turns of the caller of a run over threads keep.
-use Rattle.std.specs.Prelude.{ℕ, List, Option}
+use Rattle.std.specs.Prelude.{◌≡◌, ℕ, true, List, Option}
 use Rattle.pnm_stages.specs.Rings.{SameSender, SameReceiver}
 use Rattle.pnm_image.specs.declared.format.Form.{Form}
 use Rattle.pnm_image.specs.declared.message.Message.{Message}
@@ -7,9 +7,9 @@ use Rattle.pnm_read.specs.declared.source.Source.{Source}
 use Rattle.pnm_read.specs.Sources.{reader_of}
 use Rattle.pnm_serial.specs.declared.collector.Collector.{Collector}
 use Rattle.pnm_serial.specs.declared.feeder.Feeder.{Feeder}
-use Rattle.pnm_serial.specs.Collectors.{IsCollecting}
+use Rattle.pnm_serial.specs.Collectors.{IsCollecting, collector_is_over}
 use Rattle.pnm_serial.specs.Downstreams.{output_of}
-use Rattle.pnm_serial.specs.Feeders.{IsFeeding}
+use Rattle.pnm_serial.specs.Feeders.{IsFeeding, feeder_is_over}
 
 -- what was sent is still what the source gave, and what was written what was taken, over the same rings and devices
 pub record HaveTurned {R W : Type 0} (left : R → Option (List ℕ)) (reader_failures : R → ℕ)
@@ -24,3 +24,7 @@ pub record HaveTurned {R W : Type 0} (left : R → Option (List ℕ)) (reader_fa
   pub takes : SameReceiver c.input c_new.input
   pub reader : same_reader (reader_of f.source) (reader_of f_new.source)
   pub writer : same_writer (output_of c.downstream) (output_of c_new.downstream)
+
+-- there is nothing more to do: all was sent and taken, unless a ring's other end was seen dropped
+abbrev pub AreOver : {R W : Type 0} → Feeder R → Collector W → Type 0
+AreOver f c = (feeder_is_over f ≡ true) × (collector_is_over c ≡ true)

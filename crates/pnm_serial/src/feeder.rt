@@ -1,9 +1,10 @@
 //! What stands before the tools of a run: the source, and the ring that its messages go into.
 
-ghost use Rattle.std.specs.Prelude.{◌≡◌, ◌<◌, List, IsTrue, IsFalse, false, Some, None};
+ghost use Rattle.std.specs.Prelude.{◌≡◌, ◌<◌, List, IsTrue, IsFalse, true, false, Some, None};
 ghost use Rattle.pnm_stages.specs.Rings.{sent, known_free, SameSender};
 ghost use Rattle.pnm_image.specs.declared.message.Message.{Message as MessageValue};
-ghost use Rattle.pnm_read.specs.Sources.{reader_of, IsFreshSource as IsUnread};
+ghost use Rattle.pnm_read.specs.Sources.{reader_of, has_ended, stopped_by, IsFreshSource as IsUnread};
+ghost use Rattle.pnm_read.specs.declared.fault.InputFault.{InputFault as Fault};
 
 use crate::summary::count_image;
 use pnm_image::{BytesIn, Message, SampleWidth};
@@ -82,7 +83,11 @@ impl<R: BytesIn + Drop> Feeder<R> {
     }
 
     /// Whether to ask the source for the next message may have to wait for its reader.
-    pub fn would_read(&self) -> bool {
+    pub fn would_read(&self) -> bool
+        // After the end and after a fault nothing is read.
+        ensures ended { has_ended self.now.source ≡ true → result ≡ false }
+        ensures stopped { (fault : Fault) → stopped_by self.now.source ≡ Some fault → result ≡ false }
+    {
         !self.source.holds_next()
     }
 

@@ -7,7 +7,7 @@ ghost use Rattle.pnm_image.specs.declared.message.Message.{Message};
 ghost use Rattle.pnm_serial.specs.Collectors.{IsCollecting};
 ghost use Rattle.pnm_serial.specs.Downstreams.{output_of};
 ghost use Rattle.pnm_serial.specs.Feeders.{feeder_is_over};
-ghost use Rattle.pnm_serial.specs.Turns.{HaveTurned};
+ghost use Rattle.pnm_serial.specs.Turns.{AreOver, HaveTurned};
 
 use crate::collector::Collector;
 use crate::feeder::Feeder;
@@ -55,7 +55,7 @@ impl<'a, H: Wait, R: BytesIn + Drop, W: BytesOut + Drop> Task for Turns<'a, H, R
     ghost can_run = { λ t. Unit {0} };
 
     ghost run_gives = { λ t r. HaveTurned R.left R.failures R.same W.held W.failures W.same t.feeder.value
-        t.collector.value r.0.value r.1.value };
+        t.collector.value r.0.value r.1.value × AreOver r.0.value r.1.value };
 
     fn run(self) -> (Box<Feeder<R>>, Box<Collector<W>>) {
         let Turns {
@@ -78,6 +78,7 @@ fn take_turns<H: Wait, R: BytesIn + Drop, W: BytesOut + Drop>(
 )
     ensures turned { HaveTurned R.left R.failures R.same W.held W.failures W.same feeder.old collector.old feeder.new
         collector.new }
+    ensures over { AreOver feeder.new collector.new }
 {
     let mut takes = false;
     for _ in rt.forever() {

@@ -22,6 +22,10 @@ sent s = messages_of (sent_on s.ring)
 abbrev pub known_free : Sender → ℕ
 known_free s = known_free_on s.ring
 
+-- the places that stay free beside wide rows
+abbrev pub kept_free : Sender → ℕ
+kept_free s = s.kept_free
+
 -- all that was received by this end, and what it has seen in the ring and not received
 abbrev pub received : Receiver → List Message
 received r = messages_of (received_on r.ring)

@@ -1,9 +1,9 @@
 //! The sending end of a ring of messages.
 
-ghost use Rattle.std.specs.Prelude.{◌≡◌, ◌<◌, [], ◌∷◌, ◌++◌, IsTrue, IsFalse};
+ghost use Rattle.std.specs.Prelude.{◌≡◌, ◌<◌, ◌≤◌, [], ◌∷◌, ◌++◌, IsTrue, IsFalse};
 ghost use Rattle.pnm_image.specs.Rows.{row_messages};
 ghost use Rattle.pnm_image.specs.Parcels.{messages_in};
-ghost use Rattle.pnm_stages.specs.Rings.{sent, known_free, SameSender};
+ghost use Rattle.pnm_stages.specs.Rings.{sent, known_free, kept_free, SameSender};
 
 use crate::ring::AnyMessage;
 use crate::wakers::SenderWaker;
@@ -99,6 +99,8 @@ impl Sender {
         ensures ring { SameSender self.old self.new }
         ensures sent { sent self.new ≡ sent self.old }
         ensures room { IsTrue result → 0 < known_free self.new }
+        ensures none { IsFalse result → known_free self.new ≤ kept_free self.new }
+        ensures kept { kept_free self.new ≡ kept_free self.old }
     {
         let kept_free = self.kept_free as usize;
         self.ring.cached_slots() > kept_free || self.ring.slots() > kept_free

@@ -1,3 +1,4 @@
+use Rattle.std.proofs.Common.{sym, ◌∙◌}
 use Rattle.pnm_serial.proofs.TurnSteps.{turned_on}
 use Rattle.pnm_serial.proofs.turns.take_turns.Goals as goal
 
@@ -25,3 +26,7 @@ loop-preserved g c =
     (λ a b d. g.met.R.BytesIn.same_later a b d) (λ a b d. g.met.W.BytesOut.same_later a b d)
     c.args.feeder.now c.wake_before_taking-takes_first.new.feeder c.turn.new.feeder c.args.collector.now c.loop.collector c.turn.new.collector told
     c.turn.ensures.turned
+
+pub returns-then-is_over-2-clause-over : goal.returns-then-is_over-2-clause-over
+returns-then-is_over-2-clause-over g c =
+    (sym c.is_over.ensures ∙ c.if-is_over.true, sym c.is_over-then-is_over.ensures ∙ c.if-is_over-2.true)
