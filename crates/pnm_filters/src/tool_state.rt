@@ -66,16 +66,26 @@ fn by_row<T: RowTool>(tool: T) -> ByRow<T>
     ByRow { tool, made: None }
 }
 
-/// Whether the tool passes rows together that are held so, as far as can be told beforehand. It takes them one by one
-/// all the same where they are bits of several planes that it would turn round, or bits of a maxval beyond 1, where it
-/// exchanges columns and rows of a tall image whose rows are long, and where there is no memory for the rows that it
-/// makes or keeps.
-pub fn passes_rows(tool: &Tool, _sample_width: SampleWidth) -> bool {
+/// How many samples a row has at most that a tool takes together with others where it exchanges columns and rows of
+/// bytes or words: it keeps longer ones in strips, for which each row comes by itself.
+const MOST_EXCHANGED: u64 = 256;
+
+/// The same of bits, whose rows it keeps as they are: to take longer ones out again costs what it saves.
+const MOST_BITS_EXCHANGED: u64 = 1024;
+
+/// How many samples a row has at most that the tool takes together with others which are held so, as far as can be told
+/// beforehand: 0 where it takes none so. It takes rows one by one all the same where they are bits of several planes
+/// that it would turn round, or bits of a maxval beyond 1, where it exchanges columns and rows of a tall image and they
+/// are long, and where there is no memory for the rows that it makes or keeps.
+pub fn longest_together(tool: &Tool, sample_width: SampleWidth) -> u64 {
     match tool {
-        Tool::Invert | Tool::Cut(_) | Tool::Depth(_) | Tool::Channel(_) | Tool::Flip(_) => true,
+        Tool::Flip(way) if way.turn().exchanged => match sample_width {
+            SampleWidth::Bits => MOST_BITS_EXCHANGED,
+            SampleWidth::Bytes | SampleWidth::Words => MOST_EXCHANGED,
+        },
         // More than that isn't made at once of rows that fill a buffer.
-        Tool::Enlarge(across, down) => across.saturating_mul(*down) <= 16,
-        Tool::Tile(_, _) => true,
+        Tool::Enlarge(across, down) if across.saturating_mul(*down) > 16 => 0,
+        _ => u64::MAX,
     }
 }
 

@@ -15,15 +15,16 @@ use std::sync::Wait;
 /// So many messages are sent in a turn at most, beside the first.
 const MOST_MESSAGES: u32 = 64;
 
-/// Of which images the rows are passed on together that a source holds whole, by how they are held.
+/// How many samples a row has at most that is passed on together with others which a source holds whole, by how rows
+/// are held: 0 where none is.
 #[derive(Clone, Copy)]
 pub struct JoinedRows {
-    /// Of those of bits.
-    pub bits: bool,
-    /// Of those of bytes.
-    pub bytes: bool,
-    /// Of those of samples of two bytes.
-    pub words: bool,
+    /// Where they are bits.
+    pub bits: u64,
+    /// Where they are bytes.
+    pub bytes: u64,
+    /// Where they are samples of two bytes.
+    pub words: u64,
 }
 
 /// The source of a run, and the ring that its messages go into.
@@ -48,8 +49,8 @@ impl<R: BytesIn + Drop> Feeder<R> {
     ghost use Rattle.pnm_serial.specs.Feeders.{IsFeeding, feeder_is_over};
 
     /// A feeder that has sent nothing yet. Of short messages it sends a few before it wakes the
-    /// first tool (`wake_receiver`). Of the images that are named it sends those rows together that the source holds
-    /// whole.
+    /// first tool (`wake_receiver`). Rows that are no longer than is named it sends together, as many as the source
+    /// holds whole.
     pub fn new(source: Source<R>, output: Sender, joined: JoinedRows) -> Feeder<R>
         requires { IsUnread (reader_of source) source }
         ensures feeding { IsFeeding R.left R.failures source (sent output) result }
@@ -234,17 +235,17 @@ impl<R: BytesIn + Drop> Feeder<R> {
 }
 
 /// Whether the rows that come after the message are passed on together, where those before it are or not: of an image
-/// that has several.
+/// that has several, none of which is too long.
 pub fn joins_next(joined: JoinedRows, joins_rows: bool, message: &Message) -> bool {
     match message {
         Message::Begin(head) => {
             let shape = head.shape();
-            shape.height > 1
-                && match SampleWidth::of(shape.kind, shape.maxval) {
-                    SampleWidth::Bits => joined.bits,
-                    SampleWidth::Bytes => joined.bytes,
-                    SampleWidth::Words => joined.words,
-                }
+            let longest = match SampleWidth::of(shape.kind, shape.maxval) {
+                SampleWidth::Bits => joined.bits,
+                SampleWidth::Bytes => joined.bytes,
+                SampleWidth::Words => joined.words,
+            };
+            shape.height > 1 && shape.row_length() <= longest
         }
         Message::Row(_) => joins_rows,
         Message::ImageEnd | Message::StreamEnd | Message::Stop => false,

@@ -306,24 +306,25 @@ fn ends_well_in_threads_with_memory(rt: HostRuntime) {
     assert!(rt; is_well);
 }
 
-/// An image whose rows come together, and what `pnmtile 4 3` makes of it, which takes each row by itself.
-const TOGETHER: &[u8] = b"Gray 2 3 1 9 {[1 2] [3 4] [5 6]} ImageEnd StreamEnd";
+/// An image whose rows come together, as bits though its maxval is greater, and what `pnminvert` makes of it, which
+/// takes each row of such bits by itself.
+const BITS_TOGETHER: &[u8] = b"Gray 2 3 1 9 {[0 1] [1 0] [1 1]} ImageEnd StreamEnd";
 
-const TILED: &[Part<'static>] = &[
-    Part::Begin(Kind::Gray, 4, 3, 9),
-    Part::Row(&[1, 2, 1, 2]),
-    Part::Row(&[3, 4, 3, 4]),
-    Part::Row(&[5, 6, 5, 6]),
+const EACH_INVERTED: &[Part<'static>] = &[
+    Part::Begin(Kind::Gray, 2, 3, 9),
+    Part::Row(&[9, 8]),
+    Part::Row(&[8, 9]),
+    Part::Row(&[8, 8]),
     Part::ImageEnd,
     Part::StreamEnd,
 ];
 
 /// Whether the stage ends well. Where it doesn't memory ran out, and a prefix of the answer is sent before Stop.
 fn takes_rows_apart<R: Wait + Abort>(rt: &R, alloc: Global) -> Option<bool> {
-    let (_producer, input) = holding_written(alloc, TOGETHER)?;
+    let (_producer, input) = holding_written(alloc, BITS_TOGETHER)?;
     let (output, mut consumer) = new_ring(alloc, 8)?;
-    let done = stage(rt, alloc, &Tool::Tile(4, 3), input, output);
-    let is_stopped = ends_by_stop(rt, &mut consumer, TILED);
+    let done = stage(rt, alloc, &Tool::Invert, input, output);
+    let is_stopped = ends_by_stop(rt, &mut consumer, EACH_INVERTED);
     Some(is_well_or_short(rt, done.end, is_stopped))
 }
 
@@ -353,14 +354,16 @@ fn takes_rows_apart_or_runs_out(rt: HostRuntime) {
     let _ = takes_rows_apart(&rt, rt.alloc());
 }
 
-/// Where no growth is refused each of the rows is repeated.
+/// Where no growth is refused each of the rows is inverted.
 #[test]
 fn takes_rows_apart_with_memory(rt: HostRuntime) {
     let is_well = takes_rows_apart(&rt, rt.alloc()).unwrap_or(false);
     assert!(rt; is_well);
 }
 
-/// What the first of two lanes is dealt of that image, and the second.
+/// An image whose rows come together, and what the first of two lanes is dealt of it, and the second.
+const TOGETHER: &[u8] = b"Gray 2 3 1 9 {[1 2] [3 4] [5 6]} ImageEnd StreamEnd";
+
 const FIRST_LANE: &[Part<'static>] = &[
     Part::Begin(Kind::Gray, 2, 2, 9),
     Part::Row(&[1, 2]),

@@ -163,45 +163,55 @@ pub fn comes(input: &mut Receiver, part: Part<'_>) -> bool {
 
 /// Whether these come, each by a counted number of tries: rows one by one or together.
 pub fn all_come(alloc: Global, input: &mut Receiver, parts: &[Part<'_>]) -> bool {
-    let mut rest = parts;
+    let mut come = 0;
     for _ in 0..parts.len() {
-        if rest.is_empty() {
+        if come >= parts.len() {
             break;
         }
         let Some(parcel) = next_parcel(input) else {
             return false;
         };
-        let Some(after) = after_parcel(alloc, &parcel, rest) else {
+        if !is_made_from(alloc, &parcel, parts, come) {
             return false;
-        };
-        rest = after;
+        }
+        come = come.saturating_add(count_in(&parcel));
     }
-    rest.is_empty()
+    come == parts.len()
 }
 
-/// The parts that follow those of which the parcel is made; none if it isn't made of the first ones.
-fn after_parcel<'a>(
-    alloc: Global,
-    parcel: &Parcel,
-    parts: &'a [Part<'a>],
-) -> Option<&'a [Part<'a>]> {
+/// How many messages the parcel stands for.
+fn count_in(parcel: &Parcel) -> usize {
     match parcel {
-        Parcel::Message(message) => after_message(message, parts),
+        Parcel::Message(_) => 1,
+        Parcel::Rows(rows) => rows.count() as usize,
+    }
+}
+
+/// Whether the parcel is made of the parts from this one on.
+fn is_made_from(alloc: Global, parcel: &Parcel, parts: &[Part<'_>], from: usize) -> bool {
+    match parcel {
+        Parcel::Message(message) => is_made_at(message, parts, from),
         Parcel::Rows(rows) => {
-            let mut rest = parts;
             for at in 0..rows.count() {
-                let row = rows.row(alloc, at).ok()?;
-                rest = after_message(&Message::Row(row), rest)?;
+                let Ok(row) = rows.row(alloc, at) else {
+                    return false;
+                };
+                let place = from.saturating_add(at as usize);
+                if !is_made_at(&Message::Row(row), parts, place) {
+                    return false;
+                }
             }
-            Some(rest)
+            true
         }
     }
 }
 
-/// The parts that follow the first one, if the message is made of this.
-fn after_message<'a>(message: &Message, parts: &'a [Part<'a>]) -> Option<&'a [Part<'a>]> {
-    let (first, rest) = parts.split_first()?;
-    is_made_of(message, *first).then_some(rest)
+/// Whether the message is made of the part in this place.
+fn is_made_at(message: &Message, parts: &[Part<'_>], at: usize) -> bool {
+    match parts.get(at) {
+        Some(part) => is_made_of(message, *part),
+        None => false,
+    }
 }
 
 /// Sends a message to a thread, and takes what comes of it; whether it came as it was sent.

@@ -402,10 +402,7 @@ const SAMPLE_DOUBLED: &[Step<'static>] = &[
         Part::Begin(Kind::Gray, 1, 1, 9),
         &[Part::Begin(Kind::Gray, 2, 2, 9)],
     ),
-    (
-        Part::Row(&[7]),
-        &[Part::Row(&[2, 2]), Part::Row(&[2, 2])],
-    ),
+    (Part::Row(&[7]), &[Part::Row(&[2, 2]), Part::Row(&[2, 2])]),
     (Part::ImageEnd, &[Part::ImageEnd]),
     (Part::StreamEnd, &[Part::StreamEnd]),
 ];
