@@ -28,7 +28,8 @@ fn ring(alloc: Global, capacity: usize) -> Result<(Sender, Receiver), Unmade> {
 }
 
 /// A ring that holds written messages, and its sending end, unless that is gone.
-fn holding(
+fn holding<R: Wait>(
+    rt: &R,
     alloc: Global,
     text: &[u8],
     is_gone: bool,
@@ -38,9 +39,12 @@ fn holding(
         if !sender.has_room() {
             return Err(Unmade);
         }
-        match handed {
-            Handed::Message(message) => sender.send_reserved(message),
-            Handed::Rows(rows) => sender.send_rows_reserved(rows),
+        let is_sent = match handed {
+            Handed::Message(message) => sender.send(rt, message),
+            Handed::Rows(rows) => sender.send_rows(rt, rows),
+        };
+        if !is_sent {
+            return Err(Unmade);
         }
     }
     if is_gone {
@@ -123,7 +127,7 @@ pub fn tell_tools<R: Threads + Wait + Sync>(
     let (chain, takes) = cut_at(rest, b')');
     let capacity = if is_chain { CAPACITY } else { number };
     let tools = tools_of(alloc, chain)?;
-    let (_sender, input) = holding(alloc, takes, gone == b"input".as_slice())?;
+    let (_sender, input) = holding(rt, alloc, takes, gone == b"input".as_slice())?;
     let (output, receiver) = taking(alloc, capacity, gone == b"output".as_slice())?;
     if is_chain {
         tell_chain(rt, alloc, tools.as_slice(), number, input, output, told)?;
@@ -247,7 +251,7 @@ pub fn tell_dealt<R: Wait>(
 ) -> Result<(), Unmade> {
     let (count, rest) = cut_number(text);
     let (gone, takes) = cut_word(rest);
-    let (_sender, input) = holding(alloc, takes, gone == b"input".as_slice())?;
+    let (_sender, input) = holding(rt, alloc, takes, gone == b"input".as_slice())?;
     let (outputs, mut lanes) = lanes_but(alloc, count, lane_of(gone))?;
     if outputs.is_empty() || outputs.len() > MAX_LANES {
         return Err(Unmade);
@@ -272,7 +276,8 @@ fn tell_rings(
 }
 
 /// Rings that hold what lanes give, which a bar parts, and their sending ends, unless these are gone.
-fn giving(
+fn giving<R: Wait>(
+    rt: &R,
     alloc: Global,
     text: &[u8],
     are_gone: bool,
@@ -285,7 +290,7 @@ fn giving(
             break;
         }
         let (gives, after) = cut_at(rest, b'|');
-        let (sender, input) = holding(alloc, gives, are_gone)?;
+        let (sender, input) = holding(rt, alloc, gives, are_gone)?;
         senders.push(sender)?;
         inputs.push(input)?;
         rest = after;
@@ -302,7 +307,7 @@ pub fn tell_gathered<R: Wait>(
 ) -> Result<(), Unmade> {
     let (capacity, rest) = cut_number(text);
     let (gone, gives) = cut_word(rest);
-    let (_senders, inputs) = giving(alloc, gives, gone == b"inputs".as_slice())?;
+    let (_senders, inputs) = giving(rt, alloc, gives, gone == b"inputs".as_slice())?;
     let (output, receiver) = taking(alloc, capacity, gone == b"output".as_slice())?;
     if inputs.is_empty() || inputs.len() > MAX_LANES {
         return Err(Unmade);
