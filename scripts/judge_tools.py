@@ -144,7 +144,8 @@ def steps_of(tool, text):
         if part in ("!", "~"):
             mark = part
         elif part == "?":
-            told.append(at_work.next() or "nothing")
+            answer = at_work.next() or "nothing"
+            told += ["{", *answer, "}"] if isinstance(answer, list) else [answer]
         elif part not in ("{", "}"):
             fault = at_work.feed(part)
             given = [fault] if fault else [] if mark == "!" else at_work.all()

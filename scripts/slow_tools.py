@@ -222,6 +222,13 @@ class Work:
         rows = self.rows[::-1] if way == "r270" else self.rows
         return [array("H", b"".join(row[x * depth : (x + 1) * depth].tobytes() for row in rows)) for x in columns]
 
+    def are_given_together(self, rows):
+        """Whether the rows that answer the image's end are given at once: those of a turned or a tiled image, while
+        they are short and few."""
+        name, options = self.tool.name, self.tool.options
+        is_made_anew = name == "tile" or (name == "flip" and options[0] in ("transpose", "r90", "r270"))
+        return is_made_anew and 1 < len(rows) <= 64 and sum(map(len, rows)) <= 32_768
+
 
 # --- messages
 
@@ -278,7 +285,9 @@ class Filter:
             self.work = Work(self.tool, message)
             self.waiting.append(self.work.result)
         elif message == "ImageEnd":
-            self.waiting += self.work.last_answers() + [message]
+            rows = self.work.last_answers()
+            self.waiting += [rows] if self.work.are_given_together(rows) else rows
+            self.waiting.append(message)
         elif isinstance(message, str):
             self.waiting.append(message)
         else:
@@ -288,7 +297,7 @@ class Filter:
         self.is_asked = True
 
     def next(self):
-        """The next answer, the fault, or None."""
+        """The next answer, which is a list where rows are given together, the fault, or None."""
         if self.fault:
             return self.fault
         if self.waiting:
@@ -298,7 +307,9 @@ class Filter:
 
     def all(self):
         """All answers that are due."""
-        given = list(self.waiting)
+        given = []
+        for answer in self.waiting:
+            given += answer if isinstance(answer, list) else [answer]
         self.waiting.clear()
         self.is_asked = False
         return given
