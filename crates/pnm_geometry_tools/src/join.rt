@@ -10,7 +10,7 @@ use pnm_tools::ToolFault;
 use std::alloc::{AllocError, Global};
 
 /// How many samples a row has at most that is given with others: a longer one costs little to hand over by itself.
-const MOST_SAMPLES: usize = 4096;
+const MOST_SAMPLES: usize = 1024;
 
 /// The most samples of rows that are given together: as words they take 65,536 bytes.
 const MOST_TOGETHER: usize = 32_768;
