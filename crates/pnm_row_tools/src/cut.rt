@@ -2,14 +2,14 @@
 
 ghost use Rattle.std.specs.Prelude.{◌≡◌, ◌≤◌, ◌+◌, ◌-◌, ◌*◌, ◌^◌, ◌⊎◌, All, IfOk, IfErr, [], ◌<◌, length, map};
 ghost use Rattle.std.specs.Prelude.{IfSome, IfNone, take, drop};
-ghost use Rattle.std.specs.List.{AllByRecursion};
+ghost use Rattle.std.specs.List.{AllByRecursion, copy_within};
 ghost use Rattle.pnm_image.specs.Places.{IsRowOf};
 ghost use Rattle.pnm_image.specs.declared.limits.TheConstants.{MAX_SIDE};
 ghost use Rattle.pnm_tools.specs.Cut.{IsLawfulAxis, KeepsWithin, columns_of_row, span_of, first_kept, last_kept};
 ghost use Rattle.pnm_tools.specs.Cut.{edge_of, IsLawfulBox, columns_kept, rows_kept, span_count};
 ghost use Rattle.pnm_tools.specs.declared.tool.Tool.TheVariants.{Cut};
 ghost use Rattle.pnm_row_tools.specs.Keeping.{parts_kept};
-ghost use Rattle.pnm_row_tools.specs.EachRow.{parts_of};
+ghost use Rattle.pnm_row_tools.specs.EachRow.{AreInBytes, parts_of};
 
 use crate::bit_rows::{room_for_pixels, rows_of_bits};
 use crate::row_tool::RowTool;
@@ -83,12 +83,12 @@ struct Parts {
     kept: usize,
 }
 
-/// These columns of these of the rows of an image of this shape: bytes and words are moved to the front in place, bits
-/// copied.
+/// These columns of these of the rows of an image of this shape: they are moved to the front in place, but bits that
+/// aren't whole bytes are copied.
 ///
 /// # Errors
 ///
-/// The rows themselves, where they are cut and are held as bits, and there is no memory for what is kept of them.
+/// The rows themselves, where bits are copied, and there is no memory for what is kept of them.
 fn keep_columns_of_rows(
     alloc: Global,
     columns: Span,
@@ -112,9 +112,9 @@ fn keep_columns_of_rows(
         return Ok(Rows::new(samples, count, row_length));
     }
     match samples.into_vec() {
-        SampleVec::Bits(bits) => match bits_of_each(alloc, &bits, parts) {
+        SampleVec::Bits(bits) => match bits_of_each(alloc, bits, parts) {
             Ok(made) => Ok(rows_of_bits(made, kept_rows, parts.kept)),
-            Err(_) => Err(rows_of_bits(bits, count, row_length)),
+            Err(bits) => Err(rows_of_bits(bits, count, row_length)),
         },
         SampleVec::Bytes(mut bytes) => {
             keep_of_each(&mut bytes, parts);
@@ -153,17 +153,90 @@ fn keep_of_each<T: Copy>(samples: &mut Vec<T>, parts: Parts)
     let kept = parts.kept;
     for i in 0..parts.count {
         let start = parts.skipped + i * parts.row_length + parts.first;
-        samples.copy_within(start..start + kept, i * kept);
+        copy_down(samples.as_mut_slice(), start, i * kept, kept);
     }
     samples.truncate(parts.count * kept);
 }
 
-/// These parts of rows of pixels, those of the first row first.
+/// Copies so many samples to a place that isn't behind them: all at once where the two don't overlap, which takes a
+/// part of the time that one sample after another does.
+#[inline]
+fn copy_down<T: Copy>(samples: &mut [T], from: usize, to: usize, count: usize)
+    requires down { to ≤ from }
+    requires within { from + count ≤ length samples.old }
+    ensures { samples.new ≡ copy_within samples.old from (from + count) to }
+{
+    if from - to < count {
+        samples.copy_within(from..from + count, to);
+    } else {
+        let (front, back) = samples.split_at_mut(from);
+        front[to..to + count].copy_from_slice(&back[..count]);
+    }
+}
+
+/// These parts of rows of pixels, those of the first row first: in place where all are whole bytes, else in new ones.
 ///
 /// # Errors
 ///
-/// Where there is no memory for them.
-fn bits_of_each(alloc: Global, bits: &Bits, parts: Parts) -> Result<Bits, AllocError>
+/// The pixels themselves, where there is no memory for new ones.
+fn bits_of_each(alloc: Global, bits: Bits, parts: Parts) -> Result<Bits, Bits>
+    requires rows { parts.skipped + parts.count * parts.row_length ≤ length bits }
+    requires within { parts.first + parts.kept ≤ parts.row_length }
+    ensures made { IfOk result (λ made. made ≡ parts_of parts bits) }
+    ensures same { IfErr result (λ same. same ≡ bits) }
+{
+    if let Some(in_bytes) = in_bytes(parts, bits.len()) {
+        return Ok(keep_bytes_of_each(bits, parts, in_bytes));
+    }
+    match copy_of_each(alloc, &bits, parts) {
+        Ok(made) => Ok(made),
+        Err(_) => Err(bits),
+    }
+}
+
+/// The parts counted in bytes, where these and so many pixels are whole bytes.
+fn in_bytes(parts: Parts, pixels: usize) -> Option<Parts>
+    ensures { IfSome result (λ bytes. AreInBytes bytes parts pixels) }
+{
+    let are_whole = parts.skipped % 8 == 0
+        && parts.row_length % 8 == 0
+        && parts.first % 8 == 0
+        && parts.kept % 8 == 0
+        && pixels % 8 == 0;
+    if !are_whole {
+        return None;
+    }
+    Some(Parts {
+        skipped: parts.skipped / 8,
+        count: parts.count,
+        row_length: parts.row_length / 8,
+        first: parts.first / 8,
+        kept: parts.kept / 8,
+    })
+}
+
+/// These parts of rows of pixels, those of the first row first, in place: they are whole bytes, which are counted too.
+fn keep_bytes_of_each(bits: Bits, parts: Parts, in_bytes: Parts) -> Bits
+    requires rows { parts.skipped + parts.count * parts.row_length ≤ length bits }
+    requires within { parts.first + parts.kept ≤ parts.row_length }
+    requires whole { AreInBytes in_bytes parts (length bits) }
+    ensures { result ≡ parts_of parts bits }
+{
+    // No effect at run time: a proof learns of this that the pixels are those of the bytes, and as many as this machine
+    // can count.
+    let _ = bits.len();
+    let _ = bits.as_bytes();
+    let mut bytes = bits.into_bytes();
+    keep_of_each(&mut bytes, in_bytes);
+    Bits::new(bytes, parts.count * parts.kept)
+}
+
+/// A copy of these parts of rows of pixels, those of the first row first.
+///
+/// # Errors
+///
+/// Where there is no memory for it.
+fn copy_of_each(alloc: Global, bits: &Bits, parts: Parts) -> Result<Bits, AllocError>
     requires rows { parts.skipped + parts.count * parts.row_length ≤ length bits.now }
     requires within { parts.first + parts.kept ≤ parts.row_length }
     ensures { IfOk result (λ made. made ≡ parts_of parts bits.now) }
@@ -232,8 +305,8 @@ impl RowTool for Cutter {
         Ok(Some(kept))
     }
 
-    /// Drops the rows that aren't kept, and keeps the columns of the others: those of bytes and words are moved to the
-    /// front, and those of bits to bytes of their own.
+    /// Drops the rows that aren't kept, and keeps the columns of the others: they are moved to the front, but those of
+    /// bits that aren't whole bytes to bytes of their own.
     fn rows(&self, alloc: Global, shape: Shape, y: u32, rows: Rows) -> Result<Option<Rows>, Rows> {
         let Some(among) = kept_among(self.rows, y, rows.count()) else {
             return Ok(None);

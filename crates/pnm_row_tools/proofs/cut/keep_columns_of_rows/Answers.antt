@@ -55,7 +55,7 @@ rows_of_bits-requires-clause-whole c =
     let cut = are_cut c.args.columns c.args.among c.args.shape parts.result.1 parts.result.2 parts.result.0 c.args.rows c.requires.columns c.requires.among
     parts.ensures.some parts.ensures.whole parts.ensures.rows c.requires.rows in
     kept_long c.args.columns c.args.among c.args.shape parts.result.1 parts.result.2 (c.args.among.last - c.args.among.first + 1)
-    c.parts_kept-parts.result parts.result.0 c.in-Bits.bits _ c.args.rows cut c.parts_kept-parts.ensures c.in-Bits.ensures c.in-Ok.ensures refl
+    c.parts_kept-parts.result parts.result.0 c.in-Bits.bits _ c.args.rows cut c.parts_kept-parts.ensures c.in-Bits.ensures c.in-Ok.ensures.made refl
 
 pub keep_of_each-requires-clause-rows : goal.keep_of_each-requires-clause-rows
 keep_of_each-requires-clause-rows c =
@@ -135,7 +135,7 @@ returns-in-Ok-clause-kept c =
     parts.ensures.some parts.ensures.whole parts.ensures.rows c.requires.rows in
     c.rows_of_bits.ensures
     ∙ kept_rows_of c.args.columns c.args.among c.args.shape parts.result.1 parts.result.2 (c.args.among.last - c.args.among.first + 1)
-    c.parts_kept-parts.result parts.result.0 c.in-Bits.bits _ c.args.rows cut c.parts_kept-parts.ensures c.in-Bits.ensures c.in-Ok.ensures refl
+    c.parts_kept-parts.result parts.result.0 c.in-Bits.bits _ c.args.rows cut c.parts_kept-parts.ensures c.in-Bits.ensures c.in-Ok.ensures.made refl
 
 pub returns-in-Bytes-clause-kept : goal.returns-in-Bytes-clause-kept
 returns-in-Bytes-clause-kept c =

@@ -1,4 +1,6 @@
-use Rattle.std.proofs.Common.{ℕ, ◌+◌, ◌*◌, refl, arith}
+use Rattle.std.proofs.Common.{◌≡◌, ℕ, ◌+◌, ◌*◌, length, ap, refl, ◌∙◌, arith}
+use Rattle.std.specs.List.{copy_within}
+use Rattle.pnm_samples.proofs.ColumnLaws.{written_whole}
 use Rattle.pnm_row_tools.proofs.EachRowLaws.{all_moved, none_moved, part_moved}
 use Rattle.pnm_row_tools.proofs.cut.keep_of_each.Goals as goal
 
@@ -9,9 +11,13 @@ pub loop-i-preserved : goal.loop-i-preserved
 loop-i-preserved g c =
     let p = c.args.parts in
     let from : ℕ = p.skipped + c.loop-i.i * p.row_length + p.first in
+    let items = c.loop-i.samples.items in
+    let moved = c.copy_down.new.samples in
+    let all : c.loop-i.samples.len ≡ length moved = omega (arith, c.as_mut_slice.ensures.len, c.copy_down.auto.samples) in
+    let made = written_whole c.loop-i.samples.len moved items all ∙ c.copy_down.ensures
+    ∙ ap (λ l. copy_within l from (from + p.kept) (c.loop-i.i * p.kept)) c.as_mut_slice.ensures.value in
     part_moved p.skipped p.first p.kept p.row_length c.loop-i.i p.count from (from + p.kept) (c.loop-i.i * p.kept)
-    c.args.samples.now.items c.loop-i.samples.items c.copy_within.new.self.items c.copy_within.ensures.items refl refl refl c.requires.within
-    c.loop-i-test.true c.requires.rows c.loop-i.invariant
+    c.args.samples.now.items items _ made refl refl refl c.requires.within c.loop-i-test.true c.requires.rows c.loop-i.invariant
 
 pub returns : goal.returns
 returns g c =

@@ -1,6 +1,6 @@
 use Rattle.std.proofs.Common.{◌≡◌, drop}
 use Rattle.pnm_row_tools.specs.EachRow.{changed, part}
-use Rattle.pnm_row_tools.proofs.cut.bits_of_each.Given as goal
+use Rattle.pnm_row_tools.proofs.cut.copy_of_each.Given as goal
 
 -- the parts of the rows that have passed are appended
 abbrev pub invariant-loop-i : goal.invariant-loop-i

@@ -1,7 +1,7 @@
 use Rattle.std.proofs.Common.{◌≡◌, ◌+◌, ◌*◌, ◌∙◌, ℕ, ap, refl, arith, drop}
 use Rattle.pnm_row_tools.specs.EachRow.{changed, part}
 use Rattle.pnm_row_tools.proofs.EachRowLaws.{part_appended}
-use Rattle.pnm_row_tools.proofs.cut.bits_of_each.Goals as goal
+use Rattle.pnm_row_tools.proofs.cut.copy_of_each.Goals as goal
 
 pub loop-i-init : goal.loop-i-init
 loop-i-init c = c.in_ok-made.ensures
