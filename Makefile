@@ -24,7 +24,7 @@ SHIMDIR = $(LIBEXECDIR)/pnmpipe/netpbm
 # helpers that stand beside the modules they use, with a link in BINDIR
 HELPERS := pnmpipe-explain pnmpipe-files pnmpipe-split pnmpipe-translate
 MODULES := chain_text.py file_machines.py file_tasks.py file_workers.py image_stream.py input_faults.py netpbm_words.py
-MODULES += shell_reader.py slow_reader.py
+MODULES += shell_reader.py slow_reader.py translation.py
 SHIMS := pnminvert pamcut pamdepth pamchannel pamenlarge pamflip pnmtile pnmcut pnmdepth pnmenlarge pnmflip
 
 # crates whose tests of want of memory are refused each allocation
@@ -47,9 +47,10 @@ library: toolchain
 near pass: toolchain
 	python3 scripts/change.py $@ $(CRATES)
 
-# the whole gate, and how long it took. The last line is that of `rt ci`
+# the whole gate, how long it took by the clock and of all processors, and the last line of `rt ci`; sh has no `time`
+check: SHELL := bash
 check: toolchain
-	python3 scripts/timed.py $(MAKE) --no-print-directory gate
+	TIMEFORMAT='gate: %lR, and %lU + %lS of all processors'; { time $(MAKE) --no-print-directory gate; } 2>&1
 	tail -n 1 bin/gate
 
 # one check a processor, each of at most 4 GB; then each allocation and each start of a thread is refused in turn, of the
@@ -107,8 +108,8 @@ install: built
 	install -m 755 $(BUILT) "$(DESTDIR)$(BINDIR)/pnmpipe"
 	for page in man/*.1; do sed "s/@VERSION@/$$(cat VERSION)/" $$page > "$(DESTDIR)$(MANDIR)/man1/$${page#man/}" || exit 1; done
 	install -m 644 completions/pnmpipe.bash "$(DESTDIR)$(COMPLETIONDIR)/pnmpipe"
-	for file in $(HELPERS) netpbm-shim; do install -m 755 scripts/$$file "$(DESTDIR)$(LIBEXECDIR)/pnmpipe" || exit 1; done
-	for file in $(MODULES); do install -m 644 scripts/$$file "$(DESTDIR)$(LIBEXECDIR)/pnmpipe" || exit 1; done
+	for file in $(HELPERS) netpbm-shim; do install -m 755 helpers/$$file "$(DESTDIR)$(LIBEXECDIR)/pnmpipe" || exit 1; done
+	for file in $(MODULES); do install -m 644 helpers/$$file "$(DESTDIR)$(LIBEXECDIR)/pnmpipe" || exit 1; done
 	install -d "$(DESTDIR)$(LIBEXECDIR)/pnmpipe/pnmpipe"
 	install -m 644 library/python/pnmpipe/__init__.py "$(DESTDIR)$(LIBEXECDIR)/pnmpipe/pnmpipe"
 	for file in $(HELPERS); do ln -srf "$(DESTDIR)$(LIBEXECDIR)/pnmpipe/$$file" "$(DESTDIR)$(BINDIR)/$$file" || exit 1; done
@@ -162,29 +163,28 @@ test: toolchain
 # the program that make has left beside Netpbm's own tools, where these are installed: a table, for a quiet machine, and
 # the figures of the documents, which `make scripts` then wants in their tables
 bench:
-	python3 scripts/bench.py --figures docs/figures.tsv
-	python3 scripts/bench_narrow.py --figures docs/figures.tsv
+	for table in tools turns plain narrow; do python3 bench/bench.py $$table --figures docs/figures.tsv || exit 1; done
 
 # all tools by kinds of images and by options, beside Netpbm's own: which pairs take more processor time than these
 bench-sweep:
-	python3 scripts/bench.py --sweep
+	python3 bench/bench.py sweep
 
 # many files in each way, beside Netpbm: a table, for a quiet machine, with what make and make library have left
 bench-files:
-	python3 scripts/bench_files.py
+	python3 bench/bench.py files
 
 # the program that make has left beside busy processes on its processors, and Netpbm's tools: a table, for a quiet machine
 bench-waits: built
-	python3 scripts/bench_waits.py
+	python3 bench/bench.py waits
 
 # calls of the C library that make library has left, in C and in Python, beside a process of pnmpipe a file, Pillow, numpy
 # and libvips: a table, for a quiet machine
 bench-library: built
-	python3 scripts/bench_library.py
+	python3 bench/bench.py library
 
 # the program that make has left with 1, 2, 4 and 8 lanes: a table, for a quiet machine
 lanes:
-	python3 scripts/lanes.py
+	python3 bench/bench.py lanes
 
 # a stream of 4 GiB through the program that make has left, in constant memory
 long-stream:

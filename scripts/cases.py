@@ -15,13 +15,13 @@ import os
 import sys
 from collections import Counter
 
+from places import ROOT  # first, since the judges use modules of helpers
+
 import judge_flow
 import judge_formats
 import judge_tools
 from case_text import allows
 from slow_tools import written_tool
-
-ROOT = os.path.dirname(os.path.dirname(os.path.abspath(__file__)))
 
 JUDGES = {"pnm_tools_cases": judge_tools, "pnm_format_cases": judge_formats, "pnm_flow_cases": judge_flow}
 

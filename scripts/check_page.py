@@ -69,7 +69,7 @@ def faults_of_page():
     for constant in (f'VERSION: &str = "{version}";', f'VERSION_LINE: &str = "pnmpipe {version}\\n";'):
         if constant not in code:
             found.append(f"command_line.rt has no {constant}, by the file VERSION")
-    for path in glob.glob(os.path.join(ROOT, "scripts/pnmpipe-*")):
+    for path in glob.glob(os.path.join(ROOT, "helpers/pnmpipe-*")):
         if f'VERSION = "{read("VERSION").strip()}"' not in read(path):
             found.append(f"{os.path.basename(path)} has another version than VERSION")
     told = page.split(".Sh DIAGNOSTICS\n")[1]
@@ -156,7 +156,7 @@ def faults_of_documents():
 
 
 PLAIN_IMAGES = {"PBM": "scan", "PPM": "color", "PGM": "gray16"}
-NARROW_IMAGES = {"page": "page", "letter page": "letter", "label": "label", "64 a row": "narrow", "1 by 1": "dots"}
+NARROW_IMAGES = {"page": "page", "sheet": "letter", "label": "label", "64 a row": "narrow", "1 by 1": "dots"}
 NARROW_IMAGES.update({"64 by 64": "icons", "20,000 images of 64 by 64": "icons"})
 
 

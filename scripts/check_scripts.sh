@@ -4,7 +4,7 @@
 set -eu
 cd "$(dirname "$0")/.."
 shells='' pythons='' bashes=completions/pnmpipe.bash
-for script in scripts/* model/* .ci/run; do
+for script in helpers/* scripts/* bench/* model/* .ci/run; do
     [ -f "$script" ] || continue
     case $(head -n 1 "$script") in
         '#!'*python3) pythons="$pythons $script" ;;
@@ -28,7 +28,7 @@ for shell in zsh fish; do
 done
 # shellcheck disable=SC2086
 awk 'length > 120 { print FILENAME ": line " FNR " has " length " columns"; found = 1 } END { exit found }' \
-    $pythons $shells $bashes completions/* scripts/*.c library/*.[ch] library/*/*.c* || failed=1
+    $pythons $shells $bashes completions/* scripts/*.c bench/*.c library/*.[ch] library/*/*.c* || failed=1
 if command -v shellcheck > /dev/null; then
     # shellcheck disable=SC2086
     shellcheck -s sh $shells || failed=1

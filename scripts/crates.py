@@ -3,7 +3,7 @@
 import os
 import signal
 
-ROOT = os.path.dirname(os.path.dirname(os.path.abspath(__file__)))
+from places import ROOT
 
 # what a check reads of a crate
 SOURCES = ("src", "specs", "proofs")

@@ -25,9 +25,8 @@ import typing
 
 sys.dont_write_bytecode = True
 
+from places import ROOT  # pylint: disable=wrong-import-position
 from waits import counted_in, counter_in, sleeps_told_in  # pylint: disable=wrong-import-position
-
-ROOT = os.path.dirname(os.path.dirname(os.path.abspath(__file__)))
 
 TOOLS = """pnminvert, pamflip -lr, pamflip -tb, pamflip -xy, pamflip -r90, pamflip -r180, pamflip -null, pamcut -left 1,
 pamcut -top 1, pamcut -left 1 -right -2, pamcut -width 3, pamdepth 200, pamdepth 1000, pamchannel 0, pamenlarge 2,

@@ -16,7 +16,7 @@ import sys
 import threading
 import time
 
-SCRIPTS = os.path.dirname(os.path.abspath(__file__))
+from places import ROOT
 
 CHAINS = [" | ".join(["pnminvert"] * count) for count in (1, 3, 16)]
 OPTIONS = [["--ring", ring, "--lanes", lanes] for ring, lanes in itertools.product(("1", "64"), ("1", "3"))]
@@ -79,7 +79,7 @@ def silent_run(program, words, given, due, seconds):
 
 def main():
     parser = argparse.ArgumentParser(description=__doc__, formatter_class=argparse.RawDescriptionHelpFormatter)
-    parser.add_argument("--program", default=os.path.join(SCRIPTS, "../bin/pnmpipe"))
+    parser.add_argument("--program", default=os.path.join(ROOT, "bin/pnmpipe"))
     parser.add_argument("--seconds", type=float, default=1.0, help="how long a stretch of silence is")
     options = parser.parse_args()
     cases = list(itertools.product(RUNS, SILENCES))

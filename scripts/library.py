@@ -12,7 +12,8 @@ import subprocess
 import sys
 import tempfile
 
-ROOT = os.path.dirname(os.path.dirname(os.path.abspath(__file__)))
+from places import ROOT
+
 SOURCE = os.path.join(ROOT, "library")
 
 HEADER, ARCHIVE, SHARED = "pnmpipe.h", "libpnmpipe.a", "libpnmpipe.so.1"

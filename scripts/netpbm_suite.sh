@@ -1,5 +1,5 @@
 #!/bin/sh
-# Runs Netpbm's own test suite with the installed tools, and then with the stand-ins of scripts/netpbm-shim before them.
+# Runs Netpbm's own test suite with the installed tools, and then with the stand-ins of helpers/netpbm-shim before them.
 #
 #     apt-get source netpbm-free && sh scripts/netpbm_suite.sh netpbm-free-*/test
 #
@@ -20,7 +20,7 @@ chmod +x "$work"/test/*.test "$work/test/Execute-Tests" "$work/test/Available-Te
 (cd "$work/test" && ls -- *.test > Test-Order)
 mkdir "$work/shims"
 for name in pnminvert pamcut pamdepth pamchannel pamenlarge pamflip pnmtile pnmcut pnmdepth pnmenlarge pnmflip; do
-    ln -s "$root/scripts/netpbm-shim" "$work/shims/$name"
+    ln -s "$root/helpers/netpbm-shim" "$work/shims/$name"
 done
 
 # suite NAME PATH: runs all tests, and leaves a line for each in $work/NAME

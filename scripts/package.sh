@@ -45,7 +45,7 @@ dist() {
     mkdir -p dist
     git archive --format=tar --prefix="pnmpipe-$version/" HEAD | gzip -n -9 > "dist/pnmpipe-$version.tar.gz"
     staged "$work/$name" ""
-    cp README.md CHANGELOG.md VERSION scripts/install.sh "$work/$name"
+    cp README.md CHANGELOG.md VERSION helpers/install.sh "$work/$name"
     cp -R docs "$work/$name"
     toolchain > "$work/$name/TOOLCHAIN"
     (cd "$work/$name" && find . -type f ! -name SHA256SUMS | LC_ALL=C sort | xargs sha256sum > "$work/sums" \

@@ -12,7 +12,8 @@ import subprocess
 import sys
 import zlib
 
-ROOT = os.path.dirname(os.path.dirname(os.path.abspath(__file__)))
+from places import ROOT
+
 FOLDER = f"{ROOT}/docs/pictures"
 
 WIDTH, HEIGHT = 96, 64

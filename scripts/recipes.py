@@ -19,7 +19,8 @@ import sys
 import tempfile
 import time
 
-ROOT = os.path.dirname(os.path.dirname(os.path.abspath(__file__)))
+from places import ROOT
+
 BLOCK = re.compile(r"^```sh(.*)\n((?:.*\n)*?)```$", re.M)
 SECONDS = 120
 

@@ -25,8 +25,8 @@ import tempfile
 import textwrap
 import typing
 
-SCRIPTS = os.path.dirname(os.path.abspath(__file__))
-ROOT = os.path.dirname(SCRIPTS)
+from places import ROOT, SCRIPTS
+
 PROGRAM = os.path.join(ROOT, "crates/pnmpipe")
 
 MEMORY = re.compile(r"pnmpipe: (command line: Memory|chain: Memory|NoStart|input: Memory|tool [0-9]+: Memory)\n")

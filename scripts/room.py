@@ -20,9 +20,8 @@ import sys
 import textwrap
 import threading
 
+from places import ROOT
 from refused import LANES, MOST_TOOLS, STREAM, Answer, Command, Fault, commands, judge
-
-SCRIPTS = os.path.dirname(os.path.abspath(__file__))
 
 # KiB of the stack for one tool, and for each further one, and for each further lane
 FIRST = 32
@@ -134,7 +133,7 @@ def check_tiles(args):
 
 def main():
     parser = argparse.ArgumentParser(description=__doc__.split("\n\n")[0])
-    parser.add_argument("--program", default=os.path.join(SCRIPTS, "../bin/pnmpipe"))
+    parser.add_argument("--program", default=os.path.join(ROOT, "bin/pnmpipe"))
     parser.add_argument("--seconds", type=float, default=60, help="how long a run may take")
     parser.add_argument("--stack", type=int, help="KiB of each command's stack, in place of its own")
     parser.add_argument("--least", action="store_true", help="tells the least stack of each command")

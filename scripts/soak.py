@@ -17,7 +17,7 @@ import subprocess
 import sys
 import time
 
-ROOT = os.path.dirname(os.path.dirname(os.path.abspath(__file__)))
+from places import ROOT
 
 # samples that a result may have at most, so that a run is over soon; few are let through beyond it, to ten times as
 # many

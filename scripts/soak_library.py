@@ -11,7 +11,8 @@ import socket
 import subprocess
 import sys
 
-ROOT = os.path.dirname(os.path.dirname(os.path.abspath(__file__)))
+from places import ROOT
+
 PROGRAM, SHARED = os.path.join(ROOT, "bin/pnmpipe"), os.path.join(ROOT, "bin/libpnmpipe.so.1")
 
 TOOLS = ["pnminvert", "pamflip -lr", "pamflip -r90", "pamflip -tb", "pamflip -xy", "pamflip -r180", "pamdepth 255"]

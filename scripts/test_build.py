@@ -17,8 +17,7 @@ import unittest
 import unittest.mock
 
 import build
-
-SCRIPTS = os.path.dirname(os.path.abspath(__file__))
+from places import SCRIPTS
 
 CRATES = """low:
 left: low thiserror
@@ -124,7 +123,7 @@ class Repository(unittest.TestCase):
         self.folder = os.path.realpath(tempfile.mkdtemp())
         self.addCleanup(shutil.rmtree, self.folder)
         self.root = self.path("root")
-        for file in ("build.py", "change.py", "crates.py", "gate_library.py", "library.py"):
+        for file in ("build.py", "change.py", "crates.py", "gate_library.py", "library.py", "places.py"):
             os.makedirs(self.path("root/scripts"), exist_ok=True)
             shutil.copy(os.path.join(SCRIPTS, file), self.path("root/scripts"))
         self.write("root/crates.txt", CRATES)

@@ -37,8 +37,8 @@ import typing
 sys.dont_write_bytecode = True
 
 from case_text import text_of
+from places import ROOT
 
-ROOT = os.path.dirname(os.path.dirname(os.path.abspath(__file__)))
 STORED = f"{ROOT}/crates/pnmpipe/commands"
 HELP = "help"
 

@@ -17,14 +17,16 @@ import unittest
 
 sys.dont_write_bytecode = True
 
+from places import HELPERS, ROOT
+
 from judge_formats import SETS
 from chain_text import loaded
 from input_faults import Words, in_words
 from soak import chain_of, stream_of
 from test_commands import stored_commands
-from test_helpers import COLOR, GRAY, ROOT, SCRIPTS, run
+from test_support import COLOR, GRAY, run
 
-EXPLAIN = f"{SCRIPTS}/pnmpipe-explain"
+EXPLAIN = f"{HELPERS}/pnmpipe-explain"
 OPTIONS = None
 
 # calls, and what their explanation has beside the program's line; those of an input
@@ -55,7 +57,7 @@ CHAINS = [
 # words, and what their explanation has
 WORDS = [
     (["pamcut", "-left", "8"], ["one word", "pnmpipe 'pamcut -left 8'"]),
-    (["pnminvert", SCRIPTS], ["comes by <"]),
+    (["pnminvert", HELPERS], ["comes by <"]),
     (["pamflip -lr | pnminvert", "in.pgm"], ["comes by <", "pnmpipe 'pamflip -lr | pnminvert' < in.pgm"]),
     (["--ring", "0", "pnminvert"], ["from 1 to 1,024"]),
     (["--plain"], ["There is no chain"]),
@@ -454,7 +456,7 @@ class Program(unittest.TestCase):
             for name, data in [("a b.pgm", GRAY), ("cut.pgm", GRAY[:-1]), ("odd\\name.pgm", COLOR)]:
                 with open(f"{folder}/{name}", "wb") as file:
                     file.write(data)
-            words = [f"{SCRIPTS}/pnmpipe-files", "pamcut -left 1", "out", *sorted(os.listdir(folder))]
+            words = [f"{HELPERS}/pnmpipe-files", "pamcut -left 1", "out", *sorted(os.listdir(folder))]
             done = run(words, cwd=folder, env={**os.environ, "PNMPIPE": OPTIONS.program})
         self.assertIn(b"cut.pgm: pnmpipe: input: RasterCut\ncut.pgm: Image 1, PGM of 2 by 1", done.stderr)
         self.assertIn(b"odd\\name.pgm: Stage 1, pamcut -left 1: image 1 of the stream", done.stderr)
@@ -464,7 +466,7 @@ class Program(unittest.TestCase):
         with open(f"{ROOT}/man/pnmpipe-explain.1", encoding="utf-8") as file:
             blocks = re.findall(r"^\.Bd -\w+ .*\n((?:[^.].*\n|\n)*)\.Ed", file.read(), re.M)
         command, wanted, _ = (text.replace(r"\(aq", "'").replace(r"\(ha", "^") for text in blocks)
-        done = run(["sh", "-c", command], env={**os.environ, "PATH": f"{SCRIPTS}:{os.environ['PATH']}"})
+        done = run(["sh", "-c", command], env={**os.environ, "PATH": f"{HELPERS}:{os.environ['PATH']}"})
         self.assertEqual((done.stdout.decode(), done.returncode), (wanted, 1))
 
     def test_installed(self):

@@ -22,10 +22,10 @@ sys.dont_write_bytecode = True
 
 # pylint: disable=wrong-import-position
 from test_commands import stored_commands
-from test_support import COLOR, GRAY, ROOT, SCRIPTS, Folder, program_of, run
+from test_support import COLOR, GRAY, HELPERS, ROOT, Folder, program_of, run
 
 PROGRAM = LIBRARY = None
-FILES = f"{SCRIPTS}/pnmpipe-files"
+FILES = f"{HELPERS}/pnmpipe-files"
 NOWHERE = "/nonexistent/libpnmpipe.so.1"
 
 

@@ -21,7 +21,7 @@ import unittest
 sys.dont_write_bytecode = True
 
 # pylint: disable=wrong-import-position
-from test_support import COLOR, GRAY, ROOT, SCRIPTS, SHIMS, Folder, loaded, program_of, run
+from test_support import COLOR, GRAY, HELPERS, ROOT, SHIMS, Folder, loaded, program_of, run
 
 PROGRAM = None
 
@@ -50,7 +50,7 @@ def random_header(numbers):
 
 class Split(Folder):
     def split(self, given, *words):
-        return run([f"{SCRIPTS}/pnmpipe-split", *words, self.path("x-")], given)
+        return run([f"{HELPERS}/pnmpipe-split", *words, self.path("x-")], given)
 
     def test_all_kinds(self):
         bits = b"P4 # c\n9 #d\n2\n" + bytes(4)
@@ -116,7 +116,7 @@ class Split(Folder):
 
     def test_full_disk(self):
         """A file that can't be written is named, and not standard input."""
-        words = ["sh", "-c", 'trap "" XFSZ; ulimit -f 0; exec "$@"', "sh", f"{SCRIPTS}/pnmpipe-split", self.path("x-")]
+        words = ["sh", "-c", 'trap "" XFSZ; ulimit -f 0; exec "$@"', "sh", f"{HELPERS}/pnmpipe-split", self.path("x-")]
         done = run(words, GRAY)
         self.assertEqual(done.returncode, 1)
         self.assertIn(f"image 1 can't be written: {self.path('x-000001.pgm')}: ".encode(), done.stderr)
@@ -197,7 +197,7 @@ class StandIns(Folder):
         os.mkdir(self.path("shims"))
         for name in SHIMS:
             self.write(f"netpbm/{name}", TELLS, 0o755)
-            os.symlink(f"{SCRIPTS}/netpbm-shim", self.path(f"shims/{name}"))
+            os.symlink(f"{HELPERS}/netpbm-shim", self.path(f"shims/{name}"))
         self.file = self.write("a 'b'.pgm", b"the image")
 
     def call(self, words, folders=("shims", "bin", "netpbm")):
@@ -265,7 +265,7 @@ class HelpAndVersion(unittest.TestCase):
             for words, beginning in [("--version", f"{name} {version}\n"), ("-V", f"{name} {version}\n")] + [
                 (option, f"usage: {name} ") for option in ("--help", "-h")
             ]:
-                done = run([f"{SCRIPTS}/{name}", words])
+                done = run([f"{HELPERS}/{name}", words])
                 self.assertEqual((done.returncode, done.stderr), (0, b""))
                 self.assertTrue(done.stdout.startswith(beginning.encode()), done.stdout)
 
@@ -378,7 +378,7 @@ class Install(Folder):
         """install.sh puts all that the archive of the built program has elsewhere, twice too, and takes it away."""
         target = ["-s", "-C", ROOT, f"BUILT={PROGRAM}", f"DESTDIR={self.folder}/archive", "PREFIX="]
         self.assertEqual(run(["make", "install", *target]).returncode, 0)
-        shutil.copy(f"{SCRIPTS}/install.sh", self.path("archive"))
+        shutil.copy(f"{HELPERS}/install.sh", self.path("archive"))
         words = ["sh", self.path("archive/install.sh")]
         for _ in range(2):
             self.assertEqual(run([*words, "x y"], cwd=self.folder).returncode, 0)

@@ -18,7 +18,7 @@ import unittest
 sys.dont_write_bytecode = True
 
 # pylint: disable=wrong-import-position
-from test_support import ROOT, SCRIPTS, Folder, program_of, run
+from test_support import HELPERS, ROOT, Folder, program_of, run
 
 PROGRAM = None
 
@@ -78,7 +78,7 @@ class Examples(Folder):
         if not shutil.which("mandoc") and not shutil.which("groff"):
             self.skipTest("neither mandoc nor groff is installed")
         for name in ("pnmpipe-explain", "pnmpipe-files", "pnmpipe-split", "pnmpipe-translate"):
-            self.write(f"bin/{name}", f'#!/bin/sh\nexec {SCRIPTS}/{name} "$@"\n'.encode(), 0o755)
+            self.write(f"bin/{name}", f'#!/bin/sh\nexec {HELPERS}/{name} "$@"\n'.encode(), 0o755)
         os.symlink(PROGRAM, self.path("bin/pnmpipe"))
         # Netpbm's own, which are no part of what is tried
         self.write("bin/pamtopnm", b"#!/bin/sh\nsed -n 's/WIDTH 2/P5\\n2 1\\n255/p' > h; cat h; printf '\\2\\5'", 0o755)

@@ -1,7 +1,5 @@
 """What the tests of the helpers share: a folder of its own, images, and how a helper is run and loaded."""
 
-import importlib.machinery
-import importlib.util
 import os
 import shutil
 import subprocess
@@ -11,8 +9,10 @@ import unittest
 
 sys.dont_write_bytecode = True
 
-SCRIPTS = os.path.dirname(os.path.abspath(__file__))
-ROOT = os.path.dirname(SCRIPTS)
+# pylint: disable=unused-import,wrong-import-position
+from places import HELPERS, ROOT
+
+from chain_text import loaded
 
 GRAY = b"P5\n2 1\n9\n\x01\x02"
 COLOR = b"P6\n1 1\n9\n\x03\x04\x05"
@@ -44,14 +44,6 @@ class Folder(unittest.TestCase):
     def read(self, name):
         with open(self.path(name), "rb") as file:
             return file.read()
-
-
-def loaded(name):
-    """A helper, as a module."""
-    loader = importlib.machinery.SourceFileLoader(name.replace("-", "_"), f"{SCRIPTS}/{name}")
-    module = importlib.util.module_from_spec(importlib.util.spec_from_loader(loader.name, loader))
-    loader.exec_module(module)
-    return module
 
 
 def program_of(path):

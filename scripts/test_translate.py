@@ -7,6 +7,7 @@ they are translated. Netpbm's tools run the ones before where they are installed
 
 import argparse
 import os
+import re
 import shutil
 import sys
 import unittest
@@ -14,8 +15,11 @@ import unittest
 sys.dont_write_bytecode = True
 
 # pylint: disable=wrong-import-position
+from test_support import HELPERS, ROOT, SHIMS, Folder, program_of, run
+
+import netpbm_words
+import translation
 from random_scripts import random_script
-from test_support import ROOT, SCRIPTS, SHIMS, Folder, loaded, program_of, run
 
 PROGRAM = None
 COUNT, SEED = 24, 0
@@ -110,10 +114,8 @@ KEPT = [
 
 
 class Translate(Folder):
-    translate = loaded("pnmpipe-translate")
-
     def translated(self, text):
-        made, said = self.translate.translated(text)
+        made, said = translation.translated(text)
         return made, "\n".join(note for _, note in said)
 
     def test_translates(self):
@@ -152,21 +154,21 @@ class Translate(Folder):
 
     def test_says_the_same_once(self):
         script = self.write("script", b"pamcut -left $n a | pnminvert\n" * 3)
-        said = run([f"{SCRIPTS}/pnmpipe-translate", "-f", script]).stderr.decode().splitlines()
+        said = run([f"{HELPERS}/pnmpipe-translate", "-f", script]).stderr.decode().splitlines()
         self.assertEqual(sum("holds one decimal number" in line for line in said), 1)
         self.assertEqual(sum("2 tools in one call" in line for line in said), 3)
 
     def test_keeps_bytes(self):
         """What ends its lines with CR LF comes out as it was, and the fault of what isn't whole spares what is."""
         script = self.write("script", b"#!/bin/sh\r\npnminvert a\r\n")
-        self.assertEqual(run([f"{SCRIPTS}/pnmpipe-translate", "-f", script]).stdout, self.read("script"))
+        self.assertEqual(run([f"{HELPERS}/pnmpipe-translate", "-f", script]).stdout, self.read("script"))
         made, said = self.translated("pnminvert a\n{ pnminvert b; } \"\n")
         self.assertEqual(made, "pnmpipe 'pnminvert' < a\n{ pnminvert b; } \"\n")
         self.assertIn("kept what follows: a quote doesn't end", said)
 
     def test_script(self):
         script = self.write("script", b"#!/bin/sh\n# caf\xe9\npnminvert < a\n")
-        done = run([f"{SCRIPTS}/pnmpipe-translate", "-f", script])
+        done = run([f"{HELPERS}/pnmpipe-translate", "-f", script])
         self.assertEqual(done.stdout, b"#!/bin/sh\n# caf\xe9\npnmpipe 'pnminvert' < a\n")
         self.assertIn(b"line 3: 1 tool in one call", done.stderr)
 
@@ -175,10 +177,31 @@ class Translate(Folder):
         self.assertEqual([call.count("pnminvert") for call in made.split("pnmpipe")[1:]], [64, 2])
 
 
+class StandIns(unittest.TestCase):
+    """netpbm-shim has the options and the ways of netpbm_words.py. It is a script for sh, since one is started for each
+    call of a tool, and python3 takes longer to start."""
+
+    def setUp(self):
+        with open(f"{HELPERS}/netpbm-shim", encoding="utf-8") as file:
+            self.text = file.read()
+
+    def test_ways(self):
+        cases = re.findall(r"^ +([\w |]+)\) stages='(pamflip -\w+)' ;;", self.text, re.M)
+        ways = {name: [stage] for names, stage in cases for name in names.split(" | ")}
+        self.assertEqual(ways, netpbm_words.WAYS)
+
+    def test_options(self):
+        cases = self.text.split("case $base in\n")[1].split("esac")[0]
+        for tool, (values, flags) in netpbm_words.OPTIONS.items():
+            known = re.search(rf"\b{tool}\b[\w |]*\)((?:.|\n)*?);;", cases)[1]
+            words = re.findall(r"[a-z]\w*", known.replace("known", ""))
+            self.assertEqual(sorted(words), sorted(values + flags), tool)
+        takes_no_value = re.search(r"^flags='([^']*)'", self.text, re.M)[1].split()
+        self.assertEqual(set(takes_no_value), set().union(*(flags for _, flags in netpbm_words.OPTIONS.values())))
+
+
 class RandomScripts(Folder):
     """Scripts before and after they are translated."""
-
-    translate = loaded("pnmpipe-translate")
 
     def setUp(self):
         super().setUp()
@@ -188,7 +211,7 @@ class RandomScripts(Folder):
         os.symlink(PROGRAM, self.path("bin/pnmpipe"))
         tools = shutil.which("pamcut")
         for name in SHIMS if tools is None else []:
-            os.symlink(f"{SCRIPTS}/netpbm-shim", self.path(f"bin/{name}"))
+            os.symlink(f"{HELPERS}/netpbm-shim", self.path(f"bin/{name}"))
         path = f"{self.path('bin')}:{os.environ['PATH']}"
         self.environment = {**os.environ, "PATH": path, "PNMPIPE": PROGRAM, "LC_ALL": "C"}
 
@@ -206,7 +229,7 @@ class RandomScripts(Folder):
         for seed in range(SEED, SEED + COUNT):
             shell = "bash" if seed % 4 == 3 and shutil.which("bash") else "sh"
             script = random_script(seed, shell == "bash")
-            made, _ = self.translate.translated(script)
+            made, _ = translation.translated(script)
             calls += made.count("pnmpipe ")
             read = run([shell, "-n", "-c", made])
             self.assertEqual((read.returncode, read.stderr), (0, b""), f"seed {seed}:\n{script}\nbecame\n{made}")

@@ -21,7 +21,7 @@ import sys
 import tempfile
 import time
 
-ROOT = os.path.dirname(os.path.dirname(os.path.abspath(__file__)))
+from places import ROOT, SCRIPTS
 
 # a call of futex, of number 202, that times out after a millisecond, and then another call
 SLEEPS_ONCE = """
@@ -76,7 +76,7 @@ def counter_in(folder):
     if not shutil.which("cc"):
         return None
     counter = os.path.join(folder, "timed_out.so")
-    source = os.path.join(ROOT, "scripts", "timed_out.c")
+    source = os.path.join(SCRIPTS, "timed_out.c")
     subprocess.run(["cc", "-O2", "-Wall", "-Wextra", "-Werror", "-shared", "-fPIC", source, "-o", counter], check=True)
     told = os.path.join(folder, "told")
     subprocess.run([sys.executable, "-c", SLEEPS_ONCE], env=counted_in(counter, told), check=True)

@@ -1,12 +1,10 @@
-#!/usr/bin/env python3
-"""Times how the threads of bin/pnmpipe wait: beside busy processes on the processors that it has, and a shell pipe of
-Netpbm's tools in the same conditions; from a file to memory, medians, the bytes compared.
+"""How the threads wait: the program beside busy processes on the processors that it has, and a shell pipe of Netpbm's
+tools in the same conditions; from a file to memory, medians, the bytes compared.
 
-With --sweep OTHER, the path of another program, it times both in turn on a quiet machine, over numbers of processors,
-tools, places of a ring, samples of a row and lanes, and prints geometric means of this one's seconds over the other's.
+With --other PATH, another program, it times both in turn on a quiet machine, over numbers of processors, tools, places
+of a ring, samples of a row and lanes, and prints geometric means of this one's seconds over the other's.
 """
 
-import argparse
 import contextlib
 import itertools
 import math
@@ -15,11 +13,11 @@ import random
 import statistics
 import subprocess
 import sys
-import tempfile
 import time
 
-from bench import median_of, same_bytes, shown, timed
-from bench_narrow import written
+from measure import Beside, print_columns, print_line, status_of, timed, written
+
+RUNS = 7
 
 # processors, busy processes beside, and the name, header and bytes of an image with its tool
 COLOR = ("rows of 3 bytes", b"P6\n1 300000\n255\n", 900_000, "pamchannel 0")
@@ -61,21 +59,20 @@ def busy(count):
             child.wait()
 
 
-def beside_busy(program, runs, folder):
+def add_options(parser):
+    parser.add_argument("--other", metavar="PATH", help="another program, to compare with on a quiet machine")
+    parser.add_argument("--seconds", type=float, default=3600, help="how long that may take")
+
+
+def beside_busy(args, folder):
     """A line for each cell; how many give other bytes than Netpbm's tool."""
-    wanted, made = (os.path.join(folder, name) for name in ("wanted", "made"))
-    print("| processors | busy beside | image | tool | pnmpipe | Netpbm | over Netpbm |\n" + "|---" * 7 + "|")
-    differing = 0
+    table = Beside(args, folder, ["processors", "busy beside", "image", "tool"])
     for processors, count, (name, header, size, tool) in CELLS:
-        path = written(folder, "image", header, size, 1)
+        path = written(os.path.join(folder, "image"), header, size)
         with busy(count):
-            peer = median_of([*on(processors), "sh", "-c", tool], path, wanted, runs)
-            result = median_of([*on(processors), program, tool], path, made, runs)
-        differing += not (peer and result and same_bytes(wanted, made))
-        ratio = "%.2f" % (result[0] / peer[0]) if peer and result else "-"
-        line = (processors, count, name, f"`{tool}`", shown(result), shown(peer), ratio)
-        print("| %s | %s | %s | %s | %s | %s | %s |" % line, flush=True)
-    return differing
+            labels = [processors, count, name, tool]
+            table.line(labels, path, [tool], ["sh", "-c", tool], before=on(processors))
+    return table.differing
 
 
 def mean_of(ratios):
@@ -88,7 +85,7 @@ def compared(programs, runs, cell, folder):
     path = os.path.join(folder, str(width))
     if not os.path.exists(path):
         height = max(20, SAMPLES // width)
-        written(folder, str(width), b"P5\n%d %d\n255\n" % (width, height), width * height, 1)
+        written(path, b"P5\n%d %d\n255\n" % (width, height), width * height)
     words = ["--ring", str(ring), "--lanes", str(lanes), CHAINS[tools]]
     pairs = [[timed([*on(processors), program, *words], path, os.devnull) for program in programs] for _ in range(runs)]
     if any(None in pair for pair in pairs):
@@ -97,7 +94,7 @@ def compared(programs, runs, cell, folder):
     return [max(mine, 0.001) / max(other, 0.001) for mine, other in zip(*seconds)]
 
 
-def sweep(programs, runs, seconds, folder):
+def compare(programs, runs, seconds, folder):
     """Geometric means over all cells that there is time for, in random order, and by each number of a factor."""
     cells = [cell for cell in itertools.product(*FACTORS.values()) if cell[0] <= os.cpu_count()]
     random.Random(1).shuffle(cells)
@@ -109,26 +106,15 @@ def sweep(programs, runs, seconds, folder):
     groups = [("all", [ratios for _, ratios in told])]
     for at, (name, numbers) in enumerate(FACTORS.items()):
         groups += [(f"{name}: {number}", [ratios for cell, ratios in told if cell[at] == number]) for number in numbers]
-    print(f"{len(told)} of {len(cells)} cells\n| | wall | processor |\n|---|---|---|")
+    print(f"{len(told)} of {len(cells)} cells")
+    print_columns(["", "wall", "processor"])
     for name, ratios in groups:
         if ratios:
             walls, used = zip(*ratios)
-            print("| %s | %.2f | %.2f |" % (name, mean_of(walls), mean_of(used)))
+            print_line([name, f"{mean_of(walls):.2f}", f"{mean_of(used):.2f}"])
 
 
-def main():
-    parser = argparse.ArgumentParser(description=__doc__.split("\n\n", maxsplit=1)[0])
-    parser.add_argument("--program", default="bin/pnmpipe")
-    parser.add_argument("--sweep", metavar="OTHER", help="another program, to compare with on a quiet machine")
-    parser.add_argument("--runs", type=int, default=7)
-    parser.add_argument("--seconds", type=float, default=3600, help="how long a sweep may take")
-    args = parser.parse_args()
-    with tempfile.TemporaryDirectory(dir="/dev/shm" if os.path.isdir("/dev/shm") else None) as folder:
-        if args.sweep:
-            sweep((args.program, args.sweep), args.runs, args.seconds, folder)
-        elif beside_busy(args.program, args.runs, folder):
-            sys.exit("some results differ from Netpbm's or failed")
-
-
-if __name__ == "__main__":
-    main()
+def run(args, folder):
+    if args.other:
+        return compare((args.program, args.other), args.runs, args.seconds, folder)
+    return status_of(beside_busy(args, folder))

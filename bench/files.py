@@ -1,5 +1,4 @@
-#!/usr/bin/env python3
-"""Times many files through one chain, in each way, beside Netpbm: files a second, the results compared.
+"""Many files through one chain, in each way, beside Netpbm: files a second, the results compared.
 
 The files: 10,000 PGM images of 64 by 64, and 300 pages of A4 in bits. The ways: pnmpipe-files with the C library in
 process, and by calls of pnmpipe alone; one call of pnmpipe over all files as a stream, parted by pnmpipe-split; and by
@@ -7,17 +6,17 @@ xargs on all processors a call of pnmpipe for each file, and Netpbm's tools in a
 machine, with the program and the library that make and make library have left, and Netpbm.
 """
 
-import argparse
 import os
 import random
 import shutil
 import statistics
 import subprocess
 import sys
-import tempfile
 import time
 
-ROOT = os.path.dirname(os.path.dirname(os.path.abspath(__file__)))
+from measure import ROOT, built, print_columns, print_line
+
+RUNS = 3
 CHAIN = "pamcut -left 8 -right -9 | pamflip -lr | pnminvert"
 
 XARGS = 'xargs -a list -d "\\n" -P "$(nproc)" -n 8 sh -c \'for file; do %s > "out/${file##*/}"; done\' sh'
@@ -32,39 +31,6 @@ WAYS = {
     "Netpbm's three tools a file, by `xargs -P`": XARGS
     % 'pamcut -left 8 -right -9 "$file" | pamflip -lr | pnminvert',
 }
-
-# reads each file and writes its bytes under another name, by as many processes as there are processors
-COPIES = r"""
-#include <fcntl.h>
-#include <stdio.h>
-#include <string.h>
-#include <sys/stat.h>
-#include <sys/wait.h>
-#include <unistd.h>
-int main(void) {
-    static char names[10000][64], bytes[2 << 20];
-    char part[99], result[99];
-    struct stat found;
-    long count = 0, jobs = sysconf(_SC_NPROCESSORS_ONLN);
-    FILE *list = fopen("list", "r");
-    while (list && count < 10000 && fscanf(list, "%63s", names[count]) == 1) count++;
-    for (long job = 0; job < jobs; job++) {
-        if (fork()) continue;
-        for (long at = job; at < count; at += jobs) {
-            snprintf(part, sizeof part, "out/%s.part", strchr(names[at], '/') + 1);
-            snprintf(result, sizeof result, "out/%s", strchr(names[at], '/') + 1);
-            if (stat(names[at], &found)) _exit(1);
-            int from = open(names[at], O_RDONLY), to = open(part, O_WRONLY | O_CREAT | O_TRUNC, 0666);
-            ssize_t size = read(from, bytes, sizeof bytes);
-            if (size != found.st_size || write(to, bytes, size) != size || close(to) || close(from)) _exit(1);
-            if (rename(part, result)) _exit(1);
-        }
-        _exit(0);
-    }
-    for (int status = 0; wait(&status) > 0;) if (status) return 1;
-    return 0;
-}
-"""
 
 # a name, the suffix, how many files, and what makes one of random numbers
 SETS = [
@@ -108,43 +74,37 @@ def times_of(folder, environment, count, runs):
             made = results(folder)
             wanted = wanted or made
             if len(made) != count or (made != wanted and way != FLOOR):
-                sys.exit(f"bench_files.py: {way}: other results")
+                sys.exit(f"bench files: {way}: other results")
     return {way: count / statistics.median(taken) for way, taken in times.items()}
 
 
-def main():
-    parser = argparse.ArgumentParser(description=__doc__, formatter_class=argparse.RawDescriptionHelpFormatter)
-    parser.add_argument("--program", default=f"{ROOT}/bin/pnmpipe")
+def add_options(parser):
     parser.add_argument("--library", default=f"{ROOT}/bin/libpnmpipe.so.1")
     parser.add_argument("--floor", action="store_true", help="beside them a loop in C that only reads and writes")
     parser.add_argument("--part", type=int, default=1, metavar="N", help="one of N files alone")
-    parser.add_argument("--runs", type=int, default=3)
-    options = parser.parse_args()
+
+
+def run(args, folder):
     if not shutil.which("pamcut"):
-        sys.exit("bench_files.py: Netpbm isn't installed")
-    if not os.path.exists(options.library):
-        print(f"bench_files.py: there is no {options.library}, so nothing is run in process")
+        return "bench files: Netpbm isn't installed"
+    if not os.path.exists(args.library):
+        print(f"bench files: there is no {args.library}, so nothing is run in process")
         del WAYS[IN_PROCESS]
-    with tempfile.TemporaryDirectory(dir="/dev/shm" if os.path.isdir("/dev/shm") else None) as folder:
-        os.mkdir(f"{folder}/bin")
-        os.symlink(os.path.abspath(options.program), f"{folder}/bin/pnmpipe")
-        path = f"{folder}/bin:{ROOT}/scripts:{os.environ['PATH']}"
-        environment = {**os.environ, "PATH": path, "CHAIN": CHAIN}
-        environment["PNMPIPE_LIBRARY"] = os.path.abspath(options.library)
-        if options.floor:
-            words = ["cc", "-O2", "-x", "c", "-", "-o", f"{folder}/bin/copies"]
-            subprocess.run(words, input=COPIES.encode(), check=True)
-            WAYS[FLOOR] = "copies"
-        found = {}
-        for name, suffix, count, image in SETS:
-            fill(folder, suffix, count // options.part, image)
-            count //= options.part
-            found[f"{count:,} {name}"] = times_of(folder, environment, count, options.runs)
+    os.mkdir(f"{folder}/bin")
+    os.symlink(os.path.abspath(args.program), f"{folder}/bin/pnmpipe")
+    path = f"{folder}/bin:{ROOT}/helpers:{os.environ['PATH']}"
+    environment = {**os.environ, "PATH": path, "CHAIN": CHAIN}
+    environment["PNMPIPE_LIBRARY"] = os.path.abspath(args.library)
+    if args.floor:
+        WAYS[FLOOR] = built(folder, "copies.c")
+    found = {}
+    for name, suffix, count, image in SETS:
+        count //= args.part
+        fill(folder, suffix, count, image)
+        found[f"{count:,} {name}"] = times_of(folder, environment, count, args.runs)
     chain = CHAIN.replace("|", "\\|")
-    print(f"Files a second through `{chain}`:\n\n| Way | {' | '.join(found)} |\n|---|{'---|' * len(found)}")
+    print(f"Files a second through `{chain}`:\n")
+    print_columns(["Way", *found])
     for way in WAYS:
-        print(f"| {way} | {' | '.join(f'{rates[way]:,.0f}' for rates in found.values())} |")
-
-
-if __name__ == "__main__":
-    main()
+        print_line([way, *(f"{rates[way]:,.0f}" for rates in found.values())])
+    return 0

@@ -1,28 +1,12 @@
-#!/usr/bin/env python3
-"""Turns the runs of Netpbm's tools in a shell pipeline, or a script, into one call of pnmpipe each.
+"""Turns text of the shell that calls Netpbm's tools into text that calls pnmpipe. `pnmpipe-translate` and
+`pnmpipe-explain` use it."""
 
-    pnmpipe-translate 'pamcut -l 8 in.pgm | pamflip -r90 | pnminvert > out.pgm'
-    pnmpipe-translate -f script.sh > new.sh
-
-The tools are pnminvert, pamcut, pamdepth, pamchannel, pamenlarge, pamflip and pnmtile, and pnmcut, pnmdepth,
-pnmenlarge and pnmflip. What is translated goes to standard output; on standard error stands what was kept and why,
-what is assumed, and where the results can differ. A stage is kept where it isn't sure that pnmpipe gives the same:
-where a variable may hold an option, say.
-"""
-
-import argparse
 import re
-import sys
+import shlex
 
-sys.dont_write_bytecode = True
-
-# pylint: disable=wrong-import-position
+from chain_text import MOST_BYTES, MOST_STAGES, WORD, ChainFault, read_chain
 from netpbm_words import OLD_NAMES, Kept, place_of, read_stage, tool_of
 from shell_reader import ShellReader
-
-VERSION = "0.1.0"
-MOST_STAGES = 64
-MOST_BYTES = 4096
 
 # names that a text gives a meaning of its own
 DEFINED = re.compile(r"\b(p[an]m\w+)\s*\(\s*\)|\balias\s+(p[an]m\w+)=|\bfunction\s+(p[an]m\w+)")
@@ -146,36 +130,21 @@ def translated(text):
     return reading.rendered(0, len(text)), reading.said
 
 
-def main():
-    parser = argparse.ArgumentParser(
-        prog="pnmpipe-translate", description=__doc__, formatter_class=argparse.RawDescriptionHelpFormatter
-    )
-    parser.add_argument("-f", "--file", metavar="SCRIPT", help="a script; - is standard input")
-    parser.add_argument("-V", "--version", action="version", version=f"%(prog)s {VERSION}")
-    parser.add_argument("pipeline", nargs="?", metavar="PIPELINE", help="a pipeline, in quotes")
-    options = parser.parse_args()
-    if (options.file is None) == (options.pipeline is None):
-        parser.error("name a pipeline, or a script by -f")
-    if options.file is None:
-        text = options.pipeline + "\n"
-    elif options.file == "-":
-        text = sys.stdin.buffer.read().decode("utf-8", "surrogateescape")
-    else:
-        try:
-            with open(options.file, encoding="utf-8", errors="surrogateescape", newline="") as file:
-                text = file.read()
-        except OSError as error:
-            sys.exit(f"pnmpipe-translate: {options.file}: {error.strerror}")
-    made, said = translated(text)
-    sys.stdout.buffer.write(made.encode("utf-8", "surrogateescape"))
-    told = set()
-    for line, note in sorted(said, key=lambda each: each[0]):
-        # what is the same for each run is said once
-        if note.startswith(("differs", "assumed")) and note in told:
-            continue
-        told.add(note)
-        print(f"pnmpipe-translate: line {line}: {note}", file=sys.stderr)
+def in_pnmpipe(text):
+    """The call of pnmpipe that does what Netpbm's tools do with these words; none where pnmpipe-translate has none."""
+    stages = [" ".join(map(shlex.quote, WORD.findall(stage))) for stage in text.split("|")]
+    made, _ = translated(" | ".join(stages))
+    words = [word for word in shlex.split(made) if word != "--plain"]
+    if words[:1] != ["pnmpipe"] or len(words) not in (2, 4) or words[2:3] not in ([], ["<"]):
+        return None
+    try:
+        read_chain(words[1])
+        return made
+    except ChainFault:
+        return None
 
 
-if __name__ == "__main__":
-    main()
+def remedy_of(text, fault):
+    """What to do about the fault of a chain: the call, where Netpbm's tools take these words."""
+    call = in_pnmpipe(text) if fault.stage else None
+    return f"Write:\n{call}" if call else fault.remedy

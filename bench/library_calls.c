@@ -1,6 +1,6 @@
 /* Times calls over many images of one size:
  *
- *     bench_library WAY CHAIN IMAGES BYTES ROUNDS OUT [PROGRAM | WIDTH HEIGHT BANDS]
+ *     library_calls WAY CHAIN IMAGES BYTES ROUNDS OUT [PROGRAM | WIDTH HEIGHT BANDS]
  *
  * IMAGES holds images of BYTES bytes each, one after another. Each round passes all of them through the chain, and its
  * calls a second are printed; the last image's result is left in OUT. WAY is `memory`, a call of the library from
@@ -32,7 +32,7 @@ static uint8_t room[ROOM];
 static char from[4096], to[4096];
 
 static void fail(const char *what) {
-    fprintf(stderr, "bench_library: %s: %s\n", chain, what);
+    fprintf(stderr, "library_calls: %s: %s\n", chain, what);
     exit(1);
 }
 

@@ -161,26 +161,6 @@ def loaded(name):
     return module
 
 
-def in_pnmpipe(text):
-    """The call of pnmpipe that does what Netpbm's tools do with these words; none where pnmpipe-translate has none."""
-    stages = [" ".join(map(shlex.quote, WORD.findall(stage))) for stage in text.split("|")]
-    made, _ = loaded("pnmpipe-translate").translated(" | ".join(stages))
-    words = [word for word in shlex.split(made) if word != "--plain"]
-    if words[:1] != ["pnmpipe"] or len(words) not in (2, 4) or words[2:3] not in ([], ["<"]):
-        return None
-    try:
-        read_chain(words[1])
-        return made
-    except ChainFault:
-        return None
-
-
-def remedy_of(text, fault):
-    """What to do about the fault of a chain: the call, where Netpbm's tools take these words."""
-    call = in_pnmpipe(text) if fault.stage else None
-    return f"Write:\n{call}" if call else fault.remedy
-
-
 def nearest(text, names, mark=""):
     """A question for the name that is most like a text, if one is."""
     found = difflib.get_close_matches(text.lower(), names, 1, 0.75)
@@ -198,9 +178,14 @@ def unknown_tool(words):
     return ChainFault("UnknownTool", words[:1], f"pnmpipe has no tool {name}.", remedy)
 
 
+def option_parts(text):
+    """The name of an option, then `=` and its value, both of which may be empty."""
+    return re.fullmatch(r"--?([^=]*)(=?)(.*)", text, re.S).groups()
+
+
 def take_option(tool, word, left):
     """Takes an option and, where the next word is its value, that."""
-    name, equals, text = re.fullmatch(r"--?([^=]*)(=?)(.*)", word.text, re.S).groups()
+    name, equals, text = option_parts(word.text)
     options = TOOLS[tool.name].options
     if name not in options:
         raise unknown_option(tool, word, name)

@@ -1,22 +1,20 @@
-#!/usr/bin/env python3
-"""Sweeps all tools by kinds of images and by options beside Netpbm's own tools, and names each pair that takes more
-processor time than Netpbm's tool: file to memory, the bytes compared.
+"""All tools by kinds of images and by options beside Netpbm's own, and each pair that takes more processor time than
+Netpbm's tool: file to memory, the bytes compared.
 
 Images are 4,000 wide, but where a factor would make the result too large. The program and Netpbm's tool run in turn;
 a line has the medians of their processor seconds, and the one over the other. What is above 1.0 is measured once
-more, and the end lists it with both ratios. The ratios can be used where other work runs beside, the seconds can't.
-`make bench-sweep` calls this by `scripts/bench.py --sweep`, and takes a minute or two.
+more, and the end lists it with both ratios. The ratios hold on a busy machine too, the seconds don't. It takes a
+minute or two.
 """
 
-import argparse
 import os
-import random
 import statistics
 import subprocess
-import sys
-import tempfile
 
-from bench import same_bytes, timed
+from measure import print_columns, print_line, same_bytes, status_of, timed, written
+
+RUNS = 3
+COLUMNS = ["image", "tool", "pnmpipe", "Netpbm", "over Netpbm"]
 
 WIDTH = 4000
 
@@ -57,19 +55,14 @@ def pairs_of(kind):
     yield from ((f"pnmtile {sizes}", factor) for sizes, factor in TILES)
 
 
-def written(folder, form, factor, bits):
+def sized(folder, form, factor, bits):
     """An image of about so many bits, or that becomes so many by the factor; its path, width and height."""
     each, header = form
     pixels = max(1, int(bits / each / max(1, factor)))
     width = min(WIDTH, pixels)
     height = max(1, pixels // width)
     count = (width * each + 7) // 8 * height
-    path = os.path.join(folder, "image")
-    numbers = random.Random(1)
-    with open(path, "wb") as file:
-        file.write(header.format(width, height).encode())
-        for start in range(0, count, 1 << 20):
-            file.write(numbers.randbytes(min(1 << 20, count - start)))
+    path = written(os.path.join(folder, "image"), header.format(width, height).encode(), count)
     return path, width, height
 
 
@@ -86,7 +79,7 @@ def measured(args, folder, kind, tool, factor):
     """Medians of the processor seconds of both, whether they wrote the same, the image's size, and the chain."""
     is_leaving_pam = kind == "pam" and tool.split()[0] in LEAVING_PAM
     form = RGB_PAM if is_leaving_pam else KINDS[kind]
-    path, width, height = written(folder, form, factor, args.megabytes * 8e6)
+    path, width, height = sized(folder, form, factor, args.megabytes * 8e6)
     chain = tool.format(high=height, twice=2 * height)
     wanted, made = (os.path.join(folder, name) for name in ("wanted", "made"))
     ours, peers = [], []
@@ -105,48 +98,37 @@ def line_of(args, folder, kind, tool, factor):
     ratio = ours / max(peers, 1e-4) if ours is not None else float("nan")
     note = "" if is_same else " (failed)" if ours is None else " (OTHER BYTES)"
     if not args.above or not is_same or ratio > args.bound:
-        seconds = "- | -" if ours is None else f"{ours:.3f} | {peers:.3f}"
-        print(f"| {kind} {size[0]} by {size[1]} | `{chain}` | {seconds} | {ratio:.2f}{note} |", flush=True)
+        seconds = ["-", "-"] if ours is None else [f"{ours:.3f}", f"{peers:.3f}"]
+        print_line([f"{kind} {size[0]} by {size[1]}", f"`{chain}`", *seconds, f"{ratio:.2f}{note}"])
     return ratio, is_same, chain
 
 
-def sweep(args):
-    """All pairs, then those above the bound once more. Gives how many results differ."""
-    differing, above, count = 0, [], 0
-    print("| image | tool | pnmpipe | Netpbm | over Netpbm |\n|---|---|---|---|---|")
-    with tempfile.TemporaryDirectory(dir=args.folder) as folder:
-        for kind in args.kind or KINDS:
-            for tool, factor in pairs_of(kind):
-                if args.tool and not any(tool.startswith(it) for it in args.tool):
-                    continue
-                ratio, is_same, chain = line_of(args, folder, kind, tool, factor)
-                count += 1
-                differing += not is_same
-                if is_same and ratio > args.bound:
-                    above.append((kind, tool, factor, chain, ratio))
-        print(f"\n{count} pairs, {len(above)} above {args.bound} of Netpbm's processor time; these once more:\n")
-        print("| image | tool | pnmpipe | Netpbm | over Netpbm |\n|---|---|---|---|---|")
-        again = [(*pair, line_of(args, folder, *pair[:3])[0]) for pair in above]
-    print("\n| image | tool | over Netpbm | once more |\n|---|---|---|---|")
-    for kind, _, _, chain, ratio, second in sorted(again, key=lambda it: -min(it[4:])):
-        print(f"| {kind} | `{chain}` | {ratio:.2f} | {second:.2f} |")
-    return differing
-
-
-def main(words=None):
-    parser = argparse.ArgumentParser(description=__doc__.split("\n\n")[0])
-    parser.add_argument("--program", default="bin/pnmpipe")
+def add_options(parser):
     parser.add_argument("--kind", action="append", choices=list(KINDS), help="by default all")
     parser.add_argument("--tool", action="append", help="how a tool with its options begins; by default all")
     parser.add_argument("--megabytes", type=float, default=8, help="of each image, or of its result where that is more")
-    parser.add_argument("--runs", type=int, default=3)
     parser.add_argument("--bound", type=float, default=1.0, help="the ratio above which a pair is named")
     parser.add_argument("--above", action="store_true", help="prints lines of pairs above the bound alone")
-    parser.add_argument("--folder", default="/dev/shm" if os.path.isdir("/dev/shm") else None)
-    differing = sweep(parser.parse_args(words))
-    if differing:
-        sys.exit(f"{differing} results differ from Netpbm's or failed")
 
 
-if __name__ == "__main__":
-    main()
+def run(args, folder):
+    """All pairs, then those above the bound once more."""
+    differing, above, count = 0, [], 0
+    print_columns(COLUMNS)
+    for kind in args.kind or KINDS:
+        for tool, factor in pairs_of(kind):
+            if args.tool and not any(tool.startswith(it) for it in args.tool):
+                continue
+            ratio, is_same, chain = line_of(args, folder, kind, tool, factor)
+            count += 1
+            differing += not is_same
+            if is_same and ratio > args.bound:
+                above.append((kind, tool, factor, chain, ratio))
+    print(f"\n{count} pairs, {len(above)} above {args.bound} of Netpbm's processor time; these once more:\n")
+    print_columns(COLUMNS)
+    again = [(*pair, line_of(args, folder, *pair[:3])[0]) for pair in above]
+    print()
+    print_columns(["image", "tool", "over Netpbm", "once more"])
+    for kind, _, _, chain, ratio, second in sorted(again, key=lambda it: -min(it[4:])):
+        print_line([kind, f"`{chain}`", f"{ratio:.2f}", f"{second:.2f}"])
+    return status_of(differing)

@@ -1,5 +1,5 @@
 #!/usr/bin/env python3
-"""Times calls of the C library, in C and in Python, over 20,000 images of 64 by 64 and over a page of 100 KB, beside a
+"""Calls of the C library, in C and in Python, over 20,000 images of 64 by 64 and over a page of 100 KB, beside a
 process of pnmpipe a file, Pillow, numpy and libvips: calls a second, medians, the samples compared.
 
 The images lie in memory, and so do the results; of `files` and `process` in files below /dev/shm. numpy and libvips
@@ -7,20 +7,18 @@ are given the samples and leave samples, and don't read or write a format. For a
 library have left. Of Pillow, numpy and libvips those are timed that are there.
 """
 
-import argparse
 import io
 import os
-import random
-import shutil
 import statistics
 import subprocess
 import sys
-import tempfile
 import time
+
+from measure import HERE, ROOT, print_columns, print_line, written
 
 import library
 
-ROOT = library.ROOT
+RUNS = 3
 
 CHAINS = ["pnminvert", "pamflip -r90", "pamcut -left 8 | pamflip -lr | pnminvert"]
 
@@ -98,7 +96,7 @@ PYTHON = {"pnmpipe": by_pnmpipe, "pillow": by_pillow, "numpy": by_numpy}
 
 
 def time_python(way, chain, path, size, rounds, out, *shape):
-    """What bench_library.c does, for a way of Python."""
+    """What library_calls.c does, for a way of Python."""
     run = PYTHON[way](chain, tuple(map(int, shape)))
     with open(path, "rb") as file:
         text = file.read()
@@ -122,8 +120,8 @@ class Bench:
         self.folder, self.program, self.rounds = folder, os.path.abspath(program), rounds
         self.own = {**os.environ, "PNMPIPE_LIBRARY": os.path.join(built, library.SHARED)}
         self.own["PYTHONPATH"] = os.path.join(library.SOURCE, "python")
-        self.caller = os.path.join(folder, "bench_library")
-        source = os.path.join(ROOT, "scripts/bench_library.c")
+        self.caller = os.path.join(folder, "library_calls")
+        source = os.path.join(HERE, "library_calls.c")
         words = [library.compiler(), "-std=gnu99", "-O2", "-I", built, "-o", self.caller, source]
         words += [os.path.join(built, library.SHARED), f"-Wl,-rpath,{os.path.abspath(built)}"]
         vips = subprocess.run(["pkg-config", "--cflags", "--libs", "vips"], capture_output=True, text=True, check=False)
@@ -147,10 +145,7 @@ class Bench:
         path = os.path.join(self.folder, name)
         size = len(header(*shape)) + shape[0] * shape[1] * shape[2]
         if not os.path.exists(path):
-            numbers = random.Random(1)
-            with open(path, "wb") as file:
-                for _ in range(count):
-                    file.write(header(*shape) + numbers.randbytes(shape[0] * shape[1] * shape[2]))
+            written(path, header(*shape), shape[0] * shape[1] * shape[2], count)
         return path, size
 
     def timed(self, way, chain, path, size, shape):
@@ -158,7 +153,7 @@ class Bench:
         out = os.path.join(self.folder, "out")
         words = [way, chain, path, str(size), str(self.rounds), out]
         if way in PYTHON:
-            words = [self.python[way], os.path.abspath(__file__), "--way", *words, *map(str, shape)]
+            words = [self.python[way], os.path.abspath(__file__), *words, *map(str, shape)]
         else:
             more = {"process": [self.program], "vips": list(map(str, shape))}.get(way, [])
             words = [self.caller, *words, *more]
@@ -175,37 +170,31 @@ class Bench:
             path, size = self.images(f"{width}-{taken}", (width, height, bands), taken)
             told[way], made = self.timed(way, chain, path, size, (width, height, bands))
             if made[-samples:] != wanted.setdefault(taken, made[-samples:]):
-                sys.exit(f"bench_library: {way} makes other samples than another way of `{chain}`")
+                sys.exit(f"bench library: {way} makes other samples than another way of `{chain}`")
         return told
 
     def table(self, name):
         """Prints the table of an input, and gives what it says of each chain."""
         columns = [self.column(*INPUTS[name], chain) for chain in CHAINS]
         chains = [f"`{chain}`".replace("|", "\\|") for chain in CHAINS]
-        print(f"\n| Calls a second, {name} | {' | '.join(chains)} |\n|---{'|---' * len(chains)}|")
+        print()
+        print_columns([f"Calls a second, {name}", *chains])
         for way in self.ways:
-            print(f"| {WAYS[way]} | {' | '.join(f'{it[way]:,.0f}' for it in columns)} |", flush=True)
+            print_line([WAYS[way], *(f"{it[way]:,.0f}" for it in columns)])
         return columns
 
 
-def main():
-    if sys.argv[1:2] == ["--way"]:
-        return time_python(*sys.argv[2:])
-    parser = argparse.ArgumentParser(description=__doc__, formatter_class=argparse.RawDescriptionHelpFormatter)
-    parser.add_argument("--program", default=f"{ROOT}/bin/pnmpipe")
+def add_options(parser):
     parser.add_argument("--library", default=f"{ROOT}/bin", help="the folder that has it")
-    parser.add_argument("--runs", type=int, default=3)
-    words = parser.parse_args()
-    if not (os.path.exists(words.program) and os.path.exists(os.path.join(words.library, library.SHARED))):
-        sys.exit("bench_library: run make and make library first")
+
+
+def run(args, folder):
+    if not (os.path.exists(args.program) and os.path.exists(os.path.join(args.library, library.SHARED))):
+        return "bench library: run make and make library first"
     if not library.compiler():
-        sys.exit("bench_library: there is no C compiler")
-    folder = tempfile.mkdtemp(dir="/dev/shm" if os.path.isdir("/dev/shm") else None)
-    try:
-        bench = Bench(folder, words.program, words.library, words.runs)
-        columns = [column for name in INPUTS for column in bench.table(name)]
-    finally:
-        shutil.rmtree(folder)
+        return "bench library: there is no C compiler"
+    bench = Bench(folder, args.program, args.library, args.runs)
+    columns = [column for name in INPUTS for column in bench.table(name)]
     for way in ("memory", "files"):
         ratios = [it[way] / it["process"] for it in columns]
         print(f"\n{WAYS[way]}, over a process a file: " + ", ".join(f"{it:.1f}" for it in ratios))
@@ -213,4 +202,5 @@ def main():
 
 
 if __name__ == "__main__":
-    sys.exit(main())
+    # (run by a Python that has the module of the way)
+    time_python(*sys.argv[1:])

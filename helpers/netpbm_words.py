@@ -1,27 +1,21 @@
-"""What the words of Netpbm's tools mean, and what pnmpipe has in their place. `pnmpipe-translate` uses it."""
+"""What the words of Netpbm's tools mean, and what pnmpipe has in their place."""
 
 import re
 
+from chain_text import EXTENT, MAXVAL, option_parts
 from shell_reader import Kept, Word
 
-# the stages for each way to turn an image
-WAYS = {
-    "leftright": ["pamflip -lr"],
-    "lr": ["pamflip -lr"],
-    "topbottom": ["pamflip -tb"],
-    "tb": ["pamflip -tb"],
-    "transpose": ["pamflip -xy"],
-    "xy": ["pamflip -xy"],
-    "null": ["pamflip -null"],
-    "rotate90": ["pamflip -r90"],
-    "r90": ["pamflip -r90"],
-    "ccw": ["pamflip -r90"],
-    "rotate180": ["pamflip -r180"],
-    "r180": ["pamflip -r180"],
-    "rotate270": ["pamflip -r270"],
-    "r270": ["pamflip -r270"],
-    "cw": ["pamflip -r270"],
+# the names that Netpbm has for each way to turn an image, and the stages for each name
+NAMES_OF_WAYS = {
+    "lr": "leftright lr",
+    "tb": "topbottom tb",
+    "xy": "transpose xy",
+    "null": "null",
+    "r90": "rotate90 r90 ccw",
+    "r180": "rotate180 r180",
+    "r270": "rotate270 r270 cw",
 }
+WAYS = {name: [f"pamflip -{way}"] for way, names in NAMES_OF_WAYS.items() for name in names.split()}
 
 # Netpbm's options: those with a value, and those without
 OPTIONS = {
@@ -56,7 +50,7 @@ ONE_NUMBER = "assumed: a variable or a sum that stands for a number holds one de
 SIZES = "assumed: in pamcut's four numbers a width or height from a variable is above 0 (pnmpipe refuses others)"
 
 # one less than the greatest number that pnmpipe takes, or a negative one counted from the end
-MOST_NUMBER = 16_777_215
+MOST_NUMBER = EXTENT[1] - 1
 
 # settings that may stand before a tool's name, since pnmpipe doesn't look at them; the options of nice(1); and the
 # folders of a tool that is named by its path
@@ -150,7 +144,7 @@ def option_of(tool, word):
         text = word.value
         if not text.startswith("-") or text == "-" or (tool == "pamcut" and re.fullmatch(r"-[0-9]+", text)):
             return None
-        name, sign, value = re.fullmatch(r"--?([^=]*)(=?)(.*)", text, re.S).groups()
+        name, sign, value = option_parts(text)
         return whole_name(tool, name), Word(raw=value) if sign else None
     if not found:
         return None
@@ -231,8 +225,8 @@ def depth(call, _, arguments):
     maxval = number_of(call, arguments[0], "the maxval", 1)
     if maxval.startswith("$"):
         call.notes.append(STAYS_BITS.format("by a variable that holds 1"))
-    elif int(maxval) > 65535:
-        raise Kept("the maxval is above 65535")
+    elif int(maxval) > MAXVAL[1]:
+        raise Kept(f"the maxval is above {MAXVAL[1]}")
     elif int(maxval) == 1:
         call.notes.append(STAYS_BITS.format(1))
     return [f"pamdepth {maxval}"], arguments[1:]

@@ -1,5 +1,4 @@
-#!/usr/bin/env python3
-"""Times bin/pnmpipe at 1, 2, 4 and 8 lanes: file to memory, the best and the median run, the bytes compared.
+"""The program with 1, 2, 4 and 8 lanes: file to memory, the best and the median run, the bytes compared.
 
 A line for each image and tool: the wall seconds, best / median, with each number of lanes, and the median with one
 lane over the least of these medians. The images have rows of 64 samples, of which each is little work for a thread,
@@ -9,15 +8,14 @@ maxval, as those of `small16` and `flat16` do, of which the second has three row
 files, in /dev/shm or --folder.
 """
 
-import argparse
 import os
-import random
 import statistics
 import subprocess
 import sys
-import tempfile
 
-from bench import timed
+from measure import print_columns, print_line, same_bytes, timed, written
+
+RUNS = 5
 
 
 def gray(width, height, maxval):
@@ -52,17 +50,6 @@ CASES = [
 LANES = [1, 2, 4, 8]
 
 
-def write_images(path, name):
-    """Writes the stream of this name, some bytes at a time."""
-    header, count, images = IMAGES[name]
-    numbers = random.Random(1)
-    with open(path, "wb") as file:
-        for _ in range(images):
-            file.write(header)
-            for start in range(0, count, 1 << 20):
-                file.write(numbers.randbytes(min(1 << 20, count - start)))
-
-
 def require_lanes(program):
     """Ends where the program isn't there, or has no option `--lanes`."""
     try:
@@ -82,7 +69,7 @@ def measured(program, chain, source, folder, runs):
         for lanes in LANES:
             target = first if run == 0 and lanes == LANES[0] else made
             result = timed([program, "--lanes", str(lanes), chain], source, target)
-            same = result and (target == first or subprocess.run(["cmp", "-s", first, made]).returncode == 0)
+            same = result and (target == first or same_bytes(first, made))
             if not same:
                 seconds[lanes] = None
             elif seconds[lanes] is not None:
@@ -101,33 +88,22 @@ def gain_of(seconds):
     return "%.2f" % (medians[LANES[0]] / min(medians.values()))
 
 
-def main():
-    parser = argparse.ArgumentParser(description=__doc__.split("\n")[0])
-    parser.add_argument("--program", default="bin/pnmpipe")
-    parser.add_argument("--image", action="append", choices=list(IMAGES))
-    parser.add_argument("--runs", type=int, default=5)
-    parser.add_argument("--folder", default="/dev/shm" if os.path.isdir("/dev/shm") else None)
-    args = parser.parse_args()
+def add_options(parser):
+    parser.add_argument("--image", action="append", choices=list(IMAGES), help="by default all")
+
+
+def run(args, folder):
     require_lanes(args.program)
     failed = 0
-    columns = [f"{lanes} lanes" if lanes > 1 else "1 lane" for lanes in LANES]
-    print("| image | tool | " + " | ".join(columns) + " | gain |")
-    print("|---" * (len(LANES) + 3) + "|")
-    with tempfile.TemporaryDirectory(dir=args.folder) as folder:
-        source, written = os.path.join(folder, "source"), None
-        for name, chain in CASES:
-            if args.image and name not in args.image:
-                continue
-            if name != written:
-                write_images(source, name)
-                written = name
-            seconds = measured(args.program, chain, source, folder, args.runs)
-            failed += sum(each is None for each in seconds.values())
-            cells = [shown(each) for each in seconds.values()]
-            print("| %s | `%s` | %s | %s |" % (name, chain, " | ".join(cells), gain_of(seconds)), flush=True)
-    if failed:
-        sys.exit(f"{failed} numbers of lanes failed or gave other bytes than the first run")
-
-
-if __name__ == "__main__":
-    main()
+    print_columns(["image", "tool", *(f"{lanes} lane{'s' * (lanes > 1)}" for lanes in LANES), "gain"])
+    source, there = os.path.join(folder, "source"), None
+    for name, chain in CASES:
+        if args.image and name not in args.image:
+            continue
+        if name != there:
+            written(source, *IMAGES[name])
+            there = name
+        seconds = measured(args.program, chain, source, folder, args.runs)
+        failed += sum(each is None for each in seconds.values())
+        print_line([name, f"`{chain}`", *map(shown, seconds.values()), gain_of(seconds)])
+    return f"{failed} numbers of lanes failed or gave other bytes than the first run" if failed else 0
