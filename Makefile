@@ -108,6 +108,10 @@ install: built
 	install -m 755 $(BUILT) "$(DESTDIR)$(BINDIR)/pnmpipe"
 	for page in man/*.1; do sed "s/@VERSION@/$$(cat VERSION)/" $$page > "$(DESTDIR)$(MANDIR)/man1/$${page#man/}" || exit 1; done
 	install -m 644 completions/pnmpipe.bash "$(DESTDIR)$(COMPLETIONDIR)/pnmpipe"
+	install -m 644 completions/_pnmpipe "$(DESTDIR)$(ZSHDIR)/_pnmpipe"
+	install -m 644 completions/pnmpipe.fish "$(DESTDIR)$(FISHDIR)/pnmpipe.fish"
+	for helper in $(HELPERS); do ln -sf pnmpipe "$(DESTDIR)$(COMPLETIONDIR)/$$helper" || exit 1; done
+	for helper in $(HELPERS); do ln -sf pnmpipe.fish "$(DESTDIR)$(FISHDIR)/$$helper.fish" || exit 1; done
 	for file in $(HELPERS) netpbm-shim; do install -m 755 helpers/$$file "$(DESTDIR)$(LIBEXECDIR)/pnmpipe" || exit 1; done
 	for file in $(MODULES); do install -m 644 helpers/$$file "$(DESTDIR)$(LIBEXECDIR)/pnmpipe" || exit 1; done
 	install -d "$(DESTDIR)$(LIBEXECDIR)/pnmpipe/pnmpipe"
@@ -134,7 +138,8 @@ wheel:
 uninstall:
 	for name in libpnmpipe.a libpnmpipe.so libpnmpipe.so.1 pkgconfig/pnmpipe.pc; do rm -f "$(DESTDIR)$(LIBDIR)/$$name"; done
 	rm -f "$(DESTDIR)$(INCLUDEDIR)/pnmpipe.h" "$(DESTDIR)$(MANDIR)/man3/pnmpipe.3"
-	rm -f "$(DESTDIR)$(BINDIR)/pnmpipe" "$(DESTDIR)$(COMPLETIONDIR)/pnmpipe"
+	rm -f "$(DESTDIR)$(BINDIR)/pnmpipe" "$(DESTDIR)$(ZSHDIR)/_pnmpipe"
+	for name in pnmpipe $(HELPERS); do rm -f "$(DESTDIR)$(COMPLETIONDIR)/$$name" "$(DESTDIR)$(FISHDIR)/$$name.fish"; done
 	for file in $(HELPERS) $(MODULES) netpbm-shim pnmpipe/__init__.py; do rm -f "$(DESTDIR)$(LIBEXECDIR)/pnmpipe/$$file"; done
 	for helper in $(HELPERS); do rm -f "$(DESTDIR)$(BINDIR)/$$helper"; done
 	for page in man/*.1; do rm -f "$(DESTDIR)$(MANDIR)/man1/$${page#man/}"; done

@@ -371,6 +371,10 @@ class Install(Folder):
         self.assertEqual(run([f"{bin_folder}/pnmpipe-translate", "pnminvert"]).stdout, b"pnmpipe 'pnminvert'\n")
         self.assertEqual(run([self.path("x y/usr/libexec/pnmpipe/netpbm/pamcut")], GRAY, env=path).stdout, GRAY)
         self.assertNotIn(b"@VERSION@", self.read("x y/usr/share/man/man1/pnmpipe.1"))
+        for name in ("pnmpipe", "pnmpipe-files"):
+            self.assertIn(b"compgen", self.read(f"x y/usr/share/bash-completion/completions/{name}"))
+            self.assertIn(b"complete -c", self.read(f"x y/usr/share/fish/vendor_completions.d/{name}.fish"))
+        self.assertIn(b"#compdef", self.read("x y/usr/share/zsh/site-functions/_pnmpipe"))
         self.assertEqual(run(["make", "uninstall", *target]).returncode, 0)
         self.assertEqual([names for _, _, names in os.walk(self.path("x y")) if names], [])
 
