@@ -7,7 +7,7 @@ TESTED := pnm_image_tests pnm_flow_tests
 CASES := pnm_format_cases pnm_tools_cases pnm_flow_cases
 
 .PHONY: all bench bench-files bench-library bench-sweep bench-waits built check controls deb dist gate help install install-library
-.PHONY: lanes library long-stream model near pass pictures recipes refused scripts soak soak-library test toolchain uninstall wheel
+.PHONY: lanes library lint long-stream model near pass pictures recipes refused scripts soak soak-library test toolchain uninstall wheel
 
 # where `make install` puts things, below DESTDIR
 PREFIX ?= /usr/local
@@ -71,15 +71,16 @@ gate:
 	python3 scripts/cases.py
 	python3 model/check.py --where-installed
 
-# what rt fmt would change, lines, functions and files that are too long, the stored commands, the scripts, pages and
-# documents, and whether functions have changed that the model restates: in seconds, and with what is installed
+# what is written: the layout, lengths, what documents, pages and completions claim, and whether scripts can be read
+lint:
+	python3 scripts/lint.py
+
+# lint, and the stored cases, the stored commands, the helpers, the pages' examples and pictures, and whether functions
+# have changed that the model restates: in seconds, and with what is installed
 BUILT ?= bin/pnmpipe
-scripts:
-	python3 scripts/style.py
-	python3 scripts/test_style.py
+scripts: lint
+	python3 scripts/test_lint.py
 	python3 scripts/test_cases.py
-	python3 scripts/check_page.py
-	sh scripts/check_scripts.sh
 	python3 scripts/test_commands.py --program $(BUILT)
 	python3 scripts/test_translate.py --program $(BUILT)
 	python3 scripts/test_helpers.py --program $(BUILT)
@@ -234,7 +235,8 @@ help:
 	@echo "make refused         refuses each allocation and each start of a thread in turn, of the program that make has left and of tests"
 	@echo "make soak SECONDS=n  runs random chains over random streams for n seconds, in one thread and over threads"
 	@echo "make soak-library    runs 100,000 random cases by the C library and by the program, and compares"
-	@echo "make scripts         checks the layout, the stored commands, the scripts, pages and documents, with the program that make has left"
+	@echo "make lint            checks what is written: the layout, lengths, what documents, pages and completions claim, and whether scripts can be read"
+	@echo "make scripts         does what make lint does, and runs the tests of the stored commands, the helpers and the pages, with the program that make has left"
 	@echo "make model           searches the model of how threads wait, for small sizes, with spin and gcc; ALL=1: for bigger ones too"
 	@echo "make wheel           leaves a wheel of the Python module, with the C library that make library has left, in dist/"
 	@echo "make install         installs the program that make has left, and the C library that make library has left, below PREFIX=/usr/local; make uninstall takes it away"

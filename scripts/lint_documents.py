@@ -1,12 +1,15 @@
-#!/usr/bin/env python3
-"""Wants the manual page, the documents and the completion to say what the sources do.
+"""What pages, documents and completions say, beside what the sources do. `lint.py` runs this.
 
 The page's SYNOPSIS is the usage line of the program, and the page names each fault, tool and option that the crates
-name. Each edit that docs/PROMISES.md names stands in a crate's must-fail. Each link of the README and of docs leads to
-a file, and to a heading of it. Lines there wrap at 100 columns, but for tables of most documents (NARROW_TABLES);
-ARCHITECTURE.md has 25,000 bytes at most, and the README 8,192. Options and tools of the completions stand in the pages,
-and the other way round. Figures of the documents' tables are those of docs/figures.tsv, which `make bench` writes.
-Where mandoc is installed, it has to find nothing in the pages.
+name. Options and tools of the completions stand in the pages, and the other way round. Where mandoc is installed, it
+has to find nothing in the pages.
+
+Lines of documents have at most 100 columns; ARCHITECTURE.md has 25,000 bytes at most, and the README 8,192. Each link
+of the README and of docs leads to a file, and to a heading of it. Each file and folder that a document names is there:
+a name without its folders is that of some file, and words like NAME and FILE stand for any. So is each script that a
+source, a page or a script names, each goal of the Makefile that one of all these names, and each edit that
+docs/PROMISES.md names. `make help` has each goal. Figures of the documents' tables are those of docs/figures.tsv,
+which `make bench` writes.
 """
 
 import glob
@@ -14,9 +17,9 @@ import os
 import re
 import shutil
 import subprocess
-import sys
 
-ROOT = os.path.dirname(os.path.dirname(os.path.abspath(__file__)))
+from places import ROOT
+
 
 # what mandoc finds, but for pages of other packages that aren't installed
 FINDING = re.compile(r": (STYLE|WARNING|ERROR|UNSUPP|FATAL|SYSERR|BADARG): (?!referenced manual not found)")
@@ -27,9 +30,12 @@ def read(path):
         return file.read()
 
 
+def all_sources():
+    return glob.glob(os.path.join(ROOT, "crates/*/src/**/*.rt"), recursive=True)
+
+
 def sources():
-    paths = glob.glob(os.path.join(ROOT, "crates/*/src/**/*.rt"), recursive=True)
-    return [path for path in paths if "_tests/" not in path and "_cases/" not in path]
+    return [path for path in all_sources() if "_tests/" not in path and "_cases/" not in path]
 
 
 def synopsis(page):
@@ -111,9 +117,11 @@ def faults_of_completions():
     return found
 
 
-DOCUMENTS = ["README.md", *sorted(f"docs/{name}" for name in os.listdir(f"{ROOT}/docs") if name.endswith(".md"))]
-# documents without rows of tables that are longer than a line
-NARROW_TABLES = {"docs/ARCHITECTURE.md", "docs/PROOFS.md", "docs/PROMISES.md"}
+OF_DOCS = ["README.md", *sorted(f"docs/{name}" for name in os.listdir(f"{ROOT}/docs") if name.endswith(".md"))]
+DOCUMENTS = [*OF_DOCS, "CHANGELOG.md", "library/python/README.md", "model/README.md"]
+COLUMNS = 100
+# a row of a table can't be broken, and the tables of these documents are to become lists
+WIDE_TABLES = {"docs/DECISIONS.md", "docs/DEFINITIONS.md", "model/README.md"}
 MOST_BYTES = {"README.md": 8_192, "docs/ARCHITECTURE.md": 25_000}
 
 
@@ -124,7 +132,10 @@ def anchors(text):
 
 
 def faults_of_links(path, text):
-    for link, anchor in re.findall(r"\]\(([^)#:]*)#?([^)]*)\)", text):
+    named = dict(re.findall(r"^\[(\w+)\]: (\S+)$", text, re.M))
+    for name in sorted(set(re.findall(r"!\[[^\]]*\]\[(\w+)\]", text)) ^ set(named)):
+        yield f"{path} has the name {name} for a link without its use, or the other way round"
+    for link, anchor in [*re.findall(r"\]\(([^)#:]*)#?([^)]*)\)", text), *((to, "") for to in named.values())]:
         to = os.path.normpath(os.path.join(os.path.dirname(path), link)) if link else path
         if ":" in anchor:
             continue
@@ -136,19 +147,117 @@ def faults_of_links(path, text):
             yield f"{path} leads to #{anchor} of {to}, which has no such heading"
 
 
-def faults_of_documents():
+def faults_of_edits():
     edits = {os.path.basename(path)[:-5] for path in glob.glob(os.path.join(ROOT, "crates/*/must-fail/*.edit"))}
-    found = []
     for block in re.findall(r"^- Edits: ((?:.+\n)(?:  .+\n)*)", read("docs/PROMISES.md"), re.M):
         for name in re.findall(r"`(\w+)`", block):
             if name not in edits:
-                found.append(f"docs/PROMISES.md names the edit {name}, which no crate has")
+                yield f"docs/PROMISES.md names the edit {name}, which no crate has"
+
+
+FILE = re.compile(r"[\w.*/-]+\.(?:antt|c|edit|h|map|md|pml|py|rt|sh|tsv)")
+IN_FOLDER = re.compile(r"(?:bench|completions|crates|docs|helpers|library|man|model|scripts)/[\w.*/-]*")
+IN_CRATE = re.compile(r"pnm_\w+/[\w.*/-]*")
+# what stands for any word in the name of a file
+ANY = re.compile(r"NAME|FILE|FUNCTION|TYPETRAIT|TYPE|METHOD|CRATE|\*")
+# files that a recipe makes, or its reader has
+OF_READERS = {"new.sh", "old.sh"}
+# what a source names of the project's own files
+NAMED = re.compile(r"\b(?:bench|docs|helpers|library|man|model|scripts)/[\w/.-]*\.(?:c|h|md|py|sh|tsv|txt)\b")
+LEFT_OUT = {".git", "__pycache__", "bin", "dist", "out"}
+
+
+def all_files():
+    """Each file and folder of the project, by its path."""
+    for at, folders, files in os.walk(ROOT):
+        folders[:] = [name for name in folders if name not in LEFT_OUT]
+        yield from (os.path.normpath(os.path.join(os.path.relpath(at, ROOT), name)) for name in [*files, *folders])
+
+
+def ends_of(paths):
+    """Each path, and its ends, from a folder or the file alone on."""
+    return {"/".join(parts[at:]) for parts in (path.split("/") for path in paths) for at in range(len(parts))}
+
+
+def code_in(text):
+    """The pieces of code of a document: blocks line by line, and what stands between two backquotes."""
+    blocks = re.findall(r"^```.*\n((?:.*\n)*?)```$", text, re.M)
+    text = re.sub(r"^```.*\n(?:.*\n)*?```$", "", text, flags=re.M)
+    lines = re.findall(r"^ {4}(\S.*)$", text, re.M)
+    spans = [" ".join(span.split()) for span in re.findall(r"`([^`]+)`", text)]
+    return [*(line for block in blocks for line in block.split("\n")), *lines, *spans]
+
+
+def is_there(name, ends):
+    """Whether a name, with words that stand for any, is the end of a file's path, or of a folder's."""
+    name = name.rstrip("/")
+    form = re.compile(r"[\w.-]*".join(map(re.escape, ANY.split(name))))
+    return name in ends or ANY.search(name) is not None and any(map(form.fullmatch, ends))
+
+
+def names_in(piece):
+    """The names of files and folders in a piece of code; in one of several words those that have a folder."""
+    words = piece.split()
+    for word in words:
+        is_name = FILE.fullmatch(word) and ("/" in word or not words[1:])
+        if is_name or IN_FOLDER.fullmatch(word) or IN_CRATE.fullmatch(word):
+            if word not in OF_READERS and not LEFT_OUT & set(word.split("/")):
+                yield word
+
+
+def faults_of_names(path, text, ends):
+    for name in sorted({name for piece in code_in(text) for name in names_in(piece)}):
+        if not is_there(name, ends):
+            yield f"{path} names {name}, which isn't there"
+
+
+def goals():
+    """The goals of the Makefile."""
+    return {goal for line in re.findall(r"^([a-z][a-z -]*):(?!=)", read("Makefile"), re.M) for goal in line.split()}
+
+
+def faults_of_goals(path, pieces, known):
+    for goal in sorted({goal for piece in pieces for goal in re.findall(r"\bmake ([a-z][a-z-]*)", piece)}):
+        if goal not in known:
+            yield f"{path} names make {goal}, and the Makefile has no such goal"
+
+
+# goals that other goals call
+WITHIN = {"all", "built", "gate", "install-library", "toolchain"}
+
+
+def faults_of_help(known):
+    told = set(re.findall(r"make ([a-z-]+)", " ".join(re.findall(r'@echo "(.*)"', read("Makefile")))))
+    for goal in sorted(known - WITHIN - told):
+        yield f"make help lacks make {goal}"
+
+
+def faults_of_sources(files, ends, known):
+    """Files and goals that sources, pages and scripts name."""
+    of_folders = re.compile(r"(?:bench|helpers|man|model|scripts)/[^/]*")
+    paths = ["Makefile", ".ci/run", *(path for path in files if of_folders.fullmatch(path))]
+    for path in sorted(paths + [os.path.relpath(path, ROOT) for path in all_sources()]):
+        text = read(path)
+        # (the tests of lint have names that lead nowhere)
+        for name in sorted(set(NAMED.findall(text))) if path != "scripts/test_lint.py" else ():
+            if not is_there(name, ends):
+                yield f"{path} names {name}, which isn't there"
+        yield from faults_of_goals(path, re.findall(r"`(make [^`]*)`", text), known)
+
+
+def faults_of_documents():
+    files, known = list(all_files()), goals()
+    ends = ends_of(files)
+    found = [*faults_of_edits(), *faults_of_help(known), *faults_of_sources(files, ends, known)]
     for path in DOCUMENTS:
         text = read(path)
         for number, line in enumerate(text.split("\n"), 1):
-            if len(line) > 100 and (path in NARROW_TABLES or not line.startswith("|")):
+            if len(line) > COLUMNS and not (path in WIDE_TABLES and line.startswith("|")):
                 found.append(f"{path}:{number} has {len(line)} columns")
-        found += faults_of_links(path, text)
+        if path in OF_DOCS:
+            found += faults_of_links(path, text)
+        found += faults_of_names(path, text, ends)
+        found += faults_of_goals(path, code_in(text), known)
         size, most = len(text.encode()), MOST_BYTES.get(path)
         if most and size > most:
             found.append(f"{path} has {size:,} bytes, more than {most:,}")
@@ -200,24 +309,17 @@ def faults_of_figures():
     return found if len(tables) > 40 else [f"README.md and docs/PERFORMANCE.md have {len(tables)} rows of figures"]
 
 
-def faults_of_lint():
+def faults_of_mandoc():
     if shutil.which("mandoc") is None:
-        print("check_page: mandoc isn't installed, so the pages' form isn't looked at")
+        print("lint: mandoc isn't installed, so the pages' form isn't looked at")
         return []
     pages = sorted(glob.glob(os.path.join(ROOT, "man/*.[13]")))
     lint = subprocess.run(["mandoc", "-Tlint", "-Wall", *pages], capture_output=True, text=True, check=False)
     return [line for line in (lint.stdout + lint.stderr).splitlines() if FINDING.search(line)]
 
 
-def main():
-    found = faults_of_page() + faults_of_completions() + faults_of_documents()
-    found += faults_of_figures() + faults_of_lint()
-    for line in found:
-        print(f"check_page: {line}")
-    if found:
-        sys.exit(1)
-    print("check_page: the pages, the documents and the completion fit the sources")
-
-
-if __name__ == "__main__":
-    main()
+def faults():
+    """How many pages and documents there are, and what is wrong with them."""
+    pages = glob.glob(os.path.join(ROOT, "man/*.[13]"))
+    found = faults_of_page() + faults_of_completions() + faults_of_documents() + faults_of_figures()
+    return len(pages) + len(DOCUMENTS), found + faults_of_mandoc()

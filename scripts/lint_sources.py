@@ -1,20 +1,17 @@
-#!/usr/bin/env python3
-"""Wants the layout of rt fmt, where the toolchain is there, and what rt fmt doesn't keep: lines, functions and files of
-the crates that are not too long.
+"""The layout of rt fmt, where the toolchain is there, and what rt fmt doesn't keep: lines, functions and files of the
+crates that are not too long. `lint.py` runs this.
 
 Code, clauses and definitions have at most 120 columns, proofs at most 160; a line with a text of more than 60
 characters passes, since a text isn't broken. A file has at most 500 lines, a function's body, which is what its braces
-hold but for the clauses of closures, at most 40. `make scripts` runs this; given folders, it reads these in place of
-crates.
+hold but for the clauses of closures, at most 40.
 """
 
 import os
 import re
 import shutil
 import subprocess
-import sys
 
-ROOT = os.path.dirname(os.path.dirname(os.path.abspath(__file__)))
+from places import ROOT
 
 COLUMNS, COLUMNS_OF_PROOFS, LINES, LINES_OF_BODY = 120, 160, 500, 40
 
@@ -93,11 +90,10 @@ def not_laid_out(rattle, paths):
     return told.split("\n") if made.returncode else []
 
 
-def main():
-    paths = [it for folder in sys.argv[1:] or [os.path.join(ROOT, "crates")] for it in sources(folder)]
-    if not paths:
-        sys.exit("style: there is no source to read")
-    found = []
+def faults(folders):
+    """How many sources these folders have, and what is wrong with them."""
+    paths = [it for folder in folders for it in sources(folder)]
+    found = [] if paths else ["there is no source to read"]
     for path in paths:
         with open(path, encoding="utf-8") as file:
             found += findings(os.path.relpath(path, ROOT), file.read())
@@ -105,12 +101,5 @@ def main():
     if rattle:
         found += not_laid_out(rattle, paths)
     else:
-        print("style: there is no toolchain, so the layout of rt fmt isn't looked at")
-    for finding in found:
-        print(f"style: {finding}")
-    print(f"style: {len(paths)} files, {len(found)} findings")
-    return 1 if found else 0
-
-
-if __name__ == "__main__":
-    sys.exit(main())
+        print("lint: there is no toolchain, so the layout of rt fmt isn't looked at")
+    return len(paths), found

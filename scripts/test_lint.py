@@ -1,0 +1,156 @@
+#!/usr/bin/env python3
+"""Tests of lint: what is just within each limit of sources passes, one line or column more is told, and so is a file
+that rt fmt would change, which stays as it is; and which names, goals and links of documents are looked up, and told
+where they lead nowhere. `make scripts` runs it."""
+
+import os
+import tempfile
+import unittest
+
+import lint
+import lint_documents
+import lint_sources
+
+RT, SPEC, PROOF = "crates/a/src/lib.rt", "crates/a/specs/Lib.antt", "crates/a/proofs/Lib.antt"
+
+
+def function(count, head="fn f() {", indent="", before=()):
+    lines = [head, *before, *["    step();"] * count, "}"]
+    return "\n".join(indent + line for line in lines) + "\n"
+
+
+class Limits(unittest.TestCase):
+    def told(self, path, text):
+        return list(lint_sources.findings(path, text))
+
+    def test_columns(self):
+        for path, limit in ((RT, 120), (SPEC, 120), (PROOF, 160)):
+            with self.subTest(path):
+                self.assertEqual(self.told(path, "x" * limit + "\n"), [])
+                self.assertEqual(len(self.told(path, "first\n" + "x" * (limit + 1) + "\n")), 1)
+                self.assertIn(f"{path}:2 has {limit + 1} columns", self.told(path, "first\n" + "x" * (limit + 1))[0])
+
+    def test_letters_are_counted_and_not_bytes(self):
+        self.assertEqual(self.told(SPEC, "≡" * 120 + "\n"), [])
+
+    def test_long_texts_pass(self):
+        self.assertEqual(self.told(RT, f'    let text = "{"a" * 130}";\n'), [])
+        self.assertEqual(len(self.told(RT, f'    let text = "{"a" * 20}"; {"b" * 120}\n')), 1)
+
+    def test_lines_of_a_file(self):
+        self.assertEqual(self.told(SPEC, "x\n" * 500), [])
+        self.assertEqual(len(self.told(SPEC, "x\n" * 501)), 1)
+
+    def test_bodies(self):
+        heads = {
+            "a line": ("fn f() {", ()),
+            "parameters": ("pub fn f(", ("    a: u8,", ") -> u8 {")),
+            "clauses": ("pub(crate) fn f() -> u8", ("    ensures result { ", "        x }", "{")),
+        }
+        for what, (head, before) in heads.items():
+            for indent in ("", "    "):
+                with self.subTest(what, indent=indent):
+                    self.assertEqual(self.told(RT, function(40, head, indent, before)), [])
+                    told = self.told(RT, "\n" + function(41, head, indent, before))
+                    self.assertEqual(told, [f"{RT}:2: the body of f has 41 lines, more than 40"])
+
+    def test_each_function_is_counted_for_itself(self):
+        text = function(30) + "\n" + function(30) + "\nfn told();\n" + function(41)
+        self.assertEqual(len(self.told(RT, text)), 1)
+
+    def test_clauses_of_closures_do_not_count(self):
+        closure = ["    let it = || -> u8", "        requires { a", "            b }", "        ensures { c }", "    {"]
+        self.assertEqual(self.told(RT, function(38, before=closure)), [])
+        self.assertEqual(len(self.told(RT, function(39, before=closure))), 1)
+
+
+@unittest.skipUnless(lint_sources.formatter(), "there is no toolchain")
+class Layout(unittest.TestCase):
+    def told(self, name, text):
+        with tempfile.TemporaryDirectory() as folder:
+            path = os.path.join(folder, name)
+            with open(path, "w", encoding="utf-8") as file:
+                file.write(text)
+            told = lint_sources.not_laid_out(lint_sources.formatter(), [path])
+            with open(path, encoding="utf-8") as file:
+                self.assertEqual(file.read(), text)
+        return [it.replace(path, name) for it in told]
+
+    def test_what_rt_fmt_would_change(self):
+        self.assertEqual(self.told("lib.rt", "fn f() {}\n"), [])
+        self.assertEqual(self.told("lib.rt", "fn  f() {}\n"), ["lib.rt is not in the layout"])
+        self.assertEqual(self.told("Lib.antt", "pub mod Rows\n"), [])
+        self.assertEqual(self.told("Lib.antt", "pub  mod Rows\n"), ["Lib.antt is not in the layout"])
+
+    def test_what_rt_fmt_cannot_read(self):
+        self.assertNotEqual(self.told("lib.rt", "fn f( {\n"), [])
+
+
+class Documents(unittest.TestCase):
+    PATHS = ["scripts/lint.py", "crates/pnm_read/src/scan.rt", "crates/pnm_read/specs", "helpers", "proofs/ALaws.antt"]
+
+    def setUp(self):
+        self.ends = lint_documents.ends_of(self.PATHS)
+
+    def names(self, text):
+        return list(lint_documents.faults_of_names("page", text, self.ends))
+
+    def test_names_that_are_there(self):
+        for name in ("scripts/lint.py", "lint.py", "src/scan.rt", "helpers/", "pnm_read/specs", "crates/NAME/src/*.rt"):
+            with self.subTest(name):
+                self.assertEqual(self.names(f"before `{name}` behind"), [])
+        self.assertEqual(self.names("`proofs/NAMELaws.antt`, `sh scripts/lint.py FOLDER`, `bin/proved`, `old.sh`"), [])
+
+    def test_names_that_are_not(self):
+        for name in ("scripts/line.py", "ant.py", "src/scan", "helpers/more", "pnm_read/proofs", "crates/NAME/x/*.rt"):
+            with self.subTest(name):
+                told = [] if name == "src/scan" else [f"page names {name}, which isn't there"]
+                self.assertEqual(self.names(f"before `{name}` behind"), told)
+        self.assertEqual(len(self.names("`sh scripts/gone.sh FOLDER`\n\n    sh scripts/left.sh\n")), 2)
+        self.assertEqual(len(self.names("```sh\nsh scripts/gone.sh\n```\n")), 1)
+
+    def test_code_goes_on_in_the_next_line(self):
+        self.assertEqual(lint_documents.code_in("so `make\nscripts` does\n"), ["make scripts"])
+
+    def test_goals(self):
+        pieces = ["make lint", "make", "make soak-x SECONDS=n"]
+        told = list(lint_documents.faults_of_goals("page", pieces, {"lint", "soak"}))
+        self.assertEqual(told, ["page names make soak-x, and the Makefile has no such goal"])
+        self.assertLess({"all", "near", "pass", "dist", "deb", "lint", "install-library"}, lint_documents.goals())
+
+    def test_help(self):
+        known = lint_documents.goals()
+        self.assertEqual(list(lint_documents.faults_of_help(known)), [])
+        self.assertEqual(list(lint_documents.faults_of_help(known | {"more"})), ["make help lacks make more"])
+
+    def test_links(self):
+        for link in ("docs/PROOFS.md", "docs/PROOFS.md#answer-a-goal", "#coming-from-netpbm", "https://example.org/#a"):
+            with self.subTest(link):
+                self.assertEqual(list(lint_documents.faults_of_links("README.md", f"[x]({link})")), [])
+        named = "![card][card]\n\n[card]: docs/pictures/card.png\n"
+        self.assertEqual(list(lint_documents.faults_of_links("README.md", named)), [])
+        self.assertEqual(len(list(lint_documents.faults_of_links("README.md", named.replace("d.png", "t.png")))), 1)
+        self.assertEqual(len(list(lint_documents.faults_of_links("README.md", "![card][card]"))), 1)
+        for link in ("docs/NONE.md", "docs/PROOFS.md#none", "scripts/lint.py"):
+            with self.subTest(link):
+                self.assertEqual(len(list(lint_documents.faults_of_links("README.md", f"[x]({link})"))), 1)
+
+
+class Scripts(unittest.TestCase):
+    def test_what_is_read(self):
+        pythons, shells = lint.scripts()
+        self.assertLess({"helpers/pnmpipe-files", "scripts/lint.py", "bench/bench.py", "model/check.py"}, set(pythons))
+        self.assertLess({"helpers/netpbm-shim", "scripts/package.sh", ".ci/run"}, set(shells))
+
+    def test_what_cannot_be_read(self):
+        with tempfile.NamedTemporaryFile("w", suffix=".py") as file:
+            file.write("x = 1\nif x\n")
+            file.flush()
+            told = list(lint.faults_in_python(file.name))
+            self.assertTrue(told[0].startswith(f"{file.name}:2: "), told)
+            self.assertEqual(len(lint.faults_by(["sh", "-c", "echo wrong; exit 1"], [])), 1)
+            self.assertEqual(lint.faults_by(["sh", "-c", "echo well"], []), [])
+
+
+if __name__ == "__main__":
+    unittest.main()
