@@ -89,6 +89,7 @@ scripts: lint
 	python3 scripts/test_pages.py --program $(BUILT)
 	python3 scripts/test_explain.py --program $(BUILT)
 	python3 scripts/test_build.py
+	python3 scripts/test_definitions_of.py
 	python3 scripts/test_library.py --header
 	python3 scripts/pictures.py --check --program $(BUILT)
 	python3 model/functions.py
