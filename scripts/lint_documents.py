@@ -120,8 +120,8 @@ def faults_of_completions():
 OF_DOCS = ["README.md", *sorted(f"docs/{name}" for name in os.listdir(f"{ROOT}/docs") if name.endswith(".md"))]
 DOCUMENTS = [*OF_DOCS, "CHANGELOG.md", "library/python/README.md", "model/README.md"]
 COLUMNS = 100
-# a row of a table can't be broken, and the tables of these documents are to become lists
-WIDE_TABLES = {"docs/DECISIONS.md", "docs/DEFINITIONS.md", "model/README.md"}
+# a row of a table can't be broken, and the table of this document is to become a list
+WIDE_TABLES = {"docs/DECISIONS.md"}
 MOST_BYTES = {"README.md": 8_192, "docs/ARCHITECTURE.md": 25_000}
 
 
