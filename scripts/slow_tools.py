@@ -9,7 +9,6 @@ import typing
 from array import array
 from collections import deque
 
-from chain_text import span
 from slow_reader import MOST, Fault, judged
 
 
@@ -117,8 +116,13 @@ def printed(tool):
 
 
 def kept(length, start, end, size):
-    """The first column that a cut keeps, and how many; none where it lies outside."""
-    first, last = span(length, start, end, size)
+    """The first column that a cut keeps, and how many; none where it lies outside. Negative ones count from the end."""
+    first = start if start is None or start >= 0 else length + start
+    last = end if end is None or end >= 0 else length + end
+    if first is None:
+        first = 0 if last is None or size is None else last + 1 - size
+    if last is None:
+        last = length - 1 if size is None else first + size - 1
     return (first, last + 1 - first) if 0 <= first <= last < length else None
 
 
