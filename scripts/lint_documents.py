@@ -6,10 +6,10 @@ has to find nothing in the pages.
 
 Lines of documents have at most 100 columns; ARCHITECTURE.md has 25,000 bytes at most, and the README 8,192. Each link
 of the README and of docs leads to a file, and to a heading of it. Each file and folder that a document names is there:
-a name without its folders is that of some file, and words like NAME and FILE stand for any. So is each script that a
-source, a page or a script names, each goal of the Makefile that one of all these names, and each edit that
-docs/PROMISES.md names. `make help` has each goal. Figures of the documents' tables are those of docs/figures.tsv,
-which `make bench` writes.
+a name without its folders is that of some file, and words like NAME and FILE stand for any. So is each item that it
+names by its crate, as `pnm_flow::run`, each script that a source, a page or a script names, each goal of the Makefile
+that one of all these names, and each edit that docs/PROMISES.md names. `make help` has each goal. Figures of the
+documents' tables are those of docs/figures.tsv, which `make bench` writes.
 """
 
 import glob
@@ -211,6 +211,20 @@ def faults_of_names(path, text, ends):
             yield f"{path} names {name}, which isn't there"
 
 
+ITEM = re.compile(r"(pnm_\w+|pnmpipe)(?:::\w+)*::(\w+)")
+
+
+def faults_of_items(path, text):
+    """Items of crates, as `pnm_flow::run`, that the document names and the crate doesn't have."""
+    for piece in sorted(set(code_in(text))):
+        found = ITEM.fullmatch(piece)
+        if found:
+            of_crate = glob.glob(os.path.join(ROOT, "crates", found[1], "src/**/*.rt"), recursive=True)
+            code = "\n".join(map(read, of_crate))
+            if not re.search(rf"\b(?:fn|struct|enum|trait|mod|const|type) {found[2]}\b", code):
+                yield f"{path} names {piece}, which the crate doesn't have"
+
+
 def goals():
     """The goals of the Makefile."""
     return {goal for line in re.findall(r"^([a-z][a-z -]*):(?!=)", read("Makefile"), re.M) for goal in line.split()}
@@ -257,6 +271,7 @@ def faults_of_documents():
         if path in OF_DOCS:
             found += faults_of_links(path, text)
         found += faults_of_names(path, text, ends)
+        found += faults_of_items(path, text)
         found += faults_of_goals(path, code_in(text), known)
         size, most = len(text.encode()), MOST_BYTES.get(path)
         if most and size > most:

@@ -109,6 +109,11 @@ class Documents(unittest.TestCase):
         self.assertEqual(len(self.names("`sh scripts/gone.sh FOLDER`\n\n    sh scripts/left.sh\n")), 2)
         self.assertEqual(len(self.names("```sh\nsh scripts/gone.sh\n```\n")), 1)
 
+    def test_items(self):
+        text = "`pnm_flow::run`, `pnm_flow::runs`, `pnm_none::run`, `a::b`"
+        told = list(lint_documents.faults_of_items("page", text))
+        self.assertEqual([it.split()[2] for it in told], ["pnm_flow::runs,", "pnm_none::run,"])
+
     def test_code_goes_on_in_the_next_line(self):
         self.assertEqual(lint_documents.code_in("so `make\nscripts` does\n"), ["make scripts"])
 
