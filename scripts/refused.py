@@ -151,7 +151,8 @@ COPYING = {
     "pamflip -xy": 12,
     "pamflip -r90": 12,
     "pamflip -r270": 12,
-    "pnmtile 3 3": 12,
+    # of each image a list of the rows
+    "pnmtile 3 3": 3,
     "pamcut -left 1": 1,
     "pamcut -top 1 -height 1": 1,
     "pamdepth 18": 7,

@@ -10,17 +10,17 @@ use Rattle.pnm_tools.specs.declared.fault.ToolFault.{ToolFault}
 use Rattle.pnm_tools.specs.declared.fault.ToolFault.TheVariants.{OutOfOrder}
 use Rattle.pnm_tools.specs.declared.tool.Tool.TheVariants.{Tile}
 use Rattle.pnm_tools.specs.Limits.{within_limits}
-use Rattle.pnm_geometry_tools.specs.Keeping.{Tiled, tiled_due, tiled, HasTiles, AreWithin, IsTiling, shown_row}
+use Rattle.pnm_geometry_tools.specs.Keeping.{Tiled, tiled_due, tiled, HasTiles, AreWithin, IsTiling, row_of_tiles, shown_row}
 use Rattle.pnm_tools.specs.Tile.{tiled_head, tiled_head_value, tiled_row, tiled_at_end}
 use Rattle.pnm_tools.proofs.HeadLaws.{small_row}
 use Rattle.pnm_tools.specs.Tools.{result_head, row_answer}
 use Rattle.std.proofs.Math.Nat.{mod_self, mod-eq_of_lt, mod-lt, div-add-mod, add-mul-mod_self_left, zero-mod}
 use Rattle.std.proofs.lemmas.List.{take_at, take_all, take-append-le, map-append, get_or-map, length-map, length-append, length-take, length-take-le}
-use Rattle.std.proofs.lemmas.List.{length-drop, drop-drop, get_or-take, get_or_append_left, get_or_at}
+use Rattle.std.proofs.lemmas.List.{length-drop, drop-append-le, drop-drop, get_or-take, append_assoc, take-take}
 use Rattle.std.proofs.Math.Seq.{take-add}
 use Rattle.pnm_tools.specs.Pixels.{pixel_of}
-use Rattle.pnm_tools.proofs.RangeLaws.{pieces_alike_from, pieces_in_parts, length_of_equals, alike_from}
-use Rattle.std.proofs.lemmas.List.Elements.{All-head, All-push, All-rest, All-same, All-take, All-map, All-drop, All-append}
+use Rattle.pnm_tools.proofs.RangeLaws.{pieces_alike_from, pieces_in_parts, length_of_equals}
+use Rattle.std.proofs.lemmas.List.Elements.{All-take, All-map, All-drop, All-append}
 use Rattle.pnm_tools.proofs.FormulaLaws.{range_alike}
 use Rattle.pnm_image.specs.declared.limits.TheConstants.{MAX_ROW_LENGTH}
 
@@ -67,7 +67,7 @@ tiled_row_small across down s t x (Err fault) same shape h = tt
 
 -- nothing is due before the image has ended
 pub none_due : (w : Tiled) → w.left ≡ 0 → tiled_due w ≡ []
-none_due w e = ap (λ (n : ℕ). map (λ y. tiled_row w.width w.image_width w.depth (slice_index_or w.rows (y % length w.rows) [])) (range_with_len 0 n)) e
+none_due w e = ap (λ (n : ℕ). map (row_of_tiles w.width w.image_width w.depth w.rows) (range_with_len (w.height - w.left) n)) e
 
 -- an image whose tiled head is made has rows
 pub tiled_has_rows : (across down : ℕ) (head made : HeadValue) → result_head (Tile across down) head ≡ Ok made → (head.shape.height ≡ 0)
@@ -219,10 +219,27 @@ prefix_is_all across width depth row items some long prefix le =
     let short : length (tiled_row across width depth row) ≤ k * depth = omega (arith, length_tiled across width depth row some long) in
     prefix.is ∙ sym (tiled_shorter across k width depth row some long prefix.within) ∙ take_all (k * depth) (tiled_row across width depth row) short
 
--- less is missing afterwards
-pub longer_prefix : {X : Type 0} (more filled : ℕ) (items new : List X) → 0 < length items → length items < filled
-    → more ≡ min (length items) (filled - length items) → new ≡ items ++ take more items → filled - length new < filled - length items
-longer_prefix more filled items new some lt least made = omega (arith, ap length made, length-append items (take more items), length-take more items)
+-- what is appended stands behind what stood behind a place
+pub behind_more : {X : Type 0} (start more : ℕ) (items new : List X) → start ≤ length items
+    → new ≡ items ++ take more (drop start items) → drop start new ≡ drop start items ++ take more (drop start items)
+behind_more start more items new within is = ap (drop start) is ∙ drop-append-le start items (take more (drop start items)) within
+
+-- less is missing behind the place then
+pub longer_piece : {X : Type 0} (start more filled : ℕ) (items new : List X) → start ≤ length items → 0 < length (drop start items)
+    → length (drop start items) < filled → more ≡ min (length (drop start items)) (filled - length (drop start items))
+    → new ≡ items ++ take more (drop start items) → start + filled - length new < start + filled - length items
+longer_piece start more filled items new within some short least made =
+    omega (
+      arith,
+      within,
+      some,
+      short,
+      least,
+      ap length made,
+      length-append items (take more (drop start items)),
+      length-take more (drop start items),
+      length-drop start items,
+    )
 
 -- ---- whole rows, and a part of one
 
@@ -232,24 +249,38 @@ many_rows k width =
     let copies : 0 + width * k ≡ k * width = omega arith in
     ap (λ (n : ℕ). n % width) (sym copies) ∙ add-mul-mod_self_left 0 width k ∙ zero-mod width
 
--- one row more
-pub row_more : (width depth k n : ℕ) (row before now : List ℕ) → length row ≡ width * depth → before ≡ tiled_row (k * width) width depth row
-    → now ≡ before ++ take n (drop 0 row) → n ≡ length row → now ≡ tiled_row ((k + 1) * width) width depth row
-row_more width depth k n row before now long was is all =
+-- one row more, behind what stands
+pub row_more : (width depth k start : ℕ) (old from before now : List ℕ) → length (take (width * depth) (drop start from)) ≡ width * depth
+    → before ≡ old ++ tiled_row (k * width) width depth (take (width * depth) (drop start from))
+    → now ≡ before ++ take (width * depth) (drop start from)
+    → now ≡ old ++ tiled_row ((k + 1) * width) width depth (take (width * depth) (drop start from))
+row_more width depth k start old from before now long was is =
+    let row : List ℕ = take (width * depth) (drop start from) in
     let next : k * width + width ≡ (k + 1) * width = omega arith in
-    is ∙ ap (λ (l : List ℕ). l ++ take n row) was ∙ ap (λ (m : ℕ). tiled_row (k * width) width depth row ++ take m row) (all ∙ long)
-    ∙ ap (λ (l : List ℕ). tiled_row (k * width) width depth row ++ l) (sym (tiled_prefix width width depth row (omega arith)))
-    ∙ sym (tiled_more (k * width) width width depth row (many_rows k width)) ∙ ap (λ (m : ℕ). tiled_row m width depth row) next
+    let all : tiled_row width width depth row ≡ row = tiled_prefix width width depth row (omega arith) ∙ take_all (width * depth) row (omega (arith, long)) in
+    is ∙ ap (λ (l : List ℕ). l ++ row) was ∙ append_assoc old (tiled_row (k * width) width depth row) row
+    ∙ ap (λ (l : List ℕ). old ++ (tiled_row (k * width) width depth row ++ l)) (sym all)
+    ∙ ap (λ (l : List ℕ). old ++ l) (sym (tiled_more (k * width) width width depth row (many_rows k width)))
+    ∙ ap (λ (m : ℕ). old ++ tiled_row m width depth row) next
 
 -- whole rows and a part of one are all columns
-pub rows_and_part : (across width depth k n : ℕ) (row before now : List ℕ) → 0 < width → before ≡ tiled_row (k * width) width depth row
-    → now ≡ before ++ take n (drop 0 row) → k ≡ across / width → n ≡ across % width * depth → now ≡ tiled_row across width depth row
-rows_and_part across width depth k n row before now some was is rows part =
+pub rows_and_part : (across width depth k n start : ℕ) (old from before now : List ℕ) → 0 < width
+    → before ≡ old ++ tiled_row (k * width) width depth (take (width * depth) (drop start from))
+    → now ≡ before ++ take n (drop start from) → k ≡ across / width → n ≡ across % width * depth
+    → now ≡ old ++ tiled_row across width depth (take (width * depth) (drop start from))
+rows_and_part across width depth k n start old from before now some was is rows part =
+    let row : List ℕ = take (width * depth) (drop start from) in
     let rest : ℕ = across % width in
+    let fewer : rest * depth ≤ width * depth = mul-le-mul_right {m = rest} {n = width} depth (omega (arith, mod-lt across some)) in
+    let cut : take n (drop start from) ≡ take (rest * depth) row =
+    ap (λ (m : ℕ). take m (drop start from)) part ∙ sym (take-take (rest * depth) (width * depth) (drop start from) fewer) in
     let all : k * width + rest ≡ across = omega (arith, div-add-mod across width, ap (λ (m : ℕ). m * width) rows) in
-    is ∙ ap (λ (l : List ℕ). l ++ take n row) was ∙ ap (λ (m : ℕ). tiled_row (k * width) width depth row ++ take m row) part
-    ∙ ap (λ (l : List ℕ). tiled_row (k * width) width depth row ++ l) (sym (tiled_prefix rest width depth row (omega (arith, mod-lt across some))))
-    ∙ sym (tiled_more (k * width) rest width depth row (many_rows k width)) ∙ ap (λ (m : ℕ). tiled_row m width depth row) all
+    is ∙ ap (λ (l : List ℕ). l ++ take n (drop start from)) was
+    ∙ append_assoc old (tiled_row (k * width) width depth row) (take n (drop start from))
+    ∙ ap (λ (l : List ℕ). old ++ (tiled_row (k * width) width depth row ++ l)) cut
+    ∙ ap (λ (l : List ℕ). old ++ (tiled_row (k * width) width depth row ++ l)) (sym (tiled_prefix rest width depth row (omega (arith, mod-lt across some))))
+    ∙ ap (λ (l : List ℕ). old ++ l) (sym (tiled_more (k * width) rest width depth row (many_rows k width)))
+    ∙ ap (λ (m : ℕ). old ++ tiled_row m width depth row) all
 
 -- ---- samples of the result
 
@@ -266,13 +297,6 @@ pub tiled_within : (maxval across width depth : ℕ) (held row made : List ℕ) 
 tiled_within maxval across width depth held row made is same h =
     let P : ℕ → Type 0 = λ sample. sample ≤ maxval in
     subst (All P) (sym (is ∙ ap (tiled_row across width depth) same)) (within_pieces P width depth row 0 across h)
-
--- the samples of a prefix of the row are
-pub prefix_within : (maxval n : ℕ) (before held row made : List ℕ) → before ≡ [] → made ≡ before ++ take n held → held ≡ row
-    → All (λ sample. sample ≤ maxval) row → All (λ sample. sample ≤ maxval) made
-prefix_within maxval n before held row made none is same h =
-    let P : ℕ → Type 0 = λ sample. sample ≤ maxval in
-    subst (All P) (sym (is ∙ ap₂ (λ (a b : List ℕ). a ++ b) none (ap (take n) same))) (All-take P n row h)
 
 -- ---- the rows that are due
 
@@ -314,7 +338,9 @@ pub due_at_end : (across down : ℕ) (s : Shape) (rows come : List (List ℕ)) �
 due_at_end across down s rows come kept count some lengths =
     let shown = take down come in
     let many : length rows ≡ length shown = ap length kept ∙ length-map shown (shown_row across s) in
-    range_alike (λ y. tiled_row across (min across s.width) s.depth (get_or rows (y % length rows) []))
+    let from : down - down ≡ 0 = omega arith in
+    ap (λ (n : ℕ). map (row_of_tiles across (min across s.width) s.depth rows) (range_with_len n down)) from
+    ∙ range_alike (λ y. tiled_row across (min across s.width) s.depth (get_or rows (y % length rows) []))
     (λ y. tiled_row across s.width s.depth (get_or come (y % s.height) [])) 0 down
     (λ y lt.
     let there : 0 < length shown = omega (arith, length-take down come) in
@@ -380,116 +406,11 @@ kept_same across down y s held before come row was count le known =
     ∙ length-map (take down before) f in
     known ∙ ap (map f) (sym (take-append-le down come (row ∷ []) (omega (arith, many, length-take down come, length-take down before))))
 
--- ---- the queue of rows
-
--- the remainder of the number after
-next_remainder : (y n : ℕ) → (y + 1) % n ≡ (y % n + 1) % n
-next_remainder y n =
-    let copies : y % n + 1 + n * (y / n) ≡ y + 1 = omega (arith, div-add-mod y n) in
-    ap (λ (k : ℕ). k % n) (sym copies) ∙ add-mul-mod_self_left (y % n + 1) n (y / n)
-
--- the row after the one with this number, once the first went to the end
-abbrev next_row : List ℕ → List (List ℕ) → ℕ → Type 0
-next_row row rest r = get_or (row ∷ rest) ((r + 1) % suc (length rest)) [] ≡ get_or (rest ++ row ∷ []) r []
-
--- the row after one of the queue is that one's place once the first went to the end
-next_in_turn : (row : List ℕ) (rest : List (List ℕ)) (r : ℕ) → (r < length rest) ⊎ (length rest ≤ r) → r < suc (length rest) → next_row row rest r
-next_in_turn row rest r (inl lt) below =
-    let more : r + 1 ≡ suc r = omega arith in
-    let fits : suc r < suc (length rest) = omega arith in
-    ap (λ (k : ℕ). get_or (row ∷ rest) (k % suc (length rest)) []) more ∙ ap (λ (k : ℕ). get_or (row ∷ rest) k []) (mod-eq_of_lt fits)
-    ∙ sym (get_or_append_left rest (row ∷ []) [] r lt)
-next_in_turn row rest r (inr le) below =
-    let last : r ≡ length rest = omega arith in
-    let more : r + 1 ≡ suc (length rest) = omega arith in
-    ap (λ (k : ℕ). get_or (row ∷ rest) (k % suc (length rest)) []) more ∙ ap (λ (k : ℕ). get_or (row ∷ rest) k []) (mod_self (suc (length rest)))
-    ∙ sym (get_or_at rest row [] [] r (sym last))
-
--- the row of the result with this number
-abbrev row_by : ℕ → ℕ → ℕ → List (List ℕ) → ℕ → List ℕ
-row_by across width depth rows y = tiled_row across width depth (get_or rows (y % length rows) [])
-
--- the first row is given, and goes to the end
-pub given_again : (across down width depth m : ℕ) (row : List ℕ) (rest : List (List ℕ))
-    → tiled_due (tiled across down width depth (row ∷ rest) (suc m)) ≡ tiled_row across width depth row ∷ tiled_due
-    (tiled across down width depth (rest ++ row ∷ []) m)
-given_again across down width depth m row rest =
-    let first : 0 % suc (length rest) ≡ 0 = zero-mod (suc (length rest)) in
-    let count : length (rest ++ row ∷ []) ≡ suc (length rest) = omega (arith, length-append rest (row ∷ [])) in
-    ap (λ (k : ℕ). tiled_row across width depth (get_or (row ∷ rest) k []) ∷ map (row_by across width depth (row ∷ rest)) (range_with_len 1 m)) first
-    ∙ ap (λ (l : List (List ℕ)). tiled_row across width depth row ∷ l)
-    (alike_from (row_by across width depth (row ∷ rest)) (row_by across width depth (rest ++ row ∷ [])) 1 0 m (λ y lt.
-    let on : 1 + y ≡ y + 1 = omega arith in
-    let there : 0 + y ≡ y = omega arith in
-    let below : y % suc (length rest) < suc (length rest) = mod-lt y (omega arith) in
-    ap (tiled_row across width depth)
-    (ap (λ (k : ℕ). get_or (row ∷ rest) (k % suc (length rest)) []) on ∙ ap (λ (k : ℕ). get_or (row ∷ rest) k []) (next_remainder y (suc (length rest)))
-    ∙ next_in_turn row rest (y % suc (length rest)) (cases_lt (y % suc (length rest)) (length rest)) below
-    ∙ ap (λ (n : ℕ). get_or (rest ++ row ∷ []) (y % n) []) (sym count) ∙ ap (λ (k : ℕ). get_or (rest ++ row ∷ []) (k % length (rest ++ row ∷ [])) [])
-    (sym there))))
-
--- the first row is given for the last time
-pub given_last : (across down width depth m : ℕ) (row : List ℕ) (rest : List (List ℕ)) → m ≤ length rest
-    → tiled_due (tiled across down width depth (row ∷ rest) (suc m)) ≡ tiled_row across width depth row ∷ tiled_due (tiled across down width depth rest m)
-given_last across down width depth m row rest le =
-    let first : 0 % suc (length rest) ≡ 0 = zero-mod (suc (length rest)) in
-    ap (λ (k : ℕ). tiled_row across width depth (get_or (row ∷ rest) k []) ∷ map (row_by across width depth (row ∷ rest)) (range_with_len 1 m)) first
-    ∙ ap (λ (l : List (List ℕ)). tiled_row across width depth row ∷ l)
-    (alike_from (row_by across width depth (row ∷ rest)) (row_by across width depth rest) 1 0 m (λ y lt.
-    let on : 1 + y ≡ suc y = omega arith in
-    let there : 0 + y ≡ y = omega arith in
-    let fits : suc y < suc (length rest) = omega arith in
-    let below : y < length rest = omega arith in
-    ap (tiled_row across width depth)
-    (ap (λ (k : ℕ). get_or (row ∷ rest) (k % suc (length rest)) []) on ∙ ap (λ (k : ℕ). get_or (row ∷ rest) k []) (mod-eq_of_lt fits)
-    ∙ ap (λ (k : ℕ). get_or rest k []) (sym (mod-eq_of_lt below)) ∙ ap (λ (k : ℕ). get_or rest (k % length rest) []) (sym there))))
-
--- a row of the result, and the rows that are due behind it
-pub given_of_queue : (w : Tiled) (row made : List ℕ) (rest rows : List (List ℕ)) (left : ℕ) → w.rows ≡ row ∷ rest → w.left ≡ suc left
-    → made ≡ tiled_row w.width w.image_width w.depth row
-    → ((rows ≡ rest ++ row ∷ []) ⊎ ((rows ≡ rest) × (left ≤ length rest)))
-    → tiled_due w ≡ made ∷ tiled_due (tiled w.width w.height w.image_width w.depth rows left)
-given_of_queue w row made rest rows left queue more is (inl again) =
-    ap (λ (l : List (List ℕ)). tiled_due (tiled w.width w.height w.image_width w.depth l w.left)) queue
-    ∙ ap (λ (n : ℕ). tiled_due (tiled w.width w.height w.image_width w.depth (row ∷ rest) n)) more
-    ∙ given_again w.width w.height w.image_width w.depth left row rest
-    ∙ ap (λ (l : List ℕ). l ∷ tiled_due (tiled w.width w.height w.image_width w.depth (rest ++ row ∷ []) left)) (sym is)
-    ∙ ap (λ (l : List (List ℕ)). made ∷ tiled_due (tiled w.width w.height w.image_width w.depth l left)) (sym again)
-given_of_queue w row made rest rows left queue more is (inr last) =
-    ap (λ (l : List (List ℕ)). tiled_due (tiled w.width w.height w.image_width w.depth l w.left)) queue
-    ∙ ap (λ (n : ℕ). tiled_due (tiled w.width w.height w.image_width w.depth (row ∷ rest) n)) more
-    ∙ given_last w.width w.height w.image_width w.depth left row rest last.1
-    ∙ ap (λ (l : List ℕ). l ∷ tiled_due (tiled w.width w.height w.image_width w.depth rest left)) (sym is)
-    ∙ ap (λ (l : List (List ℕ)). made ∷ tiled_due (tiled w.width w.height w.image_width w.depth l left)) (sym last.0)
-
--- the rows that are left are still rows of the image, and there are some where one is due
-pub tiles_left : (w : Tiled) (row : List ℕ) (rest rows : List (List ℕ)) (left : ℕ) → HasTiles w → w.rows ≡ row ∷ rest
-    → ((rows ≡ rest ++ row ∷ []) ⊎ ((rows ≡ rest) × (left ≤ length rest))) → 0 < left
-    → HasTiles (tiled w.width w.height w.image_width w.depth rows left)
-tiles_left w row rest rows left h queue (inl again) more =
-    let P : List ℕ → Type 0 = λ r. length r ≡ w.image_width * w.depth in
-    let first : P row = All-head P row rest (All-same P (row ∷ rest) w.rows (sym queue) h.lengths) in
-    record {
-      some = omega (arith, ap length again, length-append rest (row ∷ []));
-      lengths = All-same P rows (rest ++ row ∷ []) again (All-push P rest row (All-rest P row rest w.rows queue h.lengths) first);
-      width = h.width;
-      filled = h.filled;
-    }
-tiles_left w row rest rows left h queue (inr last) more = record {
-  some = omega (arith, ap length last.0, last.1);
-  lengths = All-same (λ r. length r ≡ w.image_width * w.depth) rows rest last.0
-      (All-rest (λ r. length r ≡ w.image_width * w.depth) row rest w.rows queue h.lengths);
-  width = h.width;
-  filled = h.filled;
-}
-
--- the rows that are left are still within the maxval
-pub left_within : (maxval left : ℕ) (row : List ℕ) (all rest rows : List (List ℕ)) → AreWithin maxval all → all ≡ row ∷ rest
-    → ((rows ≡ rest ++ row ∷ []) ⊎ ((rows ≡ rest) × (left ≤ length rest))) → AreWithin maxval rows
-left_within maxval left row all rest rows h queue (inl again) =
-    let P : List ℕ → Type 0 = λ r. All (λ sample. sample ≤ maxval) r in
-    All-same P rows (rest ++ row ∷ []) again
-    (All-push P rest row (All-rest P row rest all queue h) (All-head P row rest (All-same P (row ∷ rest) all (sym queue) h)))
-left_within maxval left row all rest rows h queue (inr last) =
-    let P : List ℕ → Type 0 = λ r. All (λ sample. sample ≤ maxval) r in
-    All-same P rows rest last.0 (All-rest P row rest all queue h)
+-- what is shown of the rows that come has its columns
+pub lengths_shown : (w : Tiled) (s : Shape) (come : List (List ℕ)) → IsTiling w s come → All (λ row. length row ≡ min w.width s.width * s.depth) w.rows
+lengths_shown w s come ready =
+    let shown = take w.height come in
+    let P : List ℕ → Type 0 = λ row. length row ≡ min w.width s.width * s.depth in
+    subst (All P) (sym ready.rows)
+    (All-map P (shown_row w.width s) shown
+    (λ k d lt. length_shown w.width s (get_or shown k d) (All-take (λ row. length row ≡ row_length s) w.height come ready.lengths k d lt)))

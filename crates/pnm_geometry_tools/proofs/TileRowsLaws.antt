@@ -1,57 +1,33 @@
 -- Rows of an image that come together to be tiled, and rows of the result that are given together.
-use Rattle.std.proofs.Common.{◌≡◌, inl, ℕ, ◌+◌, ◌-◌, ◌*◌, ◌<◌, ◌≤◌, List, [], ◌∷◌, ◌++◌, length, map, take, drop, min, All}
-use Rattle.std.proofs.Common.{refl, sym, ap, ◌∙◌, arith, append-nil, get_or, subst}
-use Rattle.std.specs.List.{AllByRecursion}
-use Rattle.std.proofs.lemmas.List.{take_all, take_min, take-append-le, take-append-drop, map-append}
-use Rattle.std.proofs.lemmas.List.{length-map, length-append, length-take, append_assoc, get_or_at}
-use Rattle.std.proofs.lemmas.List.Elements.{All-append, All-from_recursion, All-head, All-same}
+use Rattle.std.proofs.Common.{◌≡◌, inl, ℕ, zero, suc, ◌+◌, ◌-◌, ◌*◌, ◌%◌, ◌<◌, ◌≤◌, List, [], ◌∷◌, ◌++◌, length, map, take, drop, min, All}
+use Rattle.std.proofs.Common.{refl, sym, ap, ◌∙◌, arith, append-nil, get_or, subst, suc-mul, zero-mul}
+use Rattle.std.specs.List.{AllByRecursion, flat_map, range_with_len}
+use Rattle.std.proofs.lemmas.List.{take_all, take_at, take_min, take-append-le, take-append-drop, take-take, map-append}
+use Rattle.std.proofs.lemmas.List.{drop_at, drop-append-le, drop-drop, drop-take, length-drop, length-map}
+use Rattle.std.proofs.lemmas.List.{append_assoc, length-append, length-take, nil_from_length}
+use Rattle.std.proofs.lemmas.List.Elements.{All-append, All-from_recursion, All-head, All-nil, All-same}
+use Rattle.std.proofs.lemmas.List.FromFn.{get_or-map-range_with_len}
+use Rattle.std.proofs.Math.Nat.{mod-lt}
 use Rattle.std.proofs.Math.Seq.{take-append-add}
 use Rattle.pnm_image.specs.declared.shape.Shape.{Shape}
 use Rattle.pnm_image.specs.Heads.{row_length}
 use Rattle.pnm_image.specs.Places.{IsRowOf}
 use Rattle.pnm_tools.specs.declared.tool.Tool.TheVariants.{Tile}
 use Rattle.pnm_tools.specs.Answering.{rows_answer}
-use Rattle.pnm_geometry_tools.specs.Keeping.{Tiled, IsTiling, AreWithin, tiled, tiled_due, shown_row, HasTiles, GivesRow, GivesRows}
-use Rattle.pnm_geometry_tools.proofs.TileRowLaws.{row_of_tile, given_of_queue, left_within, length_tiled, tiled_within, tiles_left}
-use Rattle.pnm_geometry_tools.proofs.JoinLaws.{cut_with}
+use Rattle.pnm_tools.specs.Pixels.{pixel_of}
 use Rattle.pnm_tools.specs.Tile.{tiled_row}
+use Rattle.pnm_tools.proofs.RangeLaws.{length_of_equals, map_in_parts, pieces_alike, pieces_in_parts}
+use Rattle.pnm_samples.proofs.CutLaws.{length-cut_rows}
+use Rattle.pnm_geometry_tools.specs.Keeping.{Tiled, IsTiling, AreWithin, tiled, tiled_due, shown_row, HasTiles, fronts_in, row_of_samples, row_of_tiles}
+use Rattle.pnm_geometry_tools.proofs.TileRowLaws.{row_of_tile, length_tiled, tiled_within}
 use Rattle.pnm_image.specs.Images.{cut_rows}
-use Rattle.pnm_geometry_tools.proofs.CutRowsLaws.{lengths_of}
+use Rattle.pnm_geometry_tools.proofs.CutRowsLaws.{cut_each, lengths_of}
 
 -- no row is answered before the image has ended
 pub none_answer : (across down : ℕ) (s : Shape) (y : ℕ) (rows : List (List ℕ)) → rows_answer (Tile across down) s y rows ≡ []
 none_answer across down s y [] = refl
 none_answer across down s y (row ∷ rows) =
     ap (λ (l : List (List ℕ)). l ++ rows_answer (Tile across down) s (y + 1) rows) (row_of_tile across down s y row) ∙ none_answer across down s (y + 1) rows
-
--- the rows up to one, and that one
-up_to : {X : Type 0} (at : ℕ) (row : X) (rows : List X) → at < length rows → rows ≡ take at rows ++ row ∷ drop (at + 1) rows
-    → take (at + 1) rows ≡ take at rows ++ row ∷ []
-up_to {X = X} at row rows below is =
-    let front : List X = take at rows in
-    let many : length front ≡ at = length-take at rows ∙ omega arith in
-    let both : at + 1 ≡ length (front ++ row ∷ []) + 0 = omega (arith, many, length-append front (row ∷ [])) in
-    let parts : rows ≡ (front ++ row ∷ []) ++ drop (at + 1) rows = is ∙ sym (append_assoc front (row ∷ []) (drop (at + 1) rows)) in
-    ap (take (at + 1)) parts ∙ ap (λ (n : ℕ). take n ((front ++ row ∷ []) ++ drop (at + 1) rows)) both
-    ∙ take-append-add (front ++ row ∷ []) (drop (at + 1) rows) 0 ∙ append-nil (front ++ row ∷ [])
-
--- what holds of all rows holds of one
-pub holds_of_one : (P : List ℕ → Type 0) (at : ℕ) (row : List ℕ) (rows : List (List ℕ)) → at < length rows
-    → rows ≡ take at rows ++ row ∷ drop (at + 1) rows → All P rows → P row
-holds_of_one P at row rows below is all =
-    let many : length (take at rows) ≡ at = length-take at rows ∙ omega arith in
-    let there : get_or rows at [] ≡ row = ap (λ (l : List (List ℕ)). get_or l at []) is
-    ∙ get_or_at (take at rows) row (drop (at + 1) rows) [] at many in
-    subst P there (all at [] below)
-
--- what is shown of a row more
-pub shown_more : (across at : ℕ) (s : Shape) (row part : List ℕ) (rows shown now : List (List ℕ)) → at < length rows
-    → rows ≡ take at rows ++ row ∷ drop (at + 1) rows → shown ≡ map (shown_row across s) (take at rows) → part ≡ shown_row across s row
-    → now ≡ shown ++ part ∷ [] → now ≡ map (shown_row across s) (take (at + 1) rows)
-shown_more across at s row part rows shown now below is were made more =
-    let f : List ℕ → List ℕ = shown_row across s in
-    more ∙ ap (λ (l : List (List ℕ)). l ++ part ∷ []) were ∙ ap (λ (p : List ℕ). map f (take at rows) ++ p ∷ []) made
-    ∙ sym (ap (map f) (up_to at row rows below is) ∙ map-append f (take at rows) (row ∷ []))
 
 -- rows of which some are kept
 pub kept_rows : (across down y count : ℕ) (s : Shape) (held new before come rows : List (List ℕ)) → held ≡ map (shown_row across s) (take down before)
@@ -98,47 +74,241 @@ tiling_behind w v s come rows same none kept are ready = record {
 
 -- ---- rows of the result that are given together
 
+-- pieces of one length are cut again
+cut_of_pieces : (f : ℕ → List ℕ) (each a n : ℕ) → ((x : ℕ) → length (f x) ≡ each)
+    → cut_rows n each (flat_map f (range_with_len a n)) ≡ map f (range_with_len a n)
+cut_of_pieces f each a zero long = refl
+cut_of_pieces f each a (suc n) long =
+    let rest : List ℕ = flat_map f (range_with_len (a + 1) n) in
+    ap (λ (l : List ℕ). l ∷ cut_rows n each (drop each (f a ++ rest))) (take_at (f a) rest each (long a))
+    ∙ ap (λ (l : List ℕ). f a ∷ cut_rows n each l) (drop_at (f a) rest each (long a))
+    ∙ ap (λ (l : List (List ℕ)). f a ∷ l) (cut_of_pieces f each (a + 1) n long)
+
+-- so are all samples within what those of each piece are
+pieces_within : (maxval : ℕ) (f : ℕ → List ℕ) (a n : ℕ) → ((x : ℕ) → All (λ sample. sample ≤ maxval) (f x))
+    → All (λ sample. sample ≤ maxval) (flat_map f (range_with_len a n))
+pieces_within maxval f a zero each = All-nil (λ sample. sample ≤ maxval)
+pieces_within maxval f a (suc n) each =
+    All-append (λ sample. sample ≤ maxval) (f a) (flat_map f (range_with_len (a + 1) n)) (each a) (pieces_within maxval f (a + 1) n each)
+
+-- a row of the result has all its columns, and its samples are within the maxval
+row_long : (across width depth : ℕ) (rows : List (List ℕ)) → HasTiles (tiled across 0 width depth rows 0) → (y : ℕ)
+    → length (row_of_tiles across width depth rows y) ≡ across * depth
+row_long across width depth rows h y =
+    length_tiled across width depth (get_or rows (y % length rows) []) h.width (h.lengths (y % length rows) [] (mod-lt y h.some))
+
+row_within : (maxval across width depth : ℕ) (rows : List (List ℕ)) → HasTiles (tiled across 0 width depth rows 0) → AreWithin maxval rows → (y : ℕ)
+    → All (λ sample. sample ≤ maxval) (row_of_tiles across width depth rows y)
+row_within maxval across width depth rows h within y =
+    let row : List ℕ = get_or rows (y % length rows) [] in
+    tiled_within maxval across width depth row row (tiled_row across width depth row) refl refl (within (y % length rows) [] (mod-lt y h.some))
+
+-- so have and are so many of them, and cut again they are these rows
+pub rows_long : (across width depth y n : ℕ) (rows : List (List ℕ)) (made : List ℕ) → HasTiles (tiled across 0 width depth rows 0)
+    → made ≡ flat_map (row_of_tiles across width depth rows) (range_with_len y n) → length made ≡ n * (across * depth)
+rows_long across width depth y n rows made h is =
+    ap length is ∙ length_of_equals (row_of_tiles across width depth rows) (across * depth) y n (row_long across width depth rows h)
+
+pub rows_within : (maxval across width depth y n : ℕ) (rows : List (List ℕ)) (made : List ℕ) → HasTiles (tiled across 0 width depth rows 0)
+    → AreWithin maxval rows → made ≡ flat_map (row_of_tiles across width depth rows) (range_with_len y n) → All (λ sample. sample ≤ maxval) made
+rows_within maxval across width depth y n rows made h within is =
+    subst (All (λ sample. sample ≤ maxval)) (sym is)
+    (pieces_within maxval (row_of_tiles across width depth rows) y n (row_within maxval across width depth rows h within))
+
+rows_cut : (across width depth y n : ℕ) (rows : List (List ℕ)) (made : List ℕ) → HasTiles (tiled across 0 width depth rows 0)
+    → made ≡ flat_map (row_of_tiles across width depth rows) (range_with_len y n)
+    → cut_rows n (across * depth) made ≡ map (row_of_tiles across width depth rows) (range_with_len y n)
+rows_cut across width depth y n rows made h is =
+    ap (cut_rows n (across * depth)) is ∙ cut_of_pieces (row_of_tiles across width depth rows) (across * depth) y n (row_long across width depth rows h)
+
+-- those that are given, and those that are left
+pub due_in_parts : (w : Tiled) (n y left : ℕ) (made : List ℕ) → HasTiles (tiled w.width 0 w.image_width w.depth w.rows 0)
+    → n ≤ w.left → w.left ≤ w.height → y ≡ w.height - w.left → left ≡ w.left - n
+    → made ≡ flat_map (row_of_tiles w.width w.image_width w.depth w.rows) (range_with_len y n)
+    → tiled_due w ≡ cut_rows n (w.width * w.depth) made ++ tiled_due (tiled w.width w.height w.image_width w.depth w.rows left)
+due_in_parts w n y left made h few within from rest is =
+    let f : ℕ → List ℕ = row_of_tiles w.width w.image_width w.depth w.rows in
+    let parts : w.left ≡ n + left = omega arith in
+    let next : y + n ≡ w.height - left = omega arith in
+    ap (λ (a : ℕ). map f (range_with_len a w.left)) (sym from) ∙ ap (λ (m : ℕ). map f (range_with_len y m)) parts ∙ map_in_parts f y n left
+    ∙ ap (λ (l : List (List ℕ)). l ++ map f (range_with_len (y + n) left))
+    (sym (rows_cut w.width w.image_width w.depth y n w.rows made h is))
+    ∙ ap (λ (a : ℕ). cut_rows n (w.width * w.depth) made ++ map f (range_with_len a left)) next
+
 -- there are rows to give, however many are left
 pub tiles_same : (across down down' width depth left left' : ℕ) (rows : List (List ℕ)) → HasTiles (tiled across down width depth rows left)
     → HasTiles (tiled across down' width depth rows left')
 tiles_same across down down' width depth left left' rows h = record { some = h.some; lengths = h.lengths; width = h.width; filled = h.filled }
 
--- the first row in queue is given, and goes to the end
-pub row_given : (across : ℕ) (s : Shape) (row made : List ℕ) (old rest new : List (List ℕ)) → HasTiles (tiled across 0 s.width s.depth old 0)
-    → AreWithin s.maxval old → old ≡ row ∷ rest → made ≡ tiled_row across s.width s.depth row → new ≡ rest ++ row ∷ [] → GivesRow across s old made new
-row_given across s row made old rest new h range queue is again =
-    let P : List ℕ → Type 0 = λ r. length r ≡ s.width * s.depth in
-    let W : List ℕ → Type 0 = λ r. All (λ sample. sample ≤ s.maxval) r in
-    let first : P row = All-head P row rest (All-same P (row ∷ rest) old (sym queue) h.lengths) in
-    let small : W row = All-head W row rest (All-same W (row ∷ rest) old (sym queue) range) in
-    let left : HasTiles (tiled across 0 s.width s.depth new 1) =
-    tiles_left (tiled across 0 s.width s.depth old 0) row rest new 1 h queue (inl again) (omega arith) in
-    record {
-      tiles = tiles_same across 0 0 s.width s.depth 1 0 new left;
-      range = left_within s.maxval 0 row old rest new range queue (inl again);
-      long = ap length is ∙ length_tiled across s.width s.depth row h.width first;
-      within = tiled_within s.maxval across s.width s.depth row row made is refl small;
-      due = λ height left. given_of_queue (tiled across height s.width s.depth old (left + 1)) row made rest new left queue (omega arith) is (inl again);
-    }
+-- a piece more
+pub piece_more : {X : Type 0} (f : ℕ → List X) (y at : ℕ) (held now : List X) → y ≤ at → held ≡ flat_map f (range_with_len y (at - y))
+    → now ≡ held ++ f at → now ≡ flat_map f (range_with_len y (at + 1 - y))
+piece_more {X = X} f y at held now from were is =
+    let place : y + (at - y) ≡ at = omega arith in
+    let parts : at + 1 - y ≡ (at - y) + 1 = omega arith in
+    is ∙ ap (λ (l : List X). l ++ f at) were
+    ∙ ap (λ (l : List X). flat_map f (range_with_len y (at - y)) ++ l) (sym (append-nil (f at)))
+    ∙ ap (λ (n : ℕ). flat_map f (range_with_len y (at - y)) ++ flat_map f (range_with_len n 1)) (sym place)
+    ∙ sym (pieces_in_parts f y (at - y) 1) ∙ ap (λ (n : ℕ). flat_map f (range_with_len y n)) (sym parts)
 
--- a row more is given
-pub rows_given : (n each across : ℕ) (s : Shape) (held both made : List ℕ) (old now new : List (List ℕ))
-    → GivesRows n across s old (cut_rows n each held) now → GivesRow across s now made new → length held ≡ n * each → length made ≡ each
-    → both ≡ held ++ made → GivesRows (n + 1) across s old (cut_rows (n + 1) each both) new
-rows_given n each across s held both made old now new h g many long is = record {
-  tiles = g.tiles;
-  range = g.range;
-  due = λ height left.
-      let place : left + (n + 1) ≡ (left + 1) + n = omega arith in
-      let cut : List (List ℕ) = cut_rows n each held in
-      let behind : List (List ℕ) = tiled_due (tiled across height s.width s.depth new left) in
-      ap (λ (k : ℕ). tiled_due (tiled across height s.width s.depth old k)) place ∙ h.due height (left + 1)
-      ∙ ap (λ (l : List (List ℕ)). cut ++ l) (g.due height left) ∙ sym (append_assoc cut (made ∷ []) behind)
-      ∙ ap (λ (l : List (List ℕ)). l ++ behind) (sym (cut_with n each held both made many long is));
-}
+-- ---- rows that are held one after another
 
--- the samples of all are within the maxval
-pub both_within : (maxval : ℕ) (held both made : List ℕ) → All (λ sample. sample ≤ maxval) held → All (λ sample. sample ≤ maxval) made
-    → both ≡ held ++ made → All (λ sample. sample ≤ maxval) both
-both_within maxval held both made small more is =
-    All-same (λ (sample : ℕ). sample ≤ maxval) both (held ++ made) is (All-append (λ (sample : ℕ). sample ≤ maxval) held made small more)
+-- a row of them
+row_at : (count each k : ℕ) (samples : List ℕ) → k < count → get_or (cut_rows count each samples) k [] ≡ pixel_of each samples k
+row_at count each k samples below =
+    ap (λ (l : List (List ℕ)). get_or l k []) (sym (cut_each count each samples))
+    ∙ get_or-map-range_with_len (pixel_of each samples) 0 count k k [] below (omega arith)
+
+-- rows of the result are made of them
+pub made_of_samples : (across width depth count y n : ℕ) (rows : List (List ℕ)) (samples made : List ℕ) → rows ≡ cut_rows count (width * depth) samples
+    → 0 < count → made ≡ flat_map (row_of_samples across width depth count samples) (range_with_len y n)
+    → made ≡ flat_map (row_of_tiles across width depth rows) (range_with_len y n)
+made_of_samples across width depth count y n rows samples made are some is =
+    let cut : List (List ℕ) = cut_rows count (width * depth) samples in
+    let many : length cut ≡ count = length-cut_rows count (width * depth) samples in
+    is ∙ pieces_alike (row_of_samples across width depth count samples) (row_of_tiles across width depth cut) y n (λ x lt.
+    ap (tiled_row across width depth) (sym (row_at count (width * depth) (x % count) samples (mod-lt x some))
+    ∙ ap (λ (m : ℕ). get_or cut (x % m) []) (sym many)))
+    ∙ ap (λ (l : List (List ℕ)). flat_map (row_of_tiles across width depth l) (range_with_len y n)) (sym are)
+
+-- ---- fronts of rows
+
+-- a front behind those before it
+front_behind : {X : Type 0} (shown each i : ℕ) (samples : List X)
+    → fronts_in shown (suc i) each samples ≡ fronts_in shown i each samples ++ take shown (drop (i * each) samples)
+front_behind {X = X} shown each zero samples =
+    append-nil (take shown samples) ∙ ap (λ (n : ℕ). take shown (drop n samples)) (sym (zero-mul each))
+front_behind {X = X} shown each (suc i) samples =
+    let first : List X = take shown samples in
+    let later : List X = fronts_in shown i each (drop each samples) in
+    let place : each + i * each ≡ suc i * each = omega (arith, suc-mul i each) in
+    let start : drop (i * each) (drop each samples) ≡ drop (suc i * each) samples = drop-drop (i * each) each samples ∙ ap (λ (n : ℕ). drop n samples) place in
+    ap (λ (l : List X). first ++ l) (front_behind shown each i (drop each samples))
+    ∙ sym (append_assoc first later (take shown (drop (i * each) (drop each samples))))
+    ∙ ap (λ (l : List X). (first ++ later) ++ take shown l) start
+
+-- a front more
+pub front_more : {X : Type 0} (shown each i : ℕ) (samples fronts now : List X) → fronts ≡ fronts_in shown i each samples
+    → now ≡ fronts ++ take shown (drop (i * each) samples) → now ≡ fronts_in shown (i + 1) each samples
+front_more {X = X} shown each i samples fronts now were is =
+    let next : suc i ≡ i + 1 = omega arith in
+    is ∙ ap (λ (l : List X). l ++ take shown (drop (i * each) samples)) were ∙ sym (front_behind shown each i samples)
+    ∙ ap (λ (n : ℕ). fronts_in shown n each samples) next
+
+-- they have so many samples each, and cut again they are the fronts of the rows
+pub fronts_long : (shown each count : ℕ) (samples : List ℕ) → count * each ≤ length samples → shown ≤ each
+    → length (fronts_in shown count each samples) ≡ count * shown
+fronts_long shown each zero samples enough within = sym (zero-mul shown)
+fronts_long shown each (suc count) samples enough within =
+    let rest : count * each ≤ length (drop each samples) = omega (arith, enough, suc-mul count each, length-drop each samples) in
+    omega (
+      arith,
+      length-append (take shown samples) (fronts_in shown count each (drop each samples)),
+      length-take shown samples,
+      fronts_long shown each count (drop each samples) rest within,
+      suc-mul count shown,
+      suc-mul count each,
+    )
+
+pub fronts_cut : (shown each count : ℕ) (samples : List ℕ) → count * each ≤ length samples → shown ≤ each
+    → cut_rows count shown (fronts_in shown count each samples) ≡ map (take shown) (cut_rows count each samples)
+fronts_cut shown each zero samples enough within = refl
+fronts_cut shown each (suc count) samples enough within =
+    let rest : count * each ≤ length (drop each samples) = omega (arith, enough, suc-mul count each, length-drop each samples) in
+    let first : List ℕ = take shown samples in
+    let later : List ℕ = fronts_in shown count each (drop each samples) in
+    let long : length first ≡ shown = omega (arith, length-take shown samples, enough, suc-mul count each) in
+    let whole : first ≡ take shown (take each samples) = sym (take-take shown each samples within) in
+    ap (λ (l : List ℕ). l ∷ cut_rows count shown (drop shown (first ++ later))) (take_at first later shown long ∙ whole)
+    ∙ ap (λ (l : List ℕ). take shown (take each samples) ∷ cut_rows count shown l) (drop_at first later shown long)
+    ∙ ap (λ (l : List (List ℕ)). take shown (take each samples) ∷ l) (fronts_cut shown each count (drop each samples) rest within)
+
+-- ---- rows behind those that are kept
+
+-- rows of one length are cut to it
+pub alike_length : (n each rl : ℕ) (samples : List ℕ) → 0 < n → length samples ≡ n * rl → All (λ row. length row ≡ each) (cut_rows n rl samples) → each ≡ rl
+alike_length zero each rl samples some long are = absurd (omega (arith, some))
+alike_length (suc n) each rl samples some long are =
+    let first : length (take rl samples) ≡ each = All-head (λ (row : List ℕ). length row ≡ each) (take rl samples) (cut_rows n rl (drop rl samples)) are in
+    omega (arith, first, length-take rl samples, long, suc-mul n rl)
+
+-- rows of a front of samples
+cut_front : (n each : ℕ) (samples : List ℕ) → cut_rows n each (take (n * each) samples) ≡ cut_rows n each samples
+cut_front zero each samples = refl
+cut_front (suc n) each samples =
+    let size : suc n * each ≡ each + n * each = omega (arith, suc-mul n each) in
+    let front : List ℕ = take (each + n * each) samples in
+    ap (λ (k : ℕ). cut_rows (suc n) each (take k samples)) size
+    ∙ ap (λ (l : List ℕ). l ∷ cut_rows n each (drop each front)) (take-take each (each + n * each) samples (omega arith))
+    ∙ ap (λ (l : List ℕ). take each samples ∷ cut_rows n each l) (drop-take each (n * each) samples)
+    ∙ ap (λ (l : List (List ℕ)). take each samples ∷ l) (cut_front n each (drop each samples))
+
+-- rows in two parts
+cut_behind : (m n each : ℕ) (held more : List ℕ) → length held ≡ m * each
+    → cut_rows (m + n) each (held ++ more) ≡ cut_rows m each held ++ cut_rows n each more
+cut_behind zero n each held more long =
+    let none : length held ≡ 0 = omega (arith, long, zero-mul each) in
+    let count : zero + n ≡ n = omega arith in
+    ap (λ (l : List ℕ). cut_rows (zero + n) each (l ++ more)) (nil_from_length held none) ∙ ap (λ (k : ℕ). cut_rows k each more) count
+cut_behind (suc m) n each held more long =
+    let size : suc m * each ≡ each + m * each = omega (arith, suc-mul m each) in
+    let count : suc m + n ≡ suc (m + n) = omega arith in
+    let rest : length (drop each held) ≡ m * each = omega (arith, length-drop each held, long, size) in
+    ap (λ (k : ℕ). cut_rows k each (held ++ more)) count
+    ∙ ap (λ (l : List ℕ). l ∷ cut_rows (m + n) each (drop each (held ++ more))) (take-append-le each held more (omega (arith, long, size)))
+    ∙ ap (λ (l : List ℕ). take each held ∷ cut_rows (m + n) each l) (drop-append-le each held more (omega (arith, long, size)))
+    ∙ ap (λ (l : List (List ℕ)). take each held ∷ l) (cut_behind m n each (drop each held) more rest)
+
+-- the first rows are kept
+pub kept_first : (n each : ℕ) (samples held : List ℕ) → held ≡ take (n * each) samples → cut_rows n each held ≡ cut_rows n each samples
+kept_first n each samples held is = ap (cut_rows n each) is ∙ cut_front n each samples
+
+-- more rows are kept behind those before them
+pub kept_behind : (m n each rl : ℕ) (samples held both : List ℕ) → each ≡ rl → length held ≡ m * rl → both ≡ held ++ take (n * each) samples
+    → cut_rows (m + n) rl both ≡ cut_rows m rl held ++ cut_rows n each samples
+kept_behind m n each rl samples held both same long is =
+    ap (cut_rows (m + n) rl) is ∙ cut_behind m n rl held (take (n * each) samples) long
+    ∙ ap (λ (k : ℕ). cut_rows m rl held ++ cut_rows n k (take (n * each) samples)) (sym same)
+    ∙ ap (λ (l : List (List ℕ)). cut_rows m rl held ++ l) (cut_front n each samples)
+
+pub longer_behind : (m n each rl : ℕ) (samples held both : List ℕ) → each ≡ rl → length held ≡ m * rl → n * each ≤ length samples
+    → both ≡ held ++ take (n * each) samples → length both ≡ (m + n) * rl
+longer_behind m n each rl samples held both same long enough is =
+    let size : (m + n) * rl ≡ m * rl + n * rl = omega arith in
+    let more : n * each ≡ n * rl = ap (λ (k : ℕ). n * k) same in
+    omega (arith, ap length is, length-append held (take (n * each) samples), length-take (n * each) samples, long, size, more, enough)
+
+-- fronts that are whole rows
+pub whole_fronts : (n each : ℕ) (samples : List ℕ) → cut_rows n each samples ≡ map (take each) (cut_rows n each samples)
+whole_fronts zero each samples = refl
+whole_fronts (suc n) each samples =
+    ap (λ (l : List ℕ). l ∷ cut_rows n each (drop each samples)) (sym (take-take each each samples (omega arith)))
+    ∙ ap (λ (l : List (List ℕ)). take each (take each samples) ∷ l) (whole_fronts n each (drop each samples))
+
+-- the rows of which tiles are made, as they are held
+pub held_tiles : (across width depth count each : ℕ) (rows : List (List ℕ)) (samples : List ℕ) → HasTiles (tiled across 0 width depth rows 0)
+    → rows ≡ cut_rows count each samples → length samples ≡ count * each
+    → (0 < count) × (length samples ≡ count * (width * depth)) × (rows ≡ cut_rows count (width * depth) samples)
+held_tiles across width depth count each rows samples h are long =
+    let some : 0 < count = omega (arith, h.some, ap length are, length-cut_rows count each samples) in
+    let same : width * depth ≡ each =
+    alike_length count (width * depth) each samples some long (subst (All (λ row. length row ≡ width * depth)) are h.lengths) in (
+      some,
+      long ∙ ap (λ (k : ℕ). count * k) (sym same),
+      are ∙ ap (λ (k : ℕ). cut_rows count k samples) (sym same),
+    )
+
+-- the first of the rows
+cut_of_more : (n more each : ℕ) (samples : List ℕ) → take n (cut_rows (n + more) each samples) ≡ cut_rows n each samples
+cut_of_more zero more each samples = refl
+cut_of_more (suc n) more each samples =
+    let count : suc n + more ≡ suc (n + more) = omega arith in
+    ap (λ (k : ℕ). take (suc n) (cut_rows k each samples)) count
+    ∙ ap (λ (l : List (List ℕ)). take each samples ∷ l) (cut_of_more n more each (drop each samples))
+
+-- what the result shows of the first of rows that are held one after another
+pub shown_of_rows : (across count each kept : ℕ) (s : Shape) (samples : List ℕ) (rows : List (List ℕ)) → rows ≡ cut_rows count each samples
+    → kept ≤ count → map (take (min across s.width * s.depth)) (cut_rows kept each samples) ≡ map (shown_row across s) (take kept rows)
+shown_of_rows across count each kept s samples rows are few =
+    ap (map (shown_row across s)) (sym (cut_of_more kept (count - kept) each samples)
+    ∙ ap (λ (n : ℕ). take kept (cut_rows n each samples)) (omega arith) ∙ ap (take kept) (sym are))

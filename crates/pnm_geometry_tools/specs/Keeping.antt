@@ -1,5 +1,6 @@
 -- What tools keep while the rows of an image come, and the rows of the result that they still give.
-use Rattle.std.specs.Prelude.{◌≡◌, ℕ, ◌+◌, ◌-◌, ◌*◌, ◌<◌, ◌≤◌, ◌%◌, true, List, [], ◌∷◌, ◌++◌, map, length, min, take}
+use Rattle.std.specs.Prelude.{◌≡◌, ℕ, zero, suc, ◌+◌, ◌-◌, ◌*◌, ◌<◌, ◌≤◌, ◌%◌, true, List, [], ◌∷◌, ◌++◌}
+use Rattle.std.specs.Prelude.{map, length, min, take, drop}
 use Rattle.std.specs.Prelude.{reverse, replicate, slice_index_or, All, Option, Some, None}
 use Rattle.std.specs.List.{range_with_len}
 use Rattle.pnm_image.specs.declared.limits.TheConstants.{MAX_DEPTH, MAX_ROW_LENGTH, MAX_SIDE}
@@ -13,6 +14,7 @@ use Rattle.pnm_tools.specs.Flip.{turn_of, in_order, column_of}
 use Rattle.pnm_geometry_tools.specs.SampleRows.{SuitsShape}
 use Rattle.pnm_geometry_tools.specs.Strips.{HaveSizes, ReachColumns, coming_column, kept_column, kept_count}
 use Rattle.pnm_tools.specs.Tile.{tiled_row}
+use Rattle.pnm_tools.specs.Pixels.{pixel_of}
 
 -- ---- pamenlarge: a row that is given more than once
 
@@ -100,6 +102,11 @@ transposed_due w =
 abbrev pub shown_row : ℕ → Shape → List ℕ → List ℕ
 shown_row width s row = take (min width s.width * s.depth) row
 
+-- the first samples, so many of each, of so many rows of so many samples that are held one after another
+abbrev pub fronts_in : {X : Type 0} → ℕ → ℕ → ℕ → List X → List X
+fronts_in shown zero each samples = []
+fronts_in shown (suc count) each samples = take shown samples ++ fronts_in shown count each (drop each samples)
+
 -- so many columns and rows to fill; the columns that are kept, and the planes of the image; how many rows are still to
 -- be given
 pub record Tiled : Type 0 where
@@ -134,22 +141,16 @@ pub record IsTiling (w : Tiled) (s : Shape) (come : List (List ℕ)) : Type 0 wh
   pub range : AreWithin s.maxval come
   pub none_given : w.left ≡ 0
 
+-- a row of the result, by its number: so many columns, of rows of so many columns and planes
+abbrev pub row_of_tiles : ℕ → ℕ → ℕ → List (List ℕ) → ℕ → List ℕ
+row_of_tiles width image_width depth rows y =
+    tiled_row width image_width depth (slice_index_or rows (y % length rows) [])
+
+-- the same where so many rows are held one after another
+abbrev pub row_of_samples : {X : Type 0} → ℕ → ℕ → ℕ → ℕ → List X → ℕ → List X
+row_of_samples width image_width depth count samples y =
+    tiled_row width image_width depth (pixel_of (image_width * depth) samples (y % count))
+
+-- those that are left are the last ones
 abbrev pub tiled_due : Tiled → List (List ℕ)
-tiled_due w = map (λ y. tiled_row w.width w.image_width w.depth (slice_index_or w.rows (y % length w.rows) []))
-    (range_with_len 0 w.left)
-
--- the next row of the result, of rows in queue, and the queue after it: so many columns of an image of this shape
-pub record GivesRow (width : ℕ) (s : Shape) (old : List (List ℕ)) (made : List ℕ) (new : List (List ℕ)) : Type 0 where
-  pub tiles : HasTiles (tiled width 0 s.width s.depth new 0)
-  pub range : AreWithin s.maxval new
-  pub long : length made ≡ width * s.depth
-  pub within : All (λ sample. sample ≤ s.maxval) made
-  pub due : (height left : ℕ) → tiled_due (tiled width height s.width s.depth old (left + 1))
-      ≡ made ∷ tiled_due (tiled width height s.width s.depth new left)
-
--- the next rows of the result, so many of them
-pub record GivesRows (count width : ℕ) (s : Shape) (old made new : List (List ℕ)) : Type 0 where
-  pub tiles : HasTiles (tiled width 0 s.width s.depth new 0)
-  pub range : AreWithin s.maxval new
-  pub due : (height left : ℕ) → tiled_due (tiled width height s.width s.depth old (left + count))
-      ≡ made ++ tiled_due (tiled width height s.width s.depth new left)
+tiled_due w = map (row_of_tiles w.width w.image_width w.depth w.rows) (range_with_len (w.height - w.left) w.left)

@@ -20,7 +20,8 @@ const MOST_ROWS: u32 = 256;
 
 /// How many of so many rows of this length are given together: one where they are long.
 pub(crate) fn count_together(each: usize, rows: u32) -> u32
-    ensures { result ≤ rows }
+    ensures most { result ≤ rows }
+    ensures some { 1 ≤ rows → 1 ≤ result }
 {
     if each == 0 || each > MOST_SAMPLES {
         return rows.min(1);

@@ -8,6 +8,7 @@ mod color;
 mod cut_rows;
 mod enlarge;
 mod join;
+mod kept_rows;
 mod repeat;
 mod row_of;
 mod sample_rows;

@@ -1,28 +1,23 @@
-use Rattle.std.proofs.Common.{rules, ◌≡◌, ◌-◌, ◌*◌, ◌<◌, ◌++◌, length, take, min, arith}
-use Rattle.pnm_geometry_tools.proofs.TileRowLaws.{prefix_begins, prefix_grows, prefix_stands, prefix_is_all, longer_prefix}
+use Rattle.std.proofs.Common.{◌≡◌, ◌*◌, ◌%◌, ◌<◌, ◌≤◌, ◌++◌, ap, ◌∙◌, arith}
+use Rattle.std.proofs.Math.Nat.{mod-lt}
+use Rattle.pnm_image.proofs.RowLaws.{row_ends_within}
+use Rattle.pnm_geometry_tools.specs.Keeping.{row_of_samples}
+use Rattle.pnm_tools.specs.Tile.{tiled_row}
+use Rattle.pnm_geometry_tools.proofs.CutRowsLaws.{row_of_slice}
+use Rattle.pnm_geometry_tools.proofs.TileRowsLaws.{piece_more}
 use Rattle.pnm_geometry_tools.proofs.tile.tile.Goals as goal
 
-pub loop-tiled-init : goal.loop-tiled-init
-loop-tiled-init g c = prefix_begins c.args.width c.args.image_width c.args.depth c.min.result c.args.row.now c.extend_from_slice.new.self.items c.requires.row.0
-    c.requires.row.1 (search rules) (search rules)
+pub overflow_add-start : goal.overflow_add-start
+overflow_add-start g c =
+    let s = c.args.shape in
+    let below : c.loop-at.at % c.args.kept < c.args.kept = mod-lt c.loop-at.at c.requires.some.0 in
+    omega (arith, row_ends_within c.args.kept (s.width * s.depth) (c.loop-at.at % c.args.kept) below, c.requires.rows)
 
-pub loop-tiled-smaller : goal.loop-tiled-smaller
-loop-tiled-smaller g c =
-    let items = c.loop-tiled.tiled.items in
-    let short : length items < c.args.width * c.args.depth = omega (arith, c.loop-tiled.tiled.ok.0) in
-    let least : c.min-more.result ≡ min (length items) (c.args.width * c.args.depth - length items) = search rules in
-    let made : c.extend_from_within.new.self.items ≡ items ++ take c.min-more.result items = search rules in
-    let there = prefix_stands c.args.width c.args.image_width c.args.depth c.args.row.now items c.requires.row.0 c.requires.row.1 c.loop-tiled.invariant
-    short in
-    longer_prefix c.min-more.result (c.args.width * c.args.depth) items c.extend_from_within.new.self.items there short least made
-
-pub loop-tiled-preserved : goal.loop-tiled-preserved
-loop-tiled-preserved g c =
-    let items = c.loop-tiled.tiled.items in
-    let short : length items < c.args.width * c.args.depth = omega (arith, c.loop-tiled.tiled.ok.0) in
-    prefix_grows c.args.width c.args.image_width c.args.depth c.min-more.result c.args.row.now items c.extend_from_within.new.self.items c.requires.row.0
-    c.requires.row.1 c.loop-tiled.invariant short (search rules) (search rules)
-
-pub returns-clause-made : goal.returns-clause-made
-returns-clause-made g c = prefix_is_all c.args.width c.args.image_width c.args.depth c.args.row.now c.loop-tiled.tiled.items c.requires.row.0 c.requires.row.1
-    c.loop-tiled.invariant (omega (arith, c.loop-tiled.tiled.ok.0))
+pub loop-at-preserved : goal.loop-at-preserved
+loop-at-preserved g c =
+    let s = c.args.shape in
+    let each = s.width * s.depth in
+    let row = row_of_slice c.args.samples.now (c.loop-at.at % c.args.kept) each in
+    piece_more (row_of_samples c.args.width s.width s.depth c.args.kept c.args.samples.now) c.args.y c.loop-at.at c.loop-at.tiled.items
+    c.tile_row.new.tiled.items (omega arith) c.loop-at.invariant
+    (c.in_ok-tile_row.ensures.made ∙ ap (λ l. c.loop-at.tiled.items ++ tiled_row c.args.width s.width s.depth l) row)

@@ -1,10 +1,9 @@
-use Rattle.std.proofs.Common.{◌-◌, length}
-use Rattle.pnm_geometry_tools.proofs.TileRowLaws.{IsTiledPrefix}
+use Rattle.std.proofs.Common.{◌≡◌, ◌-◌}
+use Rattle.std.specs.List.{flat_map, range_with_len}
+use Rattle.pnm_geometry_tools.specs.Keeping.{row_of_samples}
 use Rattle.pnm_geometry_tools.proofs.tile.tile.Given as goal
 
--- so many columns stand, all of them or whole copies of the row
-abbrev pub invariant-loop-tiled : goal.invariant-loop-tiled
-invariant-loop-tiled g l = IsTiledPrefix l.fn.width l.fn.image_width l.fn.depth l.fn.row l.tiled.items
-
-abbrev pub decreases-loop-tiled : goal.decreases-loop-tiled
-decreases-loop-tiled g l = l.filled - length l.tiled.items
+-- the rows that have passed are tiled
+abbrev pub invariant-loop-at : goal.invariant-loop-at
+invariant-loop-at g l = l.tiled.items
+    ≡ flat_map (row_of_samples l.width l.shape.width l.shape.depth l.kept l.samples) (range_with_len l.y (l.at - l.y))

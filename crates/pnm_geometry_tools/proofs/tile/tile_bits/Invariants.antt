@@ -1,7 +1,9 @@
-use Rattle.std.proofs.Common.{◌≡◌, ◌*◌}
-use Rattle.pnm_tools.specs.Tile.{tiled_row}
+use Rattle.std.proofs.Common.{◌≡◌, ◌-◌}
+use Rattle.std.specs.List.{flat_map, range_with_len}
+use Rattle.pnm_geometry_tools.specs.Keeping.{row_of_samples}
 use Rattle.pnm_geometry_tools.proofs.tile.tile_bits.Given as goal
 
--- so many whole rows stand
-abbrev pub invariant-loop : goal.invariant-loop
-invariant-loop l = l.tiled ≡ tiled_row (l.counter * l.fn.image_width) l.fn.image_width l.fn.depth l.fn.row
+-- the rows that have passed are tiled
+abbrev pub invariant-loop-at : goal.invariant-loop-at
+invariant-loop-at l = l.tiled
+    ≡ flat_map (row_of_samples l.width l.shape.width l.shape.depth l.kept l.samples) (range_with_len l.y (l.at - l.y))

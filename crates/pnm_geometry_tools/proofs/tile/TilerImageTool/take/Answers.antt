@@ -1,33 +1,46 @@
-use Rattle.std.proofs.Common.{◌≡◌, ◌≤◌, ◌++◌, ◌∷◌, [], ℕ, List, All, length, ap, sym, ◌∙◌, arith}
+use Rattle.std.proofs.Common.{◌≡◌, ◌≤◌, ◌++◌, ◌∷◌, [], ℕ, List, All, length, map, take, min, ap, sym, subst, ◌∙◌, arith}
+use Rattle.std.proofs.lemmas.List.{take_all}
 use Rattle.std.proofs.lemmas.List.Elements.{All-push}
 use Rattle.pnm_image.specs.Heads.{row_length}
-use Rattle.pnm_geometry_tools.specs.Keeping.{Tiled, tiled}
-use Rattle.pnm_geometry_tools.proofs.TileRowLaws.{none_due, row_of_tile, kept_more, kept_same}
+use Rattle.pnm_image.specs.Images.{cut_rows}
+use Rattle.pnm_geometry_tools.specs.Keeping.{Tiled, shown_row, tiled}
+use Rattle.pnm_geometry_tools.proofs.TileRowLaws.{none_due, row_of_tile, kept_more, kept_same, lengths_shown}
 use Rattle.pnm_geometry_tools.proofs.tile.TilerImageTool.take.Goals as goal
 
-pub returns-in_ok-push_back-clause-ready : goal.returns-in_ok-push_back-clause-ready
-returns-in_ok-push_back-clause-ready c = λ come ready.
+pub push_fronts-requires-clause-alike : goal.push_fronts-requires-clause-alike
+push_fronts-requires-clause-alike c =
+    let x = c.self.inside in
+    let s = c.args.shape in
+    let ready = rw (← c.self.view_is) at c.requires.ready.2 in
+    subst (λ (n : ℕ). All (λ row. length row ≡ n) x.rows) (sym c.shown_length-shown.ensures)
+    (lengths_shown (tiled x.width x.height x.shape.width x.shape.depth x.rows x.left) s c.requires.ready.0 ready)
+
+pub returns-clause-ready : goal.returns-clause-ready
+returns-clause-ready c = λ come ready.
     let x = c.self.inside in
     let s = c.args.shape in
     let now = rw (← c.self.view_is) at ready in
     let before = rw (← c.self.view_is) at c.requires.ready.2 in
-    let stored = c.in_ok-push_back.ensures.items ∙ ap (λ (r : List ℕ). x.rows.items ++ r ∷ []) c.in_ok-shown.ensures.made in
+    let whole : take c.len.result c.args.row ≡ c.args.row = take_all c.len.result c.args.row (omega (arith, c.len.ensures)) in
+    let stored = c.in_ok-push_fronts.ensures.added
+    ∙ ap (λ (r : List ℕ). x.rows ++ take c.shown_length-shown.result r ∷ []) whole
+    ∙ ap (λ (n : ℕ). x.rows ++ take n c.args.row ∷ []) c.shown_length-shown.ensures in
     record {
       limits = now.limits;
       some = now.some;
       filled = now.filled;
-      rows = kept_more x.width x.height c.args.y s x.rows.items c.push_back.new.self.items c.requires.ready.0 come c.args.row before.rows c.requires.ready.1
-          c.if-y-self.true now.rows stored;
+      rows = kept_more x.width x.height c.args.y s x.rows c.push_fronts.new.self c.requires.ready.0 come c.args.row before.rows c.requires.ready.1
+          (omega (arith, c.if-y-self.false)) now.rows stored;
       lengths = All-push (λ row. length row ≡ row_length s) come c.args.row now.lengths c.requires.row.1.count;
       range = All-push (λ row. All (λ sample. sample ≤ s.maxval) row) come c.args.row now.range c.requires.row.1.range;
       none_given = now.none_given;
     }
 
-pub returns-else-y-self-clause-ready : goal.returns-else-y-self-clause-ready
-returns-else-y-self-clause-ready c = λ come ready.
+pub returns-then-y-self-clause-ready : goal.returns-then-y-self-clause-ready
+returns-then-y-self-clause-ready c = λ come ready.
     let w = c.args.self.now in
     let s = c.args.shape in
-    let beyond : w.height ≤ c.args.y = omega (arith, c.if-y-self.false, ap (λ (w : Tiled). w.height) c.self.view_is) in
+    let beyond : w.height ≤ c.args.y = omega (arith, c.if-y-self.true, ap (λ (w : Tiled). w.height) c.self.view_is) in
     record {
       limits = ready.limits;
       some = ready.some;
@@ -38,13 +51,13 @@ returns-else-y-self-clause-ready c = λ come ready.
       none_given = ready.none_given;
     }
 
-pub returns-in_ok-push_back-clause-due : goal.returns-in_ok-push_back-clause-due
-returns-in_ok-push_back-clause-due c =
+pub returns-clause-due : goal.returns-clause-due
+returns-clause-due c =
     let x = c.self.inside in
     let none = ap (λ (w : Tiled). w.left) c.self.view_is ∙ c.requires.ready.2.none_given in
-    none_due (tiled x.width x.height x.shape.width x.shape.depth c.push_back.new.self.items x.left) none
+    none_due (tiled x.width x.height x.shape.width x.shape.depth c.push_fronts.new.self x.left) none
     ∙ sym (row_of_tile c.args.self.now.width c.args.self.now.height c.args.shape c.args.y c.args.row)
 
-pub returns-else-y-self-clause-due : goal.returns-else-y-self-clause-due
-returns-else-y-self-clause-due c = none_due c.args.self.now c.requires.ready.2.none_given
+pub returns-then-y-self-clause-due : goal.returns-then-y-self-clause-due
+returns-then-y-self-clause-due c = none_due c.args.self.now c.requires.ready.2.none_given
     ∙ sym (row_of_tile c.args.self.now.width c.args.self.now.height c.args.shape c.args.y c.args.row)
