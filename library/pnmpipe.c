@@ -15,6 +15,9 @@ uint32_t pnm_c_run(const uint8_t *chain, size_t chain_length, uint32_t form, con
 uint32_t pnm_c_run_new(const uint8_t *chain, size_t chain_length, uint32_t form, const uint8_t *input,
                        size_t input_length, struct pnmpipe_bytes *results, struct pnmpipe_answer *answer);
 
+/* The bytes of the block whose freeing has the heap keep more. */
+enum { KEPT = 1 << 20 };
+
 static const uint8_t *bytes_of(const void *at) {
     static const uint8_t nothing = 0;
     return at ? (const uint8_t *)at : &nothing;
@@ -36,6 +39,16 @@ static uint32_t tell(struct pnmpipe_answer *answer, uint32_t code) {
 
 static uint32_t refuse(struct pnmpipe_answer *answer) {
     return tell(answer, PNMPIPE_NULL);
+}
+
+/* Has the heap keep what a call uses. malloc(3) of the GNU C library gives the free end of its heap back to the kernel
+ * where that is more than 128 KiB; once a larger block was freed, twice as much as it had may stay (mallopt(3)). So a
+ * block is freed here, of which no byte is touched, and it's no matter if there is none. Else the kernel clears the
+ * memory of each call over an image of 100 KB anew, which takes longer than a tool. */
+static void keep_heap(void) {
+    /* (volatile, or the compiler leaves both calls out) */
+    void *volatile block = malloc(KEPT);
+    free(block);
 }
 
 uint32_t pnmpipe_abi_version(void) {
@@ -62,6 +75,7 @@ uint32_t pnmpipe_run(const char *chain, size_t chain_length, uint32_t form, cons
     uint8_t no_room;
     if (is_missing(chain, chain_length) || is_missing(input, input_length) || is_missing(room, room_length))
         return refuse(answer);
+    keep_heap();
     return pnm_c_run(bytes_of(chain), chain_length, form, bytes_of(input), input_length,
                      room ? (uint8_t *)room : &no_room, room_length, answer ? answer : &unused);
 }
@@ -75,6 +89,7 @@ uint32_t pnmpipe_run_new(const char *chain, size_t chain_length, uint32_t form, 
     results->length = 0;
     if (is_missing(chain, chain_length) || is_missing(input, input_length))
         return refuse(answer);
+    keep_heap();
     return pnm_c_run_new(bytes_of(chain), chain_length, form, bytes_of(input), input_length, results,
                          answer ? answer : &unused);
 }

@@ -2,8 +2,9 @@
  *
  * Nothing is kept between calls, so any number of threads may make calls at once, each with buffers of its own. No call
  * starts a thread, touches a signal or the locale, prints anything, or ends the process. Memory comes from malloc(3),
- * and a call frees all of it but what it hands out. A call needs 128 KiB of stack. Don't make one from a signal
- * handler.
+ * and a call frees all of it but what it hands out. pnmpipe_run and pnmpipe_run_new also take a block of 1 MiB and free
+ * it, untouched, after which malloc(3) keeps more of what is freed for the next call. A call needs 128 KiB of stack.
+ * Don't make one from a signal handler.
  *
  * A text needs no byte 0 at its end. A pointer may be null where the length beside it is 0. Where it is null and the
  * length isn't 0, the call answers PNMPIPE_NULL. `answer` may be null, too. `room` must not overlap another buffer of

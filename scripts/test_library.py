@@ -329,6 +329,14 @@ def faults_of_streams(driver):
         yield from written_by(f"a long stream of {header[:2]}", words, image * count, due * count, **little)
 
 
+def faults_of_heap(built):
+    """Calls over a page, whose memory the heap keeps from one to the next."""
+    program = built.compile(f"{TESTS}/heap.c")
+    page = refused.gray(255, *[[(x * y) % 256 for x in range(SIDE)] for y in range(SIDE)])
+    for chain in ("pnminvert", "pamflip -r90", "pamcut -left 8 | pamflip -lr | pnminvert"):
+        yield from ended_well(f"the heap: {chain}", [program, chain], page)
+
+
 def faults_of_cases(program, shared):
     script = os.path.join(ROOT, "scripts/soak_library.py")
     words = ["--cases", str(CASES), "--program", program, "--library", shared]
@@ -430,6 +438,7 @@ def faults_of_library(folder, program):
     yield from faults_of_commands(driver)
     yield from faults_of_memory(built)
     yield from faults_of_streams(driver)
+    yield from faults_of_heap(built)
     if os.path.exists(program):
         yield from faults_of_cases(program, os.path.join(folder, SHARED))
     yield from faults_of_threads(built)
