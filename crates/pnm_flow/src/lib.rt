@@ -19,6 +19,6 @@ pub use pnm_stages::{
     AnyMessage, Gate, MAX_RING_CAPACITY, NoStart, OpenGate, Receiver, Sender, StageDone, StageEnd,
     new_ring,
 };
-pub use serial::run_serial;
+pub use serial::{run_serial, run_serial_over};
 pub use stage::run_stage;
 pub use threaded::run;

@@ -34,12 +34,39 @@ pub fn run_serial<R: BytesIn, W: BytesOut>(
     ensures same_reader { R.same reader.old reader.new }
     ensures same_writer { W.same writer.old writer.new }
 {
+    run_serial_over(alloc, reader, writer, tools, form, usize::MAX)
+}
+
+/// The same, over an input of so many bytes, as far as is known. It reads no more of them at a time, and takes less
+/// memory for a small input. That changes no answer, also where there are more bytes or fewer.
+pub fn run_serial_over<R: BytesIn, W: BytesOut>(
+    alloc: Global,
+    reader: &mut R,
+    writer: &mut W,
+    tools: &[Tool],
+    form: Form,
+    length: usize,
+) -> Result<Summary, RunFault>
+    requires { IsChain tools.now }
+    ensures ran { HasRunInOneThread (job_of tools.now form) result (reader.new ≡ reader.old)
+        (change R.left R.failures reader.old reader.new) (change W.held W.failures writer.old writer.new) }
+    ensures same_reader { R.same reader.old reader.new }
+    ensures same_writer { W.same writer.old writer.new }
+{
     let mut stages = match filters_of(alloc, tools) {
         Ok(stages) => stages,
         Err(fault) => return Err(RunFault::Tool(1, fault)),
     };
     let joined = joined_rows(tools, form, 1);
-    run_filters(alloc, reader, writer, stages.as_mut_slice(), form, joined)
+    run_filters(
+        alloc,
+        reader,
+        writer,
+        stages.as_mut_slice(),
+        form,
+        joined,
+        length,
+    )
 }
 
 /// Each tool at work, fused; one for which there is no memory has refused. The only fault is

@@ -6,7 +6,7 @@ ghost use Rattle.pnm_tools.specs.Chains.{IsChain};
 ghost use Rattle.pnm_memory.specs.Conversions.{HasConverted};
 
 use crate::devices::{TextReader, VecWriter};
-use pnm_flow::{RunFault, Summary, run_serial};
+use pnm_flow::{RunFault, Summary, run_serial_over};
 use pnm_image::Form;
 use pnm_tools::Tool;
 use std::alloc::Global;
@@ -28,7 +28,7 @@ pub fn convert(alloc: Global, tools: &[Tool], form: Form, text: &[u8]) -> Conver
 {
     let mut reader = TextReader::new(text);
     let mut writer = VecWriter::new(alloc);
-    let answer = run_serial(alloc, &mut reader, &mut writer, tools, form);
+    let answer = run_serial_over(alloc, &mut reader, &mut writer, tools, form, text.len());
     Converted {
         answer,
         written: writer.into_inner(),

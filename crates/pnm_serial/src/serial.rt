@@ -26,7 +26,8 @@ use std::alloc::Global;
 
 /// Reads the images of the reader, passes them through the tools that these filters are, each before its first message,
 /// and writes what comes out in the form, as `run_serial` does once it has made them. Of the images that are named it
-/// passes those rows on together that the source holds whole.
+/// passes those rows on together that the source holds whole. The input's length is known, or `usize::MAX`: where it is
+/// small, so is the buffer that is read into.
 pub fn run_filters<R: BytesIn, F: Filter + Drop, W: BytesOut>(
     alloc: Global,
     reader: &mut R,
@@ -34,6 +35,7 @@ pub fn run_filters<R: BytesIn, F: Filter + Drop, W: BytesOut>(
     stages: &mut [FusedFilter<F>],
     form: Form,
     joined: JoinedRows,
+    length: usize,
 ) -> Result<Summary, RunFault>
     ensures ran { (tools : List ToolValue) → AreLawfulTools tools
         → FiltersAt F.at F.all_given F.stopped stages.old tools [] []
@@ -42,7 +44,7 @@ pub fn run_filters<R: BytesIn, F: Filter + Drop, W: BytesOut>(
     ensures same_reader { R.same reader.old reader.new }
     ensures same_writer { W.same writer.old writer.new }
 {
-    let Buffers { read, write } = match Buffers::new(alloc) {
+    let Buffers { read, write } = match Buffers::for_input(alloc, length) {
         Ok(buffers) => buffers,
         Err(fault) => return Err(RunFault::Input(fault)),
     };

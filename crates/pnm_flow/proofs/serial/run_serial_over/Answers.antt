@@ -3,7 +3,7 @@ use Rattle.pnm_serial.specs.Jobs.{job_of}
 use Rattle.pnm_serial.specs.Runs.{change}
 use Rattle.pnm_serial.proofs.EndSteps.{ended_unread}
 use Rattle.pnm_flow.proofs.ToolSteps.{fresh_at}
-use Rattle.pnm_flow.proofs.serial.run_serial.Goals as goal
+use Rattle.pnm_flow.proofs.serial.run_serial_over.Goals as goal
 
 -- there is no memory for the list of the tools
 pub returns-in-Err-clause-ran : goal.returns-in-Err-clause-ran
