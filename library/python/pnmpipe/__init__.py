@@ -17,10 +17,15 @@ import typing
 if typing.TYPE_CHECKING:
     import numpy
 
+    Array = numpy.ndarray[typing.Any, typing.Any]
+
+    def __getattr__(name: str) -> type[Fault]:
+        """The class of a fault: they are made of what the library has."""
+
 __all__ = ["Fault", "ChainFault", "InputFault", "ToolFault", "OutputFault", "MemoryFault", "Summary"]
 __all__ += ["check", "run", "run_array", "run_fd", "version"]
 
-Buffer = typing.Union[bytes, bytearray, memoryview, "numpy.ndarray"]
+Buffer = typing.Union[bytes, bytearray, memoryview, "Array"]
 
 _ABI = 1
 
@@ -136,7 +141,8 @@ _FREE.argtypes, _FREE.restype = [ctypes.c_void_p], None
 
 
 def _name(code: int) -> str:
-    return _LIBRARY.pnmpipe_code_name(code).decode("ascii")
+    name: bytes = _LIBRARY.pnmpipe_code_name(code)
+    return name.decode("ascii")
 
 
 def _fault_classes() -> dict[int, type[Fault]]:
@@ -166,7 +172,8 @@ def _text(chain: str) -> bytes:
 
 def version() -> str:
     """The version of the library."""
-    return _LIBRARY.pnmpipe_version().decode("ascii")
+    told: bytes = _LIBRARY.pnmpipe_version()
+    return told.decode("ascii")
 
 
 def check(chain: str) -> None:
@@ -179,7 +186,7 @@ def check(chain: str) -> None:
 
 def run(chain: str, data: Buffer, plain: bool = False) -> bytes:
     """Passes the images of data through the tools of the chain. Gives the results: raw images, or a plain one."""
-    view = memoryview(data)
+    view = memoryview(typing.cast(bytes, data))
     if isinstance(data, bytes):
         given: typing.Any = data
     elif view.readonly or not view.c_contiguous:
@@ -209,7 +216,7 @@ def run_fd(chain: str, source: int, target: int, plain: bool = False) -> Summary
     return Summary(answer.images, answer.rows)
 
 
-def run_array(chain: str, array: numpy.ndarray) -> numpy.ndarray:
+def run_array(chain: str, array: Array) -> Array:
     """Passes one image through the tools: an array of bool, uint8 or uint16 by row and column, and by plane where there
     are several. True is white. The result has as many dimensions as its planes want."""
     import numpy
@@ -223,12 +230,13 @@ def run_array(chain: str, array: numpy.ndarray) -> numpy.ndarray:
     return _array_of(run(chain, b"\n".join([*lines, b"ENDHDR\n"]) + raster.tobytes()), array.dtype == numpy.bool_)
 
 
-def _array_of(image: bytes, is_bool: bool) -> numpy.ndarray:
+def _array_of(image: bytes, is_bool: bool) -> Array:
     """The samples of a PAM image that the library has written."""
     import numpy
 
     head, _, raster = image.partition(b"ENDHDR\n")
-    facts = dict(line.split(b" ", 1) for line in head.split(b"\n")[1:-1])
+    lines = [line.partition(b" ") for line in head.split(b"\n")[1:-1]]
+    facts = {key: value for key, _, value in lines}
     height, width, depth, maxval = (int(facts[key]) for key in (b"HEIGHT", b"WIDTH", b"DEPTH", b"MAXVAL"))
     samples = numpy.frombuffer(raster, dtype=">u2" if maxval > 255 else numpy.uint8)
     samples = samples.reshape((height, width) if depth == 1 else (height, width, depth))
