@@ -5,8 +5,10 @@ mod any_tool;
 mod head;
 mod row_state;
 mod state;
+mod tool_methods;
 mod tool_state;
 
 pub use head::result_head;
 pub use row_state::{RowState, RowWise, row_filter_of, start_rows};
+pub use tool_methods::StartTool;
 pub use tool_state::{ToolState, filter_of, longest_together, start_tool};
