@@ -1,7 +1,7 @@
 //! The sink: messages to bytes.
 
 ghost use Rattle.std.specs.Prelude.{◌≡◌, ◌↔◌, List, [], ◌∷◌, ◌++◌, IsTrue, MatchResult, MatchOption, IfErr};
-ghost use Rattle.std.specs.Prelude.{OnOk, OnErr, Err, true, false};
+ghost use Rattle.std.specs.Prelude.{OnOk, OnErr, IfOk, Err, true, false};
 ghost use Rattle.std.specs.Io.KnownBytes.{Appends, Keeps};
 ghost use Rattle.pnm_image.specs.Devices.{Failed, FailsIn};
 ghost use Rattle.pnm_image.specs.Places.{Accepts, IsLawfulFrom, place_after, place_of};
@@ -17,6 +17,7 @@ use crate::row::write_samples;
 use crate::rows::write_rows;
 use crate::write_buffer::WriteBuffer;
 use pnm_image::{BytesOut, DeviceFailed, Form, Kind, Message, Place, Rows};
+use std::alloc::{AllocError, Global};
 
 /// Writes the messages of a stream of images as Netpbm images of one form: PBM, PGM, PPM and PAM, by
 /// the kind of each image. In raw form any number of images come one after another; in plain form
@@ -33,6 +34,24 @@ pub struct Sink<W> {
 }
 
 impl<W: BytesOut> Sink<W> {
+    /// A sink over the writer, with a buffer of its own, before the first message. Nothing is written.
+    ///
+    /// # Errors
+    ///
+    /// Where there is no memory for the buffer. The writer is gone then: `with_buffer` keeps it.
+    pub fn new(alloc: Global, writer: W, form: Form) -> Result<Sink<W>, AllocError>
+    where
+        W: Drop,
+        ensures writer { IfOk result (λ sink. writer_of sink ≡ writer) }
+        ensures form { IfOk result (λ sink. form_of sink ≡ form) }
+        ensures sound { IfOk result (λ sink. has_failed sink ≡ false) }
+        ensures none { IfOk result (λ sink. HasPut sink []) }
+        ensures unwritten { IfOk result (λ sink. HasWritten W.held (W.held writer) sink []) }
+    {
+        let buffer = WriteBuffer::new(alloc)?;
+        Ok(Sink::with_buffer(buffer, writer, form))
+    }
+
     /// A sink over the writer that encodes into this buffer, before the first message. Nothing is written.
     pub fn with_buffer(buffer: WriteBuffer, writer: W, form: Form) -> Sink<W>
         ensures writer { writer_of result ≡ writer }
