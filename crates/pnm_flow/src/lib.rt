@@ -12,13 +12,16 @@ mod tool_run;
 
 pub use chain::{ChainDone, Link, run_chain};
 pub use lanes::run_lanes;
-pub use pnm_image::Parcel;
+pub use pnm_image::{BytesIn, BytesOut, Form, Message, Parcel, Rows};
 pub use pnm_lanes::{DealDone, GatherDone, MAX_LANES, deal, gather};
+pub use pnm_read::InputFault;
 pub use pnm_serial::{RunFault, Summary};
 pub use pnm_stages::{
     AnyMessage, Gate, MAX_RING_CAPACITY, NoStart, OpenGate, Receiver, Sender, StageDone, StageEnd,
     new_ring,
 };
+pub use pnm_tools::{MAX_TOOLS, Tool, ToolFault};
+pub use pnm_write::SinkFault;
 pub use serial::{run_serial, run_serial_over};
 pub use stage::run_stage;
 pub use threaded::run;
