@@ -2,7 +2,7 @@
 
 PROGRAM := crates/pnmpipe
 # where the tests stand, in crates of their own
-TESTED := pnm_image_tests pnm_flow_tests
+TESTED := pnm_image_tests pnm_flow_tests pnm_surface
 # programs that tell what comes of written cases
 CASES := pnm_format_cases pnm_tools_cases pnm_flow_cases
 

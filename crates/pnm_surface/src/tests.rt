@@ -1,0 +1,37 @@
+//! The public calls, crate by crate.
+
+use pnm_image::{Head, HeadFault, Shape};
+use std::alloc::Global;
+use std::fmt;
+use std::process::Abort;
+
+mod flow;
+mod image;
+mod program;
+mod rings;
+mod runs;
+mod streams;
+mod texts;
+mod tools;
+
+/// Stops the test where something isn't so, and shows these values. An assertion that shows its values is dear to
+/// prove: this one stands for all others.
+fn is_so<P: fmt::Debug>(rt: &impl Abort, is_right: bool, shown: &P) {
+    assert!(rt; is_right, "{shown:?}");
+}
+
+/// Stops the test where the two aren't the same, and shows them.
+fn same<T: PartialEq + fmt::Debug, P: fmt::Debug>(rt: &impl Abort, given: &T, want: &T, place: &P) {
+    is_so(rt, given == want, &(given, want, place));
+}
+
+/// What is answered where a head is asked for, whose kind has to suit the rest.
+fn new_head(
+    rt: &impl Abort,
+    alloc: Global,
+    shape: Shape,
+    tuple_type: &[u8],
+) -> Result<Head, HeadFault> {
+    assert!(rt; Head::suits(shape.kind, shape.depth, shape.maxval, tuple_type));
+    Head::new(alloc, shape, tuple_type)
+}

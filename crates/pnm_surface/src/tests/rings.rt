@@ -1,0 +1,59 @@
+//! Rings that hold messages, and what comes out of them.
+
+use super::is_so;
+use pnm_flow::{AnyMessage, Message, Parcel, Receiver, Sender, new_ring};
+use pnm_test_support::{Part, is_made_of, message};
+use std::alloc::Global;
+use std::process::Abort;
+
+/// A ring of capacity 8.
+pub fn ring(rt: &impl Abort, alloc: Global) -> (Sender, Receiver) {
+    new_ring(alloc, 8).expect(rt, "a ring")
+}
+
+/// Sends the message, where there is room; whether there was.
+fn send(sender: &mut Sender, message: Message) -> bool {
+    if sender.has_room() {
+        sender.send_reserved(message);
+        return true;
+    }
+    false
+}
+
+/// A ring of capacity 8 that holds these, and its sending end.
+pub fn holding(rt: &impl Abort, alloc: Global, parts: &[Part<'_>]) -> (Sender, Receiver) {
+    let (mut sender, receiver) = ring(rt, alloc);
+    for part in parts {
+        let message = message(alloc, *part).expect(rt, "a message");
+        is_so(rt, send(&mut sender, message), part);
+    }
+    (sender, receiver)
+}
+
+/// Whether the ring holds a message next that is made of this; it is received.
+fn receives(receiver: &mut Receiver, part: Part<'_>) -> bool {
+    if !receiver.has_message() {
+        return false;
+    }
+    match receiver.receive_known() {
+        Parcel::Message(message) => is_made_of(&message, part),
+        Parcel::Rows(_) => false,
+    }
+}
+
+/// The ring holds these, and nothing more.
+pub fn holds(rt: &impl Abort, receiver: &mut Receiver, parts: &[Part<'_>]) {
+    for part in parts {
+        is_so(rt, receives(receiver, *part), part);
+    }
+    is_so(rt, !receiver.has_message(), &"nothing more");
+}
+
+/// The protocol of the rings allows every message after every other.
+#[test]
+fn rings_allow_every_message(rt: HostRuntime) {
+    let _protocol = AnyMessage;
+    let parts = [Part::StreamEnd, Part::Stop, Part::ImageEnd, Part::Row(&[1])];
+    let (_sender, mut receiver) = holding(&rt, rt.alloc(), &parts);
+    holds(&rt, &mut receiver, &parts);
+}
