@@ -18,27 +18,38 @@ FOUR = "pamcut -left 8 -right -9 | pamflip -lr | pnminvert | pamenlarge 2"
 TURNS = ["pamflip -tb", "pamflip -r180", "pamflip -r90"]
 RGBA = b"P7\nWIDTH 32\nHEIGHT 32\nDEPTH 4\nMAXVAL 255\nTUPLTYPE RGB_ALPHA\nENDHDR\n"
 
+# each tool once, over rows of few samples
+EACH = ["pnminvert", "pamdepth 100", "pamchannel 0", "pamflip -lr", "pamflip -xy", "pamflip -r180", "pamenlarge 2"]
+ENLARGED = ["pamenlarge 2", "pamenlarge 8", "pamenlarge 32"]
+
 # the name, the header and the bytes of the raster of an image, how many there are, and the chains
 STREAMS = [
     ("page", b"P4\n2480 56128\n", 310 * 56128, 1, ["pnminvert", PAGE_CHAIN, "pamflip -tb", "pamenlarge 2"]),
+    ("A4 page", b"P4\n2480 3508\n", 310 * 3508, 1, ["pamflip -r90"]),
     ("letter", b"P4\n2550 56128\n", 319 * 56128, 1, ["pnminvert", LETTER_CHAIN]),
     ("page at 600", b"P4\n4960 28060\n", 620 * 28060, 1, [CUT]),
+    ("letter at 600", b"P4\n5100 28064\n", 638 * 28064, 1, [CUT]),
     ("page at 1200", b"P4\n9921 14031\n", 1241 * 14031, 1, [CUT]),
     ("label", b"P4\n384 400000\n", 48 * 400000, 1, ["pnminvert"]),
     ("receipt", b"P4\n576 200000\n", 72 * 200000, 1, [*TURNS, "pamenlarge 2", "pamenlarge 4", FOUR]),
     ("label of 812", b"P4\n812 100000\n", 102 * 100000, 1, ["pamflip -r90", "pamenlarge 2", FOUR]),
-    ("narrow", b"P5\n64 500000\n255\n", 64 * 500000, 1, ["pamcut -left 8 | pamdepth 127", "pamflip -tb"]),
-    ("16 a row", b"P5\n16 500000\n255\n", 16 * 500000, 1, ["pamcut -left 2", "pamenlarge 2"]),
-    ("color, 16", b"P6\n16 200000\n255\n", 48 * 200000, 1, ["pamchannel 1", "pamenlarge 3"]),
-    ("16 bits, 64", b"P5\n64 100000\n65535\n", 128 * 100000, 1, ["pnminvert", "pamcut -left 4", "pamdepth 255"]),
+    ("64 a row", b"P5\n64 500000\n255\n", 64 * 500000, 1, ["pamcut -left 8 | pamdepth 127", "pamflip -tb", *EACH]),
+    ("16 a row", b"P5\n16 500000\n255\n", 16 * 500000, 1, ["pamcut -left 2", *EACH, "pnmtile 16 600000"]),
+    ("color of 16", b"P6\n16 200000\n255\n", 48 * 200000, 1, [*EACH, "pamenlarge 3", "pnmtile 200 200000"]),
+    ("words of 64", b"P5\n64 100000\n65535\n", 128 * 100000, 1, ["pamcut -left 4", "pamdepth 255", *EACH]),
     ("stamps", b"P4\n200 100\n", 2500, 10000, [CUT]),
     ("digits", b"P5\n28 28\n255\n", 784, 20000, [CUT]),
-    ("rgba icons", RGBA, 4096, 8000, [CUT, "pamchannel 0 -tupletype GRAYSCALE"]),
-    ("icons", b"P5\n64 64\n255\n", 64 * 64, 20000, ICON_CHAINS),
-    ("dots", b"P5\n1 1\n255\n", 1, 100000, ["pamcut | pamcut | pamcut"]),
+    ("RGBA icons", RGBA, 4096, 8000, [CUT, "pamchannel 0 -tupletype GRAYSCALE"]),
+    ("64 by 64", b"P5\n64 64\n255\n", 64 * 64, 20000, ICON_CHAINS),
+    ("1 by 1", b"P5\n1 1\n255\n", 1, 100000, ["pamcut | pamcut | pamcut"]),
     ("gray page", b"P5\n2480 7016\n255\n", 2480 * 7016, 1, ["pnminvert"]),
-    ("color page", b"P6\n2480 3508\n255\n", 7440 * 3508, 1, ["pnminvert", "pamenlarge 2"]),
+    ("color page", b"P6\n2480 3508\n255\n", 7440 * 3508, 1, ["pnminvert"]),
     ("photo", b"P6\n4032 3024\n255\n", 12096 * 3024, 1, ["pnminvert"]),
+    ("part of a page", b"P4\n2480 400\n", 310 * 400, 1, ENLARGED),
+    ("part of 20000 bits", b"P4\n20000 50\n", 2500 * 50, 1, ENLARGED),
+    ("part of a gray page", b"P5\n2480 50\n255\n", 2480 * 50, 1, ENLARGED),
+    ("part of a color page", b"P6\n2480 17\n255\n", 7440 * 17, 1, ENLARGED),
+    ("part of a page of words", b"P5\n2480 25\n65535\n", 4960 * 25, 1, ENLARGED),
 ]
 
 

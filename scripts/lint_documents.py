@@ -280,8 +280,7 @@ def faults_of_documents():
 
 
 PLAIN_IMAGES = {"PBM": "scan", "PPM": "color", "PGM": "gray16"}
-NARROW_IMAGES = {"page": "page", "sheet": "letter", "label": "label", "64 a row": "narrow", "1 by 1": "dots"}
-NARROW_IMAGES.update({"64 by 64": "icons", "20,000 images of 64 by 64": "icons"})
+README_IMAGES = {"20,000 images of 64 by 64": "64 by 64"}
 
 
 def figures_of_readme():
@@ -289,7 +288,7 @@ def figures_of_readme():
     row = r"^\| ([\w, ]+): `(.+?)`(, written as plain text)? \| ([\d.]+) \| ([\d.]+) \|$"
     for image, tool, plain, *figures in re.findall(row, read("README.md"), re.M):
         tool = tool.replace("\\|", "|")
-        yield NARROW_IMAGES.get(image, image), "--plain " * bool(plain) + tool, figures
+        yield README_IMAGES.get(image, image), "--plain " * bool(plain) + tool, figures
 
 
 def figures_of_performance():
@@ -304,7 +303,7 @@ def figures_of_performance():
     narrow = r"^\| ([\w ]+) \| (`.*?) \| (\S+) / \S+ \| (\S+) / \S+ \| \S+ \|$"
     for image, tools, *figures in re.findall(narrow, text, re.M):
         chain = " | ".join(re.findall("`([^`]+)`", tools) * (3 if "three times" in tools else 1))
-        yield NARROW_IMAGES[image], chain, figures
+        yield image, chain, figures
     for kind, *figures in re.findall(r"^\| (P[BGP]M), [^|]*\| (\S+) \| \S+ \| (\S+) \|", text, re.M):
         yield PLAIN_IMAGES[kind], "--plain pnminvert", figures
 
