@@ -281,6 +281,14 @@ def faults_of_documents():
 
 PLAIN_IMAGES = {"PBM": "scan", "PPM": "color", "PGM": "gray16"}
 README_IMAGES = {"20,000 images of 64 by 64": "64 by 64"}
+# chains that PERFORMANCE names in its table of narrow rows
+NAMED_CHAINS = {
+    "three tools": "pamcut -left 8 -right -9 | pamflip -lr | pnminvert",
+    "three tools, 75 cut off": "pamcut -left 75 -right -76 | pamflip -lr | pnminvert",
+    "four tools": "pamcut -left 8 -right -9 | pamflip -lr | pnminvert | pamenlarge 2",
+    "cut of four sides": "pamcut -left 8 -right -9 -top 8 -bottom -9",
+    "three cuts of nothing": "pamcut | pamcut | pamcut",
+}
 
 
 def figures_of_readme():
@@ -300,10 +308,10 @@ def figures_of_performance():
             yield "color", tool, figures[2:]
     for image, way, *figures in re.findall(r"^\| ([\w, ]+) \| `(-\w+)` \| (\S+) \| (\S+) \|", text, re.M):
         yield image.replace("gray, 16 bits", "gray16"), f"pamflip {way}", figures
-    narrow = r"^\| ([\w ]+) \| (`.*?) \| (\S+) / \S+ \| (\S+) / \S+ \| \S+ \|$"
+    chains = "|".join(map(re.escape, NAMED_CHAINS))
+    narrow = rf"^\| ([\w ]+) \| (`.*?`|{chains}) \| (\S+) / \S+ \| (\S+) / \S+ \| [\d., ]+ \|$"
     for image, tools, *figures in re.findall(narrow, text, re.M):
-        chain = " | ".join(re.findall("`([^`]+)`", tools) * (3 if "three times" in tools else 1))
-        yield image, chain, figures
+        yield image, NAMED_CHAINS.get(tools) or " | ".join(re.findall("`([^`]+)`", tools)), figures
     for kind, *figures in re.findall(r"^\| (P[BGP]M), [^|]*\| (\S+) \| \S+ \| (\S+) \|", text, re.M):
         yield PLAIN_IMAGES[kind], "--plain pnminvert", figures
 
