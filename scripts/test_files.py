@@ -107,12 +107,17 @@ def children_of(process):
 
 
 def has_ended(process):
-    """Whether a process has ended; whoever it is left to may not have taken its status yet."""
-    try:
-        with open(f"/proc/{process}/stat", encoding="ascii", errors="replace") as file:
-            return file.read().rpartition(")")[2].split()[0] == "Z"
-    except OSError:
-        return True
+    """Whether a process has ended, or does within a second: the kernel may still have to end one that was killed, and
+    whoever it is left to may not have taken its status yet."""
+    for _ in range(100):
+        try:
+            with open(f"/proc/{process}/stat", encoding="ascii", errors="replace") as file:
+                if file.read().rpartition(")")[2].split()[0] == "Z":
+                    return True
+        except OSError:
+            return True
+        time.sleep(0.01)
+    return False
 
 
 class Runs(Folder):
