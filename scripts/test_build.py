@@ -265,7 +265,7 @@ class Building(Repository):
 
     def test_long_chains_have_two_processors_where_there_are_four(self):
         low = ["pnm_streams", "pnm_samples", "pnm_image"]
-        self.assertEqual(self.begun(low), [("pnm_read", 2), ("pnm_tools", 1), ("pnm_write", 1)])
+        self.assertEqual(self.begun(low), [("pnm_read", 2), ("pnm_tools", 2), ("pnm_write", 1)])
         self.assertEqual(self.begun(low, number=2), [("pnm_read", 1), ("pnm_tools", 1)])
         self.assertEqual(self.begun(low, number=1), [("pnm_read", 1)])
         self.assertEqual(self.begun(low, most=1), [("pnm_read", 4)])
@@ -276,9 +276,8 @@ class Building(Repository):
     def test_shorter_chains_give_way_to_the_longest(self):
         low = ["pnm_streams", "pnm_samples", "pnm_image"]
         self.begun(low)
-        self.assertEqual(self.ways["pnm_read"], 0)
-        self.assertLess(4, self.ways["pnm_tools"])
-        self.assertLessEqual(self.ways["pnm_tools"], self.ways["pnm_write"])
+        self.assertEqual((self.ways["pnm_read"], self.ways["pnm_tools"]), (0, 0))
+        self.assertLess(4, self.ways["pnm_write"])
         self.assertLess(self.ways["pnm_write"], 16)
 
     def test_the_longest_chain_has_what_others_leave(self):
