@@ -11,4 +11,3 @@ pub mod TileRowLaws
 pub mod TileRowsLaws
 pub mod RepeatedBitLaws
 pub mod EnlargedRowsLaws
-pub mod FlatRowsLaws

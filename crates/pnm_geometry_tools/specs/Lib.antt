@@ -1,5 +1,4 @@
 pub mod Columns
-pub mod FlatRows
 pub mod Strips
 pub mod SampleRows
 pub mod Keeping

@@ -8,7 +8,5 @@ pub mod PackedAgain
 pub mod PackedBytes
 pub mod PixelLaws
 pub mod PixelRowLaws
-pub mod PixelRowsLaws
 pub mod RepeatLaws
-pub mod SquareLaws
 pub mod StretchLaws

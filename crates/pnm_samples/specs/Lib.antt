@@ -3,5 +3,4 @@ pub mod Pixels
 pub mod SampleVecs
 pub mod Blocks
 pub mod Columns
-pub mod PixelRows
 pub mod Stretches
