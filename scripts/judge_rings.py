@@ -138,6 +138,9 @@ def want_of_gather(lanes, room, gone):
         gather([list(lane) for lane in lanes], sent)
     except Over as over:
         end = str(over)
+    # the lanes are drained through their ends, but at the end of the stream
+    if end != "Well" and not all(any(it in ENDS for it in one_by_one(lane)) for lane in lanes):
+        end = "PeerGone"
     if gone == "output":
         return " PeerGone" if len(sent) > room else f" {end}"
     return f" {end}{told_after('sent', sent)}"
@@ -155,9 +158,11 @@ def gather(lanes, sent):
 
     def take(lane):
         message = lanes[lane].pop(0) if lanes[lane] else None
-        # rows together come as nothing more does
-        if message is None or isinstance(message, Together):
+        if message is None:
             send("Stop", "PeerGone")
+        # rows together are a message out of place
+        if isinstance(message, Together):
+            send("Stop", "Fault(OutOfOrder)")
         if message == "Stop":
             send("Stop", "Broken")
         return message

@@ -25,9 +25,11 @@ use Rattle.pnm_stages.proofs.PrefixLaws.{stop_is_cut, prefix_without_stop}
 use Rattle.pnm_stages.proofs.RingSteps.{ends_as}
 use Rattle.pnm_lanes.specs.declared.lane.LaneState.{LaneState}
 use Rattle.pnm_lanes.specs.declared.lane.LaneState.TheVariants.{Open, Ended, Gone}
-use Rattle.pnm_lanes.specs.Gathers.{AreDealt, BeginsOrEnds, HasSentAll, HasPassedSo, HasGatheredSo, HasGathered}
+use Rattle.pnm_stages.specs.declared.receiver.Receiver.{Receiver}
+use Rattle.pnm_tools.specs.declared.fault.ToolFault.TheVariants.{OutOfOrder}
+use Rattle.pnm_lanes.specs.Gathers.{AreDealt, BeginsOrEnds, HasSentAll, HasPassedSo, HasGatheredSo, HasGathered, have_received_rows, HasGatheredOrRefused}
 use Rattle.pnm_lanes.specs.GatherParts.{IsOfStream, state_at, HasTakenWhole, HasTakenNone, BeginsNone, IsCause, IsLane, AreLanes, CarriesOn, IsDone, HasStopped}
-use Rattle.pnm_lanes.specs.GatherParts.{HasBrokenOffAll, HasDrainedAll}
+use Rattle.pnm_lanes.specs.GatherParts.{HasBrokenOffAll, HasDrainedAll, HasGatheredBy}
 use Rattle.pnm_lanes.proofs.PartLaws.{dealt_from-append, prefix_cancel, parts_tell_the_whole}
 use Rattle.pnm_lanes.proofs.DealtParts.{all_of_both, all_of_rest, all_messages, stream_keeps_all, lawful_rest, dealt_of_stream, dealt_goes_on, dealt_end}
 use Rattle.pnm_lanes.proofs.DealtParts.{images_of_stream, gets_part, prefixes_in_order, last_stays, not_before_stop}
@@ -237,47 +239,63 @@ stopped_so (Fault fault) lanes place gave taken took some lawful stream more at_
     ((is.0, ended, (gave, refl, more)), λ images are. no_images lanes place gave taken took images some lawful stream at_place left is.1 is.2 are)
 stopped_so PeerGone lanes place gave taken took some lawful stream more at_place left ended is = (tt, λ images are. tt)
 
+-- where it isn't stopped
+not_stopped : (end : StageEnd) (stopped : Bool) (lanes : ℕ) (start final left : ℕ → List Message) (sent_start sent_new : List Message) → stopped ≡ false
+    → HasGathered end lanes start final left sent_start sent_new → HasGatheredBy end stopped lanes start final left sent_start sent_new
+not_stopped end stopped lanes start final left sent_start sent_new is gathered = record {
+  gathered = gathered;
+  ended = λ yes. absurd (false≢true (sym is ∙ yes));
+  stop_sent = λ yes. absurd (false≢true (sym is ∙ yes));
+}
+
 -- the gatherer was broken off
-broken_off_so : (lanes : ℕ) (place : Place) (cause end : StageEnd) (states done : List LaneState) (start now new final left_new left : ℕ → List Message)
-    (sent_start sent_now sent_new : List Message)
+broken_off_so : (lanes : ℕ) (place : Place) (cause end : StageEnd) (stopped : Bool) (states done : List LaneState)
+    (start now new final left_new left : ℕ → List Message) (sent_start sent_now sent_new : List Message)
     → IsGoing lanes place start now sent_start sent_now → 0 < lanes → HasTakenNone lanes place cause states now new
-    → CarriesOn lanes states done new final left_new left → HasStopped cause end lanes done sent_now sent_new
-    → HasGathered end lanes start final left sent_start sent_new
-broken_off_so lanes place cause end states done start now new final left_new left sent_start sent_now sent_new going some none carried (inl told) =
+    → CarriesOn lanes states done new final left_new left → HasStopped cause end stopped lanes done sent_now sent_new
+    → HasGatheredBy end stopped lanes start final left sent_start sent_new
+unfolding ends_so
+broken_off_so lanes place cause end stopped states done start now new final left_new left sent_start sent_now sent_new going some none carried (inl told) =
     let took : ℕ → List Message = took_of start final in
     let left_so = has_left lanes place start now new final none.taken sent_start sent_now going none.parts.added carried.prefixes in
     let are = carried.lanes_are start (lanes_after lanes place states start now new left_new none.taken sent_start sent_now going none.parts) in
-    let so = stopped_so cause lanes place going.gave none.taken took some going.lawful going.stream going.more going.at_place left_so
-    (λ lane below. (lane_ended true (state_at done lane) (start lane) (final lane) (left lane) (told.2 lane below) (are lane below)).has_ended refl)
-    none.cause in
-    subst (λ (e : StageEnd). HasGathered e lanes start final left sent_start sent_new) (sym told.0)
-    (ends_so lanes place cause true done start now new final left none.taken sent_start sent_now sent_new (going.gave ++ Stop ∷ []) going some left_so are
-    told.2
-    (sent_with_one sent_start sent_now sent_new going.gave Stop going.output told.1) (with_stop lanes place start now sent_start sent_now going) so.0 so.1)
-broken_off_so lanes place cause end states done start now new final left_new left sent_start sent_now sent_new going some none carried (inr gone) =
+    let ended : (lane : ℕ) → lane < lanes → IsEnded (took lane) =
+    λ lane below. (lane_ended true (state_at done lane) (start lane) (final lane) (left lane) (told.2 lane below) (are lane below)).has_ended refl in
+    let so = stopped_so cause lanes place going.gave none.taken took some going.lawful going.stream going.more going.at_place left_so ended none.cause in
+    subst (λ (e : StageEnd). HasGatheredBy e stopped lanes start final left sent_start sent_new) (sym told.0)
+    (record {
+      gathered = ends_so lanes place cause true done start now new final left none.taken sent_start sent_now sent_new (going.gave ++ Stop ∷ []) going some
+          left_so are told.2
+          (sent_with_one sent_start sent_now sent_new going.gave Stop going.output told.1) (with_stop lanes place start now sent_start sent_now going)
+          so.0 so.1;
+      ended = λ yes. ended;
+      stop_sent = λ yes. (going.gave, refl, going.more);
+    })
+broken_off_so lanes place cause end stopped states done start now new final left_new left sent_start sent_now sent_new going some none carried (inr gone) =
     let left_so = has_left lanes place start now new final none.taken sent_start sent_now going none.parts.added carried.prefixes in
     let are = carried.lanes_are start (lanes_after lanes place states start now new left_new none.taken sent_start sent_now going none.parts) in
-    subst (λ (e : StageEnd). HasGathered e lanes start final left sent_start sent_new) (sym gone.0)
-    (elim gone.1 [
+    not_stopped end stopped lanes start final left sent_start sent_new gone.1
+    (subst (λ (e : StageEnd). HasGathered e lanes start final left sent_start sent_new) (sym gone.0)
+    (elim gone.2 [
       | inl stop ↦ ends_so lanes place PeerGone false done start now new final left none.taken sent_start sent_now sent_new (going.gave ++ Stop ∷ []) going some
-          left_so are gone.2
+          left_so are gone.3
           (sent_with_one sent_start sent_now sent_new going.gave Stop going.output stop) (with_stop lanes place start now sent_start sent_now going) tt
           (λ is dealt_so. tt)
       | inr same ↦ ends_so lanes place PeerGone false done start now new final left none.taken sent_start sent_now sent_new going.gave going some left_so are
-          gone.2
+          gone.3
           (same ∙ going.output) (without_more lanes place start now sent_start sent_now going) tt (λ is dealt_so. tt)
-    ])
+    ]))
 
-pub broken_off : (lanes count : ℕ) (place : Place) (cause end : StageEnd) (states done : List LaneState) (start now new final left_new left : ℕ → List Message)
-    (sent_start sent_now sent_new : List Message)
+pub broken_off : (lanes count : ℕ) (place : Place) (cause end : StageEnd) (stopped : Bool) (states done : List LaneState)
+    (start now new final left_new left : ℕ → List Message) (sent_start sent_now sent_new : List Message)
     → IsGoing lanes place start now sent_start sent_now → 0 < lanes → count ≡ lanes → HasTakenNone count place cause states now new
-    → HasBrokenOffAll cause end count states done new final left_new left sent_now sent_new
-    → HasGathered end lanes start final left sent_start sent_new
-broken_off lanes count place cause end states done start now new final left_new left sent_start sent_now sent_new going some same none broken =
-    broken_off_so lanes place cause end states done start now new final left_new left sent_start sent_now sent_new going some
+    → HasBrokenOffAll cause end stopped count states done new final left_new left sent_now sent_new
+    → HasGatheredBy end stopped lanes start final left sent_start sent_new
+broken_off lanes count place cause end stopped states done start now new final left_new left sent_start sent_now sent_new going some same none broken =
+    broken_off_so lanes place cause end stopped states done start now new final left_new left sent_start sent_now sent_new going some
     (subst (λ (n : ℕ). HasTakenNone n place cause states now new) same none)
     (subst (λ (n : ℕ). CarriesOn n states done new final left_new left) same broken.carried)
-    (subst (λ (n : ℕ). HasStopped cause end n done sent_now sent_new) same broken.stopped)
+    (subst (λ (n : ℕ). HasStopped cause end stopped n done sent_now sent_new) same broken.breaks)
 
 -- ---- the message couldn't be sent
 
@@ -285,15 +303,16 @@ pub not_told : (lanes count : ℕ) (place : Place) (m : Message) (ended : Bool) 
     → List Message) (sent_start sent_now sent_new : List Message)
     → IsGoing lanes place start now sent_start sent_now → 0 < lanes → count ≡ lanes → HasTakenWhole count place m states now new → sent_new ≡ sent_now
     → HasDrainedAll count ended states done new final left_new left
-    → HasGathered PeerGone lanes start final left sent_start sent_new
+    → HasGatheredBy PeerGone false lanes start final left sent_start sent_new
 not_told lanes count place m ended states done start now new final left_new left sent_start sent_now sent_new going some same whole sent drained =
     let taken = subst (λ (n : ℕ). HasTakenWhole n place m states now new) same whole in
     let all = subst (λ (n : ℕ). HasDrainedAll n ended states done new final left_new left) same drained in
     let part : ℕ → List Message = λ lane. dealt_message lane lanes place m in
     let left_so = has_left lanes place start now new final part sent_start sent_now going taken.parts.added all.carried.prefixes in
     let are = all.carried.lanes_are start (lanes_after lanes place states start now new left_new part sent_start sent_now going taken.parts) in
-    ends_so lanes place PeerGone ended done start now new final left part sent_start sent_now sent_new going.gave going some left_so are all.done
-    (sent ∙ going.output) (without_more lanes place start now sent_start sent_now going) tt (λ is dealt_so. tt)
+    not_stopped PeerGone false lanes start final left sent_start sent_new refl
+    (ends_so lanes place PeerGone ended done start now new final left part sent_start sent_now sent_new going.gave going some left_so are all.done
+    (sent ∙ going.output) (without_more lanes place start now sent_start sent_now going) tt (λ is dealt_so. tt))
 
 -- ---- the end of the stream was sent
 
@@ -301,7 +320,7 @@ pub ends_well : (lanes count : ℕ) (place : Place) (m : Message) (states : List
     (sent_start sent_now sent_new : List Message)
     → IsGoing lanes place start now sent_start sent_now → 0 < lanes → count ≡ lanes → HasTakenWhole count place m states now new → sent_new ≡ sent_now ++ m ∷ []
     → ending_of m ≡ Whole
-    → HasGathered Well lanes start new left sent_start sent_new
+    → HasGatheredBy Well false lanes start new left sent_start sent_new
 ends_well lanes count place m states start now new left sent_start sent_now sent_new going some same whole sent is_end =
     let taken = subst (λ (n : ℕ). HasTakenWhole n place m states now new) same whole in
     let gave : List Message = going.gave ++ m ∷ [] in
@@ -317,7 +336,8 @@ ends_well lanes count place m states start now new left sent_start sent_now sent
     let keeps : without_stop gave ≡ gave = stream_keeps_all gave stream in
     let left_so : HasLeft lanes gave (λ lane. []) took =
     record { drained = λ lane. []; parts = λ lane below. sym (append-nil (took lane ++ []) ∙ append-nil (took lane)) } in
-    record {
+    not_stopped Well false lanes start new left sent_start sent_new refl
+    (record {
       took = took;
       gave = gave;
       inputs = lanes_with_one lanes place m states start now new sent_start sent_now going taken;
@@ -338,4 +358,15 @@ ends_well lanes count place m states start now new left sent_start sent_now sent
               so = sym (prefix.1 ∙ ap (λ (l : List Message). gave ++ l) none ∙ append-nil gave);
             };
       };
-    }
+    })
+
+-- ---- rows came together
+
+pub refused_rows : (end : StageEnd) (stopped : Bool) (inputs : List Receiver) (lanes : ℕ) (start final left : ℕ → List Message)
+    (sent_start sent_new : List Message) → end ≡ PeerGone → stopped ≡ true → have_received_rows inputs ≡ true
+    → HasGatheredBy end stopped lanes start final left sent_start sent_new
+    → HasGatheredOrRefused (Fault OutOfOrder) inputs lanes start final left sent_start sent_new
+refused_rows end stopped inputs lanes start final left sent_start sent_new gone is rows by =
+    let there : HasGatheredBy PeerGone stopped lanes start final left sent_start sent_new =
+    subst (λ (e : StageEnd). HasGatheredBy e stopped lanes start final left sent_start sent_new) gone by in
+    inr (refl, record { together = rows; gathered = there.gathered; ended = there.ended is; stopped = there.stop_sent is })

@@ -18,6 +18,7 @@ use Rattle.pnm_tools.specs.Dealing.{dealt_height, dealt_message, dealt_from}
 use Rattle.pnm_stages.specs.declared.stage.StageEnd.{StageEnd}
 use Rattle.pnm_stages.specs.declared.stage.StageEnd.TheVariants.{Well, Broken, Fault, PeerGone}
 use Rattle.pnm_stages.specs.Rings.{Extends, IsEnded}
+use Rattle.pnm_lanes.specs.Gathers.{IsStopped, HasGathered}
 use Rattle.pnm_lanes.specs.declared.lane.LaneState.{LaneState}
 use Rattle.pnm_lanes.specs.declared.lane.LaneState.TheVariants.{Open, Ended, Gone}
 
@@ -229,14 +230,21 @@ pub record HasDrainedAll (lanes : ℕ) (ended : Bool) (states_old states_new : L
 -- ---- breaking off
 
 -- Stop was sent and each lane has ended; or the other end of a ring was seen dropped, and Stop was sent or wasn't
-abbrev pub HasStopped : StageEnd → StageEnd → ℕ → List LaneState → List Message → List Message → Type 0
-HasStopped cause end lanes states sent_old sent_new =
+abbrev pub HasStopped : StageEnd → StageEnd → Bool → ℕ → List LaneState → List Message → List Message → Type 0
+HasStopped cause end stopped lanes states sent_old sent_new =
     ((end ≡ cause) × (sent_new ≡ sent_old ++ Stop ∷ [])
     × ((lane : ℕ) → lane < lanes → IsDone true (state_at states lane)))
-    ⊎ ((end ≡ PeerGone) × ((sent_new ≡ sent_old ++ Stop ∷ []) ⊎ (sent_new ≡ sent_old))
+    ⊎ ((end ≡ PeerGone) × (stopped ≡ false) × ((sent_new ≡ sent_old ++ Stop ∷ []) ⊎ (sent_new ≡ sent_old))
     × ((lane : ℕ) → lane < lanes → IsDone false (state_at states lane)))
 
-pub record HasBrokenOffAll (cause end : StageEnd) (lanes : ℕ) (states_old states_new : List LaneState)
+pub record HasBrokenOffAll (cause end : StageEnd) (stopped : Bool) (lanes : ℕ) (states_old states_new : List LaneState)
     (old new seen_old seen_new : ℕ → List Message) (sent_old sent_new : List Message) : Type 0 where
   pub carried : CarriesOn lanes states_old states_new old new seen_old seen_new
-  pub stopped : HasStopped cause end lanes states_new sent_old sent_new
+  pub breaks : HasStopped cause end stopped lanes states_new sent_old sent_new
+
+-- a gatherer has ended so; once it is stopped, Stop was sent and each lane has ended
+pub record HasGatheredBy (end : StageEnd) (stopped : Bool) (lanes : ℕ)
+    (received_old received_new seen : ℕ → List Message) (sent_old sent_new : List Message) : Type 0 where
+  pub gathered : HasGathered end lanes received_old received_new seen sent_old sent_new
+  pub ended : stopped ≡ true → (lane : ℕ) → lane < lanes → IsEnded (gathered.took lane)
+  pub stop_sent : stopped ≡ true → IsStopped gathered.gave

@@ -1,8 +1,8 @@
 -- What the gatherer of lanes has received and sent once it has ended: the lanes' messages, put together again.
-use Rattle.std.specs.Prelude.{◌≡◌, ◌⊎◌, ◌<◌, ℕ, zero, suc, List, [], ◌∷◌, ◌++◌}
-use Rattle.std.specs.List.{AllByRecursion}
+use Rattle.std.specs.Prelude.{◌≡◌, ◌⊎◌, ◌<◌, ℕ, zero, suc, Bool, IsTrue, List, [], ◌∷◌, ◌++◌}
+use Rattle.std.specs.List.{AllByRecursion, list_any}
 use Rattle.pnm_stages.specs.declared.receiver.Receiver.{Receiver}
-use Rattle.pnm_stages.specs.Rings.{SameReceiver}
+use Rattle.pnm_stages.specs.Rings.{SameReceiver, has_received_rows}
 use Rattle.pnm_image.specs.declared.message.Message.{Message}
 use Rattle.pnm_image.specs.declared.message.Message.TheVariants.{Begin, Row, ImageEnd, StreamEnd, Stop}
 use Rattle.pnm_image.specs.Completion.{IsPrefixOf}
@@ -106,3 +106,25 @@ pub record HasGathered (end : StageEnd) (lanes : ℕ) (received_old received_new
   pub output : sent_new ≡ sent_old ++ gave
   pub seen_taken : (lane : ℕ) → lane < lanes → IsEnded (took lane) ⊎ (seen lane ≡ [])
   pub gathered : IsGathered end lanes took gave
+
+-- ---- where rows come together
+
+-- whether rows that were sent together were received on one of these ends
+abbrev pub have_received_rows : List Receiver → Bool
+have_received_rows inputs = list_any has_received_rows inputs
+
+-- a gatherer has refused rows that came together in a lane's ring: Stop was sent and each lane has ended. What was sent
+-- before is what may be sent where the other end of a ring was seen dropped.
+pub record HasRefusedRows (inputs : List Receiver) (lanes : ℕ) (received_old received_new seen : ℕ → List Message)
+    (sent_old sent_new : List Message) : Type 0 where
+  pub together : IsTrue (have_received_rows inputs)
+  pub gathered : HasGathered PeerGone lanes received_old received_new seen sent_old sent_new
+  pub ended : (lane : ℕ) → lane < lanes → IsEnded (gathered.took lane)
+  pub stopped : IsStopped gathered.gave
+
+-- by whatever comes on these ends: a gatherer has ended as where each row comes by itself, or by OutOfOrder
+abbrev pub HasGatheredOrRefused : StageEnd → List Receiver → ℕ → (ℕ → List Message) → (ℕ → List Message)
+    → (ℕ → List Message) → List Message → List Message → Type 0
+HasGatheredOrRefused end inputs lanes received_old received_new seen sent_old sent_new =
+    HasGathered end lanes received_old received_new seen sent_old sent_new
+    ⊎ ((end ≡ Fault OutOfOrder) × HasRefusedRows inputs lanes received_old received_new seen sent_old sent_new)

@@ -7,7 +7,7 @@ ghost use Rattle.pnm_lanes.specs.Limits.{IsLaneCount};
 ghost use Rattle.pnm_lanes.specs.LaneRuns.{HaveDealtAndGathered, IsDealerRun, IsGathererRun, AreAround};
 
 use crate::dealing::{DealDone, deal};
-use crate::gathering::{GatherDone, gather};
+use crate::gathering::{GatherDone, gather_from_lanes};
 use crate::joining::LanesDone;
 use pnm_stages::{Receiver, Sender, StageDone, Task, run_both};
 use std::alloc::Global;
@@ -64,7 +64,7 @@ impl<'a, R: Wait> Task for Gatherer<'a, R> {
     ghost run_gives = { λ g done. IsGathererRun g.inputs.items g.output done };
 
     fn run(self) -> GatherDone {
-        gather(self.rt, self.inputs, self.output)
+        gather_from_lanes(self.rt, self.inputs, self.output)
     }
 }
 

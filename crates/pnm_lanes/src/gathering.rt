@@ -3,12 +3,13 @@
 ghost use Rattle.std.specs.Prelude.{◌≡◌, ◌≤◌, length};
 ghost use Rattle.pnm_stages.specs.Rings.{sent, received, known_items, SameSender};
 ghost use Rattle.pnm_lanes.specs.Limits.{IsLaneCount};
-ghost use Rattle.pnm_lanes.specs.Gathers.{at_lane, AreSameInputs, HasGathered};
-ghost use Rattle.pnm_lanes.specs.GatherParts.{HasBrokenOffAll};
+ghost use Rattle.pnm_lanes.specs.Gathers.{at_lane, AreSameInputs, HasGathered, HasGatheredOrRefused};
+ghost use Rattle.pnm_lanes.specs.Gathers.{have_received_rows};
+ghost use Rattle.pnm_lanes.specs.GatherParts.{HasBrokenOffAll, HasGatheredBy};
 
 use crate::drain::drain_all;
 use crate::lane::{LaneState, MAX_LANES};
-use crate::next::receive_next;
+use crate::next::{OUT_OF_ORDER, receive_next};
 use pnm_image::{Ending, Message, Place};
 use pnm_stages::{Receiver, Sender, StageEnd};
 use std::sync::Wait;
@@ -24,16 +25,46 @@ pub struct GatherDone {
     pub end: StageEnd,
 }
 
+/// How the gathering has ended.
+#[derive(Clone, Copy)]
+struct GatherEnd {
+    /// As it is told, where each row comes by itself.
+    end: StageEnd,
+    /// Stop was sent, and each lane has ended.
+    is_stopped: bool,
+}
+
 /// Puts together what comes on `inputs`, one for each lane, and sends it on `output`: row y comes from lane y mod the
 /// number of lanes, and a head is that of each lane with the height of all. It ends `Well` with the end of the stream,
-/// which each lane gives; `Broken` where a lane gives Stop; and by `Fault(OutOfOrder)` where the lanes don't agree, or
-/// a message is out of place. After these two Stop is sent, and all lanes are drained, tried in turn and none waited
-/// for alone. Where the other end of a ring was seen dropped it ends by `PeerGone`, and has sent Stop, where there is
-/// someone to take it, and drained the lanes. No memory is taken: it ends so, too, where rows come together, which no
-/// lane sends.
+/// which each lane gives; `Broken` where a lane gives Stop; and by `Fault(OutOfOrder)` where the lanes don't agree, a
+/// message is out of place, or rows come together, which takes memory to take apart, and no lane sends. After these two
+/// Stop is sent, and all lanes are drained, tried in turn and none waited for alone. Where the other end of a ring was
+/// seen dropped it ends by `PeerGone`, and has sent Stop, where there is someone to take it, and drained the lanes. No
+/// memory is taken.
 ///
 /// The lanes' sending ends have `output` as their home (`Sender::set_home`), where this thread sleeps while it drains.
 pub fn gather<R: Wait>(rt: &R, inputs: Vec<Receiver>, output: Sender) -> GatherDone
+    requires { IsLaneCount (length inputs.items) }
+    ensures inputs { AreSameInputs inputs.items result.inputs.items }
+    ensures output { SameSender output result.output }
+    ensures gathered { HasGatheredOrRefused result.end result.inputs.items (length inputs.items)
+        (at_lane received inputs.items)
+        (at_lane received result.inputs.items) (at_lane known_items result.inputs.items) (sent output)
+        (sent result.output) }
+{
+    let mut inputs = inputs;
+    let mut output = output;
+    let end = gather_or_refuse(rt, inputs.as_mut_slice(), &mut output);
+    GatherDone {
+        inputs,
+        output,
+        end,
+    }
+}
+
+/// As `gather`, from the lanes of a tool, which send each row by itself. Where rows come together it ends by
+/// `PeerGone`, once Stop is sent and all lanes are drained.
+pub fn gather_from_lanes<R: Wait>(rt: &R, inputs: Vec<Receiver>, output: Sender) -> GatherDone
     requires { IsLaneCount (length inputs.items) }
     ensures inputs { AreSameInputs inputs.items result.inputs.items }
     ensures output { SameSender output result.output }
@@ -43,21 +74,48 @@ pub fn gather<R: Wait>(rt: &R, inputs: Vec<Receiver>, output: Sender) -> GatherD
 {
     let mut inputs = inputs;
     let mut output = output;
-    let end = gather_all(rt, inputs.as_mut_slice(), &mut output);
+    let gathered = gather_all(rt, inputs.as_mut_slice(), &mut output);
     GatherDone {
         inputs,
         output,
-        end,
+        end: gathered.end,
     }
 }
 
-/// Puts all messages together, through the end of the stream.
-fn gather_all<R: Wait>(rt: &R, inputs: &mut [Receiver], output: &mut Sender) -> StageEnd
+/// Puts all messages together, or refuses rows that come together.
+fn gather_or_refuse<R: Wait>(rt: &R, inputs: &mut [Receiver], output: &mut Sender) -> StageEnd
     requires some { 1 ≤ length inputs.old }
     requires few { length inputs.old ≤ MAX_LANES }
     ensures inputs { AreSameInputs inputs.old inputs.new }
     ensures output { SameSender output.old output.new }
-    ensures gathered { HasGathered result (length inputs.old) (at_lane received inputs.old)
+    ensures gathered { HasGatheredOrRefused result inputs.new (length inputs.old) (at_lane received inputs.old)
+        (at_lane received inputs.new)
+        (at_lane known_items inputs.new) (sent output.old) (sent output.new) }
+{
+    let GatherEnd { end, is_stopped } = gather_all(rt, inputs, output);
+    if let StageEnd::PeerGone = end
+        && is_stopped
+        && have_received_rows(inputs)
+    {
+        return OUT_OF_ORDER;
+    }
+    end
+}
+
+/// Whether rows that were sent together were received on one of these ends.
+fn have_received_rows(inputs: &[Receiver]) -> bool
+    ensures { result ≡ have_received_rows inputs.now }
+{
+    inputs.iter().any(|input| input.has_received_rows())
+}
+
+/// Puts all messages together, through the end of the stream.
+fn gather_all<R: Wait>(rt: &R, inputs: &mut [Receiver], output: &mut Sender) -> GatherEnd
+    requires some { 1 ≤ length inputs.old }
+    requires few { length inputs.old ≤ MAX_LANES }
+    ensures inputs { AreSameInputs inputs.old inputs.new }
+    ensures output { SameSender output.old output.new }
+    ensures gathered { HasGatheredBy result.end result.is_stopped (length inputs.old) (at_lane received inputs.old)
         (at_lane received inputs.new)
         (at_lane known_items inputs.new) (sent output.old) (sent output.new) }
 {
@@ -73,10 +131,18 @@ fn gather_all<R: Wait>(rt: &R, inputs: &mut [Receiver], output: &mut Sender) -> 
         place.step(&message);
         if !output.send(rt, message) {
             drain_all(rt, inputs, states, output);
-            return StageEnd::PeerGone;
+            return GatherEnd {
+                end: StageEnd::PeerGone,
+                is_stopped: false,
+            };
         }
         match ending {
-            Ending::Whole => return StageEnd::Well,
+            Ending::Whole => {
+                return GatherEnd {
+                    end: StageEnd::Well,
+                    is_stopped: false,
+                };
+            }
             // Stop is never the next message.
             Ending::More | Ending::BrokenOff => {}
         }
@@ -92,12 +158,13 @@ fn break_off<R: Wait>(
     inputs: &mut [Receiver],
     states: &mut [LaneState],
     output: &mut Sender,
-) -> StageEnd
+) -> GatherEnd
     requires some { 1 ≤ length inputs.old }
     requires states { length inputs.old ≡ length states.old }
     ensures inputs { AreSameInputs inputs.old inputs.new }
     ensures output { SameSender output.old output.new }
-    ensures broken { HasBrokenOffAll end result (length inputs.old) states.old states.new (at_lane received inputs.old)
+    ensures broken { HasBrokenOffAll end result.end result.is_stopped (length inputs.old) states.old states.new
+        (at_lane received inputs.old)
         (at_lane received inputs.new) (at_lane known_items inputs.old) (at_lane known_items inputs.new)
         (sent output.old)
         (sent output.new) }
@@ -105,8 +172,14 @@ fn break_off<R: Wait>(
     let told = output.send(rt, Message::Stop);
     let drained = drain_all(rt, inputs, states, output);
     if told && drained {
-        end
+        GatherEnd {
+            end,
+            is_stopped: true,
+        }
     } else {
-        StageEnd::PeerGone
+        GatherEnd {
+            end: StageEnd::PeerGone,
+            is_stopped: false,
+        }
     }
 }

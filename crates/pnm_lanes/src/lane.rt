@@ -24,7 +24,8 @@ pub enum LaneState {
 }
 
 /// The next message of a lane that hasn't ended. `Broken` where it is Stop; `PeerGone` once the lane's ring is empty
-/// and its other end was seen dropped, and where rows that were sent together come next, which no lane sends.
+/// and its other end was seen dropped, and where rows that were sent together come next, which no lane sends. They stay
+/// in the ring.
 pub fn receive_from<R: Wait>(
     rt: &R,
     inputs: &mut [Receiver],

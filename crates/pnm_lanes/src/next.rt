@@ -13,10 +13,11 @@ use pnm_tools::ToolFault;
 use std::sync::Wait;
 
 /// The lanes don't agree, or a message is out of place.
-const OUT_OF_ORDER: StageEnd = StageEnd::Fault(ToolFault::OutOfOrder);
+pub const OUT_OF_ORDER: StageEnd = StageEnd::Fault(ToolFault::OutOfOrder);
 
 /// The next message of the whole stream. `Broken` where a lane gives Stop; `Fault` where the lanes don't agree on it,
-/// or it is out of place; `PeerGone` where a lane's other end was seen dropped before, or rows come together.
+/// or it is out of place; `PeerGone` where a lane's other end was seen dropped before, and where rows come together,
+/// which stay in the lane's ring.
 pub fn receive_next<R: Wait>(
     rt: &R,
     inputs: &mut [Receiver],

@@ -1,9 +1,11 @@
 -- The messages of parcels.
-use Rattle.std.specs.Prelude.{IsFalse}
+use Rattle.std.specs.Prelude.{IsFalse, Bool, false, ◌||◌}
 use Rattle.std.proofs.Common.{◌≡◌, ◌⊎◌, inl, inr, subst, ℕ, nat_lt, length, arith, List, [], ◌∷◌, ◌++◌, refl, sym, ap, ◌∙◌, append-nil, append_assoc}
 use Rattle.std.specs.List.{AllByRecursion}
 use Rattle.std.proofs.lemmas.Grind.{flat_map-append}
 use Rattle.std.proofs.lemmas.List.Concat.{flat_map-cons}
+use Rattle.std.proofs.lemmas.List.Folds.{list_any-append}
+use Rattle.std.proofs.Math.Bool.{or-false}
 use Rattle.pnm_image.specs.declared.message.Message.{Message}
 use Rattle.pnm_image.specs.declared.message.Ending.TheVariants.{More, Whole, BrokenOff}
 use Rattle.pnm_image.specs.declared.message.Ending.{Ending}
@@ -15,7 +17,7 @@ use Rattle.pnm_image.specs.declared.parcel.Parcel.TheVariants.{Message as One, R
 use Rattle.pnm_tools.proofs.SoundLaws.{both_all}
 use Rattle.pnm_stages.specs.Rings.{Extends, IsEnded}
 use Rattle.pnm_image.specs.Parcels.{messages_in, ending_of_parcel}
-use Rattle.pnm_stages.specs.Parcels.{messages_of}
+use Rattle.pnm_stages.specs.Parcels.{messages_of, is_rows_together, has_rows_together}
 use Rattle.pnm_stages.proofs.RingSteps.{ends_nothing, ends_with}
 
 -- no parcels
@@ -89,3 +91,17 @@ parcel_says_end a parcel says (inr broken) = inr (sym says ∙ broken)
 pub known_by : {parcel : Parcel} {parcels others : List Parcel} → parcels ≡ parcel ∷ others → messages_of parcels ≡ messages_in parcel ++ messages_of others
 unfolding messages_of
 known_by {parcel = parcel} {others = others} same = ap messages_of same ∙ flat_map-cons messages_in parcel others
+
+-- ---- rows that were sent together
+
+-- none are among no parcels
+pub none_together : has_rows_together [] ≡ false
+unfolding has_rows_together
+none_together = refl
+
+-- one parcel more
+pub together_with : (parcels : List Parcel) (parcel : Parcel)
+    → has_rows_together (parcels ++ parcel ∷ []) ≡ (has_rows_together parcels || is_rows_together parcel)
+unfolding has_rows_together
+together_with parcels parcel = list_any-append is_rows_together parcels (parcel ∷ [])
+    ∙ ap (λ (b : Bool). has_rows_together parcels || b) (or-false (is_rows_together parcel))

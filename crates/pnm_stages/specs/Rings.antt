@@ -11,7 +11,7 @@ use Rattle.rtrb.specs.Ring.{SameConsumer as IsSameReceivingEnd}
 use Rattle.pnm_image.specs.declared.parcel.Parcel.{Parcel}
 use Rattle.pnm_stages.specs.declared.sender.Sender.{Sender}
 use Rattle.pnm_stages.specs.declared.receiver.Receiver.{Receiver}
-use Rattle.pnm_stages.specs.Parcels.{messages_of}
+use Rattle.pnm_stages.specs.Parcels.{messages_of, has_rows_together}
 
 -- ---- the two ends of a ring
 
@@ -35,6 +35,10 @@ known_parcels r = known_items_on r.ring
 
 abbrev pub known_items : Receiver → List Message
 known_items r = messages_of (known_parcels r)
+
+-- whether rows that were sent together were received by this end
+abbrev pub has_received_rows : Receiver → Bool
+has_received_rows r = has_rows_together (received_on r.ring)
 
 -- the two ends of one ring
 abbrev pub IsPair : Sender → Receiver → Type 0

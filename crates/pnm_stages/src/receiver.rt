@@ -1,13 +1,11 @@
 //! The receiving end of a ring of messages.
 
-ghost use Rattle.std.specs.Prelude.{◌≡◌, ◌<◌, List, [], ◌∷◌, ◌++◌, length, IfSome, IfNone, IsTrue, IsFalse};
+ghost use Rattle.std.specs.Prelude.{◌≡◌, ◌<◌, length};
 ghost use Rattle.std.specs.List.{AllByRecursion};
+ghost use Rattle.rtrb.specs.Ring.{received as received_on};
 ghost use Rattle.pnm_image.specs.Messages.{IsMessage};
-ghost use Rattle.pnm_stages.specs.Rings.{sent, received, known_items, IsPair, SameSender, SameReceiver, HasDrained};
-ghost use Rattle.pnm_stages.specs.Rings.{known_parcels, HasDrainedAfter};
 ghost use Rattle.pnm_image.specs.Parcels.{messages_in};
-ghost use Rattle.pnm_stages.specs.Parcels.{BeginsByNoMessage};
-ghost use Rattle.pnm_image.specs.declared.parcel.Parcel.{Parcel as ParcelValue};
+ghost use Rattle.pnm_stages.specs.Parcels.{is_rows_together, has_rows_together};
 
 use crate::ring::AnyMessage;
 use crate::sender::Sender;
@@ -23,19 +21,35 @@ pub struct Receiver {
     /// The end itself. It comes first, since it has to be gone before the other thread is woken.
     pub(crate) ring: Consumer<Parcel, Global, AnyMessage>,
     waker: ReceiverWaker,
-    /// Half of the messages that were seen in the ring at the last look.
-    half: usize,
+    /// Half of the messages that were seen in the ring at the last look. It is narrow, since many ends lie on the stack
+    /// of a thread that starts others.
+    half: u32,
+    /// Whether rows that were sent together were received.
+    has_rows: bool,
+    ghost rows: { has_rows ≡ has_rows_together (received_on ring) },
 }
 
 impl Receiver {
+    ghost use Rattle.std.specs.Prelude.{◌≡◌, ◌<◌, List, [], ◌∷◌, ◌++◌, length, IfSome, IfNone, IsTrue, IsFalse};
+    ghost use Rattle.std.specs.List.{AllByRecursion};
+    ghost use Rattle.rtrb.specs.Ring.{received as received_on};
+    ghost use Rattle.pnm_image.specs.Messages.{IsMessage};
+    ghost use Rattle.pnm_image.specs.Parcels.{messages_in};
+    ghost use Rattle.pnm_image.specs.declared.parcel.Parcel.{Parcel as ParcelValue};
+    ghost use Rattle.pnm_stages.specs.Parcels.{BeginsByNoMessage};
+    ghost use Rattle.pnm_stages.specs.Rings.{sent, received, known_items, IsPair, SameSender, SameReceiver, HasDrained};
+    ghost use Rattle.pnm_stages.specs.Rings.{known_parcels, has_received_rows, HasDrainedAfter};
+
     /// The end of this ring, with what it has of the ring's wakers.
     pub(crate) fn new(ring: Consumer<Parcel, Global, AnyMessage>, waker: ReceiverWaker) -> Receiver
+        requires { received_on ring ≡ [] }
         ensures { result.ring ≡ ring }
     {
         Receiver {
             ring,
             waker,
             half: 0,
+            has_rows: false,
         }
     }
 
@@ -59,7 +73,7 @@ impl Receiver {
         ensures empty { IsFalse result → known_parcels self.new ≡ [] }
     {
         let seen = self.ring.slots();
-        self.half = seen / 2;
+        self.half = u32::try_from(seen / 2).unwrap_or(u32::MAX);
         seen > 0
     }
 
@@ -102,11 +116,19 @@ impl Receiver {
     {
         let parcel = self.ring.pop_known();
         let left = self.ring.cached_slots();
-        if left == 0 || left == self.half {
+        if left == 0 || left == self.half as usize {
             self.waker.wake_sender();
         }
-        recognise(&parcel);
+        let are_rows = recognise(&parcel);
+        self.has_rows = self.has_rows || are_rows;
         parcel
+    }
+
+    /// Whether rows that were sent together were received.
+    pub fn has_received_rows(&self) -> bool
+        ensures { result ≡ has_received_rows self.now }
+    {
+        self.has_rows
     }
 
     /// What was received, and what is left of the messages then, are all that was sent, since both ends of the ring are
@@ -218,16 +240,21 @@ impl Receiver {
     }
 }
 
-/// No effect. A proof learns that a parcel is a message at least, and that the head of an image keeps the rules of
-/// heads.
-fn recognise(parcel: &Parcel)
+/// Whether a parcel is rows that were sent together. A proof learns that it is a message at least, and that the head
+/// of an image keeps the rules of heads.
+fn recognise(parcel: &Parcel) -> bool
+    ensures rows { result ≡ is_rows_together parcel.now }
     ensures some { 0 < length (messages_in parcel.now) }
     ensures messages { AllByRecursion IsMessage (messages_in parcel.now) }
 {
     match parcel {
-        Parcel::Message(message) => recognise_message(message),
+        Parcel::Message(message) => {
+            recognise_message(message);
+            false
+        }
         Parcel::Rows(rows) => {
             let _ = rows.count();
+            true
         }
     }
 }

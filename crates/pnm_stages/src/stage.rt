@@ -42,7 +42,7 @@ pub enum StageEnd {
     /// Stop.
     Fault(ToolFault),
     /// The other end of a ring was seen dropped. Where it was the output's, the input was drained first; where it was
-    /// the input's, Stop was sent. Where lanes are gathered, rows that come together in a lane's ring end it so, too.
+    /// the input's, Stop was sent.
     PeerGone,
 }
 

@@ -28,11 +28,12 @@ returns-in-Err-clause-output g c = same_output c.args.output.now c.loop.output c
 pub returns-in-Err-clause-gathered : goal.returns-in-Err-clause-gathered
 returns-in-Err-clause-gathered g c =
     let count = as_many c.args.inputs.now c.loop.inputs c.loop.invariant.0 in
-    broken_off (length c.args.inputs.now) (length c.loop.inputs) c.loop.place c.in-Err.end c.break_off.result c.receive_next.new.states c.break_off.new.states
+    broken_off (length c.args.inputs.now) (length c.loop.inputs) c.loop.place c.in-Err.end c.break_off.result.end
+    c.break_off.result.is_stopped c.receive_next.new.states c.break_off.new.states
     (at_lane received c.args.inputs.now) (at_lane received c.loop.inputs) (at_lane received c.receive_next.new.inputs) (at_lane received c.break_off.new.inputs)
     (at_lane known_items c.receive_next.new.inputs) (at_lane known_items c.break_off.new.inputs)
     (sent c.args.output.now) (sent c.loop.output) (sent c.break_off.new.output) c.loop.invariant.2 c.requires.some count c.in-Err.ensures.taken
-    (subst (λ (n : ℕ). HasBrokenOffAll c.in-Err.end c.break_off.result n c.receive_next.new.states c.break_off.new.states
+    (subst (λ (n : ℕ). HasBrokenOffAll c.in-Err.end c.break_off.result.end c.break_off.result.is_stopped n c.receive_next.new.states c.break_off.new.states
     (at_lane received c.receive_next.new.inputs)
     (at_lane received c.break_off.new.inputs)
     (at_lane known_items c.receive_next.new.inputs) (at_lane known_items c.break_off.new.inputs) (sent c.loop.output) (sent c.break_off.new.output))
