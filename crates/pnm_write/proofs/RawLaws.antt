@@ -1,11 +1,12 @@
 -- The bytes of samples: step by step, and part by part.
-use Rattle.std.proofs.Common.{◌≡◌, ℕ, ◌+◌, ◌*◌, ◌/◌, ◌%◌, ◌<◌, ◌≤◌, min, List, [], ◌∷◌, ◌++◌, length, get_or, set, take, drop, refl, sym, ap, ap₂, ◌∙◌}
-use Rattle.std.proofs.Common.{append_assoc, arith, inl, inr}
-use Rattle.std.proofs.Math.ListN.{length-set}
+use Rattle.std.proofs.Common.{◌≡◌, ℕ, ◌+◌, ◌*◌, ◌/◌, ◌%◌, ◌<◌, ◌≤◌, min, List, [], ◌∷◌, ◌++◌, length, get_or, take, drop, refl, sym, ap, ap₂, ◌∙◌}
+use Rattle.std.proofs.Common.{arith, inl, inr}
+use borrow.Rule.Slice.PartMut.{put_mid}
 use Rattle.std.proofs.lemmas.Bool.{cases_lt}
 use Rattle.std.proofs.lemmas.Grind.{flat_map-append}
-use Rattle.std.proofs.lemmas.List.{append-nil, take_all, drop_all, take_more, take_more_set, take-append-drop}
+use Rattle.std.proofs.lemmas.List.{append-nil, take_all, drop_all, take_more, take-append-drop}
 use Rattle.std.proofs.lemmas.List.Elements.{All-drop}
+use Rattle.std.proofs.lemmas.Slice.{take-put_mid}
 use Rattle.pnm_image.specs.declared.sample_width.SampleWidth.{SampleWidth}
 use Rattle.pnm_image.specs.declared.sample_width.SampleWidth.TheVariants.{Bits, Bytes, Words}
 use Rattle.pnm_write.specs.Encoding.{packed_bytes, wide_bytes, bytes_in}
@@ -15,23 +16,14 @@ use Rattle.pnm_write.specs.WriteBuffers.{most_samples, FitIn}
 -- ---- samples of two bytes
 
 -- the bytes of one sample more
-pub wide_more : (xs buffer : List ℕ) (i high low : ℕ) → take (2 * i) buffer ≡ wide_bytes (take i xs) → i < length xs → 2 * length xs ≤ length buffer
-    → high ≡ get_or xs i 0 / 256 → low ≡ get_or xs i 0 % 256
-    → take (2 * (i + 1)) (set (set buffer (2 * i) high) (2 * i + 1) low) ≡ wide_bytes (take (i + 1) xs)
-wide_more xs buffer i high low known below enough h l =
-    let two : 2 * (i + 1) ≡ 2 * i + 1 + 1 = omega arith in
-    let first : 2 * i < length buffer = omega arith in
-    let second : 2 * i + 1 < length (set buffer (2 * i) high) = omega (arith, length-set buffer (2 * i) high) in
+pub wide_more : (xs buffer pair : List ℕ) (i m : ℕ) → take (2 * i) buffer ≡ wide_bytes (take i xs) → i < length xs → 2 * length xs ≤ length buffer
+    → pair ≡ get_or xs i 0 / 256 ∷ get_or xs i 0 % 256 ∷ [] → take (2 * (i + 1)) (put_mid (2 * i) m buffer pair) ≡ wide_bytes (take (i + 1) xs)
+wide_more xs buffer pair i m known below enough is =
+    let next : 2 * (i + 1) ≡ 2 * i + length pair = omega (arith, ap length is) in
     let sample : take (i + 1) xs ≡ take i xs ++ get_or xs i 0 ∷ [] = take_more xs i 0 below in
     let bytes : wide_bytes (take (i + 1) xs) ≡ wide_bytes (take i xs) ++ (get_or xs i 0 / 256 ∷ get_or xs i 0 % 256 ∷ []) =
     ap wide_bytes sample ∙ flat_map-append (λ (s : ℕ). s / 256 ∷ s % 256 ∷ []) (take i xs) (get_or xs i 0 ∷ []) in
-    ap (λ (m : ℕ). take m (set (set buffer (2 * i) high) (2 * i + 1) low)) two
-    ∙ take_more_set (set buffer (2 * i) high) (2 * i + 1) low second
-    ∙ ap (λ (r : List ℕ). r ++ low ∷ []) (take_more_set buffer (2 * i) high first)
-    ∙ append_assoc (take (2 * i) buffer) (high ∷ []) (low ∷ [])
-    ∙ ap (λ (r : List ℕ). r ++ (high ∷ low ∷ [])) known
-    ∙ ap₂ (λ (a b : ℕ). wide_bytes (take i xs) ++ (a ∷ b ∷ [])) h l
-    ∙ sym bytes
+    take-put_mid (2 * i) m buffer pair (2 * (i + 1)) next (omega arith) ∙ ap₂ (λ (a b : List ℕ). a ++ b) known is ∙ sym bytes
 
 -- ---- parts of a row
 

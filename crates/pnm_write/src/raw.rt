@@ -27,9 +27,8 @@ fn widen(samples: &[u16], buffer: &mut [u8]) -> usize
     ensures bytes { take result buffer.new ≡ wide_bytes samples.now }
 {
     for i in 0..samples.len() {
-        let sample = samples[i];
-        buffer[2 * i] = (sample / 256) as u8;
-        buffer[2 * i + 1] = (sample % 256) as u8;
+        let pair = &mut buffer[2 * i..2 * i + 2];
+        pair.copy_from_slice(&samples[i].to_be_bytes());
     }
     2 * samples.len()
 }
