@@ -84,8 +84,8 @@ fn mirror_bits(bits: Bits, pixels: usize) -> Bits
     bits
 }
 
-/// So many pixels, or rows, of so many samples each, the last one first: all samples change places, and then those of
-/// each pixel do again.
+/// So many pixels of so many samples each, the last one first: all samples change places, and then those of each pixel
+/// do again.
 fn reverse_pixels<T: Copy>(samples: &mut [T], pixels: usize, size: usize)
     requires size { 1 ≤ size }
     requires pixels { length samples.old ≡ pixels * size }
@@ -215,7 +215,29 @@ fn copy_reversed(alloc: Global, bits: &Bits, count: usize, each: usize) -> Resul
     Ok(made)
 }
 
-/// So many rows of an image of this maxval, the last row first: bytes and words change places, bits are copied.
+/// So many rows of so many samples each, the last row first, copied.
+///
+/// # Errors
+///
+/// Where there is no memory for the copy.
+fn copy_rows_reversed<T: Copy>(
+    alloc: Global,
+    samples: &[T],
+    count: usize,
+    each: usize,
+) -> Result<Vec<T>, AllocError>
+    requires { length samples.now ≡ count * each }
+    ensures { IfOk result (λ made. made.items ≡ last_first count each samples.now) }
+{
+    let mut made = Vec::with_capacity(alloc, samples.len())?;
+    for y in 0..count {
+        let start = (count - 1 - y) * each;
+        made.extend_from_slice(&samples[start..start + each])?;
+    }
+    Ok(made)
+}
+
+/// So many rows of an image of this maxval, the last row first, copied: so each sample is moved once.
 ///
 /// # Errors
 ///
@@ -240,13 +262,13 @@ fn reverse_rows(
             let copied = copy_reversed(alloc, &bits, count, each)?;
             Ok(Samples::from_vec(SampleVec::Bits(copied)))
         }
-        SampleVec::Bytes(mut bytes) => {
-            reverse_pixels(bytes.as_mut_slice(), count, each);
-            Ok(Samples::within(SampleVec::Bytes(bytes), maxval))
+        SampleVec::Bytes(bytes) => {
+            let copied = copy_rows_reversed(alloc, bytes.as_slice(), count, each)?;
+            Ok(Samples::within(SampleVec::Bytes(copied), maxval))
         }
-        SampleVec::Words(mut words) => {
-            reverse_pixels(words.as_mut_slice(), count, each);
-            Ok(Samples::within(SampleVec::Words(words), maxval))
+        SampleVec::Words(words) => {
+            let copied = copy_rows_reversed(alloc, words.as_slice(), count, each)?;
+            Ok(Samples::within(SampleVec::Words(copied), maxval))
         }
     }
 }
@@ -256,7 +278,7 @@ fn reverse_rows(
 ///
 /// # Errors
 ///
-/// Where there is no memory for bits that are copied or become bytes.
+/// Where there is no memory for rows that are copied, or for bits that become bytes.
 fn turn_rows(alloc: Global, turn: Turn, shape: Shape, rows: Rows) -> Result<Rows, AllocError>
     requires limits { IsWithinLimits shape }
     requires rows { AllByRecursion (IsRowOf shape) rows }
