@@ -147,11 +147,10 @@ COPYING = {
     "pamflip -lr": 1,
     "pamflip -tb": 3,
     "pamflip -r180": 3,
-    # of each image a list of rows, two rows, and room for these behind those that are kept
-    "pamflip -xy": 12,
-    "pamflip -r90": 12,
-    "pamflip -r270": 12,
-    # of each image a list of the rows
+    # of each image the list of its rows
+    "pamflip -xy": 3,
+    "pamflip -r90": 3,
+    "pamflip -r270": 3,
     "pnmtile 3 3": 3,
     "pamcut -left 1": 1,
     "pamcut -top 1 -height 1": 1,
@@ -192,7 +191,7 @@ def commands_over(lanes):
     yield command("pamflip -lr", EIGHT, TURNED, 1, 0, spared=1)
     yield command("pamcut -left 3 | pamflip -lr", EIGHT, CUT_AND_TURNED, 1, 1, spared=2)
     yield command("pamenlarge 2 | pnminvert", gray(9, [7]), gray(9, [2, 2], [2, 2]), 1, 1)
-    yield command("pamflip -xy", gray(9, [1, 2], [3, 4], [5, 6]), gray(9, [1, 3, 5], [2, 4, 6]), 0, 1, spared=5)
+    yield command("pamflip -xy", gray(9, [1, 2], [3, 4], [5, 6]), gray(9, [1, 3, 5], [2, 4, 6]), 0, 1, spared=1)
     yield command("pamflip -null", TYPED, pam(1, 1, b"A B", [1]), 1, 0)
     yield command("pnminvert", gray(9, [1], [2]), gray(9, [8], [7]), 1, 0, ring=64)
     pixel, picked = b"P3 1 1 255 10 20 30", pam(255, 2, b"RGB", [30, 10])

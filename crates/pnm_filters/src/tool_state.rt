@@ -67,11 +67,8 @@ fn by_row<T: RowTool>(tool: T) -> ByRow<T>
 }
 
 /// How many samples a row has at most that a tool takes together with others where it exchanges columns and rows of
-/// bytes or words: it keeps longer ones in strips, for which each row comes by itself.
+/// bytes or words: it keeps longer ones in strips, for which each row comes by itself. Bits it keeps together.
 const MOST_EXCHANGED: u64 = 256;
-
-/// The same of bits, whose rows it keeps as they are: to take longer ones out again costs what it saves.
-const MOST_BITS_EXCHANGED: u64 = 1024;
 
 /// How many samples a row has at most that the tool takes together with others which are held so, as far as can be told
 /// beforehand: 0 where it takes none so. It takes rows one by one all the same where they are bits of several planes
@@ -80,7 +77,7 @@ const MOST_BITS_EXCHANGED: u64 = 1024;
 pub fn longest_together(tool: &Tool, sample_width: SampleWidth) -> u64 {
     match tool {
         Tool::Flip(way) if way.turn().exchanged => match sample_width {
-            SampleWidth::Bits => MOST_BITS_EXCHANGED,
+            SampleWidth::Bits => u64::MAX,
             SampleWidth::Bytes | SampleWidth::Words => MOST_EXCHANGED,
         },
         // More than that isn't made at once of rows that fill a buffer.

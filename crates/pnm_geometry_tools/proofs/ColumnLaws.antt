@@ -7,7 +7,8 @@ use Rattle.std.proofs.Math.ListN.{length-set}
 use Rattle.std.proofs.Math.Seq.{get_or-append_seam, take-add}
 use Rattle.std.proofs.lemmas.Bool.{cases_eq, cases_lt}
 use Rattle.std.proofs.lemmas.Grind.{get_or-set_at, flat_map-append}
-use Rattle.std.proofs.lemmas.List.{append_assoc, append-nil, length-append, length-drop, length-take-le, length-map, take_all, drop_more, get_or-map}
+use Rattle.std.proofs.lemmas.List.{append_assoc, append-nil, length-append, length-drop, length-take-le, length-map, take_all, drop_more}
+use Rattle.std.proofs.lemmas.List.{get_or-drop, get_or-map, get_or-take}
 use Rattle.std.proofs.lemmas.List.{get_or-set_other, get_or_append_left, get_or_default, same_lists, with_items_is}
 use Rattle.std.proofs.lemmas.List.Elements.{All-head, All-tail, All-weaker, All-take, All-drop, All-get_or}
 use Rattle.std.proofs.lemmas.List.FromFn.{get_or-map-range_with_len, length-map-range_with_len}
@@ -110,12 +111,6 @@ four_samples {X = X} x rows a b c d va vb vc vd four long ia ib ic id ea eb ec e
     ∙ ap (λ (l : List X). va ∷ vb ∷ (l ++ (pixel_of 1 d x ++ []))) pc ∙ ap (λ (l : List X). va ∷ vb ∷ vc ∷ (l ++ [])) pd)
     ∙ pixels_of_four 1 x rows a b c d four ia ib ic id
 
--- a row of four reaches behind these columns
-pub row_reaches : {X : Type 0} (depth first count k i : ℕ) (rows : List (List X)) (a row : List X) → length rows ≡ 4 → i < 4 → k < count → a ≡ row
-    → row ≡ get_or rows i row → All (λ row. (first + count) * depth ≤ length row) rows → ((first + k) + 1) * depth ≤ length a
-row_reaches {X = X} depth first count k i rows a row four among below same is long =
-    reaches depth (first + k) i rows a (omega arith) (looked_up rows i a row same is) (reach depth first count k rows below long)
-
 -- pixels of three samples
 pub four_colors : {X : Type 0} (x n : ℕ) (rows : List (List X)) (a b c d p q r s : List X) → n ≡ 3 * x → length rows ≡ 4
     → a ≡ get_or rows 0 a → b ≡ get_or rows 1 b → c ≡ get_or rows 2 c → d ≡ get_or rows 3 d
@@ -134,6 +129,29 @@ pub reach_part : {X : Type 0} (depth first count now y m : ℕ) (rows : List (Li
 reach_part {X = X} depth first count now y m rows many far =
     let P : List X → Type 0 = λ row. (first + now) * depth ≤ length row in
     All-take P m (drop y rows) (All-drop P y rows (subst (λ (n : ℕ). All (λ row. (first + n) * depth ≤ length row) rows) (sym many) far))
+
+-- so do all behind one
+pub reach_rest : {X : Type 0} (depth first count y : ℕ) (rows : List (List X)) → All (λ row. (first + count) * depth ≤ length row) rows
+    → All (λ row. (first + count) * depth ≤ length row) (drop y rows)
+reach_rest {X = X} depth first count y rows far = All-drop (λ (row : List X). (first + count) * depth ≤ length row) y rows far
+
+-- four rows of them
+pub four_of : {X : Type 0} (y : ℕ) (rows : List (List X)) → y + 4 ≤ length rows → length (take 4 (drop y rows)) ≡ 4
+four_of y rows le = length-take-le 4 (drop y rows) (omega (arith, length-drop y rows))
+
+-- a row of those behind one
+pub row_of_rest : {X : Type 0} (y i : ℕ) (rows : List (List X)) (a : List X) → y + i < length rows → a ≡ get_or rows (y + i) [] → a ≡ get_or (drop y rows) i a
+row_of_rest y i rows a lt is = is ∙ get_or_default rows (y + i) [] a lt ∙ sym (get_or-drop y rows i a)
+
+pub row_of_part : {X : Type 0} (m y i : ℕ) (rows : List (List X)) (a : List X) → i < m → y + i < length rows → a ≡ get_or rows (y + i) []
+    → a ≡ get_or (take m (drop y rows)) i a
+row_of_part m y i rows a below lt is = row_of_rest y i rows a lt is ∙ sym (get_or-take m (drop y rows) i a below)
+
+-- a row that was looked up reaches behind these columns
+pub row_reaches_at : {X : Type 0} (depth first count k i : ℕ) (rows : List (List X)) (a : List X) → k < count → i < length rows → a ≡ get_or rows i []
+    → All (λ row. (first + count) * depth ≤ length row) rows → ((first + k) + 1) * depth ≤ length a
+row_reaches_at depth first count k i rows a below lt is long =
+    reaches depth (first + k) i rows a lt (is ∙ get_or_default rows i [] a lt) (reach depth first count k rows below long)
 
 -- nothing is stored yet
 pub nothing_stored : {X : Type 0} (at : ℕ) (pixels : ℕ → List X) (columns : List (Vec X Global)) → HavePixels 0 at pixels columns columns

@@ -1,5 +1,5 @@
 -- Rows that come together, enlarged: all their pixels as those of one long row, and the rows as pixels of a column.
-use Rattle.std.proofs.Common.{◌≡◌, ℕ, zero, suc, ◌+◌, ◌-◌, ◌*◌, ◌≤◌, ◌<◌, List, [], ◌∷◌, ◌++◌, length, map, take, drop, replicate, All, refl, sym, ap}
+use Rattle.std.proofs.Common.{◌≡◌, ℕ, zero, suc, ◌+◌, ◌-◌, ◌*◌, ◌≤◌, ◌<◌, List, [], ◌∷◌, ◌++◌, length, map, take, drop, replicate, refl, sym, ap}
 use Rattle.std.proofs.Common.{◌∙◌, arith, mul-le-mul, suc-mul, zero-mul, append-nil, append_assoc, length-take-le, length-drop}
 use Rattle.std.specs.List.{AllByRecursion, concat, flat_map, range_with_len}
 use Rattle.std.proofs.lemmas.List.{drop_at, drop-drop, drop-take, length-append, length-replicate, take_all, take_at, take-take}

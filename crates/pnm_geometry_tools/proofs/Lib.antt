@@ -11,3 +11,4 @@ pub mod TileRowLaws
 pub mod TileRowsLaws
 pub mod RepeatedBitLaws
 pub mod EnlargedRowsLaws
+pub mod FlatRowsLaws

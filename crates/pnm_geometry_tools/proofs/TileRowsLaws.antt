@@ -1,7 +1,7 @@
 -- Rows of an image that come together to be tiled, and rows of the result that are given together.
 use Rattle.std.proofs.Common.{◌≡◌, inl, ℕ, zero, suc, ◌+◌, ◌-◌, ◌*◌, ◌%◌, ◌<◌, ◌≤◌, List, [], ◌∷◌, ◌++◌, length, map, take, drop, min, All}
 use Rattle.std.proofs.Common.{refl, sym, ap, ◌∙◌, arith, append-nil, get_or, subst, suc-mul, zero-mul}
-use Rattle.std.specs.List.{AllByRecursion, flat_map, range_with_len}
+use Rattle.std.specs.List.{AllByRecursion, flat_map, range_with_len, slice_range}
 use Rattle.std.proofs.lemmas.List.{take_all, take_at, take_min, take-append-le, take-append-drop, take-take, map-append}
 use Rattle.std.proofs.lemmas.List.{drop_at, drop-append-le, drop-drop, drop-take, length-drop, length-map}
 use Rattle.std.proofs.lemmas.List.{append_assoc, length-append, length-take, nil_from_length}
@@ -21,7 +21,7 @@ use Rattle.pnm_samples.proofs.CutLaws.{length-cut_rows}
 use Rattle.pnm_geometry_tools.specs.Keeping.{Tiled, IsTiling, AreWithin, tiled, tiled_due, shown_row, HasTiles, fronts_in, row_of_samples, row_of_tiles}
 use Rattle.pnm_geometry_tools.proofs.TileRowLaws.{row_of_tile, length_tiled, tiled_within}
 use Rattle.pnm_image.specs.Images.{cut_rows}
-use Rattle.pnm_geometry_tools.proofs.CutRowsLaws.{cut_each, lengths_of}
+use Rattle.pnm_geometry_tools.proofs.CutRowsLaws.{lengths_of}
 
 -- no row is answered before the image has ended
 pub none_answer : (across down : ℕ) (s : Shape) (y : ℕ) (rows : List (List ℕ)) → rows_answer (Tile across down) s y rows ≡ []
@@ -152,6 +152,26 @@ piece_more {X = X} f y at held now from were is =
     ∙ sym (pieces_in_parts f y (at - y) 1) ∙ ap (λ (n : ℕ). flat_map f (range_with_len y n)) (sym parts)
 
 -- ---- rows that are held one after another
+
+-- the rows from one on
+rows_from : (each : ℕ) (samples : List ℕ) (a n : ℕ) → map (pixel_of each samples) (range_with_len a n) ≡ cut_rows n each (drop (a * each) samples)
+rows_from each samples a zero = refl
+rows_from each samples a (suc n) =
+    let next : drop ((a + 1) * each) samples ≡ drop each (drop (a * each) samples) =
+    sym (drop-drop each (a * each) samples ∙ ap (λ (k : ℕ). drop k samples) (sym (suc-mul a each) ∙ ap (λ (k : ℕ). k * each) (omega arith))) in
+    ap (λ (l : List (List ℕ)). take each (drop (a * each) samples) ∷ l) (rows_from each samples (a + 1) n ∙ ap (cut_rows n each) next)
+
+-- one after the other they are all rows
+cut_each : (count each : ℕ) (samples : List ℕ) → map (pixel_of each samples) (range_with_len 0 count) ≡ cut_rows count each samples
+cut_each count each samples =
+    let none : 0 * each ≡ 0 = omega arith in
+    rows_from each samples 0 count ∙ ap (λ (k : ℕ). cut_rows count each (drop k samples)) none
+
+-- a row is a slice
+pub row_of_slice : {X : Type 0} (samples : List X) (i each : ℕ) → slice_range samples (i * each) (i * each + each) ≡ pixel_of each samples i
+row_of_slice {X = X} samples i each =
+    let size : (i * each + each) - i * each ≡ each = omega arith in
+    ap (λ (n : ℕ). take n (drop (i * each) samples)) size
 
 -- a row of them
 row_at : (count each k : ℕ) (samples : List ℕ) → k < count → get_or (cut_rows count each samples) k [] ≡ pixel_of each samples k

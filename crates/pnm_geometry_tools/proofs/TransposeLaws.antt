@@ -4,7 +4,8 @@ use Rattle.std.proofs.Common.{if◌then◌else◌, Ok, nat_lt, append_assoc, All
 use Rattle.std.specs.List.{range_with_len}
 use Rattle.std.proofs.lemmas.Bool.{ltb-true}
 use Rattle.std.proofs.lemmas.Grind.{flat_map-append}
-use Rattle.std.proofs.lemmas.List.{length-append, reverse-append, reverse-reverse}
+use Rattle.std.proofs.lemmas.List.{length-append, length-reverse, reverse-append, reverse-reverse}
+use Rattle.std.proofs.lemmas.List.FromFn.{length-map-range_with_len}
 use Rattle.std.proofs.lemmas.List.Elements.{All-nil, All-cons, All-append}
 use Rattle.pnm_image.specs.declared.limits.TheConstants.{MAX_ROW_LENGTH}
 use Rattle.pnm_image.specs.declared.sample_width.SampleWidth.{SampleWidth}
@@ -221,6 +222,12 @@ first_made way depth sample_width next columns count b strips rows batch first_f
     ∙ ap (λ (l : List (List ℕ)). l ++ rest) (ap reverse made ∙ reverse-reverse (map f (range_with_len next count)))
     ∙ sym (ap (λ (n : ℕ). map f (range_with_len next n)) parts ∙ map_in_parts f next count (columns - (next + count)))
     ∙ ap (λ (b : Bool). in_order b (map f (range_with_len next (columns - next)))) (sym first_first)
+
+-- a batch of some columns has some
+pub batch_some : (f : ℕ → List ℕ) (first count : ℕ) (batch : List (List ℕ)) → batch ≡ reverse (map f (range_with_len first count)) → 0 < count
+    → 0 < length batch
+batch_some f first count batch is some =
+    omega (arith, ap length is, length-reverse (map f (range_with_len first count)), length-map-range_with_len f first count, some)
 
 -- where the last columns come first, they were the last ones
 pub last_made : (way : FlipWay) (depth : ℕ) (sample_width : SampleWidth) (next columns first count : ℕ) (b : Bool) (strips rows made batch : List (List ℕ))

@@ -1,4 +1,5 @@
 pub mod Columns
+pub mod FlatRows
 pub mod Strips
 pub mod SampleRows
 pub mod Keeping

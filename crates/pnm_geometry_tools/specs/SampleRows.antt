@@ -9,9 +9,9 @@ use Rattle.pnm_geometry_tools.specs.declared.sample_rows.SampleRows.TheVariants.
 
 -- the samples of each row that stands in no strip
 abbrev pub row_lists : SampleRows → List (List ℕ)
-row_lists (Bits rows) = rows.items
-row_lists (Bytes kept) = kept.rows.items
-row_lists (Words kept) = kept.rows.items
+row_lists (Bits rows) = rows
+row_lists (Bytes kept) = kept.rows
+row_lists (Words kept) = kept.rows
 
 -- the samples of each strip
 abbrev pub strip_lists : SampleRows → List (List ℕ)

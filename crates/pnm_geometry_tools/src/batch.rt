@@ -1,6 +1,6 @@
 //! Columns of an image, made side by side.
 
-ghost use Rattle.std.specs.Prelude.{◌≡◌, ◌≤◌, ◌+◌, ◌*◌, ℕ, List, All, length, map, reverse};
+ghost use Rattle.std.specs.Prelude.{◌≡◌, ◌≤◌, ◌+◌, ◌*◌, ℕ, List, All, drop, length, map, reverse, take};
 ghost use Rattle.std.specs.Prelude.{IfOk, IfErr};
 ghost use Rattle.std.specs.List.{range_with_len};
 ghost use Rattle.pnm_image.specs.declared.limits.TheConstants.{MAX_DEPTH, MAX_ROW_LENGTH};
@@ -12,6 +12,7 @@ ghost use Rattle.pnm_geometry_tools.specs.Strips.{ReachColumns, kept_column, kep
 
 use crate::buffer::store;
 use crate::color::color_at;
+use crate::flat_rows::FlatRows;
 use crate::row_of::RowOf;
 use crate::strip::{STRIP_ROWS, StripedRows};
 use pnm_image::{Bits, SampleVec, Samples};
@@ -77,11 +78,11 @@ pub(crate) fn columns_of<T: Copy + Default>(
     count: usize,
     depth: usize,
 ) -> Result<Vec<Vec<T>>, ToolFault>
-    requires reach { ReachColumns (first + count) depth kept.now.strips.items kept.now.rows.items }
-    requires sizes { (kept_count kept.now.strips.items kept.now.rows.items * depth ≤ MAX_ROW_LENGTH)
+    requires reach { ReachColumns (first + count) depth kept.now.strips.items kept.now.rows }
+    requires sizes { (kept_count kept.now.strips.items kept.now.rows * depth ≤ MAX_ROW_LENGTH)
         × (depth ≤ MAX_DEPTH) × (first + count ≤ 4294967295) }
     ensures made { IfOk result (λ columns. column_samples columns.items
-        ≡ map (kept_column rows_first depth kept.now.strips.items kept.now.rows.items) (range_with_len first count)) }
+        ≡ map (kept_column rows_first depth kept.now.strips.items kept.now.rows) (range_with_len first count)) }
     ensures refused { IfErr result (λ fault. fault ≡ Memory) }
 {
     // The columns have their length first, and what is stored then grows nothing.
@@ -100,15 +101,15 @@ fn put_kept<T: Copy>(
     first: usize,
     depth: usize,
 )
-    requires reach { ReachColumns (first + length columns.old) depth kept.now.strips.items kept.now.rows.items }
-    requires sizes { (kept_count kept.now.strips.items kept.now.rows.items * depth ≤ MAX_ROW_LENGTH)
+    requires reach { ReachColumns (first + length columns.old) depth kept.now.strips.items kept.now.rows }
+    requires sizes { (kept_count kept.now.strips.items kept.now.rows * depth ≤ MAX_ROW_LENGTH)
         × (depth ≤ MAX_DEPTH) × (first + length columns.old ≤ 4294967295) }
-    requires long { AreLongEnough (kept_count kept.now.strips.items kept.now.rows.items * depth) columns.old }
+    requires long { AreLongEnough (kept_count kept.now.strips.items kept.now.rows * depth) columns.old }
     ensures { HavePixels (length columns.old) 0
-        (λ k. kept_column rows_first depth kept.now.strips.items kept.now.rows.items (first + k))
+        (λ k. kept_column rows_first depth kept.now.strips.items kept.now.rows (first + k))
         columns.old columns.new }
 {
-    let (strips, rows) = (kept.strips.as_slice(), kept.rows.as_slice());
+    let (strips, rows) = (kept.strips.as_slice(), &kept.rows);
     let part = STRIP_ROWS * depth;
     if rows_first {
         put_all(columns, 0, rows, first, depth);
@@ -123,7 +124,7 @@ fn put_kept<T: Copy>(
 pub(crate) fn put_all<T: Copy>(
     columns: &mut [Vec<T>],
     at: usize,
-    rows: &[RowOf<T>],
+    rows: &FlatRows<T>,
     first: usize,
     depth: usize,
 )
@@ -137,61 +138,86 @@ pub(crate) fn put_all<T: Copy>(
     let fours = rows.len() / 4;
     for group in 0..fours {
         let y = 4 * group;
-        put_four(columns, at + y * depth, &rows[y..y + 4], first, depth);
+        put_four(columns, at + y * depth, rows, y, first, depth);
     }
     let y = 4 * fours;
-    put_rows(columns, at + y * depth, &rows[y..], first, depth);
+    put_some(
+        columns,
+        at + y * depth,
+        rows,
+        y,
+        rows.len() - y,
+        first,
+        depth,
+    );
 }
 
-/// Stores four rows' pixels from this place of each column on, a row after the other.
+/// Stores the pixels of four rows, from this one on, from this place of each column on, a row after the other.
 fn put_four<T: Copy>(
     columns: &mut [Vec<T>],
     at: usize,
-    rows: &[RowOf<T>],
+    rows: &FlatRows<T>,
+    y: usize,
     first: usize,
     depth: usize,
 )
-    requires four { length rows.now ≡ 4 }
+    requires four { y + 4 ≤ length rows.now }
     requires rows { All (λ row. (first + length columns.old) * depth ≤ length row) rows.now }
     requires sizes { (at + 4 * depth ≤ MAX_ROW_LENGTH) × (first + length columns.old ≤ 4294967295) }
     requires long { AreLongEnough (at + 4 * depth) columns.old }
-    ensures { HavePixels (length columns.old) at (λ k. column_of depth rows.now (first + k))
+    ensures { HavePixels (length columns.old) at (λ k. column_of depth (take 4 (drop y rows.now)) (first + k))
         columns.old columns.new }
 {
     match depth {
-        1 => put_four_samples(columns, at, rows, first),
-        3 => put_four_colors(columns, at, rows, first),
-        _ => put_rows(columns, at, rows, first, depth),
+        1 => put_four_samples(columns, at, rows, y, first),
+        3 => put_four_colors(columns, at, rows, y, first),
+        _ => put_some(columns, at, rows, y, 4, first, depth),
     }
 }
 
-/// Stores four rows where each pixel is one sample. All are taken before one is stored, so that the compiler
-/// stores them at once.
-fn put_four_samples<T: Copy>(columns: &mut [Vec<T>], at: usize, rows: &[RowOf<T>], first: usize)
-    requires four { length rows.now ≡ 4 }
+/// Stores four rows, from this one on, where each pixel is one sample. All are taken before one is stored, so that the
+/// compiler stores them at once.
+fn put_four_samples<T: Copy>(
+    columns: &mut [Vec<T>],
+    at: usize,
+    rows: &FlatRows<T>,
+    y: usize,
+    first: usize,
+)
+    requires four { y + 4 ≤ length rows.now }
     requires rows { All (λ row. (first + length columns.old) * 1 ≤ length row) rows.now }
     requires long { AreLongEnough (at + 4) columns.old }
-    ensures { HavePixels (length columns.old) at (λ k. column_of 1 rows.now (first + k))
+    ensures { HavePixels (length columns.old) at (λ k. column_of 1 (take 4 (drop y rows.now)) (first + k))
         columns.old columns.new }
 {
-    let (a, b) = (rows[0].as_slice(), rows[1].as_slice());
-    let (c, d) = (rows[2].as_slice(), rows[3].as_slice());
+    // No effect at run time: a proof learns of this that the rows are as many as this machine can count.
+    let _ = rows.len();
+    let (a, b) = (rows.row(y), rows.row(y + 1));
+    let (c, d) = (rows.row(y + 2), rows.row(y + 3));
     for (k, column) in columns.iter_mut().enumerate() {
         let x = first + k;
         store(column.as_mut_slice(), at, &[a[x], b[x], c[x], d[x]]);
     }
 }
 
-/// Stores four rows where each pixel is three samples.
-fn put_four_colors<T: Copy>(columns: &mut [Vec<T>], at: usize, rows: &[RowOf<T>], first: usize)
-    requires four { length rows.now ≡ 4 }
+/// Stores four rows, from this one on, where each pixel is three samples.
+fn put_four_colors<T: Copy>(
+    columns: &mut [Vec<T>],
+    at: usize,
+    rows: &FlatRows<T>,
+    y: usize,
+    first: usize,
+)
+    requires four { y + 4 ≤ length rows.now }
     requires rows { All (λ row. (first + length columns.old) * 3 ≤ length row) rows.now }
     requires long { AreLongEnough (at + 12) columns.old }
-    ensures { HavePixels (length columns.old) at (λ k. column_of 3 rows.now (first + k))
+    ensures { HavePixels (length columns.old) at (λ k. column_of 3 (take 4 (drop y rows.now)) (first + k))
         columns.old columns.new }
 {
-    let (a, b) = (rows[0].as_slice(), rows[1].as_slice());
-    let (c, d) = (rows[2].as_slice(), rows[3].as_slice());
+    // No effect at run time: a proof learns of this that the rows are as many as this machine can count.
+    let _ = rows.len();
+    let (a, b) = (rows.row(y), rows.row(y + 1));
+    let (c, d) = (rows.row(y + 2), rows.row(y + 3));
     for (k, column) in columns.iter_mut().enumerate() {
         let x = 3 * (first + k);
         let (p, q) = (color_at(a, x), color_at(b, x));
@@ -201,7 +227,31 @@ fn put_four_colors<T: Copy>(columns: &mut [Vec<T>], at: usize, rows: &[RowOf<T>]
     }
 }
 
-/// Stores rows' pixels from this place of each column on, a row after the other.
+/// Stores the pixels of so many rows, from this one on, from this place of each column on, a row after the other.
+fn put_some<T: Copy>(
+    columns: &mut [Vec<T>],
+    at: usize,
+    rows: &FlatRows<T>,
+    y: usize,
+    count: usize,
+    first: usize,
+    depth: usize,
+)
+    requires count { y + count ≤ length rows.now }
+    requires rows { All (λ row. (first + length columns.old) * depth ≤ length row) rows.now }
+    requires sizes { (at + count * depth ≤ MAX_ROW_LENGTH) × (first + length columns.old ≤ 4294967295) }
+    requires long { AreLongEnough (at + count * depth) columns.old }
+    ensures { HavePixels (length columns.old) at (λ k. column_of depth (take count (drop y rows.now)) (first + k))
+        columns.old columns.new }
+{
+    // No effect at run time: a proof learns of this that the rows are as many as this machine can count.
+    let _ = rows.len();
+    for n in 0..count {
+        put_pixels(columns, at + n * depth, rows.row(y + n), first, depth);
+    }
+}
+
+/// Stores strips' parts from this place of each column on, a strip after the other.
 fn put_rows<T: Copy>(
     columns: &mut [Vec<T>],
     at: usize,

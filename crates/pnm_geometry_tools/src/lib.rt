@@ -5,8 +5,8 @@
 mod batch;
 mod buffer;
 mod color;
-mod cut_rows;
 mod enlarge;
+mod flat_rows;
 mod join;
 mod kept_rows;
 mod repeat;

@@ -13,10 +13,10 @@ ghost use Rattle.pnm_geometry_tools.specs.SampleRows.{batch_length};
 ghost use Rattle.pnm_geometry_tools.specs.Strips.{HaveSizes, KeepColumns, ReachColumns, kept_column, kept_count};
 
 use crate::batch::{columns_of, last_first};
-use crate::cut_rows::{cut_bits, cut_samples};
-use crate::row_of::RowOf;
+use crate::flat_rows::FlatRows;
 use crate::strip::StripedRows;
-use pnm_image::{Bits, SampleSlice, SampleWidth, Samples, Shape};
+use pnm_image::{SampleSlice, SampleWidth, Samples, Shape};
+use pnm_samples::PixelRows;
 use pnm_tools::ToolFault;
 use std::alloc::{AllocError, Global};
 
@@ -39,7 +39,7 @@ const MOST_SAMPLES: u64 = 256;
 #[derive(Drop)]
 pub(crate) enum SampleRows {
     /// Each sample is 0 or 1.
-    Bits(Vec<Bits>),
+    Bits(PixelRows),
     /// Each sample is at most 255.
     Bytes(StripedRows<u8>),
     /// Each sample is at most 65,535.
@@ -60,7 +60,7 @@ impl SampleRows {
         ensures sample_width { rows_width result ≡ sample_width }
     {
         match sample_width {
-            SampleWidth::Bits => SampleRows::Bits(Vec::new(alloc)),
+            SampleWidth::Bits => SampleRows::Bits(PixelRows::new(alloc)),
             SampleWidth::Bytes => SampleRows::Bytes(StripedRows::new(alloc)),
             SampleWidth::Words => SampleRows::Words(StripedRows::new(alloc)),
         }
@@ -76,9 +76,9 @@ impl SampleRows {
         ensures refused { IfErr result (λ fault. fault ≡ Memory) }
     {
         match self {
-            SampleRows::Bits(rows) => Ok(rows.push(row.into_bits(alloc)?)?),
-            SampleRows::Bytes(kept) => kept.push(row.into_bytes(alloc)?),
-            SampleRows::Words(kept) => kept.push(row.into_words(alloc)?),
+            SampleRows::Bits(rows) => Ok(rows.push(&row.into_bits(alloc)?)?),
+            SampleRows::Bytes(kept) => Ok(kept.rows.push(row.into_bytes(alloc)?.as_slice())?),
+            SampleRows::Words(kept) => Ok(kept.rows.push(row.into_words(alloc)?.as_slice())?),
         }
     }
 
@@ -111,9 +111,9 @@ impl SampleRows {
         ensures unchanged { OnErr result (row_lists self.new ≡ row_lists self.old) }
     {
         match self {
-            SampleRows::Bits(rows) => push_bits(alloc, rows, samples, count, each),
-            SampleRows::Bytes(kept) => push_bytes(alloc, &mut kept.rows, samples, count, each),
-            SampleRows::Words(kept) => push_words(alloc, &mut kept.rows, samples, count, each),
+            SampleRows::Bits(rows) => push_bits(rows, samples, count, each),
+            SampleRows::Bytes(kept) => push_bytes(&mut kept.rows, samples, count, each),
+            SampleRows::Words(kept) => push_words(&mut kept.rows, samples, count, each),
         }
     }
 
@@ -200,7 +200,7 @@ impl SampleRows {
     {
         match self {
             SampleRows::Bits(rows) => {
-                let columns = pnm_samples::columns(alloc, rows.as_slice(), first / 8, count)?;
+                let columns = pnm_samples::columns(alloc, rows, first / 8, count)?;
                 last_first(alloc, columns)
             }
             SampleRows::Bytes(kept) => {
@@ -221,21 +221,19 @@ impl SampleRows {
 ///
 /// Where there is no memory for them, or they aren't held as pixels. Then nothing has changed.
 fn push_bits(
-    alloc: Global,
-    rows: &mut Vec<Bits>,
+    rows: &mut PixelRows,
     samples: &Samples,
     count: usize,
     each: usize,
 ) -> Result<(), AllocError>
     requires { length samples.now ≡ count * each }
-    ensures added { OnOk result (rows.new.items ≡ rows.old.items ++ cut_rows count each samples.now) }
-    ensures unchanged { OnErr result (rows.new.items ≡ rows.old.items) }
+    ensures added { OnOk result (rows.new ≡ rows.old ++ cut_rows count each samples.now) }
+    ensures unchanged { OnErr result (rows.new ≡ rows.old) }
 {
     let SampleSlice::Bits(bits) = samples.as_slice() else {
         return Err(AllocError);
     };
-    let mut added = cut_bits(alloc, bits, count, each)?;
-    rows.append(&mut added)
+    rows.push_rows(bits, count, each)
 }
 
 /// Adds so many rows of so many bytes each at the end.
@@ -244,21 +242,19 @@ fn push_bits(
 ///
 /// Where there is no memory for them, or they aren't held as bytes. Then nothing has changed.
 fn push_bytes(
-    alloc: Global,
-    rows: &mut Vec<RowOf<u8>>,
+    rows: &mut FlatRows<u8>,
     samples: &Samples,
     count: usize,
     each: usize,
 ) -> Result<(), AllocError>
     requires { length samples.now ≡ count * each }
-    ensures added { OnOk result (rows.new.items ≡ rows.old.items ++ cut_rows count each samples.now) }
-    ensures unchanged { OnErr result (rows.new.items ≡ rows.old.items) }
+    ensures added { OnOk result (rows.new ≡ rows.old ++ cut_rows count each samples.now) }
+    ensures unchanged { OnErr result (rows.new ≡ rows.old) }
 {
     let SampleSlice::Bytes(bytes) = samples.as_slice() else {
         return Err(AllocError);
     };
-    let mut added = cut_samples(alloc, bytes, count, each)?;
-    rows.append(&mut added)
+    rows.push_rows(bytes, count, each)
 }
 
 /// Adds so many rows of so many words each at the end.
@@ -267,19 +263,17 @@ fn push_bytes(
 ///
 /// Where there is no memory for them, or they aren't held as words. Then nothing has changed.
 fn push_words(
-    alloc: Global,
-    rows: &mut Vec<RowOf<u16>>,
+    rows: &mut FlatRows<u16>,
     samples: &Samples,
     count: usize,
     each: usize,
 ) -> Result<(), AllocError>
     requires { length samples.now ≡ count * each }
-    ensures added { OnOk result (rows.new.items ≡ rows.old.items ++ cut_rows count each samples.now) }
-    ensures unchanged { OnErr result (rows.new.items ≡ rows.old.items) }
+    ensures added { OnOk result (rows.new ≡ rows.old ++ cut_rows count each samples.now) }
+    ensures unchanged { OnErr result (rows.new ≡ rows.old) }
 {
     let SampleSlice::Words(words) = samples.as_slice() else {
         return Err(AllocError);
     };
-    let mut added = cut_samples(alloc, words, count, each)?;
-    rows.append(&mut added)
+    rows.push_rows(words, count, each)
 }

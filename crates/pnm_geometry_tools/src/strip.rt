@@ -1,7 +1,7 @@
 //! Rows of an image, most of which are kept in strips with columns and rows exchanged: so they are
 //! exchanged while the image comes, and lie in the processor's cache.
 
-ghost use Rattle.std.specs.Prelude.{◌≡◌, ◌≤◌, ◌+◌, ◌*◌, ◌++◌, ◌∷◌, [], All, OnOk, OnErr, IfOk, IfErr, length, reverse};
+ghost use Rattle.std.specs.Prelude.{◌≡◌, ◌≤◌, ◌+◌, ◌*◌, ◌++◌, [], All, OnOk, IfOk, IfErr, length, reverse};
 ghost use Rattle.std.specs.List.{flat_map, range_with_len};
 ghost use Rattle.pnm_image.specs.declared.limits.TheConstants.{MAX_DEPTH, MAX_ROW_LENGTH, MAX_SIDE};
 ghost use Rattle.pnm_tools.specs.declared.fault.ToolFault.TheVariants.{Memory};
@@ -11,6 +11,7 @@ ghost use Rattle.pnm_tools.specs.Flip.{column_of, in_order};
 ghost use Rattle.pnm_geometry_tools.specs.Strips.{HaveSizes, KeepColumns};
 
 use crate::batch::{blank_columns, put_all};
+use crate::flat_rows::FlatRows;
 use crate::row_of::RowOf;
 use pnm_tools::ToolFault;
 use std::alloc::Global;
@@ -28,25 +29,25 @@ pub(crate) struct StripedRows<T> {
     /// to top, those of the second one, and so on.
     pub strips: Vec<RowOf<T>>,
     /// The rows that came after them.
-    pub rows: Vec<RowOf<T>>,
+    pub rows: FlatRows<T>,
 }
 
 impl<T> StripedRows<T> {
     /// No rows.
     pub fn new(alloc: Global) -> StripedRows<T>
         ensures strips { result.strips.items ≡ [] }
-        ensures rows { result.rows.items ≡ [] }
+        ensures rows { result.rows ≡ [] }
     {
         StripedRows {
             strips: Vec::new(alloc),
-            rows: Vec::new(alloc),
+            rows: FlatRows::new(alloc),
         }
     }
 
     /// The strips and the rows in the opposite order.
     pub fn reverse(&mut self)
         ensures strips { self.new.strips.items ≡ reverse self.old.strips.items }
-        ensures rows { self.new.rows.items ≡ reverse self.old.rows.items }
+        ensures rows { self.new.rows ≡ reverse self.old.rows }
     {
         self.strips.reverse();
         self.rows.reverse();
@@ -54,17 +55,6 @@ impl<T> StripedRows<T> {
 }
 
 impl<T: Copy + Default> StripedRows<T> {
-    /// Adds a row at the end. The only fault is `Memory`.
-    pub fn push(&mut self, samples: Vec<T>) -> Result<(), ToolFault>
-        ensures strips { self.new.strips.items ≡ self.old.strips.items }
-        ensures added { OnOk result (self.new.rows.items ≡ self.old.rows.items ++ samples.items ∷ []) }
-        ensures unchanged { OnErr result (self.new.rows.items ≡ self.old.rows.items) }
-        ensures refused { IfErr result (λ fault. fault ≡ Memory) }
-    {
-        self.rows.push(RowOf::new(samples))?;
-        Ok(())
-    }
-
     /// Makes a strip of the rows that came last, once they are as many as a strip has. The only fault is
     /// `Memory`.
     pub fn fill_strip(
@@ -74,17 +64,17 @@ impl<T: Copy + Default> StripedRows<T> {
         width: usize,
         depth: usize,
     ) -> Result<(), ToolFault>
-        requires sizes { HaveSizes width depth self.old.strips.items self.old.rows.items }
+        requires sizes { HaveSizes width depth self.old.strips.items self.old.rows }
         requires limits { (width ≤ MAX_SIDE) × (depth ≤ MAX_DEPTH) × (width * depth ≤ MAX_ROW_LENGTH) }
         ensures kept { OnOk result (KeepColumns last_first width depth
-            self.old.strips.items self.old.rows.items self.new.strips.items self.new.rows.items) }
+            self.old.strips.items self.old.rows self.new.strips.items self.new.rows) }
         ensures refused { IfErr result (λ fault. fault ≡ Memory) }
     {
         if self.rows.len() != STRIP_ROWS {
             return Ok(());
         }
         order_rows(&mut self.rows, last_first);
-        let strip = strip_of(alloc, self.rows.as_slice(), width, depth)?;
+        let strip = strip_of(alloc, &self.rows, width, depth)?;
         self.strips.push(strip)?;
         self.rows.clear();
         Ok(())
@@ -92,8 +82,8 @@ impl<T: Copy + Default> StripedRows<T> {
 }
 
 /// The rows in the opposite order, where they are wanted so.
-fn order_rows<T>(rows: &mut Vec<RowOf<T>>, last_first: bool)
-    ensures { rows.new.items ≡ in_order last_first rows.old.items }
+fn order_rows<T>(rows: &mut FlatRows<T>, last_first: bool)
+    ensures { rows.new ≡ in_order last_first rows.old }
 {
     if last_first {
         rows.reverse();
@@ -103,7 +93,7 @@ fn order_rows<T>(rows: &mut Vec<RowOf<T>>, last_first: bool)
 /// The rows with columns and rows exchanged, the columns one after the other.
 fn strip_of<T: Copy + Default>(
     alloc: Global,
-    rows: &[RowOf<T>],
+    rows: &FlatRows<T>,
     width: usize,
     depth: usize,
 ) -> Result<RowOf<T>, ToolFault>
@@ -130,7 +120,7 @@ fn strip_of<T: Copy + Default>(
 fn add_columns<T: Copy>(
     strip: &mut Vec<T>,
     columns: &mut [Vec<T>],
-    rows: &[RowOf<T>],
+    rows: &FlatRows<T>,
     first: usize,
     depth: usize,
 ) -> Result<(), ToolFault>

@@ -1,4 +1,5 @@
 -- The columns of rows of pixels, in bytes.
+use denote.Ref.{Bor}
 use Rattle.std.proofs.Common.{Vec, ◌≡◌, ◌≤◌, ℕ, zero, suc, ◌+◌, ◌-◌, ◌*◌, ◌/◌, ◌%◌, ◌<◌, inl, inr, List, [], ◌∷◌, ◌++◌, length, get_or, take, drop, map, All}
 use Rattle.std.proofs.Common.{refl, sym, ap, ◌∙◌, arith}
 use Rattle.std.proofs.lemmas.Bool.{cases_lt}
@@ -8,11 +9,11 @@ use Rattle.std.proofs.lemmas.List.Elements.{All-get_or, All-weaker}
 use Rattle.std.proofs.lemmas.List.FromFn.{get_or-map-range_with_len, length-map-range_with_len}
 use Rattle.std.specs.List.{range_with_len}
 use Rattle.pnm_samples.specs.Pixels.{pixel_at, pixels, all_pixels}
-use Rattle.pnm_samples.specs.Blocks.{bits_of}
+use Rattle.pnm_samples.specs.Blocks.{bits_of, IsSquare, lane_at}
 use Rattle.std.specs.Int.{bit_at}
 use Rattle.pnm_samples.proofs.BlockLaws.{bit_of_bits}
 use Rattle.std.specs.Global.{Global}
-use Rattle.pnm_samples.specs.Columns.{column_at, AreLong, HasPair, HavePairs, HoldsPixels, HoldsFrom, HoldColumns}
+use Rattle.pnm_samples.specs.Columns.{column_at, AreLong, HasPair, HavePairs, HoldsPixels, HoldsFrom, HoldSixteen, HoldColumns, row_in_place}
 use Rattle.pnm_samples.proofs.PixelLaws.{bit_at-shr, bit_at-low_byte, length-pixels, get_or-pixels, drop-all_pixels, length-all_pixels}
 
 -- a pixel of a byte of many
@@ -66,6 +67,52 @@ eight_hold Q first from lanes a b c d e f g h (suc (suc (suc (suc (suc zero)))))
 eight_hold Q first from lanes a b c d e f g h (suc (suc (suc (suc (suc (suc zero)))))) lt = g
 eight_hold Q first from lanes a b c d e f g h (suc (suc (suc (suc (suc (suc (suc zero))))))) lt = h
 eight_hold Q first from lanes a b c d e f g h (suc (suc (suc (suc (suc (suc (suc (suc m)))))))) lt = absurd (omega arith)
+
+-- what holds of each of sixteen
+pub sixteen_cases : (Q : ℕ → Type 0) → Q 0 → Q 1 → Q 2 → Q 3 → Q 4 → Q 5 → Q 6 → Q 7 → Q 8 → Q 9 → Q 10 → Q 11 → Q 12 → Q 13 → Q 14 → Q 15
+    → (i : ℕ) → i < 16 → Q i
+sixteen_cases Q a b c d e f g h i j k l m n o p zero lt = a
+sixteen_cases Q a b c d e f g h i j k l m n o p (suc zero) lt = b
+sixteen_cases Q a b c d e f g h i j k l m n o p (suc (suc zero)) lt = c
+sixteen_cases Q a b c d e f g h i j k l m n o p (suc (suc (suc zero))) lt = d
+sixteen_cases Q a b c d e f g h i j k l m n o p (suc (suc (suc (suc zero)))) lt = e
+sixteen_cases Q a b c d e f g h i j k l m n o p (suc (suc (suc (suc (suc zero))))) lt = f
+sixteen_cases Q a b c d e f g h i j k l m n o p (suc (suc (suc (suc (suc (suc zero)))))) lt = g
+sixteen_cases Q a b c d e f g h i j k l m n o p (suc (suc (suc (suc (suc (suc (suc zero))))))) lt = h
+sixteen_cases Q a b c d e f g h i j k l m n o p (suc (suc (suc (suc (suc (suc (suc (suc zero)))))))) lt = i
+sixteen_cases Q a b c d e f g h i j k l m n o p (suc (suc (suc (suc (suc (suc (suc (suc (suc zero))))))))) lt = j
+sixteen_cases Q a b c d e f g h i j k l m n o p (suc (suc (suc (suc (suc (suc (suc (suc (suc (suc zero)))))))))) lt = k
+sixteen_cases Q a b c d e f g h i j k l m n o p (suc (suc (suc (suc (suc (suc (suc (suc (suc (suc (suc zero))))))))))) lt = l
+sixteen_cases Q a b c d e f g h i j k l m n o p (suc (suc (suc (suc (suc (suc (suc (suc (suc (suc (suc (suc zero)))))))))))) lt = m
+sixteen_cases Q a b c d e f g h i j k l m n o p (suc (suc (suc (suc (suc (suc (suc (suc (suc (suc (suc (suc (suc zero))))))))))))) lt = n
+sixteen_cases Q a b c d e f g h i j k l m n o p (suc (suc (suc (suc (suc (suc (suc (suc (suc (suc (suc (suc (suc (suc zero)))))))))))))) lt = o
+sixteen_cases Q a b c d e f g h i j k l m n o p (suc (suc (suc (suc (suc (suc (suc (suc (suc (suc (suc (suc (suc (suc (suc zero))))))))))))))) lt = p
+sixteen_cases Q a b c d e f g h i j k l m n o p (suc (suc (suc (suc (suc (suc (suc (suc (suc (suc (suc (suc (suc (suc (suc (suc q)))))))))))))))) lt =
+    absurd (omega arith)
+
+-- the lanes of sixteen rows that were exchanged
+pub lanes_of_sixteen : (rows : List (Bor (List ℕ))) (read made : List (List ℕ)) (at : ℕ) → length rows ≡ 16 → IsSquare made
+    → ((r c : ℕ) → r < 16 → c < 16 → lane_at made r c ≡ lane_at read c r)
+    → ((i : ℕ) → i < 16 → (k : ℕ) → k < 16 → lane_at read i k ≡ get_or (get_or rows i (record { ref_ptr = (0, 0); now = [] })).now (at + k) 0)
+    → (k : ℕ) → k < 16 → get_or made k [] ≡ map (λ row. get_or row.now (at + k) 0) rows
+lanes_of_sixteen rows read made at count square exchanged bytes k lt =
+    let many : length (map (λ row. get_or row.now (at + k) 0) rows) ≡ 16 = length-map rows (λ row. get_or row.now (at + k) 0) ∙ count in
+    ext_get_or 0 (get_or made k []) (map (λ row. get_or row.now (at + k) 0) rows) (square.each k lt ∙ sym many) (λ i below.
+    let inside : i < 16 = omega (arith, square.each k lt) in
+    exchanged k i lt inside ∙ bytes i inside k lt
+    ∙ sym (get_or-map (λ row. get_or row.now (at + k) 0) rows i (record { ref_ptr = (0, 0); now = [] }) 0 (omega (arith, count))))
+
+-- a byte of each of sixteen slices
+pub sixteen_hold : (byte first n from : ℕ) (rows : List (List ℕ)) (slices : List (Bor (List ℕ))) → length slices ≡ 16 → HoldSixteen byte first rows slices
+    → from % 8 ≡ 0 → from < 16 → HoldEight (byte + n) rows first from (map (λ row. get_or row.now n 0) slices)
+sixteen_hold byte first n from rows slices count held eight small m lt below k inside within =
+    let i : ℕ = from + (7 - m) in
+    let none : Bor (List ℕ) = record { ref_ptr = (0, 0); now = [] } in
+    let place : row_in_place i ≡ from + m = omega (arith, eight) in
+    let read : get_or (map (λ row. get_or row.now n 0) slices) i 0 ≡ get_or (get_or slices i none).now n 0 =
+    get_or-map (λ row. get_or row.now n 0) slices i none 0 (omega (arith, count)) in
+    let here = rw place at (held i none (omega arith)) in
+    ap (pixel_at (7 - k)) read ∙ here below n k inside within
 
 -- the pixels in the two bytes of a column
 low_pixel : (lanes : List ℕ) (pair place m : ℕ) → length lanes ≡ 16 → pair ≡ bits_of place lanes → m < 8

@@ -8,5 +8,7 @@ pub mod PackedAgain
 pub mod PackedBytes
 pub mod PixelLaws
 pub mod PixelRowLaws
+pub mod PixelRowsLaws
 pub mod RepeatLaws
+pub mod SquareLaws
 pub mod StretchLaws

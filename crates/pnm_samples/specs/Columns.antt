@@ -1,5 +1,6 @@
 -- Columns of rows of pixels.
 use Rattle.std.specs.Prelude.{◌≡◌, ℕ, ◌+◌, ◌-◌, ◌*◌, ◌/◌, ◌%◌, ◌<◌, ◌≤◌, List, [], get_or, length, map, Vec}
+use denote.Ref.{Bor}
 use Rattle.std.specs.Global.{Global}
 use Rattle.pnm_samples.specs.Pixels.{pixel_at}
 
@@ -15,6 +16,15 @@ HoldsPixels byte row held = (k : ℕ) → k < 8 → 8 * byte + k < length row
 -- bytes hold the pixels of a row from the byte of this number on, as many as there are
 abbrev pub HoldsFrom : ℕ → List ℕ → List ℕ → Type 0
 HoldsFrom byte row bytes = (n : ℕ) → HoldsPixels (byte + n) row (get_or bytes n 0)
+
+-- which of sixteen rows comes in a place: of each eight the last one first
+abbrev pub row_in_place : ℕ → ℕ
+row_in_place i = 8 * (i / 8) + (7 - i % 8)
+
+-- sixteen slices hold the pixels of the rows from one on, where there are as many, in these places
+abbrev pub HoldSixteen : ℕ → ℕ → List (List ℕ) → List (Bor (List ℕ)) → Type 0
+HoldSixteen byte first rows slices = (i : ℕ) (d : Bor (List ℕ)) → i < 16 → first + row_in_place i < length rows
+    → HoldsFrom byte (get_or rows (first + row_in_place i) []) (get_or slices i d).now
 
 -- so many columns of so many bytes each
 pub record AreLong (count long : ℕ) (columns : List (Vec ℕ Global)) : Type 0 where

@@ -3,4 +3,5 @@ pub mod Pixels
 pub mod SampleVecs
 pub mod Blocks
 pub mod Columns
+pub mod PixelRows
 pub mod Stretches

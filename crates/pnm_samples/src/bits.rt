@@ -10,6 +10,7 @@ use std::marker::Model;
 
 mod mirror;
 mod repeat;
+mod run;
 mod stretch;
 
 /// Pixels of one bit: eight a byte, the most significant bit leftmost, 1 is black, which is sample 0.

@@ -1,18 +1,19 @@
-//! Eight pixels of each of sixteen rows, transposed.
+//! Bytes and pixels of sixteen rows, transposed.
 
-ghost use Rattle.std.specs.Prelude.{◌≡◌, ℕ, ◌-◌, ◌<◌, All, length, slice_index};
-ghost use Rattle.pnm_samples.specs.Blocks.{bits_of};
+ghost use Rattle.std.specs.Prelude.{◌≡◌, ℕ, ◌+◌, ◌-◌, ◌*◌, ◌/◌, ◌%◌, ◌<◌, All, length, slice_index};
+ghost use Rattle.pnm_samples.specs.Blocks.{bits_of, IsSquare, lane_at};
 
 use std::simd::prelude::*;
 
 /// The columns of sixteen rows that lie in a byte of each of them, of which these are the bytes: the
 /// column of the highest bit first, and of each column the first row in the lowest bit.
 #[inline]
-pub(crate) fn columns_of_sixteen(rows: &[u8; 16]) -> [u16; 8]
+pub(crate) fn columns_of_sixteen(rows: u8x16) -> [u16; 8]
+    requires count { length rows ≡ 16 }
     ensures count { length result ≡ 8 }
-    ensures columns { (k : ℕ) → k < 8 → slice_index result k ≡ bits_of (7 - k) rows.now }
+    ensures columns { (k : ℕ) → k < 8 → slice_index result k ≡ bits_of (7 - k) rows }
 {
-    let mut lanes = u8x16::from_array(*rows);
+    let mut lanes = rows;
     let mut columns = [0; 8];
     for k in 0..8 {
         columns[k] = highest_bits(lanes);
@@ -30,4 +31,31 @@ fn highest_bits(lanes: u8x16) -> u16
     ensures { result ≡ bits_of 7 lanes }
 {
     lanes.simd_ge(u8x16::splat(128)).to_bitmask() as u16
+}
+
+/// Sixteen bytes of each of sixteen rows, with rows and columns exchanged.
+#[inline(always)]
+pub(crate) fn transposed(rows: [u8x16; 16]) -> [u8x16; 16]
+    requires { IsSquare rows }
+    ensures square { IsSquare result }
+    ensures exchanged { (r c : ℕ) → r < 16 → c < 16 → lane_at result r c ≡ lane_at rows c r }
+{
+    riffled(riffled(riffled(riffled(rows))))
+}
+
+/// The bytes of the first eight rows, each with that of the row eight further down behind it.
+#[inline(always)]
+fn riffled(rows: [u8x16; 16]) -> [u8x16; 16]
+    requires { IsSquare rows }
+    ensures square { IsSquare result }
+    ensures riffled { (r c : ℕ) → r < 16 → c < 16
+        → lane_at result r c ≡ lane_at rows (r / 2 + 8 * (c % 2)) (c / 2 + 8 * (r % 2)) }
+{
+    let mut made = rows;
+    for i in 0..8 {
+        let (low, high) = rows[i].interleave(rows[i + 8]);
+        made[2 * i] = low;
+        made[2 * i + 1] = high;
+    }
+    made
 }

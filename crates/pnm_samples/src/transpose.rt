@@ -1,12 +1,15 @@
 //! Rows of packed pixels, transposed: up to 256 columns at a time, which lie in 32 bytes of each row.
 
-ghost use Rattle.std.specs.Prelude.{◌≡◌, ◌≤◌, ◌<◌, ◌+◌, ◌*◌, ◌/◌, ◌^◌, All, IfOk, get_or, length, map, []};
+ghost use Rattle.std.specs.Prelude.{◌≡◌, ◌≤◌, ◌<◌, ◌+◌, ◌*◌, ◌/◌, ◌^◌, ℕ, All, IfOk, get_or, length, map, []};
 ghost use Rattle.std.specs.List.{range_with_len};
-ghost use Rattle.pnm_samples.specs.Columns.{column_at, AreLong, HasPair, HavePairs, HoldsFrom, HoldColumns};
+ghost use Rattle.pnm_samples.specs.Columns.{column_at, AreLong, HasPair, HavePairs, HoldColumns, HoldsFrom};
+ghost use Rattle.pnm_samples.specs.Columns.{HoldSixteen};
 
 use crate::bits::Bits;
-use crate::block::columns_of_sixteen;
+use crate::block::{columns_of_sixteen, transposed};
+use crate::pixel_rows::PixelRows;
 use std::alloc::{AllocError, Global};
+use std::simd::prelude::*;
 
 /// The bytes of white pixels where there is no row. As many bytes of each row are read side by side,
 /// so that what the processor fetches with one of them is used.
@@ -20,7 +23,7 @@ static WHITE: [u8; 32] = [0; 32];
 /// Where there is no memory for them.
 pub fn columns(
     alloc: Global,
-    rows: &[Bits],
+    rows: &PixelRows,
     byte: usize,
     count: usize,
 ) -> Result<Vec<Bits>, AllocError>
@@ -42,7 +45,7 @@ pub fn columns(
 /// column for sixteen rows.
 fn column_bytes(
     alloc: Global,
-    rows: &[Bits],
+    rows: &PixelRows,
     byte: usize,
     width: usize,
 ) -> Result<Vec<Vec<u8>>, AllocError>
@@ -54,30 +57,14 @@ fn column_bytes(
     let groups = rows.len().div_ceil(16);
     let mut columns = columns_of_length(alloc, 8 * width, 2 * groups)?;
     for group in 0..groups {
-        let first = 16 * group;
-        // The rows are looked up once a group, not once a byte. The last one of eight comes first,
-        // since the first pixel of a byte lies in its highest bit.
-        let sixteen = [
-            bytes_from(rows, first + 7, byte, width),
-            bytes_from(rows, first + 6, byte, width),
-            bytes_from(rows, first + 5, byte, width),
-            bytes_from(rows, first + 4, byte, width),
-            bytes_from(rows, first + 3, byte, width),
-            bytes_from(rows, first + 2, byte, width),
-            bytes_from(rows, first + 1, byte, width),
-            bytes_from(rows, first, byte, width),
-            bytes_from(rows, first + 15, byte, width),
-            bytes_from(rows, first + 14, byte, width),
-            bytes_from(rows, first + 13, byte, width),
-            bytes_from(rows, first + 12, byte, width),
-            bytes_from(rows, first + 11, byte, width),
-            bytes_from(rows, first + 10, byte, width),
-            bytes_from(rows, first + 9, byte, width),
-            bytes_from(rows, first + 8, byte, width),
-        ];
-        for beside in 0..width {
-            let pairs = columns_of_sixteen(&bytes_beside(&sixteen, beside));
-            put_pairs(columns.as_mut_slice(), 8 * beside, 2 * group, &pairs);
+        let sixteen = sixteen_from(rows, 16 * group, byte, width);
+        for part in 0..width.div_ceil(16) {
+            let first = 16 * part;
+            let lanes = lanes_beside(&sixteen, first);
+            for beside in first..width.min(first + 16) {
+                let pairs = columns_of_sixteen(lanes[beside - first]);
+                put_pairs(columns.as_mut_slice(), 8 * beside, 2 * group, &pairs);
+            }
         }
     }
     Ok(columns)
@@ -94,9 +81,40 @@ fn columns_of_length(alloc: Global, count: usize, length: usize) -> Result<Vec<V
     Ok(columns)
 }
 
+/// The bytes of sixteen rows from this one on, where there are as many, and white ones beyond: of each eight rows
+/// the last one first, since the first pixel of a byte lies in its highest bit.
+#[inline]
+fn sixteen_from(rows: &PixelRows, first: usize, byte: usize, width: usize) -> [&[u8]; 16]
+    requires width { width ≤ 32 }
+    requires rows { All (λ row. byte + width ≤ (length row + 7) / 8) rows.now }
+    requires fits { first + 16 < 2 ^ 64 }
+    ensures count { length result ≡ 16 }
+    ensures enough { All (λ row. width ≤ length row.now) result }
+    ensures held { HoldSixteen byte first rows.now result }
+{
+    [
+        bytes_from(rows, first + 7, byte, width),
+        bytes_from(rows, first + 6, byte, width),
+        bytes_from(rows, first + 5, byte, width),
+        bytes_from(rows, first + 4, byte, width),
+        bytes_from(rows, first + 3, byte, width),
+        bytes_from(rows, first + 2, byte, width),
+        bytes_from(rows, first + 1, byte, width),
+        bytes_from(rows, first, byte, width),
+        bytes_from(rows, first + 15, byte, width),
+        bytes_from(rows, first + 14, byte, width),
+        bytes_from(rows, first + 13, byte, width),
+        bytes_from(rows, first + 12, byte, width),
+        bytes_from(rows, first + 11, byte, width),
+        bytes_from(rows, first + 10, byte, width),
+        bytes_from(rows, first + 9, byte, width),
+        bytes_from(rows, first + 8, byte, width),
+    ]
+}
+
 /// The bytes of a row from this one on, at least as many as are asked for.
 #[inline]
-fn bytes_from(rows: &[Bits], at: usize, byte: usize, width: usize) -> &[u8]
+fn bytes_from(rows: &PixelRows, at: usize, byte: usize, width: usize) -> &[u8]
     requires width { width ≤ 32 }
     requires rows { All (λ row. byte + width ≤ (length row + 7) / 8) rows.now }
     ensures enough { width ≤ length result.now }
@@ -105,35 +123,60 @@ fn bytes_from(rows: &[Bits], at: usize, byte: usize, width: usize) -> &[u8]
     if at >= rows.len() {
         return &WHITE;
     }
-    &rows[at].as_bytes()[byte..]
+    rows.bytes_from(at, byte)
 }
 
-/// The byte of this number of each of sixteen rows.
+/// Sixteen bytes of each of sixteen rows, from this one on: of each byte of a row those of all rows together.
 #[inline]
-fn bytes_beside(rows: &[&[u8]], beside: usize) -> [u8; 16]
+fn lanes_beside(rows: &[&[u8]], at: usize) -> [u8x16; 16]
     requires count { length rows.now ≡ 16 }
-    requires within { All (λ row. beside < length row.now) rows.now }
-    ensures bytes { result ≡ map (λ row. get_or row.now beside 0) rows.now }
+    requires within { All (λ row. at < length row.now) rows.now }
     ensures count { length result ≡ 16 }
+    ensures lanes { (k : ℕ) → k < 16 → get_or result k [] ≡ map (λ row. get_or row.now (at + k) 0) rows.now }
 {
-    [
-        rows[0][beside],
-        rows[1][beside],
-        rows[2][beside],
-        rows[3][beside],
-        rows[4][beside],
-        rows[5][beside],
-        rows[6][beside],
-        rows[7][beside],
-        rows[8][beside],
-        rows[9][beside],
-        rows[10][beside],
-        rows[11][beside],
-        rows[12][beside],
-        rows[13][beside],
-        rows[14][beside],
-        rows[15][beside],
-    ]
+    transposed([
+        sixteen_bytes(rows[0], at),
+        sixteen_bytes(rows[1], at),
+        sixteen_bytes(rows[2], at),
+        sixteen_bytes(rows[3], at),
+        sixteen_bytes(rows[4], at),
+        sixteen_bytes(rows[5], at),
+        sixteen_bytes(rows[6], at),
+        sixteen_bytes(rows[7], at),
+        sixteen_bytes(rows[8], at),
+        sixteen_bytes(rows[9], at),
+        sixteen_bytes(rows[10], at),
+        sixteen_bytes(rows[11], at),
+        sixteen_bytes(rows[12], at),
+        sixteen_bytes(rows[13], at),
+        sixteen_bytes(rows[14], at),
+        sixteen_bytes(rows[15], at),
+    ])
+}
+
+/// Sixteen bytes from this one on, white ones behind the last.
+#[inline]
+fn sixteen_bytes(row: &[u8], at: usize) -> u8x16
+    requires { at < length row.now }
+    ensures count { length result ≡ 16 }
+    ensures bytes { (k : ℕ) → k < 16 → get_or result k 0 ≡ get_or row.now (at + k) 0 }
+{
+    if row.len() - at < 16 {
+        return last_bytes(&row[at..]);
+    }
+    u8x16::from_slice(&row[at..at + 16])
+}
+
+/// Fewer bytes than sixteen, and white ones behind them.
+#[inline(never)]
+fn last_bytes(bytes: &[u8]) -> u8x16
+    requires { length bytes.now < 16 }
+    ensures count { length result ≡ 16 }
+    ensures bytes { (k : ℕ) → k < 16 → get_or result k 0 ≡ get_or bytes.now k 0 }
+{
+    let mut lanes = [0; 16];
+    lanes[..bytes.len()].copy_from_slice(bytes);
+    u8x16::from_array(lanes)
 }
 
 /// Puts two bytes into each of eight columns, at this one and behind it, the low one first.

@@ -2,7 +2,7 @@
 
 use super::How;
 use super::made::{bits_of, packed};
-use pnm_samples::{Bits, columns};
+use pnm_samples::{Bits, PixelRows, columns};
 use pnm_test_support::{Unmade, cut_number, tell_text};
 use std::alloc::{AllocError, Global};
 
@@ -88,13 +88,14 @@ fn appended(alloc: Global, held: usize, start: usize, count: usize) -> Result<Bi
     Ok(bits)
 }
 
-/// The rows of a made-up image.
-fn image(alloc: Global, width: usize, height: usize) -> Result<Vec<Bits>, AllocError> {
-    let mut rows = Vec::new(alloc);
+/// The pixels of a made-up image, row by row.
+fn image(alloc: Global, width: usize, height: usize) -> Result<Bits, AllocError> {
+    let mut pixels = Bits::empty(alloc);
     for y in 0..height {
-        rows.push(bits_of(alloc, y, width)?)?;
+        let row = bits_of(alloc, y, width)?;
+        pixels.append(&row, 0, row.len())?;
     }
-    Ok(rows)
+    Ok(pixels)
 }
 
 /// So many columns of an image of this height, from this byte on.
@@ -108,12 +109,13 @@ fn columns_of(
         return Err(Unmade);
     }
     let width = 8 * byte + count;
-    let rows = image(alloc, width, height)?;
-    let are_wide = rows.as_slice().iter().all(|row| row.len() >= width);
-    if !are_wide || rows.len() >= 10_000 {
+    let pixels = image(alloc, width, height)?;
+    if pixels.len() != height * width {
         return Err(Unmade);
     }
-    Ok(columns(alloc, rows.as_slice(), byte, count)?)
+    let mut rows = PixelRows::new(alloc);
+    rows.push_rows(&pixels, height, width)?;
+    Ok(columns(alloc, &rows, byte, count)?)
 }
 
 /// Adds what so many columns of an image of this height hold, from this byte on.

@@ -1,6 +1,6 @@
-use Rattle.std.proofs.Common.{◌+◌, ◌*◌, refl, arith, ◌≡◌, ℕ, length, subst}
+use Rattle.std.proofs.Common.{ap, drop, get_or, refl, take, [], ◌∙◌, ◌+◌, ◌*◌, refl, arith, ◌≡◌, ℕ, length, subst}
 use Rattle.pnm_tools.specs.Flip.{column_of}
-use Rattle.pnm_geometry_tools.proofs.ColumnLaws.{column_stored, room_in, looked_up, row_reaches, four_colors, nothing_stored}
+use Rattle.pnm_geometry_tools.proofs.ColumnLaws.{column_stored, room_in, four_of, row_of_part, row_reaches_at, four_colors, nothing_stored}
 use Rattle.pnm_geometry_tools.specs.Columns.{HavePixels}
 use Rattle.std.proofs.lemmas.Grind.{common_steps}
 use Rattle.pnm_geometry_tools.proofs.batch.put_four_colors.Goals as goal
@@ -10,43 +10,40 @@ loop-k-preserved g c =
     let at = c.args.at in
     let k = c.loop-k.k in
     let v = c.index-columns-k.result in
-    let rows = c.args.rows.now in
+    let rows = take 4 (drop c.args.y c.args.rows.now) in
     column_stored k at (λ k. column_of 3 rows (c.args.first + k)) c.args.columns.now c.loop-k.columns v c.as_mut_slice.result.now
     c.store.new.buffer _ c.loop-k.invariant (omega arith) c.as_mut_slice.ensures.value c.store.auto.buffer c.store.ensures
-    (four_colors (c.args.first + k) (3 * (c.args.first + k)) rows c.as_slice-a.result.now c.as_slice-b.result.now c.as_slice-c.result.now
-    c.as_slice-d.result.now _ _ _ _ refl c.requires.four
-    (looked_up c.args.rows.now 0 c.as_slice-a.result.now c.index-rows-0.result c.as_slice-a.ensures c.index-rows-0.is)
-    (looked_up c.args.rows.now 1 c.as_slice-b.result.now c.index-rows-1.result c.as_slice-b.ensures c.index-rows-1.is)
-    (looked_up c.args.rows.now 2 c.as_slice-c.result.now c.index-rows-2.result c.as_slice-c.ensures c.index-rows-2.is)
-    (looked_up c.args.rows.now 3 c.as_slice-d.result.now c.index-rows-3.result c.as_slice-d.ensures c.index-rows-3.is)
+    (four_colors (c.args.first + k) (3 * (c.args.first + k)) rows c.row-a.result.now c.row-b.result.now c.row-c.result.now
+    c.row-d.result.now _ _ _ _ refl (four_of c.args.y c.args.rows.now c.requires.four)
+    (row_of_part 4 c.args.y 0 c.args.rows.now c.row-a.result.now (omega arith) (omega arith)
+    (c.row-a.ensures ∙ ap (λ (n : ℕ). get_or c.args.rows.now n []) (omega arith)))
+    (row_of_part 4 c.args.y 1 c.args.rows.now c.row-b.result.now (omega arith) (omega arith) c.row-b.ensures)
+    (row_of_part 4 c.args.y 2 c.args.rows.now c.row-c.result.now (omega arith) (omega arith) c.row-c.ensures)
+    (row_of_part 4 c.args.y 3 c.args.rows.now c.row-d.result.now (omega arith) (omega arith) c.row-d.ensures)
     c.color_at-p.ensures c.color_at-q.ensures c.color_at-r.ensures c.color_at-s.ensures)
 
 pub color_at-p-requires : goal.color_at-p-requires
 color_at-p-requires g c =
-    let fits = row_reaches 3 c.args.first _ c.loop-k.k 0 c.args.rows.now c.as_slice-a.result.now c.index-rows-0.result c.requires.four (omega arith)
-    (omega arith)
-    c.as_slice-a.ensures c.index-rows-0.is c.requires.rows in
+    let fits = row_reaches_at 3 c.args.first _ c.loop-k.k (c.args.y + 0) c.args.rows.now c.row-a.result.now (omega arith) (omega arith)
+    (c.row-a.ensures ∙ ap (λ (n : ℕ). get_or c.args.rows.now n []) (omega arith)) c.requires.rows in
     omega (arith, fits)
 
 pub color_at-q-requires : goal.color_at-q-requires
 color_at-q-requires g c =
-    let fits = row_reaches 3 c.args.first _ c.loop-k.k 1 c.args.rows.now c.as_slice-b.result.now c.index-rows-1.result c.requires.four (omega arith)
-    (omega arith)
-    c.as_slice-b.ensures c.index-rows-1.is c.requires.rows in
+    let fits = row_reaches_at 3 c.args.first _ c.loop-k.k (c.args.y + 1) c.args.rows.now c.row-b.result.now (omega arith) (omega arith)
+    c.row-b.ensures c.requires.rows in
     omega (arith, fits)
 
 pub color_at-r-requires : goal.color_at-r-requires
 color_at-r-requires g c =
-    let fits = row_reaches 3 c.args.first _ c.loop-k.k 2 c.args.rows.now c.as_slice-c.result.now c.index-rows-2.result c.requires.four (omega arith)
-    (omega arith)
-    c.as_slice-c.ensures c.index-rows-2.is c.requires.rows in
+    let fits = row_reaches_at 3 c.args.first _ c.loop-k.k (c.args.y + 2) c.args.rows.now c.row-c.result.now (omega arith) (omega arith)
+    c.row-c.ensures c.requires.rows in
     omega (arith, fits)
 
 pub color_at-s-requires : goal.color_at-s-requires
 color_at-s-requires g c =
-    let fits = row_reaches 3 c.args.first _ c.loop-k.k 3 c.args.rows.now c.as_slice-d.result.now c.index-rows-3.result c.requires.four (omega arith)
-    (omega arith)
-    c.as_slice-d.ensures c.index-rows-3.is c.requires.rows in
+    let fits = row_reaches_at 3 c.args.first _ c.loop-k.k (c.args.y + 3) c.args.rows.now c.row-d.result.now (omega arith) (omega arith)
+    c.row-d.ensures c.requires.rows in
     omega (arith, fits)
 
 pub loop-k-init : goal.loop-k-init
@@ -55,7 +52,8 @@ loop-k-init g c = nothing_stored _ _ _
 pub returns : goal.returns
 returns g c =
     let all : c.loop-k.k ≡ length c.args.columns.now = omega (arith, c.loop-k.invariant.many) in
-    subst (λ (n : ℕ). HavePixels n c.args.at (λ k. column_of 3 c.args.rows.now (c.args.first + k)) c.args.columns.now c.loop-k.columns) all
+    subst (λ (n : ℕ). HavePixels n c.args.at (λ k. column_of 3 (take 4 (drop c.args.y c.args.rows.now)) (c.args.first + k)) c.args.columns.now
+    c.loop-k.columns) all
     c.loop-k.invariant
 
 pub store-requires : goal.store-requires

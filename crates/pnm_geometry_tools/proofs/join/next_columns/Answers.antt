@@ -1,4 +1,4 @@
-use Rattle.std.proofs.Common.{rules, ◌≡◌, ◌++◌, ◌∷◌, [], ◌<◌, length, Some, ap, ◌∙◌, sym, arith, List, ℕ, Option, option_to_list}
+use Rattle.std.proofs.Common.{rules, ◌≡◌, ◌++◌, ◌∷◌, [], length, Some, ap, ◌∙◌, arith, List, ℕ, Option, option_to_list}
 use Rattle.pnm_geometry_tools.proofs.JoinLaws.{column_over, length_over}
 use Rattle.pnm_geometry_tools.proofs.join.next_columns.Goals as goal
 

@@ -1,4 +1,4 @@
-use Rattle.std.proofs.Common.{◌≡◌, ◌+◌, length, arith, ℕ, ◌*◌, ◌≤◌, refl, sym, ap, ◌∙◌}
+use Rattle.std.proofs.Common.{◌≡◌, length, arith, ℕ, ◌*◌, ◌≤◌, refl, sym, ap, ◌∙◌}
 use Rattle.pnm_geometry_tools.proofs.EnlargeRowLaws.{columns_repeated, column_more, next_place, wide_more, wide_there}
 use Rattle.pnm_tools.proofs.PickLaws.{columns_end}
 use Rattle.std.proofs.lemmas.List.{append-nil, take_all}

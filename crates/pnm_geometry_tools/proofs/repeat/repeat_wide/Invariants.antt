@@ -1,4 +1,4 @@
-use Rattle.std.proofs.Common.{◌≡◌, ◌≤◌, ◌+◌, ◌*◌, ◌++◌, length, take}
+use Rattle.std.proofs.Common.{◌≡◌, ◌+◌, ◌*◌, ◌++◌, length, take}
 use Rattle.pnm_geometry_tools.proofs.EnlargeRowLaws.{columns_repeated}
 use Rattle.pnm_tools.specs.Enlarge.{copies_of}
 use Rattle.pnm_geometry_tools.proofs.repeat.repeat_wide.Given as goal

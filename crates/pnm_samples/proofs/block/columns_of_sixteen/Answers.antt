@@ -10,8 +10,8 @@ loop-k-preserved c =
     let inside : k < length c.loop-k.columns = omega (arith, known.count) in
     record {
       count = length-set c.loop-k.columns k c.highest_bits.result ∙ known.count;
-      lanes = places_more c.args.rows.now c.loop-k.lanes k known.lanes;
+      lanes = places_more c.args.rows c.loop-k.lanes k known.lanes;
       columns =
           below_more _ _ (λ j h. let other : j ≢ k = omega arith in rw get_or-set_other (known.columns j h))
-          (rw get_or-set_same (c.highest_bits.ensures ∙ ap (bits_of 7) known.lanes ∙ bits_moved c.args.rows.now k (omega arith)));
+          (rw get_or-set_same (c.highest_bits.ensures ∙ ap (bits_of 7) known.lanes ∙ bits_moved c.args.rows k (omega arith)));
     }

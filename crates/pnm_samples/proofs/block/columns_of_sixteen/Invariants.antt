@@ -6,6 +6,6 @@ use Rattle.pnm_samples.proofs.block.columns_of_sixteen.Given as goal
 abbrev pub invariant-loop-k : goal.invariant-loop-k
 invariant-loop-k l = record {
   count : length l.columns ≡ 8;
-  lanes : l.lanes ≡ map (λ b. b * 2 ^ l.k % 256) l.rows;
-  columns : (j : ℕ) → j < l.k → get_or l.columns j 0 ≡ bits_of (7 - j) l.rows;
+  lanes : l.lanes ≡ map (λ b. b * 2 ^ l.k % 256) l.fn.rows;
+  columns : (j : ℕ) → j < l.k → get_or l.columns j 0 ≡ bits_of (7 - j) l.fn.rows;
 }

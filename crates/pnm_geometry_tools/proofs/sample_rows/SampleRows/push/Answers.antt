@@ -16,11 +16,11 @@ returns-in_err-into_bits-in-Bits c =
 pub returns-in_err-push-in-Bits : goal.returns-in_err-push-in-Bits
 returns-in_err-push-in-Bits c =
     let p = err_from_is_err_and c.from_residual-in_err-push-in-Bits.result c.from_residual-in_err-push-in-Bits.ensures.1 in
-    rw (c.in-Bits.is, p.1) (record { sample_width = refl; strips = refl; added = tt; unchanged = c.in_err-push-in-Bits.ensures.items; refused = p.2 })
+    rw (c.in-Bits.is, p.1) (record { sample_width = refl; strips = refl; added = tt; unchanged = c.in_err-push-in-Bits.ensures.unchanged; refused = p.2 })
 
 pub returns-in_ok-push-in-Bits : goal.returns-in_ok-push-in-Bits
 returns-in_ok-push-in-Bits c =
-    let added = c.in_ok-push-in-Bits.ensures.items ∙ ap (λ (row : List ℕ). c.in-Bits.rows.items ++ row ∷ []) c.in_ok-into_bits-in-Bits.ensures in
+    let added = c.in_ok-push-in-Bits.ensures.added ∙ ap (λ (row : List ℕ). c.in-Bits.rows ++ row ∷ []) c.in_ok-into_bits-in-Bits.ensures in
     rw c.in-Bits.is (record { sample_width = refl; strips = refl; added = added; unchanged = tt; refused = tt })
 
 pub returns-in_err-into_bytes-in-Bytes : goal.returns-in_err-into_bytes-in-Bytes
@@ -28,29 +28,17 @@ returns-in_err-into_bytes-in-Bytes c =
     let p = err_from_is_err_and c.from_residual-in_err-into_bytes-in-Bytes.result c.from_residual-in_err-into_bytes-in-Bytes.ensures.1 in
     rw (c.in-Bytes.is, p.1) (record { sample_width = refl; strips = refl; added = tt; unchanged = refl; refused = p.2 })
 
-pub returns-in_ok-into_bytes-in-Bytes : goal.returns-in_ok-into_bytes-in-Bytes
-returns-in_ok-into_bytes-in-Bytes c =
-    let e = c.push-in-Bytes.ensures in
-    rw c.in-Bytes.is (record {
-      sample_width = refl;
-      strips = e.strips;
-      added = rw c.in_ok-into_bytes-in-Bytes.ensures at e.added;
-      unchanged = e.unchanged;
-      refused = e.refused;
-    })
+pub returns-in_err-push-in-Bytes : goal.returns-in_err-push-in-Bytes
+returns-in_err-push-in-Bytes c =
+    let p = err_from_is_err_and c.from_residual-in_err-push-in-Bytes.result c.from_residual-in_err-push-in-Bytes.ensures.1 in
+    rw (c.in-Bytes.is, p.1) (record { sample_width = refl; strips = refl; added = tt; unchanged = c.in_err-push-in-Bytes.ensures.unchanged; refused = p.2 })
 
 pub returns-in_err-into_words-in-Words : goal.returns-in_err-into_words-in-Words
 returns-in_err-into_words-in-Words c =
     let p = err_from_is_err_and c.from_residual-in_err-into_words-in-Words.result c.from_residual-in_err-into_words-in-Words.ensures.1 in
     rw (c.in-Words.is, p.1) (record { sample_width = refl; strips = refl; added = tt; unchanged = refl; refused = p.2 })
 
-pub returns-in_ok-into_words-in-Words : goal.returns-in_ok-into_words-in-Words
-returns-in_ok-into_words-in-Words c =
-    let e = c.push-in-Words.ensures in
-    rw c.in-Words.is (record {
-      sample_width = refl;
-      strips = e.strips;
-      added = rw c.in_ok-into_words-in-Words.ensures at e.added;
-      unchanged = e.unchanged;
-      refused = e.refused;
-    })
+pub returns-in_err-push-in-Words : goal.returns-in_err-push-in-Words
+returns-in_err-push-in-Words c =
+    let p = err_from_is_err_and c.from_residual-in_err-push-in-Words.result c.from_residual-in_err-push-in-Words.ensures.1 in
+    rw (c.in-Words.is, p.1) (record { sample_width = refl; strips = refl; added = tt; unchanged = c.in_err-push-in-Words.ensures.unchanged; refused = p.2 })

@@ -1,9 +1,9 @@
-use Rattle.std.proofs.Common.{◌≡◌, ◌≤◌, ◌+◌, false, ap, sym, ◌∙◌, arith}
+use Rattle.std.proofs.Common.{◌≡◌, ◌<◌, ◌≤◌, ◌+◌, false, ap, sym, ◌∙◌, arith}
 use Rattle.pnm_tools.specs.declared.flip.Turn.{Turn}
 use Rattle.pnm_tools.specs.Flip.{turn_of}
 use Rattle.pnm_geometry_tools.specs.SampleRows.{row_lists, strip_lists, rows_width}
 use Rattle.pnm_geometry_tools.specs.Keeping.{Transposed, transposed, transposed_due}
-use Rattle.pnm_geometry_tools.proofs.TransposeLaws.{first_made}
+use Rattle.pnm_geometry_tools.proofs.TransposeLaws.{batch_some, first_made}
 use Rattle.std.proofs.lemmas.Grind.{common_steps}
 use Rattle.pnm_geometry_tools.proofs.transpose.Transposer.make_first.Goals as goal
 
@@ -23,7 +23,11 @@ pub batch-requires-clause-reach : goal.batch-requires-clause-reach
 batch-requires-clause-reach c = grind (arith, common_steps)
 
 pub returns-clause-some : goal.returns-clause-some
-returns-clause-some c = grind (arith, common_steps)
+returns-clause-some c =
+    let x = c.self.inside in
+    let left : x.next < x.columns =
+    omega (arith, ap (λ (w : Transposed). w.next) c.self.view_is, ap (λ (w : Transposed). w.columns) c.self.view_is, c.requires.left.1) in
+    batch_some _ x.next c.min-count.result _ c.in_ok-self-inside.ensures.made (omega (arith, left, c.min-count.ensures, c.batch_length.ensures.some))
 
 pub batch-requires-clause-sizes : goal.batch-requires-clause-sizes
 batch-requires-clause-sizes c = grind (arith, common_steps)

@@ -1,5 +1,4 @@
-use Rattle.std.proofs.Common.{sym, ap, ◌∙◌, ◌++◌, List, ℕ, ◌≡◌}
-use Rattle.pnm_tools.specs.declared.flip.FlipWay.{FlipWay}
+use Rattle.std.proofs.Common.{sym, ap, ◌∙◌, ◌++◌, List, ℕ}
 use Rattle.pnm_tools.specs.declared.tool.Tool.TheVariants.{Flip}
 use Rattle.pnm_tools.specs.Answering.{rows_answer}
 use Rattle.pnm_tools.specs.Flip.{turn_of}
