@@ -39,8 +39,9 @@ OF_MEMORY = "memory::"
 MOST = 2000
 MOST_TOOLS = 64
 
-# how many seconds a refused start may take to be answered, while the input is silent
-PROMPT = 1.0
+# how many seconds the input is silent at most: a refused start has to be answered before that, but a machine that is
+# shared may let no process run for more than one
+PROMPT = 10.0
 
 
 class Command(typing.NamedTuple):
@@ -422,7 +423,7 @@ def refuse_all(args, loaded):
     """Refuses what was asked for, as much at a time as there are processors. Gives how many faults there were."""
     kinds = [kind for kind in ("GROWTH", "START") if kind.lower() in args.what]
     jobs = {}
-    totals, lines, faults = collections.Counter(), collections.Counter(), 0
+    totals, lines, faults = collections.Counter(), collections.Counter(), []
     with concurrent.futures.ThreadPoolExecutor(args.jobs) as pool:
         for command in commands(args.program) if kinds or "silent" in args.what else ():
             name = textwrap.shorten(shlex.join(command.words), 90, placeholder=" ..")
@@ -436,8 +437,7 @@ def refuse_all(args, loaded):
             try:
                 counts, met = job.result()
             except Fault as fault:
-                faults += 1
-                print(f"refused: {name}: {fault}", file=sys.stderr)
+                faults.append(f"{name}: {fault}")
                 continue
             print(f"refused: {name}: " + ", ".join(f"{kind.lower()} {count}" for kind, count in counts))
             for kind, count in counts:
@@ -445,9 +445,11 @@ def refuse_all(args, loaded):
             lines.update(met)
     for line, count in sorted(lines.items()):
         print(f"refused: {count} times: {line}")
+    for fault in faults:
+        print(f"refused: {fault}", file=sys.stderr)
     met = ", ".join(f"{count} of {kind.lower()}" for kind, count in totals.items())
-    print(f"refused: {met or 'nothing'} refused in turn; {len(jobs) - faults} passed, {faults} failed")
-    return faults if any(totals.values()) else 1
+    print(f"refused: {met or 'nothing'} refused in turn; {len(jobs) - len(faults)} passed, {len(faults)} failed")
+    return len(faults) if any(totals.values()) else 1
 
 
 def refuse_by_builds(step, seconds):
