@@ -15,8 +15,8 @@ ghost use Rattle.pnm_geometry_tools.specs.Keeping.{IsEnlarging, across_of, down_
 ghost use Rattle.pnm_tools.specs.Limits.{IsExtent};
 ghost use Rattle.pnm_tools.specs.Tools.{TakesHead, result_head};
 
-use crate::repeat::{repeat_bits, repeat_pixels, repeat_runs};
-use pnm_image::{Head, Kind, Rows, SampleSlice, SampleVec, Samples, Shape};
+use crate::repeat::{repeat_pixels, repeat_runs};
+use pnm_image::{BitRows, Head, RowSlice, RowVec, Rows, Samples, Shape};
 use pnm_tools::{ImageTool, ToolFault, head_within_limits};
 use std::alloc::Global;
 use std::mem;
@@ -27,7 +27,7 @@ pub struct Enlarger {
     across: u32,
     down: u32,
     /// The row that is to be given, and how many times.
-    row: Option<Samples>,
+    row: Option<Rows>,
     left: u32,
 }
 
@@ -38,44 +38,32 @@ const MOST_MADE: u32 = 1_048_576;
 /// The most bytes of copies of a row that are given at once.
 const MOST_GIVEN: u32 = 65_536;
 
-/// The row with each pixel repeated so many times, held as it was, but bits of several planes as bytes.
+/// The rows, all pixels of which are those of the long shape, with each pixel repeated so many times, held as they were,
+/// but bits of several planes as bytes.
 ///
 /// # Errors
 ///
-/// `Memory`, where there is none for the row.
-fn enlarge_row(
+/// `Memory`, where there is none for the rows.
+fn widen_rows(
     alloc: Global,
     across: u32,
-    shape: Shape,
-    row: &Samples,
-) -> Result<SampleVec, ToolFault>
-    requires { length row.now ≡ row_length shape }
-    ensures made { IfOk result (λ made. samples_of made ≡ enlarged_row across shape row.now) }
-    ensures refused { IfErr result (λ fault. fault ≡ Memory) }
-{
-    match row.as_slice() {
-        SampleSlice::Bits(bits) if shape.depth == 1 => {
-            let bits = repeat_bits(alloc, across, shape, bits)?;
-            Ok(SampleVec::Bits(bits))
+    long: Shape,
+    rows: RowSlice<'_>,
+) -> Result<RowVec, ToolFault> {
+    Ok(match rows {
+        RowSlice::Bits(bits) if long.depth == 1 => {
+            RowVec::Bits(bits.widen(alloc, across as usize)?)
         }
-        SampleSlice::Bits(bits) => {
+        RowSlice::Bits(bits) => {
             let unpacked = bits.to_bytes(alloc)?;
-            let bytes = repeat_pixels(alloc, across, shape, unpacked.as_slice())?;
-            Ok(SampleVec::Bytes(bytes))
+            RowVec::Bytes(repeat_pixels(alloc, across, long, unpacked.as_slice())?)
         }
-        SampleSlice::Bytes(bytes) => {
-            let bytes = repeat_pixels(alloc, across, shape, bytes)?;
-            Ok(SampleVec::Bytes(bytes))
-        }
-        SampleSlice::Words(words) => {
-            let words = repeat_pixels(alloc, across, shape, words)?;
-            Ok(SampleVec::Words(words))
-        }
-    }
+        RowSlice::Bytes(bytes) => RowVec::Bytes(repeat_pixels(alloc, across, long, bytes)?),
+        RowSlice::Words(words) => RowVec::Words(repeat_pixels(alloc, across, long, words)?),
+    })
 }
 
-/// Rows that are held one after another, each so many times, held as they were. The shape has a row in place
-/// of a pixel: its width is how many rows these are, and its depth how many samples a row has.
+/// So many rows of so many samples, each so many times, held as they were.
 ///
 /// # Errors
 ///
@@ -83,64 +71,48 @@ fn enlarge_row(
 fn repeat_rows(
     alloc: Global,
     down: u32,
-    shape: Shape,
-    rows: &Samples,
-) -> Result<SampleVec, ToolFault>
-    requires { length rows.now ≡ row_length shape }
-    ensures made { IfOk result (λ made. samples_of made ≡ enlarged_row down shape rows.now) }
-    ensures refused { IfErr result (λ fault. fault ≡ Memory) }
-{
-    match rows.as_slice() {
-        SampleSlice::Bits(bits) => {
-            let bits = repeat_runs(alloc, down, shape, bits)?;
-            Ok(SampleVec::Bits(bits))
+    rows: RowSlice<'_>,
+    count: usize,
+    each: usize,
+) -> Result<RowVec, ToolFault> {
+    Ok(match rows {
+        RowSlice::Bits(bits) => {
+            let (bytes, _, _) = bits.parts();
+            let repeated = repeat_runs(alloc, down, bytes, count, each.div_ceil(8))?;
+            RowVec::Bits(BitRows::new(repeated, count * down as usize, each))
         }
-        SampleSlice::Bytes(bytes) => {
-            let bytes = repeat_pixels(alloc, down, shape, bytes)?;
-            Ok(SampleVec::Bytes(bytes))
-        }
-        SampleSlice::Words(words) => {
-            let words = repeat_pixels(alloc, down, shape, words)?;
-            Ok(SampleVec::Words(words))
-        }
-    }
+        RowSlice::Bytes(bytes) => RowVec::Bytes(repeat_runs(alloc, down, bytes, count, each)?),
+        RowSlice::Words(words) => RowVec::Words(repeat_runs(alloc, down, words, count, each)?),
+    })
 }
 
 /// How many samples that are held as these take so many bytes, where bits of several planes become bytes.
-fn samples_in(samples: &Samples, depth: u32, bytes: u32) -> u32
+fn samples_in(rows: RowSlice<'_>, depth: u32, bytes: u32) -> u32
     requires { bytes ≤ MAX_ROW_LENGTH }
     ensures { result ≤ 8 * bytes }
 {
-    match samples.as_slice() {
-        SampleSlice::Bits(_) if depth == 1 => 8 * bytes,
-        SampleSlice::Words(_) => bytes / 2,
+    match rows {
+        RowSlice::Bits(_) if depth == 1 => 8 * bytes,
+        RowSlice::Words(_) => bytes / 2,
         _ => bytes,
     }
 }
 
-/// As many copies of a row as are given at once, but no more than these.
-fn copies_of_row(alloc: Global, most: u32, row: &Samples) -> Result<Rows, ToolFault>
+/// As many copies of a row, which is by itself, as are given at once, but no more than these.
+fn copies_of_row(alloc: Global, most: u32, row: &Rows) -> Result<Rows, ToolFault>
     requires { 1 ≤ most }
     ensures copies { IfOk result (λ rows. rows ≡ replicate (length rows) row.now) }
     ensures most { IfOk result (λ rows. length rows ≤ most) }
     ensures refused { IfErr result (λ fault. fault ≡ Memory) }
 {
-    let (row_length, given) = (row.len(), samples_in(row, 1, MOST_GIVEN));
+    let (row_length, given) = (row.row_length(), samples_in(row.as_slice(), 1, MOST_GIVEN));
     if row_length == 0 || row_length > given as usize {
-        let copy = row.copy(alloc)?;
+        let copy = row.row(alloc, 0)?;
         return Ok(Rows::one(copy));
     }
-    let depth = row_length as u32;
-    let count = most.min(given / depth).max(1);
-    let shape = Shape {
-        kind: Kind::Pam,
-        width: 1,
-        height: 1,
-        depth,
-        maxval: 1,
-    };
-    let copies = repeat_rows(alloc, count, shape, row)?;
-    Ok(Rows::new(Samples::from_vec(copies), count, row_length))
+    let count = most.min(given / row_length as u32).max(1);
+    let copies = repeat_rows(alloc, count, row.as_slice(), 1, row_length)?;
+    Ok(Rows::new(copies, row.bound(), count, row_length))
 }
 
 /// The rows of the result that rows of an image of this shape make, unless they are too many, or there is no
@@ -151,56 +123,42 @@ fn enlarge_rows(alloc: Global, across: u32, down: u32, shape: Shape, rows: &Rows
     requires rows { AllByRecursion (IsRowOf shape) rows.now }
     ensures { IfSome result (λ made. (y : ℕ) → rows_answer (Enlarge across down) shape y rows.now ≡ made) }
 {
-    let (count, samples) = (rows.count(), rows.samples());
+    let count = rows.count();
     let wide = rows.row_length() * across as usize;
     let Some(filled) = (count as usize).checked_mul(wide * down as usize) else {
         return None;
     };
-    if filled > samples_in(samples, shape.depth, MOST_MADE) as usize {
+    if filled > samples_in(rows.as_slice(), shape.depth, MOST_MADE) as usize {
         return None;
     }
     let long = Shape {
         width: shape.width * count,
         ..shape
     };
-    let tall = Shape {
-        width: count,
-        depth: wide as u32,
-        ..shape
-    };
-    let Ok(enlarged) = enlarge_samples(alloc, across, down, long, tall, samples) else {
+    let Ok(enlarged) = enlarge_samples(alloc, across, down, long, rows) else {
         return None;
     };
-    Some(Rows::new(enlarged, count * down, wide))
+    Some(Rows::new(enlarged, shape.maxval, count * down, wide))
 }
 
-/// The samples of rows, the pixels of all of which are seen as one long row, each so many times across; and
-/// the rows, seen as pixels of one tall column, each so many times down.
+/// The rows, all pixels of which are those of the long shape, each so many times down and its pixels so many times
+/// across.
 fn enlarge_samples(
     alloc: Global,
     across: u32,
     down: u32,
     long: Shape,
-    tall: Shape,
-    samples: &Samples,
-) -> Result<Samples, ToolFault>
-    requires long { length samples.now ≡ row_length long }
-    requires tall { row_length tall ≡ row_length long * across }
-    requires range { All (λ sample. sample ≤ long.maxval) samples.now }
-    ensures made { IfOk result (λ made. made ≡ enlarged_row down tall (enlarged_row across long samples.now)) }
-    ensures refused { IfErr result (λ fault. fault ≡ Memory) }
-{
+    rows: &Rows,
+) -> Result<RowVec, ToolFault> {
+    let (count, each) = (rows.count() as usize, rows.row_length());
     if across == 1 {
-        let repeated = repeat_rows(alloc, down, tall, samples)?;
-        return Ok(Samples::within(repeated, long.maxval));
+        return repeat_rows(alloc, down, rows.as_slice(), count, each);
     }
-    let wide = enlarge_row(alloc, across, long, samples)?;
-    let wide = Samples::within(wide, long.maxval);
+    let wide = widen_rows(alloc, across, long, rows.as_slice())?;
     if down == 1 {
         return Ok(wide);
     }
-    let both = repeat_rows(alloc, down, tall, &wide)?;
-    Ok(Samples::within(both, long.maxval))
+    repeat_rows(alloc, down, wide.as_slice(), count, each * across as usize)
 }
 
 impl ImageTool for Enlarger {
@@ -223,11 +181,13 @@ impl ImageTool for Enlarger {
         _y: u32,
         row: Samples,
     ) -> Result<(), ToolFault> {
+        let rows = Rows::one(row);
         let made = if self.across == 1 {
-            row
+            rows
         } else {
-            let held = enlarge_row(alloc, self.across, shape, &row)?;
-            Samples::within(held, shape.maxval)
+            let wide = rows.row_length() * self.across as usize;
+            let held = enlarge_samples(alloc, self.across, 1, shape, &rows)?;
+            Rows::new(held, shape.maxval, 1, wide)
         };
         self.row = Some(made);
         self.left = self.down;
@@ -265,7 +225,7 @@ impl ImageTool for Enlarger {
             return Ok(None);
         }
         if self.left == 1 {
-            return Ok(Some(Rows::one(row)));
+            return Ok(Some(row));
         }
         let copies = copies_of_row(alloc, self.left, &row)?;
         self.left -= copies.count();

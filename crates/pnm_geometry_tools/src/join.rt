@@ -5,7 +5,7 @@ ghost use Rattle.pnm_samples.specs.SampleVecs.{samples_of};
 ghost use Rattle.pnm_tools.specs.declared.fault.ToolFault.TheVariants.{Memory};
 ghost use Rattle.pnm_tools.specs.Answering.{rows_list};
 
-use pnm_image::{Rows, SampleSlice, SampleVec, Samples};
+use pnm_image::{RowSlice, RowVec, Rows, Samples};
 use pnm_tools::ToolFault;
 use std::alloc::{AllocError, Global};
 
@@ -46,65 +46,43 @@ pub(crate) fn next_columns(
     if each > MOST_SAMPLES {
         return Ok(Some(Rows::one(first)));
     }
-    let mut held = first.into_vec();
-    let mut count = 1;
+    let mut bound = first.bound();
+    let (mut held, mut count, _) = Rows::one(first).into_parts();
     while count < MOST_ROWS && (count as usize + 1) * each <= MOST_TOGETHER {
-        let Some(next) = batch.last() else {
+        let Some(next) = batch.pop() else {
             break;
         };
         if next.len() != each {
+            batch.push(next)?;
             break;
         }
-        held = append(alloc, held, next)?;
-        let _ = batch.pop();
+        bound = bound.max(next.bound());
+        let row = Rows::one(next);
+        if !append(&mut held, row.as_slice())? {
+            batch.push(row.into_first())?;
+            break;
+        }
         count += 1;
     }
-    Ok(Some(Rows::new(Samples::from_vec(held), count, each)))
+    Ok(Some(Rows::new(held, bound, count, each)))
 }
 
-/// The samples of a row behind those that are held: held as these are, or as words where the row is held otherwise.
+/// Adds rows behind those that are held; false, and nothing is added, where they aren't held alike.
 ///
 /// # Errors
 ///
-/// Where there is no memory for them.
-pub(crate) fn append(alloc: Global, held: SampleVec, row: &Samples) -> Result<SampleVec, AllocError>
-    ensures { IfOk result (λ both. samples_of both ≡ samples_of held ++ row.now) }
-{
-    match held {
-        SampleVec::Bits(mut bits) => match row.as_slice() {
-            SampleSlice::Bits(more) => {
-                bits.append(more, 0, more.len())?;
-                Ok(SampleVec::Bits(bits))
-            }
-            _ => append_words(alloc, SampleVec::Bits(bits), row),
-        },
-        SampleVec::Bytes(mut bytes) => match row.as_slice() {
-            SampleSlice::Bytes(more) => {
-                bytes.extend_from_slice(more)?;
-                Ok(SampleVec::Bytes(bytes))
-            }
-            _ => append_words(alloc, SampleVec::Bytes(bytes), row),
-        },
-        SampleVec::Words(mut words) => match row.as_slice() {
-            SampleSlice::Words(more) => {
-                words.extend_from_slice(more)?;
-                Ok(SampleVec::Words(words))
-            }
-            _ => append_words(alloc, SampleVec::Words(words), row),
-        },
+/// Where there is no memory for them. Then nothing has changed.
+pub(crate) fn append(held: &mut RowVec, more: RowSlice<'_>) -> Result<bool, AllocError> {
+    match (held, more) {
+        (RowVec::Bits(rows), RowSlice::Bits(more)) => rows.append(more),
+        (RowVec::Bytes(bytes), RowSlice::Bytes(more)) => {
+            bytes.extend_from_slice(more)?;
+            Ok(true)
+        }
+        (RowVec::Words(words), RowSlice::Words(more)) => {
+            words.extend_from_slice(more)?;
+            Ok(true)
+        }
+        _ => Ok(false),
     }
-}
-
-/// The samples of a row behind those that are held, all as words.
-///
-/// # Errors
-///
-/// Where there is no memory for them.
-fn append_words(alloc: Global, held: SampleVec, row: &Samples) -> Result<SampleVec, AllocError>
-    ensures { IfOk result (λ both. samples_of both ≡ samples_of held ++ row.now) }
-{
-    let mut words = Samples::from_vec(held).into_words(alloc)?;
-    let more = row.to_words(alloc)?;
-    words.extend_from_slice(more.as_slice())?;
-    Ok(SampleVec::Words(words))
 }

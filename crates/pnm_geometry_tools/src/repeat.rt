@@ -9,43 +9,35 @@ ghost use Rattle.pnm_tools.specs.Pixels.{pixel_of};
 
 use crate::buffer::store;
 use crate::color::color_at;
-use pnm_image::{Bits, Shape};
+use pnm_image::{Kind, Shape};
 use pnm_tools::ToolFault;
 use std::alloc::Global;
 
-/// The row of one plane with each pixel repeated so many times.
-pub(crate) fn repeat_bits(
-    alloc: Global,
-    across: u32,
-    shape: Shape,
-    row: &Bits,
-) -> Result<Bits, ToolFault>
-    requires plane { shape.depth ≡ 1 }
-    requires row { length row.now ≡ row_length shape }
-    ensures made { IfOk result (λ made. made ≡ enlarged_row across shape row.now) }
-    ensures refused { IfErr result (λ fault. fault ≡ Memory) }
-{
-    Ok(row.repeat(alloc, across as usize)?)
-}
+/// How many samples a run has at least that is copied as one.
+const LEAST_RUN: usize = 16;
 
-/// The row with each pixel, a run of bits, repeated so many times.
-pub(crate) fn repeat_runs(
+/// So many runs of so many samples, each so many times: long ones by a copy, short ones as pixels are.
+pub(crate) fn repeat_runs<T: Copy + Default>(
     alloc: Global,
     times: u32,
-    shape: Shape,
-    row: &Bits,
-) -> Result<Bits, ToolFault>
-    requires row { length row.now ≡ row_length shape }
-    ensures made { IfOk result (λ made. made ≡ enlarged_row times shape row.now) }
-    ensures refused { IfErr result (λ fault. fault ≡ Memory) }
-{
-    // No effect at run time: a proof learns of this that the row's length is a number of this machine.
-    let _ = row.len();
-    let (width, depth) = (shape.width as usize, shape.depth as usize);
-    let mut repeated = Bits::empty(alloc);
-    for x in 0..width {
+    samples: &[T],
+    count: usize,
+    each: usize,
+) -> Result<Vec<T>, ToolFault> {
+    if each < LEAST_RUN {
+        let shape = Shape {
+            kind: Kind::Pam,
+            width: count as u32,
+            height: 1,
+            depth: each as u32,
+            maxval: 1,
+        };
+        return repeat_pixels(alloc, times, shape, samples);
+    }
+    let mut repeated = Vec::with_capacity(alloc, samples.len() * times as usize)?;
+    for run in 0..count {
         for _ in 0..times {
-            repeated.append(row, x * depth, depth)?;
+            repeated.extend_from_slice(&samples[run * each..(run + 1) * each])?;
         }
     }
     Ok(repeated)

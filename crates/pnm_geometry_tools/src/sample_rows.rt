@@ -15,7 +15,7 @@ ghost use Rattle.pnm_geometry_tools.specs.Strips.{HaveSizes, KeepColumns, ReachC
 use crate::batch::{columns_of, last_first};
 use crate::flat_rows::FlatRows;
 use crate::strip::StripedRows;
-use pnm_image::{SampleSlice, SampleWidth, Samples, Shape};
+use pnm_image::{RowSlice, Rows, SampleWidth, Samples, Shape};
 use pnm_samples::PixelRows;
 use pnm_tools::ToolFault;
 use std::alloc::{AllocError, Global};
@@ -92,28 +92,27 @@ impl SampleRows {
         }
     }
 
-    /// Adds so many rows of so many samples each at the end, which are held one after another.
+    /// Adds the rows at the end.
     ///
     /// # Errors
     ///
     /// Where there is no memory for them, or they are held in another width. Then nothing has changed.
-    pub fn push_rows(
-        &mut self,
-        alloc: Global,
-        samples: &Samples,
-        count: usize,
-        each: usize,
-    ) -> Result<(), AllocError>
-        requires { length samples.now ≡ count * each }
+    pub fn push_rows(&mut self, rows: &Rows) -> Result<(), AllocError>
         ensures sample_width { rows_width self.new ≡ rows_width self.old }
         ensures strips { strip_lists self.new ≡ strip_lists self.old }
-        ensures added { OnOk result (row_lists self.new ≡ row_lists self.old ++ cut_rows count each samples.now) }
+        ensures added { OnOk result (row_lists self.new ≡ row_lists self.old ++ rows.now) }
         ensures unchanged { OnErr result (row_lists self.new ≡ row_lists self.old) }
     {
-        match self {
-            SampleRows::Bits(rows) => push_bits(rows, samples, count, each),
-            SampleRows::Bytes(kept) => push_bytes(&mut kept.rows, samples, count, each),
-            SampleRows::Words(kept) => push_words(&mut kept.rows, samples, count, each),
+        let (count, each) = (rows.count() as usize, rows.row_length());
+        match (self, rows.as_slice()) {
+            (SampleRows::Bits(kept), RowSlice::Bits(bits)) => kept.push_rows(bits),
+            (SampleRows::Bytes(kept), RowSlice::Bytes(bytes)) => {
+                kept.rows.push_rows(bytes, count, each)
+            }
+            (SampleRows::Words(kept), RowSlice::Words(words)) => {
+                kept.rows.push_rows(words, count, each)
+            }
+            _ => Err(AllocError),
         }
     }
 
@@ -213,67 +212,4 @@ impl SampleRows {
             }
         }
     }
-}
-
-/// Adds so many rows of so many pixels each at the end.
-///
-/// # Errors
-///
-/// Where there is no memory for them, or they aren't held as pixels. Then nothing has changed.
-fn push_bits(
-    rows: &mut PixelRows,
-    samples: &Samples,
-    count: usize,
-    each: usize,
-) -> Result<(), AllocError>
-    requires { length samples.now ≡ count * each }
-    ensures added { OnOk result (rows.new ≡ rows.old ++ cut_rows count each samples.now) }
-    ensures unchanged { OnErr result (rows.new ≡ rows.old) }
-{
-    let SampleSlice::Bits(bits) = samples.as_slice() else {
-        return Err(AllocError);
-    };
-    rows.push_rows(bits, count, each)
-}
-
-/// Adds so many rows of so many bytes each at the end.
-///
-/// # Errors
-///
-/// Where there is no memory for them, or they aren't held as bytes. Then nothing has changed.
-fn push_bytes(
-    rows: &mut FlatRows<u8>,
-    samples: &Samples,
-    count: usize,
-    each: usize,
-) -> Result<(), AllocError>
-    requires { length samples.now ≡ count * each }
-    ensures added { OnOk result (rows.new ≡ rows.old ++ cut_rows count each samples.now) }
-    ensures unchanged { OnErr result (rows.new ≡ rows.old) }
-{
-    let SampleSlice::Bytes(bytes) = samples.as_slice() else {
-        return Err(AllocError);
-    };
-    rows.push_rows(bytes, count, each)
-}
-
-/// Adds so many rows of so many words each at the end.
-///
-/// # Errors
-///
-/// Where there is no memory for them, or they aren't held as words. Then nothing has changed.
-fn push_words(
-    rows: &mut FlatRows<u16>,
-    samples: &Samples,
-    count: usize,
-    each: usize,
-) -> Result<(), AllocError>
-    requires { length samples.now ≡ count * each }
-    ensures added { OnOk result (rows.new ≡ rows.old ++ cut_rows count each samples.now) }
-    ensures unchanged { OnErr result (rows.new ≡ rows.old) }
-{
-    let SampleSlice::Words(words) = samples.as_slice() else {
-        return Err(AllocError);
-    };
-    rows.push_rows(words, count, each)
 }

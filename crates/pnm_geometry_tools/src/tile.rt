@@ -15,9 +15,9 @@ ghost use Rattle.pnm_tools.specs.Tools.{TakesHead, result_head};
 
 use crate::join::count_together;
 use crate::kept_rows::KeptRows;
-use pnm_image::{Bits, Head, Kind, Rows, SampleVec, Samples, Shape};
+use pnm_image::{BitRows, Bits, Head, Kind, RowSlice, RowVec, Rows, Samples, Shape};
 use pnm_tools::{ImageTool, ToolFault, head_within_limits};
-use std::alloc::Global;
+use std::alloc::{AllocError, Global};
 use std::marker::Model;
 
 /// Lays images side by side: keeps what the result shows of the rows, one after another, and makes the rows of the
@@ -53,7 +53,7 @@ fn tile_rows(
     rows: &KeptRows,
     y: u32,
     count: u32,
-) -> Result<Samples, ToolFault>
+) -> Result<RowVec, ToolFault>
     requires tiles { HasTiles (tiled width 0 shape.width shape.depth rows.now 0) }
     requires range { AreWithin shape.maxval rows.now }
     requires end { y + count < 2 ^ 32 }
@@ -61,21 +61,18 @@ fn tile_rows(
         (λ made. made ≡ flat_map (row_of_tiles width shape.width shape.depth rows.now) (range_with_len y count)) }
     ensures refused { IfErr result (λ fault. fault ≡ Memory) }
 {
-    let (samples, kept, _) = rows.parts();
-    match samples {
-        SampleVec::Bits(bits) => {
-            let tiled = tile_bits(alloc, width, shape, bits, kept, y, count)?;
-            Ok(Samples::within(SampleVec::Bits(tiled), shape.maxval))
+    let (samples, kept) = rows.parts();
+    Ok(match samples {
+        RowSlice::Bits(bits) => {
+            RowVec::Bits(tile_bits(alloc, width, shape, bits, kept, y, count)?)
         }
-        SampleVec::Bytes(bytes) => {
-            let tiled = tile(alloc, width, shape, bytes.as_slice(), kept, y, count)?;
-            Ok(Samples::within(SampleVec::Bytes(tiled), shape.maxval))
+        RowSlice::Bytes(bytes) => {
+            RowVec::Bytes(tile(alloc, width, shape, bytes, kept, y, count)?)
         }
-        SampleVec::Words(words) => {
-            let tiled = tile(alloc, width, shape, words.as_slice(), kept, y, count)?;
-            Ok(Samples::within(SampleVec::Words(tiled), shape.maxval))
+        RowSlice::Words(words) => {
+            RowVec::Words(tile(alloc, width, shape, words, kept, y, count)?)
         }
-    }
+    })
 }
 
 /// So many rows of the result, from row y on, of so many rows that are kept.
@@ -126,61 +123,80 @@ fn tile_row<T: Copy>(
     while tiled.len() - start < filled {
         let copied = tiled.len() - start;
         let more = copied.min(filled - copied);
-        tiled.extend_from_within(start..start + more)?;
+        repeat_samples(tiled, start, more)?;
     }
     Ok(())
 }
 
-/// So many rows of the result, from row y on, of so many rows of pixels of one bit that are kept.
+/// Adds so many samples again, from one on: a copy moves them at once.
+///
+/// # Errors
+///
+/// Where there is no memory for them.
+fn repeat_samples<T: Copy>(tiled: &mut Vec<T>, start: usize, count: usize) -> Result<(), AllocError>
+    requires some { 0 < count }
+    requires within { start + count ≤ length tiled.old.items }
+    ensures { OnOk result (tiled.new.items ≡ tiled.old.items ++ take count (drop start tiled.old.items)) }
+{
+    let end = tiled.len();
+    let sample = tiled[start];
+    tiled.resize(end + count, sample)?;
+    let (there, copy) = tiled.as_mut_slice().split_at_mut(end);
+    copy.copy_from_slice(&there[start..start + count]);
+    Ok(())
+}
+
+/// So many rows of the result, from row y on, of so many rows of pixels of one bit that are kept: made of their bytes,
+/// where each image begins at a byte.
 fn tile_bits(
     alloc: Global,
     width: u32,
     shape: Shape,
-    samples: &Bits,
+    rows: &BitRows,
     kept: usize,
     y: u32,
     count: u32,
-) -> Result<Bits, ToolFault>
+) -> Result<BitRows, ToolFault>
     requires some { (0 < kept) × (0 < shape.width) }
-    requires rows { length samples.now ≡ kept * (shape.width * shape.depth) }
     requires fits { width * shape.depth ≤ MAX_ROW_LENGTH }
     requires end { y + count < 2 ^ 32 }
-    ensures made { IfOk result (λ made. made
-        ≡ flat_map (row_of_samples width shape.width shape.depth kept samples.now) (range_with_len y count)) }
     ensures refused { IfErr result (λ fault. fault ≡ Memory) }
 {
-    // No effect at run time: a proof learns of this that the pixels are as many as this machine can count.
-    let _ = samples.len();
-    let each = shape.width as usize * shape.depth as usize;
-    let mut tiled = Bits::empty(alloc);
-    for at in y..y + count {
-        let start = at as usize % kept * each;
-        tile_bit_row(&mut tiled, width, shape, samples, start)?;
+    let (each, filled) = (shape.width * shape.depth, width * shape.depth);
+    if each % 8 == 0 || filled <= each {
+        let in_bytes = Shape {
+            width: each.div_ceil(8),
+            depth: 1,
+            ..shape
+        };
+        let (size, bytes) = (filled.div_ceil(8), rows.parts().0);
+        let tiled = tile(alloc, size, in_bytes, bytes, kept, y, count)?;
+        return Ok(BitRows::new(tiled, count as usize, filled as usize));
     }
-    Ok(tiled)
+    let size = count as usize * filled.div_ceil(8) as usize;
+    let mut tiled = Vec::with_capacity(alloc, size)?;
+    let mut row = Bits::empty(alloc);
+    for at in y..y + count {
+        let (bytes, each) = rows.row(at as usize % kept);
+        row.clear();
+        tile_bit_row(&mut row, width * shape.depth, bytes, each)?;
+        tiled.extend_from_slice(row.as_bytes())?;
+    }
+    Ok(BitRows::new(tiled, count as usize, filled as usize))
 }
 
-/// Adds the row that begins here side by side up to so many columns: whole rows, and a part of one.
+/// Adds so many pixels: the first so many of these bytes side by side, the last time a part of them.
 fn tile_bit_row(
     tiled: &mut Bits,
-    width: u32,
-    shape: Shape,
-    samples: &Bits,
-    start: usize,
-) -> Result<(), ToolFault>
-    requires some { 0 < shape.width }
-    requires row { start + shape.width * shape.depth ≤ length samples.now }
-    requires fits { width * shape.depth ≤ MAX_ROW_LENGTH }
-    ensures made { OnOk result (tiled.new ≡ tiled.old ++ tiled_row width shape.width shape.depth
-        (take (shape.width * shape.depth) (drop start samples.now))) }
-    ensures refused { IfErr result (λ fault. fault ≡ Memory) }
-{
-    let (image_width, depth) = (shape.width as usize, shape.depth as usize);
-    for _ in 0..width / shape.width {
-        tiled.append(samples, start, image_width * depth)?;
+    filled: u32,
+    bytes: &[u8],
+    each: usize,
+) -> Result<(), AllocError> {
+    let filled = filled as usize;
+    for _ in 0..filled / each {
+        tiled.append_pixels(bytes, 0, each)?;
     }
-    tiled.append(samples, start, width as usize % image_width * depth)?;
-    Ok(())
+    tiled.append_pixels(bytes, 0, filled % each)
 }
 
 impl Model for Tiler {
@@ -218,7 +234,7 @@ impl ImageTool for Tiler {
             return Ok(());
         }
         let shown = shown_length(self.width, shape);
-        self.rows.push_fronts(alloc, &row, 1, row.len(), shown)?;
+        self.rows.push_fronts(alloc, &Rows::one(row), 1, shown)?;
         Ok(())
     }
 
@@ -233,16 +249,12 @@ impl ImageTool for Tiler {
         if y >= self.height {
             return Ok(None);
         }
-        let (samples, count, row_length) = rows.into_parts();
-        let kept = (self.height - y).min(count) as usize;
+        let kept = (self.height - y).min(rows.count()) as usize;
         let shown = shown_length(self.width, shape);
-        let Ok(()) = self
-            .rows
-            .push_fronts(alloc, &samples, kept, row_length, shown)
-        else {
-            return Err(Rows::new(samples, count, row_length));
-        };
-        Ok(None)
+        match self.rows.push_fronts(alloc, &rows, kept, shown) {
+            Ok(()) => Ok(None),
+            Err(_) => Err(rows),
+        }
     }
 
     fn end(&mut self, shape: Shape) {
@@ -263,7 +275,7 @@ impl ImageTool for Tiler {
         self.left = 0;
         let samples = tile_rows(alloc, self.width, self.shape, &self.rows, y, count)?;
         self.left = left;
-        Ok(Some(Rows::new(samples, count, row_length)))
+        Ok(Some(Rows::new(samples, self.shape.maxval, count, row_length)))
     }
 
     fn may_give(&self) -> bool {

@@ -76,7 +76,7 @@ impl ImageTool for Transposer {
     /// Keeps copies of the rows, which are answered by none.
     fn rows(
         &mut self,
-        alloc: Global,
+        _alloc: Global,
         shape: Shape,
         _y: u32,
         rows: Rows,
@@ -84,14 +84,10 @@ impl ImageTool for Transposer {
         if self.rows.prefers_strips(shape) {
             return Err(rows);
         }
-        let (samples, count, row_length) = rows.into_parts();
-        let Ok(()) = self
-            .rows
-            .push_rows(alloc, &samples, count as usize, row_length)
-        else {
-            return Err(Rows::new(samples, count, row_length));
-        };
-        Ok(None)
+        match self.rows.push_rows(&rows) {
+            Ok(()) => Ok(None),
+            Err(_) => Err(rows),
+        }
     }
 
     fn end(&mut self, shape: Shape) {

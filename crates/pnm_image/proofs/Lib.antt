@@ -1,4 +1,5 @@
 pub mod Heads
+pub mod HeldRowLaws
 pub mod Lists
 pub mod Places
 pub mod RowLaws

@@ -1,12 +1,13 @@
 -- Rows: samples cut into rows, and rows joined into samples.
-use Rattle.std.proofs.Common.{◌≡◌, ℕ, zero, suc, ◌*◌, ◌+◌, ◌≤◌, ◌<◌, List, [], ◌∷◌, ◌++◌}
-use Rattle.std.proofs.Common.{length, take, drop, All, refl, sym, ap, subst, ◌∙◌, arith, zero-mul, suc-mul}
+use Rattle.std.proofs.Common.{◌≡◌, ℕ, zero, suc, ◌*◌, ◌+◌, ◌≤◌, ◌<◌, List, [], ◌∷◌}
+use Rattle.std.proofs.Common.{length, take, drop, All, refl, sym, ap, ◌∙◌, arith, zero-mul, suc-mul}
 use Rattle.std.proofs.Math.Nat.{mul-le-mul_right}
 use Rattle.std.specs.List.{AllByRecursion, concat}
-use Rattle.std.proofs.lemmas.List.{take_at, drop_at, drop-drop, take-append-drop, length-take, length-drop, length-append, nil_from_length}
-use Rattle.std.proofs.lemmas.List.Elements.{All-nil, All-head, All-append, All-take, All-drop, recursion_from_All}
+use Rattle.std.proofs.lemmas.List.{take_at, drop_at, take-append-drop, length-take, length-drop, length-append, nil_from_length}
+use Rattle.std.proofs.lemmas.List.Elements.{All-from_recursion, All-nil, All-append, All-take, All-drop, recursion_from_All}
 use Rattle.pnm_samples.proofs.CutLaws.{length-cut_rows}
 use Rattle.pnm_image.specs.declared.shape.Shape.{Shape}
+use Rattle.pnm_image.specs.HeldRows.{AreRowsWithin}
 use Rattle.pnm_image.specs.Heads.{HeadValue, IsHead, row_length}
 use Rattle.pnm_image.specs.Places.{IsRowOf}
 use Rattle.pnm_image.specs.Images.{Image, IsImage, cut_rows, rows_of}
@@ -97,46 +98,19 @@ pub AreRowsOf-rows_of : (i : Image) → IsImage i → AreRowsOf i.head.shape (ro
 AreRowsOf-rows_of i h = AreRowsOf-cut_rows i.head.shape i.head.shape.height i.samples h.count h.range
 
 -- rows of a shape's row length are rows of it where no sample of them is above its maxval
-are_rows : (s : Shape) (rows : List (List ℕ)) → AllByRecursion (λ row. length row ≡ row_length s) rows
-    → All (λ sample. sample ≤ s.maxval) (concat rows) → AreRowsOf s rows
-are_rows s [] long range = tt
-are_rows s (row ∷ rows) long range =
-    let P : ℕ → Type 0 = λ sample. sample ≤ s.maxval in (
-      record {
-        count = long.0;
-        range = subst (All P) (take_at row (concat rows) (row_length s) long.0) (All-take P (row_length s) (row ++ concat rows) range);
-      },
-      are_rows s rows long.1 (subst (All P) (drop_at row (concat rows) (row_length s) long.0) (All-drop P (row_length s) (row ++ concat rows) range)),
-    )
-
--- so are rows of a length that is known
-pub known_rows : (s : Shape) (each : ℕ) (rows : List (List ℕ)) → All (λ row. length row ≡ each) rows → each ≡ row_length s
-    → All (λ sample. sample ≤ s.maxval) (concat rows) → AreRowsOf s rows
-known_rows s each rows long same range =
-    let lengths = recursion_from_All (λ (row : List ℕ). length row ≡ each) rows long in
-    are_rows s rows (subst (λ (n : ℕ). AllByRecursion (λ (row : List ℕ). length row ≡ n) rows) same lengths) range
+pub known_rows : (s : Shape) (each : ℕ) (rows : List (List ℕ)) → All (λ row. length row ≡ each) rows → each ≡ row_length s → AreRowsWithin s.maxval rows
+    → AreRowsOf s rows
+known_rows s each rows long same range = recursion_from_All (IsRowOf s) rows (λ k d lt. record { count = long k d lt ∙ same; range = range k d lt })
 
 -- and no other rows
 pub rows_need : (s : Shape) (each : ℕ) (rows : List (List ℕ)) → 1 ≤ length rows → All (λ row. length row ≡ each) rows → AreRowsOf s rows
-    → (each ≡ row_length s) × All (λ sample. sample ≤ s.maxval) (concat rows)
-rows_need s each [] some long are = let no : ⊥ = omega (arith, some) in absurd no
-rows_need s each (row ∷ rows) some long are = (sym (All-head (λ (r : List ℕ). length r ≡ each) row rows long) ∙ are.0.count, range-concat s (row ∷ rows) are)
+    → (each ≡ row_length s) × AreRowsWithin s.maxval rows
+rows_need s each rows some long are =
+    let all = All-from_recursion (IsRowOf s) rows are in
+    let first : 0 < length rows = omega (arith, some) in
+    (sym (long 0 [] first) ∙ (all 0 [] first).count, λ k d lt. (all k d lt).range)
 
--- a row of those that are cut, and the rows before and behind it
-pub row_at_cut : (count each at : ℕ) (samples : List ℕ) → at < count
-    → cut_rows count each samples ≡ take at (cut_rows count each samples) ++ take each (drop (at * each) samples) ∷ drop (suc at) (cut_rows count each samples)
-row_at_cut zero each at samples below = let no : ⊥ = omega (arith, below) in absurd no
-row_at_cut (suc count) each zero samples below =
-    ap (λ (start : ℕ). take each (drop start samples) ∷ cut_rows count each (drop each samples)) (sym (zero-mul each))
-row_at_cut (suc count) each (suc at) samples below =
-    let later : List (List ℕ) = cut_rows count each (drop each samples) in
-    let place : each + at * each ≡ suc at * each = omega (arith, suc-mul at each) in
-    let start : drop (at * each) (drop each samples) ≡ drop (suc at * each) samples =
-    drop-drop (at * each) each samples ∙ ap (λ (n : ℕ). drop n samples) place in
-    ap (λ (rows : List (List ℕ)). take each samples ∷ rows) (row_at_cut count each at (drop each samples) (omega (arith, below)))
-    ∙ ap (λ (row : List ℕ). take each samples ∷ (take at later ++ take each row ∷ drop (suc at) later)) start
-
--- and it lies within the samples
+-- a row of those that are cut lies within the samples
 pub row_ends_within : (count each at : ℕ) → at < count → at * each + each ≤ count * each
 row_ends_within count each at below =
     let next : suc at ≤ count = omega (arith, below) in

@@ -10,3 +10,4 @@ pub mod Rows
 pub mod Parcels
 pub mod Images
 pub mod Completion
+pub mod HeldRows

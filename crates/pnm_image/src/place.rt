@@ -104,5 +104,5 @@ fn is_row_of(shape: &Shape, row: &Samples) -> bool
 fn are_rows_of(shape: &Shape, rows: &Rows) -> bool
     ensures { IsTrue result ↔ AllByRecursion (IsRowOf shape.now) rows.now }
 {
-    rows.row_length() as u64 == shape.row_length() && rows.samples().are_within(shape.maxval)
+    rows.row_length() as u64 == shape.row_length() && rows.are_within(shape.maxval)
 }

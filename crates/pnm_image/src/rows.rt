@@ -1,43 +1,85 @@
 //! Several rows of an image in one.
 
-ghost use Rattle.std.specs.Prelude.{◌≡◌, ◌≤◌, ◌<◌, ◌+◌, ◌*◌, All, IfOk, length, take, drop, ◌++◌, ◌∷◌, [], IfErr};
-ghost use Rattle.std.specs.List.{concat};
-ghost use Rattle.pnm_image.specs.Images.{cut_rows};
+ghost use Rattle.std.specs.Prelude.{◌≡◌, ℕ, ◌≤◌, ◌<◌, ◌+◌, ◌*◌, ◌↔◌, All, IsTrue, IfOk, length, take, drop, ◌++◌, ◌∷◌};
+ghost use Rattle.std.specs.Prelude.{[], IfErr, get_or};
+ghost use Rattle.pnm_samples.specs.SampleVecs.{HasWhiteSpare, samples_of, slice_samples};
+ghost use Rattle.pnm_image.specs.HeldRows.{AreRows, AreRowsWithin, AreSliceRows, row_lists, slice_lists};
 
-use pnm_samples::{Bits, SampleSlice, SampleVec, Samples};
+use pnm_samples::{BitRows, Bits, SampleSlice, SampleVec, Samples};
 use std::alloc::{AllocError, Global};
 use std::marker::Model;
 
+/// The samples of rows, as wide as they have to be.
+#[derive(Debug, Drop)]
+pub enum RowVec {
+    /// Each is 0 or 1.
+    Bits(BitRows),
+    /// Each is at most 255: all samples of the first row come first.
+    Bytes(Vec<u8>),
+    /// Each is at most 65,535.
+    Words(Vec<u16>),
+}
+
+/// Rows that are lent, as wide as they are held.
+#[derive(Clone, Copy, Debug)]
+pub enum RowSlice<'a> {
+    /// Each is 0 or 1.
+    Bits(&'a BitRows),
+    /// Each is at most 255.
+    Bytes(&'a [u8]),
+    /// Each is at most 65,535.
+    Words(&'a [u16]),
+}
+
+impl RowVec {
+    /// The rows, lent.
+    pub fn as_slice(&self) -> RowSlice<'_>
+        ensures lists { (count : ℕ) (each : ℕ) → slice_lists count each result ≡ row_lists count each self.now }
+        ensures whole { (count : ℕ) (each : ℕ) → AreRows count each self.now → AreSliceRows count each result }
+    {
+        match self {
+            RowVec::Bits(rows) => RowSlice::Bits(rows),
+            RowVec::Bytes(bytes) => RowSlice::Bytes(bytes.as_slice()),
+            RowVec::Words(words) => RowSlice::Words(words.as_slice()),
+        }
+    }
+}
+
 /// Rows of one image that follow one another, at least one, held as one long row: each with as many samples as the
-/// others, and none between them. So one message stands for several rows, and a loop over samples goes over all of
-/// them.
+/// others, and none between them; but those of bits as they lie in a raw file. So one message stands for several rows,
+/// and a loop over samples goes over all of them.
 #[derive(Debug, Drop)]
 pub struct Rows {
-    samples: Samples,
+    held: RowVec,
+    /// No sample is above it.
+    bound: u32,
     count: u32,
     row_length: usize,
 }
 
 impl Model for Rows {
-    ghost use Rattle.std.specs.Prelude.{List, ℕ, ◌≡◌, ◌≤◌, ◌*◌, length};
-    ghost use Rattle.pnm_image.specs.Images.{cut_rows};
+    ghost use Rattle.std.specs.Prelude.{List, ℕ, ◌≤◌};
+    ghost use Rattle.pnm_image.specs.HeldRows.{AreRows, AreRowsWithin, row_lists};
 
     ghost Value = { List (List ℕ) };
 
-    ghost view = { λ r. cut_rows r.count r.row_length r.samples };
+    ghost view = { λ r. row_lists r.count r.row_length r.held };
 
-    ghost invariant = { λ r. (1 ≤ r.count) × (length r.samples ≡ r.count * r.row_length) };
+    ghost invariant = { λ r. (1 ≤ r.count) × AreRows r.count r.row_length r.held
+        × AreRowsWithin r.bound (row_lists r.count r.row_length r.held) };
 }
 
 impl Rows {
-    /// So many rows of so many samples each, which are held one after another, without a copy.
-    pub fn new(samples: Samples, count: u32, row_length: usize) -> Rows
+    /// So many rows of so many samples each, none of them above this number, without a copy.
+    pub fn new(held: RowVec, bound: u32, count: u32, row_length: usize) -> Rows
         requires some { 1 ≤ count }
-        requires whole { length samples ≡ count * row_length }
-        ensures { result ≡ cut_rows count row_length samples }
+        requires whole { AreRows count row_length held }
+        requires within { AreRowsWithin bound (row_lists count row_length held) }
+        ensures { result ≡ row_lists count row_length held }
     {
         Rows {
-            samples,
+            held,
+            bound,
             count,
             row_length,
         }
@@ -48,12 +90,13 @@ impl Rows {
     pub fn one(row: Samples) -> Rows
         ensures { result ≡ row ∷ [] }
     {
-        let row_length = row.len();
-        Rows {
-            samples: row,
-            count: 1,
-            row_length,
-        }
+        let (row_length, bound) = (row.len(), row.bound());
+        let held = match row.into_vec() {
+            SampleVec::Bits(bits) => RowVec::Bits(BitRows::one(bits)),
+            SampleVec::Bytes(bytes) => RowVec::Bytes(bytes),
+            SampleVec::Words(words) => RowVec::Words(words),
+        };
+        Rows::new(held, bound, 1, row_length)
     }
 
     /// The row, where it is one by itself.
@@ -67,10 +110,18 @@ impl Rows {
         ensures several { IfErr result (λ same. same ≡ self) }
     {
         if self.count == 1 {
-            Ok(self.samples)
+            Ok(self.into_first())
         } else {
             Err(self)
         }
+    }
+
+    /// The first row, without a copy.
+    #[inline(always)]
+    pub fn into_first(self) -> Samples
+        ensures { result ≡ get_or self 0 [] }
+    {
+        Samples::within(first_of(self.held, self.row_length), self.bound)
     }
 
     /// How many rows these are.
@@ -89,11 +140,53 @@ impl Rows {
         self.row_length
     }
 
-    /// All samples, those of the first row first.
-    pub fn samples(&self) -> &Samples
-        ensures { result.now ≡ concat self.now }
+    /// A number that no sample is above.
+    pub fn bound(&self) -> u32
+        ensures { AreRowsWithin result self.now }
     {
-        &self.samples
+        self.bound
+    }
+
+    /// How the rows are held, lent.
+    pub fn as_slice(&self) -> RowSlice<'_>
+        ensures rows { (each : ℕ) → All (λ row. length row ≡ each) self.now
+            → slice_lists (length self.now) each result ≡ self.now }
+        ensures whole { (each : ℕ) → All (λ row. length row ≡ each) self.now
+            → AreSliceRows (length self.now) each result }
+    {
+        self.held.as_slice()
+    }
+
+    /// The samples of a row, counted from 0, lent.
+    pub fn row_slice(&self, at: u32) -> SampleSlice<'_>
+        requires { at < length self.now }
+        ensures samples { slice_samples result ≡ get_or self.now at [] }
+        ensures spare { HasWhiteSpare result }
+    {
+        let (at, each) = (at as usize, self.row_length);
+        match &self.held {
+            RowVec::Bits(rows) => {
+                let (bytes, count) = rows.row(at);
+                SampleSlice::Bits(bytes, count)
+            }
+            RowVec::Bytes(bytes) => SampleSlice::Bytes(&bytes[at * each..(at + 1) * each]),
+            RowVec::Words(words) => SampleSlice::Words(&words[at * each..(at + 1) * each]),
+        }
+    }
+
+    /// Whether no sample is above this number. No row is looked at where none can be.
+    pub fn are_within(&self, most: u32) -> bool
+        ensures { IsTrue result ↔ AreRowsWithin most self.now }
+    {
+        if self.bound <= most {
+            return true;
+        }
+        for at in 0..self.count {
+            if !self.row_slice(at).are_within(most) {
+                return false;
+            }
+        }
+        true
     }
 
     /// A copy of a row, counted from 0.
@@ -105,44 +198,47 @@ impl Rows {
         requires { at < length self.now }
         ensures { IfOk result (λ row. self.now ≡ take at self.now ++ row ∷ drop (at + 1) self.now) }
     {
-        // No effect at run time: a proof learns of this that no place in the samples is beyond this machine's numbers.
-        let _ = self.samples.len();
-        let start = at as usize * self.row_length;
-        copy_of(alloc, &self.samples, start, self.row_length)
+        copy_of(alloc, self.row_slice(at))
     }
 
-    /// All samples, how many rows they are, and how many samples a row has, without a copy.
-    pub fn into_parts(self) -> (Samples, u32, usize)
-        ensures rows { self ≡ cut_rows result.1 result.2 result.0 }
+    /// How the rows are held, how many they are, and how many samples a row has, without a copy.
+    pub fn into_parts(self) -> (RowVec, u32, usize)
+        ensures rows { self ≡ row_lists result.1 result.2 result.0 }
         ensures some { 1 ≤ result.1 }
-        ensures whole { length result.0 ≡ result.1 * result.2 }
+        ensures whole { AreRows result.1 result.2 result.0 }
     {
-        (self.samples, self.count, self.row_length)
+        (self.held, self.count, self.row_length)
     }
 }
 
-/// A copy of so many samples, from one on.
-fn copy_of(
-    alloc: Global,
-    samples: &Samples,
-    start: usize,
-    count: usize,
-) -> Result<Samples, AllocError>
-    requires { start + count ≤ length samples.now }
-    ensures { IfOk result (λ copy. copy ≡ take count (drop start samples.now)) }
+/// The first of rows of so many samples, without a copy.
+#[inline(always)]
+fn first_of(held: RowVec, each: usize) -> SampleVec
+    ensures { (count : ℕ) → 1 ≤ count → samples_of result ≡ get_or (row_lists count each held) 0 [] }
 {
-    let held = match samples.as_slice() {
-        SampleSlice::Bits(bits) => {
-            let mut copy = Bits::empty(alloc);
-            copy.append(bits, start, count)?;
-            SampleVec::Bits(copy)
+    match held {
+        RowVec::Bits(rows) => SampleVec::Bits(rows.into_first()),
+        RowVec::Bytes(mut bytes) => {
+            bytes.truncate(each);
+            SampleVec::Bytes(bytes)
         }
-        SampleSlice::Bytes(bytes) => {
-            SampleVec::Bytes(Vec::from_slice(alloc, &bytes[start..start + count])?)
+        RowVec::Words(mut words) => {
+            words.truncate(each);
+            SampleVec::Words(words)
         }
-        SampleSlice::Words(words) => {
-            SampleVec::Words(Vec::from_slice(alloc, &words[start..start + count])?)
+    }
+}
+
+/// A copy of samples.
+fn copy_of(alloc: Global, samples: SampleSlice<'_>) -> Result<Samples, AllocError>
+    ensures { IfOk result (λ copy. copy ≡ slice_samples samples.entry) }
+{
+    let held = match samples {
+        SampleSlice::Bits(bytes, count) => {
+            SampleVec::Bits(Bits::new(Vec::from_slice(alloc, bytes)?, count))
         }
+        SampleSlice::Bytes(bytes) => SampleVec::Bytes(Vec::from_slice(alloc, bytes)?),
+        SampleSlice::Words(words) => SampleVec::Words(Vec::from_slice(alloc, words)?),
     };
     Ok(Samples::from_vec(held))
 }

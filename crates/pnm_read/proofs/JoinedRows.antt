@@ -3,12 +3,15 @@ use Rattle.pnm_image.specs.Formats.{is_plain_form}
 use Rattle.std.proofs.Common.{◌≡◌, ℕ, zero, suc, ◌+◌, ◌*◌, ◌≤◌, List, [], ◌∷◌, ◌++◌, length, take, drop, Result, Ok, refl, sym, ap, ap₂, subst, ◌∙◌}
 use Rattle.std.proofs.Common.{false, append_assoc, arith, zero-mul, suc-mul}
 use Rattle.std.specs.List.{concat}
-use Rattle.std.proofs.lemmas.List.{take_all, take_at, drop_at, take-append-drop, take-take, drop-drop, length-take, length-take-le, length-drop, length-append}
+use Rattle.std.proofs.lemmas.List.{take-append-drop, take-take, length-take-le, length-drop}
 use Rattle.std.proofs.lemmas.List.{nil_from_length}
-use Rattle.std.proofs.lemmas.List.Elements.{All-take, All-drop}
-use Rattle.std.proofs.lemmas.Grind.{flat_map-append}
-use Rattle.pnm_samples.specs.Pixels.{pixels, all_pixels}
-use Rattle.pnm_samples.proofs.PixelLaws.{length-all_pixels, take-all_pixels, drop-all_pixels}
+use Rattle.std.proofs.Common.{All, ◌⊎◌, inl, inr}
+use Rattle.std.proofs.lemmas.List.Elements.{All-take, All-drop, All-nil, All-cons}
+use Rattle.pnm_samples.specs.PixelRows.{bytes_for, rows_of_bytes}
+use Rattle.pnm_samples.proofs.PixelRowLaws.{byte_pixels_within}
+use Rattle.pnm_image.specs.HeldRows.{AreRowsWithin}
+use Rattle.pnm_samples.specs.Pixels.{all_pixels}
+use Rattle.pnm_samples.proofs.PixelLaws.{length-all_pixels, take-all_pixels}
 use Rattle.pnm_image.specs.declared.shape.Shape.{Shape}
 use Rattle.pnm_image.specs.declared.format.Format.{Format}
 use Rattle.pnm_image.specs.declared.sample_width.SampleWidth.{SampleWidth}
@@ -22,7 +25,7 @@ use Rattle.pnm_read.specs.Items.{◌>>=◌}
 use Rattle.pnm_read.specs.Said.{Said, in_turn, units_in_row, raw_row, rows_said}
 use Rattle.pnm_read.specs.Units.{samples_of_bytes, AreBytesWithin}
 use Rattle.pnm_read.specs.declared.raster.Raster.{Raster}
-use Rattle.pnm_read.specs.HeldRows.{FitsBytes, FillsBytes, AreHeld, TakesRows, rows_samples, runs_in}
+use Rattle.pnm_read.specs.HeldRows.{FitsBytes, AreHeld, TakesRows, rows_held}
 use Rattle.pnm_read.specs.Sources.{after_messages}
 use Rattle.pnm_read.proofs.PieceLaws.{bind_ok}
 use Rattle.pnm_read.proofs.UnitLaws.{turned, bytes_are_units}
@@ -31,15 +34,6 @@ use Rattle.pnm_read.proofs.RawLaws.{row_at_raw}
 use Rattle.pnm_read.proofs.RowTurns.{RowsRead, read_rows_are_said}
 
 -- ---- samples of bytes
-
--- all pixels of bytes are eight a byte
-pub all_of_pixels : (n : ℕ) (bytes : List ℕ) → length bytes * 8 ≤ n → take n (all_pixels bytes) ≡ all_pixels bytes
-all_of_pixels n bytes enough = take_all n (all_pixels bytes) (omega (arith, length-all_pixels bytes, enough))
-
-samples-append : (p : SampleWidth) (a b : List ℕ) → samples_of_bytes p (a ++ b) ≡ samples_of_bytes p a ++ samples_of_bytes p b
-samples-append Bits a b = flat_map-append pixels a b
-samples-append Bytes a b = refl
-samples-append Words a b = refl
 
 within-take : (p : SampleWidth) (maxval n : ℕ) (bytes : List ℕ) → AreBytesWithin p maxval bytes → AreBytesWithin p maxval (take n bytes)
 within-take Bits maxval n bytes h = tt
@@ -51,35 +45,15 @@ within-drop Bits maxval n bytes h = tt
 within-drop Bytes maxval n bytes h = All-drop (λ sample. sample ≤ maxval) n bytes h
 within-drop Words maxval n bytes h = All-drop (λ sample. sample ≤ maxval) n bytes h
 
--- a row has as many samples as its image's rows
-length_of_row : (p : SampleWidth) (s : Shape) (bytes : List ℕ) → FitsBytes p s → length bytes ≡ units_in_row p s
-    → length (take (row_length s) (samples_of_bytes p bytes)) ≡ row_length s
-length_of_row Bits s bytes fits count = omega (arith, length-take (row_length s) (all_pixels bytes), length-all_pixels bytes, fits, count)
-length_of_row Bytes s bytes fits count = omega (arith, length-take (row_length s) bytes, count)
-length_of_row Words s bytes fits count = absurd fits
-
--- and so have so many rows
-pub length-joined : (p : SampleWidth) (s : Shape) (count : ℕ) (bytes : List ℕ) → FitsBytes p s → length bytes ≡ count * units_in_row p s
-    → length (rows_samples p s count bytes) ≡ count * row_length s
-length-joined p s zero bytes fits size = sym (zero-mul (row_length s))
-length-joined p s (suc count) bytes fits size =
-    let each : ℕ = units_in_row p s in
-    let total : length bytes ≡ count * each + each = size ∙ suc-mul count each in
-    let row : List ℕ = take (row_length s) (samples_of_bytes p (take each bytes)) in
-    let size_later : length (drop each bytes) ≡ count * each = omega (arith, length-drop each bytes, total) in
-    omega (
-      arith,
-      length-append row (rows_samples p s count (drop each bytes)),
-      length_of_row p s (take each bytes) fits (length-take-le each bytes (omega (arith, total))),
-      length-joined p s count (drop each bytes) fits size_later,
-      suc-mul count (row_length s),
-    )
-
 -- no bytes are samples of two
 not_wide : (p : SampleWidth) (s : Shape) → FitsBytes p s → p ≡ Words → ⊥
 not_wide Bits s fits e = cc
 not_wide Bytes s fits e = cc
 not_wide Words s fits e = fits
+
+-- the others that fit are bytes
+pub are_bytes : (p : SampleWidth) (s : Shape) → FitsBytes p s → (p ≡ Bytes) ⊎ (p ≡ Words) → p ≡ Bytes
+are_bytes p s fits which = elim which [ inl bytes ↦ bytes | inr words ↦ absurd (subst (λ (q : SampleWidth). FitsBytes q s) words fits) ]
 
 -- ---- rows in turn
 
@@ -112,7 +86,7 @@ no_rows item bytes rest none = ap (λ (l : List ℕ). turned [] (l ++ rest)) non
 -- bytes of so many rows are these rows in turn
 pub rows_in_turn : (p : SampleWidth) (s : Shape) (count : ℕ) (bytes rest : List ℕ) → p ≡ sample_width_of s.kind s.maxval → FitsBytes p s
     → length bytes ≡ count * units_in_row p s → AreBytesWithin p s.maxval bytes
-    → in_turn (raw_row s) count (bytes ++ rest) ≡ Ok (cut_rows count (row_length s) (rows_samples p s count bytes), rest)
+    → in_turn (raw_row s) count (bytes ++ rest) ≡ Ok (rows_held p s count bytes, rest)
 rows_in_turn p s zero bytes rest is_width fits size within = no_rows (raw_row s) bytes rest (nil_from_length bytes (size ∙ zero-mul (units_in_row p s)))
 rows_in_turn p s (suc count) bytes rest is_width fits size within =
     let each : ℕ = units_in_row p s in
@@ -122,74 +96,51 @@ rows_in_turn p s (suc count) bytes rest is_width fits size within =
     let size_first : length first ≡ each = length-take-le each bytes (omega (arith, total)) in
     let size_later : length later ≡ count * each = omega (arith, length-drop each bytes, total) in
     let row : List ℕ = take (row_length s) (samples_of_bytes p first) in
-    let others : List ℕ = rows_samples p s count later in
-    let long : length row ≡ row_length s = length_of_row p s first fits size_first in
     let text : bytes ++ rest ≡ first ++ (later ++ rest) =
     ap (λ (l : List ℕ). l ++ rest) (sym (take-append-drop each bytes)) ∙ append_assoc first later rest in
     ap (in_turn (raw_row s) (suc count)) text
-    ∙ row_before (raw_row s) count (first ++ (later ++ rest)) (later ++ rest) rest row (cut_rows count (row_length s) others)
+    ∙ row_before (raw_row s) count (first ++ (later ++ rest)) (later ++ rest) rest row (rows_held p s count later)
     (first_row p s first (later ++ rest) is_width fits size_first (within-take p s.maxval each bytes within))
     (rows_in_turn p s count later rest is_width fits size_later (within-drop p s.maxval each bytes within))
-    ∙ ap₂ (λ (row : List ℕ) (l : List ℕ). turned (row ∷ cut_rows count (row_length s) l) rest) (sym (take_at row others (row_length s) long))
-    (sym (drop_at row others (row_length s) long))
 
--- ---- how the samples of rows are made of their bytes
+-- ---- rows of bits, and of bytes
 
-no_samples : (p : SampleWidth) (s : Shape) → samples_of_bytes p [] ≡ rows_samples p s zero []
-no_samples Bits s = refl
-no_samples Bytes s = refl
-no_samples Words s = refl
+-- rows that lie in bytes each from a byte's start on
+pub bits_are_rows : (s : Shape) (count : ℕ) (bytes : List ℕ) → FitsBytes Bits s → rows_of_bytes count (row_length s) bytes ≡ rows_held Bits s count bytes
+bits_are_rows s zero bytes fits = refl
+bits_are_rows s (suc count) bytes fits =
+    let each : ℕ = row_length s in
+    let units : ℕ = units_in_row Bits s in
+    let row : take each (all_pixels bytes) ≡ take each (all_pixels (take units bytes)) =
+    sym (take-take each (8 * units) (all_pixels bytes) (omega (arith, fits))) ∙ ap (take each) (take-all_pixels units bytes) in
+    ap₂ (λ (r : List ℕ) (l : List (List ℕ)). r ∷ l) row
+    (ap (λ (n : ℕ). rows_of_bytes count each (drop n bytes)) fits ∙ bits_are_rows s count (drop units bytes) fits)
 
--- a row without spare bits is all samples of its bytes
-whole_row : (p : SampleWidth) (s : Shape) (bytes : List ℕ) → FillsBytes p s → length bytes ≡ units_in_row p s
-    → take (row_length s) (samples_of_bytes p bytes) ≡ samples_of_bytes p bytes
-whole_row Bits s bytes fills count = take_all (row_length s) (all_pixels bytes) (omega (arith, length-all_pixels bytes, fills, count))
-whole_row Bytes s bytes fills count = take_all (row_length s) bytes (omega (arith, count))
-whole_row Words s bytes fills count = absurd fills
+pub length_of_bits : (count each : ℕ) (bytes : List ℕ) → length bytes ≡ count * bytes_for each → All (λ row. length row ≡ each) (rows_of_bytes count each bytes)
+length_of_bits zero each bytes size = All-nil (λ (row : List ℕ). length row ≡ each)
+length_of_bits (suc count) each bytes size =
+    let total : length bytes ≡ count * bytes_for each + bytes_for each = size ∙ suc-mul count (bytes_for each) in
+    All-cons (λ (row : List ℕ). length row ≡ each) (take each (all_pixels bytes)) (rows_of_bytes count each (drop (bytes_for each) bytes))
+    (length-take-le each (all_pixels bytes) (omega (arith, length-all_pixels bytes, total)))
+    (length_of_bits count each (drop (bytes_for each) bytes) (omega (arith, length-drop (bytes_for each) bytes, total)))
 
--- and rows without them are those of all their bytes
-pub whole_rows : (p : SampleWidth) (s : Shape) (count : ℕ) (bytes : List ℕ) → FillsBytes p s → length bytes ≡ count * units_in_row p s
-    → samples_of_bytes p bytes ≡ rows_samples p s count bytes
-whole_rows p s zero bytes fills size =
-    ap (samples_of_bytes p) (nil_from_length bytes (size ∙ zero-mul (units_in_row p s))) ∙ no_samples p s
-whole_rows p s (suc count) bytes fills size =
-    let each : ℕ = units_in_row p s in
-    let total : length bytes ≡ count * each + each = size ∙ suc-mul count each in
-    let first : List ℕ = take each bytes in
-    let later : List ℕ = drop each bytes in
-    let size_first : length first ≡ each = length-take-le each bytes (omega (arith, total)) in
-    let size_later : length later ≡ count * each = omega (arith, length-drop each bytes, total) in
-    ap (samples_of_bytes p) (sym (take-append-drop each bytes)) ∙ samples-append p first later
-    ∙ ap₂ (λ (a b : List ℕ). a ++ b) (sym (whole_row p s first fills size_first)) (whole_rows p s count later fills size_later)
+pub bits_within : (count each : ℕ) (bytes : List ℕ) → AreRowsWithin 1 (rows_of_bytes count each bytes)
+bits_within zero each bytes = All-nil (λ (row : List ℕ). All (λ sample. sample ≤ 1) row)
+bits_within (suc count) each bytes =
+    All-cons (λ (row : List ℕ). All (λ sample. sample ≤ 1) row) (take each (all_pixels bytes)) (rows_of_bytes count each (drop (bytes_for each) bytes))
+    (byte_pixels_within each 1 bytes (omega arith)) (bits_within count each (drop (bytes_for each) bytes))
 
--- rows of pixels are runs of those of their bytes
-runs_are_rows : (s : Shape) (count : ℕ) (bytes : List ℕ) → FitsBytes Bits s
-    → runs_in (units_in_row Bits s * 8) (row_length s) count (all_pixels bytes) ≡ rows_samples Bits s count bytes
-runs_are_rows s zero bytes fits = refl
-runs_are_rows s (suc count) bytes fits =
-    let each : ℕ = units_in_row Bits s in
-    let eight : each * 8 ≡ 8 * each = omega arith in
-    let row : take (row_length s) (all_pixels bytes) ≡ take (row_length s) (all_pixels (take each bytes)) =
-    sym (take-take (row_length s) (8 * each) (all_pixels bytes) (omega (arith, fits))) ∙ ap (take (row_length s)) (take-all_pixels each bytes) in
-    let later : drop (each * 8) (all_pixels bytes) ≡ all_pixels (drop each bytes) =
-    ap (λ (n : ℕ). drop n (all_pixels bytes)) eight ∙ drop-all_pixels each bytes in
-    ap₂ (λ (a b : List ℕ). a ++ runs_in (each * 8) (row_length s) count b) row later
-    ∙ ap (λ (l : List ℕ). take (row_length s) (all_pixels (take each bytes)) ++ l) (runs_are_rows s count (drop each bytes) fits)
+pub bytes_are_rows : (s : Shape) (count : ℕ) (bytes : List ℕ) → cut_rows count (row_length s) bytes ≡ rows_held Bytes s count bytes
+bytes_are_rows s zero bytes = refl
+bytes_are_rows s (suc count) bytes =
+    ap₂ (λ (r : List ℕ) (l : List (List ℕ)). r ∷ l) (sym (take-take (row_length s) (row_length s) bytes (omega arith)))
+    (bytes_are_rows s count (drop (row_length s) bytes))
 
--- so are rows that have spare bits, since these are rows of pixels
-pub joined_runs : (p : SampleWidth) (s : Shape) (units count : ℕ) (bytes : List ℕ) → FitsBytes p s → (FillsBytes p s → ⊥) → units ≡ units_in_row p s
-    → runs_in (units * 8) (row_length s) count (all_pixels bytes) ≡ rows_samples p s count bytes
-joined_runs Bits s units count bytes fits not is =
-    ap (λ (n : ℕ). runs_in (n * 8) (row_length s) count (all_pixels bytes)) is ∙ runs_are_rows s count bytes fits
-joined_runs Bytes s units count bytes fits not is = absurd (not tt)
-joined_runs Words s units count bytes fits not is = absurd fits
-
--- a run more
-pub run_appended : (apart each left start : ℕ) (pixels joined all : List ℕ) → joined ++ runs_in apart each (suc left) (drop start pixels) ≡ all
-    → (joined ++ take each (drop start pixels)) ++ runs_in apart each left (drop (start + apart) pixels) ≡ all
-run_appended apart each left start pixels joined all is =
-    append_assoc joined (take each (drop start pixels)) (runs_in apart each left (drop (start + apart) pixels))
-    ∙ ap (λ (l : List ℕ). joined ++ (take each (drop start pixels) ++ runs_in apart each left l)) (sym (drop-drop apart start pixels)) ∙ is
+pub cut_within : (count each most : ℕ) (samples : List ℕ) → All (λ sample. sample ≤ most) samples → AreRowsWithin most (cut_rows count each samples)
+cut_within zero each most samples h = All-nil (λ (row : List ℕ). All (λ sample. sample ≤ most) row)
+cut_within (suc count) each most samples h =
+    All-cons (λ (row : List ℕ). All (λ sample. sample ≤ most) row) (take each samples) (cut_rows count each (drop each samples))
+    (All-take (λ sample. sample ≤ most) each samples h) (cut_within count each most (drop each samples) (All-drop (λ sample. sample ≤ most) each samples h))
 
 -- ---- rows that are held
 
@@ -201,25 +152,18 @@ size_held : (raster : Raster) (count : ℕ) (held : List ℕ) → AreHeld raster
     → length (bytes_held raster count held) ≡ count * units_in_row raster.sample_width raster.shape
 size_held raster count held h = length-take-le (count * raster.units) held h.long ∙ ap (λ (n : ℕ). count * n) raster.count
 
--- their samples are those of so many rows
-pub samples_held : (raster : Raster) (count : ℕ) (held samples : List ℕ) → AreHeld raster count held
-    → samples ≡ rows_samples raster.sample_width raster.shape count (bytes_held raster count held) → length samples ≡ count * row_length raster.shape
-samples_held raster count held samples h is =
-    ap length is ∙ length-joined raster.sample_width raster.shape count (bytes_held raster count held) h.fits (size_held raster count held h)
-
 -- they are taken
-pub rows_taken : (raster : Raster) (count : ℕ) (held after samples : List ℕ) (rows : List (List ℕ)) → AreHeld raster count held
-    → samples ≡ rows_samples raster.sample_width raster.shape count (bytes_held raster count held)
-    → rows ≡ cut_rows count (row_length raster.shape) samples
+pub rows_taken : (raster : Raster) (count : ℕ) (held after : List ℕ) (rows : List (List ℕ)) → AreHeld raster count held
+    → rows ≡ rows_held raster.sample_width raster.shape count (bytes_held raster count held)
     → after ≡ drop (count * raster.units) held → TakesRows raster.shape count rows held after
-rows_taken raster count held after samples rows h is cut left = λ rest.
+rows_taken raster count held after rows h is left = λ rest.
     let bytes : List ℕ = bytes_held raster count held in
     let text : held ++ rest ≡ bytes ++ (after ++ rest) =
     ap (λ (l : List ℕ). l ++ rest) (sym (take-append-drop (count * raster.units) held) ∙ ap (λ (l : List ℕ). bytes ++ l) (sym left))
     ∙ append_assoc bytes after rest in
     ap (in_turn (raw_row raster.shape) count) text
     ∙ rows_in_turn raster.sample_width raster.shape count bytes (after ++ rest) raster.samples h.fits (size_held raster count held h) h.within
-    ∙ ap (λ (l : List (List ℕ)). turned l (after ++ rest)) (ap (cut_rows count (row_length raster.shape)) (sym is) ∙ sym cut)
+    ∙ ap (λ (l : List (List ℕ)). turned l (after ++ rest)) (sym is)
 
 -- ---- what is said of rows in turn
 

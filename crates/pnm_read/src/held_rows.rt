@@ -3,22 +3,24 @@
 ghost use Rattle.std.specs.Prelude.{◌≡◌, ◌≤◌, ◌<◌, ◌*◌, ◌-◌, ◌↔◌, IfOk, OnOk, IfErr, IsTrue, [], length};
 ghost use Rattle.pnm_read.specs.declared.fault.InputFault.TheVariants.{Memory};
 ghost use Rattle.pnm_read.specs.BufferedReaders.{held_of};
-ghost use Rattle.pnm_read.specs.HeldRows.{FitsBytes, FillsBytes, AreHeld, TakesRows, rows_samples, runs_in};
-ghost use Rattle.pnm_read.specs.Units.{AreBytesWithin, samples_of_bytes};
+ghost use Rattle.pnm_read.specs.HeldRows.{FitsBytes, AreHeld, TakesRows, rows_held};
+ghost use Rattle.pnm_read.specs.Units.{AreBytesWithin};
 
 use crate::buffered_reader::BufferedReader;
 use crate::fault::InputFault;
 use crate::raster::Raster;
 use crate::spare_rows::SpareRows;
 use crate::units::are_units_within;
-use pnm_image::{Bits, BytesIn, Rows, SampleVec, SampleWidth, Samples};
-use std::alloc::{AllocError, Global};
+use pnm_image::{BitRows, BytesIn, RowVec, Rows, SampleWidth};
 
 /// The most bytes of a row that is handed over together with others. A longer one is mostly read past the buffer.
 const MOST_ROW_BYTES: usize = 16_384;
 
 /// The most bytes of rows that are handed over together.
 const MOST_BYTES: usize = 65_536;
+
+/// The sample of a white pixel, which none is above.
+const GREATEST_PIXEL: u32 = 1;
 
 /// How many of the next rows can be handed over together: all that are held whole and left in the image, up to 65,536
 /// bytes; 0 where these are fewer than two, one of them has a sample above the maxval, or they are too long or have
@@ -45,18 +47,7 @@ fn fits_bytes(raster: &Raster) -> bool
     ensures { IsTrue result → FitsBytes raster.now.sample_width raster.now.shape }
 {
     match raster.sample_width {
-        SampleWidth::Bits => raster.shape.row_length() <= raster.units as u64 * 8,
-        SampleWidth::Bytes => true,
-        SampleWidth::Words => false,
-    }
-}
-
-/// Whether they hold no spare bit.
-fn fills_bytes(raster: &Raster) -> bool
-    ensures { IsTrue result ↔ FillsBytes raster.now.sample_width raster.now.shape }
-{
-    match raster.sample_width {
-        SampleWidth::Bits => raster.shape.row_length() == raster.units as u64 * 8,
+        SampleWidth::Bits => raster.shape.row_length().div_ceil(8) == raster.units as u64,
         SampleWidth::Bytes => true,
         SampleWidth::Words => false,
     }
@@ -97,90 +88,30 @@ pub fn take_rows<R: BytesIn>(
 {
     let size = count as usize * raster.units;
     let held = input.bytes();
-    let Ok(samples) = samples_in(input.allocator(), spares, raster, count, &held[..size]) else {
+    let Ok(copy) = spares.copy_of(input.allocator(), &held[..size]) else {
         return Err(InputFault::Memory);
     };
-    let rows = Rows::new(samples, count, raster.shape.row_length() as usize);
+    let rows = rows_of(copy, raster, count);
     input.advance(size);
     Ok(rows)
 }
 
-/// The samples of so many rows, which these bytes are: a copy of the bytes, where they hold no spare bit.
-///
-/// # Errors
-///
-/// Where there is no memory for them.
-fn samples_in(
-    alloc: Global,
-    spares: &mut SpareRows,
-    raster: &Raster,
-    count: u32,
-    bytes: &[u8],
-) -> Result<Samples, AllocError>
-    requires size { length bytes.now ≡ count * raster.now.units }
-    requires few { length bytes.now ≤ 65536 }
+/// So many rows, which these bytes are.
+fn rows_of(bytes: Vec<u8>, raster: &Raster, count: u32) -> Rows
+    requires some { 1 ≤ count }
+    requires size { length bytes.items ≡ count * raster.now.units }
     requires fits { FitsBytes raster.now.sample_width raster.now.shape }
-    requires within { AreBytesWithin raster.now.sample_width raster.now.shape.maxval bytes.now }
-    ensures { IfOk result
-        (λ samples. samples ≡ rows_samples raster.now.sample_width raster.now.shape count bytes.now) }
+    requires within { AreBytesWithin raster.now.sample_width raster.now.shape.maxval bytes.items }
+    ensures { result ≡ rows_held raster.now.sample_width raster.now.shape count bytes.items }
 {
-    let copy = spares.copy_of(alloc, bytes)?;
-    if fills_bytes(raster) {
-        return Ok(samples_of(copy, raster.sample_width, raster.shape.maxval));
-    }
-    let pixels = Bits::new(Vec::from_slice(alloc, bytes)?, bytes.len() * 8);
-    // The copy's memory serves for the rows, which want no more.
-    let mut joined = Bits::new(copy, 0);
-    append_runs(
-        &mut joined,
-        &pixels,
-        count,
-        raster.units * 8,
-        raster.shape.row_length() as usize,
-    )?;
-    Ok(Samples::from_vec(SampleVec::Bits(joined)))
-}
-
-/// Appends so many runs of pixels, each so many pixels after the one before it, the first at the front.
-///
-/// # Errors
-///
-/// Where there is no memory for them.
-fn append_runs(
-    joined: &mut Bits,
-    pixels: &Bits,
-    count: u32,
-    apart: usize,
-    each: usize,
-) -> Result<(), AllocError>
-    requires empty { joined.old ≡ [] }
-    requires fits { each ≤ apart }
-    requires whole { length pixels.now ≡ count * apart }
-    ensures { OnOk result (joined.new ≡ runs_in apart each count pixels.now) }
-{
-    // No effect at run time: a proof learns of this that the pixels are as many as this machine can count.
-    let _ = pixels.len();
-    let mut start = 0;
-    for _ in 0..count {
-        joined.append(pixels, start, each)?;
-        start += apart;
-    }
-    Ok(())
-}
-
-/// The samples of these bytes, with those of spare bits.
-fn samples_of(bytes: Vec<u8>, sample_width: SampleWidth, maxval: u32) -> Samples
-    requires size { length bytes.items ≤ 65536 }
-    requires within { AreBytesWithin sample_width maxval bytes.items }
-    ensures { result ≡ samples_of_bytes sample_width bytes.items }
-{
-    match sample_width {
+    let each = raster.shape.row_length() as usize;
+    match raster.sample_width {
         SampleWidth::Bits => {
-            let count = bytes.len() * 8;
-            Samples::from_vec(SampleVec::Bits(Bits::new(bytes, count)))
+            let bits = BitRows::new(bytes, count as usize, each);
+            Rows::new(RowVec::Bits(bits), GREATEST_PIXEL, count, each)
         }
         SampleWidth::Bytes | SampleWidth::Words => {
-            Samples::within(SampleVec::Bytes(bytes), maxval)
+            Rows::new(RowVec::Bytes(bytes), raster.shape.maxval, count, each)
         }
     }
 }

@@ -10,7 +10,7 @@ use crate::fault::InputFault;
 use crate::held_rows::count_whole;
 use crate::raster::Raster;
 use crate::units::append_wide;
-use pnm_image::{BytesIn, Rows, SampleVec, SampleWidth, Samples};
+use pnm_image::{BytesIn, RowVec, Rows, SampleWidth};
 
 /// How many of the next rows can be handed over together, as `held_rows::count_held` counts them, of a raster of
 /// samples of two bytes; 0 of another one. Whether a sample is above the maxval isn't looked at.
@@ -59,8 +59,8 @@ pub fn take_rows<R: BytesIn>(
         Err(InputFault::SampleAboveMaxval) => return Ok(None),
         Err(_) => return Err(InputFault::Memory),
     }
-    let samples = Samples::within(SampleVec::Words(samples), raster.shape.maxval);
-    let rows = Rows::new(samples, count, raster.units);
+    let maxval = raster.shape.maxval;
+    let rows = Rows::new(RowVec::Words(samples), maxval, count, raster.units);
     input.advance(size);
     Ok(Some(rows))
 }

@@ -2,7 +2,7 @@
 
 ghost use Rattle.std.specs.Prelude.{◌≡◌, ◌≤◌, IfOk, length, vec_capacity};
 
-use pnm_image::{SampleVec, Samples};
+use pnm_image::{RowVec, Rows, SampleVec, Samples};
 use std::alloc::{AllocError, Global};
 use std::collections::VecDeque;
 
@@ -49,6 +49,15 @@ impl SpareRows {
             SampleVec::Bits(bits) => self.keep_bytes(bits.into_bytes()),
             SampleVec::Bytes(bytes) => self.keep_bytes(bytes),
             SampleVec::Words(_) => {}
+        }
+    }
+
+    /// Keeps the memory of rows that were handed over together, as that of a row.
+    pub fn keep_rows(&mut self, rows: Rows) {
+        match rows.into_parts().0 {
+            RowVec::Bits(bits) => self.keep_bytes(bits.into_bytes()),
+            RowVec::Bytes(bytes) => self.keep_bytes(bytes),
+            RowVec::Words(_) => {}
         }
     }
 

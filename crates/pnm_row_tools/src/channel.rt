@@ -9,11 +9,12 @@ ghost use Rattle.pnm_tools.specs.Tools.{TakesHead, result_head};
 ghost use Rattle.pnm_row_tools.specs.Keeping.{as_wide};
 
 use crate::row_tool::RowTool;
-use pnm_image::{Head, Kind, Rows, SampleSlice, SampleVec, Samples, Shape};
+use pnm_image::{Head, Kind, RowSlice, RowVec, Rows, Samples, Shape};
 use pnm_tools::{Planes, ToolFault, head_within_limits};
 use std::alloc::{AllocError, Global};
 
-/// The samples of these planes of so many pixels of an image of this shape, held as the pixels are, but bits as bytes.
+/// The samples of these planes of so many pixels of rows of an image of this shape, held as the pixels are, but bits as
+/// bytes.
 ///
 /// # Errors
 ///
@@ -23,28 +24,16 @@ fn pick_planes(
     numbers: &[u16],
     shape: Shape,
     pixels: usize,
-    samples: &Samples,
-) -> Result<Samples, AllocError>
-    requires numbers { All (λ number. number < shape.depth) numbers.now }
-    requires pixels { length samples.now ≡ pixels * shape.depth }
-    requires range { All (λ sample. sample ≤ shape.maxval) samples.now }
-    ensures { IfOk result (λ picked. picked ≡ picked_samples numbers.now (as_wide pixels shape) samples.now) }
-{
-    match samples.as_slice() {
-        SampleSlice::Bits(bits) => {
+    rows: &Rows,
+) -> Result<RowVec, AllocError> {
+    Ok(match rows.as_slice() {
+        RowSlice::Bits(bits) => {
             let unpacked = bits.to_bytes(alloc)?;
-            let picked = pick(alloc, numbers, shape, pixels, unpacked.as_slice())?;
-            Ok(Samples::within(SampleVec::Bytes(picked), shape.maxval))
+            RowVec::Bytes(pick(alloc, numbers, shape, pixels, unpacked.as_slice())?)
         }
-        SampleSlice::Bytes(bytes) => {
-            let picked = pick(alloc, numbers, shape, pixels, bytes)?;
-            Ok(Samples::within(SampleVec::Bytes(picked), shape.maxval))
-        }
-        SampleSlice::Words(words) => {
-            let picked = pick(alloc, numbers, shape, pixels, words)?;
-            Ok(Samples::within(SampleVec::Words(picked), shape.maxval))
-        }
-    }
+        RowSlice::Bytes(bytes) => RowVec::Bytes(pick(alloc, numbers, shape, pixels, bytes)?),
+        RowSlice::Words(words) => RowVec::Words(pick(alloc, numbers, shape, pixels, words)?),
+    })
 }
 
 /// The samples of these planes of so many pixels of an image of this shape.
@@ -111,22 +100,22 @@ impl RowTool for Planes {
         _y: u32,
         row: Samples,
     ) -> Result<Option<Samples>, ToolFault> {
-        let numbers = self.numbers();
-        let picked = pick_planes(alloc, numbers, shape, shape.width as usize, &row)?;
-        Ok(Some(picked))
+        let (width, numbers) = (shape.width as usize, self.numbers());
+        let picked = pick_planes(alloc, numbers, shape, width, &Rows::one(row))?;
+        let made = Rows::new(picked, shape.maxval, 1, width * numbers.len());
+        Ok(Some(made.into_first()))
     }
 
     /// Makes new rows, of all pixels at once.
     fn rows(&self, alloc: Global, shape: Shape, _y: u32, rows: Rows) -> Result<Option<Rows>, Rows> {
-        let numbers = self.numbers();
-        let (samples, count, row_length) = rows.into_parts();
-        let pixels = count as usize * shape.width as usize;
-        match pick_planes(alloc, numbers, shape, pixels, &samples) {
+        let (width, numbers) = (shape.width as usize, self.numbers());
+        let count = rows.count();
+        match pick_planes(alloc, numbers, shape, count as usize * width, &rows) {
             Ok(picked) => {
-                let made = Rows::new(picked, count, shape.width as usize * numbers.len());
+                let made = Rows::new(picked, shape.maxval, count, width * numbers.len());
                 Ok(Some(made))
             }
-            Err(_) => Err(Rows::new(samples, count, row_length)),
+            Err(_) => Err(rows),
         }
     }
 }

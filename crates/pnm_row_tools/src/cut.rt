@@ -11,9 +11,8 @@ ghost use Rattle.pnm_tools.specs.declared.tool.Tool.TheVariants.{Cut};
 ghost use Rattle.pnm_row_tools.specs.Keeping.{parts_kept};
 ghost use Rattle.pnm_row_tools.specs.EachRow.{AreInBytes, parts_of};
 
-use crate::bit_rows::{room_for_pixels, rows_of_bits};
 use crate::row_tool::RowTool;
-use pnm_image::{Bits, Head, Rows, SampleVec, Samples, Shape};
+use pnm_image::{Bits, Head, RowVec, Rows, SampleVec, Samples, Shape};
 use pnm_tools::{CutBox, Span, ToolFault, head_within_limits};
 use std::alloc::{AllocError, Global};
 
@@ -83,8 +82,8 @@ struct Parts {
     kept: usize,
 }
 
-/// These columns of these of the rows of an image of this shape: they are moved to the front in place, but bits that
-/// aren't whole bytes are copied.
+/// These columns of these of the rows of an image of this shape: they are moved to the front in place, but bits are
+/// copied.
 ///
 /// # Errors
 ///
@@ -103,30 +102,32 @@ fn keep_columns_of_rows(
         (λ kept. kept ≡ map (columns_of_row columns shape.depth) (take (span_count among) (drop among.first rows))) }
     ensures same { IfErr result (λ same. same ≡ rows) }
 {
-    let (samples, count, row_length) = rows.into_parts();
-    // No effect at run time: a proof learns of this that no place in the rows is beyond this machine's numbers.
-    let _ = samples.len();
+    let (held, count, row_length) = rows.into_parts();
     let kept_rows = among.last - among.first + 1;
     let parts = parts_kept(columns, among, shape.depth as usize, row_length);
     if parts.kept == row_length && kept_rows == count {
-        return Ok(Rows::new(samples, count, row_length));
+        return Ok(Rows::new(held, shape.maxval, count, row_length));
     }
-    match samples.into_vec() {
-        SampleVec::Bits(bits) => match bits_of_each(alloc, bits, parts) {
-            Ok(made) => Ok(rows_of_bits(made, kept_rows, parts.kept)),
-            Err(bits) => Err(rows_of_bits(bits, count, row_length)),
-        },
-        SampleVec::Bytes(mut bytes) => {
+    let kept = match held {
+        RowVec::Bits(bits) => {
+            let (top, first) = (among.first as usize, parts.first);
+            match bits.part(alloc, top, parts.count, first, parts.kept) {
+                Ok(part) => RowVec::Bits(part),
+                Err(_) => {
+                    return Err(Rows::new(RowVec::Bits(bits), shape.maxval, count, row_length));
+                }
+            }
+        }
+        RowVec::Bytes(mut bytes) => {
             keep_of_each(&mut bytes, parts);
-            let samples = Samples::within(SampleVec::Bytes(bytes), shape.maxval);
-            Ok(Rows::new(samples, kept_rows, parts.kept))
+            RowVec::Bytes(bytes)
         }
-        SampleVec::Words(mut words) => {
+        RowVec::Words(mut words) => {
             keep_of_each(&mut words, parts);
-            let samples = Samples::within(SampleVec::Words(words), shape.maxval);
-            Ok(Rows::new(samples, kept_rows, parts.kept))
+            RowVec::Words(words)
         }
-    }
+    };
+    Ok(Rows::new(kept, shape.maxval, kept_rows, parts.kept))
 }
 
 /// What is kept of these of the rows, where these columns are.
@@ -172,83 +173,6 @@ fn copy_down<T: Copy>(samples: &mut [T], from: usize, to: usize, count: usize)
         let (front, back) = samples.split_at_mut(from);
         front[to..to + count].copy_from_slice(&back[..count]);
     }
-}
-
-/// These parts of rows of pixels, those of the first row first: in place where all are whole bytes, else in new ones.
-///
-/// # Errors
-///
-/// The pixels themselves, where there is no memory for new ones.
-fn bits_of_each(alloc: Global, bits: Bits, parts: Parts) -> Result<Bits, Bits>
-    requires rows { parts.skipped + parts.count * parts.row_length ≤ length bits }
-    requires within { parts.first + parts.kept ≤ parts.row_length }
-    ensures made { IfOk result (λ made. made ≡ parts_of parts bits) }
-    ensures same { IfErr result (λ same. same ≡ bits) }
-{
-    if let Some(in_bytes) = in_bytes(parts, bits.len()) {
-        return Ok(keep_bytes_of_each(bits, parts, in_bytes));
-    }
-    match copy_of_each(alloc, &bits, parts) {
-        Ok(made) => Ok(made),
-        Err(_) => Err(bits),
-    }
-}
-
-/// The parts counted in bytes, where these and so many pixels are whole bytes.
-fn in_bytes(parts: Parts, pixels: usize) -> Option<Parts>
-    ensures { IfSome result (λ bytes. AreInBytes bytes parts pixels) }
-{
-    let are_whole = parts.skipped % 8 == 0
-        && parts.row_length % 8 == 0
-        && parts.first % 8 == 0
-        && parts.kept % 8 == 0
-        && pixels % 8 == 0;
-    if !are_whole {
-        return None;
-    }
-    Some(Parts {
-        skipped: parts.skipped / 8,
-        count: parts.count,
-        row_length: parts.row_length / 8,
-        first: parts.first / 8,
-        kept: parts.kept / 8,
-    })
-}
-
-/// These parts of rows of pixels, those of the first row first, in place: they are whole bytes, which are counted too.
-fn keep_bytes_of_each(bits: Bits, parts: Parts, in_bytes: Parts) -> Bits
-    requires rows { parts.skipped + parts.count * parts.row_length ≤ length bits }
-    requires within { parts.first + parts.kept ≤ parts.row_length }
-    requires whole { AreInBytes in_bytes parts (length bits) }
-    ensures { result ≡ parts_of parts bits }
-{
-    // No effect at run time: a proof learns of this that the pixels are those of the bytes, and as many as this machine
-    // can count.
-    let _ = bits.len();
-    let _ = bits.as_bytes();
-    let mut bytes = bits.into_bytes();
-    keep_of_each(&mut bytes, in_bytes);
-    Bits::new(bytes, parts.count * parts.kept)
-}
-
-/// A copy of these parts of rows of pixels, those of the first row first.
-///
-/// # Errors
-///
-/// Where there is no memory for it.
-fn copy_of_each(alloc: Global, bits: &Bits, parts: Parts) -> Result<Bits, AllocError>
-    requires rows { parts.skipped + parts.count * parts.row_length ≤ length bits.now }
-    requires within { parts.first + parts.kept ≤ parts.row_length }
-    ensures { IfOk result (λ made. made ≡ parts_of parts bits.now) }
-{
-    // No effect at run time: a proof learns of this that no place in the rows is beyond this machine's numbers.
-    let _ = bits.len();
-    let mut made = room_for_pixels(alloc, parts.count * parts.kept)?;
-    for i in 0..parts.count {
-        let start = parts.skipped + i * parts.row_length + parts.first;
-        made.append(bits, start, parts.kept)?;
-    }
-    Ok(made)
 }
 
 /// Cuts the rows of images.
@@ -306,7 +230,7 @@ impl RowTool for Cutter {
     }
 
     /// Drops the rows that aren't kept, and keeps the columns of the others: they are moved to the front, but those of
-    /// bits that aren't whole bytes to bytes of their own.
+    /// bits to bytes of their own.
     fn rows(&self, alloc: Global, shape: Shape, y: u32, rows: Rows) -> Result<Option<Rows>, Rows> {
         let Some(among) = kept_among(self.rows, y, rows.count()) else {
             return Ok(None);

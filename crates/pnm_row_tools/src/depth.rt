@@ -11,7 +11,7 @@ ghost use Rattle.pnm_row_tools.specs.Keeping.{IsTable};
 ghost use Rattle.pnm_tools.specs.Tools.{TakesHead, result_head};
 
 use crate::row_tool::RowTool;
-use pnm_image::{Head, Kind, Rows, SampleSlice, SampleVec, Samples, Shape};
+use pnm_image::{Head, Kind, RowVec, Rows, SampleVec, Samples, Shape};
 use pnm_tools::{ToolFault, head_within_limits};
 use std::alloc::{AllocError, Global};
 
@@ -82,7 +82,7 @@ fn rescale_bytes_by_table(bytes: &mut [u8], table: &[u8], new: u32, old: u32)
 }
 
 /// The bytes, each taken from the table, changed in place.
-fn bytes_by_table(bytes: Vec<u8>, table: &[u8], new: u32, old: u32) -> Samples
+fn bytes_by_table(bytes: Vec<u8>, table: &[u8], new: u32, old: u32) -> Vec<u8>
     requires old { 1 ≤ old }
     requires table { table.now ≡ map (nearest_sample new old) (range_with_len 0 (old + 1)) }
     requires bytes { All (λ sample. sample ≤ old) bytes.items }
@@ -90,11 +90,11 @@ fn bytes_by_table(bytes: Vec<u8>, table: &[u8], new: u32, old: u32) -> Samples
 {
     let mut bytes = bytes;
     rescale_bytes_by_table(bytes.as_mut_slice(), table, new, old);
-    Samples::within(SampleVec::Bytes(bytes), new)
+    bytes
 }
 
 /// The words, each taken from the table, changed in place.
-fn words_by_table(words: Vec<u16>, table: &[u16], new: u32, old: u32) -> Samples
+fn words_by_table(words: Vec<u16>, table: &[u16], new: u32, old: u32) -> Vec<u16>
     requires old { 1 ≤ old }
     requires table { table.now ≡ map (nearest_sample new old) (range_with_len 0 (old + 1)) }
     requires words { All (λ sample. sample ≤ old) words.items }
@@ -102,7 +102,7 @@ fn words_by_table(words: Vec<u16>, table: &[u16], new: u32, old: u32) -> Samples
 {
     let mut words = words;
     rescale_by_table(words.as_mut_slice(), table, new, old);
-    Samples::within(SampleVec::Words(words), new)
+    words
 }
 
 /// The words, each taken from the table, as bytes.
@@ -116,7 +116,7 @@ fn narrow_by_table(
     table: &[u16],
     new: u32,
     old: u32,
-) -> Result<Samples, AllocError>
+) -> Result<Vec<u8>, AllocError>
     requires new { new ≤ 255 }
     requires old { 1 ≤ old }
     requires table { table.now ≡ map (nearest_sample new old) (range_with_len 0 (old + 1)) }
@@ -128,7 +128,7 @@ fn narrow_by_table(
         let rescaled = table[words[at] as usize];
         bytes[at] = rescaled as u8;
     }
-    Ok(Samples::within(SampleVec::Bytes(bytes), new))
+    Ok(bytes)
 }
 
 /// The bytes, each taken from the table, as words.
@@ -142,7 +142,7 @@ fn widen_by_table(
     table: &[u16],
     new: u32,
     old: u32,
-) -> Result<Samples, AllocError>
+) -> Result<Vec<u16>, AllocError>
     requires old { 1 ≤ old }
     requires table { table.now ≡ map (nearest_sample new old) (range_with_len 0 (old + 1)) }
     requires bytes { All (λ sample. sample ≤ old) bytes.now }
@@ -153,7 +153,7 @@ fn widen_by_table(
         let rescaled = table[bytes[at] as usize];
         words[at] = rescaled;
     }
-    Ok(Samples::within(SampleVec::Words(words), new))
+    Ok(words)
 }
 
 /// The samples, all within this maxval, as bytes where it is at most 255.
@@ -208,7 +208,8 @@ impl Rescaler {
             }
             Table::Bytes(table) => {
                 let bytes = row.into_bytes(alloc)?;
-                Ok(bytes_by_table(bytes, table.as_slice(), new, old))
+                let bytes = bytes_by_table(bytes, table.as_slice(), new, old);
+                Ok(Samples::within(SampleVec::Bytes(bytes), new))
             }
             Table::Words(table) => {
                 let mut words = row.into_words(alloc)?;
@@ -218,112 +219,70 @@ impl Rescaler {
         }
     }
 
-    /// Samples of an image of this maxval, with the new one: changed in place where they stay as wide as they are held,
+    /// Rows of an image of this maxval, with the new one: changed in place where they stay as wide as they are held,
     /// and else a copy.
     ///
     /// # Errors
     ///
-    /// The samples themselves, where there is no memory for the copy.
-    fn rescale_samples(&self, alloc: Global, old: u32, samples: Samples) -> Result<Samples, Samples>
-        requires new { (1 ≤ self.now.maxval) × (self.now.maxval ≤ MAX_MAXVAL) }
-        requires old { (1 ≤ old) × (old ≤ MAX_MAXVAL) }
-        requires table { IsTable self.now.maxval old self.now.table }
-        requires range { All (λ sample. sample ≤ old) samples }
-        ensures rescaled { IfOk result (λ made. made ≡ map (nearest_sample self.now.maxval old) samples) }
-        ensures same { IfErr result (λ same. same ≡ samples) }
-    {
-        match self.rescale_in_place(old, samples) {
-            Ok(rescaled) => Ok(rescaled),
-            Err(samples) => match self.rescale_copy(alloc, old, &samples) {
-                Ok(rescaled) => Ok(rescaled),
-                Err(_) => Err(samples),
-            },
-        }
-    }
-
-    /// The samples of an image of this maxval, with the new one, changed in place.
-    ///
-    /// # Errors
-    ///
-    /// The samples themselves, where they don't stay as wide as they are held, or there is no table of them.
-    fn rescale_in_place(&self, old: u32, samples: Samples) -> Result<Samples, Samples>
-        requires old { 1 ≤ old }
-        requires table { IsTable self.now.maxval old self.now.table }
-        requires range { All (λ sample. sample ≤ old) samples }
-        ensures rescaled { IfOk result (λ made. made ≡ map (nearest_sample self.now.maxval old) samples) }
-        ensures same { IfErr result (λ same. same ≡ samples) }
-    {
-        match &self.table {
-            Table::Absent => Err(samples),
-            Table::Bytes(table) => match samples.into_vec() {
-                SampleVec::Bytes(bytes) => {
-                    Ok(bytes_by_table(bytes, table.as_slice(), self.maxval, old))
-                }
-                held => Err(Samples::within(held, old)),
-            },
-            Table::Words(table) => match samples.into_vec() {
-                SampleVec::Words(words) if self.maxval > GREATEST_BYTE => {
-                    Ok(words_by_table(words, table.as_slice(), self.maxval, old))
-                }
-                held => Err(Samples::within(held, old)),
-            },
-        }
-    }
-
-    /// A copy of samples of an image of this maxval, with the new one, held as those of a row are.
-    ///
-    /// # Errors
-    ///
-    /// Where there is no memory for it.
-    fn rescale_copy(
-        &self,
-        alloc: Global,
-        old: u32,
-        samples: &Samples,
-    ) -> Result<Samples, AllocError>
-        requires new { (1 ≤ self.now.maxval) × (self.now.maxval ≤ MAX_MAXVAL) }
-        requires old { (1 ≤ old) × (old ≤ MAX_MAXVAL) }
-        requires table { IsTable self.now.maxval old self.now.table }
-        requires range { All (λ sample. sample ≤ old) samples.now }
-        ensures { IfOk result (λ rescaled. rescaled ≡ map (nearest_sample self.now.maxval old) samples.now) }
-    {
-        if let Table::Words(table) = &self.table {
-            return self.rescale_words(alloc, table.as_slice(), old, samples);
-        }
-        let copy = samples.copy(alloc)?;
-        self.rescale_row(alloc, old, copy)
-    }
-
-    /// The same by a table of words: words become bytes, and bytes words, as they are copied.
-    ///
-    /// # Errors
-    ///
-    /// Where there is no memory for the copy.
-    fn rescale_words(
-        &self,
-        alloc: Global,
-        table: &[u16],
-        old: u32,
-        samples: &Samples,
-    ) -> Result<Samples, AllocError>
-        requires old { 1 ≤ old }
-        requires table { table.now ≡ map (nearest_sample self.now.maxval old) (range_with_len 0 (old + 1)) }
-        requires range { All (λ sample. sample ≤ old) samples.now }
-        ensures { IfOk result (λ rescaled. rescaled ≡ map (nearest_sample self.now.maxval old) samples.now) }
-    {
+    /// The rows themselves, where there is no table for samples that are held so, or no memory for the copy.
+    fn rescale_rows(&self, alloc: Global, old: u32, rows: RowVec) -> Result<RowVec, RowVec> {
         let new = self.maxval;
-        match samples.as_slice() {
-            SampleSlice::Words(words) if new <= GREATEST_BYTE => {
-                narrow_by_table(alloc, words, table, new, old)
+        match (&self.table, rows) {
+            (Table::Bytes(table), RowVec::Bits(bits)) => match bits.to_bytes(alloc) {
+                Ok(bytes) => {
+                    Ok(RowVec::Bytes(bytes_by_table(bytes, table.as_slice(), new, old)))
+                }
+                Err(_) => Err(RowVec::Bits(bits)),
+            },
+            (Table::Bytes(table), RowVec::Bytes(bytes)) => {
+                Ok(RowVec::Bytes(bytes_by_table(bytes, table.as_slice(), new, old)))
             }
-            SampleSlice::Bytes(bytes) if new > GREATEST_BYTE => {
-                widen_by_table(alloc, bytes, table, new, old)
+            (Table::Words(table), rows) => rescale_by_words(alloc, table.as_slice(), new, old, rows),
+            (Table::Absent, RowVec::Words(mut words)) if new > GREATEST_BYTE => {
+                rescale(words.as_mut_slice(), new, old);
+                Ok(RowVec::Words(words))
             }
-            _ => {
-                let words = samples.to_words(alloc)?;
-                Ok(words_by_table(words, table, new, old))
+            (_, rows) => Err(rows),
+        }
+    }
+}
+
+/// The same by a table of words: words become bytes, and bytes words, as they are copied.
+///
+/// # Errors
+///
+/// The rows themselves, where they are held otherwise than the maxvals want, or there is no memory for the copy.
+fn rescale_by_words(
+    alloc: Global,
+    table: &[u16],
+    new: u32,
+    old: u32,
+    rows: RowVec,
+) -> Result<RowVec, RowVec> {
+    match rows {
+        RowVec::Words(words) if new > GREATEST_BYTE => {
+            Ok(RowVec::Words(words_by_table(words, table, new, old)))
+        }
+        RowVec::Words(words) => {
+            match narrow_by_table(alloc, words.as_slice(), table, new, old) {
+                Ok(bytes) => Ok(RowVec::Bytes(bytes)),
+                Err(_) => Err(RowVec::Words(words)),
             }
         }
+        RowVec::Bytes(bytes) if new > GREATEST_BYTE => {
+            match widen_by_table(alloc, bytes.as_slice(), table, new, old) {
+                Ok(words) => Ok(RowVec::Words(words)),
+                Err(_) => Err(RowVec::Bytes(bytes)),
+            }
+        }
+        RowVec::Bits(bits) if new > GREATEST_BYTE => match bits.to_bytes(alloc) {
+            Ok(bytes) => match widen_by_table(alloc, bytes.as_slice(), table, new, old) {
+                Ok(words) => Ok(RowVec::Words(words)),
+                Err(_) => Err(RowVec::Bits(bits)),
+            },
+            Err(_) => Err(RowVec::Bits(bits)),
+        },
+        rows => Err(rows),
     }
 }
 
@@ -359,10 +318,10 @@ impl RowTool for Rescaler {
     }
 
     fn rows(&self, alloc: Global, shape: Shape, _y: u32, rows: Rows) -> Result<Option<Rows>, Rows> {
-        let (samples, count, row_length) = rows.into_parts();
-        match self.rescale_samples(alloc, shape.maxval, samples) {
-            Ok(rescaled) => Ok(Some(Rows::new(rescaled, count, row_length))),
-            Err(samples) => Err(Rows::new(samples, count, row_length)),
+        let (held, count, row_length) = rows.into_parts();
+        match self.rescale_rows(alloc, shape.maxval, held) {
+            Ok(rescaled) => Ok(Some(Rows::new(rescaled, self.maxval, count, row_length))),
+            Err(held) => Err(Rows::new(held, shape.maxval, count, row_length)),
         }
     }
 }

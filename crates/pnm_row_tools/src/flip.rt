@@ -13,9 +13,8 @@ ghost use Rattle.pnm_row_tools.specs.EachRow.{changed, last_first};
 ghost use Rattle.pnm_row_tools.specs.Keeping.{FlipsInRows, IsReversingRows, reversed_due};
 ghost use Rattle.pnm_tools.specs.Tools.{TakesHead, result_head};
 
-use crate::bit_rows::{room_for_pixels, rows_of_bits};
 use crate::row_tool::RowTool;
-use pnm_image::{Bits, Head, Rows, SampleVec, Samples, Shape};
+use pnm_image::{Head, RowVec, Rows, Samples, Shape};
 use pnm_tools::{FlipWay, ImageTool, ToolFault, Turn, flipped_head};
 use std::alloc::{AllocError, Global};
 use std::marker::Model;
@@ -30,62 +29,16 @@ fn turn_row(alloc: Global, turn: Turn, shape: Shape, row: Samples) -> Result<Sam
     requires row { IsRowOf shape row }
     ensures { IfOk result (λ turned. turned ≡ turned_row turn shape row) }
 {
-    if turn.columns_reversed {
-        mirror_pixels(alloc, shape, shape.width as usize, row)
-    } else {
-        Ok(row)
+    if !turn.columns_reversed {
+        return Ok(row);
     }
+    let (held, count, row_length) = Rows::one(row).into_parts();
+    let turned = turn_round(alloc, shape, shape.width as usize, held)?;
+    Ok(Rows::new(turned, shape.maxval, count, row_length).into_first())
 }
 
-/// So many pixels of an image of this shape, the last one first, changed in place; bits of several planes become bytes.
-///
-/// # Errors
-///
-/// Where there is no memory for the bytes.
-fn mirror_pixels(
-    alloc: Global,
-    shape: Shape,
-    pixels: usize,
-    samples: Samples,
-) -> Result<Samples, AllocError>
-    requires limits { IsWithinLimits shape }
-    requires pixels { length samples ≡ pixels * shape.depth }
-    requires range { All (λ sample. sample ≤ shape.maxval) samples }
-    ensures { IfOk result (λ mirrored. mirrored ≡ last_first pixels shape.depth samples) }
-{
-    match samples.into_vec() {
-        SampleVec::Bits(bits) if shape.depth == 1 => {
-            let bits = mirror_bits(bits, pixels);
-            Ok(Samples::from_vec(SampleVec::Bits(bits)))
-        }
-        SampleVec::Bits(bits) => {
-            let mut unpacked = bits.to_bytes(alloc)?;
-            reverse_pixels(unpacked.as_mut_slice(), pixels, shape.depth as usize);
-            Ok(Samples::within(SampleVec::Bytes(unpacked), shape.maxval))
-        }
-        SampleVec::Bytes(mut bytes) => {
-            reverse_pixels(bytes.as_mut_slice(), pixels, shape.depth as usize);
-            Ok(Samples::within(SampleVec::Bytes(bytes), shape.maxval))
-        }
-        SampleVec::Words(mut words) => {
-            reverse_pixels(words.as_mut_slice(), pixels, shape.depth as usize);
-            Ok(Samples::within(SampleVec::Words(words), shape.maxval))
-        }
-    }
-}
-
-/// So many pixels of one plane, the last one first, changed in place.
-fn mirror_bits(bits: Bits, pixels: usize) -> Bits
-    requires { length bits ≡ pixels }
-    ensures { result ≡ last_first pixels 1 bits }
-{
-    let mut bits = bits;
-    bits.reverse();
-    bits
-}
-
-/// So many pixels of so many samples each, the last one first: all samples change places, and then those of each pixel
-/// do again.
+/// So many pixels, or rows, of so many samples each, the last one first: all samples change places, and then those of
+/// each pixel do again.
 fn reverse_pixels<T: Copy>(samples: &mut [T], pixels: usize, size: usize)
     requires size { 1 ≤ size }
     requires pixels { length samples.old ≡ pixels * size }
@@ -125,39 +78,36 @@ fn reverse_three<T: Copy>(samples: &mut [T])
     samples[2] = first;
 }
 
-/// These rows of an image of this shape, each the last pixel first: bytes and words are changed in place, bits copied.
+/// These rows of an image of this shape, each the last pixel first, changed in place.
 ///
 /// # Errors
 ///
-/// The rows themselves, where they are held as bits of several planes, or as bits and there is no memory for the copy.
-fn mirror_rows(alloc: Global, shape: Shape, rows: Rows) -> Result<Rows, Rows>
+/// The rows themselves, where they are held as bits of several planes.
+fn mirror_rows(shape: Shape, rows: Rows) -> Result<Rows, Rows>
     requires limits { IsWithinLimits shape }
     requires rows { AllByRecursion (IsRowOf shape) rows }
     ensures mirrored { IfOk result (λ mirrored. mirrored ≡ map (mirrored_row shape) rows) }
     ensures same { IfErr result (λ same. same ≡ rows) }
 {
-    let (samples, count, row_length) = rows.into_parts();
-    match samples.into_vec() {
-        SampleVec::Bits(bits) => {
-            if shape.depth != 1 {
-                return Err(rows_of_bits(bits, count, row_length));
-            }
-            match mirror_each(alloc, &bits, shape, count as usize, row_length) {
-                Ok(mirrored) => Ok(rows_of_bits(mirrored, count, row_length)),
-                Err(_) => Err(rows_of_bits(bits, count, row_length)),
-            }
+    let (held, count, row_length) = rows.into_parts();
+    let mirrored = match held {
+        RowVec::Bits(bits) if shape.depth != 1 => {
+            return Err(Rows::new(RowVec::Bits(bits), shape.maxval, count, row_length));
         }
-        SampleVec::Bytes(mut bytes) => {
+        RowVec::Bits(mut bits) => {
+            bits.mirror();
+            RowVec::Bits(bits)
+        }
+        RowVec::Bytes(mut bytes) => {
             reverse_each(bytes.as_mut_slice(), shape, count as usize, row_length);
-            let samples = Samples::within(SampleVec::Bytes(bytes), shape.maxval);
-            Ok(Rows::new(samples, count, row_length))
+            RowVec::Bytes(bytes)
         }
-        SampleVec::Words(mut words) => {
+        RowVec::Words(mut words) => {
             reverse_each(words.as_mut_slice(), shape, count as usize, row_length);
-            let samples = Samples::within(SampleVec::Words(words), shape.maxval);
-            Ok(Rows::new(samples, count, row_length))
+            RowVec::Words(words)
         }
-    }
+    };
+    Ok(Rows::new(mirrored, shape.maxval, count, row_length))
 }
 
 /// So many rows, each the last pixel first.
@@ -172,47 +122,6 @@ fn reverse_each<T: Copy>(samples: &mut [T], shape: Shape, count: usize, each: us
         let row = &mut samples[start..start + each];
         reverse_pixels(row, shape.width as usize, shape.depth as usize);
     }
-}
-
-/// So many rows of one plane, each the last pixel first: they are copied, the last row first, and then all pixels are
-/// turned round.
-///
-/// # Errors
-///
-/// Where there is no memory for the copy.
-fn mirror_each(
-    alloc: Global,
-    bits: &Bits,
-    shape: Shape,
-    count: usize,
-    each: usize,
-) -> Result<Bits, AllocError>
-    requires limits { IsWithinLimits shape }
-    requires plane { shape.depth ≡ 1 }
-    requires row { each ≡ row_length shape }
-    requires rows { length bits.now ≡ count * each }
-    ensures { IfOk result (λ made. made ≡ changed (mirrored_row shape) count each bits.now) }
-{
-    let mut made = copy_reversed(alloc, bits, count, each)?;
-    made.reverse();
-    Ok(made)
-}
-
-/// So many rows of so many pixels, the last row first, copied.
-///
-/// # Errors
-///
-/// Where there is no memory for the copy.
-fn copy_reversed(alloc: Global, bits: &Bits, count: usize, each: usize) -> Result<Bits, AllocError>
-    requires { length bits.now ≡ count * each }
-    ensures { IfOk result (λ made. made ≡ last_first count each bits.now) }
-{
-    let mut made = room_for_pixels(alloc, bits.len())?;
-    for copied in 0..count {
-        let last = count - 1 - copied;
-        made.append(bits, last * each, each)?;
-    }
-    Ok(made)
 }
 
 /// So many rows of so many samples each, the last row first, copied.
@@ -237,62 +146,82 @@ fn copy_rows_reversed<T: Copy>(
     Ok(made)
 }
 
-/// So many rows of an image of this maxval, the last row first, copied: so each sample is moved once.
+/// So many rows of so many samples each, the last row first: they are copied, since a copy moves whole rows.
 ///
 /// # Errors
 ///
 /// Where there is no memory for the copy.
 fn reverse_rows(
     alloc: Global,
-    maxval: u32,
-    samples: Samples,
+    rows: RowVec,
     count: usize,
     each: usize,
-) -> Result<Samples, AllocError>
-    requires each { 1 ≤ each }
-    requires rows { length samples ≡ count * each }
-    requires range { All (λ sample. sample ≤ maxval) samples }
-    ensures { IfOk result (λ reversed. reversed ≡ last_first count each samples) }
-{
+) -> Result<RowVec, AllocError> {
     if count == 1 {
-        return Ok(samples);
+        return Ok(rows);
     }
-    match samples.into_vec() {
-        SampleVec::Bits(bits) => {
-            let copied = copy_reversed(alloc, &bits, count, each)?;
-            Ok(Samples::from_vec(SampleVec::Bits(copied)))
+    Ok(match rows {
+        RowVec::Bits(bits) => RowVec::Bits(bits.reversed(alloc)?),
+        RowVec::Bytes(bytes) => {
+            RowVec::Bytes(copy_rows_reversed(alloc, bytes.as_slice(), count, each)?)
         }
-        SampleVec::Bytes(bytes) => {
-            let copied = copy_rows_reversed(alloc, bytes.as_slice(), count, each)?;
-            Ok(Samples::within(SampleVec::Bytes(copied), maxval))
+        RowVec::Words(words) => {
+            RowVec::Words(copy_rows_reversed(alloc, words.as_slice(), count, each)?)
         }
-        SampleVec::Words(words) => {
-            let copied = copy_rows_reversed(alloc, words.as_slice(), count, each)?;
-            Ok(Samples::within(SampleVec::Words(copied), maxval))
-        }
-    }
+    })
 }
 
-/// These rows of an image of this shape, the last one first, each the last pixel first or as it is: all pixels are one
-/// long row then, or rows change places.
+/// Rows of so many pixels of an image of this shape, the last row first, each the last pixel first: all pixels are one
+/// long row then; bits of several planes become bytes.
 ///
 /// # Errors
 ///
-/// Where there is no memory for rows that are copied, or for bits that become bytes.
+/// Where there is no memory for the bytes.
+fn turn_round(
+    alloc: Global,
+    shape: Shape,
+    pixels: usize,
+    rows: RowVec,
+) -> Result<RowVec, AllocError> {
+    let depth = shape.depth as usize;
+    Ok(match rows {
+        RowVec::Bits(mut bits) if shape.depth == 1 => {
+            bits.turn_round();
+            RowVec::Bits(bits)
+        }
+        RowVec::Bits(bits) => {
+            let mut unpacked = bits.to_bytes(alloc)?;
+            reverse_pixels(unpacked.as_mut_slice(), pixels, depth);
+            RowVec::Bytes(unpacked)
+        }
+        RowVec::Bytes(mut bytes) => {
+            reverse_pixels(bytes.as_mut_slice(), pixels, depth);
+            RowVec::Bytes(bytes)
+        }
+        RowVec::Words(mut words) => {
+            reverse_pixels(words.as_mut_slice(), pixels, depth);
+            RowVec::Words(words)
+        }
+    })
+}
+
+/// These rows of an image of this shape, the last one first, each the last pixel first or as it is.
+///
+/// # Errors
+///
+/// Where there is no memory for bits that are copied or become bytes.
 fn turn_rows(alloc: Global, turn: Turn, shape: Shape, rows: Rows) -> Result<Rows, AllocError>
     requires limits { IsWithinLimits shape }
     requires rows { AllByRecursion (IsRowOf shape) rows }
     ensures { IfOk result (λ turned. turned ≡ map (turned_row turn shape) (reverse rows)) }
 {
-    let (samples, count, row_length) = rows.into_parts();
-    if turn.columns_reversed {
-        let pixels = count as usize * shape.width as usize;
-        let mirrored = mirror_pixels(alloc, shape, pixels, samples)?;
-        Ok(Rows::new(mirrored, count, row_length))
+    let (held, count, row_length) = rows.into_parts();
+    let turned = if turn.columns_reversed {
+        turn_round(alloc, shape, count as usize * shape.width as usize, held)?
     } else {
-        let reversed = reverse_rows(alloc, shape.maxval, samples, count as usize, row_length)?;
-        Ok(Rows::new(reversed, count, row_length))
-    }
+        reverse_rows(alloc, held, count as usize, row_length)?
+    };
+    Ok(Rows::new(turned, shape.maxval, count, row_length))
 }
 
 /// Passes the rows of images on, the last pixel first or as they are: any way that leaves rows in their
@@ -336,10 +265,16 @@ impl RowTool for RowFlipper {
         Ok(Some(turn_row(alloc, self.way.turn(), shape, row)?))
     }
 
-    /// Changes bytes in place, and copies bits.
-    fn rows(&self, alloc: Global, shape: Shape, _y: u32, rows: Rows) -> Result<Option<Rows>, Rows> {
+    /// Changes the rows in place.
+    fn rows(
+        &self,
+        _alloc: Global,
+        shape: Shape,
+        _y: u32,
+        rows: Rows,
+    ) -> Result<Option<Rows>, Rows> {
         if self.way.turn().columns_reversed {
-            let mirrored = mirror_rows(alloc, shape, rows)?;
+            let mirrored = mirror_rows(shape, rows)?;
             Ok(Some(mirrored))
         } else {
             Ok(Some(rows))

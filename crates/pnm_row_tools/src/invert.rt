@@ -5,7 +5,7 @@ ghost use Rattle.pnm_image.specs.declared.limits.TheConstants.{MAX_MAXVAL};
 ghost use Rattle.pnm_tools.specs.declared.tool.Tool.TheVariants.{Invert};
 
 use crate::row_tool::RowTool;
-use pnm_image::{Head, Rows, SampleVec, Samples, Shape};
+use pnm_image::{Head, RowVec, Rows, SampleVec, Samples, Shape};
 use pnm_samples::Sample;
 use pnm_tools::ToolFault;
 use std::alloc::{AllocError, Global};
@@ -25,34 +25,37 @@ fn invert_row(alloc: Global, maxval: u32, row: Samples) -> Result<Samples, Alloc
     requires range { All (λ sample. sample ≤ maxval) row }
     ensures { IfOk result (λ made. made ≡ map (λ sample. maxval - sample) row) }
 {
-    match invert_in_place(maxval, row) {
-        Ok(inverted) => Ok(inverted),
-        Err(held) => Ok(invert_words(maxval, held.into_words(alloc)?)),
+    let each = row.len();
+    let (held, _, _) = Rows::one(row).into_parts();
+    match invert_rows(maxval, held) {
+        Ok(inverted) => Ok(Rows::new(inverted, maxval, 1, each).into_first()),
+        Err(held) => {
+            let row = Rows::new(held, maxval, 1, each).into_first();
+            Ok(invert_words(maxval, row.into_words(alloc)?))
+        }
     }
 }
 
-/// The samples, each taken from the maxval, changed in place and held as they were.
+/// Rows with each sample taken from the maxval, changed in place and held as they were.
 ///
 /// # Errors
 ///
-/// The samples themselves, where samples up to the maxval can't be held so.
-fn invert_in_place(maxval: u32, samples: Samples) -> Result<Samples, Samples>
-    requires maxval { (1 ≤ maxval) × (maxval ≤ MAX_MAXVAL) }
-    requires range { All (λ sample. sample ≤ maxval) samples }
-    ensures inverted { IfOk result (λ made. made ≡ map (λ sample. maxval - sample) samples) }
-    ensures same { IfErr result (λ same. same ≡ samples) }
-{
-    match samples.into_vec() {
-        SampleVec::Bits(mut bits) if maxval == 1 => {
+/// The rows themselves, where samples up to the maxval can't be held so.
+fn invert_rows(maxval: u32, rows: RowVec) -> Result<RowVec, RowVec> {
+    match rows {
+        RowVec::Bits(mut bits) if maxval == 1 => {
             bits.invert();
-            Ok(Samples::within(SampleVec::Bits(bits), maxval))
+            Ok(RowVec::Bits(bits))
         }
-        SampleVec::Bytes(mut bytes) if maxval <= 255 => {
+        RowVec::Bytes(mut bytes) if maxval <= 255 => {
             invert(bytes.as_mut_slice(), maxval as u8);
-            Ok(Samples::within(SampleVec::Bytes(bytes), maxval))
+            Ok(RowVec::Bytes(bytes))
         }
-        SampleVec::Words(words) => Ok(invert_words(maxval, words)),
-        held => Err(Samples::within(held, maxval)),
+        RowVec::Words(mut words) => {
+            invert(words.as_mut_slice(), maxval as u16);
+            Ok(RowVec::Words(words))
+        }
+        held => Err(held),
     }
 }
 
@@ -111,10 +114,10 @@ impl RowTool for Inverter {
         _y: u32,
         rows: Rows,
     ) -> Result<Option<Rows>, Rows> {
-        let (samples, count, row_length) = rows.into_parts();
-        match invert_in_place(shape.maxval, samples) {
-            Ok(inverted) => Ok(Some(Rows::new(inverted, count, row_length))),
-            Err(samples) => Err(Rows::new(samples, count, row_length)),
+        let (held, count, row_length) = rows.into_parts();
+        match invert_rows(shape.maxval, held) {
+            Ok(inverted) => Ok(Some(Rows::new(inverted, shape.maxval, count, row_length))),
+            Err(held) => Err(Rows::new(held, shape.maxval, count, row_length)),
         }
     }
 }

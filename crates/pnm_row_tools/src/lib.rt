@@ -2,7 +2,6 @@
 //! pamdepth(1), pamchannel(1), and pamflip(1) where rows stay rows.
 #![tactic(auto)]
 
-mod bit_rows;
 mod by_row;
 mod channel;
 mod cut;

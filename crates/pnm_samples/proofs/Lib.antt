@@ -1,3 +1,5 @@
+pub mod BitRowLaws
+pub mod BitRowsMade
 pub mod BlockLaws
 pub mod BoundLaws
 pub mod ColumnLaws

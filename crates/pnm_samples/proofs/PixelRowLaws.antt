@@ -41,16 +41,36 @@ appended_view held start count other bytes grown placed cleared from value run k
 
 -- ---- a pixel of a row
 
-pub pixel_of_row : (count at : ℕ) (bytes value : List ℕ) → at < count → ArePacked count bytes → take count (all_pixels bytes) ≡ value
-    → get_or value at 0 ≡ pixel_at (7 - at % 8) (get_or bytes (at / 8) 0)
-pixel_of_row count at bytes value lt h is =
+-- of bytes
+pub pixel_of_bytes : (at : ℕ) (bytes : List ℕ) → at < 8 * length bytes → get_or (all_pixels bytes) at 0 ≡ pixel_at (7 - at % 8) (get_or bytes (at / 8) 0)
+pixel_of_bytes at bytes lt =
     let n = at / 8 in let r = at % 8 in let x = get_or bytes n 0 in let rest = all_pixels (drop (n + 1) bytes) in
-    let inside : n < length bytes = omega (arith, h.enough) in
+    let inside : n < length bytes = omega (arith, lt) in
     let place : at ≡ 8 * n + r = omega arith in
-    ap (λ (l : List ℕ). get_or l at 0) (sym is) ∙ get_or-take count (all_pixels bytes) at 0 lt ∙ ap (λ (k : ℕ). get_or (all_pixels bytes) k 0) place
+    ap (λ (k : ℕ). get_or (all_pixels bytes) k 0) place
     ∙ sym (get_or-drop (8 * n) (all_pixels bytes) r 0)
     ∙ ap (λ (l : List ℕ). get_or l r 0) (drop-all_pixels n bytes ∙ ap all_pixels (drop_more bytes n 0 inside))
     ∙ get_or_append_left (pixels x) rest 0 r (omega (arith, length-pixels x)) ∙ get_or-pixels x r (omega arith)
+
+pub pixel_of_row : (count at : ℕ) (bytes value : List ℕ) → at < count → ArePacked count bytes → take count (all_pixels bytes) ≡ value
+    → get_or value at 0 ≡ pixel_at (7 - at % 8) (get_or bytes (at / 8) 0)
+pixel_of_row count at bytes value lt h is =
+    ap (λ (l : List ℕ). get_or l at 0) (sym is) ∙ get_or-take count (all_pixels bytes) at 0 lt ∙ pixel_of_bytes at bytes (omega (arith, lt, h.enough))
+
+-- the first so many pixels are black, as all that were looked at are
+pub black_from_looks : (count seen : ℕ) (bytes : List ℕ) → length (take count (all_pixels bytes)) ≤ seen → ((k : ℕ) → k < seen → get_or (all_pixels bytes) k 0 ≤ 0)
+    → All (λ sample. sample ≤ 0) (take count (all_pixels bytes))
+black_from_looks count seen bytes all known k d lt =
+    let within : k < count = omega (arith, lt, length-take count (all_pixels bytes)) in
+    let small : get_or (take count (all_pixels bytes)) k 0 ≤ 0 = omega (arith, known k (omega (arith, lt, all)), get_or-take count (all_pixels bytes) k 0 within) in
+    rw (get_or_default (take count (all_pixels bytes)) k d 0 lt) small
+
+-- one isn't
+pub not_black : (count at pixel : ℕ) (bytes : List ℕ) → at < count → at < 8 * length bytes → pixel ≡ get_or (all_pixels bytes) at 0 → 0 < pixel
+    → All (λ sample. sample ≤ 0) (take count (all_pixels bytes)) → ⊥
+not_black count at pixel bytes lt inside is above all =
+    let within : at < length (take count (all_pixels bytes)) = omega (arith, lt, inside, length-take count (all_pixels bytes), length-all_pixels bytes) in
+    omega (arith, all at 0 within, get_or-take count (all_pixels bytes) at 0 lt, is, above)
 
 -- no pixel is above 1
 pub pixels_within : (count : ℕ) (bytes value : List ℕ) (most : ℕ) → 0 < most → ArePacked count bytes → take count (all_pixels bytes) ≡ value
@@ -68,3 +88,12 @@ prefix_of_bytes bytes cleared count kept m e enough known =
     let size : min count (8 * length bytes) ≡ min count (length (all_pixels bytes)) = ap (min count) (sym (length-all_pixels bytes)) in
     known ∙ ap (take kept) (sym (take-all_pixels m bytes)) ∙ take-take kept (8 * m) (all_pixels bytes) enough
     ∙ ap (λ (k : ℕ). take k (all_pixels bytes)) (e ∙ size) ∙ take_min count (all_pixels bytes)
+
+-- no pixel of bytes is above 1
+pub byte_pixels_within : (count most : ℕ) (bytes : List ℕ) → 0 < most → All (λ sample. sample ≤ most) (take count (all_pixels bytes))
+byte_pixels_within count most bytes some k d lt =
+    let within : k < count = omega (arith, lt, length-take count (all_pixels bytes)) in
+    let inside : k < 8 * length bytes = omega (arith, lt, length-take count (all_pixels bytes), length-all_pixels bytes) in
+    let small : get_or (take count (all_pixels bytes)) k 0 ≤ most =
+    omega (arith, get_or-take count (all_pixels bytes) k 0 within, pixel_of_bytes k bytes inside) in
+    rw (get_or_default (take count (all_pixels bytes)) k d 0 lt) small

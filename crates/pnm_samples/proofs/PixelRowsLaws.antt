@@ -22,7 +22,7 @@ length_of_ordered true n each bytes = length-reverse (rows_of_bytes n each bytes
 length_of_ordered false n each bytes = length_of_rows n each bytes
 
 -- rows behind others
-rows_behind : (n more each : ℕ) (bytes rest : List ℕ) → length bytes ≡ n * bytes_for each
+pub rows_behind : (n more each : ℕ) (bytes rest : List ℕ) → length bytes ≡ n * bytes_for each
     → rows_of_bytes (n + more) each (bytes ++ rest) ≡ rows_of_bytes n each bytes ++ rows_of_bytes more each rest
 rows_behind zero more each bytes rest long =
     let none : length bytes ≡ 0 = omega (arith, long, zero-mul (bytes_for each)) in
@@ -187,7 +187,7 @@ written_behind held n slice part items size within long many =
 -- ---- the bytes of a row
 
 -- where a row lies
-row_lies : (n each r : ℕ) (bytes : List ℕ) → r < n → get_or (rows_of_bytes n each bytes) r [] ≡ take each (all_pixels (drop (r * bytes_for each) bytes))
+pub row_lies : (n each r : ℕ) (bytes : List ℕ) → r < n → get_or (rows_of_bytes n each bytes) r [] ≡ take each (all_pixels (drop (r * bytes_for each) bytes))
 row_lies zero each r bytes lt = absurd (omega arith)
 row_lies (suc n) each zero bytes lt =
     let none : 0 * bytes_for each ≡ 0 = omega (arith, zero-mul (bytes_for each)) in

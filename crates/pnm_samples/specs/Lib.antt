@@ -4,4 +4,5 @@ pub mod SampleVecs
 pub mod Blocks
 pub mod Columns
 pub mod PixelRows
+pub mod BitRows
 pub mod Stretches

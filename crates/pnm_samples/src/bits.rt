@@ -4,14 +4,16 @@ ghost use Rattle.std.specs.Prelude.{◌≡◌, ℕ, ◌+◌, ◌-◌, ◌*◌, �
 ghost use Rattle.std.specs.Prelude.{drop, map, replicate, OnOk, OnErr, IfOk, IsTrue, ◌↔◌, All, slice_index};
 ghost use Rattle.pnm_samples.specs.Pixels.{pixel_at, pixels, all_pixels, ArePacked, AreBytes, packed_bytes};
 
+use crate::bit_rows::rows_to_samples;
 use crate::widths::bytes_to_words;
 use std::alloc::{AllocError, Global};
 use std::marker::Model;
 
 mod mirror;
 mod repeat;
-mod run;
 mod stretch;
+
+pub(crate) use mirror::{move_to_end, turn_round};
 
 /// Pixels of one bit: eight a byte, the most significant bit leftmost, 1 is black, which is sample 0.
 #[derive(Debug, Drop)]
@@ -79,13 +81,16 @@ impl Bits {
         ensures bytes { result.now ≡ packed_bytes self.now }
         ensures count { length result.now ≡ (length self.now + 7) / 8 }
         ensures pixels { self.now ≡ take (length self.now) (all_pixels result.now) }
+        ensures packed { ArePacked (length self.now) result.now }
     {
         bytes_of(self.bytes.as_slice())
     }
 
     /// The bytes of the pixels, with white spare bits, without a copy.
     pub fn into_bytes(self) -> Vec<u8>
-        ensures { result.items ≡ packed_bytes self }
+        ensures bytes { result.items ≡ packed_bytes self }
+        ensures packed { ArePacked (length self) result.items }
+        ensures pixels { self ≡ take (length self) (all_pixels result.items) }
     {
         let bytes = self.bytes;
         // No effect at run time: a proof learns of this that each byte is below 256.
@@ -93,26 +98,12 @@ impl Bits {
         bytes
     }
 
-    /// Fills the buffer with the bytes of a run of so many pixels, from the start on, with white spare bits.
-    pub fn copy_run(&self, start: usize, count: usize, buffer: &mut [u8])
-        requires run { start + count ≤ length self.now }
-        requires buffer { length buffer.old ≡ (count + 7) / 8 }
-        ensures { buffer.new ≡ packed_bytes (take count (drop start self.now)) }
-    {
-        // No effect at run time: a proof learns of this that the pixels are as many as this machine can count.
-        let _ = self.len();
-        fill_run(buffer, self.bytes.as_slice(), start, count);
-        clear_spare(buffer, count);
-        // No effect at run time: a proof learns of this that each byte is below 256.
-        let _ = bytes_of(buffer);
-    }
-
     /// A pixel.
     pub fn pixel(&self, at: usize) -> u16
         requires { at < length self.now }
         ensures { result ≡ slice_index self.now at }
     {
-        u16::from(pixel_at((7 - at % 8) as u32, self.bytes[at / 8]))
+        pixel_of(self.bytes.as_slice(), at)
     }
 
     /// The greatest number that a pixel can be.
@@ -123,23 +114,6 @@ impl Bits {
         // No effect at run time: a proof learns of this that the pixels are those of the bytes.
         let _ = &self.bytes;
         1
-    }
-
-    /// Whether no pixel is above this number. None is looked at where none can be.
-    pub fn are_within(&self, most: u32) -> bool
-        ensures { IsTrue result ↔ All (λ sample. sample ≤ most) self.now }
-    {
-        // No effect at run time: a proof learns of this that the pixels are those of the bytes.
-        let _ = &self.bytes;
-        if most > 0 {
-            return true;
-        }
-        for at in 0..self.len() {
-            if self.pixel(at) > 0 {
-                return false;
-            }
-        }
-        true
     }
 
     /// The samples as words.
@@ -161,9 +135,7 @@ impl Bits {
     pub fn to_bytes(&self, alloc: Global) -> Result<Vec<u8>, AllocError>
         ensures { IfOk result (λ bytes. bytes.items ≡ self.now) }
     {
-        let mut bytes = all_samples(alloc, self.bytes.as_slice())?;
-        bytes.truncate(self.count);
-        Ok(bytes)
+        rows_to_samples(alloc, self.bytes.as_slice(), 1, self.count)
     }
 
     /// Exchanges black and white, in place.
@@ -185,55 +157,81 @@ impl Bits {
         ensures appended { OnOk result (self.new ≡ self.old ++ take count (drop start from.now)) }
         ensures failed { OnErr result (self.new ≡ self.old) }
     {
+        self.append_pixels(from.bytes.as_slice(), start, count)
+    }
+
+    /// Appends a run of so many pixels of bytes, from the start on.
+    ///
+    /// # Errors
+    ///
+    /// As `append`.
+    pub fn append_pixels(
+        &mut self,
+        from: &[u8],
+        start: usize,
+        count: usize,
+    ) -> Result<(), AllocError>
+        requires { start + count ≤ 8 * length from.now }
+        ensures appended { OnOk result (self.new ≡ self.old ++ take count (drop start (all_pixels from.now))) }
+        ensures failed { OnErr result (self.new ≡ self.old) }
+    {
         let held = self.count;
-        if held >= PIXELS_BEYOND_MEMORY || from.count >= PIXELS_BEYOND_MEMORY {
+        if held >= PIXELS_BEYOND_MEMORY || from.len() >= PIXELS_BEYOND_MEMORY / 8 {
             return Err(AllocError);
         }
         self.bytes.resize((held + count).div_ceil(8), 0)?;
-        place_run(
-            self.bytes.as_mut_slice(),
-            held,
-            from.bytes.as_slice(),
-            start,
-            count,
-        );
+        place_run(self.bytes.as_mut_slice(), held, from, start, count);
         clear_spare(self.bytes.as_mut_slice(), held + count);
         self.count = held + count;
         Ok(())
     }
+
+    /// Lets all pixels go, and keeps their memory.
+    pub fn clear(&mut self)
+        ensures { self.new ≡ [] }
+    {
+        self.bytes.clear();
+        self.count = 0;
+    }
+}
+
+/// A pixel of bytes.
+pub(crate) fn pixel_of(bytes: &[u8], at: usize) -> u16
+    requires { at < 8 * length bytes.now }
+    ensures { result ≡ slice_index (all_pixels bytes.now) at }
+{
+    u16::from(pixel_at((7 - at % 8) as u32, bytes[at / 8]))
+}
+
+/// Whether the first so many pixels of bytes, or all, are black.
+pub(crate) fn are_black(bytes: &[u8], count: usize) -> bool
+    ensures { IsTrue result ↔ All (λ sample. sample ≤ 0) (take count (all_pixels bytes.now)) }
+{
+    for at in 0..count {
+        if at / 8 >= bytes.len() {
+            return true;
+        }
+        if pixel_of(bytes, at) > 0 {
+            return false;
+        }
+    }
+    true
 }
 
 /// More pixels than there is memory for.
 const PIXELS_BEYOND_MEMORY: usize = 4_611_686_018_427_387_904;
 
 /// The bytes, of which it is known then that each one is below 256.
-fn bytes_of(bytes: &[u8]) -> &[u8]
+pub(crate) fn bytes_of(bytes: &[u8]) -> &[u8]
     ensures same { result.now ≡ bytes.now }
     ensures fit { AreBytes result.now }
 {
     bytes
 }
 
-/// The samples of all pixels of bytes. The buffer is there first, and the stores of each byte's
-/// pixels then grow nothing.
-fn all_samples(alloc: Global, bytes: &[u8]) -> Result<Vec<u8>, AllocError>
-    ensures { IfOk result (λ samples. samples.items ≡ all_pixels bytes.now) }
-{
-    let Some(count) = bytes.len().checked_mul(8) else {
-        return Err(AllocError);
-    };
-    let mut samples = Vec::from_elem(alloc, 0, count)?;
-    let mut at = 0;
-    for byte in bytes {
-        store_pixels(&mut samples[at..at + 8], *byte);
-        at += 8;
-    }
-    Ok(samples)
-}
-
 /// Stores the pixels of a byte as samples.
 #[tactic(auto, unfolding(crate::specs::Pixels::pixels))]
-fn store_pixels(samples: &mut [u8], byte: u8)
+pub(crate) fn store_pixels(samples: &mut [u8], byte: u8)
     requires { length samples.old ≡ 8 }
     ensures { samples.new ≡ pixels byte }
 {
@@ -256,7 +254,7 @@ fn pixel_at(bit: u32, byte: u8) -> u8
 }
 
 /// Exchanges black and white.
-fn complement(bytes: &mut [u8])
+pub(crate) fn complement(bytes: &mut [u8])
     ensures { all_pixels bytes.new ≡ map (λ s. 1 - s) (all_pixels bytes.old) }
 {
     for byte in bytes.iter_mut() {
@@ -284,7 +282,7 @@ fn whiten_spare(byte: u8, kept: u32) -> u8
 }
 
 /// Makes the pixels white that come after so many.
-fn clear_spare(bytes: &mut [u8], count: usize)
+pub(crate) fn clear_spare(bytes: &mut [u8], count: usize)
     requires { length bytes.old ≡ (count + 7) / 8 }
     ensures kept { take count (all_pixels bytes.new) ≡ take count (all_pixels bytes.old) }
     ensures spare { ArePacked count bytes.new }
@@ -337,7 +335,7 @@ fn fill_whole(buffer: &mut [u8], from: &[u8], start: usize)
 }
 
 /// Fills the buffer with a run of so many pixels, from the start on.
-fn fill_run(buffer: &mut [u8], from: &[u8], start: usize, count: usize)
+pub(crate) fn fill_run(buffer: &mut [u8], from: &[u8], start: usize, count: usize)
     requires buffer { length buffer.old ≡ (count + 7) / 8 }
     requires run { start + count ≤ 8 * length from.now }
     requires fits { start + count < 2 ^ 64 }

@@ -5,6 +5,7 @@
 //! 16 bits.
 #![tactic(auto)]
 
+mod bit_rows;
 mod bits;
 mod block;
 mod bounds;
@@ -15,6 +16,7 @@ mod samples;
 mod transpose;
 mod widths;
 
+pub use bit_rows::BitRows;
 pub use bits::Bits;
 pub use bounds::{are_bytes_within, are_words_within, greatest, greatest_byte};
 pub use packing::pack;
@@ -22,3 +24,4 @@ pub use pixel_rows::PixelRows;
 pub use sample::Sample;
 pub use samples::{SampleSlice, SampleVec, Samples};
 pub use transpose::columns;
+pub use widths::bytes_to_words;

@@ -6,6 +6,7 @@ ghost use Rattle.pnm_samples.specs.Columns.{HoldsFrom};
 ghost use Rattle.pnm_samples.specs.Cuts.{cut_rows};
 ghost use Rattle.pnm_samples.specs.PixelRows.{bytes_for, rows_of_bytes};
 
+use crate::bit_rows::BitRows;
 use crate::bits::Bits;
 use std::alloc::{AllocError, Global};
 use std::marker::Model;
@@ -63,18 +64,32 @@ impl PixelRows {
         ensures added { OnOk result (self.new ≡ self.old ++ row.now ∷ []) }
         ensures unchanged { OnErr result (self.new ≡ self.old) }
     {
-        self.push_rows(row, 1, row.len())
+        self.add(row.as_bytes(), 1, row.len())
     }
 
-    /// Adds so many rows of so many pixels each, which are held one after another, at the end.
+    /// Adds the rows at the end.
     ///
     /// # Errors
     ///
     /// Where there is no memory for them, they aren't as long as the others, or these are reversed. Then
     /// nothing has changed.
-    pub fn push_rows(&mut self, pixels: &Bits, count: usize, each: usize) -> Result<(), AllocError>
-        requires { length pixels.now ≡ count * each }
-        ensures added { OnOk result (self.new ≡ self.old ++ cut_rows count each pixels.now) }
+    pub fn push_rows(&mut self, rows: &BitRows) -> Result<(), AllocError>
+        ensures added { OnOk result (self.new ≡ self.old ++ rows.now) }
+        ensures unchanged { OnErr result (self.new ≡ self.old) }
+    {
+        let (bytes, count, each) = rows.parts();
+        self.add(bytes, count, each)
+    }
+
+    /// Adds so many rows of so many pixels each at the end, which are held one after another, each from a byte's start
+    /// on.
+    ///
+    /// # Errors
+    ///
+    /// As `push_rows`.
+    fn add(&mut self, bytes: &[u8], count: usize, each: usize) -> Result<(), AllocError>
+        requires { length bytes.now ≡ count * bytes_for each }
+        ensures added { OnOk result (self.new ≡ self.old ++ rows_of_bytes count each bytes.now) }
         ensures unchanged { OnErr result (self.new ≡ self.old) }
     {
         if self.is_reversed {
@@ -86,7 +101,7 @@ impl PixelRows {
         let Some(total) = self.count.checked_add(count) else {
             return Err(AllocError);
         };
-        add_rows(&mut self.bytes, pixels, count, each)?;
+        self.bytes.extend_from_slice(bytes)?;
         self.each = each;
         self.count = total;
         Ok(())
@@ -114,33 +129,4 @@ impl PixelRows {
         };
         &self.bytes[place * self.each.div_ceil(8) + byte..]
     }
-}
-
-/// Adds so many rows of so many pixels each, which are held one after another, each from a byte's start on.
-///
-/// # Errors
-///
-/// Where there is no memory for them. Then nothing has changed.
-fn add_rows(bytes: &mut Vec<u8>, pixels: &Bits, count: usize, each: usize) -> Result<(), AllocError>
-    requires { length pixels.now ≡ count * each }
-    ensures before { take (length bytes.old.items) bytes.new.items ≡ bytes.old.items }
-    ensures many { OnOk result (length bytes.new.items ≡ length bytes.old.items + count * bytes_for each) }
-    ensures added { OnOk result
-        (rows_of_bytes count each (drop (length bytes.old.items) bytes.new.items) ≡ cut_rows count each pixels.now) }
-    ensures unchanged { OnErr result (bytes.new.items ≡ bytes.old.items) }
-{
-    if each % 8 == 0 {
-        return bytes.extend_from_slice(pixels.as_bytes());
-    }
-    // No effect at run time: a proof learns of this that the pixels are as many as this machine can count.
-    let _ = pixels.len();
-    let held = bytes.len();
-    bytes.reserve(count * each.div_ceil(8))?;
-    for row in 0..count {
-        if let Err(fault) = pixels.append_run_to(row * each, each, bytes) {
-            bytes.truncate(held);
-            return Err(fault);
-        }
-    }
-    Ok(())
 }

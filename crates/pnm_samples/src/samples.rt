@@ -1,9 +1,9 @@
 //! The samples of a row.
 
 ghost use Rattle.std.specs.Prelude.{◌≡◌, ◌≤◌, ◌↔◌, ◌+◌, ◌<◌, All, IfOk, IsTrue, take, drop, length, slice_index};
-ghost use Rattle.pnm_samples.specs.SampleVecs.{samples_of, slice_samples};
+ghost use Rattle.pnm_samples.specs.SampleVecs.{HasWhiteSpare, samples_of, slice_samples};
 
-use crate::bits::Bits;
+use crate::bits::{Bits, are_black, pixel_of};
 use crate::bounds::{GREATEST_BYTE, GREATEST_WORD, are_bytes_within, are_words_within};
 use crate::packing::pack;
 use crate::widths::{bytes_to_words, words_to_bytes};
@@ -24,12 +24,61 @@ pub enum SampleVec {
 /// Samples that are lent, as wide as they are held.
 #[derive(Clone, Copy, Debug)]
 pub enum SampleSlice<'a> {
-    /// Each is 0 or 1.
-    Bits(&'a Bits),
+    /// Each is 0 or 1: so many pixels of these bytes, the first ones.
+    Bits(&'a [u8], usize),
     /// Each is at most 255.
     Bytes(&'a [u8]),
     /// Each is at most 65,535.
     Words(&'a [u16]),
+}
+
+impl SampleVec {
+    /// The samples, lent.
+    pub fn as_slice(&self) -> SampleSlice<'_>
+        ensures samples { slice_samples result ≡ samples_of self.now }
+        ensures spare { HasWhiteSpare result }
+    {
+        match self {
+            SampleVec::Bits(bits) => SampleSlice::Bits(bits.as_bytes(), bits.len()),
+            SampleVec::Bytes(bytes) => SampleSlice::Bytes(bytes.as_slice()),
+            SampleVec::Words(words) => SampleSlice::Words(words.as_slice()),
+        }
+    }
+}
+
+impl SampleSlice<'_> {
+    /// The sample at a place, counted from 0.
+    pub fn sample(self, at: usize) -> u16
+        requires { at < length (slice_samples self) }
+        ensures { result ≡ slice_index (slice_samples self.entry) at }
+    {
+        match self {
+            SampleSlice::Bits(bytes, _) => pixel_of(bytes, at),
+            SampleSlice::Bytes(bytes) => u16::from(bytes[at]),
+            SampleSlice::Words(words) => words[at],
+        }
+    }
+
+    /// Whether no sample is above this number. No pixel is looked at where none can be.
+    pub fn are_within(self, most: u32) -> bool
+        ensures { IsTrue result ↔ All (λ sample. sample ≤ most) (slice_samples self.entry) }
+    {
+        match self {
+            SampleSlice::Bits(bytes, count) => most > 0 || are_black(bytes, count),
+            SampleSlice::Bytes(bytes) => are_bytes_within(bytes, most),
+            SampleSlice::Words(words) => are_words_within(words, most),
+        }
+    }
+
+    /// Fills the buffer with samples, from one on.
+    pub fn copy_to(self, start: usize, buffer: &mut [u16])
+        requires { start + length buffer.old ≤ length (slice_samples self) }
+        ensures { buffer.new ≡ take (length buffer.old) (drop start (slice_samples self.entry)) }
+    {
+        for i in 0..buffer.len() {
+            buffer[i] = self.sample(start + i);
+        }
+    }
 }
 
 /// The samples of a row: columns left to right, and in each column the planes in order. It knows a
@@ -86,13 +135,19 @@ impl Samples {
 
     /// How the samples are held, lent.
     pub fn as_slice(&self) -> SampleSlice<'_>
-        ensures { slice_samples result ≡ self.now }
+        ensures samples { slice_samples result ≡ self.now }
+        ensures spare { HasWhiteSpare result }
     {
-        match &self.held {
-            SampleVec::Bits(bits) => SampleSlice::Bits(bits),
-            SampleVec::Bytes(bytes) => SampleSlice::Bytes(bytes.as_slice()),
-            SampleVec::Words(words) => SampleSlice::Words(words.as_slice()),
-        }
+        self.held.as_slice()
+    }
+
+    /// A number that no sample is above.
+    pub fn bound(&self) -> u32
+        ensures { All (λ sample. sample ≤ result) self.now }
+    {
+        // No effect at run time: a proof learns of this that none of those held is above it.
+        let _ = &self.held;
+        self.bound
     }
 
     /// How many samples these are.
@@ -111,23 +166,7 @@ impl Samples {
         requires { at < length self.now }
         ensures { result ≡ slice_index self.now at }
     {
-        match &self.held {
-            SampleVec::Bits(bits) => bits.pixel(at),
-            SampleVec::Bytes(bytes) => u16::from(bytes[at]),
-            SampleVec::Words(words) => words[at],
-        }
-    }
-
-    /// Fills the buffer with samples, from one on.
-    pub fn copy_to(&self, start: usize, buffer: &mut [u16])
-        requires { start + length buffer.old ≤ length self.now }
-        ensures { buffer.new ≡ take (length buffer.old) (drop start self.now) }
-    {
-        // No effect at run time: a proof learns of this that the row's length is a number of this machine.
-        let _ = self.len();
-        for i in 0..buffer.len() {
-            buffer[i] = self.sample(start + i);
-        }
+        self.as_slice().sample(at)
     }
 
     /// Whether no sample is above this number. No sample is looked at where none can be.
@@ -135,14 +174,7 @@ impl Samples {
     pub fn are_within(&self, most: u32) -> bool
         ensures { IsTrue result ↔ All (λ sample. sample ≤ most) self.now }
     {
-        if self.bound <= most {
-            return true;
-        }
-        match &self.held {
-            SampleVec::Bits(bits) => bits.are_within(most),
-            SampleVec::Bytes(bytes) => are_bytes_within(bytes.as_slice(), most),
-            SampleVec::Words(words) => are_words_within(words.as_slice(), most),
-        }
+        self.bound <= most || self.as_slice().are_within(most)
     }
 
     /// The samples as bits, without a copy where they are held so.

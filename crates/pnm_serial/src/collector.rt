@@ -191,6 +191,5 @@ fn let_go(parcel: Parcel, spares: &mut SpareRows) {
 /// Lets the rows go: they are a spare row then. It stands apart, since a message alone is let go most often.
 #[inline(never)]
 fn let_rows_go(rows: Rows, spares: &mut SpareRows) {
-    let (samples, _, _) = rows.into_parts();
-    spares.keep(samples);
+    spares.keep_rows(rows);
 }

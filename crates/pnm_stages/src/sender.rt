@@ -7,7 +7,7 @@ ghost use Rattle.pnm_stages.specs.Rings.{sent, known_free, kept_free, SameSender
 
 use crate::ring::AnyMessage;
 use crate::wakers::SenderWaker;
-use pnm_image::{Message, Parcel, Rows, SampleSlice, Samples};
+use pnm_image::{Message, Parcel, RowSlice, Rows, SampleSlice, Samples};
 use rtrb::Producer;
 use std::alloc::Global;
 use std::sync::Wait;
@@ -238,8 +238,8 @@ impl Sender {
 /// waited for.
 fn bytes_of(parcel: &Parcel) -> Option<usize> {
     match parcel {
-        Parcel::Message(Message::Row(row)) => Some(held_bytes(row)),
-        Parcel::Rows(rows) => match held_bytes(rows.samples()) {
+        Parcel::Message(Message::Row(row)) => Some(row_bytes(row)),
+        Parcel::Rows(rows) => match rows_bytes(rows) {
             0..=FEW_TOGETHER => Some(0),
             bytes => Some(bytes),
         },
@@ -248,12 +248,21 @@ fn bytes_of(parcel: &Parcel) -> Option<usize> {
     }
 }
 
-/// The bytes in which the samples are held.
-fn held_bytes(samples: &Samples) -> usize {
-    match samples.as_slice() {
-        SampleSlice::Bits(bits) => bits.as_bytes().len(),
+/// The bytes in which a row is held.
+fn row_bytes(row: &Samples) -> usize {
+    match row.as_slice() {
+        SampleSlice::Bits(bytes, _) => bytes.len(),
         SampleSlice::Bytes(bytes) => bytes.len(),
         SampleSlice::Words(words) => words.len().saturating_mul(2),
+    }
+}
+
+/// The bytes in which rows are held.
+fn rows_bytes(rows: &Rows) -> usize {
+    match rows.as_slice() {
+        RowSlice::Bits(bits) => bits.parts().0.len(),
+        RowSlice::Bytes(bytes) => bytes.len(),
+        RowSlice::Words(words) => words.len().saturating_mul(2),
     }
 }
 

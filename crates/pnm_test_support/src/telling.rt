@@ -104,9 +104,9 @@ pub fn tell_all<T: fmt::Display>(told: &mut String, all: &[T]) -> Result<(), All
 }
 
 /// How the samples of a row are held.
-pub fn width_of(row: &Samples) -> &'static str {
-    match row.as_slice() {
-        SampleSlice::Bits(_) => " bits",
+pub fn width_of(row: SampleSlice<'_>) -> &'static str {
+    match row {
+        SampleSlice::Bits(_, _) => " bits",
         SampleSlice::Bytes(_) => " bytes",
         SampleSlice::Words(_) => " words",
     }

@@ -3,7 +3,7 @@
 use super::messages::{Unmade, held_by, messages_of};
 use super::telling::{tell_message, tell_row};
 use super::writing::cut_at;
-use pnm_image::{Message, Parcel, Rows, Samples};
+use pnm_image::{BitRows, Bits, Message, Parcel, RowVec, Rows, SampleVec, Samples};
 use std::alloc::{AllocError, Global};
 
 /// What is handed over at once.
@@ -46,7 +46,7 @@ pub fn rows_of(alloc: Global, text: &[u8], is_narrow: bool) -> Result<Rows, Unma
         add_samples(message, row_length, &mut samples)?;
     }
     let samples = held_by(alloc, samples.as_slice(), is_narrow)?;
-    cut_into(samples, messages.len(), row_length)
+    cut_into(alloc, samples, messages.len(), row_length)
 }
 
 /// How long a row is, 0 for another message.
@@ -72,16 +72,42 @@ fn add_samples(message: &Message, row_length: usize, samples: &mut Vec<u16>) -> 
 }
 
 /// The samples as so many rows of this length.
-fn cut_into(samples: Samples, count: usize, row_length: usize) -> Result<Rows, Unmade> {
-    let Ok(count) = u32::try_from(count) else {
+fn cut_into(
+    alloc: Global,
+    samples: Samples,
+    count: usize,
+    row_length: usize,
+) -> Result<Rows, Unmade> {
+    let Ok(rows) = u32::try_from(count) else {
         return Err(Unmade);
     };
-    match (count as usize).checked_mul(row_length) {
-        Some(size) if count > 0 && size == samples.len() => {
-            Ok(Rows::new(samples, count, row_length))
-        }
-        _ => Err(Unmade),
+    match count.checked_mul(row_length) {
+        Some(size) if count > 0 && size == samples.len() => {}
+        _ => return Err(Unmade),
     }
+    let bound = samples.bound();
+    let held = match samples.into_vec() {
+        SampleVec::Bits(bits) => RowVec::Bits(rows_of_bits(alloc, &bits, count, row_length)?),
+        SampleVec::Bytes(bytes) => RowVec::Bytes(bytes),
+        SampleVec::Words(words) => RowVec::Words(words),
+    };
+    Ok(Rows::new(held, bound, rows, row_length))
+}
+
+/// The pixels as so many rows of this length.
+fn rows_of_bits(
+    alloc: Global,
+    pixels: &Bits,
+    count: usize,
+    row_length: usize,
+) -> Result<BitRows, AllocError> {
+    let mut bytes = Vec::new(alloc);
+    for row in 0..count {
+        let mut one = Bits::empty(alloc);
+        one.append(pixels, row * row_length, row_length)?;
+        bytes.extend_from_slice(one.as_bytes())?;
+    }
+    Ok(BitRows::new(bytes, count, row_length))
 }
 
 /// Adds the rows, between braces.

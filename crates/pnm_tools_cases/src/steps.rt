@@ -230,7 +230,7 @@ fn tell_taken(
     match (step, parcel) {
         (Step::Passes, Parcel::Message(message)) => tell_message(told, message),
         (Step::Passes, Parcel::Rows(rows)) => tell_each_row(alloc, told, rows),
-        (Step::Widths, Parcel::Message(Message::Row(row))) => told.push_str(width_of(row)),
+        (Step::Widths, Parcel::Message(Message::Row(row))) => told.push_str(width_of(row.as_slice())),
         (Step::Widths, Parcel::Rows(rows)) => tell_widths(rows, told),
         _ => Ok(()),
     }
@@ -238,8 +238,8 @@ fn tell_taken(
 
 /// Adds of each of the rows how wide it is held.
 fn tell_widths(rows: &Rows, told: &mut String) -> Result<(), AllocError> {
-    for _ in 0..rows.count() {
-        told.push_str(width_of(rows.samples()))?;
+    for at in 0..rows.count() {
+        told.push_str(width_of(rows.row_slice(at)))?;
     }
     Ok(())
 }

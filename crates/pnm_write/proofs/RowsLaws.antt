@@ -12,6 +12,10 @@ use Rattle.pnm_image.specs.Heads.{row_length}
 use Rattle.pnm_image.specs.Places.{IsRowOf}
 use Rattle.pnm_image.specs.SampleWidths.{sample_width_of}
 use Rattle.pnm_samples.proofs.PackLaws.{packed_parts}
+use Rattle.std.proofs.Common.{All}
+use Rattle.std.proofs.lemmas.List.Elements.{All-append, All-from_recursion, All-nil, All-weaker}
+use Rattle.pnm_image.specs.Images.{cut_rows}
+use Rattle.pnm_image.proofs.RowLaws.{concat-cut_rows}
 use Rattle.pnm_write.specs.Encoding.{packed_bytes, bytes_in, row_bytes, rows_bytes, AreWholeBytes}
 
 -- the bytes of a row of whole bytes, and those of the samples after it
@@ -46,27 +50,16 @@ pub joined_rows : (s : Shape) (rows : List (List ℕ)) → AllByRecursion (IsRow
     → row_bytes Raw s (concat rows) ≡ rows_bytes Raw s rows
 joined_rows s rows are whole = joined_bytes (sample_width_of s.kind s.maxval) (row_length s) rows (lengths s rows are) whole
 
--- ---- one row after another
+-- the rows of a shape have its row length
+pub long_rows : (s : Shape) (rows : List (List ℕ)) → AllByRecursion (IsRowOf s) rows → All (λ row. length row ≡ row_length s) rows
+long_rows s rows are = All-weaker (IsRowOf s) (λ (row : List ℕ). length row ≡ row_length s) (λ row h. h.count) rows (All-from_recursion (IsRowOf s) rows are)
 
--- the row that is written now is a part of all samples, and those after it are the rest
-pub record IsNextRow (each start y : ℕ) (rows : List (List ℕ)) (samples : List ℕ) : Type 0 where
-  pub within : start + each ≤ length samples
-  pub bytes : (encode : List ℕ → List ℕ) → flat_map encode (drop y rows) ≡ encode (take each (drop start samples)) ++ flat_map encode (drop (y + 1) rows)
-  pub rest : drop (start + each) samples ≡ concat (drop (y + 1) rows)
+-- none of their samples is above its maxval
+pub range_of_rows : (s : Shape) (rows : List (List ℕ)) → AllByRecursion (IsRowOf s) rows → All (λ sample. sample ≤ s.maxval) (concat rows)
+range_of_rows s [] are = All-nil (λ sample. sample ≤ s.maxval)
+range_of_rows s (row ∷ rows) are = All-append (λ sample. sample ≤ s.maxval) row (concat rows) are.0.range (range_of_rows s rows are.1)
 
-pub next_row : (each start y : ℕ) (rows : List (List ℕ)) (samples : List ℕ) → All (λ row. length row ≡ each) rows → y < length rows → start ≤ length samples
-    → drop start samples ≡ concat (drop y rows) → IsNextRow each start y rows samples
-next_row each start y rows samples long more within left =
-    let row : List ℕ = get_or rows y [] in
-    let later : List (List ℕ) = drop (y + 1) rows in
-    let here : drop y rows ≡ row ∷ later = drop_more rows y [] more in
-    let size : length row ≡ each = long y [] more in
-    let parts : drop start samples ≡ row ++ concat later = left ∙ ap concat here in
-    let sizes : length samples - start ≡ length row + length (concat later) =
-    sym (length-drop start samples) ∙ ap length parts ∙ length-append row (concat later) in
-    let first : take each (drop start samples) ≡ row = ap (take each) parts ∙ take_at row (concat later) each size in
-    record {
-      within = omega (arith, within, sizes, size);
-      bytes = λ encode. ap (flat_map encode) here ∙ ap (λ (l : List ℕ). encode l ++ flat_map encode later) (sym first);
-      rest = sym (drop-drop each start samples) ∙ ap (drop each) parts ∙ drop_at row (concat later) each size;
-    }
+-- samples that are cut into rows are all of these rows
+pub joined_of_cut : (each : ℕ) (samples : List ℕ) (rows : List (List ℕ)) → cut_rows (length rows) each samples ≡ rows → length samples ≡ length rows * each
+    → samples ≡ concat rows
+joined_of_cut each samples rows is whole = sym (concat-cut_rows (length rows) each samples whole) ∙ ap concat is

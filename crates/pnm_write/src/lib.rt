@@ -13,7 +13,6 @@ mod plain;
 mod raw;
 mod row;
 mod rows;
-mod runs;
 mod sink;
 mod write_buffer;
 

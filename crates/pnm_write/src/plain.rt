@@ -5,14 +5,16 @@ ghost use Rattle.std.specs.Io.KnownBytes.{Appends};
 ghost use Rattle.pnm_image.specs.Devices.{FailsIn};
 ghost use Rattle.pnm_image.specs.declared.shape.Kind.{Kind};
 ghost use Rattle.pnm_samples.specs.Pixels.{all_pixels};
+ghost use Rattle.pnm_samples.specs.SampleVecs.{HasWhiteSpare, slice_samples};
 ghost use Rattle.pnm_write.specs.PlainRows.{sample_text, plain_row_text};
 ghost use Rattle.pnm_write.specs.PlainParts.{column_after, word_in_line, text_of_part, column_after_part, sample_texts};
 ghost use Rattle.pnm_write.specs.PlainParts.{row_end};
 
 use crate::numerals::MAX_LINE_LENGTH;
+use crate::row::count_of;
 use crate::write_buffer::WriteBuffer;
 use itoa::Buffer;
-use pnm_image::{BytesOut, DeviceFailed, Kind, SampleSlice, Samples, Shape, write_all};
+use pnm_image::{BytesOut, DeviceFailed, Kind, SampleSlice, Shape, write_all};
 
 /// The most samples that are written at a time. Each has up to five digits, and a byte before it.
 const MOST_SAMPLES: usize = 680;
@@ -25,71 +27,27 @@ pub fn write_lines<W: BytesOut>(
     writer: &mut W,
     buffer: &mut WriteBuffer,
     shape: Shape,
-    row: &Samples,
+    row: SampleSlice<'_>,
 ) -> Result<(), DeviceFailed>
-    requires { All (λ sample. sample ≤ shape.maxval) row.now }
+    requires range { All (λ sample. sample ≤ shape.maxval) (slice_samples row) }
+    requires spare { HasWhiteSpare row }
     ensures written { OnOk result
-        (Appends (W.held writer.old) (W.held writer.new) (plain_row_text shape.kind row.now)) }
+        (Appends (W.held writer.old) (W.held writer.new) (plain_row_text shape.kind (slice_samples row.entry))) }
     ensures failed { OnErr result
-        (FailsIn (plain_row_text shape.kind row.now) (W.held writer.old) (W.held writer.new)
+        (FailsIn (plain_row_text shape.kind (slice_samples row.entry)) (W.held writer.old) (W.held writer.new)
         (W.failures writer.old) (W.failures writer.new)) }
     ensures count { OnOk result (W.failures writer.new ≡ W.failures writer.old) }
     ensures same_device { W.same writer.old writer.new }
 {
-    match (shape.kind, row.as_slice()) {
-        (Kind::Bit, SampleSlice::Bits(pixels)) => write_pixels(
-            writer,
-            buffer,
-            pixels.as_bytes(),
-            pixels.len(),
-        ),
+    match (shape.kind, row) {
+        (Kind::Bit, SampleSlice::Bits(bytes, count)) => write_pixels(writer, buffer, bytes, count),
         (Kind::Gray | Kind::Color | Kind::Pam, SampleSlice::Bytes(bytes)) => write_bytes(
             writer, buffer, bytes,
         ),
         (Kind::Gray | Kind::Color | Kind::Pam, SampleSlice::Words(words)) => write_words(
             writer, buffer, words,
         ),
-        _ => write_others(writer, buffer, shape, row, 0, row.len()),
-    }
-}
-
-/// Writes a row of so many samples from one on, of samples that hold several rows of an image of this shape.
-pub fn write_lines_from<W: BytesOut>(
-    writer: &mut W,
-    buffer: &mut WriteBuffer,
-    shape: Shape,
-    samples: &Samples,
-    start: usize,
-    count: usize,
-) -> Result<(), DeviceFailed>
-    requires within { start + count ≤ length samples.now }
-    requires range { All (λ sample. sample ≤ shape.maxval) samples.now }
-    ensures written { OnOk result (Appends (W.held writer.old) (W.held writer.new)
-        (plain_row_text shape.kind (take count (drop start samples.now)))) }
-    ensures failed { OnErr result
-        (FailsIn (plain_row_text shape.kind (take count (drop start samples.now)))
-        (W.held writer.old) (W.held writer.new) (W.failures writer.old) (W.failures writer.new)) }
-    ensures count { OnOk result (W.failures writer.new ≡ W.failures writer.old) }
-    ensures same_device { W.same writer.old writer.new }
-{
-    match (shape.kind, samples.as_slice()) {
-        (Kind::Bit, SampleSlice::Bits(pixels)) if start % 8 == 0 => write_pixels(
-            writer,
-            buffer,
-            &pixels.as_bytes()[start / 8..],
-            count,
-        ),
-        (Kind::Gray | Kind::Color | Kind::Pam, SampleSlice::Bytes(bytes)) => write_bytes(
-            writer,
-            buffer,
-            &bytes[start..start + count],
-        ),
-        (Kind::Gray | Kind::Color | Kind::Pam, SampleSlice::Words(words)) => write_words(
-            writer,
-            buffer,
-            &words[start..start + count],
-        ),
-        _ => write_others(writer, buffer, shape, samples, start, count),
+        _ => write_others(writer, buffer, shape, row, count_of(row)),
     }
 }
 
@@ -176,37 +134,34 @@ fn write_words<W: BytesOut>(
     Ok(())
 }
 
-/// Writes a row of so many samples from one on, which are held otherwise than their kind is. It stands in no other
-/// function's frame, since these would have room for its samples too.
+/// Writes a row of so many samples, which are held otherwise than their kind is. It stands in no other function's frame,
+/// since these would have room for its samples too.
 #[inline(never)]
 fn write_others<W: BytesOut>(
     writer: &mut W,
     buffer: &mut WriteBuffer,
     shape: Shape,
-    samples: &Samples,
-    start: usize,
+    row: SampleSlice<'_>,
     count: usize,
 ) -> Result<(), DeviceFailed>
-    requires within { start + count ≤ length samples.now }
-    requires range { All (λ sample. sample ≤ shape.maxval) samples.now }
-    ensures written { OnOk result (Appends (W.held writer.old) (W.held writer.new)
-        (plain_row_text shape.kind (take count (drop start samples.now)))) }
+    requires count { length (slice_samples row) ≡ count }
+    requires range { All (λ sample. sample ≤ shape.maxval) (slice_samples row) }
+    ensures written { OnOk result
+        (Appends (W.held writer.old) (W.held writer.new) (plain_row_text shape.kind (slice_samples row.entry))) }
     ensures failed { OnErr result
-        (FailsIn (plain_row_text shape.kind (take count (drop start samples.now)))
-        (W.held writer.old) (W.held writer.new) (W.failures writer.old) (W.failures writer.new)) }
+        (FailsIn (plain_row_text shape.kind (slice_samples row.entry)) (W.held writer.old) (W.held writer.new)
+        (W.failures writer.old) (W.failures writer.new)) }
     ensures count { OnOk result (W.failures writer.new ≡ W.failures writer.old) }
     ensures same_device { W.same writer.old writer.new }
 {
-    // No effect at run time: a proof learns of these that the maxval keeps the rules of shapes, and that the samples'
-    // length is a number of this machine.
+    // No effect at run time: a proof learns of this that the maxval keeps the rules of shapes.
     let _ = shape.maxval;
-    let _ = samples.len();
     let mut words = [0; MOST_SAMPLES];
     let mut column = 0;
     let mut done = 0;
     while done < count {
         let size = (count - done).min(MOST_SAMPLES);
-        samples.copy_to(start + done, &mut words[..size]);
+        row.copy_to(done, &mut words[..size]);
         column = set_part(buffer, shape.kind, column, &words[..size]);
         done += size;
         end_row(buffer, done == count);

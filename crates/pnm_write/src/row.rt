@@ -4,13 +4,13 @@ ghost use Rattle.std.specs.Prelude.{◌≡◌, ◌≤◌, ◌+◌, All, OnOk, On
 ghost use Rattle.std.specs.Io.KnownBytes.{Appends};
 ghost use Rattle.pnm_write.specs.Encoding.{row_bytes};
 ghost use Rattle.pnm_image.specs.Devices.{FailsIn};
+ghost use Rattle.pnm_samples.specs.Pixels.{AreBytes};
+ghost use Rattle.pnm_samples.specs.SampleVecs.{HasWhiteSpare, slice_samples};
 
-use crate::plain::{write_lines, write_lines_from};
+use crate::plain::write_lines;
 use crate::raw::most_samples;
 use crate::write_buffer::WriteBuffer;
-use pnm_image::{
-    BytesOut, DeviceFailed, Form, SampleSlice, SampleWidth, Samples, Shape, write_all,
-};
+use pnm_image::{BytesOut, DeviceFailed, Form, SampleSlice, SampleWidth, Shape, write_all};
 
 /// The most samples that are copied at a time, a number of whole bytes of pixels.
 const MOST_SAMPLES: usize = 2048;
@@ -22,13 +22,14 @@ pub fn write_samples<W: BytesOut>(
     buffer: &mut WriteBuffer,
     form: Form,
     shape: Shape,
-    row: &Samples,
+    row: SampleSlice<'_>,
 ) -> Result<(), DeviceFailed>
-    requires { All (λ sample. sample ≤ shape.maxval) row.now }
+    requires range { All (λ sample. sample ≤ shape.maxval) (slice_samples row) }
+    requires spare { HasWhiteSpare row }
     ensures written { OnOk result
-        (Appends (W.held writer.old) (W.held writer.new) (row_bytes form shape row.now)) }
+        (Appends (W.held writer.old) (W.held writer.new) (row_bytes form shape (slice_samples row.entry))) }
     ensures failed { OnErr result
-        (FailsIn (row_bytes form shape row.now) (W.held writer.old) (W.held writer.new)
+        (FailsIn (row_bytes form shape (slice_samples row.entry)) (W.held writer.old) (W.held writer.new)
         (W.failures writer.old) (W.failures writer.new)) }
     ensures count { OnOk result (W.failures writer.new ≡ W.failures writer.old) }
     ensures same_device { W.same writer.old writer.new }
@@ -39,93 +40,78 @@ pub fn write_samples<W: BytesOut>(
     }
 }
 
-/// Writes a row of so many samples from one on, of samples that hold several rows of an image of this shape.
-pub fn write_samples_from<W: BytesOut>(
-    writer: &mut W,
-    buffer: &mut WriteBuffer,
-    form: Form,
-    shape: Shape,
-    samples: &Samples,
-    start: usize,
-    count: usize,
-) -> Result<(), DeviceFailed>
-    requires within { start + count ≤ length samples.now }
-    requires range { All (λ sample. sample ≤ shape.maxval) samples.now }
-    ensures written { OnOk result (Appends (W.held writer.old) (W.held writer.new)
-        (row_bytes form shape (take count (drop start samples.now)))) }
-    ensures failed { OnErr result
-        (FailsIn (row_bytes form shape (take count (drop start samples.now)))
-        (W.held writer.old) (W.held writer.new) (W.failures writer.old) (W.failures writer.new)) }
-    ensures count { OnOk result (W.failures writer.new ≡ W.failures writer.old) }
-    ensures same_device { W.same writer.old writer.new }
-{
-    match form {
-        Form::Raw => write_others(writer, buffer, shape, samples, start, count),
-        Form::Plain => write_lines_from(writer, buffer, shape, samples, start, count),
-    }
-}
-
 /// Writes the samples of a raw row: as they are, where they are as wide as their bytes.
 #[inline(always)]
 fn write_raw<W: BytesOut>(
     writer: &mut W,
     buffer: &mut WriteBuffer,
     shape: Shape,
-    row: &Samples,
+    row: SampleSlice<'_>,
 ) -> Result<(), DeviceFailed>
-    requires { All (λ sample. sample ≤ shape.maxval) row.now }
+    requires range { All (λ sample. sample ≤ shape.maxval) (slice_samples row) }
+    requires spare { HasWhiteSpare row }
     ensures written { OnOk result
-        (Appends (W.held writer.old) (W.held writer.new) (row_bytes Form.Raw shape row.now)) }
+        (Appends (W.held writer.old) (W.held writer.new) (row_bytes Form.Raw shape (slice_samples row.entry))) }
     ensures failed { OnErr result
-        (FailsIn (row_bytes Form.Raw shape row.now) (W.held writer.old) (W.held writer.new)
+        (FailsIn (row_bytes Form.Raw shape (slice_samples row.entry)) (W.held writer.old) (W.held writer.new)
         (W.failures writer.old) (W.failures writer.new)) }
     ensures count { OnOk result (W.failures writer.new ≡ W.failures writer.old) }
     ensures same_device { W.same writer.old writer.new }
 {
-    match (SampleWidth::of(shape.kind, shape.maxval), row.as_slice()) {
-        (SampleWidth::Bits, SampleSlice::Bits(bits)) => write_all(writer, bits.as_bytes()),
+    match (SampleWidth::of(shape.kind, shape.maxval), row) {
+        (SampleWidth::Bits, SampleSlice::Bits(bytes, _)) => write_all(writer, bytes_of(bytes)),
         (SampleWidth::Bytes, SampleSlice::Bytes(bytes)) => write_all(writer, bytes),
         (_, SampleSlice::Words(words)) => write_words(writer, buffer, shape, words),
-        (_, SampleSlice::Bits(_) | SampleSlice::Bytes(_)) => write_others(
-            writer,
-            buffer,
-            shape,
-            row,
-            0,
-            row.len(),
-        ),
+        _ => write_others(writer, buffer, shape, row, count_of(row)),
     }
 }
 
-/// Writes so many samples from one on, which are held otherwise than their bytes, some at a time. It stands in no other
-/// function's frame, since these would have room for its samples too.
+/// The bytes, of which it is known then that each one is below 256.
+fn bytes_of(bytes: &[u8]) -> &[u8]
+    ensures same { result.now ≡ bytes.now }
+    ensures fit { AreBytes result.now }
+{
+    bytes
+}
+
+/// How many samples these are.
+pub fn count_of(row: SampleSlice<'_>) -> usize
+    requires { HasWhiteSpare row }
+    ensures { length (slice_samples row.entry) ≡ result }
+{
+    match row {
+        SampleSlice::Bits(_, count) => count,
+        SampleSlice::Bytes(bytes) => bytes.len(),
+        SampleSlice::Words(words) => words.len(),
+    }
+}
+
+/// Writes so many samples, which are held otherwise than their bytes, some at a time. It stands in no other function's
+/// frame, since these would have room for its samples too.
 #[inline(never)]
 fn write_others<W: BytesOut>(
     writer: &mut W,
     buffer: &mut WriteBuffer,
     shape: Shape,
-    samples: &Samples,
-    start: usize,
+    row: SampleSlice<'_>,
     count: usize,
 ) -> Result<(), DeviceFailed>
-    requires within { start + count ≤ length samples.now }
-    requires range { All (λ sample. sample ≤ shape.maxval) samples.now }
-    ensures written { OnOk result (Appends (W.held writer.old) (W.held writer.new)
-        (row_bytes Form.Raw shape (take count (drop start samples.now)))) }
+    requires count { length (slice_samples row) ≡ count }
+    requires range { All (λ sample. sample ≤ shape.maxval) (slice_samples row) }
+    ensures written { OnOk result
+        (Appends (W.held writer.old) (W.held writer.new) (row_bytes Form.Raw shape (slice_samples row.entry))) }
     ensures failed { OnErr result
-        (FailsIn (row_bytes Form.Raw shape (take count (drop start samples.now)))
-        (W.held writer.old) (W.held writer.new) (W.failures writer.old) (W.failures writer.new)) }
+        (FailsIn (row_bytes Form.Raw shape (slice_samples row.entry)) (W.held writer.old) (W.held writer.new)
+        (W.failures writer.old) (W.failures writer.new)) }
     ensures count { OnOk result (W.failures writer.new ≡ W.failures writer.old) }
     ensures same_device { W.same writer.old writer.new }
 {
-    // No effect at run time: a proof learns of this that the samples' length is a number of this machine.
-    let _ = samples.len();
     let sample_width = SampleWidth::of(shape.kind, shape.maxval);
     let mut words = [0; MOST_SAMPLES];
     let mut done = 0;
     while done < count {
         let size = (count - done).min(MOST_SAMPLES);
-        samples.copy_to(start + done, &mut words[..size]);
+        row.copy_to(done, &mut words[..size]);
         buffer.fill(sample_width, &words[..size]);
         write_all(writer, buffer.as_slice())?;
         done += size;

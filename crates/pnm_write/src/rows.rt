@@ -1,6 +1,6 @@
 //! Rows that are handed over together.
 
-ghost use Rattle.std.specs.Prelude.{◌≡◌, ◌↔◌, IsTrue, OnOk, OnErr};
+ghost use Rattle.std.specs.Prelude.{◌≡◌, ℕ, IsTrue, OnOk, OnErr};
 ghost use Rattle.std.specs.List.{AllByRecursion};
 ghost use Rattle.std.specs.Io.KnownBytes.{Appends};
 ghost use Rattle.pnm_image.specs.Devices.{FailsIn};
@@ -9,13 +9,13 @@ ghost use Rattle.pnm_image.specs.Places.{IsRowOf};
 ghost use Rattle.pnm_image.specs.SampleWidths.{sample_width_of};
 ghost use Rattle.pnm_write.specs.Encoding.{rows_bytes, AreWholeBytes};
 
-use crate::row::{write_samples, write_samples_from};
-use crate::runs::{MOST_PIXELS, write_runs};
+use crate::row::write_samples;
 use crate::write_buffer::WriteBuffer;
-use pnm_image::{BytesOut, DeviceFailed, Form, Rows, SampleSlice, SampleWidth, Shape};
+use pnm_image::{
+    BytesOut, DeviceFailed, Form, RowSlice, Rows, SampleSlice, SampleWidth, Shape, write_all,
+};
 
-/// Writes rows of an image of this shape: all at once, where their bytes are those of their samples in one row, and
-/// rows of pixels as many at a time as fit into the buffer.
+/// Writes rows of an image of this shape: all at once, where their bytes are those of their samples in one row.
 #[inline(never)]
 pub fn write_rows<W: BytesOut>(
     writer: &mut W,
@@ -34,17 +34,16 @@ pub fn write_rows<W: BytesOut>(
     ensures same_device { W.same writer.old writer.new }
 {
     let sample_width = SampleWidth::of(shape.kind, shape.maxval);
-    if form == Form::Raw && are_whole_bytes(sample_width, rows.row_length()) {
+    if form == Form::Raw && has_whole_samples(sample_width) {
         return write_joined(writer, buffer, shape, rows);
     }
-    match (form, sample_width, rows.samples().as_slice()) {
-        (Form::Raw, SampleWidth::Bits, SampleSlice::Bits(bits))
-            if rows.row_length() <= MOST_PIXELS => { write_runs(writer, buffer, shape, rows, bits) }
+    match (form, sample_width, rows.as_slice()) {
+        (Form::Raw, SampleWidth::Bits, RowSlice::Bits(bits)) => write_all(writer, bits.parts().0),
         _ => write_each(writer, buffer, form, shape, rows),
     }
 }
 
-/// Writes rows that are whole bytes in raw form, as one row.
+/// Writes rows of samples of whole bytes in raw form, as one row where they are held so.
 fn write_joined<W: BytesOut>(
     writer: &mut W,
     buffer: &mut WriteBuffer,
@@ -61,9 +60,15 @@ fn write_joined<W: BytesOut>(
     ensures count { OnOk result (W.failures writer.new ≡ W.failures writer.old) }
     ensures same_device { W.same writer.old writer.new }
 {
-    // No effect at run time: a proof learns of this that there is a row.
-    let _ = rows.row_length();
-    write_samples(writer, buffer, Form::Raw, shape, rows.samples())
+    match rows.as_slice() {
+        RowSlice::Bytes(bytes) => {
+            write_samples(writer, buffer, Form::Raw, shape, SampleSlice::Bytes(bytes))
+        }
+        RowSlice::Words(words) => {
+            write_samples(writer, buffer, Form::Raw, shape, SampleSlice::Words(words))
+        }
+        RowSlice::Bits(_) => write_each(writer, buffer, Form::Raw, shape, rows),
+    }
 }
 
 /// Writes one row after another.
@@ -83,23 +88,18 @@ fn write_each<W: BytesOut>(
     ensures count { OnOk result (W.failures writer.new ≡ W.failures writer.old) }
     ensures same_device { W.same writer.old writer.new }
 {
-    let (samples, row_length) = (rows.samples(), rows.row_length());
-    // No effect at run time: a proof learns of this that the samples' length is a number of this machine.
-    let _ = samples.len();
-    let mut start = 0;
-    for _ in 0..rows.count() {
-        write_samples_from(writer, buffer, form, shape, samples, start, row_length)?;
-        start += row_length;
+    for at in 0..rows.count() {
+        write_samples(writer, buffer, form, shape, rows.row_slice(at))?;
     }
     Ok(())
 }
 
-/// Whether rows of so many samples are whole bytes.
-fn are_whole_bytes(sample_width: SampleWidth, row_length: usize) -> bool
-    ensures { IsTrue result ↔ AreWholeBytes sample_width row_length }
+/// Whether a sample has bytes of its own, so that rows of any length are whole bytes.
+fn has_whole_samples(sample_width: SampleWidth) -> bool
+    ensures { IsTrue result → (each : ℕ) → AreWholeBytes sample_width each }
 {
     match sample_width {
-        SampleWidth::Bits => row_length % 8 == 0,
+        SampleWidth::Bits => false,
         SampleWidth::Bytes | SampleWidth::Words => true,
     }
 }

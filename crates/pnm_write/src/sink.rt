@@ -336,7 +336,7 @@ fn write_message<W: BytesOut>(
     match message {
         Message::Begin(head) => write_header(writer, buffer, form, head),
         Message::Row(row) => match place {
-            Place::Inside(shape, _) => write_samples(writer, buffer, form, shape, row),
+            Place::Inside(shape, _) => write_samples(writer, buffer, form, shape, row.as_slice()),
             Place::Between | Place::After => Ok(()),
         },
         Message::ImageEnd | Message::StreamEnd | Message::Stop => Ok(()),

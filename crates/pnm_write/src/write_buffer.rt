@@ -11,7 +11,7 @@ ghost use Rattle.pnm_write.specs.WriteBuffers.{most_samples, FitIn};
 use crate::numerals::{append_bytes, append_words};
 use crate::pixels::put_pixels;
 use crate::raw::encode;
-use pnm_image::{Bits, SampleWidth};
+use pnm_image::SampleWidth;
 use std::alloc::{AllocError, Global};
 use std::marker::Model;
 
@@ -66,18 +66,6 @@ impl WriteBuffer {
     {
         let end = self.length + part.len();
         self.bytes[self.length..end].copy_from_slice(part);
-        self.length = end;
-    }
-
-    /// Appends the bytes of a run of so many pixels of a row, from the start on.
-    pub fn push_run(&mut self, bits: &Bits, start: usize, count: usize)
-        requires run { start + count ≤ length bits.now }
-        requires room { length self.old + (count + 7) / 8 ≤ 4096 }
-        ensures bytes { self.new ≡ self.old ++ packed_bytes (take count (drop start bits.now)) }
-        ensures count { length self.new ≡ length self.old + (count + 7) / 8 }
-    {
-        let end = self.length + count.div_ceil(8);
-        bits.copy_run(start, count, &mut self.bytes[self.length..end]);
         self.length = end;
     }
 

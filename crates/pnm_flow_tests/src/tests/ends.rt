@@ -3,7 +3,7 @@
 use super::is_so;
 use super::rings::{holds, is_one_of, send_all};
 use pnm_flow::new_ring;
-use pnm_image::{Kind, Message, Parcel, Rows, SampleVec, Samples};
+use pnm_image::{Kind, Message, Parcel, RowVec, Rows, SampleVec, Samples};
 use pnm_stages::{Receiver, Sender};
 use pnm_test_support::{Part, message};
 use std::alloc::Global;
@@ -93,13 +93,13 @@ fn send_bytes(
     is_together: bool,
 ) -> bool {
     let row = Vec::from_elem(alloc, 0, bytes as usize).expect(rt, "a row");
-    let samples = Samples::from_vec(SampleVec::Bytes(row));
     if !sender.has_room() {
         return false;
     }
     if is_together && bytes > 0 {
-        sender.send_rows_reserved(Rows::new(samples, bytes, 1));
+        sender.send_rows_reserved(Rows::new(RowVec::Bytes(row), 255, bytes, 1));
     } else {
+        let samples = Samples::from_vec(SampleVec::Bytes(row));
         sender.send_reserved(Message::Row(samples));
     }
     true

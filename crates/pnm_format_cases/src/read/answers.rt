@@ -83,8 +83,7 @@ fn tell_handed(
     match handed {
         Handed::Rows(rows) => {
             let outcome = tell_rows(alloc, told, &rows);
-            let (samples, _, _) = rows.into_parts();
-            spares.keep(samples);
+            spares.keep_rows(rows);
             outcome
         }
         Handed::Message(message) => {

@@ -44,7 +44,7 @@ fn tell_both(alloc: Global, row: &Samples, told: &mut String) -> Result<(), Allo
 /// The greatest of the bytes or words of a row.
 fn greatest_of(row: &Samples) -> u32 {
     match row.as_slice() {
-        SampleSlice::Bits(_) => 1,
+        SampleSlice::Bits(_, _) => 1,
         SampleSlice::Bytes(bytes) => u32::from(greatest_byte(bytes)),
         SampleSlice::Words(words) => u32::from(greatest(words)),
     }

@@ -2,7 +2,7 @@
 
 use super::How;
 use super::made::{bits_of, packed};
-use pnm_samples::{Bits, PixelRows, columns};
+use pnm_samples::{BitRows, Bits, PixelRows, columns};
 use pnm_test_support::{Unmade, cut_number, tell_text};
 use std::alloc::{AllocError, Global};
 
@@ -88,14 +88,14 @@ fn appended(alloc: Global, held: usize, start: usize, count: usize) -> Result<Bi
     Ok(bits)
 }
 
-/// The pixels of a made-up image, row by row.
-fn image(alloc: Global, width: usize, height: usize) -> Result<Bits, AllocError> {
-    let mut pixels = Bits::empty(alloc);
+/// The rows of a made-up image.
+fn image(alloc: Global, width: usize, height: usize) -> Result<BitRows, AllocError> {
+    let mut bytes = Vec::new(alloc);
     for y in 0..height {
         let row = bits_of(alloc, y, width)?;
-        pixels.append(&row, 0, row.len())?;
+        bytes.extend_from_slice(row.as_bytes())?;
     }
-    Ok(pixels)
+    Ok(BitRows::new(bytes, height, width))
 }
 
 /// So many columns of an image of this height, from this byte on.
@@ -109,12 +109,8 @@ fn columns_of(
         return Err(Unmade);
     }
     let width = 8 * byte + count;
-    let pixels = image(alloc, width, height)?;
-    if pixels.len() != height * width {
-        return Err(Unmade);
-    }
     let mut rows = PixelRows::new(alloc);
-    rows.push_rows(&pixels, height, width)?;
+    rows.push_rows(&image(alloc, width, height)?)?;
     Ok(columns(alloc, &rows, byte, count)?)
 }
 

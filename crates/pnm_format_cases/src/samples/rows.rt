@@ -48,7 +48,7 @@ fn counted(
 /// Adds how a row is held, and how many samples it has.
 fn tell_width(row: &Samples, told: &mut String) -> Result<(), AllocError> {
     let (name, count) = match row.as_slice() {
-        SampleSlice::Bits(bits) => ("bits", bits.len()),
+        SampleSlice::Bits(_, count) => ("bits", count),
         SampleSlice::Bytes(bytes) => ("bytes", bytes.len()),
         SampleSlice::Words(words) => ("words", words.len()),
     };
@@ -108,6 +108,6 @@ pub fn tell_part(
         return Err(Unmade);
     }
     let part = &mut buffer[..count];
-    row.copy_to(start, &mut *part);
+    row.as_slice().copy_to(start, &mut *part);
     Ok(tell_all(told, part)?)
 }

@@ -129,27 +129,22 @@ fn tool_at_work(number: usize) -> (Tool, &'static [Part<'static>]) {
 
 /// The rows are made of the parts that are next among these.
 pub(super) fn are_wanted(rt: &impl Abort, rows: &Rows, wants: &[Part<'_>], given: &mut usize) {
-    let mut end = 0;
-    for _ in 0..rows.count() {
+    for at in 0..rows.count() {
         match wants.get(*given) {
-            Some(Part::Row(row)) => end = has_row(rt, rows, end, row),
+            Some(Part::Row(row)) => has_row(rt, rows, at, row),
             want => holds(rt, false, rows, &want, &"rows"),
         }
         *given = given.wrapping_add(1);
     }
-    holds(rt, rows.samples().len() == end, rows, &wants, &"all rows");
 }
 
-/// The samples of the rows from this one on are those of the row. The number of the next.
-fn has_row(rt: &impl Abort, rows: &Rows, start: usize, row: &[u16]) -> usize {
-    let samples = rows.samples();
-    let mut at = start;
-    for sample in row {
-        let is_so = at < samples.len() && samples.sample(at) == *sample;
-        holds(rt, is_so, rows, &row, &at);
-        at = at.wrapping_add(1);
+/// The samples of this one of the rows are those of the row.
+fn has_row(rt: &impl Abort, rows: &Rows, at: u32, row: &[u16]) {
+    let samples = rows.row_slice(at);
+    holds(rt, rows.row_length() == row.len(), rows, &row, &at);
+    for (x, sample) in row.iter().enumerate() {
+        holds(rt, samples.sample(x) == *sample, rows, &row, &x);
     }
-    at
 }
 
 /// The tool takes the rows of the image together, and answers the image with these parts. Where memory runs out, or it

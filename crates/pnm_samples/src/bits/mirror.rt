@@ -17,7 +17,7 @@ impl Bits {
 }
 
 /// Turns all pixels round, with the spare ones of the last byte.
-fn turn_round(bytes: &mut [u8])
+pub(crate) fn turn_round(bytes: &mut [u8])
     ensures { all_pixels bytes.new ≡ reverse (all_pixels bytes.old) }
 {
     bytes.reverse();
@@ -27,7 +27,7 @@ fn turn_round(bytes: &mut [u8])
 }
 
 /// Moves so many white pixels from the start to the end.
-fn move_to_end(bytes: &mut [u8], skipped: u32)
+pub(crate) fn move_to_end(bytes: &mut [u8], skipped: u32)
     requires { skipped < 8 }
     ensures { (rest : List ℕ) → all_pixels bytes.old ≡ replicate skipped 1 ++ rest
         → all_pixels bytes.new ≡ rest ++ replicate skipped 1 }

@@ -4,6 +4,7 @@ use Rattle.std.proofs.lemmas.List.{length-drop, length-take, length-append, take
 use Rattle.std.proofs.lemmas.List.Elements.{All-weaker, All-take, All-drop}
 use Rattle.std.proofs.lemmas.Bool.Decides.{nat_tests}
 use Rattle.pnm_image.specs.declared.shape.Kind.{Kind}
+use Rattle.pnm_samples.specs.SampleVecs.{slice_samples}
 use Rattle.pnm_image.proofs.Written.{Sending, at_any_error, sending_part, sending_part_failed}
 use Rattle.pnm_write.specs.PlainRows.{plain_row_text}
 use Rattle.pnm_write.specs.PlainParts.{text_of_part, column_after_part, sample_texts, row_end}
@@ -12,12 +13,11 @@ use Rattle.pnm_write.proofs.PlainLaws.{text_left, left_part, row_text_left}
 use Rattle.pnm_write.proofs.plain.write_others.Goals as goal
 
 -- what was copied is a part of the row
-copied_part : (start count done n : ℕ) (samples copied words : List ℕ) → done < count → n ≡ min (count - done) 680 → length words ≡ 680
-    → copied ≡ take (length (take n words)) (drop (start + done) samples)
-    → copied ≡ take n (drop done (take count (drop start samples)))
-copied_part start count done n samples copied words more e buffer same =
+copied_part : (done n : ℕ) (samples copied words : List ℕ) → n ≤ 680 → length words ≡ 680 → copied ≡ take (length (take n words)) (drop done samples)
+    → copied ≡ take n (drop done samples)
+copied_part done n samples copied words few buffer same =
     let size : length (take n words) ≡ n = omega (arith, length-take n words) in
-    same ∙ ap (λ (k : ℕ). take k (drop (start + done) samples)) size ∙ part_of_part start count done n samples (omega arith)
+    same ∙ ap (λ (k : ℕ). take k (drop done samples)) size
 
 -- what is left is the part that is written now, and the rest
 part_and_rest : (kind : Kind) (column done n : ℕ) (row copied words written set : List ℕ) (is_end : Bool) (then_column : ℕ) → done < length row
@@ -50,10 +50,10 @@ pub returns-in_err-write_all-clause-failed : goal.returns-in_err-write_all-claus
 returns-in_err-write_all-clause-failed g c =
     let n = c.min-size.result in
     let done = c.loop-done.done in
-    let row = take c.args.count (drop c.args.start c.args.samples.now) in
+    let row = slice_samples c.args.row in
     let words = c.loop-done.words in
-    let long : length row ≡ c.args.count = length-part c.args.start c.args.count c.args.samples.now c.requires.within in
-    let same = copied_part c.args.start c.args.count done n c.args.samples.now c.copy_to.new.buffer words (omega arith) c.min-size.ensures
+    let long : length row ≡ c.args.count = c.requires.count in
+    let same = copied_part done n row c.copy_to.new.buffer words (omega arith)
     c.loop-done.invariant.buffer c.copy_to.ensures in
     let size : length c.copy_to.new.buffer ≡ n = ap length same ∙ omega (arith, length-take n (drop done row), length-drop done row) in
     let split = part_and_rest c.args.shape.kind c.loop-done.column done n row c.copy_to.new.buffer words c.as_slice.result.now c.set_part-column.new.buffer _
@@ -68,10 +68,10 @@ pub loop-done-preserved : goal.loop-done-preserved
 loop-done-preserved g c =
     let n = c.min-size.result in
     let done = c.loop-done.done in
-    let row = take c.args.count (drop c.args.start c.args.samples.now) in
+    let row = slice_samples c.args.row in
     let words = c.loop-done.words in
-    let long : length row ≡ c.args.count = length-part c.args.start c.args.count c.args.samples.now c.requires.within in
-    let same = copied_part c.args.start c.args.count done n c.args.samples.now c.copy_to.new.buffer words (omega arith) c.min-size.ensures
+    let long : length row ≡ c.args.count = c.requires.count in
+    let same = copied_part done n row c.copy_to.new.buffer words (omega arith)
     c.loop-done.invariant.buffer c.copy_to.ensures in
     let size : length c.copy_to.new.buffer ≡ n = ap length same ∙ omega (arith, length-take n (drop done row), length-drop done row) in
     let split = part_and_rest c.args.shape.kind c.loop-done.column done n row c.copy_to.new.buffer words c.as_slice.result.now c.set_part-column.new.buffer _
@@ -90,10 +90,9 @@ loop-done-preserved g c =
 
 pub loop-done-init : goal.loop-done-init
 loop-done-init g c =
-    let row = take c.args.count (drop c.args.start c.args.samples.now) in
+    let row = slice_samples c.args.row in
     let within : ℕ → Type 0 = λ sample. sample ≤ c.args.shape.maxval in
-    let range : All within row = All-take within c.args.count (drop c.args.start c.args.samples.now)
-    (All-drop within c.args.start c.args.samples.now c.requires.range) in
+    let range : All within row = c.requires.range in
     let fit : All (λ sample. sample < 2 ^ 64) row = All-weaker within (λ sample. sample < 2 ^ 64) (λ n h. omega arith) row range in
     let start : Sending g.W.BytesOut.held g.W.BytesOut.failures g.W.BytesOut.same c.args.writer.now c.args.writer.now (plain_row_text c.args.shape.kind row)
     (plain_row_text c.args.shape.kind row) = search rules in

@@ -1,4 +1,5 @@
 use Rattle.std.proofs.Common.{◌≡◌, ◌≤◌, ◌-◌, length, take, drop}
+use Rattle.pnm_samples.specs.SampleVecs.{slice_samples}
 use Rattle.pnm_image.proofs.Written.{Sending}
 use Rattle.pnm_write.specs.PlainRows.{plain_row_text}
 use Rattle.pnm_write.proofs.PlainLaws.{text_left}
@@ -8,8 +9,8 @@ use Rattle.pnm_write.proofs.plain.write_others.Given as goal
 abbrev pub invariant-loop-done : goal.invariant-loop-done
 invariant-loop-done g l = record {
   sending : Sending g.W.BytesOut.held g.W.BytesOut.failures g.W.BytesOut.same l.initial.writer l.writer
-      (plain_row_text l.shape.kind (take l.count (drop l.start l.samples)))
-      (text_left l.column l.shape.kind (drop l.done (take l.count (drop l.start l.samples))));
+      (plain_row_text l.shape.kind (slice_samples l.row))
+      (text_left l.column l.shape.kind (drop l.done (slice_samples l.row)));
   within : l.done ≤ l.count;
   line : l.column ≤ 70;
   buffer : length l.words ≡ 680;

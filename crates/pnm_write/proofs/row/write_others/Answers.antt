@@ -9,6 +9,7 @@ use Rattle.pnm_image.specs.declared.sample_width.SampleWidth.TheVariants.{Bits, 
 use Rattle.pnm_image.specs.declared.shape.Kind.{Kind}
 use Rattle.pnm_image.specs.declared.shape.Kind.TheVariants.{Bit, Gray, Color, Pam}
 use Rattle.pnm_image.specs.SampleWidths.{sample_width_of}
+use Rattle.pnm_samples.specs.SampleVecs.{slice_samples}
 use Rattle.pnm_write.specs.WriteBuffers.{FitIn}
 use Rattle.std.specs.Io.KnownBytes.{Appends}
 use Rattle.pnm_write.specs.Encoding.{bytes_in}
@@ -25,12 +26,11 @@ no_bytes Bytes = refl
 no_bytes Words = refl
 
 -- what was copied is a part of the part
-copied_part : (start count done n : ℕ) (samples copied words : List ℕ) → start + count ≤ length samples → done ≤ count → n ≡ min (count - done) 2048
-    → length words ≡ 2048 → copied ≡ take (length (take n words)) (drop (start + done) samples)
-    → copied ≡ take n (drop done (take count (drop start samples)))
-copied_part start count done n samples copied words within below e buffer same =
+copied_part : (done n : ℕ) (samples copied words : List ℕ) → n ≤ 2048 → length words ≡ 2048 → copied ≡ take (length (take n words)) (drop done samples)
+    → copied ≡ take n (drop done samples)
+copied_part done n samples copied words few buffer same =
     let size : length (take n words) ≡ n = omega (arith, length-take n words) in
-    same ∙ ap (λ (k : ℕ). take k (drop (start + done) samples)) size ∙ part_of_part start count done n samples (omega arith)
+    same ∙ ap (λ (k : ℕ). take k (drop done samples)) size
 
 -- the bytes that are left are those of the part that is written now, and those after it
 copied_and_rest : (p : SampleWidth) (done n : ℕ) (part copied words written : List ℕ) → n ≡ min (length part - done) 2048 → length copied ≡ n
@@ -67,13 +67,12 @@ fill-requires-clause-range g c =
     let done = c.loop-done.done in
     let words = c.loop-done.words in
     let range : ℕ → Type 0 = λ sample. sample ≤ c.args.shape.maxval in
-    let part = take c.args.count (drop c.args.start c.args.samples.now) in
-    let long : length part ≡ c.args.count = length-part c.args.start c.args.count c.args.samples.now c.requires.within in
-    let same = copied_part c.args.start c.args.count done n c.args.samples.now c.copy_to.new.buffer words c.requires.within c.loop-done.invariant.1
-    c.min-size.ensures c.loop-done.invariant.2 c.copy_to.ensures in
+    let part = slice_samples c.args.row in
+    let long : length part ≡ c.args.count = c.requires.count in
+    let same = copied_part done n part c.copy_to.new.buffer words (omega arith)
+    c.loop-done.invariant.2 c.copy_to.ensures in
     let size : length c.copy_to.new.buffer ≡ n = ap length same ∙ omega (arith, length-take n (drop done part), length-drop done part) in
-    let all : All range (take n (drop done part)) = All-take range n (drop done part) (All-drop range done part (All-take range c.args.count
-    (drop c.args.start c.args.samples.now) (All-drop range c.args.start c.args.samples.now c.requires.range))) in
+    let all : All range (take n (drop done part)) = All-take range n (drop done part) (All-drop range done part c.requires.range) in
     let copied : take n (c.copy_to.new.buffer ++ drop n words) ≡ take n (drop done part) = take_at c.copy_to.new.buffer (drop n words) n size ∙ same in
     subst (FitIn c.of-sample_width.result) (sym copied)
     (subst (λ (p : SampleWidth). FitIn p (take n (drop done part))) (sym c.of-sample_width.ensures)
@@ -83,11 +82,11 @@ pub returns-in_err-write_all-clause-failed : goal.returns-in_err-write_all-claus
 returns-in_err-write_all-clause-failed g c =
     let n = c.min-size.result in
     let done = c.loop-done.done in
-    let part = take c.args.count (drop c.args.start c.args.samples.now) in
+    let part = slice_samples c.args.row in
     let words = c.loop-done.words in
-    let long : length part ≡ c.args.count = length-part c.args.start c.args.count c.args.samples.now c.requires.within in
-    let same = copied_part c.args.start c.args.count done n c.args.samples.now c.copy_to.new.buffer words c.requires.within c.loop-done.invariant.1
-    c.min-size.ensures c.loop-done.invariant.2 c.copy_to.ensures in
+    let long : length part ≡ c.args.count = c.requires.count in
+    let same = copied_part done n part c.copy_to.new.buffer words (omega arith)
+    c.loop-done.invariant.2 c.copy_to.ensures in
     let size : length c.copy_to.new.buffer ≡ n = ap length same ∙ omega (arith, length-take n (drop done part), length-drop done part) in
     let split = copied_and_rest c.of-sample_width.result done n part c.copy_to.new.buffer words c.as_slice.result.now (omega arith) size same
     (c.as_slice.ensures ∙ c.fill.ensures) in
@@ -102,11 +101,11 @@ pub loop-done-preserved : goal.loop-done-preserved
 loop-done-preserved g c =
     let n = c.min-size.result in
     let done = c.loop-done.done in
-    let part = take c.args.count (drop c.args.start c.args.samples.now) in
+    let part = slice_samples c.args.row in
     let words = c.loop-done.words in
-    let long : length part ≡ c.args.count = length-part c.args.start c.args.count c.args.samples.now c.requires.within in
-    let same = copied_part c.args.start c.args.count done n c.args.samples.now c.copy_to.new.buffer words c.requires.within c.loop-done.invariant.1
-    c.min-size.ensures c.loop-done.invariant.2 c.copy_to.ensures in
+    let long : length part ≡ c.args.count = c.requires.count in
+    let same = copied_part done n part c.copy_to.new.buffer words (omega arith)
+    c.loop-done.invariant.2 c.copy_to.ensures in
     let size : length c.copy_to.new.buffer ≡ n = ap length same ∙ omega (arith, length-take n (drop done part), length-drop done part) in
     let split = copied_and_rest c.of-sample_width.result done n part c.copy_to.new.buffer words c.as_slice.result.now (omega arith) size same
     (c.as_slice.ensures ∙ c.fill.ensures) in (
@@ -126,15 +125,15 @@ returns-in_err-write_all-clause-same_device g c =
 pub loop-done-init : goal.loop-done-init
 loop-done-init g c = (
   begin_sending g.W.BytesOut.held g.W.BytesOut.failures g.W.BytesOut.same c.args.writer.now
-      (bytes_in c.of-sample_width.result (take c.args.count (drop c.args.start c.args.samples.now))) (g.met.W.BytesOut.same_at_once _),
+      (bytes_in c.of-sample_width.result (slice_samples c.args.row)) (g.met.W.BytesOut.same_at_once _),
   omega arith,
   refl,
 )
 
 pub returns-clause-written : goal.returns-clause-written
 returns-clause-written g c =
-    let part = take c.args.count (drop c.args.start c.args.samples.now) in
-    let long : length part ≡ c.args.count = length-part c.args.start c.args.count c.args.samples.now c.requires.within in
+    let part = slice_samples c.args.row in
+    let long : length part ≡ c.args.count = c.requires.count in
     let none : drop c.loop-done.done part ≡ [] = drop_all c.loop-done.done part (omega arith) in
     subst (λ (p : SampleWidth). Appends (g.W.BytesOut.held c.args.writer.now) (g.W.BytesOut.held c.loop-done.writer) (bytes_in p part))
     c.of-sample_width.ensures

@@ -1,5 +1,6 @@
 use Rattle.std.proofs.Common.{◌≡◌, ◌≤◌, ◌-◌, length, take, drop}
 use Rattle.pnm_write.specs.Encoding.{bytes_in}
+use Rattle.pnm_samples.specs.SampleVecs.{slice_samples}
 use Rattle.pnm_image.proofs.Written.{Sending}
 use Rattle.pnm_write.proofs.row.write_others.Given as goal
 
@@ -7,8 +8,8 @@ use Rattle.pnm_write.proofs.row.write_others.Given as goal
 abbrev pub invariant-loop-done : goal.invariant-loop-done
 invariant-loop-done g l =
     Sending g.W.BytesOut.held g.W.BytesOut.failures g.W.BytesOut.same l.initial.writer l.writer
-    (bytes_in l.sample_width (take l.count (drop l.start l.samples)))
-    (bytes_in l.sample_width (drop l.done (take l.count (drop l.start l.samples)))) × (l.done ≤ l.count) × (length l.words ≡ 2048)
+    (bytes_in l.sample_width (slice_samples l.row))
+    (bytes_in l.sample_width (drop l.done (slice_samples l.row))) × (l.done ≤ l.count) × (length l.words ≡ 2048)
 
 abbrev pub decreases-loop-done : goal.decreases-loop-done
 decreases-loop-done g l = l.count - l.done

@@ -1,32 +1,58 @@
-use Rattle.std.proofs.Common.{◌≡◌, ◌∙◌, ℕ, OnOk, OnErr, List, ◌≤◌, length, All, refl, sym, subst, rules, arith}
+use Rattle.std.proofs.Common.{◌≡◌, ◌∙◌, ◌*◌, ◌≤◌, ℕ, List, All, OnOk, OnErr, length, refl, ap, ap₂, sym, subst, rules}
+use Rattle.std.specs.List.{AllByRecursion, concat, flat_map}
 use Rattle.std.specs.Io.KnownBytes.{Appends}
+use Rattle.std.proofs.lemmas.List.Elements.{All-from_recursion, All-weaker}
+use Rattle.pnm_samples.specs.SampleVecs.{slice_samples}
 use Rattle.pnm_image.specs.Devices.{FailsIn}
-use Rattle.std.specs.List.{AllByRecursion}
+use Rattle.pnm_image.specs.Heads.{row_length}
+use Rattle.pnm_image.specs.HeldRows.{AreSliceRows, slice_lists}
+use Rattle.pnm_image.specs.Images.{cut_rows}
 use Rattle.pnm_image.specs.Places.{IsRowOf}
-use Rattle.pnm_image.specs.declared.shape.Shape.{Shape}
+use Rattle.pnm_image.specs.SampleWidths.{sample_width_of}
 use Rattle.pnm_image.specs.declared.format.Form.{Form}
 use Rattle.pnm_image.specs.declared.format.Form.TheVariants.{Raw}
-use Rattle.pnm_image.specs.Heads.{row_length}
-use Rattle.pnm_image.specs.SampleWidths.{sample_width_of}
+use Rattle.pnm_image.specs.declared.rows.RowSlice.{RowSlice}
 use Rattle.pnm_image.specs.declared.sample_width.SampleWidth.{SampleWidth}
-use Rattle.pnm_image.proofs.RowLaws.{rows_need}
-use Rattle.pnm_write.specs.Encoding.{rows_bytes, AreWholeBytes}
+use Rattle.pnm_image.specs.declared.sample_width.SampleWidth.TheVariants.{Bits}
+use Rattle.pnm_image.specs.declared.shape.Shape.{Shape}
+use Rattle.pnm_image.proofs.RowLaws.{concat-cut_rows}
+use Rattle.pnm_write.specs.Encoding.{AreWholeBytes, bytes_in, packed_bytes, rows_bytes}
+use Rattle.pnm_write.proofs.RowsLaws.{long_rows}
 use Rattle.pnm_write.proofs.rows.write_rows.Goals as goal
 
--- a row is as short as each of the rows
-short_row : (s : Shape) (each most : ℕ) (rows : List (List ℕ)) → each ≤ most → 1 ≤ length rows → All (λ row. length row ≡ each) rows
-    → AllByRecursion (IsRowOf s) rows → row_length s ≤ most
-short_row s each most rows short some long are = omega (arith, (rows_need s each rows some long are).0)
+-- the bytes of rows of bits are those of the rows
+bytes_of_bits : (form : Form) (s : Shape) (p : SampleWidth) (bytes : List ℕ) (bits rows : List (List ℕ)) → form ≡ Raw → p ≡ Bits
+    → p ≡ sample_width_of s.kind s.maxval → bytes ≡ flat_map packed_bytes bits → bits ≡ rows → bytes ≡ rows_bytes form s rows
+bytes_of_bits form s p bytes bits rows raw width is packed same =
+    packed ∙ ap (flat_map packed_bytes) same ∙ ap (λ (q : SampleWidth). flat_map (bytes_in q) rows) (sym width ∙ is)
+    ∙ ap (λ (f : Form). rows_bytes f s rows) (sym raw)
 
-pub returns-then-are_whole_bytes-clause-written : goal.returns-then-are_whole_bytes-clause-written
-returns-then-are_whole_bytes-clause-written g c =
+pub returns-in-Raw-Bits-Bits-clause-written : goal.returns-in-Raw-Bits-Bits-clause-written
+returns-in-Raw-Bits-Bits-clause-written g c =
+    let rows = c.args.rows.now in
+    subst (λ (bytes : List ℕ). OnOk c.write_all.result (Appends (g.W.BytesOut.held c.args.writer.now) (g.W.BytesOut.held c.write_all.new.writer) bytes))
+    (bytes_of_bits c.args.form c.args.shape c.of-sample_width.result c.parts.result.0.now c.in-Raw-Bits-Bits.bits.now rows c.in-Raw-Bits-Bits.is-0
+    c.in-Raw-Bits-Bits.is-1 c.of-sample_width.ensures c.parts.ensures.bytes
+    (c.in-Raw-Bits-Bits.ensures.rows (row_length c.args.shape) (long_rows c.args.shape rows c.requires))) c.write_all.ensures.written
+
+pub returns-in-Raw-Bits-Bits-clause-failed : goal.returns-in-Raw-Bits-Bits-clause-failed
+returns-in-Raw-Bits-Bits-clause-failed g c =
+    let rows = c.args.rows.now in
+    subst (λ (bytes : List ℕ). OnErr c.write_all.result (FailsIn bytes (g.W.BytesOut.held c.args.writer.now) (g.W.BytesOut.held c.write_all.new.writer)
+    (g.W.BytesOut.failures c.args.writer.now) (g.W.BytesOut.failures c.write_all.new.writer)))
+    (bytes_of_bits c.args.form c.args.shape c.of-sample_width.result c.parts.result.0.now c.in-Raw-Bits-Bits.bits.now rows c.in-Raw-Bits-Bits.is-0
+    c.in-Raw-Bits-Bits.is-1 c.of-sample_width.ensures c.parts.ensures.bytes
+    (c.in-Raw-Bits-Bits.ensures.rows (row_length c.args.shape) (long_rows c.args.shape rows c.requires))) c.write_all.ensures.failed
+
+pub returns-then-has_whole_samples-clause-written : goal.returns-then-has_whole_samples-clause-written
+returns-then-has_whole_samples-clause-written g c =
     let raw : c.args.form ≡ Raw = search rules in
     subst (λ (form : Form). OnOk c.write_joined.result
     (Appends (g.W.BytesOut.held c.args.writer.now) (g.W.BytesOut.held c.write_joined.new.writer) (rows_bytes form c.args.shape c.args.rows.now)))
     (sym raw) c.write_joined.ensures.written
 
-pub returns-then-are_whole_bytes-clause-failed : goal.returns-then-are_whole_bytes-clause-failed
-returns-then-are_whole_bytes-clause-failed g c =
+pub returns-then-has_whole_samples-clause-failed : goal.returns-then-has_whole_samples-clause-failed
+returns-then-has_whole_samples-clause-failed g c =
     let raw : c.args.form ≡ Raw = search rules in
     subst (λ (form : Form). OnErr c.write_joined.result
     (FailsIn (rows_bytes form c.args.shape c.args.rows.now) (g.W.BytesOut.held c.args.writer.now) (g.W.BytesOut.held c.write_joined.new.writer)
@@ -38,32 +64,5 @@ write_joined-requires-clause-rows g c = c.requires
 
 pub write_joined-requires-clause-whole : goal.write_joined-requires-clause-whole
 write_joined-requires-clause-whole g c =
-    let long : c.row_length.result ≡ row_length c.args.shape = (rows_need c.args.shape c.row_length.result c.args.rows.now c.row_length.ensures.some
-    c.row_length.ensures.each c.requires).0 in
-    subst (λ (n : ℕ). AreWholeBytes (sample_width_of c.args.shape.kind c.args.shape.maxval) n) long
-    (subst (λ (p : SampleWidth). AreWholeBytes p c.row_length.result) c.of-sample_width.ensures (c.if-are_whole_bytes.ensures.0 refl))
-
-pub write_runs-requires-clause-rows : goal.write_runs-requires-clause-rows
-write_runs-requires-clause-rows g c = c.requires
-
-pub write_runs-requires-clause-bits : goal.write_runs-requires-clause-bits
-write_runs-requires-clause-bits g c = c.in-Raw-Bits-Bits.ensures ∙ c.samples.ensures
-
-pub write_runs-requires-clause-sample_width : goal.write_runs-requires-clause-sample_width
-write_runs-requires-clause-sample_width g c = sym c.of-sample_width.ensures ∙ c.in-Raw-Bits-Bits.is-1
-
-pub write_runs-requires-clause-short : goal.write_runs-requires-clause-short
-write_runs-requires-clause-short g c = search short_row
-
-pub returns-in-Raw-Bits-Bits-clause-written : goal.returns-in-Raw-Bits-Bits-clause-written
-returns-in-Raw-Bits-Bits-clause-written g c =
-    subst (λ (form : Form). OnOk c.write_runs.result
-    (Appends (g.W.BytesOut.held c.args.writer.now) (g.W.BytesOut.held c.write_runs.new.writer) (rows_bytes form c.args.shape c.args.rows.now)))
-    (sym c.in-Raw-Bits-Bits.is-0) c.write_runs.ensures.written
-
-pub returns-in-Raw-Bits-Bits-clause-failed : goal.returns-in-Raw-Bits-Bits-clause-failed
-returns-in-Raw-Bits-Bits-clause-failed g c =
-    subst (λ (form : Form). OnErr c.write_runs.result
-    (FailsIn (rows_bytes form c.args.shape c.args.rows.now) (g.W.BytesOut.held c.args.writer.now) (g.W.BytesOut.held c.write_runs.new.writer)
-    (g.W.BytesOut.failures c.args.writer.now) (g.W.BytesOut.failures c.write_runs.new.writer)))
-    (sym c.in-Raw-Bits-Bits.is-0) c.write_runs.ensures.failed
+    subst (λ (p : SampleWidth). AreWholeBytes p (row_length c.args.shape)) c.of-sample_width.ensures
+    (c.if-has_whole_samples.ensures refl (row_length c.args.shape))

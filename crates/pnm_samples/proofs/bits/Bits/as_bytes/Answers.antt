@@ -1,6 +1,6 @@
-use Rattle.std.proofs.Common.{length, ap, arith, ◌≡◌, ◌∙◌, subst}
+use Rattle.std.proofs.Common.{ℕ, length, ap, sym, arith, ◌≡◌, ◌∙◌, subst}
 use Rattle.std.proofs.lemmas.Grind.{common_steps}
-use Rattle.pnm_samples.specs.Pixels.{AreBytes}
+use Rattle.pnm_samples.specs.Pixels.{AreBytes, ArePacked}
 use Rattle.pnm_samples.proofs.PackedBytes.{packed_view}
 use Rattle.pnm_samples.proofs.PixelRowLaws.{length_of_packed}
 use Rattle.pnm_samples.proofs.bits.Bits.as_bytes.Goals as goal
@@ -16,3 +16,10 @@ returns-clause-count c =
     let same : c.bytes_of.result.now ≡ c.self.inside.bytes.items = grind (arith, common_steps) in
     let bytes = c.self.inside.bytes.items in
     omega (arith, ap length same, c.self.invariant.enough, length_of_packed c.self.inside.count bytes c.self.invariant, ap length c.self.view_is)
+
+pub returns-clause-packed : goal.returns-clause-packed
+returns-clause-packed c =
+    let bytes = c.self.inside.bytes.items in
+    let same : c.bytes_of.result.now ≡ bytes = grind (arith, common_steps) in
+    let many : length c.args.self.now ≡ c.self.inside.count = ap length (sym c.self.view_is) ∙ length_of_packed c.self.inside.count bytes c.self.invariant in
+    subst (λ (n : ℕ). ArePacked n c.bytes_of.result.now) (sym many) (subst (ArePacked c.self.inside.count) (sym same) c.self.invariant)

@@ -1,0 +1,8 @@
+use Rattle.std.proofs.Common.{List, ℕ, take}
+use Rattle.pnm_samples.specs.Pixels.{all_pixels}
+use Rattle.pnm_samples.proofs.BitRowLaws.{AreChanged}
+use Rattle.pnm_samples.proofs.bit_rows.clear_spare_of_each.Given as goal
+
+-- the rows that have passed are packed, and all are as they were
+abbrev pub invariant-loop-row : goal.invariant-loop-row
+invariant-loop-row l = AreChanged (λ (row : List ℕ). take l.each (all_pixels row)) l.row l.count l.each l.initial.bytes l.bytes

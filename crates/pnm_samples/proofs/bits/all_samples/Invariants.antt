@@ -1,8 +1,0 @@
-use Rattle.std.proofs.Common.{◌≡◌, ◌+◌, ◌*◌, length, take}
-use Rattle.pnm_samples.specs.Pixels.{all_pixels}
-use Rattle.pnm_samples.proofs.bits.all_samples.Given as goal
-
--- the pixels of the bytes that have passed, and after them the places of the others
-abbrev pub invariant-loop-byte : goal.invariant-loop-byte
-invariant-loop-byte l = (l.at + 8 * length l.bytes ≡ length l.samples.items + 8 * l.byte-index)
-    × (take l.at l.samples.items ≡ all_pixels (take l.byte-index l.bytes))

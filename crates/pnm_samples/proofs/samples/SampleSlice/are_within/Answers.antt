@@ -1,0 +1,12 @@
+use Rattle.std.proofs.Common.{rules}
+use Rattle.std.proofs.Common.{◌≤◌, All, sym, subst, arith}
+use Rattle.pnm_samples.specs.SampleVecs.{slice_samples}
+use Rattle.pnm_samples.proofs.PixelRowLaws.{byte_pixels_within}
+use Rattle.pnm_samples.proofs.samples.SampleSlice.are_within.Goals as goal
+
+pub returns-then-most-gt0 : goal.returns-then-most-gt0
+returns-then-most-gt0 c = (
+  λ _. subst (λ s. All (λ sample. sample ≤ c.args.most) (slice_samples s)) (sym c.in-Bits.is)
+      (byte_pixels_within c.in-Bits.count c.args.most c.in-Bits.bytes.now (omega arith)),
+  λ _. search rules,
+)

@@ -1,6 +1,0 @@
-use Rattle.std.proofs.Common.{arith}
-use Rattle.std.proofs.lemmas.Grind.{common_steps}
-use Rattle.pnm_samples.proofs.samples.Samples.as_slice.Goals as goal
-
-pub returns-in-Bytes : goal.returns-in-Bytes
-returns-in-Bytes c = grind (arith, common_steps)

@@ -1,5 +1,0 @@
-use Rattle.std.proofs.Common.{◌≡◌, take, drop}
-use Rattle.pnm_samples.proofs.samples.Samples.copy_to.Given as goal
-
-abbrev pub invariant-loop-i : goal.invariant-loop-i
-invariant-loop-i l = take l.i l.buffer ≡ take l.i (drop l.start l.self)

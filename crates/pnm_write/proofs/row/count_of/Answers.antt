@@ -1,0 +1,10 @@
+use Rattle.std.proofs.Common.{◌∙◌, ap, length, subst}
+use Rattle.pnm_samples.specs.SampleVecs.{HasWhiteSpare, slice_samples}
+use Rattle.pnm_samples.specs.declared.samples.SampleSlice.{SampleSlice}
+use Rattle.pnm_samples.proofs.PixelRowLaws.{length_of_packed}
+use Rattle.pnm_write.proofs.row.count_of.Goals as goal
+
+pub returns-in-Bits : goal.returns-in-Bits
+returns-in-Bits c =
+    ap (λ (row : SampleSlice). length (slice_samples row)) c.in-Bits.is
+    ∙ length_of_packed c.in-Bits.count c.in-Bits.field-0.now (subst HasWhiteSpare c.in-Bits.is c.requires)
