@@ -67,8 +67,8 @@ fn by_row<T: RowTool>(tool: T) -> ByRow<T>
 }
 
 /// How many samples a row has at most that a tool takes together with others where it exchanges columns and rows of
-/// bytes or words: it keeps longer ones in strips, for which each row comes by itself. Bits it keeps together.
-const MOST_EXCHANGED: u64 = 256;
+/// bytes or words: to hand longer ones over one by one costs little beside the exchange. Bits it keeps together.
+const MOST_EXCHANGED: u64 = 4096;
 
 /// How many samples a row has at most that the tool takes together with others which are held so, as far as can be told
 /// beforehand: 0 where it takes none so. It takes rows one by one all the same where they are bits of several planes

@@ -1,14 +1,13 @@
 //! Which rows a run passes on together.
 
 use pnm_filters::longest_together;
-use pnm_image::{Form, SampleWidth};
+use pnm_image::SampleWidth;
 use pnm_serial::JoinedRows;
 use pnm_tools::Tool;
 
 /// Which rows are passed on together, over so many lanes: over one, those that each tool takes so, as far as its
-/// options tell. Others would have to be taken out again; and so would bits that are written in plain form, where a row
-/// of them doesn't begin with a byte.
-pub fn joined_rows(tools: &[Tool], form: Form, lanes: usize) -> JoinedRows {
+/// options tell. Others would have to be taken out again.
+pub fn joined_rows(tools: &[Tool], lanes: usize) -> JoinedRows {
     if lanes != 1 {
         return JoinedRows {
             bits: 0,
@@ -17,10 +16,7 @@ pub fn joined_rows(tools: &[Tool], form: Form, lanes: usize) -> JoinedRows {
         };
     }
     JoinedRows {
-        bits: match form {
-            Form::Raw => longest(tools, SampleWidth::Bits),
-            Form::Plain => 0,
-        },
+        bits: longest(tools, SampleWidth::Bits),
         bytes: longest(tools, SampleWidth::Bytes),
         words: longest(tools, SampleWidth::Words),
     }

@@ -57,7 +57,7 @@ pub fn run_serial_over<R: BytesIn, W: BytesOut>(
         Ok(stages) => stages,
         Err(fault) => return Err(RunFault::Tool(1, fault)),
     };
-    let joined = joined_rows(tools, form, 1);
+    let joined = joined_rows(tools, 1);
     run_filters(
         alloc,
         reader,

@@ -75,7 +75,7 @@ pub fn run<H: Threads + Wait + Sync, R: BytesIn, W: BytesOut, G: Gate>(
         Err(fault) => return Err(RunFault::Input(fault)),
     };
     let source = Source::with_buffer(read, &mut *reader);
-    let feeder = Feeder::new(source, to_chain, joined_rows(tools, form, lanes));
+    let feeder = Feeder::new(source, to_chain, joined_rows(tools, lanes));
     let collector = Collector::new(from_chain, write, &mut *writer, form);
     let both = beside_chain(
         rt, alloc, tools, capacity, lanes, gate, input, output, feeder, collector,
