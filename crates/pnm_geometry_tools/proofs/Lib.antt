@@ -1,5 +1,6 @@
 pub mod EnlargedHeadLaws
 pub mod ColumnLaws
+pub mod BlockLaws
 pub mod StripLaws
 pub mod TransposeLaws
 pub mod BitColumnLaws

@@ -1,5 +1,6 @@
 -- Columns of an image while they are made side by side.
-use Rattle.std.specs.Prelude.{◌≡◌, ℕ, ◌+◌, ◌<◌, ◌≤◌, List, ◌++◌, length, map, take, slice_index_or, Vec, vec_len}
+use Rattle.std.specs.Prelude.{◌≡◌, ℕ, ◌+◌, ◌<◌, ◌≤◌, List, [], ◌++◌, get_or, length, map, take, slice_index_or, Vec, vec_len}
+use denote.Ref.{Bor}
 use Rattle.std.specs.Global.{Global}
 
 -- so many columns of so many samples
@@ -25,6 +26,10 @@ pub record HavePixels {X : Type 0} (count at : ℕ) (pixels : ℕ → List X) (o
   pub stored : (k : ℕ) (d : Vec X Global) → k < count → take (at + length (pixels k)) (slice_index_or new k d).items
       ≡ take at (slice_index_or old k d).items ++ pixels k
   pub others : (k : ℕ) (d : Vec X Global) → count ≤ k → slice_index_or new k d ≡ slice_index_or old k d
+
+-- slices are the rows from this one on
+abbrev pub AreRowsFrom : ℕ → List (List ℕ) → List (Bor (List ℕ)) → Type 0
+AreRowsFrom y rows slices = (i : ℕ) (d : Bor (List ℕ)) → i < length slices → (get_or slices i d).now ≡ get_or rows (y + i) []
 
 -- the samples of columns
 abbrev pub column_samples : {X : Type 0} → List (Vec X Global) → List (List X)

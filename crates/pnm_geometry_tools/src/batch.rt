@@ -1,6 +1,6 @@
 //! Columns of an image, made side by side.
 
-ghost use Rattle.std.specs.Prelude.{◌≡◌, ◌≤◌, ◌+◌, ◌*◌, ℕ, List, All, drop, length, map, reverse, take};
+ghost use Rattle.std.specs.Prelude.{◌≡◌, ◌≤◌, ◌+◌, ◌-◌, ◌*◌, ℕ, List, All, drop, length, map, reverse, take};
 ghost use Rattle.std.specs.Prelude.{IfOk, IfErr};
 ghost use Rattle.std.specs.List.{range_with_len};
 ghost use Rattle.pnm_image.specs.declared.limits.TheConstants.{MAX_DEPTH, MAX_ROW_LENGTH};
@@ -10,6 +10,7 @@ ghost use Rattle.pnm_tools.specs.Flip.{column_of};
 ghost use Rattle.pnm_tools.specs.Pixels.{pixel_of};
 ghost use Rattle.pnm_geometry_tools.specs.Strips.{ReachColumns, kept_column, kept_count};
 
+use crate::blocks::BlockSample;
 use crate::buffer::store;
 use crate::color::color_at;
 use crate::flat_rows::FlatRows;
@@ -70,7 +71,7 @@ pub(crate) fn last_first<C: Column>(
 }
 
 /// So many columns of the rows, from the first one on.
-pub(crate) fn columns_of<T: Copy + Default>(
+pub(crate) fn columns_of<T: BlockSample>(
     alloc: Global,
     kept: &StripedRows<T>,
     rows_first: bool,
@@ -94,7 +95,7 @@ pub(crate) fn columns_of<T: Copy + Default>(
 
 /// Stores columns of the rows, each from its first sample on: of those in strips and of those that came
 /// after them, or of the latter first.
-fn put_kept<T: Copy>(
+fn put_kept<T: BlockSample>(
     columns: &mut [Vec<T>],
     kept: &StripedRows<T>,
     rows_first: bool,
@@ -120,8 +121,9 @@ fn put_kept<T: Copy>(
     }
 }
 
-/// Stores rows' pixels from this place of each column on, a row after the other, four rows at a time.
-pub(crate) fn put_all<T: Copy>(
+/// Stores rows' pixels from this place of each column on, a row after the other: in blocks as far as they are exchanged
+/// so, and the others four rows at a time.
+pub(crate) fn put_all<T: BlockSample>(
     columns: &mut [Vec<T>],
     at: usize,
     rows: &FlatRows<T>,
@@ -135,18 +137,41 @@ pub(crate) fn put_all<T: Copy>(
     ensures { HavePixels (length columns.old) at (λ k. column_of depth rows.now (first + k))
         columns.old columns.new }
 {
-    let fours = rows.len() / 4;
+    let begun = T::put_blocks(columns, at, rows, first, depth);
+    put_from(columns, at + begun * depth, rows, begun, first, depth);
+}
+
+/// Stores the pixels of the rows from this one on, from this place of each column on, a row after the other, four rows at
+/// a time.
+fn put_from<T: Copy>(
+    columns: &mut [Vec<T>],
+    at: usize,
+    rows: &FlatRows<T>,
+    begun: usize,
+    first: usize,
+    depth: usize,
+)
+    requires begun { begun ≤ length rows.now }
+    requires rows { All (λ row. (first + length columns.old) * depth ≤ length row) rows.now }
+    requires sizes { (at + (length rows.now - begun) * depth ≤ MAX_ROW_LENGTH) × (depth ≤ MAX_DEPTH)
+        × (first + length columns.old ≤ 4294967295) }
+    requires long { AreLongEnough (at + (length rows.now - begun) * depth) columns.old }
+    ensures { HavePixels (length columns.old) at (λ k. column_of depth (drop begun rows.now) (first + k))
+        columns.old columns.new }
+{
+    let left = rows.len() - begun;
+    let fours = left / 4;
     for group in 0..fours {
         let y = 4 * group;
-        put_four(columns, at + y * depth, rows, y, first, depth);
+        put_four(columns, at + y * depth, rows, begun + y, first, depth);
     }
     let y = 4 * fours;
     put_some(
         columns,
         at + y * depth,
         rows,
-        y,
-        rows.len() - y,
+        begun + y,
+        left - y,
         first,
         depth,
     );

@@ -3,6 +3,7 @@
 #![tactic(auto)]
 
 mod batch;
+mod blocks;
 mod buffer;
 mod color;
 mod enlarge;

@@ -11,6 +11,7 @@ ghost use Rattle.pnm_tools.specs.Flip.{column_of, in_order};
 ghost use Rattle.pnm_geometry_tools.specs.Strips.{HaveSizes, KeepColumns};
 
 use crate::batch::{blank_columns, put_all};
+use crate::blocks::BlockSample;
 use crate::flat_rows::FlatRows;
 use crate::row_of::RowOf;
 use pnm_tools::ToolFault;
@@ -54,7 +55,7 @@ impl<T> StripedRows<T> {
     }
 }
 
-impl<T: Copy + Default> StripedRows<T> {
+impl<T: BlockSample> StripedRows<T> {
     /// Makes a strip of the rows that came last, once they are as many as a strip has. The only fault is
     /// `Memory`.
     pub fn fill_strip(
@@ -91,7 +92,7 @@ fn order_rows<T>(rows: &mut FlatRows<T>, last_first: bool)
 }
 
 /// The rows with columns and rows exchanged, the columns one after the other.
-fn strip_of<T: Copy + Default>(
+fn strip_of<T: BlockSample>(
     alloc: Global,
     rows: &FlatRows<T>,
     width: usize,
@@ -117,7 +118,7 @@ fn strip_of<T: Copy + Default>(
 }
 
 /// Adds columns of the rows, as many as there are to store them in, to the samples of a strip.
-fn add_columns<T: Copy>(
+fn add_columns<T: BlockSample>(
     strip: &mut Vec<T>,
     columns: &mut [Vec<T>],
     rows: &FlatRows<T>,

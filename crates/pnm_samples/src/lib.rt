@@ -23,5 +23,5 @@ pub use packing::pack;
 pub use pixel_rows::PixelRows;
 pub use sample::Sample;
 pub use samples::{SampleSlice, SampleVec, Samples};
-pub use transpose::columns;
+pub use transpose::{columns, lanes_beside};
 pub use widths::bytes_to_words;

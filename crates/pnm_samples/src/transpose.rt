@@ -128,7 +128,7 @@ fn bytes_from(rows: &PixelRows, at: usize, byte: usize, width: usize) -> &[u8]
 
 /// Sixteen bytes of each of sixteen rows, from this one on: of each byte of a row those of all rows together.
 #[inline]
-fn lanes_beside(rows: &[&[u8]], at: usize) -> [u8x16; 16]
+pub fn lanes_beside(rows: &[&[u8]], at: usize) -> [u8x16; 16]
     requires count { length rows.now ≡ 16 }
     requires within { All (λ row. at < length row.now) rows.now }
     ensures count { length result ≡ 16 }
