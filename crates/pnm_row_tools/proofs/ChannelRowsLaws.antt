@@ -3,14 +3,15 @@ use Rattle.std.proofs.Common.{◌≡◌, ℕ, zero, suc, ◌+◌, ◌*◌, ◌<�
 use Rattle.std.proofs.Common.{ap₂, ◌∙◌, arith, add-mul, mul_assoc, suc-mul, zero-mul}
 use Rattle.std.specs.List.{flat_map, range_with_len}
 use Rattle.std.proofs.lemmas.List.{get_or-drop, get_or-take, length-map}
-use Rattle.std.proofs.lemmas.List.Elements.{All-head, All-tail}
+use Rattle.std.proofs.lemmas.List.Elements.{All-head, All-map, All-tail}
 use Rattle.pnm_image.specs.declared.shape.Shape.{Shape}
 use Rattle.pnm_image.specs.Heads.{row_length}
+use Rattle.pnm_image.specs.HeldRows.{AreRowsWithin}
 use Rattle.pnm_image.specs.Images.{cut_rows}
 use Rattle.pnm_tools.specs.Answering.{rows_answer}
-use Rattle.pnm_tools.specs.Channel.{Picks, picked_samples}
+use Rattle.pnm_tools.specs.Channel.{Picks, picked_row, picked_samples}
 use Rattle.pnm_tools.specs.declared.tool.Tool.TheVariants.{Channel}
-use Rattle.pnm_tools.proofs.PickLaws.{plane_there}
+use Rattle.pnm_tools.proofs.PickLaws.{picked_within, plane_there}
 use Rattle.pnm_tools.proofs.RangeLaws.{length_of_equals, pieces_alike, pieces_alike_from, pieces_in_parts}
 use Rattle.pnm_tools.proofs.RowLaws.{row_of_channel}
 use Rattle.pnm_row_tools.specs.EachRow.{changed}
@@ -73,14 +74,27 @@ all_picked_long numbers s count size samples made is made_is =
     ap length made_is ∙ picked_long numbers (as_wide (count * s.width) s) samples
     ∙ omega (arith, mul_assoc count s.width (length numbers), ap (λ (n : ℕ). count * n) is)
 
--- cut again they are the planes of each row, which answer it
-pub picked_rows_answer : (planes : Picks) (s : Shape) (y count each size : ℕ) (samples made : List ℕ) (rows : List (List ℕ))
-    → All (λ number. number < s.depth) planes.numbers → each ≡ row_length s → length samples ≡ count * each → size ≡ s.width * length planes.numbers
-    → made ≡ picked_samples planes.numbers (as_wide (count * s.width) s) samples → rows ≡ cut_rows count each samples
-    → rows_answer (Channel planes) s y rows ≡ cut_rows count size made
-picked_rows_answer planes s y count each size samples made rows below is long size_is made_is cut =
-    let f : List ℕ → List ℕ = picked_samples planes.numbers s in
-    each_answered (Channel planes) s f y rows (λ k row from to. row_of_channel planes s k row)
-    ∙ ap (map f) cut
-    ∙ sym (cut_again f each size (λ row whole. picked_long planes.numbers s row ∙ sym size_is) count samples (omega (arith, long)))
-    ∙ ap (cut_rows count size) (sym (rows_picked planes.numbers s count each samples below is) ∙ sym made_is)
+-- cut again they are the planes of each row
+pub picked_cut : (numbers : List ℕ) (s : Shape) (count : ℕ) (samples made : List ℕ) (rows : List (List ℕ)) → All (λ number. number < s.depth) numbers
+    → length samples ≡ count * row_length s → cut_rows count (row_length s) samples ≡ rows → made ≡ picked_samples numbers (as_wide (count * s.width) s) samples
+    → (length made ≡ count * (s.width * length numbers)) × (cut_rows count (s.width * length numbers) made ≡ map (picked_samples numbers s) rows)
+picked_cut numbers s count samples made rows below long cut is =
+    let f : List ℕ → List ℕ = picked_samples numbers s in
+    let size : ℕ = s.width * length numbers in (
+      all_picked_long numbers s count size samples made refl is,
+      ap (cut_rows count size) (is ∙ rows_picked numbers s count (row_length s) samples below refl)
+          ∙ cut_again f (row_length s) size (λ row whole. picked_long numbers s row) count samples (omega (arith, long)) ∙ ap (map f) cut,
+    )
+
+-- none of them is above the maxval
+pub picked_rows_within : (numbers : List ℕ) (s : Shape) (rows : List (List ℕ)) → AreRowsWithin s.maxval rows
+    → AreRowsWithin s.maxval (map (picked_samples numbers s) rows)
+picked_rows_within numbers s rows within =
+    All-map (λ (row : List ℕ). All (λ sample. sample ≤ s.maxval) row) (picked_samples numbers s) rows (λ k d lt.
+    picked_within numbers s (get_or rows k d) (picked_samples numbers s (get_or rows k d)) refl (within k d lt))
+
+-- they answer the rows
+pub picked_answer : (planes : Picks) (s : Shape) (y : ℕ) (rows made : List (List ℕ)) → made ≡ map (picked_row planes s) rows
+    → rows_answer (Channel planes) s y rows ≡ made
+picked_answer planes s y rows made is =
+    each_answered (Channel planes) s (picked_samples planes.numbers s) y rows (λ k row from to. row_of_channel planes s k row) ∙ sym is

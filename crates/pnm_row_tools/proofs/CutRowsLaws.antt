@@ -1,10 +1,14 @@
 -- The columns that are kept of rows that are held one after another.
-use Rattle.std.proofs.Common.{◌≡◌, ◌⊎◌, inl, inr, ℕ, zero, suc, ◌+◌, ◌-◌, ◌*◌, ◌<◌, ◌≤◌, Some, List, [], ◌∷◌, ◌++◌, length, map, take, drop, All}
+use Rattle.std.proofs.Common.{◌≡◌, ◌⊎◌, inl, inr, ℕ, zero, suc, ◌+◌, ◌-◌, ◌*◌, ◌<◌, ◌≤◌, Some, List, [], ◌∷◌, ◌++◌, get_or, length, map, take, drop, All}
 use Rattle.std.proofs.Common.{refl, sym, ap, subst, ◌∙◌, arith, add-mul, mul-le-mul, length-drop}
 use Rattle.std.specs.List.{AllByRecursion}
-use Rattle.std.proofs.lemmas.List.{take_all}
+use Rattle.std.proofs.lemmas.List.{length-map, length-take-le, take_all}
+use Rattle.std.proofs.lemmas.List.Elements.{All-from_recursion, All-map}
 use Rattle.pnm_image.specs.declared.shape.Shape.{Shape}
 use Rattle.pnm_image.specs.Heads.{row_length}
+use Rattle.pnm_image.specs.HeldRows.{AreRows, AreRowsWithin, row_lists}
+use Rattle.pnm_image.specs.declared.rows.RowVec.{RowVec}
+use Rattle.pnm_image.proofs.HeldRowLaws.{length_of_lists}
 use Rattle.pnm_image.specs.Images.{cut_rows}
 use Rattle.pnm_image.specs.Places.{IsRowOf}
 use Rattle.pnm_tools.specs.Answering.{rows_answer}
@@ -15,9 +19,10 @@ use Rattle.pnm_tools.specs.declared.tool.Tool.TheVariants.{Cut}
 use Rattle.pnm_tools.proofs.CutRowLaws.{all_kept, cut_row_by, row_inside, row_outside}
 use Rattle.pnm_samples.proofs.CutLaws.{length-cut_rows}
 use Rattle.pnm_row_tools.specs.declared.cut.Parts.{Parts}
-use Rattle.pnm_row_tools.specs.EachRow.{changed, part, parts_of}
+use Rattle.pnm_row_tools.specs.EachRow.{changed, held_samples, part, parts_of}
 use Rattle.pnm_row_tools.specs.Keeping.{parts_kept}
-use Rattle.pnm_row_tools.proofs.EachRowLaws.{changed_within, cut_again, cut_between, each_of_shape, length-changed, part_long, part_within, rows_between}
+use Rattle.pnm_row_tools.proofs.EachRowLaws.{cut_again, cut_between, length-changed, part_long, part_within, rows_between}
+use Rattle.pnm_row_tools.proofs.HeldRowsLaws.{held_cut, held_long, length_of_shape}
 
 -- the columns lie among those of an image of this shape
 abbrev pub LieIn : Span → Shape → Type 0
@@ -67,16 +72,16 @@ pub record AreCut (columns among : Span) (s : Shape) (count each : ℕ) (samples
   pub cut : rows ≡ cut_rows count each samples
   pub are : AllByRecursion (IsRowOf s) rows
 
-pub are_cut : (columns among : Span) (s : Shape) (count each : ℕ) (samples : List ℕ) (rows : List (List ℕ)) → LieIn columns s
-    → (among.first ≤ among.last) × (among.last < length rows) → 1 ≤ count → length samples ≡ count * each → rows ≡ cut_rows count each samples
-    → AllByRecursion (IsRowOf s) rows → AreCut columns among s count each samples rows
-are_cut columns among s count each samples rows lie within some long cut are = record {
+pub are_cut : (columns among : Span) (s : Shape) (count each : ℕ) (held : RowVec) (rows : List (List ℕ)) → LieIn columns s
+    → (among.first ≤ among.last) × (among.last < length rows) → 1 ≤ count → AreRows count each held → rows ≡ row_lists count each held
+    → AllByRecursion (IsRowOf s) rows → AreCut columns among s count each (held_samples held) rows
+are_cut columns among s count each held rows lie within some whole cut are = record {
   lie = lie;
   some = within.0;
-  below = omega (arith, within.1, ap length cut, length-cut_rows count each samples);
-  each_is = each_of_shape s count each samples some long (subst (AllByRecursion (IsRowOf s)) cut are);
-  long = long;
-  cut = cut;
+  below = omega (arith, within.1, ap length cut, length_of_lists count each held whole);
+  each_is = length_of_shape s count each held some whole (subst (AllByRecursion (IsRowOf s)) cut are);
+  long = held_long count each held whole;
+  cut = cut ∙ sym (held_cut count each held whole);
   are = are;
 }
 
@@ -96,18 +101,12 @@ rows_of_span columns among s count each samples rows h =
     cut_between among.first (span_count among) count each samples (omega (arith, h.some, h.below))
     ∙ ap (λ (l : List (List ℕ)). take (span_count among) (drop among.first l)) (sym h.cut)
 
-rows_of_kept : (columns among : Span) (s : Shape) (count each : ℕ) (samples : List ℕ) (rows : List (List ℕ)) → AreCut columns among s count each samples rows
-    → AllByRecursion (IsRowOf s) (cut_rows (span_count among) each (drop (among.first * each) samples))
-rows_of_kept columns among s count each samples rows h =
-    subst (AllByRecursion (IsRowOf s)) (sym (rows_of_span columns among s count each samples rows h))
-    (rows_between (IsRowOf s) among.first (span_count among) rows h.are)
-
 -- so do the parts that are kept, and the samples that hold them are as many
 pub parts_fit : (columns among : Span) (s : Shape) (count each : ℕ) (parts : Parts) (samples items : List ℕ) (rows : List (List ℕ))
     → AreCut columns among s count each samples rows → parts ≡ parts_kept columns among s.depth each → items ≡ samples
-    → parts.skipped + parts.count * parts.row_length ≤ length items
+    → parts.top * parts.row_length + parts.count * parts.row_length ≤ length items
 parts_fit columns among s count each parts samples items rows h is same =
-    subst (λ (p : Parts). p.skipped + p.count * p.row_length ≤ length items) (sym is)
+    subst (λ (p : Parts). p.top * p.row_length + p.count * p.row_length ≤ length items) (sym is)
     (omega (arith, rows_fit columns among s count each samples rows h, ap length same))
 
 pub part_fits : (columns among : Span) (s : Shape) (count each : ℕ) (parts : Parts) (samples : List ℕ) (rows : List (List ℕ))
@@ -138,17 +137,6 @@ kept_long columns among s count each kept_rows parts samples items made rows h i
     ∙ length-changed (part start size) each size (part_long start size each (kept_fit columns s each h.lie h.each_is)) (span_count among) rest enough
     ∙ ap (λ (n : ℕ). n * size) (omega (arith, many, h.some)) ∙ ap (λ (p : Parts). kept_rows * p.kept) (sym is)
 
--- none of them is above the maxval
-pub kept_within_maxval : (columns among : Span) (s : Shape) (count each : ℕ) (parts : Parts) (samples items made : List ℕ) (rows : List (List ℕ))
-    → AreCut columns among s count each samples rows → parts ≡ parts_kept columns among s.depth each → items ≡ samples → made ≡ parts_of parts items
-    → All (λ sample. sample ≤ s.maxval) made
-kept_within_maxval columns among s count each parts samples items made rows h is same made_is =
-    let start : ℕ = columns.first * s.depth in
-    let size : ℕ = span_count columns * s.depth in
-    subst (All (λ sample. sample ≤ s.maxval)) (sym (made_of columns among s each parts samples items made is same made_is))
-    (changed_within (part start size) s (part_within start size s) (span_count among) each (drop (among.first * each) samples) (rows_of_kept columns among s
-    count each samples rows h))
-
 -- cut again they are the columns of the rows that are kept
 pub kept_rows_of : (columns among : Span) (s : Shape) (count each kept_rows : ℕ) (parts : Parts) (samples items made : List ℕ) (rows : List (List ℕ))
     → AreCut columns among s count each samples rows → parts ≡ parts_kept columns among s.depth each → items ≡ samples → made ≡ parts_of parts items
@@ -164,6 +152,53 @@ kept_rows_of columns among s count each kept_rows parts samples items made rows 
     ∙ ap (λ (n : ℕ). cut_rows n size (kept_of columns among s each samples)) (omega (arith, many, h.some))
     ∙ columns_of_rows columns s (span_count among) each rest h.lie h.each_is enough
     ∙ ap (map (columns_of_row columns s.depth)) (rows_of_span columns among s count each samples rows h)
+
+-- a part of each of the rows that are kept, where these are lists
+pub lists_kept : (columns among : Span) (s : Shape) (count each kept_rows : ℕ) (parts : Parts) (samples : List ℕ) (bits made rows : List (List ℕ))
+    → AreCut columns among s count each samples rows → parts ≡ parts_kept columns among s.depth each → rows ≡ bits
+    → made ≡ map (λ row. take parts.kept (drop parts.first row)) (take parts.count (drop parts.top bits)) → kept_rows ≡ among.last - among.first + 1
+    → ((length made ≡ kept_rows) × All (λ row. length row ≡ parts.kept) made)
+    × (made ≡ map (columns_of_row columns s.depth) (take (span_count among) (drop among.first rows)))
+lists_kept columns among s count each kept_rows parts samples bits made rows h is same made_is many =
+    let start : ℕ = columns.first * s.depth in
+    let size : ℕ = span_count columns * s.depth in
+    let n : ℕ = span_count among in
+    let kept : List (List ℕ) = take n (drop among.first rows) in
+    let made_of_rows : made ≡ map (columns_of_row columns s.depth) kept =
+    made_is ∙ ap (λ (p : Parts). map (part p.first p.kept) (take p.count (drop p.top bits))) is
+    ∙ ap (λ (l : List (List ℕ)). map (part start size) (take n (drop among.first l))) (sym same) in
+    let are = All-from_recursion (IsRowOf s) kept (rows_between (IsRowOf s) among.first n rows h.are) in
+    let long : All (λ row. length row ≡ size) (map (part start size) kept) =
+    All-map (λ (row : List ℕ). length row ≡ size) (part start size) kept (λ k d lt.
+    part_long start size each (kept_fit columns s each h.lie h.each_is) (get_or kept k d) ((are k d lt).count ∙ sym h.each_is)) in
+    let rows_long : length rows ≡ count = ap length h.cut ∙ length-cut_rows count each samples in
+    let left : length (drop among.first rows) ≡ count - among.first = length-drop among.first rows ∙ ap (λ (m : ℕ). m - among.first) rows_long in
+    let enough : n ≤ length (drop among.first rows) = omega (arith, left, h.some, h.below) in
+    let all : length kept ≡ kept_rows = length-take-le n (drop among.first rows) enough ∙ omega (arith, many, h.some) in (
+      (
+        ap length made_of_rows ∙ length-map kept (part start size) ∙ all,
+        subst (λ (p : Parts). All (λ row. length row ≡ p.kept) made) (sym is)
+            (subst (All (λ (row : List ℕ). length row ≡ size)) (sym made_of_rows) long),
+      ),
+      made_of_rows,
+    )
+
+-- a row of them holds the part
+pub part_in_row : (columns among : Span) (s : Shape) (count each : ℕ) (parts : Parts) (samples : List ℕ) (bits rows : List (List ℕ))
+    → AreCut columns among s count each samples rows → parts ≡ parts_kept columns among s.depth each → All (λ row. length row ≡ each) bits
+    → (k : ℕ) → k < length bits → parts.first + parts.kept ≤ length (get_or bits k [])
+part_in_row columns among s count each parts samples bits rows h is long k lt =
+    let row_is : parts.row_length ≡ each = ap (λ (p : Parts). p.row_length) is in
+    omega (arith, part_fits columns among s count each parts samples rows h is, row_is, long k [] lt)
+
+-- no sample of what is kept is above the maxval
+pub columns_within : (columns : Span) (s : Shape) (first n : ℕ) (rows : List (List ℕ)) → AllByRecursion (IsRowOf s) rows
+    → AreRowsWithin s.maxval (map (columns_of_row columns s.depth) (take n (drop first rows)))
+columns_within columns s first n rows are =
+    let kept : List (List ℕ) = take n (drop first rows) in
+    let known = All-from_recursion (IsRowOf s) kept (rows_between (IsRowOf s) first n rows are) in
+    All-map (λ (row : List ℕ). All (λ sample. sample ≤ s.maxval) row) (columns_of_row columns s.depth) kept (λ k d lt.
+    part_within (columns.first * s.depth) (span_count columns * s.depth) s (get_or kept k d) (known k d lt))
 
 -- where all rows are among those that are kept
 pub all_rows : (columns among : Span) (s : Shape) (rows : List (List ℕ)) → LieIn columns s → span_count columns * s.depth ≡ row_length s

@@ -5,11 +5,10 @@ use Rattle.std.specs.List.{AllByRecursion, copy_within}
 use Rattle.std.proofs.Math.Seq.{paste}
 use Rattle.std.proofs.lemmas.List.{drop_at, drop-drop, drop-take, length-append, take_at, take-take}
 use Rattle.std.proofs.lemmas.List.Edits.{drop-paste, length-paste, take-paste}
-use Rattle.std.proofs.lemmas.List.Elements.{All-append, All-drop, All-nil, All-take}
+use Rattle.std.proofs.lemmas.List.Elements.{All-drop, All-take}
 use Rattle.pnm_image.proofs.RowLaws.{row_ends_within}
 use Rattle.pnm_image.specs.Images.{cut_rows}
 use Rattle.pnm_image.specs.Places.{IsRowOf}
-use Rattle.pnm_image.specs.Heads.{row_length}
 use Rattle.pnm_image.specs.declared.shape.Shape.{Shape}
 use Rattle.pnm_tools.specs.declared.tool.Tool.{Tool}
 use Rattle.pnm_tools.specs.Answering.{rows_answer}
@@ -62,15 +61,6 @@ cut_again f each size long (suc count) samples le =
     ∙ ap (λ (l : List ℕ). row ∷ cut_rows count size l) (drop_at row later size made)
     ∙ ap (λ (rows : List (List ℕ)). row ∷ rows) (cut_again f each size long count rest enough)
 
--- no sample is above the maxval where none of a changed row is
-pub changed_within : (f : List ℕ → List ℕ) (s : Shape) → ((row : List ℕ) → IsRowOf s row → All (λ sample. sample ≤ s.maxval) (f row))
-    → (count each : ℕ) (samples : List ℕ) → AllByRecursion (IsRowOf s) (cut_rows count each samples)
-    → All (λ sample. sample ≤ s.maxval) (changed f count each samples)
-changed_within f s stays zero each samples are = All-nil (λ sample. sample ≤ s.maxval)
-changed_within f s stays (suc count) each samples are =
-    All-append (λ sample. sample ≤ s.maxval) (f (take each samples)) (changed f count each (drop each samples)) (stays (take each samples) are.0)
-    (changed_within f s stays count each (drop each samples) are.1)
-
 -- each is answered by the changed row
 pub each_answered : (tool : Tool) (s : Shape) (f : List ℕ → List ℕ) (y : ℕ) (rows : List (List ℕ))
     → ((k : ℕ) (row : List ℕ) → y ≤ k → k < y + length rows → row_answer tool s k row ≡ f row ∷ []) → rows_answer tool s y rows ≡ map f rows
@@ -79,13 +69,6 @@ each_answered tool s f y (row ∷ rows) answers =
     ap (λ (l : List (List ℕ)). l ++ rows_answer tool s (y + 1) rows) (answers y row (omega arith) (omega arith))
     ∙ ap (λ (l : List (List ℕ)). f row ∷ l)
     (each_answered tool s f (y + 1) rows (λ k r low high. answers k r (omega (arith, low)) (omega (arith, high))))
-
--- the rows that are cut from samples, at least one, have the shape's row length
-pub each_of_shape : (s : Shape) (count each : ℕ) (samples : List ℕ) → 1 ≤ count → length samples ≡ count * each
-    → AllByRecursion (IsRowOf s) (cut_rows count each samples) → each ≡ row_length s
-each_of_shape s zero each samples some long are = let no : ⊥ = omega (arith, some) in absurd no
-each_of_shape s (suc count) each samples some long are =
-    sym (length-take-le each samples (omega (arith, long, suc-mul count each))) ∙ are.0.count
 
 -- ---- some of the rows that are held
 
@@ -179,19 +162,6 @@ part_moved {X = X} base start size each i count from to dest old now new made fr
           ∙ ap (λ (n : ℕ). drop n old) rest_from;
       long = ap length is ∙ length-paste now to_front source size ends enough ∙ moved.long;
     }
-
--- the part of one row more is appended
-pub part_appended : (base start size each i from : ℕ) (samples old new : List ℕ) → start + size ≤ each
-    → old ≡ changed (part start size) i each (drop base samples) → new ≡ old ++ take size (drop from samples) → from ≡ base + i * each + start
-    → new ≡ changed (part start size) (i + 1) each (drop base samples)
-part_appended base start size each i from samples old new fits before made is =
-    let at : ℕ = base + i * each in
-    let next : suc i ≡ i + 1 = omega arith in
-    let run : drop from samples ≡ drop start (drop at samples) = ap (λ (n : ℕ). drop n samples) is ∙ sym (drop-drop start at samples) in
-    made ∙ ap (λ (l : List ℕ). l ++ take size (drop from samples)) before
-    ∙ ap (λ (l : List ℕ). changed (part start size) i each (drop base samples) ++ take size l) run
-    ∙ sym (row_behind base start size each i samples fits)
-    ∙ ap (λ (n : ℕ). changed (part start size) n each (drop base samples)) next
 
 -- before the first
 pub none_moved : {X : Type 0} (base start size each : ℕ) (old : List X) → AreMoved base start size each 0 old old

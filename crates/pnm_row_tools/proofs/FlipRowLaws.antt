@@ -154,10 +154,6 @@ pub rows_joined : (blocks : List (List (List ℕ))) (rows : List (List ℕ)) →
 rows_joined blocks rows =
     flat_map-append (λ (l : List (List ℕ)). l) blocks (rows ∷ []) ∙ ap (λ (l : List (List ℕ)). joined blocks ++ l) (append-nil rows)
 
--- one row by itself is one row more
-pub row_joined : (blocks : List (List (List ℕ))) (row : List ℕ) → joined (blocks ++ (row ∷ []) ∷ []) ≡ joined blocks ++ row ∷ []
-row_joined blocks row = rows_joined blocks (row ∷ [])
-
 -- nothing is due before the image has ended
 pub none_reversed : (w : Reversed) (s : Shape) (y : ℕ) (row : List ℕ) → ReversesRows (turn_of w.way) → w.ended ≡ None
     → reversed_due w ≡ row_answer (Flip w.way) s y row

@@ -1,15 +1,19 @@
 -- Rows that are held one after another, each turned the last pixel first.
 use Rattle.std.proofs.Common.{◌≡◌, ℕ, zero, suc, ◌+◌, ◌-◌, ◌*◌, ◌<◌, ◌≤◌, Bool, true, false, if◌then◌else◌, Option, Some, List, [], ◌∷◌}
 use Rattle.std.proofs.Common.{◌++◌, length, map, take, drop, All, refl, sym, ap, ap₂, subst, ◌∙◌, arith, mul-le-mul, append-nil, append_assoc}
-use Rattle.std.proofs.Common.{add-mul, length-take-le, length-drop, mul_assoc, reverse, suc-mul, zero-mul}
+use Rattle.std.proofs.Common.{add-mul, get_or, length-take-le, length-drop, mul_assoc, reverse, suc-mul, zero-mul}
 use Rattle.std.specs.List.{AllByRecursion, flat_map, range_with_len}
 use borrow.Rule.Slice.PartMut.{put_mid}
-use Rattle.std.proofs.lemmas.List.{drop-append-le, drop_all, drop_at, drop-drop, drop-take, map-append, map-id, nil_from_length, reverse-append, take-append-le}
-use Rattle.std.proofs.lemmas.List.{take-take, take_all, take_at}
-use Rattle.std.proofs.lemmas.List.Elements.{All-append, All-drop, All-take}
+use Rattle.std.proofs.lemmas.List.{drop-append-le, drop_all, drop_at, drop-drop, drop-take, map-append, nil_from_length, reverse-append, take-append-le}
+use Rattle.std.proofs.lemmas.List.{length-map, length-reverse, take-take, take_all, take_at}
+use Rattle.std.proofs.lemmas.List.Elements.{All-append, All-drop, All-head, All-map, All-tail, All-take}
 use Rattle.pnm_image.specs.declared.shape.Shape.{Shape}
-use Rattle.pnm_image.proofs.RowLaws.{lengths_of_cut_rows, row_ends_within}
+use Rattle.pnm_image.proofs.RowLaws.{lengths_of_cut_rows}
 use Rattle.pnm_image.specs.Heads.{row_length}
+use Rattle.pnm_image.specs.HeldRows.{AreRows, AreRowsWithin, row_lists}
+use Rattle.pnm_image.specs.declared.rows.RowVec.{RowVec}
+use Rattle.pnm_image.specs.declared.rows.RowVec.TheVariants.{Bits}
+use Rattle.pnm_image.proofs.HeldRowLaws.{length_of_lists}
 use Rattle.pnm_image.specs.Images.{cut_rows}
 use Rattle.pnm_image.specs.Places.{IsRowOf}
 use Rattle.pnm_tools.specs.Answering.{rows_answer}
@@ -21,10 +25,11 @@ use Rattle.pnm_tools.specs.declared.tool.Tool.TheVariants.{Flip}
 use Rattle.pnm_tools.proofs.PickLaws.{columns_end}
 use Rattle.pnm_tools.proofs.RangeLaws.{length_of_equals, pieces_alike, pieces_alike_from, pieces_in_parts}
 use Rattle.pnm_tools.proofs.TurnLaws.{row_moved, row_stays}
-use Rattle.pnm_row_tools.specs.EachRow.{changed, last_first}
+use Rattle.pnm_row_tools.specs.EachRow.{HoldsRows, changed, held_samples, last_first}
 use Rattle.pnm_row_tools.specs.Keeping.{AreRowsOf, IsReversingRows, Reversed, joined, reversed, reversed_due}
-use Rattle.pnm_row_tools.proofs.EachRowLaws.{changed_within, cut_again, each_answered, length-changed, one_row_more}
-use Rattle.pnm_row_tools.proofs.FlipRowLaws.{last_pixels, mirrored_within, one_pixel_more, one_plane, rows_joined}
+use Rattle.pnm_row_tools.proofs.EachRowLaws.{cut_again, each_answered, length-changed, one_row_more}
+use Rattle.pnm_row_tools.proofs.HeldRowsLaws.{held_cut, held_long, reversed_all}
+use Rattle.pnm_row_tools.proofs.FlipRowLaws.{mirrored_within, one_plane, rows_joined}
 
 -- a pixel of a row has a sample of each plane
 pixel_long : {X : Type 0} (width depth x : ℕ) (row : List X) → x < width → length row ≡ width * depth → length (pixel_of depth row x) ≡ depth
@@ -83,60 +88,6 @@ all_mirrored {X = X} s each i count old now all long mirrored =
     mirrored.is ∙ ap (λ (n : ℕ). changed (mirrored_row s) n each old ++ drop (n * each) old) all
     ∙ ap (λ (l : List X). changed (mirrored_row s) count each old ++ l) none ∙ append-nil (changed (mirrored_row s) count each old)
 
--- ---- the same of rows that are copied in the other order, and then turned round as one
-
--- so many of the last rows are copied, the last one first
-pub record AreCopied (s : Shape) (count each i : ℕ) (old copy : List ℕ) : Type 0 where
-  pub is : reverse copy ≡ changed (mirrored_row s) i each (drop ((count - i) * each) old)
-
--- before the first
-pub none_copied : (s : Shape) (count each : ℕ) (old copy : List ℕ) → copy ≡ [] → AreCopied s count each 0 old copy
-none_copied s count each old copy none = record { is = ap (λ (l : List ℕ). reverse l) none }
-
--- one row more
-pub row_copied : (s : Shape) (count each i last : ℕ) (old copy new : List ℕ) → s.depth ≡ 1 → each ≡ row_length s → i < count → length old ≡ count * each
-    → AreCopied s count each i old copy → new ≡ copy ++ take each (drop (last * each) old) → last ≡ count - 1 - i → AreCopied s count each (i + 1) old new
-row_copied s count each i last old copy new plane is_each below long copied made is =
-    let from : ℕ = last * each in
-    let f : List ℕ → List ℕ = mirrored_row s in
-    let rest : List ℕ = drop from old in
-    let row : List ℕ = take each rest in
-    let place : (count - (i + 1)) * each ≡ from = ap (λ (n : ℕ). n * each) (omega (arith, is)) in
-    let counts : suc last ≡ count - i = omega (arith, below, is) in
-    let behind : from + each ≡ (count - i) * each = omega (arith, suc-mul last each, ap (λ (n : ℕ). n * each) counts) in
-    let enough : each ≤ length rest =
-    omega (arith, length-drop from old, long, row_ends_within count each last (omega (arith, below, is))) in
-    let whole : length row ≡ s.width * s.depth = length-take-le each rest enough ∙ is_each in
-    let turned : reverse row ≡ f row = one_plane s.width s.depth row (reverse row) (omega (arith, plane)) (omega (arith, plane)) whole refl in
-    let next : suc i ≡ i + 1 = omega arith in
-    record {
-      is = ap (λ (l : List ℕ). reverse l) made ∙ reverse-append copy row
-          ∙ ap (λ (l : List ℕ). l ++ reverse copy) turned
-          ∙ ap (λ (l : List ℕ). f row ++ l) copied.is
-          ∙ ap (λ (n : ℕ). f row ++ changed f i each (drop n old)) (sym behind)
-          ∙ ap (λ (l : List ℕ). f row ++ changed f i each l) (sym (drop-drop each from old))
-          ∙ ap (λ (n : ℕ). changed f n each rest) next
-          ∙ ap (λ (n : ℕ). changed f (i + 1) each (drop n old)) (sym place);
-    }
-
--- so many of the last rows, the last one first
-last_copied : (s : Shape) (count each i : ℕ) (old : List ℕ) → s.depth ≡ 1 → each ≡ row_length s → length old ≡ count * each → i ≤ count
-    → AreCopied s count each i old (last_pixels count each old i)
-last_copied s count each zero old plane is long fits = none_copied s count each old [] refl
-last_copied s count each (suc i) old plane is long fits =
-    let next : i + 1 ≡ suc i = omega arith in
-    subst (λ (n : ℕ). AreCopied s count each n old (last_pixels count each old n)) next
-    (row_copied s count each i (count - 1 - i) old (last_pixels count each old i) (last_pixels count each old (i + 1)) plane is (omega (arith, fits)) long
-    (last_copied s count each i old plane is long (omega (arith, fits))) (one_pixel_more count each old i) refl)
-
--- rows that were copied, the last one first, and are turned round
-pub copy_mirrored : (s : Shape) (count each : ℕ) (old copy new : List ℕ) → s.depth ≡ 1 → each ≡ row_length s → length old ≡ count * each
-    → copy ≡ last_first count each old → new ≡ reverse copy → new ≡ changed (mirrored_row s) count each old
-copy_mirrored s count each old copy new plane is long copied made =
-    let none : (count - count) * each ≡ 0 = ap (λ (n : ℕ). n * each) (omega arith) ∙ zero-mul each in
-    made ∙ ap (λ (l : List ℕ). reverse l) copied ∙ (last_copied s count each count old plane is long (omega arith)).is
-    ∙ ap (λ (n : ℕ). changed (mirrored_row s) count each (drop n old)) none
-
 -- a mirrored row has no sample above the maxval
 each_within : (s : Shape) (row : List ℕ) → IsRowOf s row → All (λ sample. sample ≤ s.maxval) (mirrored_row s row)
 each_within s row is = mirrored_within s.maxval s.width s.depth row (mirrored_row s row) refl is.range
@@ -148,12 +99,6 @@ pub rows_in_place : (s : Shape) (count each len : ℕ) (samples items lent new :
 rows_in_place s count each len samples items lent new made long same given counted =
     let size : length new ≡ len = long ∙ ap length same ∙ sym counted in
     take_at new (drop (length new) items) len size ∙ made ∙ ap (λ (l : List ℕ). changed (mirrored_row s) count each l) (same ∙ given)
-
--- they have no sample above the maxval
-pub rows_within : (s : Shape) (count each : ℕ) (samples new : List ℕ) → new ≡ changed (mirrored_row s) count each samples
-    → AllByRecursion (IsRowOf s) (cut_rows count each samples) → All (λ sample. sample ≤ s.maxval) new
-rows_within s count each samples new is are =
-    subst (All (λ sample. sample ≤ s.maxval)) (sym is) (changed_within (mirrored_row s) s (each_within s) count each samples are)
 
 -- they are as many samples
 pub rows_long : (s : Shape) (count each : ℕ) (samples : List ℕ) → 0 < s.width → each ≡ row_length s → length samples ≡ count * each
@@ -263,10 +208,6 @@ one_piece : (size : ℕ) (row : List ℕ) → length row ≡ size → last_first
 one_piece size row long =
     append-nil (take size (drop (0 * size) row)) ∙ ap (λ (n : ℕ). take size (drop n row)) (zero-mul size) ∙ take_all size row (omega (arith, long))
 
-pub one_row_reversed : (count each : ℕ) (samples : List ℕ) → count ≡ 1 → length samples ≡ count * each → samples ≡ last_first count each samples
-one_row_reversed count each samples one long =
-    sym (one_piece each samples (omega (arith, long, ap (λ (n : ℕ). n * each) one))) ∙ ap (λ (n : ℕ). last_first n each samples) (sym one)
-
 pieces_stay : (size : ℕ) (rows : List (List ℕ)) → AllByRecursion (λ row. length row ≡ size) rows → map (last_first 1 size) rows ≡ rows
 pieces_stay size [] long = refl
 pieces_stay size (row ∷ rows) long = ap₂ (λ (r : List ℕ) (l : List (List ℕ)). r ∷ l) (one_piece size row long.0) (pieces_stay size rows long.1)
@@ -283,32 +224,126 @@ rows_reversed count each samples long =
     ∙ ap (λ (n : ℕ). reverse (map (last_first 1 each) (cut_rows count n samples))) one
     ∙ ap (λ (l : List (List ℕ)). reverse l) (pieces_stay each (cut_rows count each samples) (lengths_of_cut_rows count each samples long))
 
--- the rows of a block, the last one first, each the last pixel first
-pub rows_mirrored : (t : Turn) (s : Shape) (count each : ℕ) (samples made : List ℕ) (rows : List (List ℕ)) → t.columns_reversed ≡ true → each ≡ row_length s
-    → length samples ≡ count * each → rows ≡ cut_rows count each samples → made ≡ last_first (count * s.width) s.depth samples
-    → cut_rows count each made ≡ map (turned_row t s) (reverse rows)
-rows_mirrored t s count each samples made rows mirrors is long cut made_is =
-    ap (cut_rows count each) made_is ∙ ap (λ (n : ℕ). cut_rows count n (last_first (count * s.width) s.depth samples)) is
-    ∙ all_turned count s.width s.depth samples (long ∙ ap (λ (n : ℕ). count * n) is)
-    ∙ sym (map_reversed (mirrored_row s) (cut_rows count (row_length s) samples))
-    ∙ ap (λ (n : ℕ). map (mirrored_row s) (reverse (cut_rows count n samples))) (sym is)
-    ∙ ap (λ (l : List (List ℕ)). map (mirrored_row s) (reverse l)) (sym cut)
-    ∙ ap (λ (b : Bool). map (λ (row : List ℕ). if b then mirrored_row s row else row) (reverse rows)) (sym mirrors)
-
--- and each as it is
-pub rows_as_they_are : (t : Turn) (s : Shape) (count each : ℕ) (samples made : List ℕ) (rows : List (List ℕ)) → t.columns_reversed ≡ false
-    → length samples ≡ count * each → rows ≡ cut_rows count each samples → made ≡ last_first count each samples
-    → cut_rows count each made ≡ map (turned_row t s) (reverse rows)
-rows_as_they_are t s count each samples made rows stays long cut made_is =
-    ap (cut_rows count each) made_is ∙ rows_reversed count each samples long ∙ ap (λ (l : List (List ℕ)). reverse l) (sym cut)
-    ∙ sym (map-id (reverse rows))
-    ∙ ap (λ (b : Bool). map (λ (row : List ℕ). if b then mirrored_row s row else row) (reverse rows)) (sym stays)
-
 -- they are as many samples
 pub turned_long : (count each pixels size : ℕ) (samples made : List ℕ) → length samples ≡ count * each → count * each ≡ pixels * size
     → made ≡ last_first pixels size samples → length made ≡ count * each
 turned_long count each pixels size samples made long same made_is =
     ap length made_is ∙ last_first_long pixels size samples (long ∙ same) ∙ sym same
+
+-- ---- rows as they are held, each the last pixel first
+
+-- rows of one plane
+lists_mirrored : (s : Shape) (rows : List (List ℕ)) → s.depth ≡ 1 → All (λ row. length row ≡ row_length s) rows → map reverse rows ≡ map (mirrored_row s) rows
+lists_mirrored s [] plane long = refl
+lists_mirrored s (row ∷ rows) plane long =
+    let Long : List ℕ → Type 0 = λ (row : List ℕ). length row ≡ row_length s in
+    ap₂ (λ (r : List ℕ) (l : List (List ℕ)). r ∷ l)
+    (one_plane s.width s.depth row (reverse row) (omega (arith, plane)) (omega (arith, plane)) (All-head Long row rows long) refl)
+    (lists_mirrored s rows plane (All-tail Long row rows long))
+
+lists_long : (each : ℕ) (rows : List (List ℕ)) → All (λ row. length row ≡ each) rows → All (λ row. length row ≡ each) (map reverse rows)
+lists_long each rows long =
+    All-map (λ (row : List ℕ). length row ≡ each) reverse rows (λ k d lt. length-reverse (get_or rows k d) ∙ long k d lt)
+
+pub bits_mirrored : (s : Shape) (count : ℕ) (old : RowVec) (rows new : List (List ℕ)) → s.depth ≡ 1 → old ≡ Bits rows → new ≡ map reverse rows
+    → AreRows count (row_length s) old
+    → ((length new ≡ count) × All (λ row. length row ≡ row_length s) new) × (new ≡ map (mirrored_row s) (row_lists count (row_length s) old))
+bits_mirrored s count old rows new plane held is whole =
+    let known = subst (AreRows count (row_length s)) held whole in (
+      (
+        ap length is ∙ length-map rows reverse ∙ known.0,
+        subst (All (λ (row : List ℕ). length row ≡ row_length s)) (sym is) (lists_long (row_length s) rows known.1),
+      ),
+      is ∙ lists_mirrored s rows plane known.1 ∙ ap (λ (h : RowVec). map (mirrored_row s) (row_lists count (row_length s) h)) (sym held),
+    )
+
+-- rows that are held one after another
+pub items_mirrored : (s : Shape) (count : ℕ) (old : RowVec) (new : List ℕ) → 0 < s.width → new ≡ changed (mirrored_row s) count (row_length s) (held_samples old)
+    → AreRows count (row_length s) old
+    → (length new ≡ count * row_length s) × (cut_rows count (row_length s) new ≡ map (mirrored_row s) (row_lists count (row_length s) old))
+items_mirrored s count old new some is whole =
+    let long = held_long count (row_length s) old whole in (
+      ap length is ∙ rows_long s count (row_length s) (held_samples old) some refl long,
+      ap (cut_rows count (row_length s)) is ∙ rows_cut_again s count (row_length s) (held_samples old) some refl long
+          ∙ ap (map (mirrored_row s)) (held_cut count (row_length s) old whole),
+    )
+
+-- rows of an image of this shape, which are as long as it says
+pub mirrored_as_long : (s : Shape) (count each : ℕ) (old new : RowVec) (rows : List (List ℕ)) → each ≡ row_length s → rows ≡ row_lists count each old
+    → AreRows count each old
+    → (AreRows count (row_length s) old → HoldsRows count (row_length s) new (map (mirrored_row s) (row_lists count (row_length s) old)))
+    → HoldsRows count each new (map (mirrored_row s) rows)
+mirrored_as_long s count each old new rows is cut whole known =
+    let made =
+    subst (λ (n : ℕ). AreRows count n old → HoldsRows count n new (map (mirrored_row s) (row_lists count n old))) (sym is) known whole in
+    (made.0, made.1 ∙ ap (map (mirrored_row s)) (sym cut))
+
+-- no sample of them is above the maxval
+pub mirrored_rows_within : (s : Shape) (rows : List (List ℕ)) → All (IsRowOf s) rows → AreRowsWithin s.maxval (map (mirrored_row s) rows)
+mirrored_rows_within s rows are =
+    All-map (λ (row : List ℕ). All (λ sample. sample ≤ s.maxval) row) (mirrored_row s) rows (λ k d lt. each_within s (get_or rows k d) (are k d lt))
+
+-- ---- and the last row first
+
+pub bits_turned : (s : Shape) (count : ℕ) (old : RowVec) (rows new : List (List ℕ)) → s.depth ≡ 1 → old ≡ Bits rows → new ≡ reverse (map reverse rows)
+    → AreRows count (row_length s) old
+    → ((length new ≡ count) × All (λ row. length row ≡ row_length s) new) × (new ≡ map (mirrored_row s) (reverse (row_lists count (row_length s) old)))
+bits_turned s count old rows new plane held is whole =
+    let Long : List ℕ → Type 0 = λ (row : List ℕ). length row ≡ row_length s in
+    let known = subst (AreRows count (row_length s)) held whole in (
+      (
+        ap length is ∙ length-reverse (map reverse rows) ∙ length-map rows reverse ∙ known.0,
+        subst (All Long) (sym is) (reversed_all Long (map reverse rows) (lists_long (row_length s) rows known.1)),
+      ),
+      is ∙ ap (λ (l : List (List ℕ)). reverse l) (lists_mirrored s rows plane known.1) ∙ sym (map_reversed (mirrored_row s) rows)
+          ∙ ap (λ (h : RowVec). map (mirrored_row s) (reverse (row_lists count (row_length s) h))) (sym held),
+    )
+
+pub items_turned : (s : Shape) (count : ℕ) (old : RowVec) (new : List ℕ) → new ≡ last_first (count * s.width) s.depth (held_samples old)
+    → AreRows count (row_length s) old
+    → (length new ≡ count * row_length s) × (cut_rows count (row_length s) new ≡ map (mirrored_row s) (reverse (row_lists count (row_length s) old)))
+items_turned s count old new is whole =
+    let each : ℕ = row_length s in
+    let samples : List ℕ = held_samples old in
+    let long = held_long count each old whole in (
+      turned_long count each (count * s.width) s.depth samples new long (sym (mul_assoc count s.width s.depth)) is,
+      ap (cut_rows count each) is ∙ all_turned count s.width s.depth samples long ∙ sym (map_reversed (mirrored_row s) (cut_rows count each samples))
+          ∙ ap (λ (l : List (List ℕ)). map (mirrored_row s) (reverse l)) (held_cut count each old whole),
+    )
+
+-- each as it is
+pub bits_reversed : (count each : ℕ) (old : RowVec) (rows new : List (List ℕ)) → old ≡ Bits rows → new ≡ reverse rows → AreRows count each old
+    → ((length new ≡ count) × All (λ row. length row ≡ each) new) × (new ≡ reverse (row_lists count each old))
+bits_reversed count each old rows new held is whole =
+    let Long : List ℕ → Type 0 = λ (row : List ℕ). length row ≡ each in
+    let known = subst (AreRows count each) held whole in (
+      (ap length is ∙ length-reverse rows ∙ known.0, subst (All Long) (sym is) (reversed_all Long rows known.1)),
+      is ∙ ap (λ (h : RowVec). reverse (row_lists count each h)) (sym held),
+    )
+
+pub items_reversed : (count each : ℕ) (old : RowVec) (new : List ℕ) → new ≡ last_first count each (held_samples old) → AreRows count each old
+    → (length new ≡ count * each) × (cut_rows count each new ≡ reverse (row_lists count each old))
+items_reversed count each old new is whole =
+    let long = held_long count each old whole in (
+      turned_long count each count each (held_samples old) new long refl is,
+      ap (cut_rows count each) is ∙ rows_reversed count each (held_samples old) long ∙ ap (λ (l : List (List ℕ)). reverse l) (held_cut count each old whole),
+    )
+
+-- a row by itself
+only_row_reversed : (rows : List (List ℕ)) → length rows ≡ 1 → rows ≡ reverse rows
+only_row_reversed [] one = absurd (omega (arith, one))
+only_row_reversed (row ∷ []) one = refl
+only_row_reversed (row ∷ next ∷ rows) one = absurd (omega (arith, one))
+
+pub one_row_reversed : (count each : ℕ) (held : RowVec) → count ≡ 1 → AreRows count each held → row_lists count each held ≡ reverse (row_lists count each held)
+one_row_reversed count each held one whole = only_row_reversed (row_lists count each held) (length_of_lists count each held whole ∙ one)
+
+-- rows of an image of this shape
+pub turned_as_long : (s : Shape) (count each : ℕ) (old new : RowVec) → each ≡ row_length s
+    → HoldsRows count (row_length s) new (map (mirrored_row s) (reverse (row_lists count (row_length s) old)))
+    → HoldsRows count each new (map (mirrored_row s) (reverse (row_lists count each old)))
+turned_as_long s count each old new is known =
+    subst (λ (n : ℕ). HoldsRows count n new (map (mirrored_row s) (reverse (row_lists count n old)))) (sym is) known
 
 -- rows that answer nothing yet
 pub none_answer : (way : FlipWay) (s : Shape) (y : ℕ) (rows : List (List ℕ)) → moves_rows (turn_of way) ≡ true → rows_answer (Flip way) s y rows ≡ []

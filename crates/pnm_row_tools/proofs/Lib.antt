@@ -6,4 +6,4 @@ pub mod EachRowLaws
 pub mod CutRowsLaws
 pub mod FlipRowsLaws
 pub mod ChannelRowsLaws
-pub mod ByteRowsLaws
+pub mod HeldRowsLaws

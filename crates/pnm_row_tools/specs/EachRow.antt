@@ -1,6 +1,9 @@
 -- Rows that are held one after another, each of as many samples as the others.
-use Rattle.std.specs.Prelude.{◌≡◌, ℕ, zero, suc, ◌-◌, ◌*◌, ◌%◌, List, [], ◌++◌, take, drop}
-use Rattle.std.specs.List.{flat_map, range_with_len}
+use Rattle.std.specs.Prelude.{◌≡◌, ℕ, zero, suc, ◌-◌, ◌*◌, List, [], ◌++◌, map, take, drop}
+use Rattle.std.specs.List.{concat, flat_map, range_with_len}
+use Rattle.pnm_image.specs.HeldRows.{AreRows, row_lists}
+use Rattle.pnm_image.specs.declared.rows.RowVec.{RowVec}
+use Rattle.pnm_image.specs.declared.rows.RowVec.TheVariants.{Bits, Bytes, Words}
 use Rattle.pnm_row_tools.specs.declared.cut.Parts.{Parts}
 use Rattle.pnm_tools.specs.Pixels.{pixel_of}
 
@@ -15,17 +18,26 @@ part start size row = take size (drop start row)
 
 -- the parts of rows, one after another
 abbrev pub parts_of : {X : Type 0} → Parts → List X → List X
-parts_of parts samples = changed (part parts.first parts.kept) parts.count parts.row_length (drop parts.skipped samples)
-
--- parts, and so many pixels, that are whole bytes, and how many of these they are
-pub record AreInBytes (bytes parts : Parts) (count_of_pixels : ℕ) : Type 0 where
-  pub skipped : parts.skipped ≡ 8 * bytes.skipped
-  pub count : parts.count ≡ bytes.count
-  pub row_length : parts.row_length ≡ 8 * bytes.row_length
-  pub first : parts.first ≡ 8 * bytes.first
-  pub kept : parts.kept ≡ 8 * bytes.kept
-  pub pixels : count_of_pixels % 8 ≡ 0
+parts_of parts samples =
+    changed (part parts.first parts.kept) parts.count parts.row_length (drop (parts.top * parts.row_length) samples)
 
 -- so many rows, or pixels, of so many samples each, the last one first
 abbrev pub last_first : {X : Type 0} → ℕ → ℕ → List X → List X
 last_first count size samples = flat_map (λ x. pixel_of size samples (count - 1 - x)) (range_with_len 0 count)
+
+-- ---- rows as wide as they have to be
+
+-- all samples of rows, those of the first row first
+abbrev pub held_samples : RowVec → List ℕ
+held_samples (Bits rows) = concat rows
+held_samples (Bytes bytes) = bytes.items
+held_samples (Words words) = words.items
+
+-- so many rows of so many samples are held, and they are these
+abbrev pub HoldsRows : ℕ → ℕ → RowVec → List (List ℕ) → Type 0
+HoldsRows count each held rows = AreRows count each held × (row_lists count each held ≡ rows)
+
+-- each sample is changed, in rows as many and as long; they may be held in another width
+abbrev pub IsEachChanged : (ℕ → ℕ) → RowVec → RowVec → Type 0
+IsEachChanged f old new =
+    (count each : ℕ) → AreRows count each old → HoldsRows count each new (map (map f) (row_lists count each old))

@@ -28,7 +28,7 @@ pub record HasSpans (w : Cutter) (s : Shape) : Type 0 where
 -- what is kept of these of the rows of so many samples, where these columns of so many planes are
 abbrev pub parts_kept : Span → Span → ℕ → ℕ → Parts
 parts_kept columns among depth row_length = record {
-  skipped = among.first * row_length;
+  top = among.first;
   count = span_count among;
   row_length = row_length;
   first = columns.first * depth;

@@ -2,9 +2,11 @@
 
 ghost use Rattle.std.specs.Prelude.{◌≡◌, ◌<◌, ◌≤◌, ◌↔◌, ◌⊎◌, ◌+◌, ◌*◌, All, IsTrue, OnOk, IfOk, IfErr, Ok, Err, length};
 ghost use Rattle.std.specs.Prelude.{map, slice_index_or, []};
+ghost use Rattle.std.specs.List.{AllByRecursion};
+ghost use Rattle.pnm_image.specs.Places.{IsRowOf};
 ghost use Rattle.pnm_tools.specs.declared.fault.ToolFault.TheVariants.{Memory};
 ghost use Rattle.pnm_tools.specs.declared.tool.Tool.TheVariants.{Channel};
-ghost use Rattle.pnm_tools.specs.Channel.{picked_or, picked_samples, IsLawfulPick, HasPlanes};
+ghost use Rattle.pnm_tools.specs.Channel.{picked_or, picked_row, IsLawfulPick, HasPlanes};
 ghost use Rattle.pnm_tools.specs.Tools.{TakesHead, result_head};
 ghost use Rattle.pnm_row_tools.specs.Keeping.{as_wide};
 
@@ -13,27 +15,40 @@ use pnm_image::{Head, Kind, RowSlice, RowVec, Rows, Samples, Shape};
 use pnm_tools::{Planes, ToolFault, head_within_limits};
 use std::alloc::{AllocError, Global};
 
-/// The samples of these planes of so many pixels of rows of an image of this shape, held as the pixels are, but bits as
-/// bytes.
+/// These planes of rows of an image of this shape, of all pixels at once, held as the rows are, but bits as bytes.
 ///
 /// # Errors
 ///
 /// Where there is no memory for them.
 fn pick_planes(
     alloc: Global,
-    numbers: &[u16],
+    planes: &Planes,
     shape: Shape,
-    pixels: usize,
     rows: &Rows,
-) -> Result<RowVec, AllocError> {
-    Ok(match rows.as_slice() {
+) -> Result<Rows, AllocError>
+    requires lawful { IsLawfulPick planes.now }
+    requires planes { HasPlanes planes.now shape }
+    requires rows { AllByRecursion (IsRowOf shape) rows.now }
+    ensures { IfOk result (λ picked. picked ≡ map (picked_row planes.now shape) rows.now) }
+{
+    let (numbers, count, width) = (planes.numbers(), rows.count(), shape.width as usize);
+    let pixels = count as usize * width;
+    let held = match rows.as_slice() {
         RowSlice::Bits(bits) => {
             let unpacked = bits.to_bytes(alloc)?;
-            RowVec::Bytes(pick(alloc, numbers, shape, pixels, unpacked.as_slice())?)
+            let picked = pick(alloc, numbers, shape, pixels, unpacked.as_slice())?;
+            RowVec::Bytes(picked)
         }
-        RowSlice::Bytes(bytes) => RowVec::Bytes(pick(alloc, numbers, shape, pixels, bytes)?),
-        RowSlice::Words(words) => RowVec::Words(pick(alloc, numbers, shape, pixels, words)?),
-    })
+        RowSlice::Bytes(bytes) => {
+            let picked = pick(alloc, numbers, shape, pixels, bytes)?;
+            RowVec::Bytes(picked)
+        }
+        RowSlice::Words(words) => {
+            let picked = pick(alloc, numbers, shape, pixels, words)?;
+            RowVec::Words(picked)
+        }
+    };
+    Ok(Rows::new(held, shape.maxval, count, width * numbers.len()))
 }
 
 /// The samples of these planes of so many pixels of an image of this shape.
@@ -100,21 +115,14 @@ impl RowTool for Planes {
         _y: u32,
         row: Samples,
     ) -> Result<Option<Samples>, ToolFault> {
-        let (width, numbers) = (shape.width as usize, self.numbers());
-        let picked = pick_planes(alloc, numbers, shape, width, &Rows::one(row))?;
-        let made = Rows::new(picked, shape.maxval, 1, width * numbers.len());
-        Ok(Some(made.into_first()))
+        let picked = pick_planes(alloc, self, shape, &Rows::one(row))?;
+        Ok(Some(picked.into_first()))
     }
 
-    /// Makes new rows, of all pixels at once.
+    /// Makes new rows.
     fn rows(&self, alloc: Global, shape: Shape, _y: u32, rows: Rows) -> Result<Option<Rows>, Rows> {
-        let (width, numbers) = (shape.width as usize, self.numbers());
-        let count = rows.count();
-        match pick_planes(alloc, numbers, shape, count as usize * width, &rows) {
-            Ok(picked) => {
-                let made = Rows::new(picked, shape.maxval, count, width * numbers.len());
-                Ok(Some(made))
-            }
+        match pick_planes(alloc, self, shape, &rows) {
+            Ok(picked) => Ok(Some(picked)),
             Err(_) => Err(rows),
         }
     }

@@ -9,7 +9,7 @@ ghost use Rattle.pnm_tools.specs.Cut.{IsLawfulAxis, KeepsWithin, columns_of_row,
 ghost use Rattle.pnm_tools.specs.Cut.{edge_of, IsLawfulBox, columns_kept, rows_kept, span_count};
 ghost use Rattle.pnm_tools.specs.declared.tool.Tool.TheVariants.{Cut};
 ghost use Rattle.pnm_row_tools.specs.Keeping.{parts_kept};
-ghost use Rattle.pnm_row_tools.specs.EachRow.{AreInBytes, parts_of};
+ghost use Rattle.pnm_row_tools.specs.EachRow.{parts_of};
 
 use crate::row_tool::RowTool;
 use pnm_image::{Bits, Head, RowVec, Rows, SampleVec, Samples, Shape};
@@ -71,9 +71,8 @@ fn keep<T: Copy>(row: &mut Vec<T>, columns: Span, depth: usize)
 /// Of each of some rows that follow one another the samples that are kept.
 #[derive(Clone, Copy)]
 struct Parts {
-    /// The samples before the first of these rows.
-    skipped: usize,
-    /// How many rows these are.
+    /// The first of these rows, and how many they are.
+    top: usize,
     count: usize,
     /// The samples of a row.
     row_length: usize,
@@ -110,8 +109,7 @@ fn keep_columns_of_rows(
     }
     let kept = match held {
         RowVec::Bits(bits) => {
-            let (top, first) = (among.first as usize, parts.first);
-            match bits.part(alloc, top, parts.count, first, parts.kept) {
+            match bits.part(alloc, parts.top, parts.count, parts.first, parts.kept) {
                 Ok(part) => RowVec::Bits(part),
                 Err(_) => {
                     return Err(Rows::new(RowVec::Bits(bits), shape.maxval, count, row_length));
@@ -133,11 +131,11 @@ fn keep_columns_of_rows(
 /// What is kept of these of the rows, where these columns are.
 fn parts_kept(columns: Span, among: Span, depth: usize, row_length: usize) -> Parts
     requires columns { (columns.first ≤ columns.last) × ((columns.last + 1) * depth < 2 ^ 64) }
-    requires among { (among.first ≤ among.last) × (among.first * row_length < 2 ^ 64) }
+    requires among { among.first ≤ among.last }
     ensures { result ≡ parts_kept columns among depth row_length }
 {
     Parts {
-        skipped: among.first as usize * row_length,
+        top: among.first as usize,
         count: (among.last - among.first) as usize + 1,
         row_length,
         first: columns.first as usize * depth,
@@ -147,13 +145,13 @@ fn parts_kept(columns: Span, among: Span, depth: usize, row_length: usize) -> Pa
 
 /// Keeps these parts of rows, those of the first row first, in place.
 fn keep_of_each<T: Copy>(samples: &mut Vec<T>, parts: Parts)
-    requires rows { parts.skipped + parts.count * parts.row_length ≤ length samples.old.items }
+    requires rows { parts.top * parts.row_length + parts.count * parts.row_length ≤ length samples.old.items }
     requires within { parts.first + parts.kept ≤ parts.row_length }
     ensures { samples.new.items ≡ parts_of parts samples.old.items }
 {
     let kept = parts.kept;
     for i in 0..parts.count {
-        let start = parts.skipped + i * parts.row_length + parts.first;
+        let start = parts.top * parts.row_length + i * parts.row_length + parts.first;
         copy_down(samples.as_mut_slice(), start, i * kept, kept);
     }
     samples.truncate(parts.count * kept);

@@ -7,6 +7,7 @@ ghost use Rattle.pnm_image.specs.Heads.{IsWithinLimits};
 ghost use Rattle.pnm_tools.specs.declared.fault.ToolFault.TheVariants.{Memory};
 ghost use Rattle.pnm_tools.specs.declared.tool.Tool.TheVariants.{Depth};
 ghost use Rattle.pnm_tools.specs.Depth.{nearest_sample, kind_at, type_at};
+ghost use Rattle.pnm_row_tools.specs.EachRow.{IsEachChanged, held_samples};
 ghost use Rattle.pnm_row_tools.specs.Keeping.{IsTable};
 ghost use Rattle.pnm_tools.specs.Tools.{TakesHead, result_head};
 
@@ -86,7 +87,7 @@ fn bytes_by_table(bytes: Vec<u8>, table: &[u8], new: u32, old: u32) -> Vec<u8>
     requires old { 1 ≤ old }
     requires table { table.now ≡ map (nearest_sample new old) (range_with_len 0 (old + 1)) }
     requires bytes { All (λ sample. sample ≤ old) bytes.items }
-    ensures { result ≡ map (nearest_sample new old) bytes.items }
+    ensures { result.items ≡ map (nearest_sample new old) bytes.items }
 {
     let mut bytes = bytes;
     rescale_bytes_by_table(bytes.as_mut_slice(), table, new, old);
@@ -98,7 +99,7 @@ fn words_by_table(words: Vec<u16>, table: &[u16], new: u32, old: u32) -> Vec<u16
     requires old { 1 ≤ old }
     requires table { table.now ≡ map (nearest_sample new old) (range_with_len 0 (old + 1)) }
     requires words { All (λ sample. sample ≤ old) words.items }
-    ensures { result ≡ map (nearest_sample new old) words.items }
+    ensures { result.items ≡ map (nearest_sample new old) words.items }
 {
     let mut words = words;
     rescale_by_table(words.as_mut_slice(), table, new, old);
@@ -121,7 +122,7 @@ fn narrow_by_table(
     requires old { 1 ≤ old }
     requires table { table.now ≡ map (nearest_sample new old) (range_with_len 0 (old + 1)) }
     requires words { All (λ sample. sample ≤ old) words.now }
-    ensures { IfOk result (λ made. made ≡ map (nearest_sample new old) words.now) }
+    ensures { IfOk result (λ made. made.items ≡ map (nearest_sample new old) words.now) }
 {
     let mut bytes = Vec::from_elem(alloc, 0, words.len())?;
     for at in 0..words.len() {
@@ -146,7 +147,7 @@ fn widen_by_table(
     requires old { 1 ≤ old }
     requires table { table.now ≡ map (nearest_sample new old) (range_with_len 0 (old + 1)) }
     requires bytes { All (λ sample. sample ≤ old) bytes.now }
-    ensures { IfOk result (λ made. made ≡ map (nearest_sample new old) bytes.now) }
+    ensures { IfOk result (λ made. made.items ≡ map (nearest_sample new old) bytes.now) }
 {
     let mut words = Vec::from_elem(alloc, 0, bytes.len())?;
     for at in 0..bytes.len() {
@@ -225,7 +226,14 @@ impl Rescaler {
     /// # Errors
     ///
     /// The rows themselves, where there is no table for samples that are held so, or no memory for the copy.
-    fn rescale_rows(&self, alloc: Global, old: u32, rows: RowVec) -> Result<RowVec, RowVec> {
+    fn rescale_rows(&self, alloc: Global, old: u32, rows: RowVec) -> Result<RowVec, RowVec>
+        requires new { (1 ≤ self.now.maxval) × (self.now.maxval ≤ MAX_MAXVAL) }
+        requires old { (1 ≤ old) × (old ≤ MAX_MAXVAL) }
+        requires table { IsTable self.now.maxval old self.now.table }
+        requires range { All (λ sample. sample ≤ old) (held_samples rows) }
+        ensures rescaled { IfOk result (IsEachChanged (nearest_sample self.now.maxval old) rows) }
+        ensures same { IfErr result (λ same. same ≡ rows) }
+    {
         let new = self.maxval;
         match (&self.table, rows) {
             (Table::Bytes(table), RowVec::Bits(bits)) => match bits.to_bytes(alloc) {
@@ -237,7 +245,13 @@ impl Rescaler {
             (Table::Bytes(table), RowVec::Bytes(bytes)) => {
                 Ok(RowVec::Bytes(bytes_by_table(bytes, table.as_slice(), new, old)))
             }
-            (Table::Words(table), rows) => rescale_by_words(alloc, table.as_slice(), new, old, rows),
+            (Table::Words(table), rows) => rescale_by_words(
+                alloc,
+                table.as_slice(),
+                new,
+                old,
+                rows,
+            ),
             (Table::Absent, RowVec::Words(mut words)) if new > GREATEST_BYTE => {
                 rescale(words.as_mut_slice(), new, old);
                 Ok(RowVec::Words(words))
@@ -258,7 +272,13 @@ fn rescale_by_words(
     new: u32,
     old: u32,
     rows: RowVec,
-) -> Result<RowVec, RowVec> {
+) -> Result<RowVec, RowVec>
+    requires old { 1 ≤ old }
+    requires table { table.now ≡ map (nearest_sample new old) (range_with_len 0 (old + 1)) }
+    requires range { All (λ sample. sample ≤ old) (held_samples rows) }
+    ensures rescaled { IfOk result (IsEachChanged (nearest_sample new old) rows) }
+    ensures same { IfErr result (λ same. same ≡ rows) }
+{
     match rows {
         RowVec::Words(words) if new > GREATEST_BYTE => {
             Ok(RowVec::Words(words_by_table(words, table, new, old)))

@@ -5,11 +5,12 @@ ghost use Rattle.std.specs.Prelude.{◌≡◌, ◌≤◌, ◌*◌, ◌⊎◌, Al
 ghost use Rattle.std.specs.Prelude.{OnOk, IfOk, IfErr, Ok, Err};
 ghost use Rattle.std.specs.List.{AllByRecursion};
 ghost use Rattle.pnm_image.specs.Heads.{IsWithinLimits, row_length};
+ghost use Rattle.pnm_image.specs.HeldRows.{AreRows, row_lists};
 ghost use Rattle.pnm_image.specs.Places.{IsRowOf};
 ghost use Rattle.pnm_tools.specs.declared.fault.ToolFault.TheVariants.{Memory};
 ghost use Rattle.pnm_tools.specs.declared.tool.Tool.TheVariants.{Flip};
 ghost use Rattle.pnm_tools.specs.Flip.{mirrored_row, moved_rows, moves_rows, turn_of, turned_row, ReversesRows};
-ghost use Rattle.pnm_row_tools.specs.EachRow.{changed, last_first};
+ghost use Rattle.pnm_row_tools.specs.EachRow.{HoldsRows, changed, last_first};
 ghost use Rattle.pnm_row_tools.specs.Keeping.{FlipsInRows, IsReversingRows, reversed_due};
 ghost use Rattle.pnm_tools.specs.Tools.{TakesHead, result_head};
 
@@ -33,7 +34,7 @@ fn turn_row(alloc: Global, turn: Turn, shape: Shape, row: Samples) -> Result<Sam
         return Ok(row);
     }
     let (held, count, row_length) = Rows::one(row).into_parts();
-    let turned = turn_round(alloc, shape, shape.width as usize, held)?;
+    let turned = turn_round(alloc, shape, count, held)?;
     Ok(Rows::new(turned, shape.maxval, count, row_length).into_first())
 }
 
@@ -156,53 +157,58 @@ fn reverse_rows(
     rows: RowVec,
     count: usize,
     each: usize,
-) -> Result<RowVec, AllocError> {
+) -> Result<RowVec, AllocError>
+    requires { AreRows count each rows }
+    ensures { IfOk result (λ reversed. HoldsRows count each reversed (reverse (row_lists count each rows))) }
+{
     if count == 1 {
         return Ok(rows);
     }
-    Ok(match rows {
-        RowVec::Bits(bits) => RowVec::Bits(bits.reversed(alloc)?),
+    match rows {
+        RowVec::Bits(bits) => Ok(RowVec::Bits(bits.reversed(alloc)?)),
         RowVec::Bytes(bytes) => {
-            RowVec::Bytes(copy_rows_reversed(alloc, bytes.as_slice(), count, each)?)
+            let reversed = copy_rows_reversed(alloc, bytes.as_slice(), count, each)?;
+            Ok(RowVec::Bytes(reversed))
         }
         RowVec::Words(words) => {
-            RowVec::Words(copy_rows_reversed(alloc, words.as_slice(), count, each)?)
+            let reversed = copy_rows_reversed(alloc, words.as_slice(), count, each)?;
+            Ok(RowVec::Words(reversed))
         }
-    })
+    }
 }
 
-/// Rows of so many pixels of an image of this shape, the last row first, each the last pixel first: all pixels are one
-/// long row then; bits of several planes become bytes.
+/// So many rows of an image of this shape, the last row first, each the last pixel first: all pixels are one long row
+/// then; bits of several planes become bytes.
 ///
 /// # Errors
 ///
 /// Where there is no memory for the bytes.
-fn turn_round(
-    alloc: Global,
-    shape: Shape,
-    pixels: usize,
-    rows: RowVec,
-) -> Result<RowVec, AllocError> {
-    let depth = shape.depth as usize;
-    Ok(match rows {
+fn turn_round(alloc: Global, shape: Shape, count: u32, rows: RowVec) -> Result<RowVec, AllocError>
+    requires limits { IsWithinLimits shape }
+    requires rows { AreRows count (row_length shape) rows }
+    ensures { IfOk result (λ turned. HoldsRows count (row_length shape) turned
+        (map (mirrored_row shape) (reverse (row_lists count (row_length shape) rows)))) }
+{
+    let (pixels, depth) = (count as usize * shape.width as usize, shape.depth as usize);
+    match rows {
         RowVec::Bits(mut bits) if shape.depth == 1 => {
             bits.turn_round();
-            RowVec::Bits(bits)
+            Ok(RowVec::Bits(bits))
         }
         RowVec::Bits(bits) => {
             let mut unpacked = bits.to_bytes(alloc)?;
             reverse_pixels(unpacked.as_mut_slice(), pixels, depth);
-            RowVec::Bytes(unpacked)
+            Ok(RowVec::Bytes(unpacked))
         }
         RowVec::Bytes(mut bytes) => {
             reverse_pixels(bytes.as_mut_slice(), pixels, depth);
-            RowVec::Bytes(bytes)
+            Ok(RowVec::Bytes(bytes))
         }
         RowVec::Words(mut words) => {
             reverse_pixels(words.as_mut_slice(), pixels, depth);
-            RowVec::Words(words)
+            Ok(RowVec::Words(words))
         }
-    })
+    }
 }
 
 /// These rows of an image of this shape, the last one first, each the last pixel first or as it is.
@@ -216,12 +222,13 @@ fn turn_rows(alloc: Global, turn: Turn, shape: Shape, rows: Rows) -> Result<Rows
     ensures { IfOk result (λ turned. turned ≡ map (turned_row turn shape) (reverse rows)) }
 {
     let (held, count, row_length) = rows.into_parts();
-    let turned = if turn.columns_reversed {
-        turn_round(alloc, shape, count as usize * shape.width as usize, held)?
+    if turn.columns_reversed {
+        let turned = turn_round(alloc, shape, count, held)?;
+        Ok(Rows::new(turned, shape.maxval, count, row_length))
     } else {
-        reverse_rows(alloc, held, count as usize, row_length)?
-    };
-    Ok(Rows::new(turned, shape.maxval, count, row_length))
+        let reversed = reverse_rows(alloc, held, count as usize, row_length)?;
+        Ok(Rows::new(reversed, shape.maxval, count, row_length))
+    }
 }
 
 /// Passes the rows of images on, the last pixel first or as they are: any way that leaves rows in their

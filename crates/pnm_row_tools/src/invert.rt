@@ -3,6 +3,7 @@
 ghost use Rattle.std.specs.Prelude.{◌≡◌, ◌≤◌, ◌-◌, All, IfOk, IfErr, map, []};
 ghost use Rattle.pnm_image.specs.declared.limits.TheConstants.{MAX_MAXVAL};
 ghost use Rattle.pnm_tools.specs.declared.tool.Tool.TheVariants.{Invert};
+ghost use Rattle.pnm_row_tools.specs.EachRow.{IsEachChanged, held_samples};
 
 use crate::row_tool::RowTool;
 use pnm_image::{Head, RowVec, Rows, SampleVec, Samples, Shape};
@@ -25,12 +26,11 @@ fn invert_row(alloc: Global, maxval: u32, row: Samples) -> Result<Samples, Alloc
     requires range { All (λ sample. sample ≤ maxval) row }
     ensures { IfOk result (λ made. made ≡ map (λ sample. maxval - sample) row) }
 {
-    let each = row.len();
-    let (held, _, _) = Rows::one(row).into_parts();
+    let (held, count, each) = Rows::one(row).into_parts();
     match invert_rows(maxval, held) {
-        Ok(inverted) => Ok(Rows::new(inverted, maxval, 1, each).into_first()),
+        Ok(inverted) => Ok(Rows::new(inverted, maxval, count, each).into_first()),
         Err(held) => {
-            let row = Rows::new(held, maxval, 1, each).into_first();
+            let row = Rows::new(held, maxval, count, each).into_first();
             Ok(invert_words(maxval, row.into_words(alloc)?))
         }
     }
@@ -41,7 +41,12 @@ fn invert_row(alloc: Global, maxval: u32, row: Samples) -> Result<Samples, Alloc
 /// # Errors
 ///
 /// The rows themselves, where samples up to the maxval can't be held so.
-fn invert_rows(maxval: u32, rows: RowVec) -> Result<RowVec, RowVec> {
+fn invert_rows(maxval: u32, rows: RowVec) -> Result<RowVec, RowVec>
+    requires maxval { (1 ≤ maxval) × (maxval ≤ MAX_MAXVAL) }
+    requires range { All (λ sample. sample ≤ maxval) (held_samples rows) }
+    ensures inverted { IfOk result (IsEachChanged (λ sample. maxval - sample) rows) }
+    ensures same { IfErr result (λ same. same ≡ rows) }
+{
     match rows {
         RowVec::Bits(mut bits) if maxval == 1 => {
             bits.invert();

@@ -1,157 +1,120 @@
-use Rattle.std.proofs.Common.{◌≡◌, ◌+◌, ◌-◌, ◌*◌, length, ap, sym, refl, ◌∙◌, arith}
+use Rattle.std.proofs.Common.{◌≡◌, ◌+◌, ◌-◌, ◌*◌, ℕ, List, length, take, drop, map, ap, sym, refl, subst, ◌∙◌, arith}
 use Rattle.pnm_image.specs.Heads.{row_length}
-use Rattle.pnm_image.specs.Images.{cut_rows}
-use Rattle.pnm_tools.specs.Cut.{span_count}
-use Rattle.pnm_samples.proofs.CutLaws.{length-cut_rows}
+use Rattle.pnm_image.specs.HeldRows.{AreRows, AreRowsWithin, row_lists}
+use Rattle.pnm_image.specs.declared.rows.RowVec.{RowVec}
+use Rattle.pnm_image.proofs.HeldRowLaws.{length_of_lists}
+use Rattle.pnm_tools.specs.Cut.{columns_of_row, span_count}
 use Rattle.pnm_row_tools.specs.declared.cut.Parts.{Parts}
-use Rattle.pnm_row_tools.proofs.CutRowsLaws.{all_rows, are_cut, kept_long, kept_rows_of, kept_within_maxval, part_fits, parts_fit, rows_fit}
+use Rattle.pnm_row_tools.specs.EachRow.{HoldsRows, held_samples}
+use Rattle.pnm_row_tools.proofs.CutRowsLaws.{all_rows, are_cut, columns_within, kept_long, kept_rows_of, lists_kept, part_fits, part_in_row, parts_fit}
+use Rattle.pnm_row_tools.proofs.cut.keep_columns_of_rows.Goals.{in-Bits+in-Ok, in-Bytes, in-Words}
 use Rattle.pnm_row_tools.proofs.cut.keep_columns_of_rows.Goals as goal
 
 pub overflow_add-kept_rows : goal.overflow_add-kept_rows
 overflow_add-kept_rows c =
-    let parts = c.into_parts-samples in
-    omega (arith, c.requires.among, ap length parts.ensures.rows, length-cut_rows parts.result.1 parts.result.2 parts.result.0)
-
-pub parts_kept-parts-requires-clause-among : goal.parts_kept-parts-requires-clause-among
-parts_kept-parts-requires-clause-among c =
-    let parts = c.into_parts-samples in
-    let cut = are_cut c.args.columns c.args.among c.args.shape parts.result.1 parts.result.2 parts.result.0 c.args.rows c.requires.columns c.requires.among
-    parts.ensures.some parts.ensures.whole parts.ensures.rows c.requires.rows in
-    let fit = rows_fit c.args.columns c.args.among c.args.shape parts.result.1 parts.result.2 parts.result.0 c.args.rows cut in
-    (c.requires.among.0, omega (arith, fit, c.len.ensures))
+    let parts = c.into_parts-held in
+    omega (arith, c.requires.among, ap length parts.ensures.rows, length_of_lists parts.result.1 parts.result.2 parts.result.0 parts.ensures.whole)
 
 pub returns-then-kept_rows-count-clause-kept : goal.returns-then-kept_rows-count-clause-kept
 returns-then-kept_rows-count-clause-kept c =
-    let parts = c.into_parts-samples in
+    let parts = c.into_parts-held in
     let cut = are_cut c.args.columns c.args.among c.args.shape parts.result.1 parts.result.2 parts.result.0 c.args.rows c.requires.columns c.requires.among
     parts.ensures.some parts.ensures.whole parts.ensures.rows c.requires.rows in
     let s = c.args.shape in
     let is = c.parts_kept-parts.ensures in
     let all : span_count c.args.columns * s.depth ≡ row_length s =
     ap (λ (p : Parts). p.kept) (sym is) ∙ c.if-parts-row_length.true ∙ cut.each_is in
-    let many : span_count c.args.among ≡ length c.args.rows =
-    omega (arith, c.requires.among.0, c.if-kept_rows-count.true, ap length parts.ensures.rows, length-cut_rows parts.result.1 parts.result.2 parts.result.0) in
+    let count = ap length parts.ensures.rows ∙ length_of_lists parts.result.1 parts.result.2 parts.result.0 parts.ensures.whole in
+    let many : span_count c.args.among ≡ length c.args.rows = omega (arith, c.requires.among.0, c.if-kept_rows-count.true, count) in
     c.new.ensures ∙ sym parts.ensures.rows ∙ all_rows c.args.columns c.args.among s c.args.rows c.requires.columns all c.requires.rows many c.requires.among
 
-pub bits_of_each-requires-clause-rows : goal.bits_of_each-requires-clause-rows
-bits_of_each-requires-clause-rows c =
-    let parts = c.into_parts-samples in
+pub part-requires-clause-pixels : goal.part-requires-clause-pixels
+part-requires-clause-pixels c =
+    let parts = c.into_parts-held in
     let cut = are_cut c.args.columns c.args.among c.args.shape parts.result.1 parts.result.2 parts.result.0 c.args.rows c.requires.columns c.requires.among
     parts.ensures.some parts.ensures.whole parts.ensures.rows c.requires.rows in
-    parts_fit c.args.columns c.args.among c.args.shape parts.result.1 parts.result.2 c.parts_kept-parts.result parts.result.0 c.in-Bits.bits c.args.rows cut
-    c.parts_kept-parts.ensures c.in-Bits.ensures
-
-pub bits_of_each-requires-clause-within : goal.bits_of_each-requires-clause-within
-bits_of_each-requires-clause-within c =
-    let parts = c.into_parts-samples in
-    let cut = are_cut c.args.columns c.args.among c.args.shape parts.result.1 parts.result.2 parts.result.0 c.args.rows c.requires.columns c.requires.among
-    parts.ensures.some parts.ensures.whole parts.ensures.rows c.requires.rows in
-    part_fits c.args.columns c.args.among c.args.shape parts.result.1 parts.result.2 c.parts_kept-parts.result parts.result.0 c.args.rows cut
-    c.parts_kept-parts.ensures
-
-pub rows_of_bits-requires-clause-whole : goal.rows_of_bits-requires-clause-whole
-rows_of_bits-requires-clause-whole c =
-    let parts = c.into_parts-samples in
-    let cut = are_cut c.args.columns c.args.among c.args.shape parts.result.1 parts.result.2 parts.result.0 c.args.rows c.requires.columns c.requires.among
-    parts.ensures.some parts.ensures.whole parts.ensures.rows c.requires.rows in
-    kept_long c.args.columns c.args.among c.args.shape parts.result.1 parts.result.2 (c.args.among.last - c.args.among.first + 1)
-    c.parts_kept-parts.result parts.result.0 c.in-Bits.bits _ c.args.rows cut c.parts_kept-parts.ensures c.in-Bits.ensures c.in-Ok.ensures.made refl
+    part_in_row c.args.columns c.args.among c.args.shape parts.result.1 parts.result.2 c.parts_kept-parts.result (held_samples parts.result.0) c.in-Bits.bits
+    c.args.rows cut c.parts_kept-parts.ensures (subst (AreRows parts.result.1 parts.result.2) c.in-Bits.is parts.ensures.whole).1
 
 pub keep_of_each-requires-clause-rows : goal.keep_of_each-requires-clause-rows
 keep_of_each-requires-clause-rows c =
-    let parts = c.into_parts-samples in
+    let parts = c.into_parts-held in
     let cut = are_cut c.args.columns c.args.among c.args.shape parts.result.1 parts.result.2 parts.result.0 c.args.rows c.requires.columns c.requires.among
     parts.ensures.some parts.ensures.whole parts.ensures.rows c.requires.rows in
-    parts_fit c.args.columns c.args.among c.args.shape parts.result.1 parts.result.2 c.parts_kept-parts.result parts.result.0 c.in-Bytes.bytes.items
-    c.args.rows cut
-    c.parts_kept-parts.ensures c.in-Bytes.ensures
+    parts_fit c.args.columns c.args.among c.args.shape parts.result.1 parts.result.2 c.parts_kept-parts.result (held_samples parts.result.0)
+    c.in-Bytes.bytes.items c.args.rows cut c.parts_kept-parts.ensures (sym (ap held_samples c.in-Bytes.is))
 
 pub keep_of_each-requires-clause-within : goal.keep_of_each-requires-clause-within
 keep_of_each-requires-clause-within c =
-    let parts = c.into_parts-samples in
+    let parts = c.into_parts-held in
     let cut = are_cut c.args.columns c.args.among c.args.shape parts.result.1 parts.result.2 parts.result.0 c.args.rows c.requires.columns c.requires.among
     parts.ensures.some parts.ensures.whole parts.ensures.rows c.requires.rows in
-    part_fits c.args.columns c.args.among c.args.shape parts.result.1 parts.result.2 c.parts_kept-parts.result parts.result.0 c.args.rows cut
+    part_fits c.args.columns c.args.among c.args.shape parts.result.1 parts.result.2 c.parts_kept-parts.result (held_samples parts.result.0) c.args.rows cut
     c.parts_kept-parts.ensures
 
 pub keep_of_each-requires-in-Words-clause-rows : goal.keep_of_each-requires-in-Words-clause-rows
 keep_of_each-requires-in-Words-clause-rows c =
-    let parts = c.into_parts-samples in
+    let parts = c.into_parts-held in
     let cut = are_cut c.args.columns c.args.among c.args.shape parts.result.1 parts.result.2 parts.result.0 c.args.rows c.requires.columns c.requires.among
     parts.ensures.some parts.ensures.whole parts.ensures.rows c.requires.rows in
-    parts_fit c.args.columns c.args.among c.args.shape parts.result.1 parts.result.2 c.parts_kept-parts.result parts.result.0 c.in-Words.words.items
-    c.args.rows cut
-    c.parts_kept-parts.ensures c.in-Words.ensures
+    parts_fit c.args.columns c.args.among c.args.shape parts.result.1 parts.result.2 c.parts_kept-parts.result (held_samples parts.result.0)
+    c.in-Words.words.items c.args.rows cut c.parts_kept-parts.ensures (sym (ap held_samples c.in-Words.is))
 
 pub keep_of_each-requires-in-Words-clause-within : goal.keep_of_each-requires-in-Words-clause-within
 keep_of_each-requires-in-Words-clause-within c =
-    let parts = c.into_parts-samples in
+    let parts = c.into_parts-held in
     let cut = are_cut c.args.columns c.args.among c.args.shape parts.result.1 parts.result.2 parts.result.0 c.args.rows c.requires.columns c.requires.among
     parts.ensures.some parts.ensures.whole parts.ensures.rows c.requires.rows in
-    part_fits c.args.columns c.args.among c.args.shape parts.result.1 parts.result.2 c.parts_kept-parts.result parts.result.0 c.args.rows cut
+    part_fits c.args.columns c.args.among c.args.shape parts.result.1 parts.result.2 c.parts_kept-parts.result (held_samples parts.result.0) c.args.rows cut
     c.parts_kept-parts.ensures
 
-pub within-samples-requires : goal.within-samples-requires
-within-samples-requires c =
-    let parts = c.into_parts-samples in
-    let cut = are_cut c.args.columns c.args.among c.args.shape parts.result.1 parts.result.2 parts.result.0 c.args.rows c.requires.columns c.requires.among
-    parts.ensures.some parts.ensures.whole parts.ensures.rows c.requires.rows in
-    kept_within_maxval c.args.columns c.args.among c.args.shape parts.result.1 parts.result.2 c.parts_kept-parts.result parts.result.0
-    c.in-Bytes.bytes.items _ c.args.rows cut
-    c.parts_kept-parts.ensures c.in-Bytes.ensures c.keep_of_each.ensures
+-- however the rows are held
+made : (c : goal.Joined-held) → HoldsRows (c.args.among.last - c.args.among.first + 1) c.parts_kept-parts.result.kept c.match-held.kept
+    (map (columns_of_row c.args.columns c.args.shape.depth) (take (span_count c.args.among) (drop c.args.among.first c.args.rows)))
+made c =
+    let all = c.into_parts-held in
+    let s = c.args.shape in
+    let count : ℕ = all.result.1 in
+    let each : ℕ = all.result.2 in
+    let parts = c.parts_kept-parts.result in
+    let is = c.parts_kept-parts.ensures in
+    let samples : List ℕ = held_samples all.result.0 in
+    let cut = are_cut c.args.columns c.args.among s count each all.result.0 c.args.rows c.requires.columns c.requires.among
+    all.ensures.some all.ensures.whole all.ensures.rows c.requires.rows in
+    let kept_rows : ℕ = c.args.among.last - c.args.among.first + 1 in
+    let Made : RowVec → Type 0 = λ (kept : RowVec).
+    HoldsRows kept_rows parts.kept kept (map (columns_of_row c.args.columns s.depth) (take (span_count c.args.among) (drop c.args.among.first c.args.rows))) in
+    elim c.match-held.branch [
+      | in-Bits+in-Ok w ↦
+          subst Made (sym w.kept-is)
+          (lists_kept c.args.columns c.args.among s count each kept_rows parts samples w.in-Bits.bits w.in-Ok.part c.args.rows cut is
+          (all.ensures.rows ∙ ap (row_lists count each) w.in-Bits.is) w.in-Ok.ensures refl)
+      | in-Bytes w ↦
+          let old = w.in-Bytes.bytes.items in
+          let new = w.keep_of_each.new.samples.items in
+          let same : old ≡ samples = sym (ap held_samples w.in-Bytes.is) in
+          subst Made (sym w.kept-is) (
+            kept_long c.args.columns c.args.among s count each kept_rows parts samples old new c.args.rows cut is same w.keep_of_each.ensures refl,
+            kept_rows_of c.args.columns c.args.among s count each kept_rows parts samples old new c.args.rows cut is same w.keep_of_each.ensures refl,
+          )
+      | in-Words w ↦
+          let old = w.in-Words.words.items in
+          let new = w.keep_of_each-in-Words.new.samples.items in
+          let same : old ≡ samples = sym (ap held_samples w.in-Words.is) in
+          subst Made (sym w.kept-is) (
+            kept_long c.args.columns c.args.among s count each kept_rows parts samples old new c.args.rows cut is same w.keep_of_each-in-Words.ensures refl,
+            kept_rows_of c.args.columns c.args.among s count each kept_rows parts samples old new c.args.rows cut is same w.keep_of_each-in-Words.ensures refl,
+          )
+    ]
 
-pub within-samples-requires-in-Words : goal.within-samples-requires-in-Words
-within-samples-requires-in-Words c =
-    let parts = c.into_parts-samples in
-    let cut = are_cut c.args.columns c.args.among c.args.shape parts.result.1 parts.result.2 parts.result.0 c.args.rows c.requires.columns c.requires.among
-    parts.ensures.some parts.ensures.whole parts.ensures.rows c.requires.rows in
-    kept_within_maxval c.args.columns c.args.among c.args.shape parts.result.1 parts.result.2 c.parts_kept-parts.result parts.result.0
-    c.in-Words.words.items _ c.args.rows cut
-    c.parts_kept-parts.ensures c.in-Words.ensures c.keep_of_each-in-Words.ensures
+pub new-requires-2-clause-whole : goal.new-requires-2-clause-whole
+new-requires-2-clause-whole c = (made c).0
 
-pub new-requires-in-Bytes-clause-whole : goal.new-requires-in-Bytes-clause-whole
-new-requires-in-Bytes-clause-whole c =
-    let parts = c.into_parts-samples in
-    let cut = are_cut c.args.columns c.args.among c.args.shape parts.result.1 parts.result.2 parts.result.0 c.args.rows c.requires.columns c.requires.among
-    parts.ensures.some parts.ensures.whole parts.ensures.rows c.requires.rows in
-    ap length c.within-samples.ensures
-    ∙ kept_long c.args.columns c.args.among c.args.shape parts.result.1 parts.result.2 (c.args.among.last - c.args.among.first + 1)
-    c.parts_kept-parts.result parts.result.0 c.in-Bytes.bytes.items _ c.args.rows cut c.parts_kept-parts.ensures c.in-Bytes.ensures c.keep_of_each.ensures refl
+pub new-requires-2-clause-within : goal.new-requires-2-clause-within
+new-requires-2-clause-within c =
+    let s = c.args.shape in
+    subst (AreRowsWithin s.maxval) (sym (made c).1)
+    (columns_within c.args.columns s c.args.among.first (span_count c.args.among) c.args.rows c.requires.rows)
 
-pub new-requires-in-Words-clause-whole : goal.new-requires-in-Words-clause-whole
-new-requires-in-Words-clause-whole c =
-    let parts = c.into_parts-samples in
-    let cut = are_cut c.args.columns c.args.among c.args.shape parts.result.1 parts.result.2 parts.result.0 c.args.rows c.requires.columns c.requires.among
-    parts.ensures.some parts.ensures.whole parts.ensures.rows c.requires.rows in
-    ap length c.within-samples-in-Words.ensures
-    ∙ kept_long c.args.columns c.args.among c.args.shape parts.result.1 parts.result.2 (c.args.among.last - c.args.among.first + 1)
-    c.parts_kept-parts.result parts.result.0 c.in-Words.words.items _ c.args.rows cut c.parts_kept-parts.ensures c.in-Words.ensures
-    c.keep_of_each-in-Words.ensures refl
-
-pub returns-in-Ok-clause-kept : goal.returns-in-Ok-clause-kept
-returns-in-Ok-clause-kept c =
-    let parts = c.into_parts-samples in
-    let cut = are_cut c.args.columns c.args.among c.args.shape parts.result.1 parts.result.2 parts.result.0 c.args.rows c.requires.columns c.requires.among
-    parts.ensures.some parts.ensures.whole parts.ensures.rows c.requires.rows in
-    c.rows_of_bits.ensures
-    ∙ kept_rows_of c.args.columns c.args.among c.args.shape parts.result.1 parts.result.2 (c.args.among.last - c.args.among.first + 1)
-    c.parts_kept-parts.result parts.result.0 c.in-Bits.bits _ c.args.rows cut c.parts_kept-parts.ensures c.in-Bits.ensures c.in-Ok.ensures.made refl
-
-pub returns-in-Bytes-clause-kept : goal.returns-in-Bytes-clause-kept
-returns-in-Bytes-clause-kept c =
-    let parts = c.into_parts-samples in
-    let cut = are_cut c.args.columns c.args.among c.args.shape parts.result.1 parts.result.2 parts.result.0 c.args.rows c.requires.columns c.requires.among
-    parts.ensures.some parts.ensures.whole parts.ensures.rows c.requires.rows in
-    c.new-in-Bytes.ensures ∙ ap (cut_rows _ _) c.within-samples.ensures
-    ∙ kept_rows_of c.args.columns c.args.among c.args.shape parts.result.1 parts.result.2 (c.args.among.last - c.args.among.first + 1)
-    c.parts_kept-parts.result parts.result.0 c.in-Bytes.bytes.items _ c.args.rows cut c.parts_kept-parts.ensures c.in-Bytes.ensures c.keep_of_each.ensures refl
-
-pub returns-in-Words-clause-kept : goal.returns-in-Words-clause-kept
-returns-in-Words-clause-kept c =
-    let parts = c.into_parts-samples in
-    let cut = are_cut c.args.columns c.args.among c.args.shape parts.result.1 parts.result.2 parts.result.0 c.args.rows c.requires.columns c.requires.among
-    parts.ensures.some parts.ensures.whole parts.ensures.rows c.requires.rows in
-    c.new-in-Words.ensures ∙ ap (cut_rows _ _) c.within-samples-in-Words.ensures
-    ∙ kept_rows_of c.args.columns c.args.among c.args.shape parts.result.1 parts.result.2 (c.args.among.last - c.args.among.first + 1)
-    c.parts_kept-parts.result parts.result.0 c.in-Words.words.items _ c.args.rows cut c.parts_kept-parts.ensures c.in-Words.ensures
-    c.keep_of_each-in-Words.ensures refl
+pub returns-clause-kept : goal.returns-clause-kept
+returns-clause-kept c = c.new-2.ensures ∙ (made c.before).1

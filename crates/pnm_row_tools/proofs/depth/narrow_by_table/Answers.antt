@@ -1,7 +1,7 @@
 use Rattle.std.proofs.Common.{◌≡◌, ◌≤◌, length, get_or, arith}
 use Rattle.pnm_tools.specs.Depth.{nearest_sample}
 use Rattle.pnm_tools.proofs.RowLaws.{at_of_values, within_values}
-use Rattle.pnm_row_tools.proofs.DepthRowLaws.{all_rescaled, rescaled_within, sample_more, table_within}
+use Rattle.pnm_row_tools.proofs.DepthRowLaws.{all_rescaled, sample_more, table_within}
 use Rattle.pnm_row_tools.proofs.depth.narrow_by_table.Goals as goal
 
 pub bounds-table-words : goal.bounds-table-words
@@ -25,9 +25,7 @@ loop-at-preserved c =
     c.loop-at.invariant.0 c.loop-at.invariant.1
     (at_of_values (nearest_sample c.args.new c.args.old) c.args.table.now c.args.old (get_or c.args.words.now i 0) c.requires.table low)
 
-pub within-requires : goal.within-requires
-within-requires c =
+pub returns : goal.returns
+returns c =
     let all : c.loop-at.at ≡ length c.args.words.now = omega (arith, c.loop-at-test.false, c.loop-at.auto.at-end) in
-    rescaled_within c.args.new c.args.old c.args.words.now c.loop-at.bytes.items c.requires.old
-    (all_rescaled (nearest_sample c.args.new c.args.old) c.args.words.now c.loop-at.bytes.items c.loop-at.at all c.loop-at.invariant.0
-    c.loop-at.invariant.1) c.requires.words
+    all_rescaled (nearest_sample c.args.new c.args.old) c.args.words.now c.loop-at.bytes.items c.loop-at.at all c.loop-at.invariant.0 c.loop-at.invariant.1

@@ -1,7 +1,7 @@
 use Rattle.std.proofs.Common.{◌≡◌, ◌≤◌, length, get_or, arith}
 use Rattle.pnm_tools.specs.Depth.{nearest_sample}
 use Rattle.pnm_tools.proofs.RowLaws.{at_of_values, within_values}
-use Rattle.pnm_row_tools.proofs.DepthRowLaws.{all_rescaled, rescaled_within, sample_more}
+use Rattle.pnm_row_tools.proofs.DepthRowLaws.{all_rescaled, sample_more}
 use Rattle.pnm_row_tools.proofs.depth.widen_by_table.Goals as goal
 
 pub bounds-table-bytes : goal.bounds-table-bytes
@@ -18,9 +18,7 @@ loop-at-preserved c =
     c.loop-at.invariant.0 c.loop-at.invariant.1
     (at_of_values (nearest_sample c.args.new c.args.old) c.args.table.now c.args.old (get_or c.args.bytes.now i 0) c.requires.table low)
 
-pub within-requires : goal.within-requires
-within-requires c =
+pub returns : goal.returns
+returns c =
     let all : c.loop-at.at ≡ length c.args.bytes.now = omega (arith, c.loop-at-test.false, c.loop-at.auto.at-end) in
-    rescaled_within c.args.new c.args.old c.args.bytes.now c.loop-at.words.items c.requires.old
-    (all_rescaled (nearest_sample c.args.new c.args.old) c.args.bytes.now c.loop-at.words.items c.loop-at.at all c.loop-at.invariant.0
-    c.loop-at.invariant.1) c.requires.bytes
+    all_rescaled (nearest_sample c.args.new c.args.old) c.args.bytes.now c.loop-at.words.items c.loop-at.at all c.loop-at.invariant.0 c.loop-at.invariant.1

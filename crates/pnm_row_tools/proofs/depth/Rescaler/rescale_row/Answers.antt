@@ -1,9 +1,15 @@
-use Rattle.std.proofs.Common.{◌≡◌, ℕ, List, subst}
+use Rattle.std.proofs.Common.{◌≡◌, ℕ, List, ap, map, subst, ◌∙◌}
 use Rattle.std.specs.Result.{IfOk}
 use Rattle.pnm_tools.specs.Depth.{nearest_sample}
 use Rattle.pnm_tools.proofs.RowLaws.{changed_in_place}
 use Rattle.pnm_row_tools.proofs.DepthRowLaws.{rescaled_within}
 use Rattle.pnm_row_tools.proofs.depth.Rescaler.rescale_row.Goals as goal
+
+pub within-requires : goal.within-requires
+within-requires c =
+    let new : ℕ = c.args.self.now.maxval in
+    rescaled_within new c.args.old c.args.row c.bytes_by_table-bytes.result.items c.requires.old.0
+    (c.bytes_by_table-bytes.ensures ∙ ap (map (nearest_sample new c.args.old)) c.in_ok-bytes-in-Bytes.ensures) c.requires.range
 
 pub held_at-requires : goal.held_at-requires
 held_at-requires c =
