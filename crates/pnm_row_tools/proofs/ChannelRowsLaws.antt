@@ -1,15 +1,16 @@
 -- Planes that are picked of rows that are held one after another.
 use Rattle.std.proofs.Common.{◌≡◌, ℕ, zero, suc, ◌+◌, ◌*◌, ◌<◌, ◌≤◌, List, [], ◌∷◌, ◌++◌, length, map, take, drop, get_or, slice_index, All, refl, sym, ap}
-use Rattle.std.proofs.Common.{ap₂, ◌∙◌, arith, add-mul, mul_assoc, suc-mul, zero-mul}
+use Rattle.std.proofs.Common.{ap₂, ◌∙◌, arith, add-mul, mul_assoc, mul-le-mul, set, slice_index_or, suc-mul, zero-mul}
 use Rattle.std.specs.List.{flat_map, range_with_len}
-use Rattle.std.proofs.lemmas.List.{get_or-drop, get_or-take, length-map}
+use Rattle.std.proofs.lemmas.List.{get_or-drop, get_or-take, get_or_default, length-map, take_all, take_at, take_more_set}
+use Rattle.std.proofs.lemmas.List.FromFn.{map-range_with_len_more}
 use Rattle.std.proofs.lemmas.List.Elements.{All-head, All-map, All-tail}
 use Rattle.pnm_image.specs.declared.shape.Shape.{Shape}
 use Rattle.pnm_image.specs.Heads.{row_length}
 use Rattle.pnm_image.specs.HeldRows.{AreRowsWithin}
 use Rattle.pnm_image.specs.Images.{cut_rows}
 use Rattle.pnm_tools.specs.Answering.{rows_answer}
-use Rattle.pnm_tools.specs.Channel.{Picks, picked_row, picked_samples}
+use Rattle.pnm_tools.specs.Channel.{Picks, picked_or, picked_row, picked_samples}
 use Rattle.pnm_tools.specs.declared.tool.Tool.TheVariants.{Channel}
 use Rattle.pnm_tools.proofs.PickLaws.{picked_within, plane_there}
 use Rattle.pnm_tools.proofs.RangeLaws.{length_of_equals, pieces_alike, pieces_alike_from, pieces_in_parts}
@@ -17,6 +18,56 @@ use Rattle.pnm_tools.proofs.RowLaws.{row_of_channel}
 use Rattle.pnm_row_tools.specs.EachRow.{changed}
 use Rattle.pnm_row_tools.specs.Keeping.{as_wide}
 use Rattle.pnm_row_tools.proofs.EachRowLaws.{cut_again, each_answered}
+
+-- ---- one plane by itself
+
+-- the samples of the pixels that have passed stand in the buffer
+abbrev pub HasPlane : {X : Type 0} → ℕ → ℕ → List X → ℕ → List X → Type 0
+HasPlane {X = X} number depth samples i buffer =
+    (past : X) → take i buffer ≡ map (λ x. slice_index_or samples (x * depth + number) past) (range_with_len 0 i)
+
+pub one_pixel_more : {X : Type 0} (number depth : ℕ) (samples : List X) (i : ℕ) (buffer : List X) (v : X) → i < length buffer
+    → v ≡ slice_index_or samples (i * depth + number) v → i * depth + number < length samples → HasPlane number depth samples i buffer
+    → HasPlane number depth samples (i + 1) (set buffer i v)
+one_pixel_more {X = X} number depth samples i buffer v below is inside known past =
+    let f : ℕ → X = λ x. slice_index_or samples (x * depth + number) past in
+    take_more_set buffer i v below ∙ ap (λ (l : List X). l ++ v ∷ []) (known past)
+    ∙ ap (λ (y : X). map f (range_with_len 0 i) ++ y ∷ []) (is ∙ get_or_default samples (i * depth + number) v past inside)
+    ∙ sym (map-range_with_len_more f 0 i i (omega arith))
+
+-- all of them do
+pub all_pixels : {X : Type 0} (number depth : ℕ) (samples : List X) (i many : ℕ) (buffer : List X) → i ≡ many → length buffer ≡ many
+    → HasPlane number depth samples i buffer → (past : X) → buffer ≡ map (λ x. slice_index_or samples (x * depth + number) past) (range_with_len 0 many)
+all_pixels {X = X} number depth samples i many buffer all long known past =
+    sym (take_all i buffer (omega (arith, all, long))) ∙ known past
+    ∙ ap (λ (n : ℕ). map (λ x. slice_index_or samples (x * depth + number) past) (range_with_len 0 n)) all
+
+-- a sample of a plane lies in the samples
+pub plane_lies : (depth number x many long : ℕ) → number < depth → long ≡ many * depth → x < many → x * depth + number < long
+plane_lies depth number x many long below is lt =
+    let within = mul-le-mul {n₁ = x + 1} {m₁ = depth} {n₂ = many} {m₂ = depth} (omega (arith, lt)) (omega arith) in
+    omega (arith, within, is, below)
+
+only_number : (numbers : List ℕ) (n : ℕ) → length numbers ≡ 1 → n ≡ slice_index numbers 0 → numbers ≡ n ∷ []
+only_number [] n one is = absurd (omega (arith, one))
+only_number (number ∷ []) n one is = ap (λ (k : ℕ). k ∷ []) (sym is)
+only_number (number ∷ next ∷ numbers) n one is = absurd (omega (arith, one))
+
+single_samples : {X : Type 0} (f : ℕ → X) (a n : ℕ) → map f (range_with_len a n) ≡ flat_map (λ x. f x ∷ []) (range_with_len a n)
+single_samples f a zero = refl
+single_samples {X = X} f a (suc n) = ap (λ (l : List X). f a ∷ l) (single_samples f (a + 1) n)
+
+-- so they are what is picked, which is given back
+pub plane_picked : {X : Type 0} (past : X) (numbers : List ℕ) (n pixels len : ℕ) (s : Shape) (samples buffer items : List X) → length numbers ≡ 1
+    → n ≡ slice_index numbers 0 → length buffer ≡ len → len ≡ pixels
+    → buffer ≡ map (λ x. slice_index_or samples (x * s.depth + n) past) (range_with_len 0 pixels)
+    → take len (buffer ++ drop (length buffer) items) ≡ picked_or past numbers (as_wide pixels s) samples
+plane_picked {X = X} past numbers n pixels len s samples buffer items one is long all known =
+    let f : ℕ → X = λ x. slice_index_or samples (x * s.depth + n) past in
+    take_at buffer (drop (length buffer) items) len long ∙ known ∙ single_samples f 0 pixels
+    ∙ ap (λ (l : List ℕ). picked_or past l (as_wide pixels s) samples) (sym (only_number numbers n one is))
+
+-- ---- rows of pixels
 
 -- what is made of numbers of which something holds
 alike_where : (P : ℕ → Type 0) (f g : ℕ → ℕ) (xs : List ℕ) → All P xs → ((x : ℕ) → P x → f x ≡ g x) → map f xs ≡ map g xs

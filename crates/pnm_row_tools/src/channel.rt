@@ -2,7 +2,7 @@
 
 ghost use Rattle.std.specs.Prelude.{◌≡◌, ◌<◌, ◌≤◌, ◌↔◌, ◌⊎◌, ◌+◌, ◌*◌, All, IsTrue, OnOk, IfOk, IfErr, Ok, Err, length};
 ghost use Rattle.std.specs.Prelude.{map, slice_index_or, []};
-ghost use Rattle.std.specs.List.{AllByRecursion};
+ghost use Rattle.std.specs.List.{AllByRecursion, range_with_len};
 ghost use Rattle.pnm_image.specs.Places.{IsRowOf};
 ghost use Rattle.pnm_tools.specs.declared.fault.ToolFault.TheVariants.{Memory};
 ghost use Rattle.pnm_tools.specs.declared.tool.Tool.TheVariants.{Channel};
@@ -74,6 +74,10 @@ fn pick<T: Copy + Default>(
     };
     let mut picked = Vec::from_elem(alloc, T::default(), size)?;
     let buffer = picked.as_mut_slice();
+    if count == 1 {
+        pick_plane(buffer, numbers[0] as usize, samples, depth);
+        return Ok(picked);
+    }
     for x in 0..pixels {
         pick_pixel(
             &mut buffer[x * count..(x + 1) * count],
@@ -83,6 +87,18 @@ fn pick<T: Copy + Default>(
         );
     }
     Ok(picked)
+}
+
+/// Fills the buffer with the samples of this plane of as many pixels, without a loop over a pixel's planes.
+fn pick_plane<T: Copy>(buffer: &mut [T], number: usize, samples: &[T], depth: usize)
+    requires number { number < depth }
+    requires pixels { length samples.now ≡ length buffer.old * depth }
+    ensures { (past : T) → buffer.new
+        ≡ map (λ x. slice_index_or samples.now (x * depth + number) past) (range_with_len 0 (length buffer.old)) }
+{
+    for x in 0..buffer.len() {
+        buffer[x] = samples[x * depth + number];
+    }
 }
 
 /// Fills the buffer with the samples of these planes of the pixel whose samples begin here.
