@@ -199,7 +199,7 @@ fn first_width<R: BytesIn>(alloc: Global, source: &mut Source<R>) -> &'static st
 /// How the samples of a row are held, where the answer is one.
 fn held_width(answer: Result<Option<Message>, InputFault>) -> &'static str {
     match answer {
-        Ok(Some(Message::Row(row))) => width_of(&row),
+        Ok(Some(Message::Row(row))) => width_of(row.as_slice()),
         _ => " no row",
     }
 }
