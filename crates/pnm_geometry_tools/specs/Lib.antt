@@ -3,3 +3,4 @@ pub mod FlatRows
 pub mod Strips
 pub mod SampleRows
 pub mod Keeping
+pub mod HeldRows

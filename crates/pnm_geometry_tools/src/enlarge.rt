@@ -1,20 +1,22 @@
 //! `pamenlarge`: each pixel so many times across and so many times down, from pamenlarge(1).
 
-ghost use Rattle.std.specs.Prelude.{◌≡◌, ◌≤◌, ◌*◌, ◌⊎◌, length, replicate, OnOk, IfOk};
-ghost use Rattle.std.specs.Prelude.{IfErr, IfSome, Ok, Err, None, All, ℕ};
-ghost use Rattle.std.specs.List.{AllByRecursion};
+ghost use Rattle.std.specs.Prelude.{◌≡◌, ◌≤◌, ◌<◌, ◌*◌, ◌^◌, ◌⊎◌, length, map, replicate, OnOk, IfOk};
+ghost use Rattle.std.specs.Prelude.{IfErr, IfSome, Ok, Err, None, ℕ};
+ghost use Rattle.std.specs.List.{AllByRecursion, flat_map};
 ghost use Rattle.pnm_image.specs.Heads.{row_length};
+ghost use Rattle.pnm_image.specs.HeldRows.{AreSliceRows, slice_lists};
 ghost use Rattle.pnm_image.specs.Places.{IsRowOf};
 ghost use Rattle.pnm_image.specs.declared.limits.TheConstants.{MAX_ROW_LENGTH};
-ghost use Rattle.pnm_samples.specs.SampleVecs.{samples_of};
 ghost use Rattle.pnm_tools.specs.declared.fault.ToolFault.TheVariants.{Memory};
 ghost use Rattle.pnm_tools.specs.declared.tool.Tool.TheVariants.{Enlarge};
 ghost use Rattle.pnm_tools.specs.Answering.{row_list, rows_answer};
 ghost use Rattle.pnm_tools.specs.Enlarge.{enlarged_row};
+ghost use Rattle.pnm_geometry_tools.specs.HeldRows.{HoldsRows};
 ghost use Rattle.pnm_geometry_tools.specs.Keeping.{IsEnlarging, across_of, down_of, enlarged_due, kept_row};
 ghost use Rattle.pnm_tools.specs.Limits.{IsExtent};
 ghost use Rattle.pnm_tools.specs.Tools.{TakesHead, result_head};
 
+use crate::one_row::OneRow;
 use crate::repeat::{repeat_pixels, repeat_runs};
 use pnm_image::{BitRows, Head, RowSlice, RowVec, Rows, Samples, Shape};
 use pnm_tools::{ImageTool, ToolFault, head_within_limits};
@@ -27,7 +29,7 @@ pub struct Enlarger {
     across: u32,
     down: u32,
     /// The row that is to be given, and how many times.
-    row: Option<Rows>,
+    row: Option<OneRow>,
     left: u32,
 }
 
@@ -38,8 +40,8 @@ const MOST_MADE: u32 = 1_048_576;
 /// The most bytes of copies of a row that are given at once.
 const MOST_GIVEN: u32 = 65_536;
 
-/// The rows, all pixels of which are those of the long shape, with each pixel repeated so many times, held as they were,
-/// but bits of several planes as bytes.
+/// Rows of an image of this shape, so many of them, with each pixel repeated so many times, held as they were, but bits
+/// of several planes as bytes.
 ///
 /// # Errors
 ///
@@ -47,20 +49,40 @@ const MOST_GIVEN: u32 = 65_536;
 fn widen_rows(
     alloc: Global,
     across: u32,
-    long: Shape,
+    shape: Shape,
     rows: RowSlice<'_>,
-) -> Result<RowVec, ToolFault> {
-    Ok(match rows {
-        RowSlice::Bits(bits) if long.depth == 1 => {
-            RowVec::Bits(bits.widen(alloc, across as usize)?)
+    count: u32,
+) -> Result<RowVec, ToolFault>
+    requires rows { AreSliceRows count (row_length shape) rows }
+    requires pixels { shape.width * count < 2 ^ 32 }
+    ensures made { IfOk result (λ made. HoldsRows count (row_length shape * across)
+        (map (enlarged_row across shape) (slice_lists count (row_length shape) rows.entry)) made) }
+    ensures refused { IfErr result (λ fault. fault ≡ Memory) }
+{
+    // The pixels of all rows are those of one long row.
+    let long = Shape {
+        width: shape.width * count,
+        ..shape
+    };
+    match rows {
+        RowSlice::Bits(bits) if shape.depth == 1 => {
+            let bits = bits.widen(alloc, across as usize)?;
+            Ok(RowVec::Bits(bits))
         }
         RowSlice::Bits(bits) => {
             let unpacked = bits.to_bytes(alloc)?;
-            RowVec::Bytes(repeat_pixels(alloc, across, long, unpacked.as_slice())?)
+            let bytes = repeat_pixels(alloc, across, long, unpacked.as_slice())?;
+            Ok(RowVec::Bytes(bytes))
         }
-        RowSlice::Bytes(bytes) => RowVec::Bytes(repeat_pixels(alloc, across, long, bytes)?),
-        RowSlice::Words(words) => RowVec::Words(repeat_pixels(alloc, across, long, words)?),
-    })
+        RowSlice::Bytes(bytes) => {
+            let bytes = repeat_pixels(alloc, across, long, bytes)?;
+            Ok(RowVec::Bytes(bytes))
+        }
+        RowSlice::Words(words) => {
+            let words = repeat_pixels(alloc, across, long, words)?;
+            Ok(RowVec::Words(words))
+        }
+    }
 }
 
 /// So many rows of so many samples, each so many times, held as they were.
@@ -72,18 +94,30 @@ fn repeat_rows(
     alloc: Global,
     down: u32,
     rows: RowSlice<'_>,
-    count: usize,
+    count: u32,
     each: usize,
-) -> Result<RowVec, ToolFault> {
-    Ok(match rows {
+) -> Result<RowVec, ToolFault>
+    requires { AreSliceRows count each rows }
+    ensures made { IfOk result (λ made. HoldsRows (count * down) each
+        (flat_map (replicate down) (slice_lists count each rows.entry)) made) }
+    ensures refused { IfErr result (λ fault. fault ≡ Memory) }
+{
+    match rows {
         RowSlice::Bits(bits) => {
             let (bytes, _, _) = bits.parts();
-            let repeated = repeat_runs(alloc, down, bytes, count, each.div_ceil(8))?;
-            RowVec::Bits(BitRows::new(repeated, count * down as usize, each))
+            let bytes = repeat_runs(alloc, down, bytes, count, each.div_ceil(8))?;
+            let bits = BitRows::new(bytes, count as usize * down as usize, each);
+            Ok(RowVec::Bits(bits))
         }
-        RowSlice::Bytes(bytes) => RowVec::Bytes(repeat_runs(alloc, down, bytes, count, each)?),
-        RowSlice::Words(words) => RowVec::Words(repeat_runs(alloc, down, words, count, each)?),
-    })
+        RowSlice::Bytes(bytes) => {
+            let bytes = repeat_runs(alloc, down, bytes, count, each)?;
+            Ok(RowVec::Bytes(bytes))
+        }
+        RowSlice::Words(words) => {
+            let words = repeat_runs(alloc, down, words, count, each)?;
+            Ok(RowVec::Words(words))
+        }
+    }
 }
 
 /// How many samples that are held as these take so many bytes, where bits of several planes become bytes.
@@ -98,13 +132,14 @@ fn samples_in(rows: RowSlice<'_>, depth: u32, bytes: u32) -> u32
     }
 }
 
-/// As many copies of a row, which is by itself, as are given at once, but no more than these.
-fn copies_of_row(alloc: Global, most: u32, row: &Rows) -> Result<Rows, ToolFault>
+/// As many copies of a row as are given at once, but no more than these.
+fn copies_of_row(alloc: Global, most: u32, row: &OneRow) -> Result<Rows, ToolFault>
     requires { 1 ≤ most }
     ensures copies { IfOk result (λ rows. rows ≡ replicate (length rows) row.now) }
     ensures most { IfOk result (λ rows. length rows ≤ most) }
     ensures refused { IfErr result (λ fault. fault ≡ Memory) }
 {
+    let row = row.as_rows();
     let (row_length, given) = (row.row_length(), samples_in(row.as_slice(), 1, MOST_GIVEN));
     if row_length == 0 || row_length > given as usize {
         let copy = row.row(alloc, 0)?;
@@ -123,38 +158,61 @@ fn enlarge_rows(alloc: Global, across: u32, down: u32, shape: Shape, rows: &Rows
     requires rows { AllByRecursion (IsRowOf shape) rows.now }
     ensures { IfSome result (λ made. (y : ℕ) → rows_answer (Enlarge across down) shape y rows.now ≡ made) }
 {
-    let count = rows.count();
     let wide = rows.row_length() * across as usize;
-    let Some(filled) = (count as usize).checked_mul(wide * down as usize) else {
+    let Some(filled) = (rows.count() as usize).checked_mul(wide * down as usize) else {
         return None;
     };
     if filled > samples_in(rows.as_slice(), shape.depth, MOST_MADE) as usize {
         return None;
     }
-    let long = Shape {
-        width: shape.width * count,
-        ..shape
-    };
-    let Ok(enlarged) = enlarge_samples(alloc, across, down, long, rows) else {
+    let Ok(enlarged) = enlarge_together(alloc, across, down, shape, rows) else {
         return None;
     };
-    Some(Rows::new(enlarged, shape.maxval, count * down, wide))
+    Some(enlarged)
 }
 
-/// The rows, all pixels of which are those of the long shape, each so many times down and its pixels so many times
-/// across.
-fn enlarge_samples(
+/// Rows of an image of this shape, each so many times down and its pixels so many times across.
+fn enlarge_together(
     alloc: Global,
     across: u32,
     down: u32,
-    long: Shape,
+    shape: Shape,
     rows: &Rows,
-) -> Result<RowVec, ToolFault> {
-    let (count, each) = (rows.count() as usize, rows.row_length());
+) -> Result<Rows, ToolFault>
+    requires ready { IsEnlarging across shape }
+    requires rows { AllByRecursion (IsRowOf shape) rows.now }
+    requires pixels { shape.width * length rows.now < 2 ^ 32 }
+    requires some { 1 ≤ down }
+    requires few { length rows.now * down < 2 ^ 32 }
+    ensures made { IfOk result (λ made. made
+        ≡ flat_map (replicate down) (map (enlarged_row across shape) rows.now)) }
+    ensures refused { IfErr result (λ fault. fault ≡ Memory) }
+{
+    let held = enlarge_held(alloc, across, down, shape, rows)?;
+    let wide = rows.row_length() * across as usize;
+    Ok(Rows::new(held, shape.maxval, rows.count() * down, wide))
+}
+
+/// The same, as they are held.
+fn enlarge_held(
+    alloc: Global,
+    across: u32,
+    down: u32,
+    shape: Shape,
+    rows: &Rows,
+) -> Result<RowVec, ToolFault>
+    requires ready { IsEnlarging across shape }
+    requires rows { AllByRecursion (IsRowOf shape) rows.now }
+    requires pixels { shape.width * length rows.now < 2 ^ 32 }
+    ensures made { IfOk result (λ made. HoldsRows (length rows.now * down) (row_length shape * across)
+        (flat_map (replicate down) (map (enlarged_row across shape) rows.now)) made) }
+    ensures refused { IfErr result (λ fault. fault ≡ Memory) }
+{
+    let (count, each) = (rows.count(), rows.row_length());
     if across == 1 {
         return repeat_rows(alloc, down, rows.as_slice(), count, each);
     }
-    let wide = widen_rows(alloc, across, long, rows.as_slice())?;
+    let wide = widen_rows(alloc, across, shape, rows.as_slice(), count)?;
     if down == 1 {
         return Ok(wide);
     }
@@ -185,11 +243,9 @@ impl ImageTool for Enlarger {
         let made = if self.across == 1 {
             rows
         } else {
-            let wide = rows.row_length() * self.across as usize;
-            let held = enlarge_samples(alloc, self.across, 1, shape, &rows)?;
-            Rows::new(held, shape.maxval, 1, wide)
+            enlarge_together(alloc, self.across, 1, shape, &rows)?
         };
-        self.row = Some(made);
+        self.row = Some(OneRow::new(made));
         self.left = self.down;
         Ok(())
     }
@@ -225,7 +281,7 @@ impl ImageTool for Enlarger {
             return Ok(None);
         }
         if self.left == 1 {
-            return Ok(Some(row));
+            return Ok(Some(row.into_rows()));
         }
         let copies = copies_of_row(alloc, self.left, &row)?;
         self.left -= copies.count();

@@ -1,13 +1,14 @@
 //! Rows that are given together.
 
-ghost use Rattle.std.specs.Prelude.{◌≡◌, ◌≤◌, ◌++◌, [], IfOk, IfErr, IfNone, reverse};
-ghost use Rattle.pnm_samples.specs.SampleVecs.{samples_of};
+ghost use Rattle.std.specs.Prelude.{◌≡◌, ◌≤◌, ◌+◌, ◌++◌, [], ℕ, IfOk, IfErr, IfNone, IsTrue, IsFalse, OnErr, reverse};
+ghost use Rattle.pnm_image.specs.HeldRows.{AreRows, AreSliceRows, row_lists, slice_lists};
 ghost use Rattle.pnm_tools.specs.declared.fault.ToolFault.TheVariants.{Memory};
 ghost use Rattle.pnm_tools.specs.Answering.{rows_list};
+ghost use Rattle.pnm_geometry_tools.specs.HeldRows.{HasTaken, HoldsRows, HoldsSame, HoldsWithin};
 
 use pnm_image::{RowSlice, RowVec, Rows, Samples};
 use pnm_tools::ToolFault;
-use std::alloc::{AllocError, Global};
+use std::alloc::AllocError;
 
 /// How many samples a row has at most that is given with others: a longer one costs little to hand over by itself.
 const MOST_SAMPLES: usize = 1024;
@@ -31,10 +32,7 @@ pub(crate) fn count_together(each: usize, rows: u32) -> u32
 
 /// The next columns of a batch, of which the last one is the next: as many together as are short and alike, or one.
 /// The only fault is `Memory`.
-pub(crate) fn next_columns(
-    alloc: Global,
-    batch: &mut Vec<Samples>,
-) -> Result<Option<Rows>, ToolFault>
+pub(crate) fn next_columns(batch: &mut Vec<Samples>) -> Result<Option<Rows>, ToolFault>
     ensures given { IfOk result (λ rows. reverse batch.old.items ≡ rows_list rows ++ reverse batch.new.items) }
     ensures all { IfOk result (λ rows. IfNone rows (batch.new.items ≡ [])) }
     ensures refused { IfErr result (λ fault. fault ≡ Memory) }
@@ -42,24 +40,14 @@ pub(crate) fn next_columns(
     let Some(first) = batch.pop() else {
         return Ok(None);
     };
-    let each = first.len();
-    if each > MOST_SAMPLES {
-        return Ok(Some(Rows::one(first)));
+    let first = Rows::one(first);
+    if first.row_length() > MOST_SAMPLES {
+        return Ok(Some(first));
     }
     let mut bound = first.bound();
-    let (mut held, mut count, _) = Rows::one(first).into_parts();
+    let (mut held, mut count, each) = first.into_parts();
     while count < MOST_ROWS && (count as usize + 1) * each <= MOST_TOGETHER {
-        let Some(next) = batch.pop() else {
-            break;
-        };
-        if next.len() != each {
-            batch.push(next)?;
-            break;
-        }
-        bound = bound.max(next.bound());
-        let row = Rows::one(next);
-        if !append(&mut held, row.as_slice())? {
-            batch.push(row.into_first())?;
+        if !take_next(batch, &mut held, &mut bound, each)? {
             break;
         }
         count += 1;
@@ -67,12 +55,51 @@ pub(crate) fn next_columns(
     Ok(Some(Rows::new(held, bound, count, each)))
 }
 
+/// Takes the next column of a batch to those of so many samples that are held, none of them above the bound; false,
+/// and nothing has changed, where there is none, or it isn't as long, or not held alike. The only fault is `Memory`.
+fn take_next(
+    batch: &mut Vec<Samples>,
+    held: &mut RowVec,
+    bound: &mut u32,
+    each: usize,
+) -> Result<bool, ToolFault>
+    ensures taken { IfOk result (λ done. IsTrue done → (count : ℕ) → HoldsWithin count each bound.old held.old
+        → HasTaken count each held.old batch.old.items (count + 1) held.new batch.new.items
+        × HoldsWithin (count + 1) each bound.new held.new) }
+    ensures same { IfOk result (λ done. IsFalse done → (count : ℕ) → HoldsWithin count each bound.old held.old
+        → HasTaken count each held.old batch.old.items count held.new batch.new.items
+        × HoldsWithin count each bound.new held.new) }
+    ensures refused { IfErr result (λ fault. fault ≡ Memory) }
+{
+    let Some(next) = batch.pop() else {
+        return Ok(false);
+    };
+    if next.len() != each {
+        batch.push(next)?;
+        return Ok(false);
+    }
+    let next = Rows::one(next);
+    if !append(held, next.as_slice())? {
+        batch.push(next.into_first())?;
+        return Ok(false);
+    }
+    *bound = (*bound).max(next.bound());
+    Ok(true)
+}
+
 /// Adds rows behind those that are held; false, and nothing is added, where they aren't held alike.
 ///
 /// # Errors
 ///
 /// Where there is no memory for them. Then nothing has changed.
-pub(crate) fn append(held: &mut RowVec, more: RowSlice<'_>) -> Result<bool, AllocError> {
+pub(crate) fn append(held: &mut RowVec, more: RowSlice<'_>) -> Result<bool, AllocError>
+    ensures added { IfOk result (λ done. IsTrue done → (count more_count each : ℕ)
+        → AreRows count each held.old → AreSliceRows more_count each more.entry
+        → HoldsRows (count + more_count) each
+        (row_lists count each held.old ++ slice_lists more_count each more.entry) held.new) }
+    ensures same { IfOk result (λ done. IsFalse done → HoldsSame held.old held.new) }
+    ensures failed { OnErr result (HoldsSame held.old held.new) }
+{
     match (held, more) {
         (RowVec::Bits(rows), RowSlice::Bits(more)) => rows.append(more),
         (RowVec::Bytes(bytes), RowSlice::Bytes(more)) => {

@@ -10,6 +10,7 @@ mod enlarge;
 mod flat_rows;
 mod join;
 mod kept_rows;
+mod one_row;
 mod repeat;
 mod row_of;
 mod sample_rows;

@@ -17,25 +17,37 @@ use std::alloc::Global;
 const LEAST_RUN: usize = 16;
 
 /// So many runs of so many samples, each so many times: long ones by a copy, short ones as pixels are.
+///
+/// # Errors
+///
+/// `Memory`, where there is none for them.
 pub(crate) fn repeat_runs<T: Copy + Default>(
     alloc: Global,
     times: u32,
     samples: &[T],
-    count: usize,
+    count: u32,
     each: usize,
-) -> Result<Vec<T>, ToolFault> {
+) -> Result<Vec<T>, ToolFault>
+    requires { length samples.now ≡ count * each }
+    ensures made { IfOk result (λ made. made.items
+        ≡ flat_map (λ run. copies_of times (pixel_of each samples.now run)) (range_with_len 0 count)) }
+    ensures refused { IfErr result (λ fault. fault ≡ Memory) }
+{
     if each < LEAST_RUN {
         let shape = Shape {
             kind: Kind::Pam,
-            width: count as u32,
+            width: count,
             height: 1,
             depth: each as u32,
             maxval: 1,
         };
         return repeat_pixels(alloc, times, shape, samples);
     }
-    let mut repeated = Vec::with_capacity(alloc, samples.len() * times as usize)?;
-    for run in 0..count {
+    let Some(total) = samples.len().checked_mul(times as usize) else {
+        return Err(ToolFault::Memory);
+    };
+    let mut repeated = Vec::with_capacity(alloc, total)?;
+    for run in 0..count as usize {
         for _ in 0..times {
             repeated.extend_from_slice(&samples[run * each..(run + 1) * each])?;
         }

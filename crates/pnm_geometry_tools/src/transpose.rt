@@ -107,7 +107,7 @@ impl ImageTool for Transposer {
                 self.make_first(alloc)?;
             }
         }
-        next_columns(alloc, &mut self.batch)
+        next_columns(&mut self.batch)
     }
 
     fn may_give(&self) -> bool {
