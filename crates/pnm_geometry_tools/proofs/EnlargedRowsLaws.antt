@@ -7,6 +7,8 @@ use Rattle.pnm_image.specs.declared.shape.Shape.{Shape}
 use Rattle.pnm_image.specs.Images.{cut_rows}
 use Rattle.pnm_image.specs.Heads.{row_length}
 use Rattle.pnm_image.specs.Places.{IsRowOf}
+use Rattle.pnm_image.proofs.RowLaws.{concat-cut_rows, lengths_of_cut_rows}
+use Rattle.pnm_samples.proofs.CutLaws.{length-cut_rows}
 use Rattle.pnm_tools.specs.declared.tool.Tool.TheVariants.{Enlarge}
 use Rattle.pnm_tools.specs.Answering.{rows_answer}
 use Rattle.pnm_tools.specs.Enlarge.{enlarged_row, copies_of}
@@ -128,33 +130,29 @@ one_pixel down each row long =
     ∙ copies_together down 0 row
 
 -- each row so many times
-abbrev pub repeated : ℕ → List (List ℕ) → List (List ℕ)
-repeated down [] = []
-repeated down (row ∷ rows) = replicate down row ++ repeated down rows
-
-repeated_each : (down each : ℕ) (rows : List (List ℕ)) → AreEach each rows → AreEach each (repeated down rows)
+repeated_each : (down each : ℕ) (rows : List (List ℕ)) → AreEach each rows → AreEach each (flat_map (replicate down) rows)
 repeated_each down each [] are = tt
 repeated_each down each (row ∷ rows) are =
-    each_in_parts each (replicate down row) (repeated down rows) (copies_each down each row are.0) (repeated_each down each rows are.1)
+    each_in_parts each (replicate down row) (flat_map (replicate down) rows) (copies_each down each row are.0) (repeated_each down each rows are.1)
 
-repeated_many : (down : ℕ) (rows : List (List ℕ)) → length (repeated down rows) ≡ length rows * down
+repeated_many : (down : ℕ) (rows : List (List ℕ)) → length (flat_map (replicate down) rows) ≡ length rows * down
 repeated_many down [] = sym (zero-mul down)
 repeated_many down (row ∷ rows) =
     omega (
       arith,
-      length-append (replicate down row) (repeated down rows),
+      length-append (replicate down row) (flat_map (replicate down) rows),
       length-replicate down row,
       repeated_many down rows,
       suc-mul (length rows) down,
     )
 
 rows_together : (down each : ℕ) (rows : List (List ℕ)) → AreEach each rows
-    → concat (map (λ row. columns_repeated down each row 1) rows) ≡ concat (repeated down rows)
+    → concat (map (λ row. columns_repeated down each row 1) rows) ≡ concat (flat_map (replicate down) rows)
 rows_together down each [] are = refl
 rows_together down each (row ∷ rows) are =
     ap (λ (l : List ℕ). l ++ concat (map (λ row. columns_repeated down each row 1) rows)) (one_pixel down each row are.0)
     ∙ ap (λ (l : List ℕ). concat (replicate down row) ++ l) (rows_together down each rows are.1)
-    ∙ sym (together_in_parts (replicate down row) (repeated down rows))
+    ∙ sym (together_in_parts (replicate down row) (flat_map (replicate down) rows))
 
 same_each : (a b : ℕ) (rows : List (List ℕ)) → a ≡ b → AreEach a rows → AreEach b rows
 same_each a b [] same are = tt
@@ -162,27 +160,28 @@ same_each a b (row ∷ rows) same are = (are.0 ∙ same, same_each a b rows same
 
 -- the rows of a column
 pub rows_repeated : (down each : ℕ) (rows : List (List ℕ)) → AreEach each rows
-    → cut_rows (length rows * down) each (columns_repeated down each (concat rows) (length rows)) ≡ repeated down rows
+    → cut_rows (length rows * down) each (columns_repeated down each (concat rows) (length rows)) ≡ flat_map (replicate down) rows
 rows_repeated down each rows are =
     let one : length rows ≡ length rows * 1 = omega arith in
     let each_one : AreEach (1 * each) rows = same_each each (1 * each) rows (omega arith) are in
     ap (λ (n : ℕ). cut_rows (length rows * down) each (columns_repeated down each (concat rows) n)) one
     ∙ ap (cut_rows (length rows * down) each) (each_repeated down each 1 rows each_one ∙ rows_together down each rows are)
-    ∙ ap (λ (n : ℕ). cut_rows n each (concat (repeated down rows))) (sym (repeated_many down rows))
-    ∙ cut_again each (repeated down rows) (repeated_each down each rows are)
+    ∙ ap (λ (n : ℕ). cut_rows n each (concat (flat_map (replicate down) rows))) (sym (repeated_many down rows))
+    ∙ cut_again each (flat_map (replicate down) rows) (repeated_each down each rows are)
 
--- ---- copies of one row
-
--- a row that is cut again from its copies
-pub copies_cut : (n each : ℕ) (s : Shape) (row made : List ℕ) → made ≡ enlarged_row n s row → s.width ≡ 1 → s.depth ≡ each → length row ≡ each
-    → (cut_rows n each made ≡ replicate n row) × (length made ≡ n * each)
-copies_cut n each s row made is wide deep long =
-    let copies : made ≡ concat (replicate n row) =
-    is ∙ ap (λ (k : ℕ). columns_repeated n s.depth row k) wide ∙ ap (λ (k : ℕ). columns_repeated n k row 1) deep ∙ one_pixel n each row long in
-    let are : AreEach each (replicate n row) = copies_each n each row long in (
-      ap (cut_rows n each) copies ∙ ap (λ (k : ℕ). cut_rows k each (concat (replicate n row))) (sym (length-replicate n row))
-          ∙ cut_again each (replicate n row) are,
-      ap length copies ∙ length_together each (replicate n row) are ∙ ap (λ (k : ℕ). k * each) (length-replicate n row),
+-- samples that are cut into rows, each so many times
+pub repeated_cut : (down count each : ℕ) (samples made : List ℕ) → length samples ≡ count * each → made ≡ columns_repeated down each samples count
+    → (cut_rows (count * down) each made ≡ flat_map (replicate down) (cut_rows count each samples)) × (length made ≡ count * down * each)
+repeated_cut down count each samples made long is =
+    let rows : List (List ℕ) = cut_rows count each samples in
+    let are : AreEach each rows = lengths_of_cut_rows count each samples long in
+    let all : concat rows ≡ samples = concat-cut_rows count each samples long in
+    let many : length rows ≡ count = length-cut_rows count each samples in (
+      ap (cut_rows (count * down) each) is
+          ∙ ap (λ (l : List ℕ). cut_rows (count * down) each (columns_repeated down each l count)) (sym all)
+          ∙ ap (λ (n : ℕ). cut_rows (n * down) each (columns_repeated down each (concat rows) n)) (sym many)
+          ∙ rows_repeated down each rows are,
+      ap length is ∙ length_repeated down each count samples (omega (arith, long)),
     )
 
 -- ---- the answers
@@ -193,81 +192,45 @@ each_of s [] are = tt
 each_of s (row ∷ rows) are = (are.0.count, each_of s rows are.1)
 
 -- each row so many times across
-enlarged_each : (across : ℕ) (s : Shape) (rows : List (List ℕ)) → AreEach (row_length s) rows
+pub enlarged_each : (across : ℕ) (s : Shape) (rows : List (List ℕ)) → AreEach (row_length s) rows
     → AreEach (s.width * across * s.depth) (map (enlarged_row across s) rows)
 enlarged_each across s [] are = tt
 enlarged_each across s (row ∷ rows) are =
     (length_repeated across s.depth s.width row (omega (arith, are.0)), enlarged_each across s rows are.1)
 
-map_many : (f : List ℕ → List ℕ) (rows : List (List ℕ)) → length (map f rows) ≡ length rows
+pub map_many : (f : List ℕ → List ℕ) (rows : List (List ℕ)) → length (map f rows) ≡ length rows
 map_many f [] = refl
 map_many f (row ∷ rows) = ap suc (map_many f rows)
 
 -- what answers rows
-answers_are : (across down : ℕ) (s : Shape) (y : ℕ) (rows : List (List ℕ))
-    → rows_answer (Enlarge across down) s y rows ≡ repeated down (map (enlarged_row across s) rows)
+pub answers_are : (across down : ℕ) (s : Shape) (y : ℕ) (rows : List (List ℕ))
+    → rows_answer (Enlarge across down) s y rows ≡ flat_map (replicate down) (map (enlarged_row across s) rows)
 answers_are across down s y [] = refl
 answers_are across down s y (row ∷ rows) =
     ap (λ (l : List (List ℕ)). l ++ rows_answer (Enlarge across down) s (y + 1) rows) (row_of_enlarge across down s y row)
     ∙ ap (λ (l : List (List ℕ)). replicate down (enlarged_row across s row) ++ l) (answers_are across down s (y + 1) rows)
 
--- rows that are enlarged together
-pub record AreEnlarged (across down : ℕ) (s long tall : Shape) (count wide : ℕ) (rows : List (List ℕ)) : Type 0 where
-  pub are : AllByRecursion (IsRowOf s) rows
-  pub many : count ≡ length rows
-  pub long_width : long.width ≡ s.width * count
-  pub long_depth : long.depth ≡ s.depth
-  pub tall_width : tall.width ≡ count
-  pub tall_depth : tall.depth ≡ wide
-  pub size : wide ≡ row_length s * across
-
--- the long row is the rows one after another, each so many times across
-across_is : (across down : ℕ) (s long tall : Shape) (count wide : ℕ) (rows : List (List ℕ)) → AreEnlarged across down s long tall count wide rows
-    → enlarged_row across long (concat rows) ≡ concat (map (enlarged_row across s) rows)
-across_is across down s long tall count wide rows h =
-    let many : long.width ≡ length rows * s.width = h.long_width ∙ ap (λ (n : ℕ). s.width * n) h.many ∙ omega arith in
-    ap (λ (d : ℕ). columns_repeated across d (concat rows) long.width) h.long_depth
-    ∙ ap (columns_repeated across s.depth (concat rows)) many
-    ∙ each_repeated across s.depth s.width rows (each_of s rows h.are)
-
--- they answer the rows
-pub rows_enlarged : (across down : ℕ) (s long tall : Shape) (count wide y : ℕ) (rows : List (List ℕ)) (made : List ℕ)
-    → made ≡ enlarged_row down tall (enlarged_row across long (concat rows)) → AreEnlarged across down s long tall count wide rows
-    → rows_answer (Enlarge across down) s y rows ≡ cut_rows (count * down) wide made
-rows_enlarged across down s long tall count wide y rows made is h =
+-- each row by itself, of all samples, which are seen as one long row
+pub widened_cut : (across count : ℕ) (s long : Shape) (rows : List (List ℕ)) (samples made : List ℕ) → AreEach (row_length s) rows → length rows ≡ count
+    → samples ≡ concat rows → long.width ≡ s.width * count → long.depth ≡ s.depth → made ≡ enlarged_row across long samples
+    → (cut_rows count (row_length s * across) made ≡ map (enlarged_row across s) rows) × (length made ≡ count * (row_length s * across))
+widened_cut across count s long rows samples made are many all wide deep is =
     let E : List ℕ → List ℕ = enlarged_row across s in
     let rs : List (List ℕ) = map E rows in
-    let same : wide ≡ s.width * across * s.depth = h.size ∙ omega arith in
-    let many : length rs ≡ count = map_many E rows ∙ sym h.many in
-    let deep : tall.depth ≡ s.width * across * s.depth = h.tall_depth ∙ same in
-    let high : tall.width ≡ length rs = h.tall_width ∙ sym many in
-    let samples : made ≡ columns_repeated down (s.width * across * s.depth) (concat rs) (length rs) =
-    is ∙ ap (enlarged_row down tall) (across_is across down s long tall count wide rows h)
-    ∙ ap (λ (d : ℕ). columns_repeated down d (concat rs) tall.width) deep
-    ∙ ap (columns_repeated down (s.width * across * s.depth) (concat rs)) high in
-    sym (
-    ap (cut_rows (count * down) wide) samples
-    ∙ ap (λ (n : ℕ). cut_rows (n * down) wide (columns_repeated down (s.width * across * s.depth) (concat rs) (length rs))) (sym many)
-    ∙ ap (λ (n : ℕ). cut_rows (length rs * down) n (columns_repeated down (s.width * across * s.depth) (concat rs) (length rs))) same
-    ∙ rows_repeated down (s.width * across * s.depth) rs (enlarged_each across s rows (each_of s rows h.are))
-    ∙ sym (answers_are across down s y rows)
+    let W : ℕ = s.width * across * s.depth in
+    let same : row_length s * across ≡ W = omega arith in
+    let each_rs : AreEach W rs = enlarged_each across s rows are in
+    let count_rs : length rs ≡ count = map_many E rows ∙ many in
+    let pixels : long.width ≡ length rows * s.width = wide ∙ ap (λ (n : ℕ). s.width * n) (sym many) ∙ omega arith in
+    let together : made ≡ concat rs =
+    is ∙ ap (enlarged_row across long) all
+    ∙ ap (λ (d : ℕ). columns_repeated across d (concat rows) long.width) deep
+    ∙ ap (columns_repeated across s.depth (concat rows)) pixels
+    ∙ each_repeated across s.depth s.width rows are in (
+      ap (λ (n : ℕ). cut_rows count n made) same ∙ ap (cut_rows count W) together ∙ ap (λ (n : ℕ). cut_rows n W (concat rs)) (sym count_rs)
+          ∙ cut_again W rs each_rs,
+      ap length together ∙ length_together W rs each_rs ∙ ap (λ (n : ℕ). n * W) count_rs ∙ ap (λ (n : ℕ). count * n) (sym same),
     )
-
--- and are as many samples
-pub rows_enlarged_long : (across down : ℕ) (s long tall : Shape) (count wide : ℕ) (rows : List (List ℕ)) (made : List ℕ)
-    → made ≡ enlarged_row down tall (enlarged_row across long (concat rows)) → AreEnlarged across down s long tall count wide rows
-    → length made ≡ count * down * wide
-rows_enlarged_long across down s long tall count wide rows made is h =
-    let E : List ℕ → List ℕ = enlarged_row across s in
-    let rs : List (List ℕ) = map E rows in
-    let same : s.width * across * s.depth ≡ wide = sym (h.size ∙ omega arith) in
-    let all : length (concat rs) ≡ count * wide =
-    length_together (s.width * across * s.depth) rs (enlarged_each across s rows (each_of s rows h.are))
-    ∙ ap (λ (n : ℕ). n * (s.width * across * s.depth)) (map_many E rows ∙ sym h.many) ∙ ap (λ (n : ℕ). count * n) same in
-    ap length (is ∙ ap (enlarged_row down tall) (across_is across down s long tall count wide rows h)
-    ∙ ap (λ (d : ℕ). columns_repeated down d (concat rs) tall.width) h.tall_depth
-    ∙ ap (columns_repeated down wide (concat rs)) h.tall_width)
-    ∙ length_repeated down wide count (concat rs) (omega (arith, all))
 
 -- ---- numbers that stay small
 
@@ -291,10 +254,6 @@ rows_below width depth across down count filled some deep wide is =
     omega (arith, all, is)
 
 -- ---- copies that are given
-
-pub one_copy : (row copy : List ℕ) (rows : List (List ℕ)) → rows ≡ copy ∷ [] → copy ≡ row → rows ≡ replicate (length rows) row
-one_copy row copy rows is same =
-    is ∙ ap (λ (r : List ℕ). r ∷ []) same ∙ ap (λ (n : ℕ). replicate n row) (sym (ap length is))
 
 pub some_copies : (n : ℕ) (row : List ℕ) (rows : List (List ℕ)) → rows ≡ replicate n row → rows ≡ replicate (length rows) row
 some_copies n row rows is = is ∙ ap (λ (k : ℕ). replicate k row) (sym (ap length is ∙ length-replicate n row))

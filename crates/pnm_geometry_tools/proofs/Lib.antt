@@ -13,3 +13,5 @@ pub mod TileRowsLaws
 pub mod RepeatedBitLaws
 pub mod EnlargedRowsLaws
 pub mod FlatRowsLaws
+pub mod HeldRowLaws
+pub mod WideRowLaws

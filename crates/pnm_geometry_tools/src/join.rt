@@ -1,10 +1,9 @@
 //! Rows that are given together.
 
 ghost use Rattle.std.specs.Prelude.{◌≡◌, ◌≤◌, ◌+◌, ◌++◌, [], ℕ, IfOk, IfErr, IfNone, IsTrue, IsFalse, OnErr, reverse};
-ghost use Rattle.pnm_image.specs.HeldRows.{AreRows, AreSliceRows, row_lists, slice_lists};
 ghost use Rattle.pnm_tools.specs.declared.fault.ToolFault.TheVariants.{Memory};
 ghost use Rattle.pnm_tools.specs.Answering.{rows_list};
-ghost use Rattle.pnm_geometry_tools.specs.HeldRows.{HasTaken, HoldsRows, HoldsSame, HoldsWithin};
+ghost use Rattle.pnm_geometry_tools.specs.HeldRows.{HasAdded, HasTaken, HoldsSame, HoldsWithin};
 
 use pnm_image::{RowSlice, RowVec, Rows, Samples};
 use pnm_tools::ToolFault;
@@ -93,10 +92,7 @@ fn take_next(
 ///
 /// Where there is no memory for them. Then nothing has changed.
 pub(crate) fn append(held: &mut RowVec, more: RowSlice<'_>) -> Result<bool, AllocError>
-    ensures added { IfOk result (λ done. IsTrue done → (count more_count each : ℕ)
-        → AreRows count each held.old → AreSliceRows more_count each more.entry
-        → HoldsRows (count + more_count) each
-        (row_lists count each held.old ++ slice_lists more_count each more.entry) held.new) }
+    ensures added { IfOk result (λ done. IsTrue done → HasAdded held.old more.entry held.new) }
     ensures same { IfOk result (λ done. IsFalse done → HoldsSame held.old held.new) }
     ensures failed { OnErr result (HoldsSame held.old held.new) }
 {

@@ -48,8 +48,9 @@ pub(crate) fn repeat_runs<T: Copy + Default>(
     };
     let mut repeated = Vec::with_capacity(alloc, total)?;
     for run in 0..count as usize {
+        let copied = &samples[run * each..(run + 1) * each];
         for _ in 0..times {
-            repeated.extend_from_slice(&samples[run * each..(run + 1) * each])?;
+            repeated.extend_from_slice(copied)?;
         }
     }
     Ok(repeated)

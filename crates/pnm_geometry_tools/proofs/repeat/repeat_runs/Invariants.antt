@@ -1,13 +1,12 @@
 use Rattle.std.proofs.Common.{◌≡◌, ◌++◌}
 use Rattle.pnm_geometry_tools.proofs.EnlargeRowLaws.{columns_repeated}
 use Rattle.pnm_tools.specs.Enlarge.{copies_of}
-use Rattle.pnm_tools.specs.Pixels.{pixel_of}
 use Rattle.pnm_geometry_tools.proofs.repeat.repeat_runs.Given as goal
 
--- the pixels that have passed were repeated
-abbrev pub invariant-loop-x : goal.invariant-loop-x
-invariant-loop-x l = l.repeated ≡ columns_repeated l.fn.times l.fn.shape.depth l.row l.x
+-- the runs that have passed were repeated
+abbrev pub invariant-loop-run : goal.invariant-loop-run
+invariant-loop-run g l = l.repeated.items ≡ columns_repeated l.fn.times l.fn.each l.samples l.run
 
--- the pixel was appended so many times
+-- the run was appended so many times
 abbrev pub invariant-loop : goal.invariant-loop
-invariant-loop l = l.repeated ≡ l.initial.repeated ++ copies_of l.counter (pixel_of l.fn.shape.depth l.row l.x)
+invariant-loop g l = l.repeated.items ≡ l.initial.repeated.items ++ copies_of l.counter l.copied

@@ -1,0 +1,128 @@
+-- Rows as they are held: samples that are cut into rows, and pixels in bytes.
+use Rattle.std.proofs.Common.{◌≡◌, ℕ, zero, suc, ◌+◌, ◌*◌, ◌≤◌, List, [], ◌∷◌, ◌++◌, length, map, take, drop, replicate, All, refl, sym, ap, ap₂, subst}
+use Rattle.std.proofs.Common.{◌∙◌, arith, suc-mul, zero-mul}
+use Rattle.std.specs.List.{flat_map}
+use Rattle.std.proofs.lemmas.List.{drop-append-le, length-append, length-drop, length-take-le, map-append, nil_from_length, take-append-le, take-take}
+use Rattle.std.proofs.lemmas.List.Elements.{All-append, All-cons, All-nil}
+use Rattle.pnm_samples.specs.Cuts.{cut_rows}
+use Rattle.pnm_samples.specs.PixelRows.{bytes_for, rows_of_bytes}
+use Rattle.pnm_samples.specs.Pixels.{all_pixels}
+use Rattle.pnm_samples.proofs.PixelLaws.{length-all_pixels, take-all_pixels}
+use Rattle.pnm_samples.proofs.PixelRowsLaws.{length_of_rows}
+use Rattle.pnm_image.specs.declared.rows.RowVec.{RowVec}
+use Rattle.pnm_image.proofs.HeldRowLaws.{one_length}
+use Rattle.pnm_geometry_tools.specs.HeldRows.{HoldsRows}
+use Rattle.pnm_geometry_tools.proofs.EnlargeRowLaws.{columns_repeated}
+use Rattle.pnm_geometry_tools.proofs.EnlargedRowsLaws.{repeated_cut}
+
+-- the same rows, as many and as long
+pub holds_as : (count each many long : ℕ) (rows same : List (List ℕ)) (held : RowVec) → count ≡ many → each ≡ long → rows ≡ same
+    → HoldsRows count each rows held → HoldsRows many long same held
+holds_as count each many long rows same held counts lengths are h =
+    subst (λ (n : ℕ). HoldsRows n long same held) counts
+    (subst (λ (n : ℕ). HoldsRows count n same held) lengths (subst (λ (l : List (List ℕ)). HoldsRows count each l held) are h))
+
+-- ---- rows behind others
+
+-- samples behind others, cut into rows
+pub cut_both : (count more each : ℕ) (held rest : List ℕ) → length held ≡ count * each
+    → cut_rows (count + more) each (held ++ rest) ≡ cut_rows count each held ++ cut_rows more each rest
+cut_both zero more each held rest long =
+    let none : held ≡ [] = nil_from_length held (long ∙ zero-mul each) in
+    let same : zero + more ≡ more = omega arith in
+    ap (λ (n : ℕ). cut_rows n each (held ++ rest)) same ∙ ap (λ (l : List ℕ). cut_rows more each (l ++ rest)) none
+cut_both (suc count) more each held rest long =
+    let next : suc count + more ≡ suc (count + more) = omega arith in
+    let total : length held ≡ each + count * each = long ∙ omega (arith, suc-mul count each) in
+    let first : take each (held ++ rest) ≡ take each held = take-append-le each held rest (omega (arith, total)) in
+    let left : drop each (held ++ rest) ≡ drop each held ++ rest = drop-append-le each held rest (omega (arith, total)) in
+    ap (λ (n : ℕ). cut_rows n each (held ++ rest)) next
+    ∙ ap₂ (λ (r : List ℕ) (l : List ℕ). r ∷ cut_rows (count + more) each l) first left
+    ∙ ap (λ (l : List (List ℕ)). take each held ∷ l) (cut_both count more each (drop each held) rest (omega (arith, length-drop each held, total)))
+
+-- as many samples as both
+pub length_of_both : (count more each : ℕ) (held rest : List ℕ) → length held ≡ count * each → length rest ≡ more * each
+    → length (held ++ rest) ≡ (count + more) * each
+length_of_both count more each held rest long also = omega (arith, length-append held rest, long, also)
+
+-- what is held then
+pub cut_behind : (count more each : ℕ) (held rest both : List ℕ) → both ≡ held ++ rest → length held ≡ count * each → length rest ≡ more * each
+    → (cut_rows (count + more) each both ≡ cut_rows count each held ++ cut_rows more each rest) × (length both ≡ (count + more) * each)
+cut_behind count more each held rest both is long also = (
+  ap (cut_rows (count + more) each) is ∙ cut_both count more each held rest long,
+  ap length is ∙ length_of_both count more each held rest long also,
+)
+
+pub bits_behind : (count more each : ℕ) (held rest both : List (List ℕ)) → both ≡ held ++ rest
+    → (length held ≡ count) × All (λ row. length row ≡ each) held → (length rest ≡ more) × All (λ row. length row ≡ each) rest
+    → (both ≡ held ++ rest) × ((length both ≡ count + more) × All (λ row. length row ≡ each) both)
+bits_behind count more each held rest both is h k = (
+  is,
+  (
+    ap length is ∙ length-append held rest ∙ omega (arith, h.0, k.0),
+    subst (λ (rows : List (List ℕ)). All (λ (row : List ℕ). length row ≡ each) rows) (sym is) (All-append (λ (row : List ℕ). length row ≡ each) held rest h.1 k.1)
+  ),
+)
+
+-- ---- rows of pixels
+
+-- each has so many
+pub length_of_bits : (count each : ℕ) (bytes : List ℕ) → length bytes ≡ count * bytes_for each → All (λ row. length row ≡ each) (rows_of_bytes count each bytes)
+length_of_bits zero each bytes size = All-nil (λ (row : List ℕ). length row ≡ each)
+length_of_bits (suc count) each bytes size =
+    let total : length bytes ≡ count * bytes_for each + bytes_for each = size ∙ suc-mul count (bytes_for each) in
+    All-cons (λ (row : List ℕ). length row ≡ each) (take each (all_pixels bytes)) (rows_of_bytes count each (drop (bytes_for each) bytes))
+    (length-take-le each (all_pixels bytes) (omega (arith, length-all_pixels bytes, total)))
+    (length_of_bits count each (drop (bytes_for each) bytes) (omega (arith, length-drop (bytes_for each) bytes, total)))
+
+-- they lie in the parts that their bytes are cut into
+pixels_of_parts : (count each : ℕ) (bytes : List ℕ)
+    → rows_of_bytes count each bytes ≡ map (λ part. take each (all_pixels part)) (cut_rows count (bytes_for each) bytes)
+pixels_of_parts zero each bytes = refl
+pixels_of_parts (suc count) each bytes =
+    let size : ℕ = bytes_for each in
+    let first : take each (all_pixels bytes) ≡ take each (all_pixels (take size bytes)) =
+    sym (take-take each (8 * size) (all_pixels bytes) (omega arith)) ∙ ap (take each) (take-all_pixels size bytes) in
+    ap₂ (λ (r : List ℕ) (l : List (List ℕ)). r ∷ l) first (pixels_of_parts count each (drop size bytes))
+
+-- so many rows of so many pixels lie so in their bytes, whatever these were said to be
+pub parts_of_bits : (count each n e : ℕ) (bytes : List ℕ) (rows : List (List ℕ)) → rows ≡ rows_of_bytes n e bytes → length bytes ≡ n * bytes_for e
+    → (length rows ≡ count) × All (λ row. length row ≡ each) rows → (length bytes ≡ count * bytes_for each) × (rows_of_bytes count each bytes ≡ rows)
+parts_of_bits zero each n e bytes rows is long are =
+    let none : n ≡ 0 = omega (arith, ap length is, length_of_rows n e bytes, are.0) in (
+      long ∙ ap (λ (k : ℕ). k * bytes_for e) none ∙ zero-mul (bytes_for e) ∙ sym (zero-mul (bytes_for each)),
+      sym (is ∙ ap (λ (k : ℕ). rows_of_bytes k e bytes) none),
+    )
+parts_of_bits (suc count) each n e bytes rows is long are =
+    let many : n ≡ suc count = omega (arith, ap length is, length_of_rows n e bytes, are.0) in
+    let known : All (λ row. length row ≡ e) rows =
+    subst (λ (l : List (List ℕ)). All (λ (row : List ℕ). length row ≡ e) l) (sym is) (length_of_bits n e bytes long) in
+    let same : e ≡ each = one_length each e rows (omega (arith, are.0)) are.1 known in
+    (long ∙ ap₂ (λ (i j : ℕ). i * bytes_for j) many same, sym (is ∙ ap₂ (λ (i j : ℕ). rows_of_bytes i j bytes) many same))
+
+map_copies : (f : List ℕ → List ℕ) (n : ℕ) (row : List ℕ) → map f (replicate n row) ≡ replicate n (f row)
+map_copies f zero row = refl
+map_copies f (suc n) row = ap (λ (l : List (List ℕ)). f row ∷ l) (map_copies f n row)
+
+map_repeated : (f : List ℕ → List ℕ) (down : ℕ) (rows : List (List ℕ)) → map f (flat_map (replicate down) rows) ≡ flat_map (replicate down) (map f rows)
+map_repeated f down [] = refl
+map_repeated f down (row ∷ rows) =
+    map-append f (replicate down row) (flat_map (replicate down) rows)
+    ∙ ap₂ (λ (a b : List (List ℕ)). a ++ b) (map_copies f down row) (map_repeated f down rows)
+
+-- the bytes of each so many times
+pub repeated_bits : (down count each : ℕ) (bytes made : List ℕ) (rows new : List (List ℕ)) → length bytes ≡ count * bytes_for each
+    → rows_of_bytes count each bytes ≡ rows → made ≡ columns_repeated down (bytes_for each) bytes count → new ≡ rows_of_bytes (count * down) each made
+    → (new ≡ flat_map (replicate down) rows) × ((length new ≡ count * down) × All (λ row. length row ≡ each) new)
+repeated_bits down count each bytes made rows new long are is held =
+    let f : List ℕ → List ℕ = λ part. take each (all_pixels part) in
+    let cut = repeated_cut down count (bytes_for each) bytes made long is in
+    let all : rows_of_bytes (count * down) each made ≡ flat_map (replicate down) rows =
+    pixels_of_parts (count * down) each made ∙ ap (map f) cut.0 ∙ map_repeated f down (cut_rows count (bytes_for each) bytes)
+    ∙ ap (flat_map (replicate down)) (sym (pixels_of_parts count each bytes) ∙ are) in (
+      held ∙ all,
+      (
+        ap length held ∙ length_of_rows (count * down) each made,
+        subst (λ (l : List (List ℕ)). All (λ (row : List ℕ). length row ≡ each) l) (sym held) (length_of_bits (count * down) each made cut.1)
+      ),
+    )
