@@ -60,7 +60,7 @@ bits_behind count more each held rest both is h k = (
   is,
   (
     ap length is ∙ length-append held rest ∙ omega (arith, h.0, k.0),
-    subst (λ (rows : List (List ℕ)). All (λ (row : List ℕ). length row ≡ each) rows) (sym is) (All-append (λ (row : List ℕ). length row ≡ each) held rest h.1 k.1)
+    subst (λ (rows : List (List ℕ)). All (λ (row : List ℕ). length row ≡ each) rows) (sym is) (All-append (λ (row : List ℕ). length row ≡ each) held rest h.1 k.1),
   ),
 )
 
@@ -123,6 +123,6 @@ repeated_bits down count each bytes made rows new long are is held =
       held ∙ all,
       (
         ap length held ∙ length_of_rows (count * down) each made,
-        subst (λ (l : List (List ℕ)). All (λ (row : List ℕ). length row ≡ each) l) (sym held) (length_of_bits (count * down) each made cut.1)
+        subst (λ (l : List (List ℕ)). All (λ (row : List ℕ). length row ≡ each) l) (sym held) (length_of_bits (count * down) each made cut.1),
       ),
     )

@@ -62,7 +62,7 @@ widened_bits across count s rows made one are is =
       same,
       (
         ap length same ∙ map_many (enlarged_row across s) rows ∙ are.0,
-        subst (λ (n : ℕ). All (λ (row : List ℕ). length row ≡ n) made) long all
+        subst (λ (n : ℕ). All (λ (row : List ℕ). length row ≡ n) made) long all,
       ),
     )
 

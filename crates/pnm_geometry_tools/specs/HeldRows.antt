@@ -12,7 +12,7 @@ HoldsRows count each rows held = (row_lists count each held ≡ rows) × AreRows
 abbrev pub HoldsSame : RowVec → RowVec → Type 0
 HoldsSame old new = (count each : ℕ) → AreRows count each old → HoldsRows count each (row_lists count each old) new
 
--- the rows that are lent stand behind those that were held, however many both were, and however long
+-- the rows that are lent stand behind those that were held, however many and long both were
 abbrev pub HasAdded : RowVec → RowSlice → RowVec → Type 0
 HasAdded old more new = (count more_count each : ℕ) → AreRows count each old → AreSliceRows more_count each more
     → HoldsRows (count + more_count) each (row_lists count each old ++ slice_lists more_count each more) new
@@ -21,8 +21,7 @@ HasAdded old more new = (count more_count each : ℕ) → AreRows count each old
 abbrev pub HoldsWithin : ℕ → ℕ → ℕ → RowVec → Type 0
 HoldsWithin count each bound held = AreRows count each held × AreRowsWithin bound (row_lists count each held)
 
--- rows that are held, and behind them those of a batch, the last one first, are as many others and those of another
--- batch
+-- rows that are held, and behind them those of a batch, the last one first, are others and the rest of the batch
 abbrev pub HasTaken : ℕ → ℕ → RowVec → List (List ℕ) → ℕ → RowVec → List (List ℕ) → Type 0
 HasTaken count each held batch new_count new new_batch =
     row_lists count each held ++ reverse batch ≡ row_lists new_count each new ++ reverse new_batch

@@ -40,7 +40,7 @@ const MOST_MADE: u32 = 1_048_576;
 /// The most bytes of copies of a row that are given at once.
 const MOST_GIVEN: u32 = 65_536;
 
-/// Rows of an image of this shape, so many of them, with each pixel repeated so many times, held as they were, but bits
+/// So many rows of an image of this shape, with each pixel repeated so many times: held as they were, but bits
 /// of several planes as bytes.
 ///
 /// # Errors
@@ -172,6 +172,10 @@ fn enlarge_rows(alloc: Global, across: u32, down: u32, shape: Shape, rows: &Rows
 }
 
 /// Rows of an image of this shape, each so many times down and its pixels so many times across.
+///
+/// # Errors
+///
+/// `Memory`, where there is none for the rows.
 fn enlarge_together(
     alloc: Global,
     across: u32,
@@ -194,6 +198,10 @@ fn enlarge_together(
 }
 
 /// The same, as they are held.
+///
+/// # Errors
+///
+/// `Memory`, where there is none for the rows.
 fn enlarge_held(
     alloc: Global,
     across: u32,
@@ -204,7 +212,8 @@ fn enlarge_held(
     requires ready { IsEnlarging across shape }
     requires rows { AllByRecursion (IsRowOf shape) rows.now }
     requires pixels { shape.width * length rows.now < 2 ^ 32 }
-    ensures made { IfOk result (λ made. HoldsRows (length rows.now * down) (row_length shape * across)
+    ensures made { IfOk result (λ made.
+        HoldsRows (length rows.now * down) (row_length shape * across)
         (flat_map (replicate down) (map (enlarged_row across shape) rows.now)) made) }
     ensures refused { IfErr result (λ fault. fault ≡ Memory) }
 {

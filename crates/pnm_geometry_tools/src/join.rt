@@ -54,18 +54,21 @@ pub(crate) fn next_columns(batch: &mut Vec<Samples>) -> Result<Option<Rows>, Too
     Ok(Some(Rows::new(held, bound, count, each)))
 }
 
-/// Takes the next column of a batch to those of so many samples that are held, none of them above the bound; false,
-/// and nothing has changed, where there is none, or it isn't as long, or not held alike. The only fault is `Memory`.
+/// Takes the next column of a batch to those that are held, each of so many samples and none above the bound.
+/// False where none is left, or the next one has another length or is held otherwise: then it stays in the
+/// batch. The only fault is `Memory`.
 fn take_next(
     batch: &mut Vec<Samples>,
     held: &mut RowVec,
     bound: &mut u32,
     each: usize,
 ) -> Result<bool, ToolFault>
-    ensures taken { IfOk result (λ done. IsTrue done → (count : ℕ) → HoldsWithin count each bound.old held.old
+    ensures taken { IfOk result (λ done. IsTrue done → (count : ℕ)
+        → HoldsWithin count each bound.old held.old
         → HasTaken count each held.old batch.old.items (count + 1) held.new batch.new.items
         × HoldsWithin (count + 1) each bound.new held.new) }
-    ensures same { IfOk result (λ done. IsFalse done → (count : ℕ) → HoldsWithin count each bound.old held.old
+    ensures same { IfOk result (λ done. IsFalse done → (count : ℕ)
+        → HoldsWithin count each bound.old held.old
         → HasTaken count each held.old batch.old.items count held.new batch.new.items
         × HoldsWithin count each bound.new held.new) }
     ensures refused { IfErr result (λ fault. fault ≡ Memory) }

@@ -30,7 +30,8 @@ pub(crate) fn repeat_runs<T: Copy + Default>(
 ) -> Result<Vec<T>, ToolFault>
     requires { length samples.now ≡ count * each }
     ensures made { IfOk result (λ made. made.items
-        ≡ flat_map (λ run. copies_of times (pixel_of each samples.now run)) (range_with_len 0 count)) }
+        ≡ flat_map (λ run. copies_of times (pixel_of each samples.now run))
+        (range_with_len 0 count)) }
     ensures refused { IfErr result (λ fault. fault ≡ Memory) }
 {
     if each < LEAST_RUN {
