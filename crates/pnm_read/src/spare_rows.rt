@@ -12,8 +12,14 @@ const MOST_ROWS: usize = 128;
 /// The most bytes that a row takes which is kept, or rows that were handed over together.
 const MOST_BYTES: usize = 65_536;
 
+/// About so many bytes are kept in all: as many as a ring holds.
+const MOST_KEPT: usize = 1_048_576;
+
+/// How many times as much room as was asked for last a row has at most that is kept: more of it would lie idle.
+const MOST_TIMES: usize = 4;
+
 /// Rows that were let go, whose memory a source takes for its next ones: first the one that was let go first. At most
-/// 128 of at most 65,536 bytes are kept, and none before a source has asked for a row.
+/// 128 of at most 65,536 bytes are kept, about 1 MiB in all, and none before a source has asked for a row.
 #[derive(Drop)]
 pub struct SpareRows {
     rows: VecDeque<Vec<u8>>,
@@ -61,11 +67,14 @@ impl SpareRows {
         }
     }
 
-    /// Keeps the row, where it has room for as many bytes as were asked for last and there is a place for it.
+    /// Keeps the row, where it has room for as many bytes as were asked for last, and not for many more, and there is a
+    /// place for it.
     fn keep_bytes(&mut self, row: Vec<u8>) {
         let size = row.capacity();
-        let has_place = self.rows.len() < self.rows.capacity();
-        if self.wanted <= size && size <= MOST_BYTES && has_place {
+        let most = self.wanted.saturating_mul(MOST_TIMES).min(MOST_BYTES);
+        let count = self.rows.len();
+        let has_place = count < self.rows.capacity() && count.saturating_mul(size) < MOST_KEPT;
+        if self.wanted <= size && size <= most && has_place {
             self.rows.push_back_reserved(row);
         }
     }
