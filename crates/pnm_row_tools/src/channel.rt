@@ -94,7 +94,8 @@ fn pick_plane<T: Copy>(buffer: &mut [T], number: usize, samples: &[T], depth: us
     requires number { number < depth }
     requires pixels { length samples.now ≡ length buffer.old * depth }
     ensures { (past : T) → buffer.new
-        ≡ map (λ x. slice_index_or samples.now (x * depth + number) past) (range_with_len 0 (length buffer.old)) }
+        ≡ map (λ x. slice_index_or samples.now (x * depth + number) past)
+        (range_with_len 0 (length buffer.old)) }
 {
     for x in 0..buffer.len() {
         buffer[x] = samples[x * depth + number];

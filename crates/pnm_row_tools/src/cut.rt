@@ -145,7 +145,8 @@ fn parts_kept(columns: Span, among: Span, depth: usize, row_length: usize) -> Pa
 
 /// Keeps these parts of rows, those of the first row first, in place.
 fn keep_of_each<T: Copy>(samples: &mut Vec<T>, parts: Parts)
-    requires rows { parts.top * parts.row_length + parts.count * parts.row_length ≤ length samples.old.items }
+    requires rows { parts.top * parts.row_length + parts.count * parts.row_length
+        ≤ length samples.old.items }
     requires within { parts.first + parts.kept ≤ parts.row_length }
     ensures { samples.new.items ≡ parts_of parts samples.old.items }
 {

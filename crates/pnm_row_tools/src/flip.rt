@@ -159,7 +159,8 @@ fn reverse_rows(
     each: usize,
 ) -> Result<RowVec, AllocError>
     requires { AreRows count each rows }
-    ensures { IfOk result (λ reversed. HoldsRows count each reversed (reverse (row_lists count each rows))) }
+    ensures { IfOk result
+        (λ reversed. HoldsRows count each reversed (reverse (row_lists count each rows))) }
 {
     if count == 1 {
         return Ok(rows);
