@@ -230,7 +230,9 @@ fn tell_taken(
     match (step, parcel) {
         (Step::Passes, Parcel::Message(message)) => tell_message(told, message),
         (Step::Passes, Parcel::Rows(rows)) => tell_each_row(alloc, told, rows),
-        (Step::Widths, Parcel::Message(Message::Row(row))) => told.push_str(width_of(row.as_slice())),
+        (Step::Widths, Parcel::Message(Message::Row(row))) => told.push_str(width_of(
+            row.as_slice(),
+        )),
         (Step::Widths, Parcel::Rows(rows)) => tell_widths(rows, told),
         _ => Ok(()),
     }
