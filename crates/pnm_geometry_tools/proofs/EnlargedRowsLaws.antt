@@ -31,7 +31,7 @@ length_together each (row ∷ rows) are =
     omega (arith, length-append row (concat rows), are.0, length_together each rows are.1, suc-mul (length rows) each)
 
 -- cut again they are the same rows
-pub cut_again : (each : ℕ) (rows : List (List ℕ)) → AreEach each rows → cut_rows (length rows) each (concat rows) ≡ rows
+cut_again : (each : ℕ) (rows : List (List ℕ)) → AreEach each rows → cut_rows (length rows) each (concat rows) ≡ rows
 cut_again each [] are = refl
 cut_again each (row ∷ rows) are = rw (take_at row (concat rows) each are.0, drop_at row (concat rows) each are.0, cut_again each rows are.1) refl
 
@@ -69,7 +69,7 @@ later_pixel d w i row rest long =
     ∙ ap (take d) (sym (drop-drop (i * d) (w * d) (row ++ rest)) ∙ ap (drop (i * d)) (drop_at row rest (w * d) long))
 
 -- each row by itself
-pub each_repeated : (across d w : ℕ) (rows : List (List ℕ)) → AreEach (w * d) rows
+each_repeated : (across d w : ℕ) (rows : List (List ℕ)) → AreEach (w * d) rows
     → columns_repeated across d (concat rows) (length rows * w) ≡ concat (map (λ row. columns_repeated across d row w) rows)
 each_repeated across d w [] are = ap (columns_repeated across d []) (zero-mul w)
 each_repeated across d w (row ∷ rows) are =
@@ -93,11 +93,11 @@ each_repeated across d w (row ∷ rows) are =
 -- ---- how many samples are made
 
 -- so many of a list
-pub length_of_copies : (n size : ℕ) (l : List ℕ) → length l ≡ size → length (copies_of n l) ≡ n * size
+length_of_copies : (n size : ℕ) (l : List ℕ) → length l ≡ size → length (copies_of n l) ≡ n * size
 length_of_copies n size l long = length_of_equals (λ _. l) size 0 n (λ x. long)
 
 -- of the first columns
-pub length_repeated : (across d n : ℕ) (row : List ℕ) → n * d ≤ length row → length (columns_repeated across d row n) ≡ n * across * d
+length_repeated : (across d n : ℕ) (row : List ℕ) → n * d ≤ length row → length (columns_repeated across d row n) ≡ n * across * d
 length_repeated across d zero row le = omega arith
 length_repeated across d (suc n) row le =
     let more : suc n ≡ n + 1 = omega arith in
@@ -159,7 +159,7 @@ same_each a b [] same are = tt
 same_each a b (row ∷ rows) same are = (are.0 ∙ same, same_each a b rows same are.1)
 
 -- the rows of a column
-pub rows_repeated : (down each : ℕ) (rows : List (List ℕ)) → AreEach each rows
+rows_repeated : (down each : ℕ) (rows : List (List ℕ)) → AreEach each rows
     → cut_rows (length rows * down) each (columns_repeated down each (concat rows) (length rows)) ≡ flat_map (replicate down) rows
 rows_repeated down each rows are =
     let one : length rows ≡ length rows * 1 = omega arith in

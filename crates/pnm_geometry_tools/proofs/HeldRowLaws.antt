@@ -41,7 +41,7 @@ cut_both (suc count) more each held rest long =
     ∙ ap (λ (l : List (List ℕ)). take each held ∷ l) (cut_both count more each (drop each held) rest (omega (arith, length-drop each held, total)))
 
 -- as many samples as both
-pub length_of_both : (count more each : ℕ) (held rest : List ℕ) → length held ≡ count * each → length rest ≡ more * each
+length_of_both : (count more each : ℕ) (held rest : List ℕ) → length held ≡ count * each → length rest ≡ more * each
     → length (held ++ rest) ≡ (count + more) * each
 length_of_both count more each held rest long also = omega (arith, length-append held rest, long, also)
 

@@ -67,20 +67,20 @@ widened_bits across count s rows made one are is =
     )
 
 -- rows whose pixels stand once are the same rows
-pub unchanged_rows : (across : ℕ) (s : Shape) (rows : List (List ℕ)) → across ≡ 1 → AreEach (row_length s) rows → rows ≡ map (enlarged_row across s) rows
+unchanged_rows : (across : ℕ) (s : Shape) (rows : List (List ℕ)) → across ≡ 1 → AreEach (row_length s) rows → rows ≡ map (enlarged_row across s) rows
 unchanged_rows across s [] once are = refl
 unchanged_rows across s (row ∷ rows) once are =
     ap₂ (λ (r : List ℕ) (l : List (List ℕ)). r ∷ l) (unchanged_row across s row once are.0) (unchanged_rows across s rows once are.1)
 
 -- rows that stand once are the same rows
-pub rows_once : (down : ℕ) (rows : List (List ℕ)) → down ≡ 1 → rows ≡ flat_map (replicate down) rows
+rows_once : (down : ℕ) (rows : List (List ℕ)) → down ≡ 1 → rows ≡ flat_map (replicate down) rows
 rows_once down [] once = refl
 rows_once down (row ∷ rows) once =
     ap (λ (l : List (List ℕ)). row ∷ l) (rows_once down rows once)
     ∙ ap (λ (n : ℕ). replicate n row ++ flat_map (replicate down) rows) (sym once)
 
 -- no sample of the result is above what those of the rows aren't
-pub enlarged_range : (across down : ℕ) (s : Shape) (rows : List (List ℕ)) → AllByRecursion (IsRowOf s) rows
+enlarged_range : (across down : ℕ) (s : Shape) (rows : List (List ℕ)) → AllByRecursion (IsRowOf s) rows
     → AreRowsWithin s.maxval (flat_map (replicate down) (map (enlarged_row across s) rows))
 enlarged_range across down s [] are = All-nil (λ (row : List ℕ). All (λ sample. sample ≤ s.maxval) row)
 enlarged_range across down s (row ∷ rows) are =

@@ -1,4 +1,4 @@
-use Rattle.std.proofs.Common.{◌≡◌, ◌≤◌, ◌*◌, ◌∙◌, ℕ, ap, arith}
+use Rattle.std.proofs.Common.{◌≤◌, ◌*◌, ◌∙◌, ℕ, ap, arith}
 use Rattle.pnm_image.proofs.RowLaws.{rows_need}
 use Rattle.pnm_geometry_tools.proofs.WideRowLaws.{together_held}
 use Rattle.pnm_geometry_tools.proofs.enlarge.enlarge_together.Goals as goal

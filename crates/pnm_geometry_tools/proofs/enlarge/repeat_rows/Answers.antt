@@ -1,4 +1,4 @@
-use Rattle.std.proofs.Common.{◌≡◌, ◌+◌, ◌*◌, ◌/◌, ◌∙◌, ap, sym, subst, arith, List, ℕ, length}
+use Rattle.std.proofs.Common.{◌≡◌, ◌+◌, ◌*◌, ◌/◌, ◌∙◌, ap, sym, subst, arith, ℕ}
 use Rattle.std.specs.List.{flat_map}
 use Rattle.std.proofs.Common.{replicate}
 use Rattle.pnm_image.specs.declared.rows.RowSlice.{RowSlice}

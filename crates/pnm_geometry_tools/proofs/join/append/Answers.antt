@@ -1,4 +1,4 @@
-use Rattle.std.proofs.Common.{◌≡◌, ◌++◌, Bool, Result, refl, sym, subst}
+use Rattle.std.proofs.Common.{◌≡◌, ◌++◌, Bool, Result, sym, subst}
 use Rattle.std.specs.Bool.{IsTrue}
 use Rattle.std.specs.Result.{IfOk}
 use Rattle.std.specs.declared.alloc.AllocError.{AllocError}

@@ -1,4 +1,4 @@
-use Rattle.std.proofs.Common.{rules, ◌≡◌, ◌++◌, ◌∷◌, [], length, All, Some, ap, subst, sym, refl, ◌∙◌, arith, List, ℕ, Option, option_to_list}
+use Rattle.std.proofs.Common.{rules, ◌≡◌, ◌++◌, ◌∷◌, [], length, All, Some, ap, subst, sym, ◌∙◌, arith, List, ℕ, Option, option_to_list}
 use Rattle.std.proofs.lemmas.List.Elements.{All-cons, All-nil}
 use Rattle.pnm_geometry_tools.proofs.JoinLaws.{next_taken, none_taken}
 use Rattle.pnm_geometry_tools.proofs.join.take_next.Goals as goal

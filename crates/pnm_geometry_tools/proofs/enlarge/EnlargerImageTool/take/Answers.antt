@@ -1,4 +1,4 @@
-use Rattle.std.proofs.Common.{◌≡◌, ◌∙◌, ◌∷◌, [], List, ℕ, get_or, ap}
+use Rattle.std.proofs.Common.{◌≡◌, ◌∙◌, [], List, ℕ, get_or, ap}
 use Rattle.pnm_tools.specs.Enlarge.{enlarged_row}
 use Rattle.pnm_geometry_tools.proofs.EnlargeRowLaws.{unchanged_row, rows_due}
 use Rattle.pnm_geometry_tools.proofs.WideRowLaws.{one_enlarged}
