@@ -81,13 +81,10 @@ impl ImageTool for Transposer {
         _y: u32,
         rows: Rows,
     ) -> Result<Option<Rows>, Rows> {
-        if self.rows.prefers_strips(shape) {
-            return Err(rows);
+        if !self.rows.prefers_strips(shape) && self.rows.push_rows(&rows).is_ok() {
+            return Ok(None);
         }
-        match self.rows.push_rows(&rows) {
-            Ok(()) => Ok(None),
-            Err(_) => Err(rows),
-        }
+        Err(rows)
     }
 
     fn end(&mut self, shape: Shape) {
