@@ -10,6 +10,8 @@ pub mod CutRowsLaws
 pub mod JoinLaws
 pub mod TileRowLaws
 pub mod TileRowsLaws
+pub mod KeptRowLaws
+pub mod TileBitLaws
 pub mod RepeatedBitLaws
 pub mod EnlargedRowsLaws
 pub mod FlatRowsLaws

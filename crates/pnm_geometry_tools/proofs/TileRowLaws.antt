@@ -120,7 +120,7 @@ same_column k i width whole =
     ap (λ (n : ℕ). n % width) (sym copies) ∙ add-mul-mod_self_left i width (k / width)
 
 -- behind whole copies the row goes on as it begins
-tiled_more : {X : Type 0} (k j width depth : ℕ) (row : List X) → k % width ≡ 0 → tiled_row (k + j) width depth row ≡ tiled_row k width depth row
+pub tiled_more : {X : Type 0} (k j width depth : ℕ) (row : List X) → k % width ≡ 0 → tiled_row (k + j) width depth row ≡ tiled_row k width depth row
     ++ tiled_row j width depth row
 tiled_more {X = X} k j width depth row whole =
     let f : ℕ → List X = λ x. pixel_of depth row (x % width) in
@@ -130,7 +130,7 @@ tiled_more {X = X} k j width depth row whole =
     ap (pixel_of depth row) (ap (λ (n : ℕ). n % width) at ∙ same_column k i width whole ∙ ap (λ (n : ℕ). n % width) to)))
 
 -- a prefix of the prefix
-tiled_shorter : {X : Type 0} (k j width depth : ℕ) (row : List X) → 0 < width → length row ≡ width * depth → j ≤ k
+pub tiled_shorter : {X : Type 0} (k j width depth : ℕ) (row : List X) → 0 < width → length row ≡ width * depth → j ≤ k
     → take (j * depth) (tiled_row k width depth row) ≡ tiled_row j width depth row
 tiled_shorter {X = X} k j width depth row some long le =
     let f : ℕ → List X = λ x. pixel_of depth row (x % width) in
@@ -250,37 +250,34 @@ many_rows k width =
     ap (λ (n : ℕ). n % width) (sym copies) ∙ add-mul-mod_self_left 0 width k ∙ zero-mod width
 
 -- one row more, behind what stands
-pub row_more : (width depth k start : ℕ) (old from before now : List ℕ) → length (take (width * depth) (drop start from)) ≡ width * depth
-    → before ≡ old ++ tiled_row (k * width) width depth (take (width * depth) (drop start from))
-    → now ≡ before ++ take (width * depth) (drop start from)
-    → now ≡ old ++ tiled_row ((k + 1) * width) width depth (take (width * depth) (drop start from))
-row_more width depth k start old from before now long was is =
-    let row : List ℕ = take (width * depth) (drop start from) in
-    let next : k * width + width ≡ (k + 1) * width = omega arith in
-    let all : tiled_row width width depth row ≡ row = tiled_prefix width width depth row (omega arith) ∙ take_all (width * depth) row (omega (arith, long)) in
-    is ∙ ap (λ (l : List ℕ). l ++ row) was ∙ append_assoc old (tiled_row (k * width) width depth row) row
-    ∙ ap (λ (l : List ℕ). old ++ (tiled_row (k * width) width depth row ++ l)) (sym all)
-    ∙ ap (λ (l : List ℕ). old ++ l) (sym (tiled_more (k * width) width width depth row (many_rows k width)))
-    ∙ ap (λ (m : ℕ). old ++ tiled_row m width depth row) next
+pub row_more : (each k : ℕ) (old from before now : List ℕ) → each ≤ length from → before ≡ old ++ tiled_row (k * each) each 1 (take each from)
+    → now ≡ before ++ take each from → now ≡ old ++ tiled_row ((k + 1) * each) each 1 (take each from)
+row_more each k old from before now long was is =
+    let row : List ℕ = take each from in
+    let next : k * each + each ≡ (k + 1) * each = omega arith in
+    let whole : each * 1 ≡ each = omega arith in
+    let all : tiled_row each each 1 row ≡ row = tiled_prefix each each 1 row (omega arith) ∙ ap (λ (n : ℕ). take n row) whole
+    ∙ take_all each row (omega (arith, length-take each from)) in
+    is ∙ ap (λ (l : List ℕ). l ++ row) was ∙ append_assoc old (tiled_row (k * each) each 1 row) row
+    ∙ ap (λ (l : List ℕ). old ++ (tiled_row (k * each) each 1 row ++ l)) (sym all)
+    ∙ ap (λ (l : List ℕ). old ++ l) (sym (tiled_more (k * each) each each 1 row (many_rows k each)))
+    ∙ ap (λ (m : ℕ). old ++ tiled_row m each 1 row) next
 
 -- whole rows and a part of one are all columns
-pub rows_and_part : (across width depth k n start : ℕ) (old from before now : List ℕ) → 0 < width
-    → before ≡ old ++ tiled_row (k * width) width depth (take (width * depth) (drop start from))
-    → now ≡ before ++ take n (drop start from) → k ≡ across / width → n ≡ across % width * depth
-    → now ≡ old ++ tiled_row across width depth (take (width * depth) (drop start from))
-rows_and_part across width depth k n start old from before now some was is rows part =
-    let row : List ℕ = take (width * depth) (drop start from) in
-    let rest : ℕ = across % width in
-    let fewer : rest * depth ≤ width * depth = mul-le-mul_right {m = rest} {n = width} depth (omega (arith, mod-lt across some)) in
-    let cut : take n (drop start from) ≡ take (rest * depth) row =
-    ap (λ (m : ℕ). take m (drop start from)) part ∙ sym (take-take (rest * depth) (width * depth) (drop start from) fewer) in
-    let all : k * width + rest ≡ across = omega (arith, div-add-mod across width, ap (λ (m : ℕ). m * width) rows) in
-    is ∙ ap (λ (l : List ℕ). l ++ take n (drop start from)) was
-    ∙ append_assoc old (tiled_row (k * width) width depth row) (take n (drop start from))
-    ∙ ap (λ (l : List ℕ). old ++ (tiled_row (k * width) width depth row ++ l)) cut
-    ∙ ap (λ (l : List ℕ). old ++ (tiled_row (k * width) width depth row ++ l)) (sym (tiled_prefix rest width depth row (omega (arith, mod-lt across some))))
-    ∙ ap (λ (l : List ℕ). old ++ l) (sym (tiled_more (k * width) rest width depth row (many_rows k width)))
-    ∙ ap (λ (m : ℕ). old ++ tiled_row m width depth row) all
+pub rows_and_part : (across each k n : ℕ) (old from before now : List ℕ) → 0 < each → before ≡ old ++ tiled_row (k * each) each 1 (take each from)
+    → now ≡ before ++ take n from → k ≡ across / each → n ≡ across % each → now ≡ old ++ tiled_row across each 1 (take each from)
+rows_and_part across each k n old from before now some was is rows part =
+    let row : List ℕ = take each from in
+    let rest : ℕ = across % each in
+    let fewer : rest < each = mod-lt across some in
+    let one : rest * 1 ≡ rest = omega arith in
+    let cut : take n from ≡ take rest row = ap (λ (m : ℕ). take m from) part ∙ sym (take-take rest each from (omega arith)) in
+    let again : take rest row ≡ tiled_row rest each 1 row = sym (tiled_prefix rest each 1 row (omega arith) ∙ ap (λ (m : ℕ). take m row) one) in
+    let all : k * each + rest ≡ across = omega (arith, div-add-mod across each, ap (λ (m : ℕ). m * each) rows) in
+    is ∙ ap (λ (l : List ℕ). l ++ take n from) was ∙ append_assoc old (tiled_row (k * each) each 1 row) (take n from)
+    ∙ ap (λ (l : List ℕ). old ++ (tiled_row (k * each) each 1 row ++ l)) (cut ∙ again)
+    ∙ ap (λ (l : List ℕ). old ++ l) (sym (tiled_more (k * each) rest each 1 row (many_rows k each)))
+    ∙ ap (λ (m : ℕ). old ++ tiled_row m each 1 row) all
 
 -- ---- samples of the result
 
@@ -371,6 +368,8 @@ tiles_at_end w s come ready count some wide wanted =
           (All-map P (shown_row w.width s) shown
           (λ k d lt. length_shown w.width s (get_or shown k d) (All-take (λ row. length row ≡ row_length s) w.height come ready.lengths k d lt)));
       width = omega arith;
+      narrow = omega arith;
+      planes = ready.limits.depth_low;
       filled = ready.filled;
     }
 

@@ -5,7 +5,7 @@ use Rattle.std.specs.List.{AllByRecursion, flat_map, range_with_len, slice_range
 use Rattle.std.proofs.lemmas.List.{take_all, take_at, take_min, take-append-le, take-append-drop, take-take, map-append}
 use Rattle.std.proofs.lemmas.List.{drop_at, drop-append-le, drop-drop, drop-take, length-drop, length-map}
 use Rattle.std.proofs.lemmas.List.{append_assoc, length-append, length-take, nil_from_length}
-use Rattle.std.proofs.lemmas.List.Elements.{All-append, All-from_recursion, All-head, All-nil, All-same}
+use Rattle.std.proofs.lemmas.List.Elements.{All-append, All-from_recursion, All-map}
 use Rattle.std.proofs.lemmas.List.FromFn.{get_or-map-range_with_len}
 use Rattle.std.proofs.Math.Nat.{mod-lt}
 use Rattle.std.proofs.Math.Seq.{take-append-add}
@@ -84,13 +84,6 @@ cut_of_pieces f each a (suc n) long =
     ∙ ap (λ (l : List ℕ). f a ∷ cut_rows n each l) (drop_at (f a) rest each (long a))
     ∙ ap (λ (l : List (List ℕ)). f a ∷ l) (cut_of_pieces f each (a + 1) n long)
 
--- so are all samples within what those of each piece are
-pieces_within : (maxval : ℕ) (f : ℕ → List ℕ) (a n : ℕ) → ((x : ℕ) → All (λ sample. sample ≤ maxval) (f x))
-    → All (λ sample. sample ≤ maxval) (flat_map f (range_with_len a n))
-pieces_within maxval f a zero each = All-nil (λ sample. sample ≤ maxval)
-pieces_within maxval f a (suc n) each =
-    All-append (λ sample. sample ≤ maxval) (f a) (flat_map f (range_with_len (a + 1) n)) (each a) (pieces_within maxval f (a + 1) n each)
-
 -- a row of the result has all its columns, and its samples are within the maxval
 row_long : (across width depth : ℕ) (rows : List (List ℕ)) → HasTiles (tiled across 0 width depth rows 0) → (y : ℕ)
     → length (row_of_tiles across width depth rows y) ≡ across * depth
@@ -104,16 +97,18 @@ row_within maxval across width depth rows h within y =
     tiled_within maxval across width depth row row (tiled_row across width depth row) refl refl (within (y % length rows) [] (mod-lt y h.some))
 
 -- so have and are so many of them, and cut again they are these rows
-pub rows_long : (across width depth y n : ℕ) (rows : List (List ℕ)) (made : List ℕ) → HasTiles (tiled across 0 width depth rows 0)
+rows_long : (across width depth y n : ℕ) (rows : List (List ℕ)) (made : List ℕ) → HasTiles (tiled across 0 width depth rows 0)
     → made ≡ flat_map (row_of_tiles across width depth rows) (range_with_len y n) → length made ≡ n * (across * depth)
 rows_long across width depth y n rows made h is =
     ap length is ∙ length_of_equals (row_of_tiles across width depth rows) (across * depth) y n (row_long across width depth rows h)
 
-pub rows_within : (maxval across width depth y n : ℕ) (rows : List (List ℕ)) (made : List ℕ) → HasTiles (tiled across 0 width depth rows 0)
-    → AreWithin maxval rows → made ≡ flat_map (row_of_tiles across width depth rows) (range_with_len y n) → All (λ sample. sample ≤ maxval) made
+pub rows_within : (maxval across width depth y n : ℕ) (rows made : List (List ℕ)) → HasTiles (tiled across 0 width depth rows 0)
+    → AreWithin maxval rows → made ≡ map (row_of_tiles across width depth rows) (range_with_len y n) → AreWithin maxval made
 rows_within maxval across width depth y n rows made h within is =
-    subst (All (λ sample. sample ≤ maxval)) (sym is)
-    (pieces_within maxval (row_of_tiles across width depth rows) y n (row_within maxval across width depth rows h within))
+    let P : List ℕ → Type 0 = λ row. All (λ sample. sample ≤ maxval) row in
+    let numbers : List ℕ = range_with_len y n in
+    subst (All P) (sym is)
+    (All-map P (row_of_tiles across width depth rows) numbers (λ k d lt. row_within maxval across width depth rows h within (get_or numbers k d)))
 
 rows_cut : (across width depth y n : ℕ) (rows : List (List ℕ)) (made : List ℕ) → HasTiles (tiled across 0 width depth rows 0)
     → made ≡ flat_map (row_of_tiles across width depth rows) (range_with_len y n)
@@ -122,23 +117,22 @@ rows_cut across width depth y n rows made h is =
     ap (cut_rows n (across * depth)) is ∙ cut_of_pieces (row_of_tiles across width depth rows) (across * depth) y n (row_long across width depth rows h)
 
 -- those that are given, and those that are left
-pub due_in_parts : (w : Tiled) (n y left : ℕ) (made : List ℕ) → HasTiles (tiled w.width 0 w.image_width w.depth w.rows 0)
-    → n ≤ w.left → w.left ≤ w.height → y ≡ w.height - w.left → left ≡ w.left - n
-    → made ≡ flat_map (row_of_tiles w.width w.image_width w.depth w.rows) (range_with_len y n)
-    → tiled_due w ≡ cut_rows n (w.width * w.depth) made ++ tiled_due (tiled w.width w.height w.image_width w.depth w.rows left)
-due_in_parts w n y left made h few within from rest is =
+pub due_in_parts : (w : Tiled) (n y left : ℕ) (made : List (List ℕ)) → n ≤ w.left → w.left ≤ w.height → y ≡ w.height - w.left → left ≡ w.left - n
+    → made ≡ map (row_of_tiles w.width w.image_width w.depth w.rows) (range_with_len y n)
+    → tiled_due w ≡ made ++ tiled_due (tiled w.width w.height w.image_width w.depth w.rows left)
+due_in_parts w n y left made few within from rest is =
     let f : ℕ → List ℕ = row_of_tiles w.width w.image_width w.depth w.rows in
     let parts : w.left ≡ n + left = omega arith in
     let next : y + n ≡ w.height - left = omega arith in
     ap (λ (a : ℕ). map f (range_with_len a w.left)) (sym from) ∙ ap (λ (m : ℕ). map f (range_with_len y m)) parts ∙ map_in_parts f y n left
-    ∙ ap (λ (l : List (List ℕ)). l ++ map f (range_with_len (y + n) left))
-    (sym (rows_cut w.width w.image_width w.depth y n w.rows made h is))
-    ∙ ap (λ (a : ℕ). cut_rows n (w.width * w.depth) made ++ map f (range_with_len a left)) next
+    ∙ ap (λ (l : List (List ℕ)). l ++ map f (range_with_len (y + n) left)) (sym is)
+    ∙ ap (λ (a : ℕ). made ++ map f (range_with_len a left)) next
 
 -- there are rows to give, however many are left
 pub tiles_same : (across down down' width depth left left' : ℕ) (rows : List (List ℕ)) → HasTiles (tiled across down width depth rows left)
     → HasTiles (tiled across down' width depth rows left')
-tiles_same across down down' width depth left left' rows h = record { some = h.some; lengths = h.lengths; width = h.width; filled = h.filled }
+tiles_same across down down' width depth left left' rows h =
+    record { some = h.some; lengths = h.lengths; width = h.width; narrow = h.narrow; planes = h.planes; filled = h.filled }
 
 -- a piece more
 pub piece_more : {X : Type 0} (f : ℕ → List X) (y at : ℕ) (held now : List X) → y ≤ at → held ≡ flat_map f (range_with_len y (at - y))
@@ -180,7 +174,7 @@ row_at count each k samples below =
     ∙ get_or-map-range_with_len (pixel_of each samples) 0 count k k [] below (omega arith)
 
 -- rows of the result are made of them
-pub made_of_samples : (across width depth count y n : ℕ) (rows : List (List ℕ)) (samples made : List ℕ) → rows ≡ cut_rows count (width * depth) samples
+made_of_samples : (across width depth count y n : ℕ) (rows : List (List ℕ)) (samples made : List ℕ) → rows ≡ cut_rows count (width * depth) samples
     → 0 < count → made ≡ flat_map (row_of_samples across width depth count samples) (range_with_len y n)
     → made ≡ flat_map (row_of_tiles across width depth rows) (range_with_len y n)
 made_of_samples across width depth count y n rows samples made are some is =
@@ -190,6 +184,15 @@ made_of_samples across width depth count y n rows samples made are some is =
     ap (tiled_row across width depth) (sym (row_at count (width * depth) (x % count) samples (mod-lt x some))
     ∙ ap (λ (m : ℕ). get_or cut (x % m) []) (sym many)))
     ∙ ap (λ (l : List (List ℕ)). flat_map (row_of_tiles across width depth l) (range_with_len y n)) (sym are)
+
+pub tiles_of_samples : (across width depth count y n : ℕ) (rows : List (List ℕ)) (samples made : List ℕ) → HasTiles (tiled across 0 width depth rows 0)
+    → cut_rows count (width * depth) samples ≡ rows → count ≡ length rows
+    → made ≡ flat_map (row_of_samples across width depth count samples) (range_with_len y n)
+    → (length made ≡ n * (across * depth)) × (cut_rows n (across * depth) made ≡ map (row_of_tiles across width depth rows) (range_with_len y n))
+tiles_of_samples across width depth count y n rows samples made h are many is =
+    let of_tiles : made ≡ flat_map (row_of_tiles across width depth rows) (range_with_len y n) =
+    made_of_samples across width depth count y n rows samples made (sym are) (omega (arith, many, h.some)) is in
+    (rows_long across width depth y n rows made h of_tiles, rows_cut across width depth y n rows made h of_tiles)
 
 -- ---- fronts of rows
 
@@ -245,26 +248,8 @@ fronts_cut shown each (suc count) samples enough within =
 
 -- ---- rows behind those that are kept
 
--- rows of one length are cut to it
-pub alike_length : (n each rl : ℕ) (samples : List ℕ) → 0 < n → length samples ≡ n * rl → All (λ row. length row ≡ each) (cut_rows n rl samples) → each ≡ rl
-alike_length zero each rl samples some long are = absurd (omega (arith, some))
-alike_length (suc n) each rl samples some long are =
-    let first : length (take rl samples) ≡ each = All-head (λ (row : List ℕ). length row ≡ each) (take rl samples) (cut_rows n rl (drop rl samples)) are in
-    omega (arith, first, length-take rl samples, long, suc-mul n rl)
-
--- rows of a front of samples
-cut_front : (n each : ℕ) (samples : List ℕ) → cut_rows n each (take (n * each) samples) ≡ cut_rows n each samples
-cut_front zero each samples = refl
-cut_front (suc n) each samples =
-    let size : suc n * each ≡ each + n * each = omega (arith, suc-mul n each) in
-    let front : List ℕ = take (each + n * each) samples in
-    ap (λ (k : ℕ). cut_rows (suc n) each (take k samples)) size
-    ∙ ap (λ (l : List ℕ). l ∷ cut_rows n each (drop each front)) (take-take each (each + n * each) samples (omega arith))
-    ∙ ap (λ (l : List ℕ). take each samples ∷ cut_rows n each l) (drop-take each (n * each) samples)
-    ∙ ap (λ (l : List (List ℕ)). take each samples ∷ l) (cut_front n each (drop each samples))
-
 -- rows in two parts
-cut_behind : (m n each : ℕ) (held more : List ℕ) → length held ≡ m * each
+pub cut_behind : (m n each : ℕ) (held more : List ℕ) → length held ≡ m * each
     → cut_rows (m + n) each (held ++ more) ≡ cut_rows m each held ++ cut_rows n each more
 cut_behind zero n each held more long =
     let none : length held ≡ 0 = omega (arith, long, zero-mul each) in
@@ -279,56 +264,10 @@ cut_behind (suc m) n each held more long =
     ∙ ap (λ (l : List ℕ). take each held ∷ cut_rows (m + n) each l) (drop-append-le each held more (omega (arith, long, size)))
     ∙ ap (λ (l : List (List ℕ)). take each held ∷ l) (cut_behind m n each (drop each held) more rest)
 
--- the first rows are kept
-pub kept_first : (n each : ℕ) (samples held : List ℕ) → held ≡ take (n * each) samples → cut_rows n each held ≡ cut_rows n each samples
-kept_first n each samples held is = ap (cut_rows n each) is ∙ cut_front n each samples
-
--- more rows are kept behind those before them
-pub kept_behind : (m n each rl : ℕ) (samples held both : List ℕ) → each ≡ rl → length held ≡ m * rl → both ≡ held ++ take (n * each) samples
-    → cut_rows (m + n) rl both ≡ cut_rows m rl held ++ cut_rows n each samples
-kept_behind m n each rl samples held both same long is =
-    ap (cut_rows (m + n) rl) is ∙ cut_behind m n rl held (take (n * each) samples) long
-    ∙ ap (λ (k : ℕ). cut_rows m rl held ++ cut_rows n k (take (n * each) samples)) (sym same)
-    ∙ ap (λ (l : List (List ℕ)). cut_rows m rl held ++ l) (cut_front n each samples)
-
-pub longer_behind : (m n each rl : ℕ) (samples held both : List ℕ) → each ≡ rl → length held ≡ m * rl → n * each ≤ length samples
-    → both ≡ held ++ take (n * each) samples → length both ≡ (m + n) * rl
-longer_behind m n each rl samples held both same long enough is =
-    let size : (m + n) * rl ≡ m * rl + n * rl = omega arith in
-    let more : n * each ≡ n * rl = ap (λ (k : ℕ). n * k) same in
-    omega (arith, ap length is, length-append held (take (n * each) samples), length-take (n * each) samples, long, size, more, enough)
-
--- fronts that are whole rows
-pub whole_fronts : (n each : ℕ) (samples : List ℕ) → cut_rows n each samples ≡ map (take each) (cut_rows n each samples)
-whole_fronts zero each samples = refl
-whole_fronts (suc n) each samples =
-    ap (λ (l : List ℕ). l ∷ cut_rows n each (drop each samples)) (sym (take-take each each samples (omega arith)))
-    ∙ ap (λ (l : List (List ℕ)). take each (take each samples) ∷ l) (whole_fronts n each (drop each samples))
-
--- the rows of which tiles are made, as they are held
-pub held_tiles : (across width depth count each : ℕ) (rows : List (List ℕ)) (samples : List ℕ) → HasTiles (tiled across 0 width depth rows 0)
-    → rows ≡ cut_rows count each samples → length samples ≡ count * each
-    → (0 < count) × (length samples ≡ count * (width * depth)) × (rows ≡ cut_rows count (width * depth) samples)
-held_tiles across width depth count each rows samples h are long =
-    let some : 0 < count = omega (arith, h.some, ap length are, length-cut_rows count each samples) in
-    let same : width * depth ≡ each =
-    alike_length count (width * depth) each samples some long (subst (All (λ row. length row ≡ width * depth)) are h.lengths) in (
-      some,
-      long ∙ ap (λ (k : ℕ). count * k) (sym same),
-      are ∙ ap (λ (k : ℕ). cut_rows count k samples) (sym same),
-    )
-
 -- the first of the rows
-cut_of_more : (n more each : ℕ) (samples : List ℕ) → take n (cut_rows (n + more) each samples) ≡ cut_rows n each samples
+pub cut_of_more : (n more each : ℕ) (samples : List ℕ) → take n (cut_rows (n + more) each samples) ≡ cut_rows n each samples
 cut_of_more zero more each samples = refl
 cut_of_more (suc n) more each samples =
     let count : suc n + more ≡ suc (n + more) = omega arith in
     ap (λ (k : ℕ). take (suc n) (cut_rows k each samples)) count
     ∙ ap (λ (l : List (List ℕ)). take each samples ∷ l) (cut_of_more n more each (drop each samples))
-
--- what the result shows of the first of rows that are held one after another
-pub shown_of_rows : (across count each kept : ℕ) (s : Shape) (samples : List ℕ) (rows : List (List ℕ)) → rows ≡ cut_rows count each samples
-    → kept ≤ count → map (take (min across s.width * s.depth)) (cut_rows kept each samples) ≡ map (shown_row across s) (take kept rows)
-shown_of_rows across count each kept s samples rows are few =
-    ap (map (shown_row across s)) (sym (cut_of_more kept (count - kept) each samples)
-    ∙ ap (λ (n : ℕ). take kept (cut_rows n each samples)) (omega arith) ∙ ap (take kept) (sym are))

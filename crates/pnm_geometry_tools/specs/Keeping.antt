@@ -121,11 +121,13 @@ abbrev pub tiled : ℕ → ℕ → ℕ → ℕ → List (List ℕ) → ℕ → T
 tiled width height image_width depth rows left =
     record { width = width; height = height; image_width = image_width; depth = depth; rows = rows; left = left }
 
--- there are rows to give, each of the columns that are kept
+-- there are rows to give, each of the columns that are kept, which are no more than those to fill
 pub record HasTiles (w : Tiled) : Type 0 where
   pub some : 0 < length w.rows
   pub lengths : All (λ row. length row ≡ w.image_width * w.depth) w.rows
   pub width : 0 < w.image_width
+  pub narrow : w.image_width ≤ w.width
+  pub planes : 0 < w.depth
   pub filled : w.width * w.depth ≤ MAX_ROW_LENGTH
 
 -- no sample of these rows is above the maxval

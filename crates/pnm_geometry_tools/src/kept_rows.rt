@@ -1,9 +1,10 @@
 //! Rows of an image that are kept, one after another.
 
-ghost use Rattle.std.specs.Prelude.{◌≡◌, ◌≤◌, ◌<◌, ◌+◌, ◌*◌, ◌^◌, ◌++◌, [], All, IfOk, OnOk, OnErr, length, map, take};
+ghost use Rattle.std.specs.Prelude.{ℕ, ◌≡◌, ◌≤◌, ◌<◌, ◌+◌, ◌*◌, ◌^◌, ◌++◌, [], All, IfOk, OnOk, OnErr, length, map, take};
+ghost use Rattle.pnm_image.specs.HeldRows.{AreRows, AreSliceRows, row_lists, slice_lists};
 ghost use Rattle.pnm_image.specs.Images.{cut_rows};
+ghost use Rattle.pnm_geometry_tools.specs.HeldRows.{HoldsRows, HoldsSame};
 ghost use Rattle.pnm_geometry_tools.specs.Keeping.{fronts_in};
-ghost use Rattle.pnm_samples.specs.SampleVecs.{samples_of};
 
 use crate::join::append;
 use pnm_image::{RowSlice, RowVec, Rows};
@@ -21,9 +22,8 @@ pub(crate) struct KeptRows {
 }
 
 impl Model for KeptRows {
-    ghost use Rattle.std.specs.Prelude.{List, ℕ, ◌≡◌, ◌*◌, length};
-    ghost use Rattle.pnm_image.specs.Images.{cut_rows};
-    ghost use Rattle.pnm_samples.specs.SampleVecs.{samples_of};
+    ghost use Rattle.std.specs.Prelude.{List, ℕ};
+    ghost use Rattle.pnm_image.specs.HeldRows.{AreRows, row_lists};
 
     ghost Value = { List (List ℕ) };
 
@@ -45,7 +45,13 @@ impl KeptRows {
     }
 
     /// How the rows are held, lent, and how many they are.
-    pub fn parts(&self) -> (RowSlice<'_>, usize) {
+    pub fn parts(&self) -> (RowSlice<'_>, usize)
+        ensures rows { (each : ℕ) → All (λ row. length row ≡ each) self.now
+            → slice_lists result.1 each result.0 ≡ self.now }
+        ensures whole { (each : ℕ) → All (λ row. length row ≡ each) self.now
+            → AreSliceRows result.1 each result.0 }
+        ensures count { result.1 ≡ length self.now }
+    {
         (self.held.as_slice(), self.count)
     }
 
@@ -71,16 +77,36 @@ impl KeptRows {
         let fronts = fronts_of(alloc, rows, count, shown)?;
         if self.count == 0 {
             self.held = fronts;
-        } else if !append(&mut self.held, fronts.as_slice())? {
-            let mut words = words_of(alloc, self.held.as_slice())?;
-            let more = words_of(alloc, fronts.as_slice())?;
-            words.extend_from_slice(more.as_slice())?;
-            self.held = RowVec::Words(words);
+            self.count = count;
+            self.row_length = shown;
+            return Ok(());
         }
+        hold_behind(alloc, &mut self.held, &fronts)?;
         self.count += count;
-        self.row_length = shown;
         Ok(())
     }
+}
+
+/// Adds rows behind those that are held, all as words where they aren't held alike.
+///
+/// # Errors
+///
+/// Where there is no memory for them. Then nothing has changed.
+fn hold_behind(alloc: Global, held: &mut RowVec, more: &RowVec) -> Result<(), AllocError>
+    ensures added { OnOk result ((count more_count each : ℕ)
+        → AreRows count each held.old → AreRows more_count each more.now
+        → HoldsRows (count + more_count) each
+        (row_lists count each held.old ++ row_lists more_count each more.now) held.new) }
+    ensures failed { OnErr result (HoldsSame held.old held.new) }
+{
+    if append(held, more.as_slice())? {
+        return Ok(());
+    }
+    let mut words = words_of(alloc, held.as_slice())?;
+    let behind = words_of(alloc, more.as_slice())?;
+    words.extend_from_slice(behind.as_slice())?;
+    *held = RowVec::Words(words);
+    Ok(())
 }
 
 /// A copy of the first samples, so many of each, of the first so many of these rows.
@@ -93,13 +119,27 @@ fn fronts_of(
     rows: &Rows,
     count: usize,
     shown: usize,
-) -> Result<RowVec, AllocError> {
+) -> Result<RowVec, AllocError>
+    requires count { count ≤ length rows.now }
+    requires within { All (λ row. shown ≤ length row) rows.now }
+    ensures whole { IfOk result (λ fronts. AreRows count shown fronts) }
+    ensures rows { IfOk result (λ fronts. row_lists count shown fronts ≡ map (take shown) (take count rows.now)) }
+{
     let each = rows.row_length();
-    Ok(match rows.as_slice() {
-        RowSlice::Bits(bits) => RowVec::Bits(bits.part(alloc, 0, count, 0, shown)?),
-        RowSlice::Bytes(bytes) => RowVec::Bytes(slice_fronts(alloc, bytes, count, each, shown)?),
-        RowSlice::Words(words) => RowVec::Words(slice_fronts(alloc, words, count, each, shown)?),
-    })
+    match rows.as_slice() {
+        RowSlice::Bits(bits) => {
+            let fronts = bits.part(alloc, 0, count, 0, shown)?;
+            Ok(RowVec::Bits(fronts))
+        }
+        RowSlice::Bytes(bytes) => {
+            let fronts = slice_fronts(alloc, bytes, count, each, shown)?;
+            Ok(RowVec::Bytes(fronts))
+        }
+        RowSlice::Words(words) => {
+            let fronts = slice_fronts(alloc, words, count, each, shown)?;
+            Ok(RowVec::Words(fronts))
+        }
+    }
 }
 
 /// The first samples, so many of each, of so many rows of bytes or words.
@@ -134,10 +174,12 @@ fn slice_fronts<T: Copy>(
 /// # Errors
 ///
 /// Where there is no memory for them.
-fn words_of(
-    alloc: Global,
-    rows: RowSlice<'_>,
-) -> Result<Vec<u16>, AllocError> {
+fn words_of(alloc: Global, rows: RowSlice<'_>) -> Result<Vec<u16>, AllocError>
+    ensures whole { (count : ℕ) (each : ℕ) → AreSliceRows count each rows.entry
+        → IfOk result (λ words. length words.items ≡ count * each) }
+    ensures rows { (count : ℕ) (each : ℕ) → AreSliceRows count each rows.entry
+        → IfOk result (λ words. cut_rows count each words.items ≡ slice_lists count each rows.entry) }
+{
     match rows {
         RowSlice::Bits(bits) => bytes_to_words(alloc, bits.to_bytes(alloc)?.as_slice()),
         RowSlice::Bytes(bytes) => bytes_to_words(alloc, bytes),

@@ -1,9 +1,11 @@
 //! `pnmtile`: the image side by side, from pnmtile(1).
 
-ghost use Rattle.std.specs.Prelude.{◌≡◌, ◌≤◌, ◌<◌, ◌+◌, ◌*◌, ◌^◌, ◌⊎◌, ◌++◌, length, min, take, drop};
+ghost use Rattle.std.specs.Prelude.{◌≡◌, ◌≤◌, ◌<◌, ◌+◌, ◌*◌, ◌%◌, ◌^◌, ◌⊎◌, ◌++◌, All, length, map, min, take, drop};
 ghost use Rattle.std.specs.Prelude.{[], Ok, Err, OnOk, IfOk, IfErr};
 ghost use Rattle.std.specs.List.{flat_map, range_with_len};
 ghost use Rattle.pnm_image.specs.declared.limits.TheConstants.{MAX_ROW_LENGTH};
+ghost use Rattle.pnm_image.specs.HeldRows.{AreRows, row_lists};
+ghost use Rattle.pnm_samples.specs.Pixels.{all_pixels};
 ghost use Rattle.pnm_tools.specs.declared.fault.ToolFault.TheVariants.{Memory};
 ghost use Rattle.pnm_tools.specs.declared.tool.Tool.TheVariants.{Tile};
 ghost use Rattle.pnm_tools.specs.Tile.{tiled_row};
@@ -55,24 +57,27 @@ fn tile_rows(
     count: u32,
 ) -> Result<RowVec, ToolFault>
     requires tiles { HasTiles (tiled width 0 shape.width shape.depth rows.now 0) }
-    requires range { AreWithin shape.maxval rows.now }
     requires end { y + count < 2 ^ 32 }
-    ensures made { IfOk result
-        (λ made. made ≡ flat_map (row_of_tiles width shape.width shape.depth rows.now) (range_with_len y count)) }
+    ensures whole { IfOk result (λ made. AreRows count (width * shape.depth) made) }
+    ensures made { IfOk result (λ made. row_lists count (width * shape.depth) made
+        ≡ map (row_of_tiles width shape.width shape.depth rows.now) (range_with_len y count)) }
     ensures refused { IfErr result (λ fault. fault ≡ Memory) }
 {
     let (samples, kept) = rows.parts();
-    Ok(match samples {
+    match samples {
         RowSlice::Bits(bits) => {
-            RowVec::Bits(tile_bits(alloc, width, shape, bits, kept, y, count)?)
+            let tiled = tile_bits(alloc, width, shape, bits, y, count)?;
+            Ok(RowVec::Bits(tiled))
         }
         RowSlice::Bytes(bytes) => {
-            RowVec::Bytes(tile(alloc, width, shape, bytes, kept, y, count)?)
+            let tiled = tile(alloc, width, shape, bytes, kept, y, count)?;
+            Ok(RowVec::Bytes(tiled))
         }
         RowSlice::Words(words) => {
-            RowVec::Words(tile(alloc, width, shape, words, kept, y, count)?)
+            let tiled = tile(alloc, width, shape, words, kept, y, count)?;
+            Ok(RowVec::Words(tiled))
         }
-    })
+    }
 }
 
 /// So many rows of the result, from row y on, of so many rows that are kept.
@@ -146,40 +151,82 @@ fn repeat_samples<T: Copy>(tiled: &mut Vec<T>, start: usize, count: usize) -> Re
     Ok(())
 }
 
-/// So many rows of the result, from row y on, of so many rows of pixels of one bit that are kept: made of their bytes,
-/// where each image begins at a byte.
+/// So many rows of the result, from row y on, of rows of pixels of one bit that are kept.
 fn tile_bits(
     alloc: Global,
     width: u32,
     shape: Shape,
     rows: &BitRows,
-    kept: usize,
     y: u32,
     count: u32,
 ) -> Result<BitRows, ToolFault>
-    requires some { (0 < kept) × (0 < shape.width) }
-    requires fits { width * shape.depth ≤ MAX_ROW_LENGTH }
+    requires tiles { HasTiles (tiled width 0 shape.width shape.depth rows.now 0) }
     requires end { y + count < 2 ^ 32 }
+    ensures made { IfOk result (λ made. made
+        ≡ map (row_of_tiles width shape.width shape.depth rows.now) (range_with_len y count)) }
     ensures refused { IfErr result (λ fault. fault ≡ Memory) }
 {
     let (each, filled) = (shape.width * shape.depth, width * shape.depth);
-    if each % 8 == 0 || filled <= each {
-        let in_bytes = Shape {
-            width: each.div_ceil(8),
-            depth: 1,
-            ..shape
-        };
-        let (size, bytes) = (filled.div_ceil(8), rows.parts().0);
-        let tiled = tile(alloc, size, in_bytes, bytes, kept, y, count)?;
-        return Ok(BitRows::new(tiled, count as usize, filled as usize));
+    if each % 8 == 0 || filled == each {
+        tile_bytes(alloc, each, filled, rows, y, count)
+    } else {
+        tile_pixels(alloc, each, filled, rows, y, count)
     }
+}
+
+/// The same of rows of so many pixels, each up to so many, where each image begins at a byte: of their bytes.
+fn tile_bytes(
+    alloc: Global,
+    each: u32,
+    filled: u32,
+    rows: &BitRows,
+    y: u32,
+    count: u32,
+) -> Result<BitRows, ToolFault>
+    requires rows { (0 < length rows.now) × All (λ row. length row ≡ each) rows.now }
+    requires some { (0 < each) × (each ≤ filled) }
+    requires whole { (each % 8 ≡ 0) ⊎ (filled ≡ each) }
+    requires fits { filled ≤ MAX_ROW_LENGTH }
+    requires end { y + count < 2 ^ 32 }
+    ensures made { IfOk result (λ made. made ≡ map (row_of_tiles filled each 1 rows.now) (range_with_len y count)) }
+    ensures refused { IfErr result (λ fault. fault ≡ Memory) }
+{
+    let (bytes, kept, _) = rows.parts();
+    let in_bytes = Shape {
+        kind: Kind::Pam,
+        width: each.div_ceil(8),
+        height: 1,
+        depth: 1,
+        maxval: 255,
+    };
+    let tiled = tile(alloc, filled.div_ceil(8), in_bytes, bytes, kept, y, count)?;
+    Ok(BitRows::new(tiled, count as usize, filled as usize))
+}
+
+/// The same where images begin within bytes: a row at a time.
+fn tile_pixels(
+    alloc: Global,
+    each: u32,
+    filled: u32,
+    rows: &BitRows,
+    y: u32,
+    count: u32,
+) -> Result<BitRows, ToolFault>
+    requires rows { (0 < length rows.now) × All (λ row. length row ≡ each) rows.now }
+    requires some { 0 < each }
+    requires fits { filled ≤ MAX_ROW_LENGTH }
+    requires end { y + count < 2 ^ 32 }
+    ensures made { IfOk result (λ made. made ≡ map (row_of_tiles filled each 1 rows.now) (range_with_len y count)) }
+    ensures refused { IfErr result (λ fault. fault ≡ Memory) }
+{
+    let (_, kept, _) = rows.parts();
     let size = count as usize * filled.div_ceil(8) as usize;
     let mut tiled = Vec::with_capacity(alloc, size)?;
     let mut row = Bits::empty(alloc);
     for at in y..y + count {
-        let (bytes, each) = rows.row(at as usize % kept);
+        let (bytes, _) = rows.row(at as usize % kept);
         row.clear();
-        tile_bit_row(&mut row, width * shape.depth, bytes, each)?;
+        tile_bit_row(&mut row, filled, bytes, each)?;
         tiled.extend_from_slice(row.as_bytes())?;
     }
     Ok(BitRows::new(tiled, count as usize, filled as usize))
@@ -190,13 +237,16 @@ fn tile_bit_row(
     tiled: &mut Bits,
     filled: u32,
     bytes: &[u8],
-    each: usize,
-) -> Result<(), AllocError> {
-    let filled = filled as usize;
+    each: u32,
+) -> Result<(), AllocError>
+    requires some { 0 < each }
+    requires row { each ≤ 8 * length bytes.now }
+    ensures { OnOk result (tiled.new ≡ tiled.old ++ tiled_row filled each 1 (take each (all_pixels bytes.now))) }
+{
     for _ in 0..filled / each {
-        tiled.append_pixels(bytes, 0, each)?;
+        tiled.append_pixels(bytes, 0, each as usize)?;
     }
-    tiled.append_pixels(bytes, 0, filled % each)
+    tiled.append_pixels(bytes, 0, (filled % each) as usize)
 }
 
 impl Model for Tiler {

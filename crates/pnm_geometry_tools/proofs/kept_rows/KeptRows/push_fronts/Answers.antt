@@ -1,28 +1,33 @@
-use Rattle.std.proofs.Common.{◌≡◌, ◌≤◌, ◌*◌, ◌++◌, ℕ, List, length, map, take, ap, sym, ◌∙◌, arith}
-use Rattle.std.proofs.lemmas.Result.{on_ok_weaker}
-use Rattle.pnm_image.specs.Images.{cut_rows}
-use Rattle.pnm_geometry_tools.proofs.TileRowsLaws.{fronts_cut, fronts_long, whole_fronts}
+use Rattle.std.proofs.Common.{◌≡◌, ◌+◌, ◌<◌, ◌++◌, ◌∙◌, List, ℕ, length, ap, ap₂, refl, arith}
+use Rattle.pnm_image.proofs.HeldRowLaws.{length_of_lists}
+use Rattle.pnm_geometry_tools.proofs.KeptRowLaws.{held_as_long, held_length, lent_rows, lent_whole}
 use Rattle.pnm_geometry_tools.proofs.kept_rows.KeptRows.push_fronts.Goals as goal
 
-pub returns-then-shown-row_length-clause-added : goal.returns-then-shown-row_length-clause-added
-returns-then-shown-row_length-clause-added c =
-    let old = c.args.self.now in
-    let rows = cut_rows c.args.count c.args.shown c.args.samples.now in
-    on_ok_weaker c.push.result (λ added. added ∙ ap (λ (l : List (List ℕ)). old ++ l) (whole_fronts c.args.count c.args.shown c.args.samples.now)
-    ∙ ap (λ (n : ℕ). old ++ map (take c.args.shown) (cut_rows c.args.count n c.args.samples.now)) c.if-shown-row_length.true) c.push.ensures.added
+pub overflow_add-self : goal.overflow_add-self
+overflow_add-self c =
+    let r = c.self.inside in
+    omega (arith, c.requires.few, ap length c.self.view_is, length_of_lists r.count r.row_length r.held c.self.invariant)
 
-pub push-requires-2-clause-held : goal.push-requires-2-clause-held
-push-requires-2-clause-held c =
-    omega (
-      arith,
-      ap length c.in_ok-fronts.ensures,
-      fronts_long c.args.shown c.args.row_length c.args.count c.args.samples.now c.requires.held c.requires.within,
-    )
+pub invariant_of-self-2 : goal.invariant_of-self-2
+invariant_of-self-2 c =
+    let r = c.self.inside in
+    let shown = c.args.shown in
+    let old = c.args.self.now in
+    let some : 0 < r.count = omega (arith, c.if-self-eq0.false) in
+    let whole = lent_whole r.count r.row_length shown r.held old c.self.invariant c.self.view_is c.requires.alike in
+    (held_as_long (r.count + c.args.count) r.row_length shown _ _ c.hold_behind.new.held
+    (held_length r.count r.row_length shown r.held old c.self.invariant c.self.view_is some c.requires.alike)
+    (c.in_ok-hold_behind.ensures.added r.count c.args.count shown whole c.in_ok-fronts.ensures.whole) refl).1
 
 pub returns-clause-added : goal.returns-clause-added
 returns-clause-added c =
+    let r = c.self.inside in
+    let shown = c.args.shown in
     let old = c.args.self.now in
-    on_ok_weaker c.push-2.result (λ added. added
-    ∙ ap (λ (l : List ℕ). old ++ cut_rows c.args.count c.args.shown l) c.in_ok-fronts.ensures
-    ∙ ap (λ (l : List (List ℕ)). old ++ l)
-    (fronts_cut c.args.shown c.args.row_length c.args.count c.args.samples.now c.requires.held c.requires.within)) c.push-2.ensures.added
+    let some : 0 < r.count = omega (arith, c.if-self-eq0.false) in
+    let whole = lent_whole r.count r.row_length shown r.held old c.self.invariant c.self.view_is c.requires.alike in
+    let rows = lent_rows r.count r.row_length shown r.held old c.self.invariant c.self.view_is c.requires.alike in
+    (held_as_long (r.count + c.args.count) r.row_length shown _ _ c.hold_behind.new.held
+    (held_length r.count r.row_length shown r.held old c.self.invariant c.self.view_is some c.requires.alike)
+    (c.in_ok-hold_behind.ensures.added r.count c.args.count shown whole c.in_ok-fronts.ensures.whole)
+    (ap₂ (λ (a b : List (List ℕ)). a ++ b) rows c.in_ok-fronts.ensures.rows)).0
