@@ -6,15 +6,16 @@ use Rattle.std.proofs.Math.Nat.{div-add-mod, mod-lt, mod_self}
 use Rattle.std.proofs.lemmas.List.{drop_at, length-append, length-take, take-append-le, take_all}
 use Rattle.pnm_samples.specs.PixelRows.{bytes_for, rows_of_bytes}
 use Rattle.pnm_samples.specs.BitRows.{row_bytes}
-use Rattle.pnm_samples.specs.Pixels.{all_pixels}
+use Rattle.pnm_samples.specs.Pixels.{all_pixels, ArePacked}
 use Rattle.pnm_samples.proofs.BitRowLaws.{length_of_row_bytes, row_within}
 use Rattle.pnm_samples.proofs.BitRowsMade.{row_of_rows}
 use Rattle.pnm_samples.proofs.PixelLaws.{all_pixels-append, drop-all_pixels, length-all_pixels, take-all_pixels}
+use Rattle.pnm_samples.proofs.PixelRowLaws.{length_of_packed}
 use Rattle.pnm_samples.proofs.PixelRowsLaws.{length_of_rows, rows_behind}
 use Rattle.pnm_tools.specs.Pixels.{pixel_of}
 use Rattle.pnm_tools.specs.Tile.{tiled_row}
 use Rattle.pnm_tools.proofs.FormulaLaws.{range_alike}
-use Rattle.pnm_tools.proofs.RangeLaws.{map_in_parts}
+use Rattle.pnm_tools.proofs.RangeLaws.{length_of_equals, map_in_parts}
 use Rattle.pnm_geometry_tools.specs.Keeping.{row_of_samples, row_of_tiles}
 use Rattle.pnm_geometry_tools.proofs.TileRowLaws.{length_tiled, tiled_more, tiled_prefix, tiled_shorter}
 
@@ -124,37 +125,107 @@ rows_of_pieces each f g a (suc n) size alike =
     ap₂ (λ (r : List ℕ) (l : List (List ℕ)). r ∷ l) first
     (ap (rows_of_bytes n each) (drop_at (f a) rest (bytes_for each) (size a)) ∙ rows_of_pieces each f g (a + 1) n size alike)
 
--- the rows that the bytes of others make
-pub rows_of_tiled_bytes : (filled each size width kept held y n : ℕ) (bytes made : List ℕ) (rows : List (List ℕ)) → 0 < length rows
-    → All (λ row. length row ≡ each) rows → 0 < each → (each % 8 ≡ 0) ⊎ (filled ≡ each) → size ≡ bytes_for filled → width ≡ bytes_for each
-    → rows ≡ rows_of_bytes kept held bytes → length bytes ≡ kept * bytes_for held
-    → made ≡ flat_map (row_of_samples size width 1 kept bytes) (range_with_len y n)
-    → rows_of_bytes n filled made ≡ map (row_of_tiles filled each 1 rows) (range_with_len y n)
-rows_of_tiled_bytes filled each size width kept held y n bytes made rows there long some whole size_is width_is are enough is =
-    let many : length rows ≡ kept = ap length are ∙ length_of_rows kept held bytes in
-    let first = row_of_rows kept held 0 bytes rows (sym are) enough there in
-    let same : held ≡ each = sym first.1 ∙ long 0 [] there in
-    let rows_are : rows_of_bytes kept each bytes ≡ rows = sym (are ∙ ap (λ (h : ℕ). rows_of_bytes kept h bytes) same) in
-    let all : length bytes ≡ kept * bytes_for each = enough ∙ ap (λ (h : ℕ). kept * bytes_for h) same in
-    let one : width * 1 ≡ bytes_for each = omega (arith, width_is) in
-    let part : (i : ℕ) → pixel_of (width * 1) bytes i ≡ row_bytes (bytes_for each) i bytes =
-    λ i. ap (λ (w : ℕ). take w (drop (i * w) bytes)) one in
-    let part_long : (i : ℕ) → i < kept → length (row_bytes (bytes_for each) i bytes) ≡ bytes_for each =
-    λ i lt. length_of_row_bytes (bytes_for each) i bytes (row_within kept (bytes_for each) i (length bytes) all lt) in
-    let below : (x : ℕ) → x % kept < kept = λ x. mod-lt x (omega (arith, many, there)) in
-    ap (rows_of_bytes n filled) is
-    ∙ rows_of_pieces filled (row_of_samples size width 1 kept bytes) (row_of_tiles filled each 1 rows) y n
-    (λ x. length_tiled size width 1 (pixel_of (width * 1) bytes (x % kept)) (omega (arith, width_is, some))
-    (ap length (part (x % kept)) ∙ part_long (x % kept) (below x) ∙ sym one) ∙ omega (arith, size_is))
-    (λ x.
-    let i : ℕ = x % kept in
-    let row = row_of_rows kept each i bytes rows rows_are all (omega (arith, many, below x)) in
-    ap₂ (λ (m w : ℕ). take filled (all_pixels (tiled_row m w 1 (pixel_of (width * 1) bytes i)))) size_is width_is
-    ∙ ap (λ (l : List ℕ). take filled (all_pixels (tiled_row (bytes_for filled) (bytes_for each) 1 l))) (part i)
-    ∙ row_of_bytes filled each (row_bytes (bytes_for each) i bytes) some whole (part_long i (below x))
-    ∙ ap (tiled_row filled each 1) (row.2 ∙ ap (λ (k : ℕ). get_or rows (x % k) []) (sym many)))
+-- rows whose bytes are tiled
+module _ (each width kept held : ℕ) (bytes : List ℕ) (rows : List (List ℕ)) (there : 0 < length rows) (long : All (λ row. length row ≡ each) rows)
+    (width_is : width ≡ bytes_for each) (are : rows ≡ rows_of_bytes kept held bytes) (enough : length bytes ≡ kept * bytes_for held) where
+  many : length rows ≡ kept
+  many = ap length are ∙ length_of_rows kept held bytes
+
+  same : held ≡ each
+  same = let first = row_of_rows kept held 0 bytes rows (sym are) enough there in sym first.1 ∙ long 0 [] there
+
+  one : width * 1 ≡ bytes_for each
+  one = omega (arith, width_is)
+
+  all : length bytes ≡ kept * bytes_for each
+  all = enough ∙ ap (λ (h : ℕ). kept * bytes_for h) same
+
+  below : (x : ℕ) → x % kept < kept
+  below x = mod-lt x (omega (arith, many, there))
+
+  part : (i : ℕ) → pixel_of (width * 1) bytes i ≡ row_bytes (bytes_for each) i bytes
+  part i = ap (λ (w : ℕ). take w (drop (i * w) bytes)) one
+
+  part_long : (i : ℕ) → i < kept → length (row_bytes (bytes_for each) i bytes) ≡ bytes_for each
+  part_long i lt = length_of_row_bytes (bytes_for each) i bytes (row_within kept (bytes_for each) i (length bytes) all lt)
+
+  -- they have so many
+  pub bytes_of_each : length bytes ≡ kept * (width * 1)
+  bytes_of_each = all ∙ ap (λ (w : ℕ). kept * w) (sym one)
+
+  -- so have those of the result
+  long_piece : (size : ℕ) → 0 < width → (x : ℕ) → length (row_of_samples size width 1 kept bytes x) ≡ size * 1
+  long_piece size some x =
+      length_tiled size width 1 (pixel_of (width * 1) bytes (x % kept)) some (ap length (part (x % kept)) ∙ part_long (x % kept) (below x) ∙ sym one)
+
+  pub length_of_tiled_bytes : (size y n : ℕ) (made : List ℕ) → 0 < width
+      → made ≡ flat_map (row_of_samples size width 1 kept bytes) (range_with_len y n) → length made ≡ n * size
+  length_of_tiled_bytes size y n made some is =
+      let whole : size * 1 ≡ size = omega arith in
+      ap length is ∙ length_of_equals (row_of_samples size width 1 kept bytes) (size * 1) y n (long_piece size some) ∙ ap (λ (k : ℕ). n * k) whole
+
+  -- the rows that they make
+  pub rows_of_tiled_bytes : (filled size y n : ℕ) (made : List ℕ) → 0 < each → (each % 8 ≡ 0) ⊎ (filled ≡ each) → size ≡ bytes_for filled
+      → made ≡ flat_map (row_of_samples size width 1 kept bytes) (range_with_len y n)
+      → rows_of_bytes n filled made ≡ map (row_of_tiles filled each 1 rows) (range_with_len y n)
+  rows_of_tiled_bytes filled size y n made some whole size_is is =
+      let rows_are : rows_of_bytes kept each bytes ≡ rows = sym (are ∙ ap (λ (h : ℕ). rows_of_bytes kept h bytes) same) in
+      ap (rows_of_bytes n filled) is
+      ∙ rows_of_pieces filled (row_of_samples size width 1 kept bytes) (row_of_tiles filled each 1 rows) y n
+      (λ x. long_piece size (omega (arith, width_is, some)) x ∙ omega (arith, size_is))
+      (λ x.
+      let i : ℕ = x % kept in
+      let row = row_of_rows kept each i bytes rows rows_are all (omega (arith, many, below x)) in
+      ap₂ (λ (m w : ℕ). take filled (all_pixels (tiled_row m w 1 (pixel_of (width * 1) bytes i)))) size_is width_is
+      ∙ ap (λ (l : List ℕ). take filled (all_pixels (tiled_row (bytes_for filled) (bytes_for each) 1 l))) (part i)
+      ∙ row_of_bytes filled each (row_bytes (bytes_for each) i bytes) some whole (part_long i (below x))
+      ∙ ap (tiled_row filled each 1) (row.2 ∙ ap (λ (k : ℕ). get_or rows (x % k) []) (sym many)))
 
 -- ---- a row at a time
+
+-- as many rows are kept as their bytes are
+pub kept_are : (kept held : ℕ) (bytes : List ℕ) (rows : List (List ℕ)) → rows ≡ rows_of_bytes kept held bytes → length rows ≡ kept
+kept_are kept held bytes rows are = ap length are ∙ length_of_rows kept held bytes
+
+pub row_is_kept : (kept held x : ℕ) (bytes : List ℕ) (rows : List (List ℕ)) → 0 < length rows → rows ≡ rows_of_bytes kept held bytes
+    → x % kept < length rows
+row_is_kept kept held x bytes rows there are =
+    let many : length rows ≡ kept = kept_are kept held bytes rows are in
+    let some : 0 < kept = omega (arith, many, there) in
+    omega (arith, many, mod-lt x some)
+
+-- the pixels of a row
+row_of_pixels : (each count : ℕ) (bytes row : List ℕ) → take count (all_pixels bytes) ≡ row → ArePacked count bytes → length row ≡ each
+    → (each ≤ 8 * length bytes) × (take each (all_pixels bytes) ≡ row)
+row_of_pixels each count bytes row is packed long =
+    let same : count ≡ each = sym (length_of_packed count bytes packed) ∙ ap length is ∙ long in (
+      omega (arith, packed.enough, same),
+      ap (λ (n : ℕ). take n (all_pixels bytes)) (sym same) ∙ is,
+    )
+
+-- the next row of the result, as it is packed
+module _ (each kept held x count : ℕ) (bytes here : List ℕ) (rows : List (List ℕ)) (there : 0 < length rows)
+    (long : All (λ row. length row ≡ each) rows) (are : rows ≡ rows_of_bytes kept held bytes)
+    (pixels : take count (all_pixels here) ≡ get_or rows (x % kept) []) (packed : ArePacked count here) where
+  row_long : length (get_or rows (x % kept) []) ≡ each
+  row_long = long (x % kept) [] (row_is_kept kept held x bytes rows there are)
+
+  pub row_has_pixels : each ≤ 8 * length here
+  row_has_pixels = (row_of_pixels each count here (get_or rows (x % kept) []) pixels packed row_long).0
+
+  row_is : take each (all_pixels here) ≡ get_or rows (x % length rows) []
+  row_is = (row_of_pixels each count here (get_or rows (x % kept) []) pixels packed row_long).1
+      ∙ ap (λ (k : ℕ). get_or rows (x % k) []) (sym (kept_are kept held bytes rows are))
+
+  pub next_part : (filled : ℕ) (none value part : List ℕ) → 0 < each → none ≡ [] → value ≡ none ++ tiled_row filled each 1 (take each (all_pixels here))
+      → length part ≡ (length value + 7) / 8 → value ≡ take (length value) (all_pixels part)
+      → (length part ≡ bytes_for filled) × (take filled (all_pixels part) ≡ row_of_tiles filled each 1 rows x)
+  next_part filled none value part some empty made size is =
+      let tile : value ≡ row_of_tiles filled each 1 rows x = made ∙ ap₂ (λ (a b : List ℕ). a ++ tiled_row filled each 1 b) empty row_is in
+      let row : length (get_or rows (x % length rows) []) ≡ each * 1 =
+      ap length (sym row_is) ∙ omega (arith, length-take each (all_pixels here), length-all_pixels here, row_has_pixels) in
+      let whole : length value ≡ filled = ap length tile ∙ length_tiled filled each 1 (get_or rows (x % length rows) []) some row ∙ omega arith in
+      (omega (arith, size, whole), ap (λ (n : ℕ). take n (all_pixels part)) (sym whole) ∙ sym is ∙ tile)
 
 -- a row more
 pub pixel_row_more : (f : ℕ → List ℕ) (each y at : ℕ) (bytes part new : List ℕ) → y ≤ at → length bytes ≡ (at - y) * bytes_for each

@@ -6,7 +6,7 @@ use Rattle.std.proofs.lemmas.List.{take_all, take_at, take_min, take-append-le, 
 use Rattle.std.proofs.lemmas.List.{drop_at, drop-append-le, drop-drop, drop-take, length-drop, length-map}
 use Rattle.std.proofs.lemmas.List.{append_assoc, length-append, length-take, nil_from_length}
 use Rattle.std.proofs.lemmas.List.Elements.{All-append, All-from_recursion, All-map}
-use Rattle.std.proofs.lemmas.List.FromFn.{get_or-map-range_with_len}
+use Rattle.std.proofs.lemmas.List.FromFn.{get_or-map-range_with_len, length-map-range_with_len}
 use Rattle.std.proofs.Math.Nat.{mod-lt}
 use Rattle.std.proofs.Math.Seq.{take-append-add}
 use Rattle.pnm_image.specs.declared.shape.Shape.{Shape}
@@ -115,6 +115,16 @@ rows_cut : (across width depth y n : ℕ) (rows : List (List ℕ)) (made : List 
     → cut_rows n (across * depth) made ≡ map (row_of_tiles across width depth rows) (range_with_len y n)
 rows_cut across width depth y n rows made h is =
     ap (cut_rows n (across * depth)) is ∙ cut_of_pieces (row_of_tiles across width depth rows) (across * depth) y n (row_long across width depth rows h)
+
+pub rows_alike : (across width depth y n : ℕ) (rows made : List (List ℕ)) → HasTiles (tiled across 0 width depth rows 0)
+    → made ≡ map (row_of_tiles across width depth rows) (range_with_len y n) → (length made ≡ n) × All (λ row. length row ≡ across * depth) made
+rows_alike across width depth y n rows made h is =
+    let P : List ℕ → Type 0 = λ row. length row ≡ across * depth in
+    let f : ℕ → List ℕ = row_of_tiles across width depth rows in
+    let numbers : List ℕ = range_with_len y n in (
+      ap length is ∙ length-map-range_with_len f y n,
+      subst (All P) (sym is) (All-map P f numbers (λ k d lt. row_long across width depth rows h (get_or numbers k d))),
+    )
 
 -- those that are given, and those that are left
 pub due_in_parts : (w : Tiled) (n y left : ℕ) (made : List (List ℕ)) → n ≤ w.left → w.left ≤ w.height → y ≡ w.height - w.left → left ≡ w.left - n

@@ -26,10 +26,9 @@ loop-tiled-smaller g c =
     let short : length part < c.args.width * s.depth = omega (arith, length-drop start items, c.loop-tiled.tiled.ok.0) in
     let least : c.min-more.result ≡ min (length part) (c.args.width * s.depth - length part) =
     omega (arith, length-drop start items, c.loop-tiled.tiled.ok.0, c.min-more.ensures) in
-    let size : (start + c.min-more.result) - start ≡ c.min-more.result = omega arith in
-    let made = c.in_ok-extend_from_within.ensures.items ∙ ap (λ n. items ++ take n part) size in
+    let made = c.in_ok-repeat_samples.ensures in
     let there = prefix_stands c.args.width s.width s.depth c.args.row.now part c.requires.row.0 c.requires.row.1 h.2 short in
-    longer_piece start c.min-more.result (c.args.width * s.depth) items c.extend_from_within.new.self.items within there short least made
+    longer_piece start c.min-more.result (c.args.width * s.depth) items c.repeat_samples.new.tiled.items within there short least made
 
 pub loop-tiled-preserved : goal.loop-tiled-preserved
 loop-tiled-preserved g c =
@@ -43,12 +42,11 @@ loop-tiled-preserved g c =
     let short : length part < c.args.width * s.depth = omega (arith, length-drop start items, c.loop-tiled.tiled.ok.0) in
     let least : c.min-more.result ≡ min (length part) (c.args.width * s.depth - length part) =
     omega (arith, length-drop start items, c.loop-tiled.tiled.ok.0, c.min-more.ensures) in
-    let size : (start + c.min-more.result) - start ≡ c.min-more.result = omega arith in
-    let made = c.in_ok-extend_from_within.ensures.items ∙ ap (λ n. items ++ take n part) size in
-    let behind = behind_more start c.min-more.result items c.extend_from_within.new.self.items within made in (
+    let made = c.in_ok-repeat_samples.ensures in
+    let behind = behind_more start c.min-more.result items c.repeat_samples.new.tiled.items within made in (
       h.0,
       made ∙ ap (λ l. l ++ take c.min-more.result part) h.1 ∙ append_assoc old part (take c.min-more.result part) ∙ ap (λ l. old ++ l) (sym behind),
-      prefix_grows c.args.width s.width s.depth c.min-more.result c.args.row.now part (drop start c.extend_from_within.new.self.items) c.requires.row.0
+      prefix_grows c.args.width s.width s.depth c.min-more.result c.args.row.now part (drop start c.repeat_samples.new.tiled.items) c.requires.row.0
           c.requires.row.1 h.2 short least behind,
     )
 
@@ -60,3 +58,14 @@ returns-clause-made g c =
     h.1 ∙ ap (λ l. c.args.tiled.now.items ++ l)
     (prefix_is_all c.args.width s.width s.depth c.args.row.now (drop c.len-start.result items) c.requires.row.0 c.requires.row.1 h.2
     (omega (arith, length-drop c.len-start.result items, c.loop-tiled.tiled.ok.0)))
+
+pub repeat_samples-requires-clause-some : goal.repeat_samples-requires-clause-some
+repeat_samples-requires-clause-some g c =
+    let s = c.args.shape in
+    let start = c.len-start.result in
+    let items = c.loop-tiled.tiled.items in
+    let part = drop start items in
+    let h = c.loop-tiled.invariant in
+    let short : length part < c.args.width * s.depth = omega (arith, length-drop start items, c.loop-tiled.tiled.ok.0) in
+    let there = prefix_stands c.args.width s.width s.depth c.args.row.now part c.requires.row.0 c.requires.row.1 h.2 short in
+    omega (arith, there, length-drop start items, c.min-more.ensures)
