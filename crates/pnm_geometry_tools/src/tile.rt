@@ -283,8 +283,8 @@ impl ImageTool for Tiler {
         if y >= self.height {
             return Ok(());
         }
-        let shown = shown_length(self.width, shape);
-        self.rows.push_fronts(alloc, &Rows::one(row), 1, shown)?;
+        let (row, shown) = (Rows::one(row), shown_length(self.width, shape));
+        self.rows.push_fronts(alloc, &row, 1, shown)?;
         Ok(())
     }
 
@@ -301,10 +301,10 @@ impl ImageTool for Tiler {
         }
         let kept = (self.height - y).min(rows.count()) as usize;
         let shown = shown_length(self.width, shape);
-        match self.rows.push_fronts(alloc, &rows, kept, shown) {
-            Ok(()) => Ok(None),
-            Err(_) => Err(rows),
-        }
+        let Ok(()) = self.rows.push_fronts(alloc, &rows, kept, shown) else {
+            return Err(rows);
+        };
+        Ok(None)
     }
 
     fn end(&mut self, shape: Shape) {

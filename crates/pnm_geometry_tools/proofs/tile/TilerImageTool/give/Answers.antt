@@ -1,14 +1,14 @@
-use Rattle.std.proofs.Common.{◌≡◌, ◌-◌, ◌<◌, ◌≤◌, ◌++◌, List, ℕ, refl, ap, sym, ◌∙◌, arith}
+use Rattle.std.proofs.Common.{◌≡◌, ◌-◌, ◌<◌, ◌≤◌, ◌++◌, ◌∙◌, List, ℕ, refl, ap, sym, arith}
 use Rattle.pnm_geometry_tools.specs.Keeping.{tiled, tiled_due}
-use Rattle.pnm_geometry_tools.proofs.TileRowsLaws.{due_in_parts, rows_long, tiles_same}
+use Rattle.pnm_geometry_tools.proofs.TileRowsLaws.{due_in_parts, rows_within, tiles_same}
 use Rattle.pnm_geometry_tools.proofs.tile.TilerImageTool.give.Goals as goal
 
-pub new-requires-clause-whole : goal.new-requires-clause-whole
-new-requires-clause-whole c =
+pub new-requires-clause-within : goal.new-requires-clause-within
+new-requires-clause-within c =
     let x = c.self.inside in
     let known = c.self.invariant (omega (arith, c.if-self-eq0.false)) in
     let tiles = tiles_same x.width x.height 0 x.shape.width x.shape.depth x.left 0 x.rows known.1 in
-    rows_long x.width x.shape.width x.shape.depth (x.height - x.left) c.count_together-count.result x.rows c.in_ok-samples.samples tiles
+    rows_within x.shape.maxval x.width x.shape.width x.shape.depth (x.height - x.left) c.count_together-count.result x.rows _ tiles known.2
     c.in_ok-samples.ensures.made
 
 pub returns-clause-due : goal.returns-clause-due
@@ -16,9 +16,7 @@ returns-clause-due c =
     let x = c.self.inside in
     let count = c.count_together-count.result in
     let known = c.self.invariant (omega (arith, c.if-self-eq0.false)) in
-    let tiles = tiles_same x.width x.height 0 x.shape.width x.shape.depth x.left 0 x.rows known.1 in
     let w = tiled x.width x.height x.shape.width x.shape.depth x.rows x.left in
     ap tiled_due (sym c.self.view_is)
-    ∙ due_in_parts w count (x.height - x.left) (x.left - count) c.in_ok-samples.samples tiles c.count_together-count.ensures.most known.0 refl refl
-    c.in_ok-samples.ensures.made
+    ∙ due_in_parts w count (x.height - x.left) (x.left - count) _ c.count_together-count.ensures.most known.0 refl refl c.in_ok-samples.ensures.made
     ∙ ap (λ (l : List (List ℕ)). l ++ tiled_due (tiled x.width x.height x.shape.width x.shape.depth x.rows (x.left - count))) (sym c.new.ensures)

@@ -1,12 +1,10 @@
 use Rattle.std.proofs.Common.{◌≡◌, ◌+◌, ◌-◌, ◌*◌, ◌≤◌, ◌<◌, ◌++◌, All, length, map, min, take, refl, ap, subst, sym, ◌∙◌, arith, List, ℕ}
 use Rattle.std.proofs.Math.Nat.{mul-le-mul_right}
 use Rattle.pnm_image.specs.Heads.{row_length}
-use Rattle.pnm_image.specs.Images.{cut_rows}
-use Rattle.pnm_samples.proofs.CutLaws.{length-cut_rows}
 use Rattle.pnm_geometry_tools.specs.Keeping.{Tiled, tiled, shown_row}
 use Rattle.pnm_geometry_tools.proofs.CutRowsLaws.{lengths_of}
 use Rattle.pnm_geometry_tools.proofs.TileRowLaws.{lengths_shown}
-use Rattle.pnm_geometry_tools.proofs.TileRowsLaws.{alike_length, none_answer, kept_rows, rows_beyond, shown_of_rows, tiling_behind}
+use Rattle.pnm_geometry_tools.proofs.TileRowsLaws.{none_answer, kept_rows, rows_beyond, tiling_behind}
 use Rattle.pnm_geometry_tools.proofs.tile.TilerImageTool.rows.Goals as goal
 
 pub returns-then-y-self-clause-ready : goal.returns-then-y-self-clause-ready
@@ -30,34 +28,25 @@ push_fronts-requires-clause-alike c =
     (lengths_shown (tiled x.width x.height x.shape.width x.shape.depth x.rows x.left) s c.requires.ready.0 ready)
 
 pub push_fronts-requires-clause-within : goal.push_fronts-requires-clause-within
-push_fronts-requires-clause-within c =
+push_fronts-requires-clause-within c = λ k d lt.
     let x = c.self.inside in
     let s = c.args.shape in
-    let parts = c.into_parts-samples in
-    let each = subst (All (λ row. length row ≡ row_length s)) parts.ensures.rows (lengths_of s c.args.rows c.requires.rows.1) in
-    let same = alike_length parts.result.1 (row_length s) parts.result.2 parts.result.0 (omega (arith, parts.ensures.some)) parts.ensures.whole each in
     let fewer : min x.width s.width * s.depth ≤ s.width * s.depth = mul-le-mul_right {m = min x.width s.width} {n = s.width} s.depth (omega arith) in
-    omega (arith, same, fewer, c.shown_length-shown.ensures)
+    omega (arith, lengths_of s c.args.rows c.requires.rows.1 k d lt, fewer, c.shown_length-shown.ensures)
 
 pub returns-clause-ready : goal.returns-clause-ready
 returns-clause-ready c = λ come ready.
     let x = c.self.inside in
     let s = c.args.shape in
-    let parts = c.into_parts-samples in
     let now = c.push_fronts.new.self in
     let w = tiled x.width x.height x.shape.width x.shape.depth x.rows x.left in
     let ready_now = rw (← c.self.view_is) at ready in
     let before = rw (← c.self.view_is) at c.requires.ready.2 in
     let within : c.args.y < x.height = omega (arith, c.if-y-self.false) in
-    let few : c.min-kept.result ≤ parts.result.1 = omega (arith, c.min-kept.ensures) in
-    let many : parts.result.1 ≡ length c.args.rows =
-    sym (ap length parts.ensures.rows ∙ length-cut_rows parts.result.1 parts.result.2 parts.result.0) in
     let most : c.min-kept.result ≡ min (x.height - c.args.y) (length c.args.rows) =
-    c.min-kept.ensures ∙ ap (λ (n : ℕ). min (x.height - c.args.y) n) many in
+    c.min-kept.ensures ∙ ap (λ (n : ℕ). min (x.height - c.args.y) n) c.count.ensures.rows in
     let stored = c.in-Ok.ensures.added
-    ∙ ap (λ (n : ℕ). x.rows ++ map (take n) (cut_rows c.min-kept.result parts.result.2 parts.result.0)) c.shown_length-shown.ensures
-    ∙ ap (λ (l : List (List ℕ)). x.rows ++ l)
-    (shown_of_rows x.width parts.result.1 parts.result.2 c.min-kept.result s parts.result.0 c.args.rows parts.ensures.rows few) in
+    ∙ ap (λ (n : ℕ). x.rows ++ map (take n) (take c.min-kept.result c.args.rows)) c.shown_length-shown.ensures in
     tiling_behind w (tiled x.width x.height x.shape.width x.shape.depth now x.left) s come c.args.rows refl ready_now.none_given
     (kept_rows x.width x.height c.args.y c.min-kept.result s x.rows now c.requires.ready.0 come c.args.rows before.rows c.requires.ready.1 within
     most ready_now.rows stored)

@@ -21,9 +21,8 @@ returns-clause-ready c = λ come ready.
     let s = c.args.shape in
     let now = rw (← c.self.view_is) at ready in
     let before = rw (← c.self.view_is) at c.requires.ready.2 in
-    let whole : take c.len.result c.args.row ≡ c.args.row = take_all c.len.result c.args.row (omega (arith, c.len.ensures)) in
     let stored = c.in_ok-push_fronts.ensures.added
-    ∙ ap (λ (r : List ℕ). x.rows ++ take c.shown_length-shown.result r ∷ []) whole
+    ∙ ap (λ (l : List (List ℕ)). x.rows ++ map (take c.shown_length-shown.result) (take 1 l)) c.one-row.ensures
     ∙ ap (λ (n : ℕ). x.rows ++ take n c.args.row ∷ []) c.shown_length-shown.ensures in
     record {
       limits = now.limits;
