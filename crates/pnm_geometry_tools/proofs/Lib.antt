@@ -11,6 +11,7 @@ pub mod JoinLaws
 pub mod TileRowLaws
 pub mod TileRowsLaws
 pub mod KeptRowLaws
+pub mod SampleRowLaws
 pub mod TileBitLaws
 pub mod RepeatedBitLaws
 pub mod EnlargedRowsLaws

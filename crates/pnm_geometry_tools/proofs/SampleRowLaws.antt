@@ -1,0 +1,24 @@
+-- Rows that are added to those of one width of samples.
+use Rattle.std.proofs.Common.{◌≡◌, ℕ, List, ◌++◌, length, All, Result, OnOk, sym, ap, ap₂, subst, ◌∙◌}
+use Rattle.std.proofs.lemmas.Result.{on_ok_weaker}
+use Rattle.pnm_image.specs.declared.rows.RowSlice.{RowSlice}
+use Rattle.pnm_image.specs.HeldRows.{slice_lists}
+use Rattle.pnm_image.specs.Images.{cut_rows}
+use Rattle.pnm_geometry_tools.specs.declared.sample_rows.SampleRows.{SampleRows}
+use Rattle.pnm_geometry_tools.specs.FlatRows.{rows_in}
+use Rattle.pnm_geometry_tools.specs.SampleRows.{row_lists}
+use Rattle.pnm_geometry_tools.proofs.FlatRowsLaws.{rows_are_cut}
+
+-- rows that were added as they are held
+pub rows_are_added : {T E : Type 0} (r s : Result T E) (old new : SampleRows) (kept value more rows : List (List ℕ)) → r ≡ s → row_lists old ≡ kept
+    → row_lists new ≡ value → more ≡ rows → OnOk s (value ≡ kept ++ more) → OnOk r (row_lists new ≡ row_lists old ++ rows)
+rows_are_added r s old new kept value more rows is was now same h =
+    subst (λ x. OnOk x (row_lists new ≡ row_lists old ++ rows)) (sym is)
+    (on_ok_weaker s (λ added. now ∙ added ∙ ap₂ (λ (a b : List (List ℕ)). a ++ b) (sym was) same) h)
+
+-- rows that are held one after another, as they are lent
+pub rows_are_lent : (count each : ℕ) (samples : List ℕ) (held slice : RowSlice) (rows : List (List ℕ)) → count ≡ length rows → held ≡ slice
+    → slice_lists (length rows) each slice ≡ cut_rows (length rows) each samples → slice_lists (length rows) each held ≡ rows
+    → rows_in count each samples ≡ rows
+rows_are_lent count each samples held slice rows many is cut are =
+    rows_are_cut count each samples ∙ ap (λ (n : ℕ). cut_rows n each samples) many ∙ sym cut ∙ ap (slice_lists (length rows) each) (sym is) ∙ are
