@@ -3,7 +3,7 @@ use Rattle.std.proofs.Common.{◌≡◌, ℕ, zero, suc, ◌+◌, ◌-◌, ◌*�
 use Rattle.std.proofs.Common.{inl, inr, ◌⊎◌, refl, sym, ap, ap₂, subst, ◌∙◌, arith, suc-mul, zero-mul, mul-le-mul_right}
 use Rattle.std.specs.List.{concat}
 use Rattle.std.proofs.Math.Seq.{take-add}
-use Rattle.std.proofs.lemmas.List.{drop_at, length-append, length-map, length-take, length-take-le, nil_from_length, take_at}
+use Rattle.std.proofs.lemmas.List.{drop_at, length-append, length-map, length-take-le, nil_from_length, take_at}
 use Rattle.std.proofs.lemmas.List.Elements.{All-head, All-map, All-tail, All-take}
 use Rattle.std.proofs.lemmas.Bool.{cases_lt}
 use Rattle.pnm_image.specs.declared.rows.RowVec.{RowVec}
@@ -13,7 +13,8 @@ use Rattle.pnm_image.specs.Images.{cut_rows}
 use Rattle.pnm_image.proofs.HeldRowLaws.{length_of_lists, lengths_of_lists, one_length}
 use Rattle.pnm_geometry_tools.specs.HeldRows.{HoldsRows}
 use Rattle.pnm_geometry_tools.specs.Keeping.{fronts_in}
-use Rattle.pnm_geometry_tools.proofs.TileRowsLaws.{cut_behind, cut_of_more, fronts_cut, fronts_long}
+use Rattle.pnm_geometry_tools.proofs.HeldRowLaws.{cut_behind}
+use Rattle.pnm_geometry_tools.proofs.TileRowsLaws.{cut_of_more, fronts_cut, fronts_long}
 
 -- what is known anyway
 pub known_on_err : {T E P : Type 0} (r : Result T E) → P → OnErr r P
@@ -125,10 +126,8 @@ pub words_behind : (count more each : ℕ) (words behind new : List ℕ) (first 
     → length behind ≡ more * each → cut_rows count each words ≡ first → cut_rows more each behind ≡ second → new ≡ words ++ behind
     → (cut_rows (count + more) each new ≡ first ++ second) × (length new ≡ (count + more) * each)
 words_behind count more each words behind new first second size more_size are others is =
-    let all : count * each + more * each ≡ (count + more) * each = omega arith in (
-      ap (cut_rows (count + more) each) is ∙ cut_behind count more each words behind size ∙ ap₂ (λ (a b : List (List ℕ)). a ++ b) are others,
-      omega (arith, ap length is, length-append words behind, size, more_size, all),
-    )
+    let both = cut_behind count more each words behind new is size more_size in
+    (both.0 ∙ ap₂ (λ (a b : List (List ℕ)). a ++ b) are others, both.1)
 
 -- ---- rows that are kept behind others
 

@@ -1,5 +1,5 @@
 -- Rows that are added to those of one width of samples.
-use Rattle.std.proofs.Common.{◌≡◌, ℕ, List, ◌++◌, length, All, Result, OnOk, sym, ap, ap₂, subst, ◌∙◌}
+use Rattle.std.proofs.Common.{◌≡◌, ℕ, List, ◌++◌, length, Result, OnOk, sym, ap, ap₂, subst, ◌∙◌}
 use Rattle.std.proofs.lemmas.Result.{on_ok_weaker}
 use Rattle.pnm_image.specs.declared.rows.RowSlice.{RowSlice}
 use Rattle.pnm_image.specs.HeldRows.{slice_lists}

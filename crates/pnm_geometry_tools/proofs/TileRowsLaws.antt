@@ -1,10 +1,10 @@
 -- Rows of an image that come together to be tiled, and rows of the result that are given together.
-use Rattle.std.proofs.Common.{◌≡◌, inl, ℕ, zero, suc, ◌+◌, ◌-◌, ◌*◌, ◌%◌, ◌<◌, ◌≤◌, List, [], ◌∷◌, ◌++◌, length, map, take, drop, min, All}
+use Rattle.std.proofs.Common.{◌≡◌, ℕ, zero, suc, ◌+◌, ◌-◌, ◌*◌, ◌%◌, ◌<◌, ◌≤◌, List, [], ◌∷◌, ◌++◌, length, map, take, drop, min, All}
 use Rattle.std.proofs.Common.{refl, sym, ap, ◌∙◌, arith, append-nil, get_or, subst, suc-mul, zero-mul}
 use Rattle.std.specs.List.{AllByRecursion, flat_map, range_with_len, slice_range}
-use Rattle.std.proofs.lemmas.List.{take_all, take_at, take_min, take-append-le, take-append-drop, take-take, map-append}
-use Rattle.std.proofs.lemmas.List.{drop_at, drop-append-le, drop-drop, drop-take, length-drop, length-map}
-use Rattle.std.proofs.lemmas.List.{append_assoc, length-append, length-take, nil_from_length}
+use Rattle.std.proofs.lemmas.List.{take_all, take_at, take_min, take-append-le, take-take, map-append}
+use Rattle.std.proofs.lemmas.List.{drop_at, drop-drop, length-drop, length-map}
+use Rattle.std.proofs.lemmas.List.{append_assoc, length-append, length-take}
 use Rattle.std.proofs.lemmas.List.Elements.{All-append, All-from_recursion, All-map}
 use Rattle.std.proofs.lemmas.List.FromFn.{get_or-map-range_with_len, length-map-range_with_len}
 use Rattle.std.proofs.Math.Nat.{mod-lt}
@@ -255,24 +255,6 @@ fronts_cut shown each (suc count) samples enough within =
     ap (λ (l : List ℕ). l ∷ cut_rows count shown (drop shown (first ++ later))) (take_at first later shown long ∙ whole)
     ∙ ap (λ (l : List ℕ). take shown (take each samples) ∷ cut_rows count shown l) (drop_at first later shown long)
     ∙ ap (λ (l : List (List ℕ)). take shown (take each samples) ∷ l) (fronts_cut shown each count (drop each samples) rest within)
-
--- ---- rows behind those that are kept
-
--- rows in two parts
-pub cut_behind : (m n each : ℕ) (held more : List ℕ) → length held ≡ m * each
-    → cut_rows (m + n) each (held ++ more) ≡ cut_rows m each held ++ cut_rows n each more
-cut_behind zero n each held more long =
-    let none : length held ≡ 0 = omega (arith, long, zero-mul each) in
-    let count : zero + n ≡ n = omega arith in
-    ap (λ (l : List ℕ). cut_rows (zero + n) each (l ++ more)) (nil_from_length held none) ∙ ap (λ (k : ℕ). cut_rows k each more) count
-cut_behind (suc m) n each held more long =
-    let size : suc m * each ≡ each + m * each = omega (arith, suc-mul m each) in
-    let count : suc m + n ≡ suc (m + n) = omega arith in
-    let rest : length (drop each held) ≡ m * each = omega (arith, length-drop each held, long, size) in
-    ap (λ (k : ℕ). cut_rows k each (held ++ more)) count
-    ∙ ap (λ (l : List ℕ). l ∷ cut_rows (m + n) each (drop each (held ++ more))) (take-append-le each held more (omega (arith, long, size)))
-    ∙ ap (λ (l : List ℕ). take each held ∷ cut_rows (m + n) each l) (drop-append-le each held more (omega (arith, long, size)))
-    ∙ ap (λ (l : List (List ℕ)). take each held ∷ l) (cut_behind m n each (drop each held) more rest)
 
 -- the first of the rows
 pub cut_of_more : (n more each : ℕ) (samples : List ℕ) → take n (cut_rows (n + more) each samples) ≡ cut_rows n each samples

@@ -1,5 +1,5 @@
 -- What tools keep while the rows of an image come, and the rows of the result that they still give.
-use Rattle.std.specs.Prelude.{◌≡◌, ℕ, zero, suc, ◌+◌, ◌-◌, ◌*◌, ◌<◌, ◌≤◌, ◌%◌, true, List, [], ◌∷◌, ◌++◌}
+use Rattle.std.specs.Prelude.{◌≡◌, ℕ, zero, suc, ◌-◌, ◌*◌, ◌<◌, ◌≤◌, ◌%◌, true, List, [], ◌++◌}
 use Rattle.std.specs.Prelude.{map, length, min, take, drop}
 use Rattle.std.specs.Prelude.{reverse, replicate, slice_index_or, All, Option, Some, None}
 use Rattle.std.specs.List.{range_with_len}

@@ -13,7 +13,7 @@ use std::alloc::{AllocError, Global};
 use std::marker::Model;
 
 /// Rows of as many samples each, one after another in one vector: so many short rows take no more memory than their
-/// samples.
+/// samples, and those of bits than whole bytes of each.
 #[derive(Drop)]
 pub(crate) struct KeptRows {
     held: RowVec,
@@ -114,12 +114,7 @@ fn hold_behind(alloc: Global, held: &mut RowVec, more: &RowVec) -> Result<(), Al
 /// # Errors
 ///
 /// Where there is no memory for it.
-fn fronts_of(
-    alloc: Global,
-    rows: &Rows,
-    count: usize,
-    shown: usize,
-) -> Result<RowVec, AllocError>
+fn fronts_of(alloc: Global, rows: &Rows, count: usize, shown: usize) -> Result<RowVec, AllocError>
     requires count { count ≤ length rows.now }
     requires within { All (λ row. shown ≤ length row) rows.now }
     ensures whole { IfOk result (λ fronts. AreRows count shown fronts) }

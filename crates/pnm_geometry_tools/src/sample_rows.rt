@@ -5,7 +5,6 @@ ghost use Rattle.std.specs.Prelude.{reverse};
 ghost use Rattle.std.specs.List.{range_with_len};
 ghost use Rattle.pnm_image.specs.declared.limits.TheConstants.{MAX_DEPTH, MAX_ROW_LENGTH};
 ghost use Rattle.pnm_image.specs.Heads.{IsWithinLimits};
-ghost use Rattle.pnm_image.specs.Images.{cut_rows};
 ghost use Rattle.pnm_tools.specs.declared.fault.ToolFault.TheVariants.{Memory};
 ghost use Rattle.pnm_tools.specs.Flip.{in_order};
 ghost use Rattle.pnm_geometry_tools.specs.SampleRows.{row_lists, strip_lists, rows_width, FitsWidth, IsBatchOfBits};

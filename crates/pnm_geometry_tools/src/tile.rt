@@ -10,7 +10,7 @@ ghost use Rattle.pnm_tools.specs.declared.fault.ToolFault.TheVariants.{Memory};
 ghost use Rattle.pnm_tools.specs.declared.tool.Tool.TheVariants.{Tile};
 ghost use Rattle.pnm_tools.specs.Tile.{tiled_row};
 ghost use Rattle.pnm_image.specs.Heads.{IsWithinLimits};
-ghost use Rattle.pnm_geometry_tools.specs.Keeping.{AreWithin, HasTiles, IsTiling, row_of_samples, row_of_tiles};
+ghost use Rattle.pnm_geometry_tools.specs.Keeping.{HasTiles, IsTiling, row_of_samples, row_of_tiles};
 ghost use Rattle.pnm_geometry_tools.specs.Keeping.{tiled, tiled_due};
 ghost use Rattle.pnm_tools.specs.Limits.{IsExtent};
 ghost use Rattle.pnm_tools.specs.Tools.{TakesHead, result_head};
@@ -233,12 +233,7 @@ fn tile_pixels(
 }
 
 /// Adds so many pixels: the first so many of these bytes side by side, the last time a part of them.
-fn tile_bit_row(
-    tiled: &mut Bits,
-    filled: u32,
-    bytes: &[u8],
-    each: u32,
-) -> Result<(), AllocError>
+fn tile_bit_row(tiled: &mut Bits, filled: u32, bytes: &[u8], each: u32) -> Result<(), AllocError>
     requires some { 0 < each }
     requires row { each ≤ 8 * length bytes.now }
     ensures { OnOk result (tiled.new ≡ tiled.old ++ tiled_row filled each 1 (take each (all_pixels bytes.now))) }

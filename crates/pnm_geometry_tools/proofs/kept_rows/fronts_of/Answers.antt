@@ -1,4 +1,4 @@
-use Rattle.std.proofs.Common.{◌∙◌, ap, length, map, take, List, ℕ}
+use Rattle.std.proofs.Common.{◌∙◌, ap, map, take, List, ℕ}
 use Rattle.pnm_geometry_tools.proofs.KeptRowLaws.{fronts_alike, fronts_of_cut}
 use Rattle.pnm_geometry_tools.proofs.kept_rows.fronts_of.Goals as goal
 

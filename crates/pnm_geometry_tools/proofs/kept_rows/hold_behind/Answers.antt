@@ -1,4 +1,4 @@
-use Rattle.std.proofs.Common.{◌≡◌, ◌++◌, ◌∙◌, List, ℕ, ap}
+use Rattle.std.proofs.Common.{◌++◌, ◌∙◌, List, ℕ, ap}
 use Rattle.pnm_image.specs.HeldRows.{row_lists}
 use Rattle.pnm_geometry_tools.proofs.KeptRowLaws.{known_on_err, words_behind}
 use Rattle.pnm_geometry_tools.proofs.kept_rows.hold_behind.Goals as goal

@@ -1,4 +1,4 @@
-use Rattle.std.proofs.Common.{◌≡◌, ◌*◌, ◌∙◌, List, ℕ, map, refl}
+use Rattle.std.proofs.Common.{◌≡◌, ◌*◌, ◌∙◌, map, refl}
 use Rattle.std.specs.List.{range_with_len}
 use Rattle.std.proofs.lemmas.Result.{IfOk-weaker}
 use Rattle.pnm_geometry_tools.specs.Keeping.{row_of_tiles}

@@ -1,4 +1,4 @@
-use Rattle.std.proofs.Common.{◌≡◌, ◌<◌, ◌≤◌, ◌%◌, length, arith}
+use Rattle.std.proofs.Common.{arith}
 use Rattle.pnm_geometry_tools.specs.Keeping.{row_of_tiles}
 use Rattle.pnm_geometry_tools.proofs.TileBitLaws.{next_part, pixel_row_more, row_has_pixels, row_is_kept}
 use Rattle.pnm_geometry_tools.proofs.tile.tile_pixels.Goals as goal

@@ -1,4 +1,4 @@
-use Rattle.std.proofs.Common.{rules, ◌≡◌, ◌+◌, ◌-◌, ◌*◌, ◌<◌, ◌≤◌, ◌++◌, length, take, drop, min, ap, sym, ◌∙◌, arith}
+use Rattle.std.proofs.Common.{rules, ◌≡◌, ◌-◌, ◌*◌, ◌<◌, ◌≤◌, ◌++◌, length, take, drop, min, ap, sym, ◌∙◌, arith}
 use Rattle.std.proofs.lemmas.List.{append_assoc, drop_at, length-append, length-drop}
 use Rattle.pnm_geometry_tools.proofs.TileRowLaws.{prefix_begins, prefix_grows, prefix_stands, prefix_is_all, longer_piece, behind_more}
 use Rattle.pnm_geometry_tools.proofs.tile.tile_row.Goals as goal

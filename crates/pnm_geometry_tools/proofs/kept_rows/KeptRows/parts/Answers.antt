@@ -1,5 +1,4 @@
-use Rattle.std.proofs.Common.{◌≡◌, ◌∙◌, ap, length, sym}
-use Rattle.pnm_image.specs.HeldRows.{row_lists}
+use Rattle.std.proofs.Common.{◌∙◌, ap, length, sym}
 use Rattle.pnm_image.proofs.HeldRowLaws.{length_of_lists}
 use Rattle.pnm_geometry_tools.proofs.KeptRowLaws.{lent_rows, lent_whole}
 use Rattle.pnm_geometry_tools.proofs.kept_rows.KeptRows.parts.Goals as goal

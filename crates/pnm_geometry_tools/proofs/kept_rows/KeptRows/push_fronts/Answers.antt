@@ -1,4 +1,4 @@
-use Rattle.std.proofs.Common.{◌≡◌, ◌+◌, ◌<◌, ◌++◌, ◌∙◌, List, ℕ, length, ap, ap₂, refl, arith}
+use Rattle.std.proofs.Common.{◌+◌, ◌<◌, ◌++◌, List, ℕ, length, ap, ap₂, refl, arith}
 use Rattle.pnm_image.proofs.HeldRowLaws.{length_of_lists}
 use Rattle.pnm_geometry_tools.proofs.KeptRowLaws.{held_as_long, held_length, lent_rows, lent_whole}
 use Rattle.pnm_geometry_tools.proofs.kept_rows.KeptRows.push_fronts.Goals as goal

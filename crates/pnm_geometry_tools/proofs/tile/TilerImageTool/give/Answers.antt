@@ -1,4 +1,4 @@
-use Rattle.std.proofs.Common.{◌≡◌, ◌-◌, ◌<◌, ◌≤◌, ◌++◌, ◌∙◌, List, ℕ, refl, ap, sym, arith}
+use Rattle.std.proofs.Common.{◌-◌, ◌++◌, ◌∙◌, List, ℕ, refl, ap, sym, arith}
 use Rattle.pnm_geometry_tools.specs.Keeping.{tiled, tiled_due}
 use Rattle.pnm_geometry_tools.proofs.TileRowsLaws.{due_in_parts, rows_within, tiles_same}
 use Rattle.pnm_geometry_tools.proofs.tile.TilerImageTool.give.Goals as goal

@@ -1,7 +1,6 @@
-use Rattle.std.proofs.Common.{◌≡◌, ◌+◌, ◌-◌, ◌*◌, ◌≤◌, ◌<◌, ◌++◌, All, length, map, min, take, refl, ap, subst, sym, ◌∙◌, arith, List, ℕ}
+use Rattle.std.proofs.Common.{◌≡◌, ◌-◌, ◌*◌, ◌≤◌, ◌<◌, ◌++◌, All, length, map, min, take, refl, ap, subst, sym, ◌∙◌, arith, ℕ}
 use Rattle.std.proofs.Math.Nat.{mul-le-mul_right}
-use Rattle.pnm_image.specs.Heads.{row_length}
-use Rattle.pnm_geometry_tools.specs.Keeping.{Tiled, tiled, shown_row}
+use Rattle.pnm_geometry_tools.specs.Keeping.{Tiled, tiled}
 use Rattle.pnm_geometry_tools.proofs.CutRowsLaws.{lengths_of}
 use Rattle.pnm_geometry_tools.proofs.TileRowLaws.{lengths_shown}
 use Rattle.pnm_geometry_tools.proofs.TileRowsLaws.{none_answer, kept_rows, rows_beyond, tiling_behind}

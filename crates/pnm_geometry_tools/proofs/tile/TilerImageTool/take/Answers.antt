@@ -1,9 +1,7 @@
-use Rattle.std.proofs.Common.{◌≡◌, ◌≤◌, ◌++◌, ◌∷◌, [], ℕ, List, All, length, map, take, min, ap, sym, subst, ◌∙◌, arith}
-use Rattle.std.proofs.lemmas.List.{take_all}
+use Rattle.std.proofs.Common.{◌≡◌, ◌≤◌, ◌++◌, ◌∷◌, [], ℕ, List, All, length, map, take, ap, sym, subst, ◌∙◌, arith}
 use Rattle.std.proofs.lemmas.List.Elements.{All-push}
 use Rattle.pnm_image.specs.Heads.{row_length}
-use Rattle.pnm_image.specs.Images.{cut_rows}
-use Rattle.pnm_geometry_tools.specs.Keeping.{Tiled, shown_row, tiled}
+use Rattle.pnm_geometry_tools.specs.Keeping.{Tiled, tiled}
 use Rattle.pnm_geometry_tools.proofs.TileRowLaws.{none_due, row_of_tile, kept_more, kept_same, lengths_shown}
 use Rattle.pnm_geometry_tools.proofs.tile.TilerImageTool.take.Goals as goal
 
