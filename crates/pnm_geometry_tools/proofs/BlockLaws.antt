@@ -4,7 +4,8 @@ use Rattle.std.proofs.Common.{◌≡◌, ℕ, ◌+◌, ◌-◌, ◌*◌, ◌<◌
 use Rattle.std.proofs.Common.{refl, sym, ap, subst, ◌∙◌, arith}
 use Rattle.std.proofs.lemmas.Bool.{cases_lt}
 use Rattle.std.proofs.lemmas.Grind.{get_or-set_at}
-use Rattle.std.proofs.lemmas.List.{drop-drop, get_or-drop, get_or-map, get_or-take, get_or_default, length-drop, length-map, length-take-le, get_or-set_other, same_lists, take_all}
+use Rattle.std.proofs.lemmas.List.{drop-drop, get_or-drop, get_or-map, get_or-take, get_or_default, length-drop, length-map, length-take-le, get_or-set_other}
+use Rattle.std.proofs.lemmas.List.{same_lists, take_all}
 use Rattle.std.proofs.lemmas.List.Elements.{All-head, All-tail, All-drop, All-from_get_or, All-get_or, All-take, All-weaker}
 use Rattle.pnm_geometry_tools.specs.Columns.{AreRowsFrom, HavePixels}
 use Rattle.pnm_tools.specs.Flip.{column_of}

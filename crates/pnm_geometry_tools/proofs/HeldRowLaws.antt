@@ -60,7 +60,8 @@ bits_behind count more each held rest both is h k = (
   is,
   (
     ap length is ∙ length-append held rest ∙ omega (arith, h.0, k.0),
-    subst (λ (rows : List (List ℕ)). All (λ (row : List ℕ). length row ≡ each) rows) (sym is) (All-append (λ (row : List ℕ). length row ≡ each) held rest h.1 k.1),
+    subst (λ (rows : List (List ℕ)). All (λ (row : List ℕ). length row ≡ each) rows) (sym is)
+        (All-append (λ (row : List ℕ). length row ≡ each) held rest h.1 k.1),
   ),
 )
 

@@ -1,5 +1,6 @@
 -- Columns of an image while they are made side by side.
-use Rattle.std.specs.Prelude.{◌≡◌, ℕ, ◌+◌, ◌<◌, ◌≤◌, List, [], ◌++◌, get_or, length, map, take, slice_index_or, Vec, vec_len}
+use Rattle.std.specs.Prelude.{◌≡◌, ℕ, ◌+◌, ◌<◌, ◌≤◌, List, [], ◌++◌, get_or, length, map, take, slice_index_or, Vec}
+use Rattle.std.specs.Prelude.{vec_len}
 use denote.Ref.{Bor}
 use Rattle.std.specs.Global.{Global}
 
@@ -29,7 +30,8 @@ pub record HavePixels {X : Type 0} (count at : ℕ) (pixels : ℕ → List X) (o
 
 -- slices are the rows from this one on
 abbrev pub AreRowsFrom : ℕ → List (List ℕ) → List (Bor (List ℕ)) → Type 0
-AreRowsFrom y rows slices = (i : ℕ) (d : Bor (List ℕ)) → i < length slices → (get_or slices i d).now ≡ get_or rows (y + i) []
+AreRowsFrom y rows slices = (i : ℕ) (d : Bor (List ℕ)) → i < length slices → (get_or slices i d).now ≡ get_or rows
+    (y + i) []
 
 -- the samples of columns
 abbrev pub column_samples : {X : Type 0} → List (Vec X Global) → List (List X)

@@ -141,8 +141,8 @@ pub(crate) fn put_all<T: BlockSample>(
     put_from(columns, at + begun * depth, rows, begun, first, depth);
 }
 
-/// Stores the pixels of the rows from this one on, from this place of each column on, a row after the other, four rows at
-/// a time.
+/// Stores the pixels of the rows from this one on, from this place of each column on, a row after the other: four rows
+/// at a time.
 fn put_from<T: Copy>(
     columns: &mut [Vec<T>],
     at: usize,

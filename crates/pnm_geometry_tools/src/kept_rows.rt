@@ -1,6 +1,7 @@
 //! Rows of an image that are kept, one after another.
 
-ghost use Rattle.std.specs.Prelude.{ℕ, ◌≡◌, ◌≤◌, ◌<◌, ◌+◌, ◌*◌, ◌^◌, ◌++◌, [], All, IfOk, OnOk, OnErr, length, map, take};
+ghost use Rattle.std.specs.Prelude.{ℕ, ◌≡◌, ◌≤◌, ◌<◌, ◌+◌, ◌*◌, ◌^◌, ◌++◌, [], All, IfOk, OnOk, OnErr, length, map};
+ghost use Rattle.std.specs.Prelude.{take};
 ghost use Rattle.pnm_image.specs.HeldRows.{AreRows, AreSliceRows, row_lists, slice_lists};
 ghost use Rattle.pnm_image.specs.Images.{cut_rows};
 ghost use Rattle.pnm_geometry_tools.specs.HeldRows.{HoldsRows, HoldsSame};

@@ -5,5 +5,6 @@ use Rattle.pnm_geometry_tools.proofs.batch.put_from.Given as goal
 
 -- the pixels of the rows that have passed
 abbrev pub invariant-loop-group : goal.invariant-loop-group
-invariant-loop-group g l = HavePixels (length l.initial.columns) l.at (λ k. column_of l.depth (take (4 * l.group) (drop l.begun l.rows)) (l.first + k)) l.initial.columns
+invariant-loop-group g l = HavePixels (length l.initial.columns) l.at (λ k. column_of l.depth (take (4 * l.group) (drop l.begun l.rows)) (l.first + k))
+    l.initial.columns
     l.columns

@@ -42,11 +42,13 @@ returns-in_ok-bytes-in-Bits-clause-made c =
 pub returns-in_ok-bytes-in-Bytes-clause-made : goal.returns-in_ok-bytes-in-Bytes-clause-made
 returns-in_ok-bytes-in-Bytes-clause-made c =
     let long = subst (AreSliceRows c.args.count c.args.each) c.in-Bytes.is c.requires in
-    let made = repeated_cut c.args.down c.args.count c.args.each c.in-Bytes.bytes.now c.in_ok-bytes-in-Bytes.bytes.items long c.in_ok-bytes-in-Bytes.ensures.made in
+    let made = repeated_cut c.args.down c.args.count c.args.each c.in-Bytes.bytes.now c.in_ok-bytes-in-Bytes.bytes.items long
+    c.in_ok-bytes-in-Bytes.ensures.made in
     (made.0 ∙ ap (λ (lent : RowSlice). flat_map (replicate c.args.down) (slice_lists c.args.count c.args.each lent)) (sym c.in-Bytes.is), made.1)
 
 pub returns-in_ok-words-in-Words-clause-made : goal.returns-in_ok-words-in-Words-clause-made
 returns-in_ok-words-in-Words-clause-made c =
     let long = subst (AreSliceRows c.args.count c.args.each) c.in-Words.is c.requires in
-    let made = repeated_cut c.args.down c.args.count c.args.each c.in-Words.words.now c.in_ok-words-in-Words.words.items long c.in_ok-words-in-Words.ensures.made in
+    let made = repeated_cut c.args.down c.args.count c.args.each c.in-Words.words.now c.in_ok-words-in-Words.words.items long
+    c.in_ok-words-in-Words.ensures.made in
     (made.0 ∙ ap (λ (lent : RowSlice). flat_map (replicate c.args.down) (slice_lists c.args.count c.args.each lent)) (sym c.in-Words.is), made.1)

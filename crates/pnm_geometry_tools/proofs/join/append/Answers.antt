@@ -9,7 +9,8 @@ use Rattle.pnm_geometry_tools.specs.HeldRows.{HasAdded}
 use Rattle.pnm_geometry_tools.proofs.HeldRowLaws.{bits_behind, cut_behind}
 use Rattle.pnm_geometry_tools.proofs.JoinLaws.{added_as}
 use Rattle.pnm_geometry_tools.proofs.join.append.Goals as goal
-use Rattle.pnm_geometry_tools.proofs.join.append.Goals.{in-Bits-Bits, in-Bytes-Bytes+in_ok-extend_from_slice-in-Bytes-Bytes, in-Words-Words+in_ok-extend_from_slice-in-Words-Words, in_default, in_default-2, in_default-3}
+use Rattle.pnm_geometry_tools.proofs.join.append.Goals.{in-Bits-Bits, in-Bytes-Bytes+in_ok-extend_from_slice-in-Bytes-Bytes}
+use Rattle.pnm_geometry_tools.proofs.join.append.Goals.{in-Words-Words+in_ok-extend_from_slice-in-Words-Words, in_default, in_default-2, in_default-3}
 
 pub returns-clause-added : goal.returns-clause-added
 returns-clause-added c =

@@ -10,7 +10,8 @@ returns-then-not-branch-clause-same c = λ no count h.
     let popped : c.pop.result ≡ Some next = search rules in
     let parts : c.args.batch.now.items ≡ rest ++ next ∷ [] = c.pop.ensures.items ∙ ap (λ (o : Option (List ℕ)). rest ++ option_to_list o) popped in
     none_taken count c.args.each c.args.bound.now c.args.held.now c.append.new.held next c.into_first.result c.one-next.result c.args.batch.now.items rest
-    c.push-then-not-branch.new.self.items c.one-next.ensures parts c.into_first.ensures c.in_ok-push-2.ensures.items (c.in_ok-append.ensures.same (search rules)) h
+    c.push-then-not-branch.new.self.items c.one-next.ensures parts c.into_first.ensures c.in_ok-push-2.ensures.items
+    (c.in_ok-append.ensures.same (search rules)) h
 
 pub returns-clause-taken : goal.returns-clause-taken
 returns-clause-taken c = λ yes count h.
@@ -25,5 +26,6 @@ returns-clause-taken c = λ yes count h.
     subst (λ (l : List (List ℕ)). All (λ (row : List ℕ). length row ≡ each) l) (sym c.one-next.ensures)
     (All-cons (λ (row : List ℕ). length row ≡ each) next [] size (All-nil (λ (row : List ℕ). length row ≡ each))) in
     next_taken count each c.args.bound.now c.max.result c.bound.result c.args.held.now c.append.new.held c.as_slice.result next lent c.args.batch.now.items rest
-    c.one-next.ensures parts (c.as_slice.ensures.rows each all) (c.as_slice.ensures.whole each all) (c.in_ok-append.ensures.added (search rules)) c.bound.ensures
+    c.one-next.ensures parts (c.as_slice.ensures.rows each all) (c.as_slice.ensures.whole each all) (c.in_ok-append.ensures.added (search rules))
+    c.bound.ensures
     (omega (arith, c.max.ensures)) (omega (arith, c.max.ensures)) h
