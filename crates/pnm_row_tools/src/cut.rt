@@ -150,9 +150,9 @@ fn keep_of_each<T: Copy>(samples: &mut Vec<T>, parts: Parts)
     requires within { parts.first + parts.kept ≤ parts.row_length }
     ensures { samples.new.items ≡ parts_of parts samples.old.items }
 {
-    let kept = parts.kept;
+    let (skipped, kept) = (parts.top * parts.row_length, parts.kept);
     for i in 0..parts.count {
-        let start = parts.top * parts.row_length + i * parts.row_length + parts.first;
+        let start = skipped + i * parts.row_length + parts.first;
         copy_down(samples.as_mut_slice(), start, i * kept, kept);
     }
     samples.truncate(parts.count * kept);
