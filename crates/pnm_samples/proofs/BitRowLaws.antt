@@ -3,7 +3,8 @@ use Rattle.std.proofs.Common.{◌≡◌, ℕ, zero, suc, ◌+◌, ◌-◌, ◌*�
 use Rattle.std.proofs.Common.{◌∙◌, arith, suc-mul, zero-mul, mul-le-mul, inl, inr}
 use Rattle.std.proofs.lemmas.Bool.{cases_lt}
 use Rattle.std.proofs.lemmas.List.{append_assoc, drop-append-le, drop-drop, drop_at, length-append, length-drop, length-take, length-take-le, take-append-le}
-use Rattle.std.proofs.lemmas.List.{get_or-drop, get_or-take, get_or_past, take-append-drop, nil_from_length, take-map, drop-map, take_all, take_at, take-take, drop-take}
+use Rattle.std.proofs.lemmas.List.{get_or-drop, get_or-take, get_or_past, take-append-drop, nil_from_length, take-map, drop-map}
+use Rattle.std.proofs.lemmas.List.{take_all, take_at, take-take, drop-take}
 use borrow.Rule.Slice.PartMut.{put_mid}
 use mir.Val.{Fits}
 use Rattle.std.specs.Int.{w8}
@@ -183,7 +184,8 @@ module _ (f : List ℕ → List ℕ) (row count each n : ℕ) (old now part new 
   }
 
 -- all of them
-pub all_changed : (f : List ℕ → List ℕ) (passed count each : ℕ) (old new : List ℕ) → AreChanged (λ row. f (take each (all_pixels row))) passed count each old new
+pub all_changed : (f : List ℕ → List ℕ) (passed count each : ℕ) (old new : List ℕ)
+    → AreChanged (λ row. f (take each (all_pixels row))) passed count each old new
     → count ≤ passed → rows_of_bytes count each new ≡ map f (rows_of_bytes count each old)
 all_changed f passed count each old new known all = rows_changed f count each old new (λ row lt. known.changed row (omega (arith, lt, all)))
 

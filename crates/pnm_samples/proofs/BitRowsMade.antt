@@ -44,7 +44,8 @@ module _ (each spare : ℕ) (row part : List ℕ) (long : length row ≡ bytes_f
 
   pub moved_is_packed : ArePacked each part
   moved_is_packed =
-      let size : 8 * length part ≡ each + spare = sym (length-all_pixels part) ∙ ap length ends ∙ length-append (drop spare (all_pixels row)) (replicate spare 1)
+      let size : 8 * length part ≡ each + spare = sym (length-all_pixels part) ∙ ap length ends
+      ∙ length-append (drop spare (all_pixels row)) (replicate spare 1)
       ∙ ap₂ (λ (a b : ℕ). a + b) left (length-replicate spare 1) in
       let behind : spare ≡ 8 * length part - each = omega (arith, size) in
       record {
@@ -245,7 +246,8 @@ one_more_copied parts passed size bytes part new known is long more = record {
 
 -- the place of a row, and how long it is
 pub row_of_rows : (held whole row : ℕ) (bytes : List ℕ) (rows : List (List ℕ)) → rows_of_bytes held whole bytes ≡ rows → length bytes ≡ held * bytes_for whole
-    → row < length rows → (row < held) × (length (get_or rows row []) ≡ whole) × (take whole (all_pixels (row_bytes (bytes_for whole) row bytes)) ≡ get_or rows row [])
+    → row < length rows → (row < held) × (length (get_or rows row []) ≡ whole)
+    × (take whole (all_pixels (row_bytes (bytes_for whole) row bytes)) ≡ get_or rows row [])
 row_of_rows held whole row bytes rows is long lt =
     let below : row < held = omega (arith, lt, length_of_rows held whole bytes, ap length is) in
     let pixels = pixels_of_row held whole row bytes below ∙ ap (λ (l : List (List ℕ)). get_or l row []) is in

@@ -58,11 +58,13 @@ pixel_of_row count at bytes value lt h is =
     ap (λ (l : List ℕ). get_or l at 0) (sym is) ∙ get_or-take count (all_pixels bytes) at 0 lt ∙ pixel_of_bytes at bytes (omega (arith, lt, h.enough))
 
 -- the first so many pixels are black, as all that were looked at are
-pub black_from_looks : (count seen : ℕ) (bytes : List ℕ) → length (take count (all_pixels bytes)) ≤ seen → ((k : ℕ) → k < seen → get_or (all_pixels bytes) k 0 ≤ 0)
+pub black_from_looks : (count seen : ℕ) (bytes : List ℕ) → length (take count (all_pixels bytes)) ≤ seen
+    → ((k : ℕ) → k < seen → get_or (all_pixels bytes) k 0 ≤ 0)
     → All (λ sample. sample ≤ 0) (take count (all_pixels bytes))
 black_from_looks count seen bytes all known k d lt =
     let within : k < count = omega (arith, lt, length-take count (all_pixels bytes)) in
-    let small : get_or (take count (all_pixels bytes)) k 0 ≤ 0 = omega (arith, known k (omega (arith, lt, all)), get_or-take count (all_pixels bytes) k 0 within) in
+    let small : get_or (take count (all_pixels bytes)) k 0 ≤ 0 =
+    omega (arith, known k (omega (arith, lt, all)), get_or-take count (all_pixels bytes) k 0 within) in
     rw (get_or_default (take count (all_pixels bytes)) k d 0 lt) small
 
 -- one isn't

@@ -1,7 +1,7 @@
 //! Rows of pixels of one bit, as they lie one after another in a raw file.
 
-ghost use Rattle.std.specs.Prelude.{ℕ, ◌≡◌, ◌+◌, ◌*◌, ◌<◌, ◌≤◌, ◌∷◌, [], IfOk, IsTrue, IsFalse, OnOk, OnErr, ◌++◌, drop, get_or, length};
-ghost use Rattle.std.specs.Prelude.{map, replicate, reverse, take, ◌-◌, ◌/◌, ◌%◌};
+ghost use Rattle.std.specs.Prelude.{ℕ, ◌≡◌, ◌+◌, ◌-◌, ◌*◌, ◌/◌, ◌%◌, ◌<◌, ◌≤◌, ◌∷◌, ◌++◌, [], drop, get_or, length};
+ghost use Rattle.std.specs.Prelude.{map, replicate, reverse, take, IfOk, IsTrue, IsFalse, OnOk, OnErr};
 ghost use Rattle.std.specs.List.{concat, flat_map};
 ghost use Rattle.pnm_samples.specs.PixelRows.{bytes_for, rows_of_bytes};
 ghost use Rattle.pnm_samples.specs.BitRows.{ArePackedRows, row_bytes};
@@ -74,9 +74,14 @@ impl BitRows {
         (bytes_of(self.bytes.as_slice()), self.count, self.each)
     }
 
-    /// The memory of the rows.
-    pub fn into_bytes(self) -> Vec<u8> {
-        self.bytes
+    /// The bytes of the rows, with white spare bits, without a copy.
+    pub fn into_bytes(self) -> Vec<u8>
+        ensures { result.items ≡ flat_map packed_bytes self }
+    {
+        let bytes = self.bytes;
+        // No effect at run time: a proof learns of this that each byte is below 256.
+        let _ = bytes_of(bytes.as_slice());
+        bytes
     }
 
     /// The bytes of a row, and how many pixels these are.
@@ -278,7 +283,8 @@ fn mirror_row(bytes: &mut [u8], each: usize)
 fn move_each_to_end(bytes: &mut [u8], count: usize, each: usize)
     requires size { length bytes.old ≡ count * bytes_for each }
     requires white { (row : ℕ) → row < count
-        → take ((8 - each % 8) % 8) (all_pixels (row_bytes (bytes_for each) row bytes.old)) ≡ replicate ((8 - each % 8) % 8) 1 }
+        → take ((8 - each % 8) % 8) (all_pixels (row_bytes (bytes_for each) row bytes.old))
+        ≡ replicate ((8 - each % 8) % 8) 1 }
     ensures moved { (row : ℕ) → row < count → take each (all_pixels (row_bytes (bytes_for each) row bytes.new))
         ≡ drop ((8 - each % 8) % 8) (all_pixels (row_bytes (bytes_for each) row bytes.old)) }
     ensures packed { ArePackedRows count each bytes.new }

@@ -25,7 +25,8 @@ loop-row-preserved c =
     let count : (row + 1) * c.div_ceil-size.result - from ≡ size = omega (arith, place, end) in
     let given : take ((row + 1) * c.div_ceil-size.result - from) (drop from now) ≡ row_bytes size row now =
     ap₂ (λ (n k : ℕ). take n (drop k now)) count place in
-    one_more_changed (λ (l : List ℕ). take c.args.each (all_pixels l)) row c.args.count c.args.each size c.args.bytes.now now c.clear_spare.new.bytes _ c.loop-row.invariant (omega arith)
+    one_more_changed (λ (l : List ℕ). take c.args.each (all_pixels l)) row c.args.count c.args.each size c.args.bytes.now now c.clear_spare.new.bytes _
+    c.loop-row.invariant (omega arith)
     c.requires refl
     (c.clear_spare.ensures.spare.enough)
     (ap₂ (λ (n k : ℕ). put_mid k n now c.clear_spare.new.bytes) count place)
@@ -38,4 +39,5 @@ returns-clause-same c =
 
 pub returns-clause-packed : goal.returns-clause-packed
 returns-clause-packed c =
-    all_packed (λ (l : List ℕ). take c.args.each (all_pixels l)) c.loop-row.row c.args.count c.args.each c.args.bytes.now c.loop-row.bytes c.loop-row.invariant (omega arith) c.requires
+    all_packed (λ (l : List ℕ). take c.args.each (all_pixels l)) c.loop-row.row c.args.count c.args.each c.args.bytes.now c.loop-row.bytes
+    c.loop-row.invariant (omega arith) c.requires

@@ -35,7 +35,8 @@ loop-row-preserved c =
     let count : (row + 1) * c.div_ceil-size.result - from ≡ size = omega (arith, place, end) in
     let given : take ((row + 1) * c.div_ceil-size.result - from) (drop from now) ≡ row_bytes size row now =
     ap₂ (λ (n k : ℕ). take n (drop k now)) count place in
-    one_more_changed (λ (row : List ℕ). reverse (take c.args.each (all_pixels row))) row c.args.count c.args.each size c.args.bytes.now now c.mirror_row.new.bytes _ c.loop-row.invariant (omega arith)
+    one_more_changed (λ (row : List ℕ). reverse (take c.args.each (all_pixels row))) row c.args.count c.args.each size c.args.bytes.now now
+    c.mirror_row.new.bytes _ c.loop-row.invariant (omega arith)
     c.requires.enough refl c.mirror_row.ensures.packed.enough
     (ap₂ (λ (n k : ℕ). put_mid k n now c.mirror_row.new.bytes) count place)
     (c.mirror_row.ensures.turned ∙ ap (λ (l : List ℕ). reverse (take c.args.each (all_pixels l))) given)
@@ -47,4 +48,5 @@ returns-clause-turned c =
 
 pub returns-clause-packed : goal.returns-clause-packed
 returns-clause-packed c =
-    all_packed (λ (row : List ℕ). reverse (take c.args.each (all_pixels row))) c.loop-row.row c.args.count c.args.each c.args.bytes.now c.loop-row.bytes c.loop-row.invariant (omega arith) c.requires.enough
+    all_packed (λ (row : List ℕ). reverse (take c.args.each (all_pixels row))) c.loop-row.row c.args.count c.args.each c.args.bytes.now c.loop-row.bytes
+    c.loop-row.invariant (omega arith) c.requires.enough

@@ -21,12 +21,12 @@ loop-row-preserved c =
     let from : row * c.div_ceil-size.result ≡ row * size = ap (λ (k : ℕ). row * k) step in
     let end : (row + 1) * c.div_ceil-size.result ≡ row * size + size = ap (λ (k : ℕ). (row + 1) * k) step ∙ omega arith in
     let many : (row + 1) * c.div_ceil-size.result - row * c.div_ceil-size.result ≡ size = omega (arith, from, end) in
-    let given : take ((row + 1) * c.div_ceil-size.result - row * c.div_ceil-size.result) (drop (row * c.div_ceil-size.result) bytes) ≡ row_bytes size row bytes =
+    let lent = take ((row + 1) * c.div_ceil-size.result - row * c.div_ceil-size.result) (drop (row * c.div_ceil-size.result) bytes) in
+    let given : lent ≡ row_bytes size row bytes =
     ap₂ (λ (n k : ℕ). take n (drop k bytes)) many from in
     let same : length before ≡ length l.samples.items = ap length c.deref_mut.ensures.value in
     let within = row_within c.args.count each row (c.args.count * each) refl (omega arith) in
     let buffer : row * each + 8 * c.div_ceil-size.result ≤ length before = omega (arith, same, l.invariant.0, within, step, c.in-Some.ensures) in
-    let lent = take ((row + 1) * c.div_ceil-size.result - row * c.div_ceil-size.result) (drop (row * c.div_ceil-size.result) bytes) in
     let long = length_of_row_bytes size row bytes (row_within c.args.count size row (length bytes) c.requires (omega arith)) in
     let wide : length stored ≡ 8 * c.div_ceil-size.result =
     omega (arith, ap length c.store_row.ensures, length-all_pixels lent, ap length given, long, step) in
