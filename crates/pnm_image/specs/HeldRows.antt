@@ -3,7 +3,8 @@ use Rattle.std.specs.Prelude.{◌≡◌, ℕ, ◌*◌, ◌≤◌, List, length, 
 use Rattle.pnm_image.specs.declared.rows.RowVec.{RowVec}
 use Rattle.pnm_image.specs.declared.rows.RowVec.TheVariants.{Bits, Bytes, Words}
 use Rattle.pnm_image.specs.declared.rows.RowSlice.{RowSlice}
-use Rattle.pnm_image.specs.declared.rows.RowSlice.TheVariants.{Bits as SliceBits, Bytes as SliceBytes, Words as SliceWords}
+use Rattle.pnm_image.specs.declared.rows.RowSlice.TheVariants.{Bits as SliceBits, Bytes as SliceBytes}
+use Rattle.pnm_image.specs.declared.rows.RowSlice.TheVariants.{Words as SliceWords}
 use Rattle.pnm_samples.specs.Cuts.{cut_rows}
 
 -- so many rows of so many samples

@@ -32,7 +32,8 @@ pub record AreHeldWide (raster : Raster) (count : ℕ) (bytes : List ℕ) : Type
 abbrev pub rows_held : SampleWidth → Shape → ℕ → List ℕ → List (List ℕ)
 rows_held p s zero bytes = []
 rows_held p s (suc count) bytes =
-    take (row_length s) (samples_of_bytes p (take (units_in_row p s) bytes)) ∷ rows_held p s count (drop (units_in_row p s) bytes)
+    take (row_length s) (samples_of_bytes p (take (units_in_row p s) bytes))
+    ∷ rows_held p s count (drop (units_in_row p s) bytes)
 
 -- whatever comes after these bytes, so many rows in turn are these, and leave what is left of the bytes
 abbrev pub TakesRows : Shape → ℕ → List (List ℕ) → List ℕ → List ℕ → Type 0

@@ -134,8 +134,8 @@ fn write_words<W: BytesOut>(
     Ok(())
 }
 
-/// Writes a row of so many samples, which are held otherwise than their kind is. It stands in no other function's frame,
-/// since these would have room for its samples too.
+/// Writes a row of so many samples, which are held otherwise than their kind is. It stands in no other function's
+/// frame, since these would have room for its samples too.
 #[inline(never)]
 fn write_others<W: BytesOut>(
     writer: &mut W,

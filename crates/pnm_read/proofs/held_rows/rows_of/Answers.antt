@@ -19,7 +19,8 @@ new-requires c =
     let bytes = c.args.bytes.items in
     let fits = subst (λ (p : SampleWidth). FitsBytes p s) c.in-Bits.is c.requires.fits in
     let size : length bytes ≡ count * bytes_for each = c.requires.size
-    ∙ ap (λ (n : ℕ). count * n) (raster.count ∙ ap (λ (p : SampleWidth). units_in_row p s) c.in-Bits.is ∙ sym fits ∙ ap bytes_for (sym c.row_length-each.ensures)) in
+    ∙ ap (λ (n : ℕ). count * n) (raster.count ∙ ap (λ (p : SampleWidth). units_in_row p s) c.in-Bits.is ∙ sym fits
+    ∙ ap bytes_for (sym c.row_length-each.ensures)) in
     let rows = rows_of_bytes count each bytes in
     record {
       some = c.requires.some;

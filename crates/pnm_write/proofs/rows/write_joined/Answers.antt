@@ -12,7 +12,8 @@ write_samples-requires g c =
     let s = c.args.shape in
     let rows = c.args.rows.now in
     let long = long_rows s rows c.requires.rows in
-    let all = joined_of_cut (row_length s) c.in-Bytes.bytes.now rows (c.in-Bytes.ensures.rows (row_length s) long) (c.in-Bytes.ensures.whole (row_length s) long) in
+    let all = joined_of_cut (row_length s) c.in-Bytes.bytes.now rows (c.in-Bytes.ensures.rows (row_length s) long)
+    (c.in-Bytes.ensures.whole (row_length s) long) in
     record {
       range = subst (All (λ sample. sample ≤ s.maxval)) (sym all) (range_of_rows s rows c.requires.rows);
       spare = tt;
@@ -23,7 +24,8 @@ returns-in-Bytes-clause-written g c =
     let s = c.args.shape in
     let rows = c.args.rows.now in
     let long = long_rows s rows c.requires.rows in
-    let all = joined_of_cut (row_length s) c.in-Bytes.bytes.now rows (c.in-Bytes.ensures.rows (row_length s) long) (c.in-Bytes.ensures.whole (row_length s) long) in
+    let all = joined_of_cut (row_length s) c.in-Bytes.bytes.now rows (c.in-Bytes.ensures.rows (row_length s) long)
+    (c.in-Bytes.ensures.whole (row_length s) long) in
     subst (λ (bytes : List ℕ). OnOk c.write_samples.result (Appends (g.W.BytesOut.held c.args.writer.now) (g.W.BytesOut.held c.write_samples.new.writer) bytes))
     (ap (row_bytes Raw s) all ∙ joined_rows s rows c.requires.rows c.requires.whole) c.write_samples.ensures.written
 
@@ -32,7 +34,8 @@ returns-in-Bytes-clause-failed g c =
     let s = c.args.shape in
     let rows = c.args.rows.now in
     let long = long_rows s rows c.requires.rows in
-    let all = joined_of_cut (row_length s) c.in-Bytes.bytes.now rows (c.in-Bytes.ensures.rows (row_length s) long) (c.in-Bytes.ensures.whole (row_length s) long) in
+    let all = joined_of_cut (row_length s) c.in-Bytes.bytes.now rows (c.in-Bytes.ensures.rows (row_length s) long)
+    (c.in-Bytes.ensures.whole (row_length s) long) in
     subst (λ (bytes : List ℕ). OnErr c.write_samples.result (FailsIn bytes (g.W.BytesOut.held c.args.writer.now) (g.W.BytesOut.held c.write_samples.new.writer)
     (g.W.BytesOut.failures c.args.writer.now) (g.W.BytesOut.failures c.write_samples.new.writer)))
     (ap (row_bytes Raw s) all ∙ joined_rows s rows c.requires.rows c.requires.whole) c.write_samples.ensures.failed
@@ -42,7 +45,8 @@ write_samples-requires-in-Words g c =
     let s = c.args.shape in
     let rows = c.args.rows.now in
     let long = long_rows s rows c.requires.rows in
-    let all = joined_of_cut (row_length s) c.in-Words.words.now rows (c.in-Words.ensures.rows (row_length s) long) (c.in-Words.ensures.whole (row_length s) long) in
+    let all = joined_of_cut (row_length s) c.in-Words.words.now rows (c.in-Words.ensures.rows (row_length s) long)
+    (c.in-Words.ensures.whole (row_length s) long) in
     record {
       range = subst (All (λ sample. sample ≤ s.maxval)) (sym all) (range_of_rows s rows c.requires.rows);
       spare = tt;
@@ -53,8 +57,10 @@ returns-in-Words-clause-written g c =
     let s = c.args.shape in
     let rows = c.args.rows.now in
     let long = long_rows s rows c.requires.rows in
-    let all = joined_of_cut (row_length s) c.in-Words.words.now rows (c.in-Words.ensures.rows (row_length s) long) (c.in-Words.ensures.whole (row_length s) long) in
-    subst (λ (bytes : List ℕ). OnOk c.write_samples-in-Words.result (Appends (g.W.BytesOut.held c.args.writer.now) (g.W.BytesOut.held c.write_samples-in-Words.new.writer) bytes))
+    let all = joined_of_cut (row_length s) c.in-Words.words.now rows (c.in-Words.ensures.rows (row_length s) long)
+    (c.in-Words.ensures.whole (row_length s) long) in
+    subst (λ (bytes : List ℕ). OnOk c.write_samples-in-Words.result
+    (Appends (g.W.BytesOut.held c.args.writer.now) (g.W.BytesOut.held c.write_samples-in-Words.new.writer) bytes))
     (ap (row_bytes Raw s) all ∙ joined_rows s rows c.requires.rows c.requires.whole) c.write_samples-in-Words.ensures.written
 
 pub returns-in-Words-clause-failed : goal.returns-in-Words-clause-failed
@@ -62,7 +68,9 @@ returns-in-Words-clause-failed g c =
     let s = c.args.shape in
     let rows = c.args.rows.now in
     let long = long_rows s rows c.requires.rows in
-    let all = joined_of_cut (row_length s) c.in-Words.words.now rows (c.in-Words.ensures.rows (row_length s) long) (c.in-Words.ensures.whole (row_length s) long) in
-    subst (λ (bytes : List ℕ). OnErr c.write_samples-in-Words.result (FailsIn bytes (g.W.BytesOut.held c.args.writer.now) (g.W.BytesOut.held c.write_samples-in-Words.new.writer)
+    let all = joined_of_cut (row_length s) c.in-Words.words.now rows (c.in-Words.ensures.rows (row_length s) long)
+    (c.in-Words.ensures.whole (row_length s) long) in
+    subst (λ (bytes : List ℕ). OnErr c.write_samples-in-Words.result
+    (FailsIn bytes (g.W.BytesOut.held c.args.writer.now) (g.W.BytesOut.held c.write_samples-in-Words.new.writer)
     (g.W.BytesOut.failures c.args.writer.now) (g.W.BytesOut.failures c.write_samples-in-Words.new.writer)))
     (ap (row_bytes Raw s) all ∙ joined_rows s rows c.requires.rows c.requires.whole) c.write_samples-in-Words.ensures.failed
