@@ -258,7 +258,8 @@ bits_mirrored s count old rows new plane held is whole =
     )
 
 -- rows that are held one after another
-pub items_mirrored : (s : Shape) (count : ℕ) (old : RowVec) (new : List ℕ) → 0 < s.width → new ≡ changed (mirrored_row s) count (row_length s) (held_samples old)
+pub items_mirrored : (s : Shape) (count : ℕ) (old : RowVec) (new : List ℕ) → 0 < s.width → new ≡ changed (mirrored_row s) count (row_length s)
+    (held_samples old)
     → AreRows count (row_length s) old
     → (length new ≡ count * row_length s) × (cut_rows count (row_length s) new ≡ map (mirrored_row s) (row_lists count (row_length s) old))
 items_mirrored s count old new some is whole =

@@ -32,7 +32,8 @@ concat_long (suc count) each (row ∷ rows) whole =
     omega (arith, length-append row (concat rows), All-head Long row rows whole.1, rest, suc-mul count each)
 
 -- cut again they are the same rows
-pub concat_cut : (count each : ℕ) (rows : List (List ℕ)) → (length rows ≡ count) × All (λ row. length row ≡ each) rows → cut_rows count each (concat rows) ≡ rows
+pub concat_cut : (count each : ℕ) (rows : List (List ℕ)) → (length rows ≡ count) × All (λ row. length row ≡ each) rows
+    → cut_rows count each (concat rows) ≡ rows
 concat_cut zero each [] whole = refl
 concat_cut zero each (row ∷ rows) whole = absurd (omega (arith, whole.0))
 concat_cut (suc count) each [] whole = absurd (omega (arith, whole.0))
@@ -76,7 +77,8 @@ held_within most count each (Words words) whole within =
 -- ---- rows of an image of a shape
 
 -- they are as long as it says
-pub length_of_shape : (s : Shape) (count each : ℕ) (held : RowVec) → 1 ≤ count → AreRows count each held → AllByRecursion (IsRowOf s) (row_lists count each held)
+pub length_of_shape : (s : Shape) (count each : ℕ) (held : RowVec) → 1 ≤ count → AreRows count each held → AllByRecursion (IsRowOf s)
+    (row_lists count each held)
     → each ≡ row_length s
 length_of_shape s count each held some whole are =
     let rows = row_lists count each held in

@@ -10,7 +10,8 @@ use Rattle.pnm_row_tools.specs.EachRow.{HoldsRows}
 use Rattle.pnm_row_tools.specs.Keeping.{as_wide}
 use Rattle.pnm_row_tools.proofs.ChannelRowsLaws.{picked_cut, picked_rows_within}
 use Rattle.pnm_row_tools.proofs.HeldRowsLaws.{concat_cut, concat_long, rows_within}
-use Rattle.pnm_row_tools.proofs.channel.pick_planes.Goals.{in-Bits+in_ok-unpacked-in-Bits+in_ok-picked-in-Bits, in-Bytes+in_ok-picked-in-Bytes, in-Words+in_ok-picked-in-Words}
+use Rattle.pnm_row_tools.proofs.channel.pick_planes.Goals.{in-Bits+in_ok-unpacked-in-Bits+in_ok-picked-in-Bits, in-Bytes+in_ok-picked-in-Bytes}
+use Rattle.pnm_row_tools.proofs.channel.pick_planes.Goals.{in-Words+in_ok-picked-in-Words}
 use Rattle.pnm_row_tools.proofs.channel.pick_planes.Goals as goal
 
 pub pick-requires-clause-pixels : goal.pick-requires-clause-pixels
@@ -69,11 +70,13 @@ made c =
           ∙ ap (λ (n : ℕ). of n (concat bits)) many))
       | in-Bytes+in_ok-picked-in-Bytes w ↦
           subst (Made (length rows)) (sym w.held-is)
-          (picked_cut numbers s (length rows) w.in-Bytes.bytes.now w.in_ok-picked-in-Bytes.picked.items rows below (w.in-Bytes.ensures.whole (row_length s) long)
+          (picked_cut numbers s (length rows) w.in-Bytes.bytes.now w.in_ok-picked-in-Bytes.picked.items rows below
+          (w.in-Bytes.ensures.whole (row_length s) long)
           (w.in-Bytes.ensures.rows (row_length s) long) (w.in_ok-picked-in-Bytes.ensures 0 ∙ ap (λ (n : ℕ). of n w.in-Bytes.bytes.now) many))
       | in-Words+in_ok-picked-in-Words w ↦
           subst (Made (length rows)) (sym w.held-is)
-          (picked_cut numbers s (length rows) w.in-Words.words.now w.in_ok-picked-in-Words.picked.items rows below (w.in-Words.ensures.whole (row_length s) long)
+          (picked_cut numbers s (length rows) w.in-Words.words.now w.in_ok-picked-in-Words.picked.items rows below
+          (w.in-Words.ensures.whole (row_length s) long)
           (w.in-Words.ensures.rows (row_length s) long) (w.in_ok-picked-in-Words.ensures 0 ∙ ap (λ (n : ℕ). of n w.in-Words.words.now) many))
     ])
 

@@ -25,7 +25,8 @@ reverse_each-requires-in-Words-clause-row c =
     (subst (AllByRecursion (IsRowOf c.args.shape)) parts.ensures.rows c.requires.rows)
 
 -- however the rows are held
-made : (c : goal.Joined-held) → HoldsRows c.into_parts-held.result.1 c.into_parts-held.result.2 c.match-held.mirrored (map (mirrored_row c.args.shape) c.args.rows)
+made : (c : goal.Joined-held) → HoldsRows c.into_parts-held.result.1 c.into_parts-held.result.2 c.match-held.mirrored
+    (map (mirrored_row c.args.shape) c.args.rows)
 made c =
     let parts = c.into_parts-held in
     let count : ℕ = parts.result.1 in
