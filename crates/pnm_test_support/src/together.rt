@@ -1,5 +1,8 @@
 //! Rows that are handed over together. They are written, and told, one after another between braces.
 
+ghost use Rattle.std.specs.Prelude.{◌≡◌, ◌*◌, All, IfOk, length};
+ghost use Rattle.pnm_image.specs.HeldRows.{AreRowsWithin};
+
 use super::messages::{Unmade, held_by, messages_of};
 use super::telling::{tell_message, tell_row};
 use super::writing::cut_at;
@@ -81,17 +84,19 @@ fn cut_into(
     let Ok(rows) = u32::try_from(count) else {
         return Err(Unmade);
     };
-    match count.checked_mul(row_length) {
-        Some(size) if count > 0 && size == samples.len() => {}
-        _ => return Err(Unmade),
+    let size = (rows as usize).checked_mul(row_length);
+    if rows == 0 || size != Some(samples.len()) {
+        return Err(Unmade);
     }
     let bound = samples.bound();
-    let held = match samples.into_vec() {
-        SampleVec::Bits(bits) => RowVec::Bits(rows_of_bits(alloc, &bits, count, row_length)?),
-        SampleVec::Bytes(bytes) => RowVec::Bytes(bytes),
-        SampleVec::Words(words) => RowVec::Words(words),
-    };
-    Ok(Rows::new(held, bound, rows, row_length))
+    Ok(match samples.into_vec() {
+        SampleVec::Bits(bits) => {
+            let held = rows_of_bits(alloc, &bits, rows as usize, row_length)?;
+            Rows::new(RowVec::Bits(held), 1, rows, row_length)
+        }
+        SampleVec::Bytes(bytes) => Rows::new(RowVec::Bytes(bytes), bound, rows, row_length),
+        SampleVec::Words(words) => Rows::new(RowVec::Words(words), bound, rows, row_length),
+    })
 }
 
 /// The pixels as so many rows of this length.
@@ -100,7 +105,14 @@ fn rows_of_bits(
     pixels: &Bits,
     count: usize,
     row_length: usize,
-) -> Result<BitRows, AllocError> {
+) -> Result<BitRows, AllocError>
+    requires { length pixels.now ≡ count * row_length }
+    ensures many { IfOk result (λ rows. length rows ≡ count) }
+    ensures each { IfOk result (λ rows. All (λ row. length row ≡ row_length) rows) }
+    ensures within { IfOk result (λ rows. AreRowsWithin 1 rows) }
+{
+    // No effect at run time: a proof learns of this that the pixels are as many as this machine can count.
+    let _ = pixels.len();
     let mut bytes = Vec::new(alloc);
     for row in 0..count {
         let mut one = Bits::empty(alloc);
