@@ -1,8 +1,8 @@
 -- Rows of samples that are held one after another.
 use Rattle.std.proofs.Common.{◌≡◌, ℕ, zero, suc, ◌+◌, ◌-◌, ◌*◌, ◌<◌, ◌≤◌, List, [], ◌∷◌, ◌++◌, length, get_or, take, drop, reverse, refl, sym, ap, ◌∙◌, arith}
-use Rattle.std.proofs.Common.{suc-mul, zero-mul, mul-le-mul, Bool, true, false, not, if◌then◌else◌}
+use Rattle.std.proofs.Common.{suc-mul, zero-mul, mul-le-mul, Bool, true, false, if◌then◌else◌}
 use Rattle.std.proofs.lemmas.List.{drop-append-le, drop-drop, length-append, length-drop, length-reverse, get_or-reverse, nil_from_length}
-use Rattle.std.proofs.lemmas.List.{reverse-reverse, take-append-le, take_all}
+use Rattle.std.proofs.lemmas.List.{take-append-le}
 use Rattle.pnm_image.specs.Images.{cut_rows}
 use Rattle.pnm_geometry_tools.specs.FlatRows.{rows_in, ordered_rows_in}
 
@@ -60,11 +60,6 @@ samples_added {X = X} (suc n) held more each samples rest new long same is size 
     let all : length samples ≡ suc n * each = long ∙ ap (λ (k : ℕ). suc n * k) (same (omega arith)) in
     omega (arith, ap length is, length-append samples rest, all, size)
 
--- the opposite order
-pub order_turned : {X : Type 0} (b : Bool) (n each : ℕ) (samples : List X) → ordered_rows_in (not b) n each samples ≡ reverse (ordered_rows_in b n each samples)
-order_turned true n each samples = sym (reverse-reverse (rows_in n each samples))
-order_turned false n each samples = refl
-
 -- where a row lies
 row_lies : {X : Type 0} (n each r : ℕ) (samples : List X) → r < n → get_or (rows_in n each samples) r [] ≡ take each (drop (r * each) samples)
 row_lies zero each r samples lt = absurd (omega arith)
@@ -103,10 +98,6 @@ place_within b n each r size is lt =
 pub rows_are_cut : (n each : ℕ) (samples : List ℕ) → rows_in n each samples ≡ cut_rows n each samples
 rows_are_cut zero each samples = refl
 rows_are_cut (suc n) each samples = ap (λ (l : List (List ℕ)). take each samples ∷ l) (rows_are_cut n each (drop each samples))
-
--- one row
-pub one_row : {X : Type 0} (samples : List X) (n : ℕ) → n ≡ length samples → rows_in 1 n samples ≡ samples ∷ []
-one_row {X = X} samples n is = ap (λ (l : List X). l ∷ []) (take_all n samples (omega (arith, is)))
 
 -- ---- a row of those that are held
 
