@@ -234,11 +234,6 @@ strip_kept {X = X} b width depth strips rows ordered strip count sizes order mad
           ∙ ap (λ (l : List (List X)). column_of depth l x) order);
     }
 
--- nothing is changed
-pub none_kept : {X : Type 0} (b : Bool) (width depth : ℕ) (strips rows : List (List X)) → HaveSizes width depth strips rows
-    → KeepColumns b width depth strips rows strips rows
-none_kept b width depth strips rows sizes = record { sizes = sizes; count = refl; same = λ x below. refl }
-
 -- what a strip's rows become
 pub kept_so : {X : Type 0} (b : Bool) (width depth : ℕ) (strips rows ordered : List (List X)) (strip : List X) (new_strips new_rows : List (List X))
     → length rows ≡ STRIP_ROWS → HaveSizes width depth strips rows → ordered ≡ in_order b rows
