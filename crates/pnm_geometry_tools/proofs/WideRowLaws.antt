@@ -134,7 +134,8 @@ widened_repeated across down count each s rows lent long wide made many size lis
 
 -- as many and as long as rows that come together are made of it
 pub together_held : (across down count each : ℕ) (s : Shape) (rows : List (List ℕ)) (held : RowVec) → count ≡ length rows → each ≡ row_length s
-    → AllByRecursion (IsRowOf s) rows → HoldsRows (length rows * down) (row_length s * across) (flat_map (replicate down) (map (enlarged_row across s) rows)) held
+    → AllByRecursion (IsRowOf s) rows → HoldsRows (length rows * down) (row_length s * across) (flat_map (replicate down) (map (enlarged_row across s) rows))
+    held
     → HoldsRows (count * down) (each * across) (flat_map (replicate down) (map (enlarged_row across s) rows)) held
     × AreRowsWithin s.maxval (row_lists (count * down) (each * across) held)
 together_held across down count each s rows held many size are h =

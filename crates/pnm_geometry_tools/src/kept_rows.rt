@@ -1,7 +1,7 @@
 //! Rows of an image that are kept, one after another.
 
-ghost use Rattle.std.specs.Prelude.{ℕ, ◌≡◌, ◌≤◌, ◌<◌, ◌+◌, ◌*◌, ◌^◌, ◌++◌, [], All, IfOk, OnOk, OnErr, length, map};
-ghost use Rattle.std.specs.Prelude.{take};
+ghost use Rattle.std.specs.Prelude.{ℕ, ◌≡◌, ◌≤◌, ◌<◌, ◌+◌, ◌*◌, ◌^◌, ◌++◌, [], All, IfOk, OnOk, OnErr, length};
+ghost use Rattle.std.specs.Prelude.{map, take};
 ghost use Rattle.pnm_image.specs.HeldRows.{AreRows, AreSliceRows, row_lists, slice_lists};
 ghost use Rattle.pnm_image.specs.Images.{cut_rows};
 ghost use Rattle.pnm_geometry_tools.specs.HeldRows.{HoldsRows, HoldsSame};
@@ -119,7 +119,8 @@ fn fronts_of(alloc: Global, rows: &Rows, count: usize, shown: usize) -> Result<R
     requires count { count ≤ length rows.now }
     requires within { All (λ row. shown ≤ length row) rows.now }
     ensures whole { IfOk result (λ fronts. AreRows count shown fronts) }
-    ensures rows { IfOk result (λ fronts. row_lists count shown fronts ≡ map (take shown) (take count rows.now)) }
+    ensures rows { IfOk result (λ fronts. row_lists count shown fronts
+        ≡ map (take shown) (take count rows.now)) }
 {
     let each = rows.row_length();
     match rows.as_slice() {
@@ -174,7 +175,8 @@ fn words_of(alloc: Global, rows: RowSlice<'_>) -> Result<Vec<u16>, AllocError>
     ensures whole { (count : ℕ) (each : ℕ) → AreSliceRows count each rows.entry
         → IfOk result (λ words. length words.items ≡ count * each) }
     ensures rows { (count : ℕ) (each : ℕ) → AreSliceRows count each rows.entry
-        → IfOk result (λ words. cut_rows count each words.items ≡ slice_lists count each rows.entry) }
+        → IfOk result (λ words. cut_rows count each words.items
+        ≡ slice_lists count each rows.entry) }
 {
     match rows {
         RowSlice::Bits(bits) => bytes_to_words(alloc, bits.to_bytes(alloc)?.as_slice()),

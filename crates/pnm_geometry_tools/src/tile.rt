@@ -141,7 +141,8 @@ fn tile_row<T: Copy>(
 fn repeat_samples<T: Copy>(tiled: &mut Vec<T>, start: usize, count: usize) -> Result<(), AllocError>
     requires some { 0 < count }
     requires within { start + count ≤ length tiled.old.items }
-    ensures { OnOk result (tiled.new.items ≡ tiled.old.items ++ take count (drop start tiled.old.items)) }
+    ensures { OnOk result (tiled.new.items
+        ≡ tiled.old.items ++ take count (drop start tiled.old.items)) }
 {
     let end = tiled.len();
     let sample = tiled[start];
@@ -188,7 +189,8 @@ fn tile_bytes(
     requires whole { (each % 8 ≡ 0) ⊎ (filled ≡ each) }
     requires fits { filled ≤ MAX_ROW_LENGTH }
     requires end { y + count < 2 ^ 32 }
-    ensures made { IfOk result (λ made. made ≡ map (row_of_tiles filled each 1 rows.now) (range_with_len y count)) }
+    ensures made { IfOk result (λ made. made
+        ≡ map (row_of_tiles filled each 1 rows.now) (range_with_len y count)) }
     ensures refused { IfErr result (λ fault. fault ≡ Memory) }
 {
     let (bytes, kept, _) = rows.parts();
@@ -216,7 +218,8 @@ fn tile_pixels(
     requires some { 0 < each }
     requires fits { filled ≤ MAX_ROW_LENGTH }
     requires end { y + count < 2 ^ 32 }
-    ensures made { IfOk result (λ made. made ≡ map (row_of_tiles filled each 1 rows.now) (range_with_len y count)) }
+    ensures made { IfOk result (λ made. made
+        ≡ map (row_of_tiles filled each 1 rows.now) (range_with_len y count)) }
     ensures refused { IfErr result (λ fault. fault ≡ Memory) }
 {
     let (_, kept, _) = rows.parts();
@@ -236,7 +239,8 @@ fn tile_pixels(
 fn tile_bit_row(tiled: &mut Bits, filled: u32, bytes: &[u8], each: u32) -> Result<(), AllocError>
     requires some { 0 < each }
     requires row { each ≤ 8 * length bytes.now }
-    ensures { OnOk result (tiled.new ≡ tiled.old ++ tiled_row filled each 1 (take each (all_pixels bytes.now))) }
+    ensures { OnOk result (tiled.new
+        ≡ tiled.old ++ tiled_row filled each 1 (take each (all_pixels bytes.now))) }
 {
     for _ in 0..filled / each {
         tiled.append_pixels(bytes, 0, each as usize)?;

@@ -3,8 +3,8 @@ use Rattle.pnm_image.specs.HeldRows.{slice_lists}
 use Rattle.pnm_geometry_tools.specs.SampleRows.{row_lists}
 use Rattle.pnm_geometry_tools.proofs.SampleRowLaws.{rows_are_added, rows_are_lent}
 use Rattle.pnm_geometry_tools.proofs.sample_rows.SampleRows.push_rows.Goals as goal
-use Rattle.pnm_geometry_tools.proofs.sample_rows.SampleRows.push_rows.Goals.{in-Bits-Bits, in-Bytes-Bytes, in-Words-Words, in_default, in_default-2}
-use Rattle.pnm_geometry_tools.proofs.sample_rows.SampleRows.push_rows.Goals.{in_default-3}
+use Rattle.pnm_geometry_tools.proofs.sample_rows.SampleRows.push_rows.Goals.{in-Bits-Bits, in-Bytes-Bytes, in-Words-Words}
+use Rattle.pnm_geometry_tools.proofs.sample_rows.SampleRows.push_rows.Goals.{in_default, in_default-2, in_default-3}
 
 pub returns-clause-added : goal.returns-clause-added
 returns-clause-added c =
