@@ -1,1 +1,1 @@
-mod HeldRows
+pub mod HeldRows

@@ -88,14 +88,14 @@ fn appended(alloc: Global, held: usize, start: usize, count: usize) -> Result<Bi
     Ok(bits)
 }
 
-/// The rows of a made-up image.
-fn image(alloc: Global, width: usize, height: usize) -> Result<BitRows, AllocError> {
+/// The bytes of the rows of a made-up image.
+fn image_bytes(alloc: Global, width: usize, height: usize) -> Result<Vec<u8>, AllocError> {
     let mut bytes = Vec::new(alloc);
     for y in 0..height {
         let row = bits_of(alloc, y, width)?;
         bytes.extend_from_slice(row.as_bytes())?;
     }
-    Ok(BitRows::new(bytes, height, width))
+    Ok(bytes)
 }
 
 /// So many columns of an image of this height, from this byte on.
@@ -109,8 +109,13 @@ fn columns_of(
         return Err(Unmade);
     }
     let width = 8 * byte + count;
+    let bytes = image_bytes(alloc, width, height)?;
+    if bytes.len() != height * width.div_ceil(8) {
+        return Err(Unmade);
+    }
+    let image = BitRows::new(bytes, height, width);
     let mut rows = PixelRows::new(alloc);
-    rows.push_rows(&image(alloc, width, height)?)?;
+    rows.push_rows(&image)?;
     Ok(columns(alloc, &rows, byte, count)?)
 }
 
