@@ -72,8 +72,9 @@ const MOST_EXCHANGED: u64 = 4096;
 
 /// How many samples a row has at most that the tool takes together with others which are held so, as far as can be told
 /// beforehand: 0 where it takes none so. It takes rows one by one all the same where they are bits of several planes
-/// that it would turn round, or bits of a maxval beyond 1, where it exchanges columns and rows of a tall image and they
-/// are long, and where there is no memory for the rows that it makes or keeps.
+/// that it would turn round, or bits of a maxval beyond 1, where it rescales samples by no table, but for words that
+/// stay words, where it exchanges columns and rows of a tall image and they are long, and where there is no memory for
+/// the rows that it makes or keeps.
 pub fn longest_together(tool: &Tool, sample_width: SampleWidth) -> u64 {
     match tool {
         Tool::Flip(way) if way.turn().exchanged => match sample_width {
