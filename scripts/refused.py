@@ -5,8 +5,8 @@
 for; N goes upward from 1, once with that one alone refused and once with all after it too. A run that met a refusal
 has to say so by the line that fits and to have written a prefix of the whole output: nothing where the status is 2 or
 a thread couldn't be started. It has to end in time, and with no thread left. Some runs do without one allocation that
-is refused alone, since rows of bits that come together are taken one by one then. Where the input is silent (`silent`),
-each refused start has to be answered before the silence ends. Tests of crates are refused each allocation too, since
+is refused alone, since rows that come together are taken one by one then. Where the input is silent (`silent`), each
+refused start has to be answered before the silence ends. Tests of crates are refused each allocation too, since
 they reach what no command does. Where there is no C compiler, the stored run alone is refused, by the toolchain,
 which builds the program anew for each turn, and starts of threads by the room that the process may take.
 """
@@ -145,7 +145,6 @@ WHOLE = [
 # the tools that copy or keep rows of these images which come together, and how many calls they make for that at most:
 # each row is taken by itself where one of them is refused
 COPYING = {
-    "pamflip -lr": 1,
     "pamflip -tb": 3,
     "pamflip -r180": 3,
     # of each image the list of its rows
@@ -155,10 +154,10 @@ COPYING = {
     "pnmtile 3 3": 3,
     "pamcut -left 1": 1,
     "pamcut -top 1 -height 1": 1,
-    "pamdepth 18": 7,
+    "pamdepth 18": 1,
     "pamchannel 0 0 -tupletype T": 4,
-    "pamenlarge 2": 6,
-    "pamenlarge -xscale 2": 3,
+    "pamenlarge 2": 8,
+    "pamenlarge -xscale 2": 5,
     "pamenlarge -yscale 2": 3,
 }
 
@@ -189,8 +188,8 @@ def commands_over(lanes):
 
     for facts, tools in ((ROW_WISE, (1, 0)), (WHOLE, (0, 1))):
         yield from (command(chain, STREAM, whole, *tools, spared=COPYING.get(chain, 0)) for chain, whole in facts)
-    yield command("pamflip -lr", EIGHT, TURNED, 1, 0, spared=1)
-    yield command("pamcut -left 3 | pamflip -lr", EIGHT, CUT_AND_TURNED, 1, 1, spared=2)
+    yield command("pamflip -lr", EIGHT, TURNED, 1, 0)
+    yield command("pamcut -left 3 | pamflip -lr", EIGHT, CUT_AND_TURNED, 1, 1, spared=1)
     yield command("pamenlarge 2 | pnminvert", gray(9, [7]), gray(9, [2, 2], [2, 2]), 1, 1)
     yield command("pamflip -xy", gray(9, [1, 2], [3, 4], [5, 6]), gray(9, [1, 3, 5], [2, 4, 6]), 0, 1, spared=1)
     yield command("pamflip -null", TYPED, pam(1, 1, b"A B", [1]), 1, 0)
