@@ -111,6 +111,14 @@ esac
 '''
 TOOLS = ("cc", "ld", "objcopy", "ar", "strip")
 
+# about how many lines the crates of this repository had once, in hundreds: what is begun first goes by these
+HUNDREDS = {
+    **{"pnm_streams": 1, "pnm_samples": 16, "pnm_image": 10, "pnm_read": 28, "pnm_tools": 9, "pnm_write": 17},
+    **{"pnm_row_tools": 18, "pnm_geometry_tools": 24, "pnm_filters": 7, "pnm_chain": 8, "pnm_stages": 11},
+    **{"pnm_lanes": 12, "pnm_serial": 12, "pnm_flow": 11, "pnm_command_line": 5, "pnmpipe": 1},
+    **{"pnm_memory": 5, "pnm_c": 1},
+}
+
 LINK = r'''#!/bin/sh
 [ "$FAULT" != link ] || exit 1
 while [ "$1" != -o ]; do shift; done
@@ -239,10 +247,12 @@ class Building(Repository):
         first.communicate()
 
     def begun(self, proved, at_work=(), number=4, most=4, targets=(build.PROGRAM,)):
-        """What a build of this repository begins once these are proved, on how many processors, beside others."""
+        """What a build of crates as this repository has begins once these are proved, on how many processors, beside
+        others."""
         toolchain = types.SimpleNamespace(sum=lambda name, sums: f"no sum of {name}")
         self.ways = {}
-        with unittest.mock.patch.dict(os.environ, {"RT_JOBS": str(number)}):
+        lines = unittest.mock.patch.object(build, "lines_of", HUNDREDS.get)
+        with lines, unittest.mock.patch.dict(os.environ, {"RT_JOBS": str(number)}):
             this = build.Build(toolchain, most, targets)
             this.done = set(proved)
             this.runs = [types.SimpleNamespace(name=name, jobs=jobs) for name, jobs in at_work]
