@@ -74,8 +74,8 @@ fn add_samples(message: &Message, row_length: usize, samples: &mut Vec<u16>) -> 
     Ok(())
 }
 
-/// The samples as so many rows of this length.
-fn cut_into(
+/// The samples as so many rows of this length, one at least.
+pub fn cut_into(
     alloc: Global,
     samples: Samples,
     count: usize,

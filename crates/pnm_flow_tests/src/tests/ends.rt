@@ -3,9 +3,9 @@
 use super::is_so;
 use super::rings::{holds, is_one_of, send_all};
 use pnm_flow::new_ring;
-use pnm_image::{Kind, Message, Parcel, RowVec, Rows, SampleVec, Samples};
+use pnm_image::{Kind, Message, Parcel, SampleVec, Samples};
 use pnm_stages::{Receiver, Sender};
-use pnm_test_support::{Part, message};
+use pnm_test_support::{Part, cut_into, message};
 use std::alloc::Global;
 use std::process::Abort;
 use std::sync::Wait;
@@ -93,15 +93,18 @@ fn send_bytes(
     is_together: bool,
 ) -> bool {
     let row = Vec::from_elem(alloc, 0, bytes as usize).expect(rt, "a row");
+    let samples = Samples::from_vec(SampleVec::Bytes(row));
     if !sender.has_room() {
         return false;
     }
-    if is_together && bytes > 0 {
-        sender.send_rows_reserved(Rows::new(RowVec::Bytes(row), 255, bytes, 1));
-    } else {
-        let samples = Samples::from_vec(SampleVec::Bytes(row));
+    if !is_together || bytes == 0 {
         sender.send_reserved(Message::Row(samples));
+        return true;
     }
+    let Ok(rows) = cut_into(alloc, samples, bytes as usize, 1) else {
+        return false;
+    };
+    sender.send_rows_reserved(rows);
     true
 }
 

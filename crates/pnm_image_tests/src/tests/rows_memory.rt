@@ -1,11 +1,13 @@
 //! Want of memory for rows that are handed over together. `scripts/refused.py tests` refuses each allocation of these
 //! tests in turn.
 
+ghost use Rattle.std.specs.Prelude.{◌<◌, length};
+
 use super::memory::{REST, answers_parts, start};
 use super::tools::WHOLE;
 use super::{holds, same};
 use pnm_filters::longest_together;
-use pnm_image::{Kind, Rows, SampleWidth};
+use pnm_image::{Kind, Rows, SampleSlice, SampleWidth};
 use pnm_test_support::{Part, rows_of};
 use pnm_tools::{CutBox, Filter, FlipWay, Tool};
 use std::alloc::Global;
@@ -139,11 +141,28 @@ pub(super) fn are_wanted(rt: &impl Abort, rows: &Rows, wants: &[Part<'_>], given
 }
 
 /// The samples of this one of the rows are those of the row.
-fn has_row(rt: &impl Abort, rows: &Rows, at: u32, row: &[u16]) {
+fn has_row(rt: &impl Abort, rows: &Rows, at: u32, row: &[u16])
+    requires { at < length rows.now }
+{
     let samples = rows.row_slice(at);
     holds(rt, rows.row_length() == row.len(), rows, &row, &at);
     for (x, sample) in row.iter().enumerate() {
-        holds(rt, samples.sample(x) == *sample, rows, &row, &x);
+        holds(rt, is_sample(samples, x, *sample), rows, &row, &x);
+    }
+}
+
+/// It is a sample of the row: of bits a black pixel, which is a set bit, is 0.
+fn is_sample(row: SampleSlice<'_>, x: usize, sample: u16) -> bool {
+    match row {
+        SampleSlice::Bits(bytes, _) => match bytes.get(x / 8) {
+            Some(byte) => (*byte >> (7 - x % 8) & 1 == 1) == (sample == 0),
+            None => false,
+        },
+        SampleSlice::Bytes(bytes) => match bytes.get(x) {
+            Some(byte) => u16::from(*byte) == sample,
+            None => false,
+        },
+        SampleSlice::Words(words) => words.get(x) == Some(&sample),
     }
 }
 
