@@ -8,8 +8,9 @@ Lines of documents have at most 100 columns; ARCHITECTURE.md has 25,000 bytes at
 of the README and of docs leads to a file, and to a heading of it. Each file and folder that a document names is there:
 a name without its folders is that of some file, and words like NAME and FILE stand for any. So is each item that it
 names by its crate, as `pnm_flow::run`, each script that a source, a page or a script names, each goal of the Makefile
-that one of all these names, and each edit that docs/PROMISES.md names. `make help` has each goal. Figures of the
-documents' tables are those of docs/figures.tsv, which `make bench` writes.
+that one of all these names, and each edit that docs/PROMISES.md names. Each word of docs/DEFINITIONS.md is defined in
+the file of its row, and each of its laws is one. `make help` has each goal. Figures of the documents' tables are those
+of docs/figures.tsv, which `make bench` writes.
 """
 
 import glob
@@ -211,6 +212,45 @@ def faults_of_names(path, text, ends):
             yield f"{path} names {name}, which isn't there"
 
 
+def is_defined(word, text):
+    """Whether a file of specs defines the word."""
+    return re.search(rf"^(?:(?:pub|abbrev|unfoldable|record|data) )+{word}(?: |$)", text, re.M) is not None
+
+
+def faults_of_words(path, text, specs):
+    """Words of tables that the file of their row doesn't define. Heads of sections name the crates."""
+    for crates, section in re.findall(r"^## .*?((?:`\w+/specs`(?:, )?)+).*\n((?:(?!## ).*\n)*)", text, re.M):
+        for words, file in re.findall(r"^\| (`[^|]+`) \|[^|]*\| `(\w+)` \|$", section, re.M):
+            texts = [specs.get((crate, file), "") for crate in re.findall(r"`(\w+)/", crates)]
+            for word in re.findall(r"\w+", words):
+                if not any(is_defined(word, text) for text in texts):
+                    yield f"{path} has {word} in {file}, which doesn't define it"
+
+
+def faults_of_laws(path, text, specs, laws):
+    """Laws that no function of the crate's `laws` states by a word of the file that is named behind them."""
+    for crate, section in re.findall(r"^## .*?`(\w+)/specs`.*\n((?:(?!## ).*\n)*)", text, re.M):
+        for paragraph in re.findall(r"^Laws: ((?:.+\n)+)", section, re.M):
+            for names, file in re.findall(r"((?:`\w+`,?\s+)+)\(`(\w+)`\)", paragraph):
+                for name in re.findall(r"\w+", names):
+                    clauses = re.findall(rf"\bfn {name}\(\)((?:.|\n)*?)\n\{{", laws.get(crate, ""))
+                    cited = re.findall(r"\w+", clauses[0]) if clauses else []
+                    if not any(is_defined(word, specs.get((crate, file), "")) for word in cited):
+                        yield f"{path} has the law {name} of {file}, which isn't there"
+
+
+def faults_of_definitions():
+    """What docs/DEFINITIONS.md names that isn't defined, or no law, where it says."""
+    path, specs, laws = "docs/DEFINITIONS.md", {}, {}
+    for file in glob.glob(os.path.join(ROOT, "crates/*/specs/*.antt")):
+        crate, name = file.split(os.sep)[-3], os.path.basename(file)[: -len(".antt")]
+        specs[crate, name] = read(file)
+    for file in glob.glob(os.path.join(ROOT, "crates/*/src/laws.rt")):
+        laws[file.split(os.sep)[-3]] = read(file)
+    yield from faults_of_words(path, read(path), specs)
+    yield from faults_of_laws(path, read(path), specs, laws)
+
+
 ITEM = re.compile(r"(pnm_\w+|pnmpipe)(?:::\w+)*::(\w+)")
 
 
@@ -263,6 +303,7 @@ def faults_of_documents():
     files, known = list(all_files()), goals()
     ends = ends_of(files)
     found = [*faults_of_edits(), *faults_of_help(known), *faults_of_sources(files, ends, known)]
+    found += faults_of_definitions()
     for path in DOCUMENTS:
         text = read(path)
         for number, line in enumerate(text.split("\n"), 1):

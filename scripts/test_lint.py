@@ -1,7 +1,7 @@
 #!/usr/bin/env python3
 """Tests of lint: what is just within each limit of sources passes, one line or column more is told, and so is a file
-that rt fmt would change, which stays as it is; and which names, goals and links of documents are looked up, and told
-where they lead nowhere. `make scripts` runs it."""
+that rt fmt would change, which stays as it is; and which names, goals, links, words and laws of documents are looked
+up, and told if they lead nowhere. `make scripts` runs it."""
 
 import os
 import tempfile
@@ -113,6 +113,28 @@ class Documents(unittest.TestCase):
         text = "`pnm_flow::run`, `pnm_flow::runs`, `pnm_none::run`, `a::b`"
         told = list(lint_documents.faults_of_items("page", text))
         self.assertEqual([it.split()[2] for it in told], ["pnm_flow::runs,", "pnm_none::run,"])
+
+    def test_words(self):
+        text = "abbrev pub cut : ℕ\npub record IsRow (n : ℕ) : Type 0 where\n-- pub abbrev said : ℕ\n"
+        specs = {("pnm_a", "Rows"): text}
+        page = "## Rows (`pnm_a/specs`)\n\n| `cut`, `IsRow` | what | `Rows` |\n"
+        self.assertEqual(list(lint_documents.faults_of_words("page", page, specs)), [])
+        for word, file in (("cu", "Rows"), ("said", "Rows"), ("n", "Rows"), ("cut", "Cuts")):
+            told = list(lint_documents.faults_of_words("page", f"{page}| `{word}` | what | `{file}` |\n", specs))
+            self.assertEqual(told, [f"page has {word} in {file}, which doesn't define it"])
+        other = page.replace("pnm_a", "pnm_b")
+        self.assertEqual(len(list(lint_documents.faults_of_words("page", other, specs))), 2)
+        both = page.replace("`pnm_a/specs`", "`pnm_b/specs`, `pnm_a/specs`")
+        self.assertEqual(list(lint_documents.faults_of_words("page", both, specs)), [])
+
+    def test_laws(self):
+        specs = {("pnm_a", "Laws"): "abbrev pub RowsHold : Type 0\n", ("pnm_a", "More"): ""}
+        laws = {"pnm_a": "pub fn rows_hold()\n    ensures { RowsHold }\n{}\n"}
+        page = "## Rows (`pnm_a/specs`)\n\nLaws: `rows_hold`\n(`Laws`).\n"
+        self.assertEqual(list(lint_documents.faults_of_laws("page", page, specs, laws)), [])
+        for right, wrong in (("`Laws`", "`More`"), ("rows_hold", "rows"), ("pnm_a", "pnm_b")):
+            told = list(lint_documents.faults_of_laws("page", page.replace(right, wrong), specs, laws))
+            self.assertEqual(len(told), 1)
 
     def test_code_goes_on_in_the_next_line(self):
         self.assertEqual(lint_documents.code_in("so `make\nscripts` does\n"), ["make scripts"])
