@@ -5,7 +5,7 @@ import re
 from array import array
 from functools import lru_cache
 
-from case_text import Apart, Sweep, changes, is_row, numbers_in, parts_in, text_of
+from case_text import Sweep, changes, is_row, numbers_in, parts_in, text_of
 from chain_text import ChainFault, read_chain
 from slow_reader import Fault, tell, tell_head
 from slow_tools import Filter, Tool, is_lawful, is_row_wise, named_tool, printed, result_head, written_tool
@@ -67,8 +67,7 @@ class Lines:
             return wants[0]
         if word == "held":
             return HeldByEach(wants)
-        told = changes([str(it) for it in wants])
-        return Apart(told) if "{" in rest else told
+        return changes([str(it) for it in wants])
 
 
 def want_of_tool(tool, word, rest):
@@ -86,8 +85,7 @@ def want_of_tool(tool, word, rest):
         return Held(steps_of(tool, text))
     if word == "lane" and not is_row_wise(tool):
         return " no case"
-    told = tell(steps_of(tool, text))
-    return Apart(told) if "{" in text else told
+    return tell(steps_of(tool, text))
 
 
 def judged_tool(tool):

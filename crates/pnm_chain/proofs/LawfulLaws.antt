@@ -9,6 +9,7 @@ use Rattle.std.proofs.lemmas.List.Elements.{All-cons, All-nil}
 use Rattle.std.proofs.lemmas.List.Splits.{length-slice_split}
 use Rattle.std.proofs.lemmas.Bool.Decides.{nat_tests}
 use Rattle.std.proofs.lemmas.Bool.{and_parts, and_from, or_parts, leb-true, ltb-false, eqb-true, not-true, both_ways, false≢true}
+use Rattle.pnm_image.specs.declared.limits.TheConstants.{MAX_DEPTH, MAX_MAXVAL, MAX_TUPLE_TYPE_LENGTH}
 use Rattle.pnm_image.specs.Heads.{IsTupleType}
 use Rattle.pnm_image.specs.Texts.{is_blank, is_white, begins_in_word, onto_first as onto_word, words, decimal_value}
 use Rattle.pnm_image.proofs.Words.{words_by, words-cons, words-nil}
@@ -22,7 +23,7 @@ use Rattle.pnm_chain.specs.declared.options.ToolName.TheVariants.{Invert, Cut, D
 use Rattle.pnm_chain.specs.declared.options.ToolOption.{ToolOption}
 use Rattle.pnm_chain.specs.declared.options.ToolOption.TheVariants.{Left, Right, Top, Bottom, Width, Height, TupleType, XScale, YScale, Way}
 use Rattle.pnm_chain.specs.Options.{option_named, wants_value, takes_value, slot_of, excludes, takes_argument, most_arguments, is_numeral, spells_number}
-use Rattle.pnm_chain.specs.Options.{spells_offset, offset_value, begins_with_dash, without_dash}
+use Rattle.pnm_chain.specs.Options.{spells_plane, spells_offset, offset_value, begins_with_dash, without_dash}
 use Rattle.pnm_chain.specs.Items.{Item, Argument, Given, Unknown, without_dashes, name_in, value_in, takes_next, given_as, item_of, items_of, arguments_of}
 use Rattle.pnm_chain.specs.Items.{option_value, is_there, factor_by, meant_by, IsFormed, is_conflict, is_missing}
 use Rattle.pnm_chain.specs.ChainText.{SpellsTool, SpellTools, SpellsChain, stage_texts}
@@ -171,9 +172,12 @@ second_of_two [] all e = absurd cc
 second_of_two (word ∷ []) all e = absurd cc
 second_of_two (word ∷ other ∷ args) all e = in_range 1 MAX_EXTENT other all.1.0
 
-planes_in_range : (args : List (List ℕ)) → AllByRecursion (λ word. spells_number 0 255 word ≡ true) args → All (λ number. number ≤ 255) (map decimal_value args)
-planes_in_range [] all = All-nil (λ number. number ≤ 255)
-planes_in_range (word ∷ args) all = All-cons (λ number. number ≤ 255) (decimal_value word) (map decimal_value args) (in_range 0 255 word all.0).1
+abbrev IsPlane : ℕ → Type 0
+IsPlane number = number ≤ MAX_DEPTH - 1
+
+planes_in_range : (args : List (List ℕ)) → AllByRecursion (λ word. spells_plane word ≡ true) args → All IsPlane (map decimal_value args)
+planes_in_range [] all = All-nil IsPlane
+planes_in_range (word ∷ args) all = All-cons IsPlane (decimal_value word) (map decimal_value args) (in_range 0 (MAX_DEPTH - 1) word all.0).1
     (planes_in_range args all.1)
 
 scale_in_range : (scale : Option (List ℕ)) → IfSome scale (λ word. spells_number 1 MAX_EXTENT word ≡ true) → (1 ≤ unwrap_or (option_map decimal_value scale) 1)
@@ -307,7 +311,7 @@ no_line_end b e = grind (arith, nat_tests)
 no_blank : (b : ℕ) → is_white b ≡ false → is_blank b ≡ false
 no_blank b e = grind (arith, nat_tests)
 
-is_tuple_type : (word : List ℕ) → no_white word ≡ true → length word ≤ 255 → IsTupleType word
+is_tuple_type : (word : List ℕ) → no_white word ≡ true → length word ≤ MAX_TUPLE_TYPE_LENGTH → IsTupleType word
 is_tuple_type word e short =
     let all = each_black word e in
     record {
@@ -320,7 +324,7 @@ is_tuple_type word e short =
 some_tuple_type : (value : Option (List ℕ)) → IfSome value (λ word. takes_value TupleType word ≡ true) → IfSome value (λ word. no_white word ≡ true)
     → IsTupleType (unwrap_or value [])
 some_tuple_type None h k = is_tuple_type [] refl (omega arith)
-some_tuple_type (Some word) h k = is_tuple_type word k (leb-true (length word) 255 h)
+some_tuple_type (Some word) h k = is_tuple_type word k (leb-true (length word) MAX_TUPLE_TYPE_LENGTH h)
 
 -- ---- a tool
 
@@ -337,10 +341,10 @@ lawful Cut items clear formed many together more =
       rows = axis (option_value Top items) (option_value Bottom items) (option_value Height items) (values_taken Cut Top items refl formed)
           (values_taken Cut Bottom items refl formed) (values_taken Cut Height items refl formed) free.1;
     }
-lawful Depth items clear formed many together more = first_in_range 1 65535 (arguments_of items) (arguments_taken Depth items formed) more
+lawful Depth items clear formed many together more = first_in_range 1 MAX_MAXVAL (arguments_of items) (arguments_taken Depth items formed) more
 lawful Channel items clear formed many together more = record {
   some = subst (λ (n : ℕ). 1 ≤ n) (sym (length-map (arguments_of items) decimal_value)) (ltb-false (length (arguments_of items)) 1 more);
-  not_many = subst (λ (n : ℕ). n ≤ 256) (sym (length-map (arguments_of items) decimal_value)) many;
+  not_many = subst (λ (n : ℕ). n ≤ MAX_DEPTH) (sym (length-map (arguments_of items) decimal_value)) many;
   in_range = planes_in_range (arguments_of items) (arguments_taken Channel items formed);
   tuple_type = some_tuple_type (option_value TupleType items) (values_taken Channel TupleType items refl formed) (value_clear TupleType items clear);
 }

@@ -20,8 +20,8 @@ use Rattle.pnm_chain.specs.declared.settings.Settings.{Settings}
 use Rattle.pnm_chain.specs.Options.{excludes, most_arguments, offset_value, takes_argument, way_in, wants_value}
 use Rattle.pnm_chain.specs.Items.{Item, Argument, Given, Unknown, arguments_of, option_value, is_there, way_of, option_number, box_of, numbers_of, item_fault}
 use Rattle.pnm_chain.specs.Items.{value_fault}
-use Rattle.pnm_chain.specs.Settings.{AreArgumentsOf, AreSettingsOf, IsWithArgument, argument_fault, first_free, has_all_arguments, has_option, value_read}
-use Rattle.pnm_chain.specs.Settings.{with_option}
+use Rattle.pnm_chain.specs.Settings.{AreArgumentsOf, AreSettingsOf, IsWithArgument, argument_fault, first_free, has_all_arguments, has_all_planes, has_option}
+use Rattle.pnm_chain.specs.Settings.{value_read, with_option}
 use Rattle.pnm_chain.proofs.ItemSteps.{or_none}
 use Rattle.pnm_chain.proofs.ItemLaws.{arguments_of-append, argument_free}
 
@@ -295,7 +295,7 @@ full_at : (tool : ToolName) (numbers : List ℕ) (s : Settings) → AreArguments
 full_at Invert numbers s h = none_wanted (length numbers)
 full_at Cut numbers s h = none_wanted (length numbers)
 full_at Depth numbers s h = ap (λ (one : Option ℕ). is_some one) h ∙ one_there numbers
-full_at Channel numbers s h = ap (λ (ns : List ℕ). nat_le 256 (length ns)) h
+full_at Channel numbers s h = ap has_all_planes h
 full_at Enlarge numbers s h = ap (λ (one : Option ℕ). is_some one) h ∙ one_there numbers
 full_at Flip numbers s h = none_wanted (length numbers)
 full_at Tile numbers s h =

@@ -13,7 +13,7 @@ use Rattle.pnm_image.specs.declared.place.Place.TheVariants.{Between, Inside, Af
 use Rattle.pnm_image.specs.Places.{IsLawfulFrom, place_after, place_of}
 use Rattle.pnm_image.proofs.Places.{place_of-append}
 use Rattle.pnm_tools.specs.declared.fault.ToolFault.{ToolFault}
-use Rattle.pnm_filters.specs.Pendings.{Pending, AllGiven, Waiting, Rows, RowsAndEnd, Nothing}
+use Rattle.pnm_filters.specs.Pendings.{Pending, AllGiven, Waiting, Rows, RowsAndEnd, Nothing, OwesNothing}
 use Rattle.pnm_tools.specs.declared.tool.Tool.{Tool}
 use Rattle.pnm_image.specs.declared.message.Ending.TheVariants.{More, BrokenOff}
 use Rattle.pnm_image.specs.Messages.{EndsBy}
@@ -50,6 +50,34 @@ ended tool_at ready_for due kept old new before ending none same gone = record {
   tool = same;
   ready = λ place rows keeps r. none_inside ready_for kept old new place rows (subst (KeepsNone kept old place) ending keeps) r;
   none = λ place keeps. none_kept kept old new place gone (subst (KeepsNone kept old place) ending keeps);
+}
+
+-- nothing waited, and that is told
+none_told : {W : Type 0} (kept : W → List (List ℕ)) (work : W) (place : Place) (before : Pending) → OwesNothing before → KeepsNone kept work place before
+    → KeepsNone kept work place AllGiven
+none_told kept work place AllGiven owes keeps = keeps
+none_told kept work place (Waiting message) owes keeps = absurd owes
+none_told kept work place Rows owes keeps = absurd owes
+none_told kept work place RowsAndEnd owes keeps = absurd owes
+none_told kept work Between Nothing owes keeps = keeps
+none_told kept work (Inside s y) Nothing owes keeps = keeps
+none_told kept work After Nothing owes keeps = keeps
+
+nothing_waits : (before : Pending) (due : List (List ℕ)) → OwesNothing before → waiting_in before due ≡ []
+nothing_waits AllGiven due owes = refl
+nothing_waits (Waiting message) due owes = absurd owes
+nothing_waits Rows due owes = absurd owes
+nothing_waits RowsAndEnd due owes = absurd owes
+nothing_waits Nothing due owes = refl
+
+pub told_given : {W : Type 0} (tool_at : W → Tool) (ready_for : W → Shape → List (List ℕ) → Type 0) (due kept : W → List (List ℕ)) (work : W)
+    (before after : Pending) → OwesNothing before → after ≡ AllGiven → IsGiven tool_at ready_for due kept work before work after None
+told_given tool_at ready_for due kept work before after owes told = record {
+  waits = nothing_waits before (due work) owes ∙ sym (ap (λ (p : Pending). waiting_in p (due work)) told);
+  told = told;
+  tool = refl;
+  ready = λ place rows keeps r. r;
+  none = λ place keeps. subst (KeepsNone kept work place) (sym told) (none_told kept work place before owes keeps);
 }
 
 -- the first of the messages that waited are given

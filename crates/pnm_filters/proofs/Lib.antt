@@ -2,4 +2,4 @@ pub mod StateSteps
 pub mod GivingSteps
 pub mod RowStateSteps
 pub mod StartSteps
-pub mod PassingSteps
+pub mod TakingSteps

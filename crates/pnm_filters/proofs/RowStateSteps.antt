@@ -1,9 +1,9 @@
 -- A row-wise tool at work in a lane takes and gives messages as the tool does.
 use Rattle.std.proofs.Common.{◌≡◌, ℕ, Bool, true, List, [], ◌∷◌, ◌++◌, Option, Some, None, Result, Ok, Err, OnOk, IfOk, IfSome, IfNone}
+use Rattle.std.specs.Prelude.{OnErr}
 use Rattle.pnm_image.specs.declared.message.Message.{Message}
 use Rattle.pnm_image.specs.declared.parcel.Parcel.{Parcel}
 use Rattle.pnm_image.specs.Parcels.{messages_in}
-use Rattle.pnm_tools.specs.Answering.{rows_list}
 use Rattle.pnm_tools.specs.declared.fault.ToolFault.{ToolFault}
 use Rattle.pnm_filters.specs.declared.row_state.RowState.{RowState}
 use Rattle.pnm_tools.specs.declared.tool.Tool.{Tool}
@@ -11,7 +11,7 @@ use Rattle.pnm_filters.specs.declared.any_tool.AnyTool.{AnyTool}
 use Rattle.pnm_image.specs.declared.message.Ending.TheVariants.{BrokenOff}
 use Rattle.pnm_image.specs.Messages.{EndsBy}
 use Rattle.pnm_image.specs.Rows.{row_messages}
-use Rattle.pnm_tools.specs.Answers.{AnswersInFull}
+use Rattle.pnm_tools.specs.Answers.{AnswersInFull, RowsMayCome}
 use Rattle.pnm_filters.specs.RowStates.{IsRowWiseAt}
 use Rattle.pnm_filters.specs.States.{Standing, IsToolAt, is_all_given}
 
@@ -59,13 +59,27 @@ lane_is_full (Ok (Some p)) old new full = full
 lane_is_full (Ok None) old new full = (full.0, λ t l g at. let both = full.1 t l g at.state in (record { state = both.0; row_wise = at.row_wise }, both.1))
 lane_is_full (Err fault) old new full = full
 
--- rows were passed
-pub lane_passes : (r : Result (Option (List (List ℕ))) (List (List ℕ))) (old new : Standing AnyTool) (rows : List (List ℕ))
-    → IfOk r (λ made. (t : Tool) (l g : List Message) → IsToolAt old t l g
-    → IsToolAt new t (l ++ row_messages rows) (g ++ row_messages (rows_list made))
-    × AnswersInFull t (l ++ row_messages rows) (g ++ row_messages (rows_list made)))
-    → IfOk r (λ made. (t : Tool) (l g : List Message) → IsRowWiseAt (lane_of old) t l g
-    → IsRowWiseAt (lane_of new) t (l ++ row_messages rows) (g ++ row_messages (rows_list made))
-    × AnswersInFull t (l ++ row_messages rows) (g ++ row_messages (rows_list made)))
-lane_passes (Ok made) old new rows passes = λ t l g at. let both = passes t l g at.state in (record { state = both.0; row_wise = at.row_wise }, both.1)
-lane_passes (Err same) old new rows passes = passes
+-- ---- rows were fed together
+
+-- and taken
+pub lane_takes_rows : (r : Result (Result (Unit {0}) ToolFault) (List (List ℕ))) (old new : Standing AnyTool) (rows : List (List ℕ))
+    → IfOk r (λ fed. OnOk fed ((t : Tool) (l g : List Message) → IsToolAt old t l g → IsToolAt new t (l ++ row_messages rows) g))
+    → IfOk r (λ fed.
+    OnOk fed ((t : Tool) (l g : List Message) → IsRowWiseAt (lane_of old) t l g → IsRowWiseAt (lane_of new) t (l ++ row_messages rows) g))
+lane_takes_rows (Ok (Ok done)) old new rows takes = λ t l g at. record { state = takes t l g at.state; row_wise = at.row_wise }
+lane_takes_rows (Ok (Err fault)) old new rows takes = takes
+lane_takes_rows (Err same) old new rows takes = takes
+
+-- they could come
+pub lane_rows_come : (r : Result (Result (Unit {0}) ToolFault) (List (List ℕ))) (old : Standing AnyTool) (rows : List (List ℕ))
+    → OnOk r ((t : Tool) (l g : List Message) → IsToolAt old t l g → RowsMayCome (is_all_given old.pending) l rows)
+    → OnOk r ((t : Tool) (l g : List Message) → IsRowWiseAt (lane_of old) t l g → RowsMayCome (is_all_given old.pending) l rows)
+lane_rows_come (Ok fed) old rows come = λ t l g at. come t l g at.state
+lane_rows_come (Err same) old rows come = come
+
+-- or not all of them could
+pub lane_gives_back : (r : Result (Result (Unit {0}) ToolFault) (List (List ℕ))) (old : Standing AnyTool) (rows : List (List ℕ))
+    → OnErr r (old.fault ≡ None → (t : Tool) (l g : List Message) → IsToolAt old t l g → RowsMayCome (is_all_given old.pending) l rows → ⊥)
+    → OnErr r (old.fault ≡ None → (t : Tool) (l g : List Message) → IsRowWiseAt (lane_of old) t l g → RowsMayCome (is_all_given old.pending) l rows → ⊥)
+lane_gives_back (Ok fed) old rows back = back
+lane_gives_back (Err same) old rows back = λ none t l g at. back none t l g at.state

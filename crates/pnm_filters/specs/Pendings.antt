@@ -13,6 +13,14 @@ pub data Pending : Type 0 where
   RowsAndEnd : Pending
   Nothing : Pending
 
+-- no message waits, and no row could
+abbrev pub OwesNothing : Pending → Type 0
+OwesNothing AllGiven = Unit {0}
+OwesNothing (Waiting message) = ⊥
+OwesNothing Rows = ⊥
+OwesNothing RowsAndEnd = ⊥
+OwesNothing Nothing = Unit {0}
+
 -- what is owed, where this message waits
 abbrev pub pending_of : Owed → Option Message → Pending
 pending_of Told waiting = AllGiven

@@ -17,9 +17,10 @@ use Rattle.pnm_filters.specs.declared.any_tool.AnyTool.TheVariants.{FlippingRows
 use Rattle.pnm_tools.specs.Answers.{Answers}
 use Rattle.pnm_tools.specs.FusedFilters.{FilterAt}
 use Rattle.pnm_tools.specs.declared.fused_filter.FusedFilter.{FusedFilter}
-use Rattle.pnm_tools.specs.Answering.{IsAnswering, row_list, rows_come}
+use Rattle.pnm_tools.specs.Answering.{IsAnswering, rows_come, rows_list}
 use Rattle.pnm_row_tools.specs.Keeping.{cut_of, maxval_of, HasSpans, HasTable, FlipsInRows, IsReversingRows}
-use Rattle.pnm_geometry_tools.specs.Keeping.{across_of, down_of, kept_row, IsEnlarging, IsTransposing}
+use Rattle.pnm_geometry_tools.specs.Enlarging.{IsEnlarging}
+use Rattle.pnm_geometry_tools.specs.Keeping.{across_of, down_of, kept_rows, IsTransposing}
 use Rattle.pnm_row_tools.specs.Keeping.{reversed_due}
 use Rattle.pnm_geometry_tools.specs.Keeping.{IsTiling, enlarged_due, transposed_due, tiled_due}
 use Rattle.pnm_tools.specs.Channel.{HasPlanes}
@@ -35,9 +36,9 @@ pub record Worker : Type 1 where
   pub kept : List (List ℕ)
   pub ready : Shape → List (List ℕ) → Type 0
 
--- a tool that has made at most one row, which it still gives
-abbrev pub by_row : Tool → Option (List ℕ) → (Shape → Type 0) → Worker
-by_row tool made ready = record { tool = tool; due = row_list made; kept = row_list made; ready = λ s rows. ready s }
+-- a tool that makes rows of rows, and still gives those that it has made
+abbrev pub by_row : Tool → Option (List (List ℕ)) → (Shape → Type 0) → Worker
+by_row tool made ready = record { tool = tool; due = rows_list made; kept = rows_list made; ready = λ s rows. ready s }
 
 abbrev pub worker : AnyTool → Worker
 worker (Inverting w) = by_row Invert w.made IsWithinLimits
@@ -48,7 +49,7 @@ worker (Enlarging w) =
     record {
       tool = Enlarge (across_of w) (down_of w);
       due = enlarged_due w;
-      kept = row_list (kept_row w);
+      kept = kept_rows w;
       ready = λ s rows. IsEnlarging (across_of w) s;
     }
 worker (FlippingRows w) = by_row (Flip w.tool) w.made (FlipsInRows w.tool)

@@ -14,7 +14,7 @@ use Rattle.pnm_tools.specs.declared.fault.ToolFault.TheVariants.{OutOfOrder, Mem
 use Rattle.pnm_filters.specs.Pendings.{Pending, AllGiven, Waiting, Rows, RowsAndEnd, Nothing}
 use Rattle.pnm_tools.specs.declared.tool.Tool.{Tool}
 use Rattle.pnm_tools.specs.Answers.{Begins, RefusesHead}
-use Rattle.pnm_tools.specs.Answering.{answers_at, rows_after, rows_answer, rows_list}
+use Rattle.pnm_tools.specs.Answering.{answers_at, rows_after, rows_answer}
 use Rattle.pnm_filters.specs.States.{is_all_given, waiting_in, IsReadyFor, KeepsNone}
 
 -- ---- a message is fed, at a place
@@ -51,11 +51,11 @@ Answered tool_at ready_for due kept all_given old from m new to pending (Ok _) =
 Answered tool_at ready_for due kept all_given old from m new to pending (Err fault) =
     IsRefused tool_at all_given old from m fault × (tool_at new ≡ tool_at old)
 
--- ---- rows are passed, from a place on
+-- ---- rows are taken, from a place on
 
--- the rows that answer them are made, whatever rows of the image have come before them
-pub record ArePassed {W : Type 0} (tool_at : W → Tool) (ready_for : W → Shape → List (List ℕ) → Type 0) (old : W)
-    (from : Place) (rows : List (List ℕ)) (new : W) (to : Place) (made : Option (List (List ℕ))) : Type 0 where
+-- the rows that answer them are due, whatever rows of the image have come before them
+pub record AreTakenRows {W : Type 0} (tool_at : W → Tool) (ready_for : W → Shape → List (List ℕ) → Type 0)
+    (due : W → List (List ℕ)) (old : W) (from : Place) (rows : List (List ℕ)) (new : W) (to : Place) : Type 0 where
   pub shape : Shape
   pub y : ℕ
   pub inside : from ≡ Inside shape y
@@ -63,7 +63,7 @@ pub record ArePassed {W : Type 0} (tool_at : W → Tool) (ready_for : W → Shap
   pub tool : tool_at new ≡ tool_at old
   pub place : to ≡ place_of from (row_messages rows)
   pub ready : (come : List (List ℕ)) → ready_for old shape come → ready_for new shape (come ++ rows)
-  pub answers : rows_answer (tool_at old) shape y rows ≡ rows_list made
+  pub answers : due new ≡ rows_answer (tool_at old) shape y rows
 
 -- ---- a message is given
 

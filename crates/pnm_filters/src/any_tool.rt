@@ -1,7 +1,7 @@
 //! A tool at work, whichever it is.
 
 use pnm_geometry_tools::{Enlarger, Tiler, Transposer};
-use pnm_image::{Head, Rows, Samples, Shape};
+use pnm_image::{Head, Rows, Shape};
 use pnm_row_tools::{ByRow, Cutter, Inverter, Rescaler, RowFlipper, RowReverser};
 use pnm_tools::{ImageTool, Planes, ToolFault};
 use std::alloc::Global;
@@ -62,19 +62,8 @@ impl ImageTool for AnyTool {
         with_tool!(self, work => work.begin(alloc, head))
     }
 
-    fn take(&mut self, alloc: Global, shape: Shape, y: u32, row: Samples) -> Result<(), ToolFault> {
-        with_tool!(self, work => work.take(alloc, shape, y, row))
-    }
-
-    #[inline(never)]
-    fn rows(
-        &mut self,
-        alloc: Global,
-        shape: Shape,
-        y: u32,
-        rows: Rows,
-    ) -> Result<Option<Rows>, Rows> {
-        with_tool!(self, work => work.rows(alloc, shape, y, rows))
+    fn take(&mut self, alloc: Global, shape: Shape, y: u32, rows: Rows) -> Result<(), ToolFault> {
+        with_tool!(self, work => work.take(alloc, shape, y, rows))
     }
 
     #[inline(never)]
@@ -86,10 +75,6 @@ impl ImageTool for AnyTool {
     #[inline(always)]
     fn give(&mut self, alloc: Global) -> Result<Option<Rows>, ToolFault> {
         with_tool!(self, work => work.give(alloc))
-    }
-
-    fn may_give(&self) -> bool {
-        with_tool!(self, work => work.may_give())
     }
 
     #[inline(never)]

@@ -11,4 +11,4 @@ mod tool_state;
 pub use head::result_head;
 pub use row_state::{RowState, RowWise, row_filter_of, start_rows};
 pub use tool_methods::StartTool;
-pub use tool_state::{ToolState, filter_of, longest_together, start_tool};
+pub use tool_state::{ToolState, filter_of, start_tool};

@@ -50,8 +50,8 @@ impl Filter for RowState {
         self.state.gave_all()
     }
 
-    fn pass_rows(&mut self, rows: Rows) -> Result<Option<Rows>, Rows> {
-        self.state.pass_rows(rows)
+    fn feed_rows(&mut self, rows: Rows) -> Result<Result<(), ToolFault>, Rows> {
+        self.state.feed_rows(rows)
     }
 }
 

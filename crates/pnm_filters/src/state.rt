@@ -1,10 +1,14 @@
 //! A tool at work on a stream: the place, what is still to be given, and the fault that stays.
 
-ghost use Rattle.std.specs.Prelude.{ℕ, ◌≡◌, true, false, Some, None, List, [], length, IfOk, IfErr};
-ghost use Rattle.pnm_filters.specs.Pendings.{AllGiven, pending_of, after_one, is_told};
+ghost use Rattle.std.specs.Prelude.{ℕ, ◌≡◌, ◌≤◌, true, false, Option, Some, None, List, [], length, OnOk, IfErr};
+ghost use Rattle.pnm_image.specs.declared.message.Message.{Message as MessageValue};
+ghost use Rattle.pnm_image.specs.Places.{IsLawfulFrom};
+ghost use Rattle.pnm_image.specs.Rows.{row_messages};
+ghost use Rattle.pnm_tools.specs.declared.fault.ToolFault.TheVariants.{Memory};
+ghost use Rattle.pnm_filters.specs.Pendings.{AllGiven, OwesNothing, pending_of, after_one, is_told};
 ghost use Rattle.pnm_filters.specs.States.{waiting_in, is_all_given, IsReadyFor};
 ghost use Rattle.pnm_tools.specs.Tools.{IsLawfulTool};
-ghost use Rattle.pnm_filters.specs.Steps.{Answered, ArePassed, Gave, IsGiven};
+ghost use Rattle.pnm_filters.specs.Steps.{Answered, AreTakenRows, Gave};
 
 use pnm_image::{Message, Parcel, Place, Rows};
 use pnm_tools::{Filter, ImageTool, ToolFault};
@@ -108,14 +112,24 @@ impl<T: ImageTool> Filter for State<T> {
     }
 
     fn gave_all(&mut self) -> bool {
-        tell(&self.work, &mut self.owed, &self.waiting)
+        tell(&mut self.owed)
     }
 
-    fn pass_rows(&mut self, rows: Rows) -> Result<Option<Rows>, Rows> {
-        if self.fault.is_some() || !is_told(self.owed) {
+    fn feed_rows(&mut self, rows: Rows) -> Result<Result<(), ToolFault>, Rows> {
+        if self.fault.is_some() || !is_told(self.owed) || !self.place.accepts_rows(&rows) {
             return Err(rows);
         }
-        pass(self.alloc, &mut self.work, &mut self.place, rows)
+        match take_rows(self.alloc, &mut self.work, &mut self.place, rows) {
+            Ok(()) => {
+                self.owed = Owed::Rest;
+                Ok(Ok(()))
+            }
+            Err(fault) => {
+                self.work.release(self.alloc);
+                self.fault = Some(fault);
+                Ok(Err(fault))
+            }
+        }
     }
 }
 
@@ -140,35 +154,27 @@ impl<T: ImageTool> State<T> {
     }
 }
 
-/// Passes rows, if they may come at this place, to the tool, which makes the rows that answer them at once.
-///
-/// # Errors
-///
-/// The rows themselves, and nothing has changed, where they may not come or each is to be taken by itself.
-fn pass<T: ImageTool>(
+/// Takes rows, which may come at this place: the rows that answer them are due then. The only fault is `Memory`.
+fn take_rows<T: ImageTool>(
     alloc: Global,
     work: &mut T,
     place: &mut Place,
     rows: Rows,
-) -> Result<Option<Rows>, Rows>
+) -> Result<(), ToolFault>
     requires lawful { IsLawfulTool (T.tool work.old) }
     requires ready { (come : List (List ℕ)) × IsReadyFor T.ready work.old place.old come }
-    ensures passed { IfOk result (ArePassed T.tool T.ready work.old place.old rows work.new place.new) }
-    ensures kept { IfErr result (λ same. (same ≡ rows) × (work.new ≡ work.old) × (place.new ≡ place.old)) }
+    requires accepted { IsLawfulFrom place.old (row_messages rows) }
+    ensures some { 1 ≤ length rows }
+    ensures taken { OnOk result (AreTakenRows T.tool T.ready T.due work.old place.old rows work.new place.new) }
+    ensures refused { IfErr result (λ fault. (fault ≡ Memory) × (T.tool work.new ≡ T.tool work.old)) }
 {
-    let Place::Inside(shape, y) = *place else {
-        return Err(rows);
-    };
-    if !place.accepts_rows(&rows) {
-        return Err(rows);
-    }
-    let mut after = *place;
-    after.step_rows(&rows);
     // No rows at all could come at any place.
     prove!(rows.count() > 0);
-    let made = work.rows(alloc, shape, y, rows)?;
-    *place = after;
-    Ok(made)
+    let Place::Inside(shape, y) = *place else {
+        unreachable!();
+    };
+    place.step_rows(&rows);
+    work.take(alloc, shape, y, rows)
 }
 
 /// Takes a message, if it may come at this place, and sets what is owed for it.
@@ -201,7 +207,7 @@ fn answer<T: ImageTool>(
                 unreachable!();
             };
             *owed = Owed::Rest;
-            work.take(alloc, shape, y, row)?;
+            work.take(alloc, shape, y, Rows::one(row))?;
         }
         Message::ImageEnd => {
             let Place::Inside(shape, _) = from else {
@@ -283,19 +289,14 @@ fn give_one(owed: &mut Owed, waiting: &mut Option<Message>) -> Option<Message>
 }
 
 /// Whether nothing is owed, as far as a look shows; that is told then.
-fn tell<T: ImageTool>(work: &T, owed: &mut Owed, waiting: &Option<Message>) -> bool
-    ensures told { result ≡ true
-        → IsGiven T.tool T.ready T.due T.kept work.now (pending_of owed.old waiting.now) work.now
-        (pending_of owed.new waiting.now) None }
+fn tell(owed: &mut Owed) -> bool
+    ensures told { result ≡ true → (waiting : Option MessageValue)
+        → OwesNothing (pending_of owed.old waiting) × (pending_of owed.new waiting ≡ AllGiven) }
     ensures unknown { result ≡ false → owed.new ≡ owed.old }
 {
     match *owed {
         Owed::Told => true,
         Owed::Untold => {
-            *owed = Owed::Told;
-            true
-        }
-        Owed::Rest if !work.may_give() => {
             *owed = Owed::Told;
             true
         }

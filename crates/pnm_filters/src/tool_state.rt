@@ -9,7 +9,6 @@ ghost use Rattle.pnm_tools.specs.Tools.{IsLawfulTool};
 use crate::any_tool::AnyTool;
 use crate::state::State;
 use pnm_geometry_tools::{Enlarger, Tiler, Transposer};
-use pnm_image::SampleWidth;
 use pnm_row_tools::{ByRow, Cutter, Inverter, Rescaler, RowFlipper, RowReverser, RowTool};
 use pnm_tools::{FlipWay, FusedFilter, Tool, ToolFault};
 use std::alloc::Global;
@@ -58,33 +57,12 @@ fn flip(alloc: Global, way: FlipWay) -> AnyTool
     }
 }
 
-/// The row tool at work, which has made no row.
+/// The row tool at work, which has made no rows.
 fn by_row<T: RowTool>(tool: T) -> ByRow<T>
     ensures tool { result.tool ≡ tool }
     ensures none { result.made ≡ None }
 {
     ByRow { tool, made: None }
-}
-
-/// How many samples a row has at most that a tool takes together with others where it exchanges columns and rows of
-/// bytes or words: to hand longer ones over one by one costs little beside the exchange. Bits it keeps together.
-const MOST_EXCHANGED: u64 = 4096;
-
-/// How many samples a row has at most that the tool takes together with others which are held so, as far as can be told
-/// beforehand: 0 where it takes none so. It takes rows one by one all the same where they are bits of several planes
-/// that it would turn round, or bits of a maxval beyond 1, where it rescales samples by no table, but for words that
-/// stay words, where it exchanges columns and rows of a tall image and they are long, and where there is no memory for
-/// the rows that it makes or keeps.
-pub fn longest_together(tool: &Tool, sample_width: SampleWidth) -> u64 {
-    match tool {
-        Tool::Flip(way) if way.turn().exchanged => match sample_width {
-            SampleWidth::Bits => u64::MAX,
-            SampleWidth::Bytes | SampleWidth::Words => MOST_EXCHANGED,
-        },
-        // More than that isn't made at once of rows that fill a buffer.
-        Tool::Enlarge(across, down) if across.saturating_mul(*down) > 16 => 0,
-        _ => u64::MAX,
-    }
 }
 
 /// The tool at work; one for which there is no memory has refused.

@@ -3,7 +3,6 @@
 #![tactic(auto)]
 
 mod chain;
-mod joined_rows;
 mod lanes;
 mod serial;
 mod stage;

@@ -7,7 +7,6 @@ ghost use Rattle.pnm_serial.specs.Jobs.{job_of};
 ghost use Rattle.pnm_serial.specs.Runs.{change, HasRunInOneThread};
 ghost use Rattle.pnm_flow.specs.SerialTools.{AreFresh};
 
-use crate::joined_rows::joined_rows;
 use pnm_filters::{ToolState, filter_of};
 use pnm_image::{BytesIn, BytesOut, Form};
 use pnm_serial::{RunFault, Summary, run_filters};
@@ -57,16 +56,7 @@ pub fn run_serial_over<R: BytesIn, W: BytesOut>(
         Ok(stages) => stages,
         Err(fault) => return Err(RunFault::Tool(1, fault)),
     };
-    let joined = joined_rows(tools, 1);
-    run_filters(
-        alloc,
-        reader,
-        writer,
-        stages.as_mut_slice(),
-        form,
-        joined,
-        length,
-    )
+    run_filters(alloc, reader, writer, stages.as_mut_slice(), form, length)
 }
 
 /// Each tool at work, fused; one for which there is no memory has refused. The only fault is

@@ -22,7 +22,6 @@ ghost use Rattle.pnm_flow.specs.Chains.{HasRunChain};
 ghost use Rattle.pnm_flow.specs.ThreadedRuns.{answer_over, fault_of_end, first_fault_from, HasRunOverThreads};
 
 use crate::chain::{ChainDone, run_chain_beside};
-use crate::joined_rows::joined_rows;
 use pnm_image::{BytesIn, BytesOut, Form};
 use pnm_read::{InputFault, Source};
 use pnm_serial::{Buffers, Collector, Feeder, RunFault, Summary, Turns};
@@ -75,7 +74,8 @@ pub fn run<H: Threads + Wait + Sync, R: BytesIn, W: BytesOut, G: Gate>(
         Err(fault) => return Err(RunFault::Input(fault)),
     };
     let source = Source::with_buffer(read, &mut *reader);
-    let feeder = Feeder::new(source, to_chain, joined_rows(tools, lanes));
+    // A dealer would have to take joined rows apart again.
+    let feeder = Feeder::new(source, to_chain, lanes == 1);
     let collector = Collector::new(from_chain, write, &mut *writer, form);
     let both = beside_chain(
         rt, alloc, tools, capacity, lanes, gate, input, output, feeder, collector,

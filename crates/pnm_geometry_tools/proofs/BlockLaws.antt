@@ -6,7 +6,7 @@ use Rattle.std.proofs.lemmas.Bool.{cases_lt}
 use Rattle.std.proofs.lemmas.Grind.{get_or-set_at}
 use Rattle.std.proofs.lemmas.List.{drop-drop, get_or-drop, get_or-map, get_or-take, get_or_default, length-drop, length-map, length-take-le, get_or-set_other}
 use Rattle.std.proofs.lemmas.List.{same_lists, take_all}
-use Rattle.std.proofs.lemmas.List.Elements.{All-head, All-tail, All-drop, All-from_get_or, All-get_or, All-take, All-weaker}
+use Rattle.std.proofs.lemmas.List.Elements.{All-head, All-tail, All-drop, All-take, All-weaker}
 use Rattle.pnm_geometry_tools.specs.Columns.{AreRowsFrom, HavePixels}
 use Rattle.pnm_tools.specs.Flip.{column_of}
 use Rattle.pnm_tools.specs.Pixels.{pixel_of}
@@ -57,14 +57,6 @@ column_of_sixteen y x rows (slice ∷ slices) count many are long =
     get_or-map at_slice all k slice e (omega arith) ∙ ap at_row (are k slice (omega arith)) ∙ ap at_row (sym (row_of_block y k rows below))
     ∙ sym (get_or-map at_row part k [] e (omega arith)))
     ∙ samples_at x part long
-
--- the slices reach beyond this place
-pub slices_reach : (y x : ℕ) (rows : List (List ℕ)) (slices : List (Bor (List ℕ))) → y + length slices ≤ length rows → AreRowsFrom y rows slices
-    → All (λ row. x < length row) rows → All (λ row. x < length row.now) slices
-slices_reach y x rows [] many are long = λ k d lt. absurd (omega arith)
-slices_reach y x rows (slice ∷ slices) many are long =
-    All-from_get_or (λ (row : Bor (List ℕ)). x < length row.now) (slice ∷ slices) slice
-    (λ k lt. subst (λ (row : List ℕ). x < length row) (sym (are k slice lt)) (All-get_or (λ (row : List ℕ). x < length row) rows (y + k) [] (omega arith) long))
 
 -- rows that reach so far reach beyond this place
 pub beyond : (x most : ℕ) (rows : List (List ℕ)) → x < most → All (λ row. most * 1 ≤ length row) rows → All (λ row. x < length row) rows

@@ -1,5 +1,5 @@
 -- A row whose pixels are repeated.
-use Rattle.std.proofs.Common.{◌≡◌, ℕ, zero, suc, ◌+◌, ◌-◌, ◌*◌, ◌≤◌, ◌<◌, List, [], ◌∷◌, ◌++◌, length, take, drop, get_or, set, replicate, All, refl, sym, ap}
+use Rattle.std.proofs.Common.{◌≡◌, ℕ, zero, suc, ◌+◌, ◌-◌, ◌*◌, ◌≤◌, ◌<◌, List, [], ◌∷◌, ◌++◌, length, take, drop, get_or, set, All, refl, sym, ap}
 use Rattle.std.proofs.Common.{subst, ◌∙◌, arith, mul-le-mul}
 use borrow.Rule.Slice.PartMut.{put_mid}
 use Rattle.std.specs.List.{flat_map, range_with_len}
@@ -11,12 +11,9 @@ use Rattle.std.proofs.Math.Seq.{take-add}
 use Rattle.std.proofs.lemmas.Slice.{take-put_mid}
 use Rattle.pnm_image.specs.declared.shape.Shape.{Shape}
 use Rattle.pnm_image.specs.Heads.{row_length}
-use Rattle.pnm_tools.specs.declared.tool.Tool.TheVariants.{Enlarge}
 use Rattle.pnm_tools.specs.Enlarge.{enlarged_row, copies_of}
 use Rattle.pnm_tools.specs.Pixels.{pixel_of}
-use Rattle.pnm_tools.specs.Tools.{row_answer}
 use Rattle.pnm_tools.proofs.RangeLaws.{pieces_in_parts, pieces_alike_from}
-use Rattle.pnm_tools.proofs.RowLaws.{row_of_enlarge}
 
 -- the first columns, each pixel so many times
 abbrev pub columns_repeated : {X : Type 0} → ℕ → ℕ → List X → ℕ → List X
@@ -264,8 +261,3 @@ columns_once depth row (suc n) =
 pub unchanged_row : (across : ℕ) (s : Shape) (row : List ℕ) → across ≡ 1 → length row ≡ row_length s → row ≡ enlarged_row across s row
 unchanged_row across s row once count =
     sym (ap (λ (k : ℕ). enlarged_row k s row) once ∙ columns_once s.depth row s.width ∙ take_all (s.width * s.depth) row (omega (arith, count)))
-
--- the rows that a row makes
-pub rows_due : (across down : ℕ) (s : Shape) (y : ℕ) (row made : List ℕ) → made ≡ enlarged_row across s row
-    → replicate down made ≡ row_answer (Enlarge across down) s y row
-rows_due across down s y row made is = ap (replicate down) is ∙ sym (row_of_enlarge across down s y row)

@@ -244,29 +244,10 @@ pixels_below width depth across down count filled deep wide high is =
     mul-le-mul {n₁ = width * count} {m₁ = 1} {n₂ = width * count} {m₂ = depth * across * down} (omega arith) (omega (arith, some)) in
     omega (arith, all, is)
 
-pub rows_below : (width depth across down count filled : ℕ) → 1 ≤ width → 1 ≤ depth → 1 ≤ across → filled ≡ count * (width * depth * across * down)
-    → count * down ≤ filled
-rows_below width depth across down count filled some deep wide is =
-    let one : 1 * 1 ≤ width * depth = mul-le-mul {n₁ = 1} {m₁ = 1} {n₂ = width} {m₂ = depth} some deep in
-    let row : 1 * 1 ≤ width * depth * across = mul-le-mul {n₁ = 1} {m₁ = 1} {n₂ = width * depth} {m₂ = across} (omega (arith, one)) wide in
-    let all : count * down * 1 ≤ count * down * (width * depth * across) =
-    mul-le-mul {n₁ = count * down} {m₁ = 1} {n₂ = count * down} {m₂ = width * depth * across} (omega arith) (omega (arith, row)) in
-    omega (arith, all, is)
-
 -- ---- copies that are given
 
-pub some_copies : (n : ℕ) (row : List ℕ) (rows : List (List ℕ)) → rows ≡ replicate n row → rows ≡ replicate (length rows) row
-some_copies n row rows is = is ∙ ap (λ (k : ℕ). replicate k row) (sym (ap length is ∙ length-replicate n row))
-
-copies_in_parts : (m n : ℕ) (row : List ℕ) → replicate (m + n) row ≡ replicate m row ++ replicate n row
+pub copies_in_parts : (m n : ℕ) (row : List ℕ) → replicate (m + n) row ≡ replicate m row ++ replicate n row
 copies_in_parts zero n row = let same : zero + n ≡ n = omega arith in ap (λ (k : ℕ). replicate k row) same
 copies_in_parts (suc m) n row =
     let more : suc m + n ≡ suc (m + n) = omega arith in
     ap (λ (k : ℕ). replicate k row) more ∙ ap (λ (l : List (List ℕ)). row ∷ l) (copies_in_parts m n row)
-
-pub copies_given : (left count : ℕ) (row : List ℕ) (copies : List (List ℕ)) → copies ≡ replicate (length copies) row → count ≡ length copies
-    → length copies ≤ left → replicate left row ≡ copies ++ replicate (left - count) row
-copies_given left count row copies are is most =
-    let parts : left ≡ length copies + (left - count) = omega (arith, is, most) in
-    ap (λ (n : ℕ). replicate n row) parts ∙ copies_in_parts (length copies) (left - count) row
-    ∙ ap (λ (l : List (List ℕ)). l ++ replicate (left - count) row) (sym are)

@@ -1,10 +1,9 @@
 -- Rows that are kept, as they are held.
-use Rattle.std.proofs.Common.{◌≡◌, ℕ, zero, suc, ◌+◌, ◌-◌, ◌*◌, ◌≤◌, ◌<◌, List, [], ◌∷◌, ◌++◌, length, get_or, map, take, drop, All, Result, Ok, Err, OnErr}
-use Rattle.std.proofs.Common.{inl, inr, ◌⊎◌, refl, sym, ap, ap₂, subst, ◌∙◌, arith, suc-mul, zero-mul, mul-le-mul_right}
-use Rattle.std.specs.List.{concat}
+use Rattle.std.proofs.Common.{◌≡◌, ℕ, zero, suc, ◌+◌, ◌-◌, ◌*◌, ◌≤◌, ◌<◌, List, [], ◌++◌, length, get_or, map, take, drop, All, Result, Ok, Err, OnErr}
+use Rattle.std.proofs.Common.{inl, inr, ◌⊎◌, sym, ap, ap₂, subst, ◌∙◌, arith, suc-mul, zero-mul, mul-le-mul_right}
 use Rattle.std.proofs.Math.Seq.{take-add}
-use Rattle.std.proofs.lemmas.List.{drop_at, length-append, length-map, length-take-le, nil_from_length, take_at}
-use Rattle.std.proofs.lemmas.List.Elements.{All-head, All-map, All-tail, All-take}
+use Rattle.std.proofs.lemmas.List.{length-map, length-take-le, nil_from_length}
+use Rattle.std.proofs.lemmas.List.Elements.{All-map, All-take}
 use Rattle.std.proofs.lemmas.Bool.{cases_lt}
 use Rattle.pnm_image.specs.declared.rows.RowVec.{RowVec}
 use Rattle.pnm_image.specs.declared.rows.RowVec.TheVariants.{Bits, Bytes, Words}
@@ -104,22 +103,6 @@ fronts_of_cut shown each count samples fronts rows long some are size few within
     )
 
 -- ---- rows as words
-
--- the samples of rows, cut again
-pub words_of_rows : (count each : ℕ) (rows : List (List ℕ)) (words : List ℕ) → length rows ≡ count → All (λ row. length row ≡ each) rows
-    → words ≡ concat rows → (length words ≡ count * each) × (cut_rows count each words ≡ rows)
-words_of_rows zero each [] words many long is = (ap length is ∙ sym (zero-mul each), refl)
-words_of_rows zero each (row ∷ rows) words many long is = absurd (omega (arith, many))
-words_of_rows (suc count) each [] words many long is = absurd (omega (arith, many))
-words_of_rows (suc count) each (row ∷ rows) words many long is =
-    let P : List ℕ → Type 0 = λ row. length row ≡ each in
-    let first : length row ≡ each = All-head P row rows long in
-    let rest = words_of_rows count each rows (concat rows) (omega (arith, many)) (All-tail P row rows long) refl in (
-      omega (arith, ap length is, length-append row (concat rows), first, rest.0, suc-mul count each),
-      ap (cut_rows (suc count) each) is
-          ∙ ap₂ (λ (r : List ℕ) (l : List ℕ). r ∷ cut_rows count each l) (take_at row (concat rows) each first) (drop_at row (concat rows) each first)
-          ∙ ap (λ (l : List (List ℕ)). row ∷ l) rest.1,
-    )
 
 -- words behind others
 pub words_behind : (count more each : ℕ) (words behind new : List ℕ) (first second : List (List ℕ)) → length words ≡ count * each

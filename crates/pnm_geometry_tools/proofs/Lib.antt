@@ -18,3 +18,4 @@ pub mod EnlargedRowsLaws
 pub mod FlatRowsLaws
 pub mod HeldRowLaws
 pub mod WideRowLaws
+pub mod WaitingLaws

@@ -1,6 +1,7 @@
 -- Rows that are added to those of one width of samples.
-use Rattle.std.proofs.Common.{◌≡◌, ℕ, List, ◌++◌, length, Result, OnOk, sym, ap, ap₂, subst, ◌∙◌}
-use Rattle.std.proofs.lemmas.Result.{on_ok_weaker}
+use Rattle.std.proofs.Common.{◌≡◌, ℕ, List, ◌++◌, length, Bool, true, false, Result, Ok, sym, ap, ap₂, subst, ◌∙◌}
+use Rattle.std.specs.Bool.{IsTrue}
+use Rattle.std.specs.Result.{IfOk}
 use Rattle.pnm_image.specs.declared.rows.RowSlice.{RowSlice}
 use Rattle.pnm_image.specs.HeldRows.{slice_lists}
 use Rattle.pnm_image.specs.Images.{cut_rows}
@@ -10,11 +11,15 @@ use Rattle.pnm_geometry_tools.specs.SampleRows.{row_lists}
 use Rattle.pnm_geometry_tools.proofs.FlatRowsLaws.{rows_are_cut}
 
 -- rows that were added as they are held
-pub rows_are_added : {T E : Type 0} (r s : Result T E) (old new : SampleRows) (kept value more rows : List (List ℕ)) → r ≡ s → row_lists old ≡ kept
-    → row_lists new ≡ value → more ≡ rows → OnOk s (value ≡ kept ++ more) → OnOk r (row_lists new ≡ row_lists old ++ rows)
-rows_are_added r s old new kept value more rows is was now same h =
-    subst (λ x. OnOk x (row_lists new ≡ row_lists old ++ rows)) (sym is)
-    (on_ok_weaker s (λ added. now ∙ added ∙ ap₂ (λ (a b : List (List ℕ)). a ++ b) (sym was) same) h)
+pub rows_are_added : {E : Type 0} (r : Result Bool E) (old new : SampleRows) (kept value more rows : List (List ℕ)) → r ≡ Ok true → row_lists old ≡ kept
+    → row_lists new ≡ value → more ≡ rows → value ≡ kept ++ more → IfOk r (λ done. IsTrue done → row_lists new ≡ row_lists old ++ rows)
+rows_are_added r old new kept value more rows is was now same added =
+    subst (λ x. IfOk x (λ done. IsTrue done → row_lists new ≡ row_lists old ++ rows)) (sym is)
+    (λ yes. now ∙ added ∙ ap₂ (λ (a b : List (List ℕ)). a ++ b) (sym was) same)
+
+-- and where none was
+pub none_is_added : {E : Type 0} (r : Result Bool E) (P : Type 0) → r ≡ Ok false → IfOk r (λ done. IsTrue done → P)
+none_is_added r P is = subst (λ x. IfOk x (λ done. IsTrue done → P)) (sym is) (λ yes. absurd (cc))
 
 -- rows that are held one after another, as they are lent
 pub rows_are_lent : (count each : ℕ) (samples : List ℕ) (held slice : RowSlice) (rows : List (List ℕ)) → count ≡ length rows → held ≡ slice

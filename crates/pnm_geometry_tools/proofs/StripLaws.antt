@@ -1,6 +1,6 @@
 -- Rows that are kept in strips, and those that came after them.
 use Rattle.std.proofs.Common.{◌≡◌, ℕ, zero, suc, ◌+◌, ◌-◌, ◌*◌, ◌<◌, ◌≤◌, List, [], ◌∷◌, ◌++◌, length, take, drop, reverse, map, All, Vec, Global, Bool, true}
-use Rattle.std.proofs.Common.{false, if◌then◌else◌, refl, sym, ap, subst, ◌∙◌, arith, mul-le-mul, zero-mul, suc-mul, append-nil}
+use Rattle.std.proofs.Common.{false, if◌then◌else◌, refl, sym, ap, subst, ◌∙◌, arith, mul-le-mul, zero-mul, suc-mul, append-nil, append_assoc}
 use Rattle.std.specs.List.{flat_map, range_with_len}
 use Rattle.std.proofs.lemmas.Grind.{flat_map-append}
 use Rattle.std.proofs.lemmas.List.{length-append, length-reverse, reverse-append, take_all, take_at, drop_at}
@@ -243,6 +243,52 @@ kept_so {X = X} b width depth strips rows ordered strip new_strips new_rows coun
     subst (λ (l : List (List X)). KeepColumns b width depth strips rows new_strips l) (sym none)
     (subst (λ (l : List (List X)). KeepColumns b width depth strips rows l []) (sym added)
     (strip_kept b width depth strips rows ordered strip count sizes order made))
+
+-- ---- rows that are added
+
+-- the columns of rows, with more of them
+column_with : {X : Type 0} (depth x : ℕ) (rows more : List (List X)) → column_of depth (rows ++ more) x ≡ column_of depth rows x ++ column_of depth more x
+column_with {X = X} depth x rows more = flat_map-append (λ (l : List X). pixel_of depth l x) rows more
+
+-- a column with what more rows have of it, which come first where the order of the rows is reversed
+abbrev pub with_more : {X : Type 0} → Bool → List X → List X → List X
+with_more b column more = if b then more ++ column else column ++ more
+
+pub come_more : {X : Type 0} (b : Bool) (depth x : ℕ) (come more : List (List X))
+    → column_of depth (in_order b (come ++ more)) x ≡ with_more b (column_of depth (in_order b come) x) (column_of depth (in_order b more) x)
+come_more {X = X} true depth x come more =
+    ap (λ (l : List (List X)). column_of depth l x) (reverse-append come more) ∙ column_with depth x (reverse more) (reverse come)
+come_more {X = X} false depth x come more = column_with depth x come more
+
+pub coming_more : {X : Type 0} (b : Bool) (depth x : ℕ) (strips rows more : List (List X))
+    → coming_column b depth strips (rows ++ more) x ≡ with_more b (coming_column b depth strips rows x) (column_of depth (in_order b more) x)
+coming_more {X = X} true depth x strips rows more =
+    let parts : List X = column_of (STRIP_ROWS * depth) (reverse strips) x in
+    ap (λ (l : List X). l ++ parts) (come_more true depth x rows more)
+    ∙ append_assoc (column_of depth (reverse more) x) (column_of depth (reverse rows) x) parts
+coming_more {X = X} false depth x strips rows more =
+    let parts : List X = column_of (STRIP_ROWS * depth) strips x in
+    ap (λ (l : List X). parts ++ l) (come_more false depth x rows more) ∙ sym (append_assoc parts (column_of depth rows x) (column_of depth more x))
+
+-- a row more has been added, and then some rows went into a strip or not
+pub row_more : {X : Type 0} (b : Bool) (width depth : ℕ) (strips rows first come strips₁ rows₁ strips₂ rows₂ strips₃ rows₃ : List (List X)) (row : List X)
+    → KeepColumns b width depth strips (rows ++ first) strips₁ rows₁ → come ≡ first ++ row ∷ [] → strips₂ ≡ strips₁ → rows₂ ≡ rows₁ ++ row ∷ []
+    → KeepColumns b width depth strips₂ rows₂ strips₃ rows₃ → KeepColumns b width depth strips (rows ++ come) strips₃ rows₃
+row_more {X = X} b width depth strips rows first come strips₁ rows₁ strips₂ rows₂ strips₃ rows₃ row before is same added kept =
+    let more : List (List X) = row ∷ [] in
+    let all : rows ++ come ≡ (rows ++ first) ++ more = ap (λ (l : List (List X)). rows ++ l) is ∙ sym (append_assoc rows first more) in
+    let after : KeepColumns b width depth strips₁ (rows₁ ++ more) strips₃ rows₃ =
+    subst (λ (l : List (List X)). KeepColumns b width depth l (rows₁ ++ more) strips₃ rows₃) same
+    (subst (λ (l : List (List X)). KeepColumns b width depth strips₂ l strips₃ rows₃) added kept) in
+    subst (λ (l : List (List X)). KeepColumns b width depth strips l strips₃ rows₃) (sym all)
+    record {
+      sizes = after.sizes;
+      count = omega (arith, after.count, before.count, length-append rows₁ more, length-append (rows ++ first) more);
+      same = λ x below.
+          after.same x below ∙ coming_more b depth x strips₁ rows₁ more
+          ∙ ap (λ (l : List X). with_more b l (column_of depth (in_order b more) x)) (before.same x below)
+          ∙ sym (coming_more b depth x strips (rows ++ first) more);
+    }
 
 -- rows that reach behind as many columns more
 pub reach_more : {X : Type 0} (first count width depth : ℕ) (rows : List (List X)) → first + count ≤ width → All (λ row. width * depth ≤ length row) rows

@@ -1,7 +1,7 @@
 -- The head and the rows of a tiled image, and what a tiler has still to give.
 use Rattle.std.proofs.Common.{◌≡◌, ◌⊎◌, inl, inr, ℕ, ◌*◌, ◌%◌, ◌<◌, ◌≤◌, Bool, false, List, [], map, length, slice_index_or, ◌==◌, if◌then◌else◌, OnOk, IfOk}
 use Rattle.std.proofs.Common.{Result, Ok, Err, sym, ap, ap₂, refl, ◌∙◌, arith, min, zero, suc, ◌+◌, ◌-◌, ◌/◌, ◌++◌, take, drop, suc-mul, zero-mul, mul-le-mul}
-use Rattle.std.proofs.Common.{mul-le-mul_right, lt_of_mul-lt-mul_right, ◌∷◌, get_or, All, subst}
+use Rattle.std.proofs.Common.{mul-le-mul_right, lt_of_mul-lt-mul_right, get_or, All, subst}
 use Rattle.std.specs.List.{range_with_len, flat_map}
 use Rattle.std.proofs.lemmas.Bool.{ne_eqb, cases_eq, cases_lt}
 use Rattle.pnm_image.specs.declared.shape.Shape.{Shape}
@@ -15,7 +15,7 @@ use Rattle.pnm_tools.specs.Tile.{tiled_head, tiled_head_value, tiled_row, tiled_
 use Rattle.pnm_tools.proofs.HeadLaws.{small_row}
 use Rattle.pnm_tools.specs.Tools.{result_head, row_answer}
 use Rattle.std.proofs.Math.Nat.{mod_self, mod-eq_of_lt, mod-lt, div-add-mod, add-mul-mod_self_left, zero-mod}
-use Rattle.std.proofs.lemmas.List.{take_at, take_all, take-append-le, map-append, get_or-map, length-map, length-append, length-take, length-take-le}
+use Rattle.std.proofs.lemmas.List.{take_at, take_all, get_or-map, length-map, length-append, length-take, length-take-le}
 use Rattle.std.proofs.lemmas.List.{length-drop, drop-append-le, drop-drop, get_or-take, append_assoc, take-take}
 use Rattle.std.proofs.Math.Seq.{take-add}
 use Rattle.pnm_tools.specs.Pixels.{pixel_of}
@@ -381,29 +381,6 @@ rows_within_at_end w s come ready =
     subst (AreWithin s.maxval) (sym ready.rows)
     (All-map (All P) (shown_row w.width s) shown
     (λ k d lt. All-take P (min w.width s.width * s.depth) (get_or shown k d) (All-take (All P) w.height come ready.range k d lt)))
-
--- a row that is kept
-pub kept_more : (across down y : ℕ) (s : Shape) (held new before come : List (List ℕ)) (row : List ℕ) → held ≡ map (shown_row across s) (take down before)
-    → length before ≡ y → y < down
-    → held ≡ map (shown_row across s) (take down come) → new ≡ held ++ shown_row across s row ∷ []
-    → new ≡ map (shown_row across s) (take down (come ++ row ∷ []))
-kept_more across down y s held new before come row was count lt known is =
-    let f = shown_row across s in
-    let many : length (take down come) ≡ length (take down before) = sym (length-map (take down come) f) ∙ ap length (sym known ∙ was)
-    ∙ length-map (take down before) f in
-    let few : length come < down = omega (arith, many, length-take down come, length-take down before) in
-    is ∙ ap (λ (l : List (List ℕ)). l ++ f row ∷ []) (known ∙ ap (map f) (take_all down come (omega arith))) ∙ sym (map-append f come (row ∷ []))
-    ∙ ap (map f) (sym (take_all down (come ++ row ∷ []) (omega (arith, length-append come (row ∷ [])))))
-
--- a row that isn't
-pub kept_same : (across down y : ℕ) (s : Shape) (held before come : List (List ℕ)) (row : List ℕ) → held ≡ map (shown_row across s) (take down before)
-    → length before ≡ y → down ≤ y
-    → held ≡ map (shown_row across s) (take down come) → held ≡ map (shown_row across s) (take down (come ++ row ∷ []))
-kept_same across down y s held before come row was count le known =
-    let f = shown_row across s in
-    let many : length (take down come) ≡ length (take down before) = sym (length-map (take down come) f) ∙ ap length (sym known ∙ was)
-    ∙ length-map (take down before) f in
-    known ∙ ap (map f) (sym (take-append-le down come (row ∷ []) (omega (arith, many, length-take down come, length-take down before))))
 
 -- what is shown of the rows that come has its columns
 pub lengths_shown : (w : Tiled) (s : Shape) (come : List (List ℕ)) → IsTiling w s come → All (λ row. length row ≡ min w.width s.width * s.depth) w.rows

@@ -1,12 +1,11 @@
 -- The rows that a transposer keeps, and what is still to be given of them.
 use Rattle.std.proofs.Common.{◌≡◌, ℕ, ◌+◌, ◌-◌, ◌*◌, ◌<◌, ◌≤◌, List, [], ◌∷◌, ◌++◌, length, reverse, refl, sym, ap, ◌∙◌, arith, map, subst, Bool, true, false}
-use Rattle.std.proofs.Common.{if◌then◌else◌, Ok, nat_lt, append_assoc, All}
+use Rattle.std.proofs.Common.{if◌then◌else◌, Ok, nat_lt}
 use Rattle.std.specs.List.{range_with_len}
 use Rattle.std.proofs.lemmas.Bool.{ltb-true}
-use Rattle.std.proofs.lemmas.Grind.{flat_map-append}
 use Rattle.std.proofs.lemmas.List.{length-append, length-reverse, reverse-append, reverse-reverse}
 use Rattle.std.proofs.lemmas.List.FromFn.{length-map-range_with_len}
-use Rattle.std.proofs.lemmas.List.Elements.{All-nil, All-cons, All-append}
+use Rattle.std.proofs.lemmas.List.Elements.{All-nil}
 use Rattle.pnm_image.specs.declared.limits.TheConstants.{MAX_ROW_LENGTH}
 use Rattle.pnm_image.specs.declared.sample_width.SampleWidth.{SampleWidth}
 use Rattle.pnm_image.specs.declared.sample_width.SampleWidth.TheVariants.{Bytes, Words}
@@ -21,120 +20,42 @@ use Rattle.pnm_geometry_tools.specs.declared.strip.TheConstants.{STRIP_ROWS}
 use Rattle.pnm_tools.specs.declared.tool.Tool.TheVariants.{Flip}
 use Rattle.pnm_tools.specs.Flip.{turn_of, in_order, column_of, moved_rows, moves_rows, turned_at_end, turned_row, transposed_head_value}
 use Rattle.pnm_geometry_tools.specs.Keeping.{Transposed, IsTransposing, transposed, transposed_due}
-use Rattle.pnm_tools.specs.Pixels.{pixel_of}
 use Rattle.pnm_geometry_tools.specs.SampleRows.{SuitsShape}
 use Rattle.pnm_geometry_tools.specs.Strips.{KeepColumns, coming_column, kept_column}
 use Rattle.pnm_tools.specs.Answering.{rows_answer}
-use Rattle.pnm_tools.specs.Tools.{result_head, row_answer, end_answer}
+use Rattle.pnm_tools.specs.Tools.{result_head, end_answer}
 use Rattle.pnm_tools.proofs.HeadLaws.{small_row}
+use Rattle.pnm_geometry_tools.proofs.StripLaws.{come_more, coming_more, with_more}
 use Rattle.pnm_tools.proofs.RangeLaws.{alike_from, map_in_parts}
 use Rattle.pnm_tools.proofs.TurnLaws.{in_order_nil, exchanged_moves, row_moved}
 use Rattle.pnm_tools.proofs.WholeHeadLaws.{is_turned}
 
 -- ---- the rows that come
 
--- the columns of rows, with more of them
-column_with : {X : Type 0} (depth x : ℕ) (rows more : List (List X)) → column_of depth (rows ++ more) x ≡ column_of depth rows x ++ column_of depth more x
-column_with {X = X} depth x rows more = flat_map-append (λ (l : List X). pixel_of depth l x) rows more
-
-column_more : {X : Type 0} (b : Bool) (depth x : ℕ) (strips rows come more : List (List X))
-    → coming_column b depth strips rows x ≡ column_of depth (in_order b come) x
-    → coming_column b depth strips (rows ++ more) x ≡ column_of depth (in_order b (come ++ more)) x
-column_more {X = X} true depth x strips rows come more same =
-    let parts : List X = column_of (STRIP_ROWS * depth) (reverse strips) x in
-    let last : List X = column_of depth (reverse more) x in
-    ap (λ (l : List (List X)). column_of depth l x ++ parts) (reverse-append rows more)
-    ∙ ap (λ (l : List X). l ++ parts) (column_with depth x (reverse more) (reverse rows))
-    ∙ append_assoc last (column_of depth (reverse rows) x) parts
-    ∙ ap (λ (l : List X). last ++ l) same
-    ∙ sym (column_with depth x (reverse more) (reverse come))
-    ∙ ap (λ (l : List (List X)). column_of depth l x) (sym (reverse-append come more))
-column_more {X = X} false depth x strips rows come more same =
-    let parts : List X = column_of (STRIP_ROWS * depth) strips x in
-    let last : List X = column_of depth more x in
-    ap (λ (l : List X). parts ++ l) (column_with depth x rows more)
-    ∙ sym (append_assoc parts (column_of depth rows x) last)
-    ∙ ap (λ (l : List X). l ++ last) same
-    ∙ sym (column_with depth x come more)
-
--- more rows
-pub rows_taken : (way : FlipWay) (depth : ℕ) (sample_width : SampleWidth) (next columns : ℕ) (strips rows rows' batch come more : List (List ℕ))
-    (s : Shape) → All (λ row. length row ≡ row_length s) more → rows' ≡ rows ++ more
-    → IsTransposing (transposed way depth sample_width strips rows batch next columns) s come
-    → IsTransposing (transposed way depth sample_width strips rows' batch next columns) s (come ++ more)
-rows_taken way depth sample_width next columns strips rows rows' batch come more s long added h =
-    subst (λ (l : List (List ℕ)). IsTransposing (transposed way depth sample_width strips l batch next columns) s (come ++ more)) (sym added)
-    record {
-      limits = h.limits;
-      column = h.column;
-      sample_width = h.sample_width;
-      count = omega (arith, h.count, length-append rows more, length-append come more);
-      same = λ x below. column_more (turn_of way).rows_reversed s.depth x strips rows come more (h.same x below);
-      sizes = record {
-        each_strip = h.sizes.each_strip;
-        each_row = All-append (λ (l : List ℕ). length l ≡ row_length s) rows more h.sizes.each_row long;
-      };
-      none_made = h.none_made;
-    }
-
--- a row more
-row_taken : (way : FlipWay) (depth : ℕ) (sample_width : SampleWidth) (next columns : ℕ) (strips rows rows' batch come : List (List ℕ)) (row : List ℕ)
-    (s : Shape) → length row ≡ row_length s → rows' ≡ rows ++ row ∷ []
-    → IsTransposing (transposed way depth sample_width strips rows batch next columns) s come
-    → IsTransposing (transposed way depth sample_width strips rows' batch next columns) s (come ++ row ∷ [])
-row_taken way depth sample_width next columns strips rows rows' batch come row s long added h =
-    rows_taken way depth sample_width next columns strips rows rows' batch come (row ∷ []) s
-    (All-cons (λ (l : List ℕ). length l ≡ row_length s) row [] long (All-nil (λ (l : List ℕ). length l ≡ row_length s))) added h
-
--- rows that were added together
+-- rows that were added, of which some may have gone into strips
 pub rows_kept : (w : Transposed) (way : FlipWay) (depth : ℕ) (width width' : SampleWidth) (next columns : ℕ)
-    (strips strips' rows rows' batch come more : List (List ℕ)) (s : Shape)
-    → transposed way depth width strips rows batch next columns ≡ w → All (λ row. length row ≡ row_length s) more → width' ≡ width → strips' ≡ strips
-    → rows' ≡ rows ++ more → IsTransposing w s come
+    (strips strips' rows rows' batch come more : List (List ℕ)) (s : Shape) (b : Bool)
+    → transposed way depth width strips rows batch next columns ≡ w → b ≡ (turn_of way).rows_reversed → width' ≡ width
+    → KeepColumns b s.width s.depth strips (rows ++ more) strips' rows' → IsTransposing w s come
     → IsTransposing (transposed way depth width' strips' rows' batch next columns) s (come ++ more)
-rows_kept w way depth width width' next columns strips strips' rows rows' batch come more s is long same_width same_strips added h =
-    let before : IsTransposing (transposed way depth width strips rows batch next columns) s come =
-    subst (λ (v : Transposed). IsTransposing v s come) (sym is) h in
-    let after : IsTransposing (transposed way depth width strips rows' batch next columns) s (come ++ more) =
-    rows_taken way depth width next columns strips rows rows' batch come more s long added before in
+rows_kept w way depth width width' next columns strips strips' rows rows' batch come more s b is order same_width kept ready =
+    let r : Bool = (turn_of way).rows_reversed in
+    let h : IsTransposing (transposed way depth width strips rows batch next columns) s come =
+    subst (λ (v : Transposed). IsTransposing v s come) (sym is) ready in
+    let keeps : KeepColumns r s.width s.depth strips (rows ++ more) strips' rows' =
+    subst (λ (c : Bool). KeepColumns c s.width s.depth strips (rows ++ more) strips' rows') order kept in
     subst (λ (v : SampleWidth). IsTransposing (transposed way depth v strips' rows' batch next columns) s (come ++ more)) (sym same_width)
-    (subst (λ (l : List (List ℕ)). IsTransposing (transposed way depth width l rows' batch next columns) s (come ++ more)) (sym same_strips) after)
-
--- rows that went into a strip
-pub strip_filled : (way : FlipWay) (depth : ℕ) (sample_width : SampleWidth) (next columns : ℕ) (strips strips' rows rows' batch come : List (List ℕ))
-    (s : Shape) (b : Bool) → b ≡ (turn_of way).rows_reversed
-    → KeepColumns b s.width s.depth strips rows strips' rows' → IsTransposing (transposed way depth sample_width strips rows batch next columns) s come
-    → IsTransposing (transposed way depth sample_width strips' rows' batch next columns) s come
-strip_filled way depth sample_width next columns strips strips' rows rows' batch come s b order kept h =
-    let keeps : KeepColumns (turn_of way).rows_reversed s.width s.depth strips rows strips' rows' =
-    subst (λ (c : Bool). KeepColumns c s.width s.depth strips rows strips' rows') order kept in
     record {
       limits = h.limits;
       column = h.column;
       sample_width = h.sample_width;
-      count = keeps.count ∙ h.count;
-      same = λ x below. keeps.same x below ∙ h.same x below;
+      count = omega (arith, keeps.count, h.count, length-append rows more, length-append come more);
+      same = λ x below.
+          keeps.same x below ∙ coming_more r s.depth x strips rows more
+          ∙ ap (λ (l : List ℕ). with_more r l (column_of s.depth (in_order r more) x)) (h.same x below) ∙ sym (come_more r s.depth x come more);
       sizes = keeps.sizes;
       none_made = h.none_made;
     }
-
--- a row that was added, and then went into a strip or not
-pub row_kept : (w : Transposed) (way : FlipWay) (depth : ℕ) (width width₁ width₂ : SampleWidth) (next columns : ℕ)
-    (strips strips₁ strips₂ rows rows₁ rows₂ batch come : List (List ℕ)) (row : List ℕ) (s : Shape) (b : Bool)
-    → transposed way depth width strips rows batch next columns ≡ w → length row ≡ row_length s → width₁ ≡ width → strips₁ ≡ strips → rows₁ ≡ rows ++ row ∷ []
-    → b ≡ (turn_of way).rows_reversed → width₂ ≡ width₁
-    → KeepColumns b s.width s.depth strips₁ rows₁ strips₂ rows₂ → IsTransposing w s come
-    → IsTransposing (transposed way depth width₂ strips₂ rows₂ batch next columns) s (come ++ row ∷ [])
-row_kept w way depth width width₁ width₂ next columns strips strips₁ strips₂ rows rows₁ rows₂ batch come row s b is long same_width same_strips added order
-    kept_width kept h =
-    let before : IsTransposing (transposed way depth width strips rows batch next columns) s come =
-    subst (λ (v : Transposed). IsTransposing v s come) (sym is) h in
-    let after : IsTransposing (transposed way depth width strips rows₁ batch next columns) s (come ++ row ∷ []) =
-    row_taken way depth width next columns strips rows rows₁ batch come row s long added before in
-    let held : KeepColumns b s.width s.depth strips rows₁ strips₂ rows₂ = subst (λ (l : List (List ℕ)). KeepColumns b s.width s.depth l rows₁ strips₂ rows₂)
-    same_strips kept in
-    subst (λ (v : SampleWidth). IsTransposing (transposed way depth v strips₂ rows₂ batch next columns) s (come ++ row ∷ [])) (sym (kept_width ∙ same_width))
-    (strip_filled way depth width next columns strips strips₂ rows₁ rows₂ batch (come ++ row ∷ []) s b order held after)
 
 -- ---- the rows that a transposer has still to give
 
@@ -189,22 +110,30 @@ end_due w way sample_width depth_width depth next columns b strips strips' rows 
     ∙ ap (λ (v : Transposed). end_answer (Flip v.way) s come) is
 
 -- nothing is due before the image has ended
-pub none_made : (way : FlipWay) (depth : ℕ) (sample_width : SampleWidth) (next columns : ℕ) (strips rows batch : List (List ℕ)) (s : Shape) (y : ℕ)
-    (row : List ℕ) → (turn_of way).exchanged ≡ true → batch ≡ [] → columns ≡ 0
-    → transposed_due (transposed way depth sample_width strips rows batch next columns) ≡ row_answer (Flip way) s y row
-none_made way depth sample_width next columns strips rows batch s y row exchanged no_batch no_column =
+none_made : (way : FlipWay) (depth : ℕ) (sample_width : SampleWidth) (next columns : ℕ) (strips rows batch : List (List ℕ)) → batch ≡ [] → columns ≡ 0
+    → transposed_due (transposed way depth sample_width strips rows batch next columns) ≡ []
+none_made way depth sample_width next columns strips rows batch no_batch no_column =
     let none : columns - next ≡ 0 = omega arith in
     let last_first : Bool = (turn_of way).columns_reversed in
     ap (λ (l : List (List ℕ)). transposed_due (transposed way depth sample_width strips rows l next columns)) no_batch
     ∙ ap (λ (n : ℕ). in_order last_first (map (kept_column (turn_of way).rows_reversed depth strips rows) (range_with_len next n))) none
     ∙ in_order_nil last_first
-    ∙ sym (row_moved way s y row (exchanged_moves (turn_of way) exchanged))
 
 -- nor do rows that come answer anything
 pub none_answer : (way : FlipWay) (s : Shape) (y : ℕ) (rows : List (List ℕ)) → moves_rows (turn_of way) ≡ true → rows_answer (Flip way) s y rows ≡ []
 none_answer way s y [] moves = refl
 none_answer way s y (row ∷ rows) moves =
     ap (λ (l : List (List ℕ)). l ++ rows_answer (Flip way) s (y + 1) rows) (row_moved way s y row moves) ∙ none_answer way s (y + 1) rows moves
+
+pub due_while_rows_come : (w : Transposed) (way : FlipWay) (depth : ℕ) (width width' : SampleWidth) (next columns : ℕ)
+    (strips strips' rows rows' batch come : List (List ℕ)) (s : Shape) (y : ℕ) (more : List (List ℕ)) → (turn_of way).exchanged ≡ true
+    → transposed way depth width strips rows batch next columns ≡ w → IsTransposing w s come
+    → transposed_due (transposed way depth width' strips' rows' batch next columns) ≡ rows_answer (Flip w.way) s y more
+due_while_rows_come w way depth width width' next columns strips strips' rows rows' batch come s y more exchanged is h =
+    none_made way depth width' next columns strips' rows' batch (ap (λ (v : Transposed). v.batch) is ∙ h.none_made.0)
+    (ap (λ (v : Transposed). v.columns) is ∙ h.none_made.2)
+    ∙ sym (none_answer way s y more (exchanged_moves (turn_of way) exchanged))
+    ∙ ap (λ (v : Transposed). rows_answer (Flip v.way) s y more) is
 
 -- the batch that is made holds the columns that were the next to be made
 pub first_made : (way : FlipWay) (depth : ℕ) (sample_width : SampleWidth) (next columns count : ℕ) (b : Bool) (strips rows batch : List (List ℕ))

@@ -1,5 +1,5 @@
 -- Rows whose pixels are repeated, as they are held.
-use Rattle.std.proofs.Common.{◌≡◌, ℕ, ◌*◌, ◌≤◌, ◌<◌, List, [], ◌∷◌, ◌++◌, length, get_or, map, replicate, All, refl, sym, ap, ap₂, subst, ◌∙◌, arith}
+use Rattle.std.proofs.Common.{◌≡◌, ℕ, ◌*◌, ◌≤◌, ◌<◌, List, [], ◌∷◌, ◌++◌, length, map, replicate, All, refl, sym, ap, ap₂, subst, ◌∙◌, arith}
 use Rattle.std.proofs.lemmas.List.{append-nil}
 use Rattle.std.specs.List.{AllByRecursion, concat, flat_map}
 use Rattle.std.proofs.lemmas.List.Elements.{All-append, All-from_recursion, All-nil, All-replicate, recursion_from_All}
@@ -67,13 +67,13 @@ widened_bits across count s rows made one are is =
     )
 
 -- rows whose pixels stand once are the same rows
-unchanged_rows : (across : ℕ) (s : Shape) (rows : List (List ℕ)) → across ≡ 1 → AreEach (row_length s) rows → rows ≡ map (enlarged_row across s) rows
+pub unchanged_rows : (across : ℕ) (s : Shape) (rows : List (List ℕ)) → across ≡ 1 → AreEach (row_length s) rows → rows ≡ map (enlarged_row across s) rows
 unchanged_rows across s [] once are = refl
 unchanged_rows across s (row ∷ rows) once are =
     ap₂ (λ (r : List ℕ) (l : List (List ℕ)). r ∷ l) (unchanged_row across s row once are.0) (unchanged_rows across s rows once are.1)
 
 -- rows that stand once are the same rows
-rows_once : (down : ℕ) (rows : List (List ℕ)) → down ≡ 1 → rows ≡ flat_map (replicate down) rows
+pub rows_once : (down : ℕ) (rows : List (List ℕ)) → down ≡ 1 → rows ≡ flat_map (replicate down) rows
 rows_once down [] once = refl
 rows_once down (row ∷ rows) once =
     ap (λ (l : List (List ℕ)). row ∷ l) (rows_once down rows once)
@@ -144,11 +144,6 @@ together_held across down count each s rows held many size are h =
     holds_as (length rows * down) (row_length s * across) (count * down) (each * across) all all held (ap (λ (n : ℕ). n * down) (sym many))
     (ap (λ (n : ℕ). n * across) (sym size)) refl h in
     (now, subst (AreRowsWithin s.maxval) (sym now.0) (enlarged_range across down s rows are))
-
--- a row by itself
-pub one_enlarged : (across : ℕ) (s : Shape) (row : List ℕ) (rows : List (List ℕ)) → rows ≡ row ∷ []
-    → get_or (flat_map (replicate 1) (map (enlarged_row across s) rows)) 0 [] ≡ enlarged_row across s row
-one_enlarged across s row rows is = ap (λ (l : List (List ℕ)). get_or (flat_map (replicate 1) (map (enlarged_row across s) l)) 0 []) is
 
 -- ---- copies of a row
 

@@ -1,9 +1,9 @@
 -- What tools keep while the rows of an image come, and the rows of the result that they still give.
 use Rattle.std.specs.Prelude.{◌≡◌, ℕ, zero, suc, ◌-◌, ◌*◌, ◌<◌, ◌≤◌, ◌%◌, true, List, [], ◌++◌}
 use Rattle.std.specs.Prelude.{map, length, min, take, drop}
-use Rattle.std.specs.Prelude.{reverse, replicate, slice_index_or, All, Option, Some, None}
+use Rattle.std.specs.Prelude.{reverse, slice_index_or, All}
 use Rattle.std.specs.List.{range_with_len}
-use Rattle.pnm_image.specs.declared.limits.TheConstants.{MAX_DEPTH, MAX_ROW_LENGTH, MAX_SIDE}
+use Rattle.pnm_image.specs.declared.limits.TheConstants.{MAX_DEPTH, MAX_ROW_LENGTH}
 use Rattle.pnm_image.specs.declared.sample_width.SampleWidth.{SampleWidth}
 use Rattle.pnm_image.specs.declared.sample_width.SampleWidth.TheVariants.{Bits as OfBits}
 use Rattle.pnm_image.specs.declared.shape.Shape.{Shape}
@@ -11,12 +11,14 @@ use Rattle.pnm_image.specs.Heads.{IsWithinLimits, row_length}
 use Rattle.pnm_geometry_tools.specs.declared.enlarge.Enlarger.{Enlarger}
 use Rattle.pnm_tools.specs.declared.flip.FlipWay.{FlipWay}
 use Rattle.pnm_tools.specs.Flip.{turn_of, in_order, column_of}
+use Rattle.pnm_tools.specs.Answering.{rows_list}
+use Rattle.pnm_geometry_tools.specs.Enlarging.{waiting_due, waiting_rows}
 use Rattle.pnm_geometry_tools.specs.SampleRows.{SuitsShape}
 use Rattle.pnm_geometry_tools.specs.Strips.{HaveSizes, ReachColumns, coming_column, kept_column, kept_count}
 use Rattle.pnm_tools.specs.Tile.{tiled_row}
 use Rattle.pnm_tools.specs.Pixels.{pixel_of}
 
--- ---- pamenlarge: a row that is given more than once
+-- ---- pamenlarge: copies of a row, and the rows that wait behind it
 
 abbrev pub across_of : Enlarger → ℕ
 across_of w = w.across
@@ -24,22 +26,11 @@ across_of w = w.across
 abbrev pub down_of : Enlarger → ℕ
 down_of w = w.down
 
-abbrev pub kept_row : Enlarger → Option (List ℕ)
-kept_row w = w.row
-
--- for images of a shape that stays within the limits with its pixels repeated
-pub record IsEnlarging (across : ℕ) (s : Shape) : Type 0 where
-  pub limits : IsWithinLimits s
-  pub width : s.width * across ≤ MAX_SIDE
-  pub row : s.width * across * s.depth ≤ MAX_ROW_LENGTH
-
--- a row that is to be given so many times
-abbrev pub copies_due : Option (List ℕ) → ℕ → List (List ℕ)
-copies_due None left = []
-copies_due (Some row) left = replicate left row
-
 abbrev pub enlarged_due : Enlarger → List (List ℕ)
-enlarged_due w = copies_due w.row w.left
+enlarged_due w = rows_list w.copies ++ waiting_due w.waiting
+
+abbrev pub kept_rows : Enlarger → List (List ℕ)
+kept_rows w = rows_list w.copies ++ waiting_rows w.waiting
 
 -- ---- pamflip where columns and rows are exchanged: all rows, and a batch of rows of the result
 

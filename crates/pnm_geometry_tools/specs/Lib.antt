@@ -2,5 +2,6 @@ pub mod Columns
 pub mod FlatRows
 pub mod Strips
 pub mod SampleRows
+pub mod Enlarging
 pub mod Keeping
 pub mod HeldRows

@@ -9,7 +9,6 @@ ghost use Rattle.pnm_geometry_tools.specs.Keeping.{fronts_in};
 
 use crate::join::append;
 use pnm_image::{RowSlice, RowVec, Rows};
-use pnm_samples::bytes_to_words;
 use std::alloc::{AllocError, Global};
 use std::marker::Model;
 
@@ -103,8 +102,8 @@ fn hold_behind(alloc: Global, held: &mut RowVec, more: &RowVec) -> Result<(), Al
     if append(held, more.as_slice())? {
         return Ok(());
     }
-    let mut words = words_of(alloc, held.as_slice())?;
-    let behind = words_of(alloc, more.as_slice())?;
+    let mut words = held.as_slice().to_words(alloc)?;
+    let behind = more.as_slice().to_words(alloc)?;
     words.extend_from_slice(behind.as_slice())?;
     *held = RowVec::Words(words);
     Ok(())
@@ -164,23 +163,4 @@ fn slice_fronts<T: Copy>(
         fronts.extend_from_slice(&samples[start..start + shown])?;
     }
     Ok(fronts)
-}
-
-/// All samples of rows as words.
-///
-/// # Errors
-///
-/// Where there is no memory for them.
-fn words_of(alloc: Global, rows: RowSlice<'_>) -> Result<Vec<u16>, AllocError>
-    ensures whole { (count : ℕ) (each : ℕ) → AreSliceRows count each rows.entry
-        → IfOk result (λ words. length words.items ≡ count * each) }
-    ensures rows { (count : ℕ) (each : ℕ) → AreSliceRows count each rows.entry
-        → IfOk result (λ words. cut_rows count each words.items
-        ≡ slice_lists count each rows.entry) }
-{
-    match rows {
-        RowSlice::Bits(bits) => bytes_to_words(alloc, bits.to_bytes(alloc)?.as_slice()),
-        RowSlice::Bytes(bytes) => bytes_to_words(alloc, bytes),
-        RowSlice::Words(words) => Vec::from_slice(alloc, words),
-    }
 }

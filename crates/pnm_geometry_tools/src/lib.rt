@@ -10,13 +10,15 @@ mod enlarge;
 mod flat_rows;
 mod join;
 mod kept_rows;
-mod one_row;
+mod larger;
 mod repeat;
+mod row_copies;
 mod row_of;
 mod sample_rows;
 mod strip;
 mod tile;
 mod transpose;
+mod waiting_rows;
 
 pub use enlarge::Enlarger;
 pub use tile::Tiler;

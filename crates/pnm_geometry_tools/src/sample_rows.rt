@@ -1,20 +1,22 @@
 //! Rows whose samples are all of one width, which a transposer keeps.
 
-ghost use Rattle.std.specs.Prelude.{◌≡◌, ◌≤◌, ◌<◌, ◌+◌, ◌*◌, ◌++◌, ◌∷◌, [], OnOk, OnErr, IfOk, IfErr, length, map};
-ghost use Rattle.std.specs.Prelude.{reverse};
-ghost use Rattle.std.specs.List.{range_with_len};
+ghost use Rattle.std.specs.Prelude.{◌≡◌, ◌≤◌, ◌<◌, ◌+◌, ◌*◌, ◌++◌, ◌∷◌, [], OnOk, IfOk, IfErr, length, map};
+ghost use Rattle.std.specs.Prelude.{get_or, reverse, IsTrue, IsFalse};
+ghost use Rattle.std.specs.List.{AllByRecursion, range_with_len};
 ghost use Rattle.pnm_image.specs.declared.limits.TheConstants.{MAX_DEPTH, MAX_ROW_LENGTH};
 ghost use Rattle.pnm_image.specs.Heads.{IsWithinLimits};
+ghost use Rattle.pnm_image.specs.Places.{IsRowOf};
+ghost use Rattle.pnm_samples.specs.SampleVecs.{slice_samples};
 ghost use Rattle.pnm_tools.specs.declared.fault.ToolFault.TheVariants.{Memory};
 ghost use Rattle.pnm_tools.specs.Flip.{in_order};
 ghost use Rattle.pnm_geometry_tools.specs.SampleRows.{row_lists, strip_lists, rows_width, FitsWidth, IsBatchOfBits};
-ghost use Rattle.pnm_geometry_tools.specs.SampleRows.{batch_length};
+ghost use Rattle.pnm_geometry_tools.specs.SampleRows.{SuitsShape, batch_length};
 ghost use Rattle.pnm_geometry_tools.specs.Strips.{HaveSizes, KeepColumns, ReachColumns, kept_column, kept_count};
 
 use crate::batch::{columns_of, last_first};
 use crate::flat_rows::FlatRows;
 use crate::strip::StripedRows;
-use pnm_image::{RowSlice, Rows, SampleWidth, Samples, Shape};
+use pnm_image::{RowSlice, Rows, SampleSlice, SampleWidth, Samples, Shape};
 use pnm_samples::PixelRows;
 use pnm_tools::ToolFault;
 use std::alloc::{AllocError, Global};
@@ -30,8 +32,8 @@ const BATCH_OF_BITS: u32 = 256;
 /// takes little memory beside the image.
 const LEAST_HEIGHT: u32 = 1024;
 
-/// How many samples a row has at most that is kept as it is where rows come together in such an image: of short rows
-/// many lie in the processor's cache once they are exchanged, and to make strips of them takes longer than it saves.
+/// How many samples a row has at most that is kept as it is in such an image, too: of short rows many lie in the
+/// processor's cache once they are exchanged, and to make strips of them takes longer than it saves.
 const MOST_SAMPLES: u64 = 256;
 
 /// The rows of an image, top to bottom, all of one width of samples.
@@ -65,13 +67,103 @@ impl SampleRows {
         }
     }
 
+    /// Adds the rows at the end: one by one where some of them become a strip. The only fault is `Memory`.
+    pub fn add(
+        &mut self,
+        alloc: Global,
+        last_first: bool,
+        shape: Shape,
+        rows: &Rows,
+    ) -> Result<(), ToolFault>
+        requires rows { AllByRecursion (IsRowOf shape) rows.now }
+        requires suits { SuitsShape (rows_width self.old) shape }
+        requires sizes { HaveSizes shape.width shape.depth (strip_lists self.old) (row_lists self.old) }
+        requires limits { IsWithinLimits shape }
+        ensures sample_width { rows_width self.new ≡ rows_width self.old }
+        ensures kept { OnOk result (KeepColumns last_first shape.width shape.depth
+            (strip_lists self.old) (row_lists self.old ++ rows.now) (strip_lists self.new) (row_lists self.new)) }
+        ensures refused { IfErr result (λ fault. fault ≡ Memory) }
+    {
+        if self.prefers_strips(shape) {
+            return self.push_each(alloc, last_first, shape, rows);
+        }
+        if self.push_rows(rows)? {
+            return Ok(());
+        }
+        self.push_each(alloc, last_first, shape, rows)
+    }
+
+    /// Adds the rows at the end, one after another, each time with a strip of those that came last if they are as many
+    /// as a strip has. The only fault is `Memory`.
+    fn push_each(
+        &mut self,
+        alloc: Global,
+        last_first: bool,
+        shape: Shape,
+        rows: &Rows,
+    ) -> Result<(), ToolFault>
+        requires rows { AllByRecursion (IsRowOf shape) rows.now }
+        requires suits { SuitsShape (rows_width self.old) shape }
+        requires sizes { HaveSizes shape.width shape.depth (strip_lists self.old) (row_lists self.old) }
+        requires limits { IsWithinLimits shape }
+        ensures sample_width { rows_width self.new ≡ rows_width self.old }
+        ensures kept { OnOk result (KeepColumns last_first shape.width shape.depth
+            (strip_lists self.old) (row_lists self.old ++ rows.now) (strip_lists self.new) (row_lists self.new)) }
+        ensures refused { IfErr result (λ fault. fault ≡ Memory) }
+    {
+        for at in 0..rows.count() {
+            self.push(alloc, rows, at)?;
+            self.fill_strip(alloc, last_first, shape)?;
+        }
+        Ok(())
+    }
+
+    /// Adds a row of these, counted from 0, at the end. The only fault is `Memory`.
+    fn push(&mut self, alloc: Global, rows: &Rows, at: u32) -> Result<(), ToolFault>
+        requires there { at < length rows.now }
+        requires fits { FitsWidth (rows_width self.old) (get_or rows.now at []) }
+        ensures sample_width { rows_width self.new ≡ rows_width self.old }
+        ensures strips { strip_lists self.new ≡ strip_lists self.old }
+        ensures added { OnOk result (row_lists self.new ≡ row_lists self.old ++ get_or rows.now at [] ∷ []) }
+        ensures refused { IfErr result (λ fault. fault ≡ Memory) }
+    {
+        if self.push_slice(rows.row_slice(at))? {
+            return Ok(());
+        }
+        self.push_samples(alloc, rows.row(alloc, at)?)
+    }
+
+    /// Adds a row of bytes or words at the end; false, and nothing is added, where the others are held otherwise.
+    ///
+    /// # Errors
+    ///
+    /// Where there is no memory for it.
+    fn push_slice(&mut self, row: SampleSlice<'_>) -> Result<bool, AllocError>
+        ensures sample_width { rows_width self.new ≡ rows_width self.old }
+        ensures strips { strip_lists self.new ≡ strip_lists self.old }
+        ensures added { IfOk result (λ done. IsTrue done
+            → row_lists self.new ≡ row_lists self.old ++ slice_samples row.entry ∷ []) }
+        ensures same { IfOk result (λ done. IsFalse done → row_lists self.new ≡ row_lists self.old) }
+    {
+        match (self, row) {
+            (SampleRows::Bytes(kept), SampleSlice::Bytes(bytes)) => {
+                kept.rows.push(bytes)?;
+                Ok(true)
+            }
+            (SampleRows::Words(kept), SampleSlice::Words(words)) => {
+                kept.rows.push(words)?;
+                Ok(true)
+            }
+            _ => Ok(false),
+        }
+    }
+
     /// Adds a row at the end, without a copy where it is held so. The only fault is `Memory`.
-    pub fn push(&mut self, alloc: Global, row: Samples) -> Result<(), ToolFault>
+    fn push_samples(&mut self, alloc: Global, row: Samples) -> Result<(), ToolFault>
         requires { FitsWidth (rows_width self.old) row }
         ensures sample_width { rows_width self.new ≡ rows_width self.old }
         ensures strips { strip_lists self.new ≡ strip_lists self.old }
         ensures added { OnOk result (row_lists self.new ≡ row_lists self.old ++ row ∷ []) }
-        ensures unchanged { OnErr result (row_lists self.new ≡ row_lists self.old) }
         ensures refused { IfErr result (λ fault. fault ≡ Memory) }
     {
         match self {
@@ -81,8 +173,8 @@ impl SampleRows {
         }
     }
 
-    /// Whether rows of an image of this shape are rather put into strips, for which each has to come by itself.
-    pub fn prefers_strips(&self, shape: Shape) -> bool {
+    /// Whether rows of an image of this shape are rather put into strips, for which each is added by itself.
+    fn prefers_strips(&self, shape: Shape) -> bool {
         match self {
             SampleRows::Bits(_) => false,
             SampleRows::Bytes(_) | SampleRows::Words(_) => {
@@ -91,38 +183,38 @@ impl SampleRows {
         }
     }
 
-    /// Adds the rows at the end.
+    /// Adds the rows at the end; false, and nothing is added, where they are held in another width.
     ///
     /// # Errors
     ///
-    /// Where there is no memory for them, or they are held in another width. Then nothing has changed.
-    pub fn push_rows(&mut self, rows: &Rows) -> Result<(), AllocError>
+    /// Where there is no memory for them.
+    fn push_rows(&mut self, rows: &Rows) -> Result<bool, AllocError>
         ensures sample_width { rows_width self.new ≡ rows_width self.old }
         ensures strips { strip_lists self.new ≡ strip_lists self.old }
-        ensures added { OnOk result (row_lists self.new ≡ row_lists self.old ++ rows.now) }
-        ensures unchanged { OnErr result (row_lists self.new ≡ row_lists self.old) }
+        ensures added { IfOk result (λ done. IsTrue done → row_lists self.new ≡ row_lists self.old ++ rows.now) }
+        ensures same { IfOk result (λ done. IsFalse done → row_lists self.new ≡ row_lists self.old) }
     {
         let (count, each) = (rows.count() as usize, rows.row_length());
         match (self, rows.as_slice()) {
-            (SampleRows::Bits(kept), RowSlice::Bits(bits)) => kept.push_rows(bits),
+            (SampleRows::Bits(kept), RowSlice::Bits(bits)) => {
+                kept.push_rows(bits)?;
+                Ok(true)
+            }
             (SampleRows::Bytes(kept), RowSlice::Bytes(bytes)) => {
-                kept.rows.push_rows(bytes, count, each)
+                kept.rows.push_rows(bytes, count, each)?;
+                Ok(true)
             }
             (SampleRows::Words(kept), RowSlice::Words(words)) => {
-                kept.rows.push_rows(words, count, each)
+                kept.rows.push_rows(words, count, each)?;
+                Ok(true)
             }
-            _ => Err(AllocError),
+            _ => Ok(false),
         }
     }
 
-    /// Makes a strip of the rows that came last, once they are as many as a strip has, in an image that has
-    /// enough rows; no strips are made of bits. The only fault is `Memory`.
-    pub fn fill_strip(
-        &mut self,
-        alloc: Global,
-        last_first: bool,
-        shape: Shape,
-    ) -> Result<(), ToolFault>
+    /// Makes a strip of the rows that came last, once they are as many as a strip has, of an image whose rows are
+    /// rather put into strips. The only fault is `Memory`.
+    fn fill_strip(&mut self, alloc: Global, last_first: bool, shape: Shape) -> Result<(), ToolFault>
         requires sizes { HaveSizes shape.width shape.depth (strip_lists self.old) (row_lists self.old) }
         requires limits { IsWithinLimits shape }
         ensures sample_width { rows_width self.new ≡ rows_width self.old }
@@ -130,7 +222,7 @@ impl SampleRows {
             (strip_lists self.old) (row_lists self.old) (strip_lists self.new) (row_lists self.new)) }
         ensures refused { IfErr result (λ fault. fault ≡ Memory) }
     {
-        if shape.height < LEAST_HEIGHT {
+        if !self.prefers_strips(shape) {
             return Ok(());
         }
         let (width, depth) = (shape.width as usize, shape.depth as usize);

@@ -17,7 +17,7 @@ ghost use Rattle.pnm_tools.specs.Tools.{TakesHead, result_head};
 
 use crate::join::count_together;
 use crate::kept_rows::KeptRows;
-use pnm_image::{BitRows, Bits, Head, Kind, RowSlice, RowVec, Rows, Samples, Shape};
+use pnm_image::{BitRows, Bits, Head, Kind, RowSlice, RowVec, Rows, Shape};
 use pnm_tools::{ImageTool, ToolFault, head_within_limits};
 use std::alloc::{AllocError, Global};
 use std::marker::Model;
@@ -277,33 +277,15 @@ impl ImageTool for Tiler {
         Ok(tiled)
     }
 
-    /// Rows and columns that the result doesn't show aren't kept.
-    fn take(&mut self, alloc: Global, shape: Shape, y: u32, row: Samples) -> Result<(), ToolFault> {
+    /// Keeps what the result shows of the rows, which are answered by none.
+    fn take(&mut self, alloc: Global, shape: Shape, y: u32, rows: Rows) -> Result<(), ToolFault> {
         if y >= self.height {
             return Ok(());
         }
-        let (row, shown) = (Rows::one(row), shown_length(self.width, shape));
-        self.rows.push_fronts(alloc, &row, 1, shown)?;
-        Ok(())
-    }
-
-    /// Keeps copies of what the result shows of the rows, which are answered by none.
-    fn rows(
-        &mut self,
-        alloc: Global,
-        shape: Shape,
-        y: u32,
-        rows: Rows,
-    ) -> Result<Option<Rows>, Rows> {
-        if y >= self.height {
-            return Ok(None);
-        }
         let kept = (self.height - y).min(rows.count()) as usize;
         let shown = shown_length(self.width, shape);
-        let Ok(()) = self.rows.push_fronts(alloc, &rows, kept, shown) else {
-            return Err(rows);
-        };
-        Ok(None)
+        self.rows.push_fronts(alloc, &rows, kept, shown)?;
+        Ok(())
     }
 
     fn end(&mut self, shape: Shape) {
@@ -325,10 +307,6 @@ impl ImageTool for Tiler {
         let samples = tile_rows(alloc, self.width, self.shape, &self.rows, y, count)?;
         self.left = left;
         Ok(Some(Rows::new(samples, self.shape.maxval, count, row_length)))
-    }
-
-    fn may_give(&self) -> bool {
-        self.left > 0
     }
 
     fn release(&mut self, alloc: Global) {

@@ -61,30 +61,10 @@ impl ImageTool for Transposer {
         Ok(transposed)
     }
 
-    fn take(
-        &mut self,
-        alloc: Global,
-        shape: Shape,
-        _y: u32,
-        row: Samples,
-    ) -> Result<(), ToolFault> {
-        self.rows.push(alloc, row)?;
+    /// Keeps the rows, which are answered by none.
+    fn take(&mut self, alloc: Global, shape: Shape, _y: u32, rows: Rows) -> Result<(), ToolFault> {
         let last_first = self.way.turn().rows_reversed;
-        self.rows.fill_strip(alloc, last_first, shape)
-    }
-
-    /// Keeps copies of the rows, which are answered by none.
-    fn rows(
-        &mut self,
-        _alloc: Global,
-        shape: Shape,
-        _y: u32,
-        rows: Rows,
-    ) -> Result<Option<Rows>, Rows> {
-        if !self.rows.prefers_strips(shape) && self.rows.push_rows(&rows).is_ok() {
-            return Ok(None);
-        }
-        Err(rows)
+        self.rows.add(alloc, last_first, shape, &rows)
     }
 
     fn end(&mut self, shape: Shape) {
@@ -105,10 +85,6 @@ impl ImageTool for Transposer {
             }
         }
         next_columns(&mut self.batch)
-    }
-
-    fn may_give(&self) -> bool {
-        !self.batch.is_empty() || self.next < self.columns
     }
 
     fn release(&mut self, alloc: Global) {

@@ -1,9 +1,11 @@
 -- Rows as they are held.
-use Rattle.std.proofs.Common.{◌≡◌, ℕ, zero, suc, ◌*◌, ◌+◌, ◌≤◌, ◌<◌, List, [], ◌∷◌, ◌++◌, get_or, length, take, drop, All, sym, ap, subst, ◌∙◌, arith}
-use Rattle.std.proofs.Common.{zero-mul, suc-mul, inl, inr}
-use Rattle.std.proofs.lemmas.List.{drop-drop, drop_more, get_or_default, nil_from_length, take-append-drop}
+use Rattle.std.proofs.Common.{◌≡◌, ℕ, zero, suc, ◌-◌, ◌*◌, ◌+◌, ◌≤◌, ◌<◌, List, [], ◌∷◌, get_or, length, map, take, drop, All}
+use Rattle.std.proofs.Common.{refl, sym, ap, ap₂, subst, ◌∙◌, arith, zero-mul, suc-mul, mul-le-mul_right, inl, inr}
+use Rattle.std.specs.List.{concat}
+use Rattle.std.proofs.lemmas.List.{drop_at, drop-drop, get_or_default, length-append, length-drop, length-take-le, nil_from_length}
+use Rattle.std.proofs.lemmas.List.{take_at, take_all, take-take, drop-take}
 use Rattle.std.proofs.lemmas.Bool.{cases_lt}
-use Rattle.std.proofs.lemmas.List.Elements.{All-from_recursion}
+use Rattle.std.proofs.lemmas.List.Elements.{All-drop, All-from_recursion, All-head, All-tail, All-take}
 use Rattle.pnm_samples.proofs.CutLaws.{length-cut_rows}
 use Rattle.pnm_samples.specs.Cuts.{cut_rows}
 use Rattle.pnm_image.specs.declared.rows.RowVec.{RowVec}
@@ -47,13 +49,6 @@ row_of_cut (suc count) each (suc at) samples lt =
 pub row_places : (count each at long : ℕ) → long ≡ count * each → at < count → (at * each + each ≤ long) × ((at + 1) * each ≡ at * each + each)
 row_places count each at long is lt = (omega (arith, row_ends_within count each at lt, is), omega arith)
 
--- a row between those before and behind it
-pub row_between : (at : ℕ) (rows : List (List ℕ)) (row : List ℕ) → at < length rows → row ≡ get_or rows at []
-    → rows ≡ take at rows ++ row ∷ drop (at + 1) rows
-row_between at rows row lt is =
-    sym (take-append-drop at rows) ∙ ap (λ (l : List (List ℕ)). take at rows ++ l) (drop_more rows at [] lt)
-    ∙ ap (λ (r : List ℕ). take at rows ++ r ∷ drop (at + 1) rows) (sym is)
-
 -- the only row
 pub only_row : (rows : List (List ℕ)) → length rows ≡ 1 → rows ≡ get_or rows 0 [] ∷ []
 only_row [] one = absurd (omega (arith, one))
@@ -72,3 +67,84 @@ within_more P at rows lt known more k d below = elim (cases_lt k at) [
 -- a greater number is none below a sample, either
 pub within_greater : (low high : ℕ) (rows : List (List ℕ)) → low ≤ high → AreRowsWithin low rows → AreRowsWithin high rows
 within_greater low high rows le known = λ k d lt j e inside. let small = known k d lt j e inside in omega (arith, small, le)
+
+-- ---- some of the rows
+
+-- the first of those that are cut
+pub cut_of_more : (n more each : ℕ) (samples : List ℕ) → take n (cut_rows (n + more) each samples) ≡ cut_rows n each samples
+cut_of_more zero more each samples = refl
+cut_of_more (suc n) more each samples =
+    let count : suc n + more ≡ suc (n + more) = omega arith in
+    ap (λ (k : ℕ). take (suc n) (cut_rows k each samples)) count
+    ∙ ap (λ (l : List (List ℕ)). take each samples ∷ l) (cut_of_more n more each (drop each samples))
+
+-- those behind the first
+pub cut_behind_some : (n more each : ℕ) (samples : List ℕ) → drop n (cut_rows (n + more) each samples) ≡ cut_rows more each (drop (n * each) samples)
+cut_behind_some zero more each samples =
+    let same : 0 + more ≡ more = omega arith in
+    let none : 0 * each ≡ 0 = omega (arith, zero-mul each) in
+    ap (λ (k : ℕ). cut_rows k each samples) same ∙ sym (ap (λ (k : ℕ). cut_rows more each (drop k samples)) none)
+cut_behind_some (suc n) more each samples =
+    let count : suc n + more ≡ suc (n + more) = omega arith in
+    let place : suc n * each ≡ each + n * each = omega (arith, suc-mul n each) in
+    ap (λ (k : ℕ). drop (suc n) (cut_rows k each samples)) count ∙ cut_behind_some n more each (drop each samples)
+    ∙ ap (cut_rows more each) (drop-drop (n * each) each samples ∙ ap (λ (k : ℕ). drop k samples) (sym place))
+
+-- they are cut from so many samples
+pub cut_of_front : (n each : ℕ) (samples : List ℕ) → cut_rows n each (take (n * each) samples) ≡ cut_rows n each samples
+cut_of_front zero each samples = refl
+cut_of_front (suc n) each samples =
+    let size : suc n * each ≡ each + n * each = omega (arith, suc-mul n each) in
+    let first : take each (take (each + n * each) samples) ≡ take each samples = take-take each (each + n * each) samples (omega arith) in
+    ap (λ (k : ℕ). cut_rows (suc n) each (take k samples)) size
+    ∙ ap₂ (λ (r : List ℕ) (l : List ℕ). r ∷ cut_rows n each l) first (drop-take each (n * each) samples)
+    ∙ ap (λ (l : List (List ℕ)). take each samples ∷ l) (cut_of_front n each (drop each samples))
+
+-- so many from one on
+pub part_of_cut : (count each top many : ℕ) (samples : List ℕ) → top + many ≤ count
+    → cut_rows many each (take (many * each) (drop (top * each) samples)) ≡ take many (drop top (cut_rows count each samples))
+part_of_cut count each top many samples within =
+    let more : ℕ = count - (top + many) in
+    let all : top + (many + more) ≡ count = omega (arith, within) in
+    cut_of_front many each (drop (top * each) samples) ∙ sym (cut_of_more many more each (drop (top * each) samples))
+    ∙ ap (take many) (sym (cut_behind_some top (many + more) each samples) ∙ ap (λ (k : ℕ). drop top (cut_rows k each samples)) all)
+
+-- where they lie
+pub part_places : (count each top many long : ℕ) → long ≡ count * each → top + many ≤ count → top * each + many * each ≤ long
+part_places count each top many long is within =
+    let places : (top + many) * each ≤ count * each = mul-le-mul_right each within in
+    omega (arith, places, is)
+
+-- as many as they are
+pub length_of_part : {X : Type 0} (count top many : ℕ) (xs : List X) → length xs ≡ count → top + many ≤ count → length (take many (drop top xs)) ≡ many
+length_of_part {X = X} count top many xs long within = length-take-le many (drop top xs) (omega (arith, length-drop top xs, long, within))
+
+-- a whole row of each
+pub whole_rows : (each : ℕ) (rows : List (List ℕ)) → All (λ row. length row ≡ each) rows → map (λ row. take each (drop 0 row)) rows ≡ rows
+whole_rows each [] long = refl
+whole_rows each (row ∷ rows) long =
+    let P : List ℕ → Type 0 = λ row. length row ≡ each in
+    let first : length row ≤ each = omega (arith, All-head P row rows long) in
+    ap₂ (λ (r : List ℕ) (l : List (List ℕ)). r ∷ l) (take_all each row first) (whole_rows each rows (All-tail P row rows long))
+
+-- what holds of all rows holds of some of them
+pub all_of_part : (P : List ℕ → Type 0) (top many : ℕ) (rows part : List (List ℕ)) → part ≡ take many (drop top rows) → All P rows → All P part
+all_of_part P top many rows part is all = subst (All P) (sym is) (All-take P many (drop top rows) (All-drop P top rows all))
+
+-- ---- rows as words
+
+-- the samples of rows, cut again
+pub words_of_rows : (count each : ℕ) (rows : List (List ℕ)) (words : List ℕ) → length rows ≡ count → All (λ row. length row ≡ each) rows
+    → words ≡ concat rows → (length words ≡ count * each) × (cut_rows count each words ≡ rows)
+words_of_rows zero each [] words many long is = (ap length is ∙ sym (zero-mul each), refl)
+words_of_rows zero each (row ∷ rows) words many long is = absurd (omega (arith, many))
+words_of_rows (suc count) each [] words many long is = absurd (omega (arith, many))
+words_of_rows (suc count) each (row ∷ rows) words many long is =
+    let P : List ℕ → Type 0 = λ row. length row ≡ each in
+    let first : length row ≡ each = All-head P row rows long in
+    let rest = words_of_rows count each rows (concat rows) (omega (arith, many)) (All-tail P row rows long) refl in (
+      omega (arith, ap length is, length-append row (concat rows), first, rest.0, suc-mul count each),
+      ap (cut_rows (suc count) each) is
+          ∙ ap₂ (λ (r : List ℕ) (l : List ℕ). r ∷ cut_rows count each l) (take_at row (concat rows) each first) (drop_at row (concat rows) each first)
+          ∙ ap (λ (l : List (List ℕ)). row ∷ l) rest.1,
+    )

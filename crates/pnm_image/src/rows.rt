@@ -2,10 +2,11 @@
 
 ghost use Rattle.std.specs.Prelude.{◌≡◌, ℕ, ◌≤◌, ◌<◌, ◌+◌, ◌*◌, ◌↔◌, All, IsTrue, IfOk, length, take, drop, ◌++◌, ◌∷◌};
 ghost use Rattle.std.specs.Prelude.{[], IfErr, get_or};
+ghost use Rattle.pnm_samples.specs.Cuts.{cut_rows};
 ghost use Rattle.pnm_samples.specs.SampleVecs.{HasWhiteSpare, samples_of, slice_samples};
 ghost use Rattle.pnm_image.specs.HeldRows.{AreRows, AreRowsWithin, AreSliceRows, row_lists, slice_lists};
 
-use pnm_samples::{BitRows, Bits, SampleSlice, SampleVec, Samples};
+use pnm_samples::{BitRows, Bits, SampleSlice, SampleVec, Samples, bytes_to_words};
 use std::alloc::{AllocError, Global};
 use std::marker::Model;
 
@@ -41,6 +42,26 @@ impl RowVec {
             RowVec::Bits(rows) => RowSlice::Bits(rows),
             RowVec::Bytes(bytes) => RowSlice::Bytes(bytes.as_slice()),
             RowVec::Words(words) => RowSlice::Words(words.as_slice()),
+        }
+    }
+}
+
+impl RowSlice<'_> {
+    /// All samples as words.
+    ///
+    /// # Errors
+    ///
+    /// Where there is no memory for them.
+    pub fn to_words(self, alloc: Global) -> Result<Vec<u16>, AllocError>
+        ensures whole { (count : ℕ) (each : ℕ) → AreSliceRows count each self.entry
+            → IfOk result (λ words. length words.items ≡ count * each) }
+        ensures rows { (count : ℕ) (each : ℕ) → AreSliceRows count each self.entry
+            → IfOk result (λ words. cut_rows count each words.items ≡ slice_lists count each self.entry) }
+    {
+        match self {
+            RowSlice::Bits(rows) => bytes_to_words(alloc, rows.to_bytes(alloc)?.as_slice()),
+            RowSlice::Bytes(bytes) => bytes_to_words(alloc, bytes),
+            RowSlice::Words(words) => Vec::from_slice(alloc, words),
         }
     }
 }
@@ -201,6 +222,21 @@ impl Rows {
         copy_of(alloc, self.row_slice(at))
     }
 
+    /// A copy of so many of the rows, from one on.
+    ///
+    /// # Errors
+    ///
+    /// Where there is no memory for it.
+    pub fn part(&self, alloc: Global, top: u32, count: u32) -> Result<Rows, AllocError>
+        requires some { 1 ≤ count }
+        requires within { top + count ≤ length self.now }
+        ensures { IfOk result (λ part. part ≡ take count (drop top self.now)) }
+    {
+        let (first, many, each) = (top as usize, count as usize, self.row_length);
+        let held = part_of(alloc, &self.held, first, many, each)?;
+        Ok(Rows::new(held, self.bound, count, each))
+    }
+
     /// How the rows are held, how many they are, and how many samples a row has, without a copy.
     pub fn into_parts(self) -> (RowVec, u32, usize)
         ensures rows { self ≡ row_lists result.1 result.2 result.0 }
@@ -225,6 +261,41 @@ fn first_of(held: RowVec, each: usize) -> SampleVec
         RowVec::Words(mut words) => {
             words.truncate(each);
             SampleVec::Words(words)
+        }
+    }
+}
+
+/// A copy of so many of rows of so many samples, from one on.
+///
+/// # Errors
+///
+/// Where there is no memory for it.
+fn part_of(
+    alloc: Global,
+    held: &RowVec,
+    top: usize,
+    many: usize,
+    each: usize,
+) -> Result<RowVec, AllocError>
+    requires { (count : ℕ) × AreRows count each held.now × (top + many ≤ count) }
+    ensures whole { IfOk result (λ part. AreRows many each part) }
+    ensures rows { (count : ℕ) → AreRows count each held.now → top + many ≤ count
+        → IfOk result (λ part. row_lists many each part ≡ take many (drop top (row_lists count each held.now))) }
+{
+    match held {
+        RowVec::Bits(rows) => {
+            let part = rows.part(alloc, top, many, 0, each)?;
+            Ok(RowVec::Bits(part))
+        }
+        RowVec::Bytes(bytes) => {
+            let (start, size) = (top * each, many * each);
+            let part = Vec::from_slice(alloc, &bytes[start..start + size])?;
+            Ok(RowVec::Bytes(part))
+        }
+        RowVec::Words(words) => {
+            let (start, size) = (top * each, many * each);
+            let part = Vec::from_slice(alloc, &words[start..start + size])?;
+            Ok(RowVec::Words(part))
         }
     }
 }

@@ -1,9 +1,9 @@
 -- The fields of a header, line by line.
 use Rattle.std.proofs.Common.{◌≡◌, ◌⊎◌, inl, inr, ℕ, ◌≤◌, Bool, true, false, not, ◌==◌, if◌then◌else◌, List, [], ◌∷◌, ◌++◌, length, Option, Some, None, refl}
 use Rattle.std.proofs.Common.{sym, ap, subst, ◌∙◌, arith}
-use Rattle.std.specs.Prelude.{nat_lt}
 use Rattle.std.specs.List.{list_all}
 use Rattle.std.proofs.lemmas.Bool.{ltb-false, ne_eqb}
+use Rattle.pnm_image.specs.declared.limits.TheConstants.{MAX_TUPLE_TYPE_LENGTH}
 use Rattle.pnm_read.specs.declared.fault.InputFault.TheVariants.{BadPamLine, BadNumber, DuplicateField, TooLong, Memory}
 use Rattle.pnm_read.specs.declared.judgement.Judgement.{Judgement}
 use Rattle.pnm_read.specs.declared.judgement.Judgement.TheVariants.{GoesOn, EndsWith, Fails}
@@ -14,7 +14,7 @@ use Rattle.pnm_read.specs.declared.line.LineKind.TheVariants.{Nothing, Number, T
 use Rattle.pnm_image.specs.Texts.{is_digit, decimal_value}
 use Rattle.pnm_read.specs.Saturation.{saturate_u32}
 use Rattle.pnm_read.specs.PamLines.{after_first, second_token, value_of, line_kind, field_values, joined_with, tuple_type_in}
-use Rattle.pnm_read.specs.Items.{line_item, number_item, tuple_type_item}
+use Rattle.pnm_read.specs.Items.{line_item, number_item, is_type_too_long, tuple_type_item}
 use Rattle.pnm_read.specs.PamScanners.{number_of, held_number, IsFields, TakesLine, JudgesLine, field_number, with_number, SetsNumber, IsWithTupleType}
 use Rattle.pnm_read.specs.PamScanners.{SetsTupleType, AddsTupleType}
 use Rattle.pnm_read.proofs.LineKinds.{is_number, is_type, values_same, values_first, type_same, type_joined}
@@ -36,7 +36,7 @@ fields_same s lines line number type f = record {
   depth = f.depth ∙ ap held_number (sym (values_same Depth lines line (number Depth)));
   maxval = f.maxval ∙ ap held_number (sym (values_same Maxval lines line (number Maxval)));
   tuple_type = f.tuple_type ∙ sym (type_same lines line type);
-  short = subst (λ (l : List ℕ). length l ≤ 255) (sym (type_same lines line type)) f.short;
+  short = subst (λ (l : List ℕ). length l ≤ MAX_TUPLE_TYPE_LENGTH) (sym (type_same lines line type)) f.short;
 }
 
 -- a line that says nothing, or is the last, has no number
@@ -87,7 +87,7 @@ with_width old lines line e none f = record {
   depth = f.depth ∙ ap held_number (sym (values_same Depth lines line (ap (is_number Depth) e)));
   maxval = f.maxval ∙ ap held_number (sym (values_same Maxval lines line (ap (is_number Maxval) e)));
   tuple_type = f.tuple_type ∙ sym (type_same lines line (ap is_type e));
-  short = subst (λ (l : List ℕ). length l ≤ 255) (sym (type_same lines line (ap is_type e))) f.short;
+  short = subst (λ (l : List ℕ). length l ≤ MAX_TUPLE_TYPE_LENGTH) (sym (type_same lines line (ap is_type e))) f.short;
 }
 
 with_height : (old : Fields) (lines : List (List ℕ)) (line : List ℕ) → line_kind line ≡ Number Height → field_values Height lines ≡ [] → IsFields old lines
@@ -98,7 +98,7 @@ with_height old lines line e none f = record {
   depth = f.depth ∙ ap held_number (sym (values_same Depth lines line (ap (is_number Depth) e)));
   maxval = f.maxval ∙ ap held_number (sym (values_same Maxval lines line (ap (is_number Maxval) e)));
   tuple_type = f.tuple_type ∙ sym (type_same lines line (ap is_type e));
-  short = subst (λ (l : List ℕ). length l ≤ 255) (sym (type_same lines line (ap is_type e))) f.short;
+  short = subst (λ (l : List ℕ). length l ≤ MAX_TUPLE_TYPE_LENGTH) (sym (type_same lines line (ap is_type e))) f.short;
 }
 
 with_depth : (old : Fields) (lines : List (List ℕ)) (line : List ℕ) → line_kind line ≡ Number Depth → field_values Depth lines ≡ [] → IsFields old lines
@@ -109,7 +109,7 @@ with_depth old lines line e none f = record {
   depth = ap held_number (sym (values_first Depth lines line (ap (is_number Depth) e) none));
   maxval = f.maxval ∙ ap held_number (sym (values_same Maxval lines line (ap (is_number Maxval) e)));
   tuple_type = f.tuple_type ∙ sym (type_same lines line (ap is_type e));
-  short = subst (λ (l : List ℕ). length l ≤ 255) (sym (type_same lines line (ap is_type e))) f.short;
+  short = subst (λ (l : List ℕ). length l ≤ MAX_TUPLE_TYPE_LENGTH) (sym (type_same lines line (ap is_type e))) f.short;
 }
 
 with_maxval : (old : Fields) (lines : List (List ℕ)) (line : List ℕ) → line_kind line ≡ Number Maxval → field_values Maxval lines ≡ [] → IsFields old lines
@@ -120,7 +120,7 @@ with_maxval old lines line e none f = record {
   depth = f.depth ∙ ap held_number (sym (values_same Depth lines line (ap (is_number Depth) e)));
   maxval = ap held_number (sym (values_first Maxval lines line (ap (is_number Maxval) e) none));
   tuple_type = f.tuple_type ∙ sym (type_same lines line (ap is_type e));
-  short = subst (λ (l : List ℕ). length l ≤ 255) (sym (type_same lines line (ap is_type e))) f.short;
+  short = subst (λ (l : List ℕ). length l ≤ MAX_TUPLE_TYPE_LENGTH) (sym (type_same lines line (ap is_type e))) f.short;
 }
 
 -- each field is set so
@@ -181,7 +181,8 @@ line_of_number field old new line rest j e is s lines f =
 
 -- the fields of the lines with one more, which has a part of the tuple type
 with_type : (old new : Fields) (lines : List (List ℕ)) (line : List ℕ) → line_kind line ≡ TupleType → IsFields old lines
-    → IsWithTupleType old new (tuple_type_in (lines ++ line ∷ [])) → length (tuple_type_in (lines ++ line ∷ [])) ≤ 255 → IsFields new (lines ++ line ∷ [])
+    → IsWithTupleType old new (tuple_type_in (lines ++ line ∷ [])) → length (tuple_type_in (lines ++ line ∷ [])) ≤ MAX_TUPLE_TYPE_LENGTH
+    → IsFields new (lines ++ line ∷ [])
 with_type old new lines line e f w short = record {
   width = w.width ∙ f.width ∙ ap held_number (sym (values_same Width lines line (ap (is_number Width) e)));
   height = w.height ∙ f.height ∙ ap held_number (sym (values_same Height lines line (ap (is_number Height) e)));
@@ -205,8 +206,8 @@ line_of_type old new line text j e is (inr memory) lines f = inr memory
 line_of_type old new line text j e is (inl s) lines f =
     let all : joined_with old.tuple_type.items text ≡ tuple_type_in (lines ++ line ∷ []) =
     ap (λ (l : List ℕ). joined_with l text) f.tuple_type ∙ ap (joined_with (tuple_type_in lines)) is ∙ sym (type_joined lines line (ap is_type e)) in
-    let sets : SetsTupleType (nat_lt 255 (length (tuple_type_in (lines ++ line ∷ [])))) old (tuple_type_in (lines ++ line ∷ [])) new j =
-    subst (λ (l : List ℕ). SetsTupleType (nat_lt 255 (length l)) old l new j) all s in
-    let p = type_by (nat_lt 255 (length (tuple_type_in (lines ++ line ∷ [])))) old new (tuple_type_in (lines ++ line ∷ [])) j (lines ++ line ∷ []) sets
-    (λ short w. with_type old new lines line e f w (ltb-false 255 (length (tuple_type_in (lines ++ line ∷ []))) short)) in
+    let sets : SetsTupleType (is_type_too_long (tuple_type_in (lines ++ line ∷ []))) old (tuple_type_in (lines ++ line ∷ [])) new j =
+    subst (λ (l : List ℕ). SetsTupleType (is_type_too_long l) old l new j) all s in
+    let p = type_by (is_type_too_long (tuple_type_in (lines ++ line ∷ []))) old new (tuple_type_in (lines ++ line ∷ [])) j (lines ++ line ∷ []) sets
+    (λ short w. with_type old new lines line e f w (ltb-false MAX_TUPLE_TYPE_LENGTH (length (tuple_type_in (lines ++ line ∷ []))) short)) in
     judges_so new lines line j (tuple_type_item lines line) (line_is_judged TupleType lines line e) p.0 p.1

@@ -23,8 +23,8 @@ use Rattle.pnm_image.specs.Formats.{format_of, is_plain_form}
 use Rattle.pnm_read.specs.Formats.{number_count, shape_of}
 use Rattle.pnm_read.specs.PamLines.{ended_lines, last_line, second_token, line_kind, field_values, tuple_type_in}
 use Rattle.pnm_read.specs.Items.{◌>>=◌, piece_from, first_magic_item, second_magic_item, header_limit, is_bad_in_header, is_delimiter, header_item, header_end}
-use Rattle.pnm_read.specs.Items.{fault_of_head, numbers_item, line_feed_item, pam_limit, number_item, tuple_type_item, line_item, pam_item, is_incomplete}
-use Rattle.pnm_read.specs.Items.{shape_in, lines_item}
+use Rattle.pnm_read.specs.Items.{fault_of_head, numbers_item, line_feed_item, pam_limit, number_item, is_type_too_long, tuple_type_item, line_item, pam_item}
+use Rattle.pnm_read.specs.Items.{is_incomplete, shape_in, lines_item}
 use Rattle.pnm_read.specs.Said.{format_at, pnm_head_at, pam_head_at, head_by, head_at}
 use Rattle.pnm_read.proofs.PamLineLaws.{line_by}
 use Rattle.pnm_image.specs.declared.limits.TheConstants.{MAX_DEPTH, MAX_MAXVAL, MAX_ROW_LENGTH, MAX_SIDE}
@@ -207,7 +207,7 @@ number_line_by_text lines field line = three_fail_by_text (length (second_token 
     (not (length (field_values field lines) == 0)) BadPamLine BadNumber DuplicateField tt tt tt
 
 tuple_type_by_text : (lines : List (List ℕ)) (line : List ℕ) → IsJudgedByText (tuple_type_item lines line)
-tuple_type_by_text lines line = one_fails_by_text (nat_lt 255 (length (tuple_type_in (lines ++ line ∷ [])))) TooLong tt
+tuple_type_by_text lines line = one_fails_by_text (is_type_too_long (tuple_type_in (lines ++ line ∷ []))) TooLong tt
 
 line_kind_by_text : (kind : LineKind) (lines : List (List ℕ)) (line : List ℕ) → IsJudgedByText (line_by kind lines line)
 line_kind_by_text Nothing lines line = tt

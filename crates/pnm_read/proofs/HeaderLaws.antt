@@ -231,7 +231,7 @@ last_parts : (comment white all : Bool) → (not comment && white && all) ≡ tr
 last_parts comment white all e = (grind arith, grind arith, grind arith)
 
 pub record Ended (count : ℕ) (body : List ℕ) (delimiter : ℕ) : Type 0 where
-  pub short : length body < 65534
+  pub short : length body < header_limit
   pub outside : ends_in_comment body ≡ false
   pub white : is_white delimiter ≡ true
   pub all : length (numbers_in body) ≡ count
@@ -241,7 +241,7 @@ ended count body delimiter e =
     let parts = ends_with_by (nat_le header_limit (length body)) (is_bad_in_header body delimiter) (is_delimiter count body delimiter)
     (sym (header_item_is count body delimiter) ∙ e) in
     let last = last_parts (ends_in_comment body) (is_white delimiter) (length (numbers_in body) == count) parts.2 in
-    record { short = leb-false 65534 (length body) parts.0; outside = last.0; white = last.1; all = eqb-true (length (numbers_in body)) count last.2 }
+    record { short = leb-false header_limit (length body) parts.0; outside = last.0; white = last.1; all = eqb-true (length (numbers_in body)) count last.2 }
 
 -- a body with all its numbers ends with the last
 pub ends_in_last : (count : ℕ) (body : List ℕ) (ends : Bool) → ends_in_word (uncommented body) ≡ ends

@@ -13,7 +13,7 @@ use Rattle.pnm_read.specs.declared.fault.InputFault.TheVariants.{ReadFailed, Mem
 use Rattle.pnm_read.specs.Items.{fault_of_head}
 use Rattle.pnm_read.specs.Saturation.{saturate_u32, GivesInMemory}
 use Rattle.pnm_read.proofs.ShapeLaws.{head_or_fault, limits_of}
-use Rattle.pnm_image.specs.declared.limits.TheConstants.{MAX_ROW_LENGTH, MAX_SIDE}
+use Rattle.pnm_image.specs.declared.limits.TheConstants.{MAX_DEPTH, MAX_MAXVAL, MAX_ROW_LENGTH, MAX_SIDE}
 
 -- a limit below the greatest u32 is passed by a number where it is passed by the u32
 saturate_u32-limit : (limit n : ℕ) → limit < 4294967295 → nat_lt limit (saturate_u32 n) ≡ nat_lt limit n
@@ -76,10 +76,10 @@ same_fault s =
       saturate_u32-zero s.depth,
       saturate_u32-limit MAX_SIDE s.width (omega arith),
       saturate_u32-limit MAX_SIDE s.height (omega arith),
-      saturate_u32-limit 256 s.depth (omega arith),
+      saturate_u32-limit MAX_DEPTH s.depth (omega arith),
       saturate_u32-row s.width s.depth,
       saturate_u32-zero s.maxval,
-      saturate_u32-limit 65535 s.maxval (omega arith),
+      saturate_u32-limit MAX_MAXVAL s.maxval (omega arith),
     ) refl
 
 -- a small u32 is the number itself
@@ -96,8 +96,8 @@ same_shape s e =
     let limits = (limits_of (saturated_shape s) e).0 in
     let width : saturate_u32 s.width ≡ s.width = small_is s.width MAX_SIDE limits.width_high (omega arith) in
     let height : saturate_u32 s.height ≡ s.height = small_is s.height MAX_SIDE limits.height_high (omega arith) in
-    let depth : saturate_u32 s.depth ≡ s.depth = small_is s.depth 256 limits.depth_high (omega arith) in
-    let maxval : saturate_u32 s.maxval ≡ s.maxval = small_is s.maxval 65535 limits.maxval_high (omega arith) in
+    let depth : saturate_u32 s.depth ≡ s.depth = small_is s.depth MAX_DEPTH limits.depth_high (omega arith) in
+    let maxval : saturate_u32 s.maxval ≡ s.maxval = small_is s.maxval MAX_MAXVAL limits.maxval_high (omega arith) in
     ap (λ (n : ℕ). shape_from s.kind n (saturate_u32 s.height) (saturate_u32 s.depth) (saturate_u32 s.maxval)) width
     ∙ ap (λ (n : ℕ). shape_from s.kind s.width n (saturate_u32 s.depth) (saturate_u32 s.maxval)) height
     ∙ ap (λ (n : ℕ). shape_from s.kind s.width s.height n (saturate_u32 s.maxval)) depth

@@ -17,6 +17,7 @@ use Rattle.pnm_read.specs.declared.line.LineKind.TheVariants.{End}
 use Rattle.pnm_image.specs.Formats.{format_of}
 use Rattle.pnm_read.specs.PamLines.{ended_after, ended_lines, last_after, last_line, line_kind, field_values, tuple_type_in}
 use Rattle.pnm_read.specs.Headers.{IsOneLine, IsPamLine, SpellsPamHeader}
+use Rattle.pnm_read.specs.declared.header.TheConstants.{MAX_HEADER_LENGTH}
 use Rattle.pnm_read.specs.Items.{◌>>=◌, piece_from, header_end, line_feed_item, pam_limit, line_item, pam_item, lines_item}
 use Rattle.pnm_read.specs.Said.{pam_head_at}
 use Rattle.pnm_read.proofs.PieceLaws.{bind_ok, done, ok_is, piece_step, FoundBy, found_from, found_at_end, found_is_whole}
@@ -71,7 +72,7 @@ record PamBody (piece : List ℕ) : Type 0 where
   pub body : List ℕ
   pub judged : Judged (ended_lines body)
   pub ends : line_kind (last_line body) ≡ End
-  pub short : length body < 65533
+  pub short : length body < pam_limit
   pub piece_is : piece ≡ body ++ 10 ∷ []
 
 body_by : (judgement : Judgement) (before : List ℕ) (b : ℕ) (text : List ℕ) (found : List ℕ × List ℕ) → pam_item before b ≡ judgement
@@ -85,7 +86,7 @@ body_by EndsWith before b text found e j h more =
       body = before;
       judged = j;
       ends = line_ends (ended_lines before) (last_line before) parts.2;
-      short = leb-false 65533 (length before) parts.0;
+      short = leb-false pam_limit (length before) parts.0;
       piece_is = ap (λ (f : List ℕ × List ℕ). f.0) (sym h) ∙ ap (λ (x : ℕ). before ++ x ∷ []) (eqb-true b 10 parts.1);
     }
 body_by EndsBefore before b text found e j h more =
@@ -117,7 +118,7 @@ line_feed_is (b ∷ text) rest e = line_feed_by (b == 10) b text rest refl e
 record PamRead (text : List ℕ) (head : HeadValue) (rest : List ℕ) : Type 0 where
   pub body : List ℕ
   pub ends : line_kind (last_line body) ≡ End
-  pub short : length body < 65533
+  pub short : length body < pam_limit
   pub judged : Judged (ended_lines body)
   pub whole : text ≡ 10 ∷ ((body ++ 10 ∷ []) ++ rest)
   pub made : MadeOf (ended_lines body) head
@@ -167,7 +168,7 @@ pam_lines [] one say = tt
 pam_lines (line ∷ lines) one say = (record { one_line = one.0; says = say.0 }, pam_lines lines one.1 say.1)
 
 -- a header of a short body is short
-short_header : (body : List ℕ) → length body < 65533 → length (80 ∷ 55 ∷ 10 ∷ (body ++ 10 ∷ [])) ≤ 65536
+short_header : (body : List ℕ) → length body < pam_limit → length (80 ∷ 55 ∷ 10 ∷ (body ++ 10 ∷ [])) ≤ MAX_HEADER_LENGTH
 short_header body h = omega (arith, length-append body (10 ∷ []))
 
 -- a header that is read is spelled
@@ -223,29 +224,29 @@ ended_lines-feed prefix others = ended_after-feed [] prefix others
 
 -- a byte of such a body goes on
 byte_goes_on : (feed : Bool) (prefix : List ℕ) (b : ℕ) (others : List ℕ) → (b == 10) ≡ feed → Judged (ended_lines (prefix ++ b ∷ others))
-    → length (prefix ++ b ∷ others) < 65533 → pam_item prefix b ≡ GoesOn
+    → length (prefix ++ b ∷ others) < pam_limit → pam_item prefix b ≡ GoesOn
 byte_goes_on true prefix b others e j short =
-    let long : nat_le pam_limit (length prefix) ≡ false = lt-leb 65533 (length prefix) (omega (arith, length-append prefix (b ∷ others))) in
+    let long : nat_le pam_limit (length prefix) ≡ false = lt-leb pam_limit (length prefix) (omega (arith, length-append prefix (b ∷ others))) in
     let lines : ended_lines (prefix ++ b ∷ others) ≡ ended_lines prefix ++ last_line prefix ∷ ended_lines others =
     ap (λ (x : ℕ). ended_lines (prefix ++ x ∷ others)) (eqb-true b 10 e) ∙ ended_lines-feed prefix others in
     pam_item_is prefix b ∙ rw (long, e) (line_goes_on (ended_lines prefix) (last_line prefix) (ended_lines others) (subst Judged lines j))
 byte_goes_on false prefix b others e j short =
-    let long : nat_le pam_limit (length prefix) ≡ false = lt-leb 65533 (length prefix) (omega (arith, length-append prefix (b ∷ others))) in
+    let long : nat_le pam_limit (length prefix) ≡ false = lt-leb pam_limit (length prefix) (omega (arith, length-append prefix (b ∷ others))) in
     pam_item_is prefix b ∙ rw (long, e) refl
 
 -- the LF after the line ENDHDR ends the piece
-last_feed_ends : (body : List ℕ) → length body < 65533 → line_kind (last_line body) ≡ End → pam_item body 10 ≡ EndsWith
+last_feed_ends : (body : List ℕ) → length body < pam_limit → line_kind (last_line body) ≡ End → pam_item body 10 ≡ EndsWith
 last_feed_ends body short ends =
-    let long : nat_le pam_limit (length body) ≡ false = lt-leb 65533 (length body) short in
+    let long : nat_le pam_limit (length body) ≡ false = lt-leb pam_limit (length body) short in
     pam_item_is body 10 ∙ rw long (line_is_judged End (ended_lines body) (last_line body) ends)
 
 -- the body and its LF are read as the header's piece
-body_is_piece : (body rest : List ℕ) → Judged (ended_lines body) → length body < 65533 → line_kind (last_line body) ≡ End
+body_is_piece : (body rest : List ℕ) → Judged (ended_lines body) → length body < pam_limit → line_kind (last_line body) ≡ End
     → piece_from pam_item header_end [] (body ++ 10 ∷ rest) ≡ Ok (body ++ 10 ∷ [], rest)
 body_is_piece body rest j short ends =
     goes_on_through pam_item header_end body [] body (10 ∷ rest) refl
     (λ prefix b others e. byte_goes_on (b == 10) prefix b others refl (subst (λ (t : List ℕ). Judged (ended_lines t)) (sym e) j)
-    (subst (λ (t : List ℕ). length t < 65533) (sym e) short))
+    (subst (λ (t : List ℕ). length t < pam_limit) (sym e) short))
     ∙ piece_step pam_item header_end body 10 rest EndsWith (last_feed_ends body short ends)
 
 -- ---- the lines of a header
@@ -308,14 +309,14 @@ judged_lines text format head s =
     record { say = may_stand s.lines s.lines_are; single = single_values text format head s; short = omega arith }
 
 -- a header within the limit has a body within it
-short_body : (text body : List ℕ) → text ≡ 80 ∷ 55 ∷ 10 ∷ (body ++ 10 ∷ []) → length text ≤ 65536 → length body < 65533
+short_body : (text body : List ℕ) → text ≡ 80 ∷ 55 ∷ 10 ∷ (body ++ 10 ∷ []) → length text ≤ MAX_HEADER_LENGTH → length body < pam_limit
 short_body text body whole short =
     let lengths : length text ≡ length (body ++ 10 ∷ []) + 3 = ap (λ (t : List ℕ). length t) whole ∙ omega arith in
     omega (arith, length-append body (10 ∷ []))
 
 -- the head is read of the body, its LF and what follows
 head_is_read : (body rest : List ℕ) (lines : List (List ℕ)) (last : List ℕ) (head : HeadValue) → ended_lines body ≡ lines → last_line body ≡ last → Judged lines
-    → line_kind last ≡ End → length body < 65533 → MadeOf lines head
+    → line_kind last ≡ End → length body < pam_limit → MadeOf lines head
     → pam_head_at (10 ∷ (body ++ 10 ∷ rest)) ≡ Ok (head, rest)
 unfolding pam_head_at line_feed_item
 head_is_read body rest lines last head e l judged ends short made =

@@ -1,7 +1,6 @@
 -- The lines of a PAM header: what a line says, which lines are judged to go on, and the head that they make.
 use Rattle.std.proofs.Common.{◌≡◌, ℕ, ◌+◌, ◌<◌, ◌≤◌, Bool, true, false, not, ◌==◌, if◌then◌else◌, List, [], ◌∷◌, ◌++◌, length, refl, sym, ap, subst, ◌∙◌}
 use Rattle.std.proofs.Common.{append_assoc, append-nil, length-append, arith, codes, pos_of_ne-zero}
-use Rattle.std.specs.Prelude.{nat_lt}
 use Rattle.std.specs.Str.{bytes_eq}
 use Rattle.std.specs.List.{AllPass, AllByRecursion, list_all}
 use Rattle.std.proofs.lemmas.Bool.Decides.{nat_tests}
@@ -15,12 +14,13 @@ use Rattle.pnm_read.specs.declared.line.Field.{Field}
 use Rattle.pnm_read.specs.declared.line.Field.TheVariants.{Width, Height, Depth, Maxval}
 use Rattle.pnm_read.specs.declared.line.LineKind.{LineKind}
 use Rattle.pnm_read.specs.declared.line.LineKind.TheVariants.{Nothing, Number, TupleType, End, Unknown}
+use Rattle.pnm_image.specs.declared.limits.TheConstants.{MAX_TUPLE_TYPE_LENGTH}
 use Rattle.pnm_image.specs.Texts.{is_digit, decimal_value}
 use Rattle.pnm_image.proofs.Lists.{each-middle, each-push}
 use Rattle.pnm_read.specs.PamLines.{first_token, second_token, value_of, name_of, begins_with, kind_of_token, line_kind, field_values, joined_with}
 use Rattle.pnm_read.specs.PamLines.{tuple_type_in}
 use Rattle.pnm_read.specs.Headers.{MaySay}
-use Rattle.pnm_read.specs.Items.{number_item, tuple_type_item, line_item}
+use Rattle.pnm_read.specs.Items.{number_item, is_type_too_long, tuple_type_item, line_item}
 use Rattle.pnm_read.proofs.LineLaws.{joined_with-nothing, field_values-append, tuple_type_in-append}
 
 -- ---- what a line says, by its first token
@@ -204,7 +204,7 @@ ends_by Nothing lines line e = absurd cc
 ends_by (Number field) lines line e =
     absurd ((number_never_ends (length (second_token line) == 0) (not (list_all is_digit (second_token line))) (not (length (field_values field lines) == 0))
     (line_by (Number field) lines line) refl).0 e)
-ends_by TupleType lines line e = absurd ((type_never_ends (nat_lt 255 (length (tuple_type_in (lines ++ line ∷ [])))) (line_by TupleType lines line) refl).0 e)
+ends_by TupleType lines line e = absurd ((type_never_ends (is_type_too_long (tuple_type_in (lines ++ line ∷ []))) (line_by TupleType lines line) refl).0 e)
 ends_by End lines line e = refl
 ends_by Unknown lines line e = absurd cc
 
@@ -217,7 +217,7 @@ never_before Nothing lines line e = cc
 never_before (Number field) lines line e =
     (number_never_ends (length (second_token line) == 0) (not (list_all is_digit (second_token line))) (not (length (field_values field lines) == 0))
     (line_by (Number field) lines line) refl).1 e
-never_before TupleType lines line e = (type_never_ends (nat_lt 255 (length (tuple_type_in (lines ++ line ∷ [])))) (line_by TupleType lines line) refl).1 e
+never_before TupleType lines line e = (type_never_ends (is_type_too_long (tuple_type_in (lines ++ line ∷ []))) (line_by TupleType lines line) refl).1 e
 never_before End lines line e = cc
 never_before Unknown lines line e = cc
 
@@ -232,7 +232,7 @@ MayStand line = MaySay (line_kind line) line
 pub record Judged (lines : List (List ℕ)) : Type 0 where
   pub say : AllByRecursion MayStand lines
   pub single : (field : Field) → length (field_values field lines) ≤ 1
-  pub short : length (tuple_type_in lines) ≤ 255
+  pub short : length (tuple_type_in lines) ≤ MAX_TUPLE_TYPE_LENGTH
 
 one_value : (field : Field) (line : List ℕ) → begins_with (name_of field) line ≡ true → length (field_values field (line ∷ [])) ≡ 1
 one_value field line e =
@@ -249,11 +249,11 @@ single_by true field lines line b e single =
 single_by false field lines line b e single = let lengths = ap (λ (l : List ℕ). length l) (values-other field lines line b) in omega arith
 
 short_by : (begins : Bool) (lines : List (List ℕ)) (line : List ℕ) → begins_with (codes "TUPLTYPE") line ≡ begins → line_item lines line ≡ GoesOn
-    → length (tuple_type_in lines) ≤ 255 → length (tuple_type_in (lines ++ line ∷ [])) ≤ 255
+    → length (tuple_type_in lines) ≤ MAX_TUPLE_TYPE_LENGTH → length (tuple_type_in (lines ++ line ∷ [])) ≤ MAX_TUPLE_TYPE_LENGTH
 short_by true lines line b e short =
-    let test = type_goes_on (nat_lt 255 (length (tuple_type_in (lines ++ line ∷ [])))) (sym (line_is_judged TupleType lines line (tuple_type_line line b))
+    let test = type_goes_on (is_type_too_long (tuple_type_in (lines ++ line ∷ []))) (sym (line_is_judged TupleType lines line (tuple_type_line line b))
     ∙ e) in
-    ltb-false 255 (length (tuple_type_in (lines ++ line ∷ []))) test
+    ltb-false MAX_TUPLE_TYPE_LENGTH (length (tuple_type_in (lines ++ line ∷ []))) test
 short_by false lines line b e short = let lengths = ap (λ (l : List ℕ). length l) (tuple_type-other lines line b) in omega arith
 
 -- with one line more that goes on
@@ -293,8 +293,8 @@ first_of_field field earlier line later b single =
     omega arith
 
 -- the tuple type so far is no longer than that of all lines
-tuple_type_so_far : (earlier : List (List ℕ)) (line : List ℕ) (later : List (List ℕ)) → length (tuple_type_in (earlier ++ line ∷ later)) ≤ 255
-    → length (tuple_type_in (earlier ++ line ∷ [])) ≤ 255
+tuple_type_so_far : (earlier : List (List ℕ)) (line : List ℕ) (later : List (List ℕ)) → length (tuple_type_in (earlier ++ line ∷ later)) ≤ MAX_TUPLE_TYPE_LENGTH
+    → length (tuple_type_in (earlier ++ line ∷ [])) ≤ MAX_TUPLE_TYPE_LENGTH
 tuple_type_so_far earlier line later short =
     let whole : tuple_type_in (earlier ++ line ∷ later) ≡ joined_with (tuple_type_in (earlier ++ line ∷ [])) (tuple_type_in later) =
     ap tuple_type_in (sym (append_assoc earlier (line ∷ []) later)) ∙ tuple_type_in-append (earlier ++ line ∷ []) later in
@@ -309,7 +309,7 @@ goes_on_by (Number field) earlier line later k says j =
     let first = first_of_field field earlier line later (begins_with_name field line k) (j.single field) in
     rw (some_test (length (second_token line)) says.0, list_all-from_AllPass is_digit (second_token line) says.1, first) refl
 goes_on_by TupleType earlier line later k says j =
-    rw (le-ltb 255 (length (tuple_type_in (earlier ++ line ∷ []))) (tuple_type_so_far earlier line later j.short)) refl
+    rw (le-ltb MAX_TUPLE_TYPE_LENGTH (length (tuple_type_in (earlier ++ line ∷ []))) (tuple_type_so_far earlier line later j.short)) refl
 goes_on_by End earlier line later k says j = absurd says
 goes_on_by Unknown earlier line later k says j = absurd says
 

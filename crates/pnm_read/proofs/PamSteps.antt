@@ -31,12 +31,12 @@ pam_fresh s l line fields = record { length_is = l; line = line; fields = fields
 -- ---- one byte more
 
 -- the length is within the limit
-is_short : (s : PamScanner) (before : List ℕ) → IsPamAfter s before → s.length < 65533 → nat_le pam_limit (length before) ≡ false
+is_short : (s : PamScanner) (before : List ℕ) → IsPamAfter s before → s.length < pam_limit → nat_le pam_limit (length before) ≡ false
 is_short s before a lt = let same = a.length_is in grind (arith, nat_tests)
 
 -- a byte of a line
-pub pam_goes_on : (old new : PamScanner) (b : ℕ) → old.length < 65533 → (b ≡ 10 → ⊥) → new.length ≡ old.length + 1 → new.line.items ≡ old.line.items ++ b ∷ []
-    → new.fields ≡ old.fields
+pub pam_goes_on : (old new : PamScanner) (b : ℕ) → old.length < pam_limit → (b ≡ 10 → ⊥) → new.length ≡ old.length + 1
+    → new.line.items ≡ old.line.items ++ b ∷ [] → new.fields ≡ old.fields
     → JudgesByte pam_item (IsPamAfter old) (IsPamAfter new) (IsPamWhole new) b GoesOn
 pam_goes_on old new b lt other l line fields before a =
     let no_feed : (b == 10) ≡ false = ne_eqb b 10 other in
@@ -65,15 +65,15 @@ feed_taken new EndsBefore before l line t = absurd t
 feed_taken new (Fails k) before l line t = tt
 
 -- the judgement of a LF is that of its line
-feed_judged : (old : PamScanner) (line : List ℕ) (j : Judgement) (before : List ℕ) → old.length < 65533 → line ≡ old.line.items → IsPamAfter old before
+feed_judged : (old : PamScanner) (line : List ℕ) (j : Judgement) (before : List ℕ) → old.length < pam_limit → line ≡ old.line.items → IsPamAfter old before
     → j ≡ line_item (ended_lines before) line → j ≡ pam_item before 10
 feed_judged old line j before lt is a judged =
     judged ∙ ap (line_item (ended_lines before)) (is ∙ a.line)
     ∙ sym (pam_item_is before 10 ∙ ap (λ (long : Bool). pam_by long (10 == 10) (line_item (ended_lines before) (last_line before))) (is_short old before a lt))
 
 -- a LF was judged and taken
-feed : (old new : PamScanner) (line : List ℕ) (j : Judgement) → old.length < 65533 → new.length ≡ old.length + 1 → line ≡ old.line.items → new.line.items ≡ []
-    → JudgesLine old.fields line new.fields j
+feed : (old new : PamScanner) (line : List ℕ) (j : Judgement) → old.length < pam_limit → new.length ≡ old.length + 1 → line ≡ old.line.items
+    → new.line.items ≡ [] → JudgesLine old.fields line new.fields j
     → JudgesByte pam_item (IsPamAfter old) (IsPamAfter new) (IsPamWhole new) 10 j
 feed old new line j lt l is none judges before a =
     elim (judges (ended_lines before) a.fields) [
@@ -86,7 +86,7 @@ feed old new line j lt l is none judges before a =
     ]
 
 -- a LF, after which the line is judged
-pub pam_feed : (old new : PamScanner) (b : ℕ) (line : List ℕ) (j : Judgement) → old.length < 65533 → b ≡ 10 → new.length ≡ old.length + 1
+pub pam_feed : (old new : PamScanner) (b : ℕ) (line : List ℕ) (j : Judgement) → old.length < pam_limit → b ≡ 10 → new.length ≡ old.length + 1
     → line ≡ old.line.items → new.line.items ≡ [] → JudgesLine old.fields line new.fields j
     → JudgesByte pam_item (IsPamAfter old) (IsPamAfter new) (IsPamWhole new) b j
 pam_feed old new b line j lt e l is none judges = subst (λ (b : ℕ). JudgesByte pam_item (IsPamAfter old) (IsPamAfter new) (IsPamWhole new) b j) (sym e)

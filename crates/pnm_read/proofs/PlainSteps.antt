@@ -4,6 +4,7 @@ use Rattle.std.proofs.Common.{[], ◌∷◌, ◌++◌, Option, Some, None, Resul
 use Rattle.std.proofs.Common.{sym, ap, ap₂, subst, ◌∙◌, arith}
 use Rattle.std.specs.Prelude.{slice_get}
 use Rattle.std.proofs.lemmas.Bool.{le-leb, lt-leb}
+use Rattle.pnm_image.specs.declared.limits.TheConstants.{MAX_MAXVAL}
 use Rattle.pnm_image.specs.declared.shape.Shape.{Shape}
 use Rattle.pnm_image.specs.Heads.{row_length}
 use Rattle.pnm_read.specs.declared.fault.InputFault.{InputFault}
@@ -67,7 +68,7 @@ number_of maxval found = found >>= λ piece. sample_item maxval (number_in piece
 abbrev number_if : Bool → ℕ → Result ℕ InputFault
 number_if within n = if within then Ok n else Err SampleAboveMaxval
 
-number_within : (maxval n value : ℕ) → maxval ≤ 65535 → value ≡ saturate_u32 n → value ≤ maxval → sample_item maxval n ≡ Ok value
+number_within : (maxval n value : ℕ) → maxval ≤ MAX_MAXVAL → value ≡ saturate_u32 n → value ≤ maxval → sample_item maxval n ≡ Ok value
 number_within maxval n value most is_value le =
     let same : n ≡ value = omega arith in
     ap (sample_item maxval) same ∙ ap (λ (t : Bool). number_if t value) (le-leb value maxval le)
@@ -76,7 +77,7 @@ number_above : (maxval n value : ℕ) → value ≡ saturate_u32 n → maxval < 
 number_above maxval n value is_value above = ap (λ (t : Bool). number_if t n) (lt-leb n maxval (omega arith))
 
 pub number_found : {R : Type 0} {left : R → Option (List ℕ)} {failures : R → ℕ} {same : R → R → Type 0} {old new : BufferedReader R}
-    (fresh now : DecimalScanner) (maxval sample : ℕ) → IsDecimalAfter fresh [] → sample ≡ now.value → maxval ≤ 65535 → sample ≤ maxval
+    (fresh now : DecimalScanner) (maxval sample : ℕ) → IsDecimalAfter fresh [] → sample ≡ now.value → maxval ≤ MAX_MAXVAL → sample ≤ maxval
     → ReadCall {A = Unit {0}} left failures same old new (Ok tt) (Scans decimal_item decimal_end (IsDecimalAfter fresh) (IsDecimalWhole now) (Ok tt))
     → ReadCall {A = ℕ} left failures same old new (Ok sample) (Finds (plain_decimal maxval) (Ok sample))
 unfolding plain_decimal

@@ -14,7 +14,8 @@ use Rattle.pnm_read.specs.Texts.{uncommented, ends_in_word, numbers_in}
 use Rattle.pnm_image.specs.Formats.{plain, raw, format_of, is_plain_form}
 use Rattle.pnm_read.specs.Formats.{number_count, shape_of, header_numbers}
 use Rattle.pnm_read.specs.Headers.{SpellsPnmHeader, SpellsHeaderBy, SpellsHeader}
-use Rattle.pnm_read.specs.Items.{◌>>=◌, piece_from, first_magic_item, second_magic_item, header_item, header_end, numbers_item}
+use Rattle.pnm_read.specs.declared.header.TheConstants.{MAX_HEADER_LENGTH}
+use Rattle.pnm_read.specs.Items.{◌>>=◌, piece_from, first_magic_item, second_magic_item, header_limit, header_item, header_end, numbers_item}
 use Rattle.pnm_read.specs.Said.{format_at, pnm_head_at, head_by, head_at}
 use Rattle.pnm_read.proofs.PieceLaws.{bind_ok, done, ok_is}
 use Rattle.pnm_read.proofs.PamLaws.{pam_head_is_spelled}
@@ -136,7 +137,7 @@ head_parts kind after head rest e =
     }
 
 -- a header of a short body is short
-short_header : (digit delimiter : ℕ) (body : List ℕ) → length body < 65534 → length (80 ∷ digit ∷ (body ++ delimiter ∷ [])) ≤ 65536
+short_header : (digit delimiter : ℕ) (body : List ℕ) → length body < header_limit → length (80 ∷ digit ∷ (body ++ delimiter ∷ [])) ≤ MAX_HEADER_LENGTH
 short_header digit delimiter body h = omega (arith, length-append body (delimiter ∷ []))
 
 -- a header of PBM, PGM or PPM that is read is spelled

@@ -32,7 +32,7 @@ sizes_are_not_zero : (width height depth : ℕ) → ((width == 0) || (height == 
 sizes_are_not_zero width height depth e = (grind (arith, nat_tests), grind (arith, nat_tests), grind (arith, nat_tests))
 
 -- where the test of the maxval fails, it is in its range
-maxval_is_not_bad : (maxval : ℕ) → ((maxval == 0) || nat_lt 65535 maxval) ≡ false → (0 < maxval) × (maxval ≤ 65535)
+maxval_is_not_bad : (maxval : ℕ) → ((maxval == 0) || nat_lt MAX_MAXVAL maxval) ≡ false → (0 < maxval) × (maxval ≤ MAX_MAXVAL)
 maxval_is_not_bad maxval e = (grind (arith, nat_tests), grind (arith, nat_tests))
 
 -- a shape without a fault is within the limits, and has rows
@@ -63,7 +63,7 @@ not_zero_size : (width height depth : ℕ) → 0 < width → 0 < height → 0 < 
 not_zero_size width height depth w h d = grind (arith, nat_tests)
 
 -- where the maxval is in its range, its test fails
-not_bad_maxval : (maxval : ℕ) → 0 < maxval → maxval ≤ 65535 → ((maxval == 0) || nat_lt 65535 maxval) ≡ false
+not_bad_maxval : (maxval : ℕ) → 0 < maxval → maxval ≤ MAX_MAXVAL → ((maxval == 0) || nat_lt MAX_MAXVAL maxval) ≡ false
 not_bad_maxval maxval low high = grind (arith, nat_tests)
 
 -- a shape within the limits has no fault

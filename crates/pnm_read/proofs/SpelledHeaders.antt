@@ -19,6 +19,7 @@ use Rattle.pnm_image.specs.Texts.{is_white, is_digit}
 use Rattle.pnm_image.specs.Formats.{format_of, is_plain_form}
 use Rattle.pnm_read.specs.Formats.{number_count, shape_of, header_numbers}
 use Rattle.pnm_read.specs.Headers.{SpellsPnmHeader, SpellsPamHeader, SpellsHeaderBy, SpellsHeader}
+use Rattle.pnm_read.specs.declared.header.TheConstants.{MAX_HEADER_LENGTH}
 use Rattle.pnm_read.specs.Items.{piece_from, first_magic_item, second_magic_item, header_limit, is_bad_in_header, is_delimiter, header_item, header_end}
 use Rattle.pnm_read.specs.Items.{numbers_item}
 use Rattle.pnm_read.specs.Said.{format_at, pnm_head_at, head_by, head_at}
@@ -34,7 +35,7 @@ use Rattle.pnm_read.proofs.ReadHeaderLaws.{second_magic}
 
 -- the parts of a header that tell how its bytes are judged
 record Decimal (count : ℕ) (body : List ℕ) : Type 0 where
-  pub short : length body < 65534
+  pub short : length body < header_limit
   pub begins : begins_apart body ≡ true
   pub decimal : AllPass is_decimal (uncommented body)
   pub all : length (numbers_in body) ≡ count
@@ -73,7 +74,7 @@ no_last count prefix b others d = no_delimiter (ends_in_comment prefix) (is_whit
 goes_on : (count : ℕ) (prefix : List ℕ) (b : ℕ) (others : List ℕ) → Decimal count (prefix ++ b ∷ others) → header_item count prefix b ≡ GoesOn
 goes_on count prefix b others d =
     let short = d.short in
-    let long : nat_le header_limit (length prefix) ≡ false = lt-leb 65534 (length prefix) (omega (arith, length-append prefix (b ∷ others))) in
+    let long : nat_le header_limit (length prefix) ≡ false = lt-leb header_limit (length prefix) (omega (arith, length-append prefix (b ∷ others))) in
     let bad : is_bad_in_header prefix b ≡ false = not_bad (length prefix == 0) (is_apart b) (ends_in_comment prefix) (is_digit b || is_apart b)
     (begins_by prefix b others d.begins) (decimal_by (b == 35) prefix b others refl d.decimal) in
     header_item_is count prefix b ∙ rw (long, bad, no_last count prefix b others d) refl
@@ -81,7 +82,7 @@ goes_on count prefix b others d =
 -- the byte after the body ends the header
 ends_with : (count : ℕ) (body : List ℕ) (b : ℕ) → Decimal count body → is_white b ≡ true → header_item count body b ≡ EndsWith
 ends_with count body b d w =
-    let long : nat_le header_limit (length body) ≡ false = lt-leb 65534 (length body) d.short in
+    let long : nat_le header_limit (length body) ≡ false = lt-leb header_limit (length body) d.short in
     let apart : is_apart b ≡ true = grind (arith, w) in
     let bad : is_bad_in_header body b ≡ false = not_bad (length body == 0) (is_apart b) (ends_in_comment body) (is_digit b || is_apart b) (λ e. apart)
     (λ e. grind (arith, apart)) in
@@ -149,7 +150,8 @@ count_of_numbers Color width height depth maxval = refl
 count_of_numbers Pam width height depth maxval = refl
 
 -- a header within the limit has a body within it
-short_body : (text : List ℕ) (digit delimiter : ℕ) (body : List ℕ) → text ≡ 80 ∷ digit ∷ (body ++ delimiter ∷ []) → length text ≤ 65536 → length body < 65534
+short_body : (text : List ℕ) (digit delimiter : ℕ) (body : List ℕ) → text ≡ 80 ∷ digit ∷ (body ++ delimiter ∷ [])
+    → length text ≤ MAX_HEADER_LENGTH → length body < header_limit
 short_body text digit delimiter body whole short =
     let lengths : length text ≡ suc (suc (length (body ++ delimiter ∷ []))) = ap (λ (t : List ℕ). length t) whole in
     omega (arith, length-append body (delimiter ∷ []))

@@ -6,6 +6,7 @@ use Rattle.std.proofs.lemmas.Bool.{and_parts}
 use Rattle.std.proofs.lemmas.Bool.Decides.{nat_tests}
 use Rattle.std.proofs.lemmas.List.Sums.{AllPass-from_list_all, list_all-from_AllPass}
 use Rattle.std.proofs.lemmas.List.Folds.{list_all-append}
+use Rattle.pnm_image.specs.declared.limits.TheConstants.{MAX_TUPLE_TYPE_LENGTH}
 use Rattle.pnm_image.specs.Heads.{IsTupleType}
 use Rattle.pnm_image.specs.Texts.{is_blank}
 use Rattle.pnm_read.specs.Texts.{ends_by}
@@ -140,7 +141,8 @@ other_than : (b : ℕ) → is_other b ≡ true → b ≢ 10
 other_than b e is = absurd (grind (arith, nat_tests, e, is))
 
 -- the tuple type of lines of a header may stand in a head where it is short enough
-pub tuple_type_in-is : (lines : List (List ℕ)) → AllByRecursion IsOneLine lines → length (tuple_type_in lines) ≤ 255 → IsTupleType (tuple_type_in lines)
+pub tuple_type_in-is : (lines : List (List ℕ)) → AllByRecursion IsOneLine lines → length (tuple_type_in lines) ≤ MAX_TUPLE_TYPE_LENGTH
+    → IsTupleType (tuple_type_in lines)
 tuple_type_in-is lines one short =
     let t = type_is_trimmed lines one in
     record {

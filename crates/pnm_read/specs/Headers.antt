@@ -15,6 +15,7 @@ use Rattle.pnm_image.specs.Texts.{is_white, is_digit}
 use Rattle.pnm_image.specs.Formats.{format_of}
 use Rattle.pnm_read.specs.Formats.{header_numbers}
 use Rattle.pnm_read.specs.PamLines.{second_token, line_kind, field_values, tuple_type_in}
+use Rattle.pnm_read.specs.declared.header.TheConstants.{MAX_HEADER_LENGTH}
 
 -- PBM, PGM and PPM: the magic, a body, and one byte of white space outside comments, the delimiter. The body begins
 -- with white space or a comment; comments cut out, it is the numbers, each after white space (a comment is enough
@@ -24,7 +25,7 @@ pub record SpellsPnmHeader (text : List ℕ) (format : Format) (head : HeadValue
   pub body : List ℕ
   pub delimiter : ℕ
   pub whole : text ≡ letter_p ∷ digit ∷ (body ++ delimiter ∷ [])
-  pub short : length text ≤ 65536
+  pub short : length text ≤ MAX_HEADER_LENGTH
   pub format_is : format_of digit ≡ Some format
   pub begins : begins_apart body ≡ true
   pub decimal : AllPass (λ b. is_digit b || is_white b) (uncommented body)
@@ -59,7 +60,7 @@ pub record SpellsPamHeader (text : List ℕ) (format : Format) (head : HeadValue
   pub lines : List (List ℕ)
   pub last : List ℕ
   pub whole : text ≡ codes "P7\n" ++ (flat_map (λ line. line ++ line_feed ∷ []) lines ++ (last ++ line_feed ∷ []))
-  pub short : length text ≤ 65536
+  pub short : length text ≤ MAX_HEADER_LENGTH
   pub format_is : format_of digit_seven ≡ Some format
   pub lines_are : AllByRecursion IsPamLine lines
   pub last_one_line : IsOneLine last

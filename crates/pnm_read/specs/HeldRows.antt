@@ -5,6 +5,7 @@ use Rattle.pnm_image.specs.declared.shape.Shape.{Shape}
 use Rattle.pnm_image.specs.declared.sample_width.SampleWidth.{SampleWidth}
 use Rattle.pnm_image.specs.declared.sample_width.SampleWidth.TheVariants.{Bits, Bytes, Words}
 use Rattle.pnm_image.specs.Heads.{row_length}
+use Rattle.pnm_read.specs.declared.held_rows.TheConstants.{MOST_BYTES}
 use Rattle.pnm_read.specs.declared.raster.Raster.{Raster}
 use Rattle.pnm_read.specs.Said.{in_turn, units_in_row, raw_row}
 use Rattle.pnm_read.specs.Units.{AreBytesWithin, samples_of_bytes}
@@ -19,14 +20,14 @@ FitsBytes Words s = ⊥
 pub record AreHeld (raster : Raster) (count : ℕ) (bytes : List ℕ) : Type 0 where
   pub fits : FitsBytes raster.sample_width raster.shape
   pub long : count * raster.units ≤ length bytes
-  pub size : count * raster.units ≤ 65536
+  pub size : count * raster.units ≤ MOST_BYTES
   pub within : AreBytesWithin raster.sample_width raster.shape.maxval (take (count * raster.units) bytes)
 
 -- so many rows of samples of two bytes lie in these bytes
 pub record AreHeldWide (raster : Raster) (count : ℕ) (bytes : List ℕ) : Type 0 where
   pub sample_width : raster.sample_width ≡ Words
   pub long : count * raster.units * 2 ≤ length bytes
-  pub size : count * raster.units * 2 ≤ 65536
+  pub size : count * raster.units * 2 ≤ MOST_BYTES
 
 -- so many rows, each the samples of its bytes, without those of spare bits
 abbrev pub rows_held : SampleWidth → Shape → ℕ → List ℕ → List (List ℕ)

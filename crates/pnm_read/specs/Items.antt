@@ -1,8 +1,8 @@
 -- The items that a text is cut into, and the faults of each in their order. A byte of a header, and of a
 -- plain raster, is judged by the bytes before it in the same piece: of a header those after the magic (of
 -- PAM after its LF), of a plain raster those since the last digit of the sample before.
-use Rattle.std.specs.Prelude.{ℕ, Bool, not, ◌==◌, nat_le, nat_lt, ◌*◌, ◌+◌, ◌&&◌, ◌||◌, if◌then◌else◌, List, [], ◌∷◌}
-use Rattle.std.specs.Prelude.{◌++◌, length, slice_index, Option, Some, None, Result, Ok, Err}
+use Rattle.std.specs.Prelude.{ℕ, Bool, not, ◌==◌, nat_le, nat_lt, ◌*◌, ◌+◌, ◌-◌, ◌&&◌, ◌||◌, if◌then◌else◌, List, []}
+use Rattle.std.specs.Prelude.{◌∷◌, ◌++◌, length, slice_index, Option, Some, None, Result, Ok, Err}
 use Rattle.std.specs.List.{list_all}
 use Rattle.pnm_image.specs.Characters.{line_feed, digit_zero, digit_one, letter_p}
 use Rattle.pnm_image.specs.declared.shape.Shape.{Shape}
@@ -30,7 +30,9 @@ use Rattle.pnm_image.specs.Formats.{format_of, is_plain_form}
 use Rattle.pnm_read.specs.Formats.{shape_of}
 use Rattle.pnm_read.specs.PamLines.{ended_lines, last_line, second_token, line_kind, field_values, tuple_type_in}
 use Rattle.pnm_read.specs.Rasters.{pixels}
+use Rattle.pnm_image.specs.declared.limits.TheConstants.{MAX_TUPLE_TYPE_LENGTH}
 use Rattle.pnm_read.specs.declared.decimal.TheConstants.{GAP_LIMIT}
+use Rattle.pnm_read.specs.declared.header.TheConstants.{MAX_HEADER_LENGTH}
 
 infixl 10 ◌>>=◌
 abbrev pub ◌>>=◌ : {A B : Type 0} → Result A InputFault → (A → Result B InputFault) → Result B InputFault
@@ -73,7 +75,7 @@ first_magic_item (b ∷ text) = if b == letter_p then Ok text else Err BadMagic
 
 -- the bytes of a header after the magic, at most
 abbrev pub header_limit : ℕ
-header_limit = 65534
+header_limit = MAX_HEADER_LENGTH - 2
 
 -- a byte of a header that can't stand there: right after the magic what is neither white space nor #, and later,
 -- outside comments, what is neither that nor a digit
@@ -118,7 +120,7 @@ line_feed_item (b ∷ text) = if b == line_feed then Ok text else Err BadPamLine
 
 -- the bytes of a header after the magic and its LF, at most
 abbrev pub pam_limit : ℕ
-pam_limit = 65533
+pam_limit = MAX_HEADER_LENGTH - 3
 
 -- the line of a number, after these lines
 abbrev pub number_item : List (List ℕ) → Field → List ℕ → Judgement
@@ -128,9 +130,13 @@ number_item lines field line =
     else if not (length (field_values field lines) == 0) then Fails DuplicateField
     else GoesOn
 
+-- a tuple type is beyond the limit
+abbrev pub is_type_too_long : List ℕ → Bool
+is_type_too_long tuple_type = nat_lt MAX_TUPLE_TYPE_LENGTH (length tuple_type)
+
 -- a line of the tuple type
 abbrev pub tuple_type_item : List (List ℕ) → List ℕ → Judgement
-tuple_type_item lines line = if nat_lt 255 (length (tuple_type_in (lines ++ line ∷ []))) then Fails TooLong else GoesOn
+tuple_type_item lines line = if is_type_too_long (tuple_type_in (lines ++ line ∷ [])) then Fails TooLong else GoesOn
 
 -- a line, after its LF; ENDHDR is the last
 abbrev pub line_item : List (List ℕ) → List ℕ → Judgement

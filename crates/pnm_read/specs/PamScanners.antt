@@ -1,5 +1,5 @@
 -- What the scanner of a PAM header holds after the bytes of a piece.
-use Rattle.std.specs.Prelude.{◌≡◌, ◌⊎◌, ℕ, ◌≤◌, ◌==◌, nat_lt, Bool, true, false, List, [], ◌∷◌, ◌++◌, length}
+use Rattle.std.specs.Prelude.{◌≡◌, ◌⊎◌, ℕ, ◌≤◌, ◌==◌, Bool, true, false, List, [], ◌∷◌, ◌++◌, length}
 use Rattle.std.specs.Prelude.{if◌then◌else◌, Option, Some, None}
 use Rattle.std.specs.List.{list_all}
 use Rattle.pnm_read.specs.declared.fault.InputFault.TheVariants.{BadPamLine, BadNumber, DuplicateField, TooLong, Memory}
@@ -15,7 +15,7 @@ use Rattle.pnm_read.specs.declared.pam.PamScanner.{PamScanner}
 use Rattle.pnm_image.specs.Texts.{is_digit, decimal_value}
 use Rattle.pnm_read.specs.PamLines.{ended_lines, last_line, first_token, field_values, joined_with, tuple_type_in}
 use Rattle.pnm_read.specs.Saturation.{saturate_u32}
-use Rattle.pnm_read.specs.Items.{line_item}
+use Rattle.pnm_read.specs.Items.{is_type_too_long, line_item}
 
 -- the number that a token spells, as a u32; none where it isn't decimal
 abbrev pub number_of : List ℕ → Option ℕ
@@ -114,8 +114,8 @@ SetsTupleType false old tuple_type new judgement = (judgement ≡ GoesOn) × IsW
 -- a text was joined to the tuple type, unless it is too long or memory ran out
 abbrev pub AddsTupleType : Fields → List ℕ → Fields → Judgement → Type 0
 AddsTupleType old text new judgement =
-    SetsTupleType (nat_lt 255 (length (joined_with old.tuple_type.items text))) old
-    (joined_with old.tuple_type.items text) new judgement ⊎ (judgement ≡ Fails Memory)
+    SetsTupleType (is_type_too_long (joined_with old.tuple_type.items text)) old (joined_with old.tuple_type.items text)
+    new judgement ⊎ (judgement ≡ Fails Memory)
 
 -- these bytes have come after the magic and its LF, and the header goes on
 pub record IsPamAfter (s : PamScanner) (before : List ℕ) : Type 0 where

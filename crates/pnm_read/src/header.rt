@@ -3,6 +3,7 @@
 ghost use Rattle.std.specs.Prelude.{◌≡◌, ◌≤◌, ◌<◌, ◌==◌, ◌-◌, [], List, ℕ, Some, ◌&&◌, ◌||◌};
 ghost use Rattle.pnm_read.specs.declared.judgement.Judgement.TheVariants.{GoesOn, Fails};
 ghost use Rattle.pnm_read.specs.declared.fault.InputFault.TheVariants.{ReadFailed, Memory};
+ghost use Rattle.pnm_read.specs.declared.header.TheConstants.{HEADER_LIMIT};
 ghost use Rattle.pnm_read.specs.Texts.{is_apart};
 ghost use Rattle.pnm_image.specs.Texts.{is_digit};
 ghost use Rattle.pnm_read.specs.Formats.{number_count, planes};
@@ -22,8 +23,11 @@ use pnm_image::characters::{is_digit, is_white};
 use pnm_image::{BytesIn, Format, Head, HeadFault, Kind, Shape};
 use std::alloc::Global;
 
-/// The bytes of a header after its magic, at most: 65,536 with the magic.
-const HEADER_LIMIT: usize = 65_534;
+/// The most bytes of a header, those of its magic among them.
+pub const MAX_HEADER_LENGTH: usize = 65_536;
+
+/// The bytes of a header after its magic, at most.
+const HEADER_LIMIT: usize = MAX_HEADER_LENGTH - 2;
 
 /// The format that the input's magic names, or the text's fault there, or `ReadFailed`. A plain one may come first
 /// alone.
@@ -149,7 +153,7 @@ struct HeaderScanner {
     in_comment: bool,
     /// The bytes that have come.
     length: usize,
-    ghost short: { length ≤ 65534 },
+    ghost short: { length ≤ HEADER_LIMIT },
     ghost begun: { found ≤ length },
 }
 
@@ -173,7 +177,7 @@ impl HeaderScanner {
     #[tactic(auto, unfolding(crate::specs::Items::header_item))]
     fn judge(&self, byte: u8) -> Judgement
         ensures judged { JudgesHeader self.now byte result }
-        ensures short { result ≡ GoesOn → self.now.length < 65534 }
+        ensures short { result ≡ GoesOn → self.now.length < HEADER_LIMIT }
         ensures of_text { result ≡ Fails ReadFailed → ⊥ }
         ensures no_memory { result ≡ Fails Memory → ⊥ }
     {
@@ -198,7 +202,7 @@ impl HeaderScanner {
 
     /// Takes a byte with which the header goes on.
     fn push(&mut self, byte: u8)
-        requires { self.old.length < 65534 }
+        requires { self.old.length < HEADER_LIMIT }
         ensures { PushesHeader self.old byte self.new }
     {
         self.length += 1;
@@ -241,7 +245,7 @@ impl Scanner for HeaderScanner {
 
     ghost is_whole = { IsHeaderWhole };
 
-    ghost remaining = { λ s. 65534 - s.length };
+    ghost remaining = { λ s. HEADER_LIMIT - s.length };
 
     ghost keeps_bytes = { false };
 

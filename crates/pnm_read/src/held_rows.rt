@@ -22,9 +22,9 @@ const MOST_BYTES: usize = 65_536;
 /// The sample of a white pixel, which none is above.
 const GREATEST_PIXEL: u32 = 1;
 
-/// How many of the next rows can be handed over together: all that are held whole and left in the image, up to 65,536
-/// bytes; 0 where these are fewer than two, one of them has a sample above the maxval, or they are too long or have
-/// samples of two bytes.
+/// How many of the next rows can be handed over together: all that are held whole and left in the image, up to
+/// `MOST_BYTES`; 0 where these are fewer than two, one of them has a sample above the maxval, or they are too long or
+/// have samples of two bytes.
 pub fn count_held<R: BytesIn>(input: &BufferedReader<R>, raster: &Raster) -> u32
     ensures left { result ≤ raster.now.shape.height - raster.now.y }
     ensures held { 1 ≤ result → AreHeld raster.now result (held_of input.now) }
@@ -58,7 +58,7 @@ fn fits_bytes(raster: &Raster) -> bool
 pub fn count_whole<R: BytesIn>(input: &BufferedReader<R>, row_bytes: usize, most: u32) -> u32
     ensures most { result ≤ most }
     ensures held { result * row_bytes ≤ length (held_of input.now) }
-    ensures size { result * row_bytes ≤ 65536 }
+    ensures size { result * row_bytes ≤ MOST_BYTES }
 {
     if row_bytes == 0 || row_bytes > MOST_ROW_BYTES {
         return 0;

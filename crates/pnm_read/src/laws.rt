@@ -6,6 +6,7 @@ ghost use Rattle.pnm_read.specs.TextLaws.{SpelledIsSaid, SaidIsSpelled, SpelledA
 ghost use Rattle.pnm_read.specs.TextLaws.{SaidBeforeFaultIsSpelled, SaidIsLawful, SaidAreMessages};
 ghost use Rattle.pnm_read.specs.TextLaws.{EndIsSaidWithoutFault, FaultsAreOfTexts};
 ghost use Rattle.pnm_read.specs.declared.decimal.TheConstants.{GAP_LIMIT};
+ghost use Rattle.pnm_read.specs.declared.header.TheConstants.{MAX_HEADER_LENGTH};
 ghost use Rattle.std.specs.Prelude.{◌≡◌};
 
 /// Of a text that spells images the messages of these images are said, without a fault.
@@ -56,8 +57,9 @@ pub fn examples_hold()
     ensures { TextExamplesHold }
 {}
 
-/// The limit of plain rasters in a number, from the end of one sample through that of the next: the definitions have
-/// it by its name, from the code. They have that of headers in numbers.
+/// The limits of texts in numbers, that of headers and that of plain rasters, from the end of one sample through that
+/// of the next: the definitions have them by their names, from the code.
 pub fn limits_are()
+    ensures header { MAX_HEADER_LENGTH ≡ 65536 }
     ensures gap { GAP_LIMIT ≡ 1048576 }
 {}

@@ -1,6 +1,7 @@
 //! The header of a PAM image, from pam(5), 'The layout'.
 
 ghost use Rattle.std.specs.Prelude.{◌≤◌, ◌-◌, []};
+ghost use Rattle.pnm_read.specs.declared.pam.TheConstants.{PAM_LIMIT};
 ghost use Rattle.pnm_read.specs.Items.{line_feed_item};
 ghost use Rattle.pnm_read.specs.Said.{pam_head_at};
 ghost use Rattle.pnm_read.specs.BufferedReaders.{ReadCall, Finds, Passes};
@@ -8,13 +9,14 @@ ghost use Rattle.pnm_read.specs.BufferedReaders.{ReadCall, Finds, Passes};
 use crate::buffered_reader::BufferedReader;
 use crate::fault::InputFault;
 use crate::fields::{Fields, head_of};
+use crate::header::MAX_HEADER_LENGTH;
 use crate::judgement::Judgement;
 use crate::scan::{Scanner, scan};
 use pnm_image::{BytesIn, Head};
 use std::alloc::Global;
 
-/// The bytes of a header after its magic and the LF, at most: 65,536 with them.
-const PAM_LIMIT: usize = 65_533;
+/// The bytes of a header after its magic and the LF, at most.
+const PAM_LIMIT: usize = MAX_HEADER_LENGTH - 3;
 
 /// The head that follows the magic, or the text's fault there, `ReadFailed` or `Memory`. It takes the header through
 /// the LF of its line ENDHDR.
@@ -57,7 +59,7 @@ struct PamScanner {
     fields: Fields,
     /// The bytes that have come.
     length: usize,
-    ghost short: { length ≤ 65533 },
+    ghost short: { length ≤ PAM_LIMIT },
 }
 
 impl PamScanner {
@@ -87,7 +89,7 @@ impl Scanner for PamScanner {
 
     ghost is_whole = { IsPamWhole };
 
-    ghost remaining = { λ s. 65533 - s.length };
+    ghost remaining = { λ s. PAM_LIMIT - s.length };
 
     ghost keeps_bytes = { true };
 

@@ -3,7 +3,7 @@ use Rattle.std.proofs.Common.{◌≡◌, ℕ, zero, suc, ◌+◌, ◌*◌, ◌<�
 use Rattle.std.proofs.Common.{arith, append-nil, append_assoc, length-take-le, length-drop, mul-le-mul, suc-mul, zero-mul}
 use Rattle.std.specs.List.{AllByRecursion, copy_within}
 use Rattle.std.proofs.Math.Seq.{paste}
-use Rattle.std.proofs.lemmas.List.{drop_at, drop-drop, drop-take, length-append, take_at, take-take}
+use Rattle.std.proofs.lemmas.List.{drop_at, drop-drop, drop-take, length-append, take-append-drop, take_at, take-take}
 use Rattle.std.proofs.lemmas.List.Edits.{drop-paste, length-paste, take-paste}
 use Rattle.std.proofs.lemmas.List.Elements.{All-drop, All-take}
 use Rattle.pnm_image.proofs.RowLaws.{row_ends_within}
@@ -181,8 +181,20 @@ part_within start size s row is =
     let P : ℕ → Type 0 = λ sample. sample ≤ s.maxval in
     All-take P size (drop start row) (All-drop P start row is.range)
 
--- once the parts of all rows are moved, and the rest is cut off
-pub all_moved : {X : Type 0} (base start size each i count : ℕ) (old now new : List X) → i ≡ count → AreMoved base start size each i old now
-    → new ≡ take (count * size) now → new ≡ changed (part start size) count each (drop base old)
-all_moved {X = X} base start size each i count old now new all moved is =
-    is ∙ ap (λ (n : ℕ). take (n * size) now) (sym all) ∙ moved.front ∙ ap (λ (n : ℕ). changed (part start size) n each (drop base old)) all
+-- once the parts of all rows are moved
+pub all_moved : {X : Type 0} (base start size each i count : ℕ) (old now : List X) → i ≡ count → AreMoved base start size each i old now
+    → take (count * size) now ≡ changed (part start size) count each (drop base old)
+all_moved {X = X} base start size each i count old now all moved =
+    ap (λ (n : ℕ). take (n * size) now) (sym all) ∙ moved.front ∙ ap (λ (n : ℕ). changed (part start size) n each (drop base old)) all
+
+-- samples that are copied to where they are
+pub copied_to_self : {X : Type 0} (samples : List X) (from to count : ℕ) → from ≡ to → samples ≡ copy_within samples from (from + count) to
+copied_to_self {X = X} samples from to count same =
+    let rest : List X = drop to samples in
+    let size : (from + count) - from ≡ count = omega arith in
+    sym (
+    ap (λ (n : ℕ). paste samples to (drop from samples) n) size ∙ ap (λ (n : ℕ). paste samples to (drop n samples) count) same
+    ∙ append_assoc (take to samples) (take count rest) (drop (to + count) samples)
+    ∙ ap (λ (l : List X). take to samples ++ (take count rest ++ l)) (sym (drop-drop count to samples))
+    ∙ ap (λ (l : List X). take to samples ++ l) (take-append-drop count rest) ∙ take-append-drop to samples
+    )

@@ -1,22 +1,14 @@
 -- The rows of a flipped image, and what is still to be given of it.
 use Rattle.std.proofs.Common.{◌≡◌, ℕ, zero, suc, ◌+◌, ◌-◌, ◌*◌, ◌<◌, ◌≤◌, List, [], ◌∷◌, ◌++◌, length, take, drop, reverse, get_or, set, refl, sym, ap, ◌∙◌}
-use Rattle.std.proofs.Common.{arith, mul-le-mul, length-take-le, length-drop, subst, Option, None, All}
+use Rattle.std.proofs.Common.{arith, mul-le-mul, length-take-le, length-drop, subst, All}
 use Rattle.std.specs.List.{flat_map, range_with_len}
 use borrow.Rule.Slice.PartMut.{put_mid}
 use Rattle.std.proofs.lemmas.List.{append_assoc, length-append, reverse-append, reverse-reverse, length-reverse, take-append-drop, take_at, drop_at, drop-drop}
 use Rattle.std.proofs.lemmas.List.{take_more, drop_more, take_all, drop_all, append-nil}
-use Rattle.pnm_image.specs.declared.shape.Shape.{Shape}
-use Rattle.pnm_tools.specs.Flip.{turn_of}
 use Rattle.pnm_tools.specs.Pixels.{pixel_of}
 use Rattle.pnm_tools.proofs.PickLaws.{flat_map_one_more, pieces_within}
-use Rattle.std.proofs.lemmas.Grind.{flat_map-append}
 use Rattle.std.proofs.lemmas.List.Elements.{All-take, All-drop}
-use Rattle.pnm_tools.specs.declared.tool.Tool.TheVariants.{Flip}
-use Rattle.pnm_row_tools.specs.EachRow.{last_first}
-use Rattle.pnm_row_tools.specs.Keeping.{Reversed, joined, reversed, reversed_due}
-use Rattle.pnm_tools.specs.Flip.{ReversesRows}
-use Rattle.pnm_tools.specs.Tools.{row_answer}
-use Rattle.pnm_tools.proofs.TurnLaws.{reversed_moves, row_moved}
+use Rattle.pnm_samples.specs.Cuts.{last_first}
 
 -- ---- a row, the last pixel first
 
@@ -146,16 +138,3 @@ pub mirrored_in_place : (pixels size : ℕ) (row items lent new : List ℕ) (len
 mirrored_in_place pixels size row items lent new len made long same given count =
     let all : length new ≡ len = long ∙ ap length same ∙ sym count in
     take_at new (drop (length new) items) len all ∙ made ∙ ap (last_first pixels size) (same ∙ given)
-
--- ---- the rows that a reverser has still to give
-
--- rows that come together come behind the others
-pub rows_joined : (blocks : List (List (List ℕ))) (rows : List (List ℕ)) → joined (blocks ++ rows ∷ []) ≡ joined blocks ++ rows
-rows_joined blocks rows =
-    flat_map-append (λ (l : List (List ℕ)). l) blocks (rows ∷ []) ∙ ap (λ (l : List (List ℕ)). joined blocks ++ l) (append-nil rows)
-
--- nothing is due before the image has ended
-pub none_reversed : (w : Reversed) (s : Shape) (y : ℕ) (row : List ℕ) → ReversesRows (turn_of w.way) → w.ended ≡ None
-    → reversed_due w ≡ row_answer (Flip w.way) s y row
-none_reversed w s y row reverses none =
-    ap (λ (ended : Option Shape). reversed_due (reversed w.way w.rows ended)) none ∙ sym (row_moved w.way s y row (reversed_moves (turn_of w.way) reverses))

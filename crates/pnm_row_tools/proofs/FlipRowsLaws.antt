@@ -6,6 +6,7 @@ use Rattle.std.specs.List.{AllByRecursion, flat_map, range_with_len}
 use borrow.Rule.Slice.PartMut.{put_mid}
 use Rattle.std.proofs.lemmas.List.{drop-append-le, drop_all, drop_at, drop-drop, drop-take, map-append, nil_from_length, reverse-append, take-append-le}
 use Rattle.std.proofs.lemmas.List.{length-map, length-reverse, take-take, take_all, take_at}
+use Rattle.std.proofs.lemmas.Grind.{flat_map-append}
 use Rattle.std.proofs.lemmas.List.Elements.{All-append, All-drop, All-head, All-map, All-tail, All-take}
 use Rattle.pnm_image.specs.declared.shape.Shape.{Shape}
 use Rattle.pnm_image.proofs.RowLaws.{lengths_of_cut_rows}
@@ -13,7 +14,6 @@ use Rattle.pnm_image.specs.Heads.{row_length}
 use Rattle.pnm_image.specs.HeldRows.{AreRows, AreRowsWithin, row_lists}
 use Rattle.pnm_image.specs.declared.rows.RowVec.{RowVec}
 use Rattle.pnm_image.specs.declared.rows.RowVec.TheVariants.{Bits}
-use Rattle.pnm_image.proofs.HeldRowLaws.{length_of_lists}
 use Rattle.pnm_image.specs.Images.{cut_rows}
 use Rattle.pnm_image.specs.Places.{IsRowOf}
 use Rattle.pnm_tools.specs.Answering.{rows_answer}
@@ -25,11 +25,13 @@ use Rattle.pnm_tools.specs.declared.tool.Tool.TheVariants.{Flip}
 use Rattle.pnm_tools.proofs.PickLaws.{columns_end}
 use Rattle.pnm_tools.proofs.RangeLaws.{length_of_equals, pieces_alike, pieces_alike_from, pieces_in_parts}
 use Rattle.pnm_tools.proofs.TurnLaws.{row_moved, row_stays}
-use Rattle.pnm_row_tools.specs.EachRow.{HoldsRows, changed, held_samples, last_first}
+use Rattle.pnm_samples.specs.Cuts.{last_first}
+use Rattle.pnm_samples.proofs.RowOrderLaws.{last_first_long}
+use Rattle.pnm_row_tools.specs.EachRow.{HoldsRows, changed, held_samples}
 use Rattle.pnm_row_tools.specs.Keeping.{AreRowsOf, IsReversingRows, Reversed, joined, reversed, reversed_due}
 use Rattle.pnm_row_tools.proofs.EachRowLaws.{cut_again, each_answered, length-changed, one_row_more}
 use Rattle.pnm_row_tools.proofs.HeldRowsLaws.{held_cut, held_long, reversed_all}
-use Rattle.pnm_row_tools.proofs.FlipRowLaws.{mirrored_within, one_plane, rows_joined}
+use Rattle.pnm_row_tools.proofs.FlipRowLaws.{mirrored_within, one_plane}
 
 -- a pixel of a row has a sample of each plane
 pixel_long : {X : Type 0} (width depth x : ℕ) (row : List X) → x < width → length row ≡ width * depth → length (pixel_of depth row x) ≡ depth
@@ -169,12 +171,6 @@ one_row_turned count pixels size samples =
     (pieces_alike_from f first m 0 pixels (λ i lt.
     ap (pixel_of size samples) (omega (arith, lt)) ∙ sym (pixels_ahead pixels size samples (pixels - 1 - (0 + i)) (omega (arith, lt)))))
 
--- it has as many samples
-last_first_long : (pixels size : ℕ) (samples : List ℕ) → length samples ≡ pixels * size → length (last_first pixels size samples) ≡ pixels * size
-last_first_long zero size samples long = sym (zero-mul size)
-last_first_long (suc n) size samples long =
-    length_of_equals (λ x. pixel_of size samples (suc n - 1 - x)) size 0 (suc n) (λ x. pixel_long (suc n) size (suc n - 1 - x) samples (omega arith) long)
-
 reverse_cons : {X : Type 0} (x : X) (xs : List X) → reverse (x ∷ xs) ≡ reverse xs ++ x ∷ []
 reverse_cons x xs = reverse-append (x ∷ []) xs
 
@@ -269,15 +265,10 @@ items_mirrored s count old new some is whole =
           ∙ ap (map (mirrored_row s)) (held_cut count (row_length s) old whole),
     )
 
--- rows of an image of this shape, which are as long as it says
-pub mirrored_as_long : (s : Shape) (count each : ℕ) (old new : RowVec) (rows : List (List ℕ)) → each ≡ row_length s → rows ≡ row_lists count each old
-    → AreRows count each old
-    → (AreRows count (row_length s) old → HoldsRows count (row_length s) new (map (mirrored_row s) (row_lists count (row_length s) old)))
-    → HoldsRows count each new (map (mirrored_row s) rows)
-mirrored_as_long s count each old new rows is cut whole known =
-    let made =
-    subst (λ (n : ℕ). AreRows count n old → HoldsRows count n new (map (mirrored_row s) (row_lists count n old))) (sym is) known whole in
-    (made.0, made.1 ∙ ap (map (mirrored_row s)) (sym cut))
+-- what is made of rows of an image of this shape, which are as long as it says
+pub as_long : (f : List (List ℕ) → List (List ℕ)) (s : Shape) (count each : ℕ) (old new : RowVec) → each ≡ row_length s
+    → HoldsRows count (row_length s) new (f (row_lists count (row_length s) old)) → HoldsRows count each new (f (row_lists count each old))
+as_long f s count each old new is known = subst (λ (n : ℕ). HoldsRows count n new (f (row_lists count n old))) (sym is) known
 
 -- no sample of them is above the maxval
 pub mirrored_rows_within : (s : Shape) (rows : List (List ℕ)) → All (IsRowOf s) rows → AreRowsWithin s.maxval (map (mirrored_row s) rows)
@@ -330,22 +321,6 @@ items_reversed count each old new is whole =
       ap (cut_rows count each) is ∙ rows_reversed count each (held_samples old) long ∙ ap (λ (l : List (List ℕ)). reverse l) (held_cut count each old whole),
     )
 
--- a row by itself
-only_row_reversed : (rows : List (List ℕ)) → length rows ≡ 1 → rows ≡ reverse rows
-only_row_reversed [] one = absurd (omega (arith, one))
-only_row_reversed (row ∷ []) one = refl
-only_row_reversed (row ∷ next ∷ rows) one = absurd (omega (arith, one))
-
-pub one_row_reversed : (count each : ℕ) (held : RowVec) → count ≡ 1 → AreRows count each held → row_lists count each held ≡ reverse (row_lists count each held)
-one_row_reversed count each held one whole = only_row_reversed (row_lists count each held) (length_of_lists count each held whole ∙ one)
-
--- rows of an image of this shape
-pub turned_as_long : (s : Shape) (count each : ℕ) (old new : RowVec) → each ≡ row_length s
-    → HoldsRows count (row_length s) new (map (mirrored_row s) (reverse (row_lists count (row_length s) old)))
-    → HoldsRows count each new (map (mirrored_row s) (reverse (row_lists count each old)))
-turned_as_long s count each old new is known =
-    subst (λ (n : ℕ). HoldsRows count n new (map (mirrored_row s) (reverse (row_lists count n old)))) (sym is) known
-
 -- rows that answer nothing yet
 pub none_answer : (way : FlipWay) (s : Shape) (y : ℕ) (rows : List (List ℕ)) → moves_rows (turn_of way) ≡ true → rows_answer (Flip way) s y rows ≡ []
 none_answer way s y [] moves = refl
@@ -353,6 +328,11 @@ none_answer way s y (row ∷ rows) moves =
     ap (λ (l : List (List ℕ)). l ++ rows_answer (Flip way) s (y + 1) rows) (row_moved way s y row moves) ∙ none_answer way s (y + 1) rows moves
 
 -- ---- the rows that a reverser keeps
+
+-- rows that come together come behind the others
+pub rows_joined : (blocks : List (List (List ℕ))) (rows : List (List ℕ)) → joined (blocks ++ rows ∷ []) ≡ joined blocks ++ rows
+rows_joined blocks rows =
+    flat_map-append (λ (l : List (List ℕ)). l) blocks (rows ∷ []) ∙ ap (λ (l : List (List ℕ)). joined blocks ++ l) (append-nil rows)
 
 -- more rows are kept
 pub more_kept : (w : Reversed) (way : FlipWay) (kept now : List (List (List ℕ))) (more come : List (List ℕ)) (ended : Option Shape) (s : Shape)

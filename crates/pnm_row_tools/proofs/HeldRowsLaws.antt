@@ -1,9 +1,9 @@
 -- Rows as they are held: all their samples, and each of them changed.
 use Rattle.std.proofs.Common.{◌≡◌, ℕ, zero, suc, ◌-◌, ◌*◌, ◌<◌, ◌≤◌, List, [], ◌∷◌, get_or, length, map, reverse, drop, All}
-use Rattle.std.proofs.Common.{sym, ap, ap₂, subst, ◌∙◌, arith, suc-mul, zero-mul, refl}
+use Rattle.std.proofs.Common.{sym, ap, ap₂, subst, ◌∙◌, arith, refl}
 use Rattle.std.specs.List.{AllByRecursion, concat}
-use Rattle.std.proofs.lemmas.List.{drop_at, get_or-reverse, length-append, length-map, length-reverse, take_at, take-map, drop-map}
-use Rattle.std.proofs.lemmas.List.Elements.{All-append, All-cons, All-from_recursion, All-head, All-map, All-nil, All-tail}
+use Rattle.std.proofs.lemmas.List.{get_or-reverse, length-map, length-reverse, take-map, drop-map}
+use Rattle.std.proofs.lemmas.List.Elements.{All-append, All-from_recursion, All-head, All-map, All-nil, All-tail}
 use Rattle.pnm_image.specs.declared.rows.RowVec.{RowVec}
 use Rattle.pnm_image.specs.declared.rows.RowVec.TheVariants.{Bits, Bytes, Words}
 use Rattle.pnm_image.specs.declared.shape.Shape.{Shape}
@@ -11,7 +11,7 @@ use Rattle.pnm_image.specs.Heads.{row_length}
 use Rattle.pnm_image.specs.HeldRows.{AreRows, AreRowsWithin, row_lists}
 use Rattle.pnm_image.specs.Images.{cut_rows}
 use Rattle.pnm_image.specs.Places.{IsRowOf}
-use Rattle.pnm_image.proofs.HeldRowLaws.{length_of_lists, lengths_of_lists}
+use Rattle.pnm_image.proofs.HeldRowLaws.{length_of_lists, lengths_of_lists, words_of_rows}
 use Rattle.pnm_image.proofs.RowLaws.{concat-cut_rows, rows_need}
 use Rattle.pnm_tools.specs.declared.tool.Tool.{Tool}
 use Rattle.pnm_tools.specs.Answering.{rows_answer}
@@ -23,26 +23,12 @@ use Rattle.pnm_row_tools.proofs.EachRowLaws.{each_answered}
 
 -- they have so many samples
 pub concat_long : (count each : ℕ) (rows : List (List ℕ)) → (length rows ≡ count) × All (λ row. length row ≡ each) rows → length (concat rows) ≡ count * each
-concat_long zero each [] whole = sym (zero-mul each)
-concat_long zero each (row ∷ rows) whole = absurd (omega (arith, whole.0))
-concat_long (suc count) each [] whole = absurd (omega (arith, whole.0))
-concat_long (suc count) each (row ∷ rows) whole =
-    let Long : List ℕ → Type 0 = λ (row : List ℕ). length row ≡ each in
-    let rest = concat_long count each rows (omega (arith, whole.0), All-tail Long row rows whole.1) in
-    omega (arith, length-append row (concat rows), All-head Long row rows whole.1, rest, suc-mul count each)
+concat_long count each rows whole = (words_of_rows count each rows (concat rows) whole.0 whole.1 refl).0
 
 -- cut again they are the same rows
 pub concat_cut : (count each : ℕ) (rows : List (List ℕ)) → (length rows ≡ count) × All (λ row. length row ≡ each) rows
     → cut_rows count each (concat rows) ≡ rows
-concat_cut zero each [] whole = refl
-concat_cut zero each (row ∷ rows) whole = absurd (omega (arith, whole.0))
-concat_cut (suc count) each [] whole = absurd (omega (arith, whole.0))
-concat_cut (suc count) each (row ∷ rows) whole =
-    let Long : List ℕ → Type 0 = λ (row : List ℕ). length row ≡ each in
-    let first = All-head Long row rows whole.1 in
-    ap₂ (λ (r : List ℕ) (l : List (List ℕ)). r ∷ l) (take_at row (concat rows) each first)
-    (ap (cut_rows count each) (drop_at row (concat rows) each first)
-    ∙ concat_cut count each rows (omega (arith, whole.0), All-tail Long row rows whole.1))
+concat_cut count each rows whole = (words_of_rows count each rows (concat rows) whole.0 whole.1 refl).1
 
 -- no sample of them is above a number
 concat_within : (most : ℕ) (rows : List (List ℕ)) → AreRowsWithin most rows → All (λ sample. sample ≤ most) (concat rows)
@@ -65,34 +51,46 @@ held_cut count each (Bits rows) whole = concat_cut count each rows whole
 held_cut count each (Bytes bytes) whole = refl
 held_cut count each (Words words) whole = refl
 
+-- they are those of the rows, one after another
+concat_held : (count each : ℕ) (held : RowVec) → AreRows count each held → concat (row_lists count each held) ≡ held_samples held
+concat_held count each (Bits rows) whole = refl
+concat_held count each (Bytes bytes) whole = concat-cut_rows count each bytes.items whole
+concat_held count each (Words words) whole = concat-cut_rows count each words.items whole
+
 -- none of them is above a number that no sample of the rows is above
-pub held_within : (most count each : ℕ) (held : RowVec) → AreRows count each held → AreRowsWithin most (row_lists count each held)
+held_within : (most count each : ℕ) (held : RowVec) → AreRows count each held → AreRowsWithin most (row_lists count each held)
     → All (λ sample. sample ≤ most) (held_samples held)
-held_within most count each (Bits rows) whole within = concat_within most rows within
-held_within most count each (Bytes bytes) whole within =
-    subst (All (λ sample. sample ≤ most)) (concat-cut_rows count each bytes.items whole) (concat_within most (cut_rows count each bytes.items) within)
-held_within most count each (Words words) whole within =
-    subst (All (λ sample. sample ≤ most)) (concat-cut_rows count each words.items whole) (concat_within most (cut_rows count each words.items) within)
+held_within most count each held whole within =
+    subst (All (λ sample. sample ≤ most)) (concat_held count each held whole) (concat_within most (row_lists count each held) within)
+
+-- as many words that are the rows when they are cut
+pub words_held : (count each : ℕ) (held : RowVec) (words : List ℕ) → AreRows count each held → length words ≡ count * each
+    → cut_rows count each words ≡ row_lists count each held → words ≡ held_samples held
+words_held count each held words whole long cut = sym (concat-cut_rows count each words long) ∙ ap concat cut ∙ concat_held count each held whole
 
 -- ---- rows of an image of a shape
 
 -- they are as long as it says
-pub length_of_shape : (s : Shape) (count each : ℕ) (held : RowVec) → 1 ≤ count → AreRows count each held → AllByRecursion (IsRowOf s)
-    (row_lists count each held)
-    → each ≡ row_length s
-length_of_shape s count each held some whole are =
-    let rows = row_lists count each held in
-    (rows_need s each rows (omega (arith, some, length_of_lists count each held whole)) (lengths_of_lists count each held whole) are).0
+pub length_of_shape : (s : Shape) (count each : ℕ) (held : RowVec) (rows : List (List ℕ)) → 1 ≤ count → AreRows count each held
+    → rows ≡ row_lists count each held → AllByRecursion (IsRowOf s) rows → each ≡ row_length s
+length_of_shape s count each held rows some whole cut are =
+    let lists : List (List ℕ) = row_lists count each held in
+    (rows_need s each lists (omega (arith, some, length_of_lists count each held whole)) (lengths_of_lists count each held whole)
+    (subst (AllByRecursion (IsRowOf s)) cut are)).0
+
+pub rows_of_shape : (s : Shape) (count each : ℕ) (held : RowVec) (rows : List (List ℕ)) → 1 ≤ count → AreRows count each held
+    → rows ≡ row_lists count each held → AllByRecursion (IsRowOf s) rows → AreRows count (row_length s) held
+rows_of_shape s count each held rows some whole cut are =
+    subst (λ (n : ℕ). AreRows count n held) (length_of_shape s count each held rows some whole cut are) whole
 
 -- no sample of them is above its maxval
 pub rows_within : (s : Shape) (rows : List (List ℕ)) → AllByRecursion (IsRowOf s) rows → AreRowsWithin s.maxval rows
 rows_within s rows are = λ k d lt. (All-from_recursion (IsRowOf s) rows are k d lt).range
 
--- a row by itself
-pub row_within : (most : ℕ) (row : List ℕ) → All (λ sample. sample ≤ most) row → AreRowsWithin most (row ∷ [])
-row_within most row within =
-    let Within : List ℕ → Type 0 = λ (row : List ℕ). All (λ sample. sample ≤ most) row in
-    All-cons Within row [] within (All-nil Within)
+pub samples_within : (s : Shape) (count each : ℕ) (held : RowVec) (rows : List (List ℕ)) → AreRows count each held → rows ≡ row_lists count each held
+    → AllByRecursion (IsRowOf s) rows → All (λ sample. sample ≤ s.maxval) (held_samples held)
+samples_within s count each held rows whole cut are =
+    held_within s.maxval count each held whole (subst (AreRowsWithin s.maxval) cut (rows_within s rows are))
 
 -- ---- each sample of them is changed
 
@@ -123,11 +121,17 @@ items_changed f old new is count each whole = (
 )
 
 -- no sample of them is above another number
-pub changed_within : (f : ℕ → ℕ) (low high : ℕ) (rows : List (List ℕ)) → ((sample : ℕ) → sample ≤ low → f sample ≤ high) → AreRowsWithin low rows
+changed_within : (f : ℕ → ℕ) (low high : ℕ) (rows : List (List ℕ)) → ((sample : ℕ) → sample ≤ low → f sample ≤ high) → AreRowsWithin low rows
     → AreRowsWithin high (map (map f) rows)
 changed_within f low high rows stays within =
     All-map (λ (row : List ℕ). All (λ sample. sample ≤ high) row) (map f) rows (λ k d lt.
     All-map (λ sample. sample ≤ high) f (get_or rows k d) (λ j e inside. stays (get_or (get_or rows k d) j e) (within k d lt j e inside)))
+
+pub changed_rows_within : (s : Shape) (f : ℕ → ℕ) (high count each : ℕ) (old new : RowVec) (rows : List (List ℕ)) → rows ≡ row_lists count each old
+    → AreRows count each old → IsEachChanged f old new → AllByRecursion (IsRowOf s) rows → ((sample : ℕ) → sample ≤ s.maxval → f sample ≤ high)
+    → AreRowsWithin high (row_lists count each new)
+changed_rows_within s f high count each old new rows cut whole changed are stays =
+    subst (AreRowsWithin high) (ap (map (map f)) cut ∙ sym (changed count each whole).1) (changed_within f s.maxval high rows stays (rows_within s rows are))
 
 -- they answer the rows that they were
 pub changed_answer : (tool : Tool) (s : Shape) (f : ℕ → ℕ) (y count each : ℕ) (old new : RowVec) (rows made : List (List ℕ)) → rows ≡ row_lists count each old

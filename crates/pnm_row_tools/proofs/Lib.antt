@@ -1,7 +1,6 @@
 pub mod FlipRowLaws
 pub mod DepthRowLaws
 pub mod ValueLaws
-pub mod RowsLaws
 pub mod EachRowLaws
 pub mod CutRowsLaws
 pub mod FlipRowsLaws

@@ -1,11 +1,10 @@
 -- Rows that are held one after another, each of as many samples as the others.
-use Rattle.std.specs.Prelude.{◌≡◌, ℕ, zero, suc, ◌-◌, ◌*◌, List, [], ◌++◌, map, take, drop}
-use Rattle.std.specs.List.{concat, flat_map, range_with_len}
+use Rattle.std.specs.Prelude.{◌≡◌, ℕ, zero, suc, ◌*◌, List, [], ◌++◌, map, take, drop}
+use Rattle.std.specs.List.{concat}
 use Rattle.pnm_image.specs.HeldRows.{AreRows, row_lists}
 use Rattle.pnm_image.specs.declared.rows.RowVec.{RowVec}
 use Rattle.pnm_image.specs.declared.rows.RowVec.TheVariants.{Bits, Bytes, Words}
 use Rattle.pnm_row_tools.specs.declared.cut.Parts.{Parts}
-use Rattle.pnm_tools.specs.Pixels.{pixel_of}
 
 -- so many rows of so many samples, each changed, one after another
 abbrev pub changed : {X : Type 0} → (List X → List X) → ℕ → ℕ → List X → List X
@@ -20,10 +19,6 @@ part start size row = take size (drop start row)
 abbrev pub parts_of : {X : Type 0} → Parts → List X → List X
 parts_of parts samples =
     changed (part parts.first parts.kept) parts.count parts.row_length (drop (parts.top * parts.row_length) samples)
-
--- so many rows, or pixels, of so many samples each, the last one first
-abbrev pub last_first : {X : Type 0} → ℕ → ℕ → List X → List X
-last_first count size samples = flat_map (λ x. pixel_of size samples (count - 1 - x)) (range_with_len 0 count)
 
 -- ---- rows as wide as they have to be
 

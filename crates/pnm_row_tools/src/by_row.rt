@@ -1,20 +1,20 @@
 //! A row tool at work: at most one row of the result for each row.
 
-ghost use Rattle.pnm_tools.specs.Answering.{row_list};
+ghost use Rattle.pnm_tools.specs.Answering.{rows_list};
 
 use crate::row_tool::RowTool;
-use pnm_image::{Head, Rows, Samples, Shape};
+use pnm_image::{Head, Rows, Shape};
 use pnm_tools::{ImageTool, ToolFault};
 use std::alloc::Global;
 use std::mem;
 
-/// A tool that makes of each row at most one row of the result, and the row that it has made.
+/// A tool that makes of each row at most one row of the result, and the rows that it has made.
 #[derive(Drop)]
 pub struct ByRow<T: RowTool> {
     /// The tool.
     pub tool: T,
-    /// The row of the result that is given next; `None` before the first row.
-    pub made: Option<Samples>,
+    /// The rows of the result that are given next; `None` where none are due.
+    pub made: Option<Rows>,
 }
 
 impl<T: RowTool> ImageTool for ByRow<T> {
@@ -22,30 +22,17 @@ impl<T: RowTool> ImageTool for ByRow<T> {
 
     ghost ready = { λ w shape rows. T.ready w.tool shape };
 
-    ghost due = { λ w. row_list w.made };
+    ghost due = { λ w. rows_list w.made };
 
-    ghost kept = { λ w. row_list w.made };
+    ghost kept = { λ w. rows_list w.made };
 
     fn begin(&mut self, alloc: Global, head: &Head) -> Result<Head, ToolFault> {
         self.tool.begin(alloc, head)
     }
 
-    fn take(&mut self, alloc: Global, shape: Shape, y: u32, row: Samples) -> Result<(), ToolFault> {
-        self.made = self.tool.row(alloc, shape, y, row)?;
+    fn take(&mut self, alloc: Global, shape: Shape, y: u32, rows: Rows) -> Result<(), ToolFault> {
+        self.made = self.tool.rows(alloc, shape, y, rows)?;
         Ok(())
-    }
-
-    fn rows(
-        &mut self,
-        alloc: Global,
-        shape: Shape,
-        y: u32,
-        rows: Rows,
-    ) -> Result<Option<Rows>, Rows> {
-        if self.made.is_some() {
-            return Err(rows);
-        }
-        self.tool.rows(alloc, shape, y, rows)
     }
 
     fn end(&mut self, _shape: Shape) {
@@ -53,11 +40,7 @@ impl<T: RowTool> ImageTool for ByRow<T> {
     }
 
     fn give(&mut self, _alloc: Global) -> Result<Option<Rows>, ToolFault> {
-        Ok(mem::replace(&mut self.made, None).map(Rows::one))
-    }
-
-    fn may_give(&self) -> bool {
-        self.made.is_some()
+        Ok(mem::replace(&mut self.made, None))
     }
 
     fn release(&mut self, _alloc: Global) {

@@ -11,7 +11,7 @@ ghost use Rattle.pnm_tools.specs.Tools.{TakesHead, result_head};
 ghost use Rattle.pnm_row_tools.specs.Keeping.{as_wide};
 
 use crate::row_tool::RowTool;
-use pnm_image::{Head, Kind, RowSlice, RowVec, Rows, Samples, Shape};
+use pnm_image::{Head, Kind, RowSlice, RowVec, Rows, Shape};
 use pnm_tools::{Planes, ToolFault, head_within_limits};
 use std::alloc::{AllocError, Global};
 
@@ -124,24 +124,16 @@ impl RowTool for Planes {
         picked_head(alloc, self, head)
     }
 
-    /// Makes a new row.
-    fn row(
+    /// Makes new rows.
+    fn rows(
         &self,
         alloc: Global,
         shape: Shape,
         _y: u32,
-        row: Samples,
-    ) -> Result<Option<Samples>, ToolFault> {
-        let picked = pick_planes(alloc, self, shape, &Rows::one(row))?;
-        Ok(Some(picked.into_first()))
-    }
-
-    /// Makes new rows.
-    fn rows(&self, alloc: Global, shape: Shape, _y: u32, rows: Rows) -> Result<Option<Rows>, Rows> {
-        match pick_planes(alloc, self, shape, &rows) {
-            Ok(picked) => Ok(Some(picked)),
-            Err(_) => Err(rows),
-        }
+        rows: Rows,
+    ) -> Result<Option<Rows>, ToolFault> {
+        let picked = pick_planes(alloc, self, shape, &rows)?;
+        Ok(Some(picked))
     }
 }
 

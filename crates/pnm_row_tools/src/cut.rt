@@ -1,72 +1,23 @@
 //! `pamcut`: a rectangle of the image, from pamcut(1).
 
-ghost use Rattle.std.specs.Prelude.{◌≡◌, ◌≤◌, ◌+◌, ◌-◌, ◌*◌, ◌^◌, ◌⊎◌, All, IfOk, IfErr, [], ◌<◌, length, map};
+ghost use Rattle.std.specs.Prelude.{◌≡◌, ◌≤◌, ◌+◌, ◌-◌, ◌*◌, ◌^◌, ◌⊎◌, IfOk, [], ◌<◌, length, map};
 ghost use Rattle.std.specs.Prelude.{IfSome, IfNone, take, drop};
 ghost use Rattle.std.specs.List.{AllByRecursion, copy_within};
 ghost use Rattle.pnm_image.specs.Places.{IsRowOf};
 ghost use Rattle.pnm_image.specs.declared.limits.TheConstants.{MAX_SIDE};
-ghost use Rattle.pnm_tools.specs.Cut.{IsLawfulAxis, KeepsWithin, columns_of_row, span_of, first_kept, last_kept};
+ghost use Rattle.pnm_tools.specs.Cut.{IsLawfulAxis, columns_of_row, span_of, first_kept, last_kept};
 ghost use Rattle.pnm_tools.specs.Cut.{edge_of, IsLawfulBox, columns_kept, rows_kept, span_count};
 ghost use Rattle.pnm_tools.specs.declared.tool.Tool.TheVariants.{Cut};
 ghost use Rattle.pnm_row_tools.specs.Keeping.{parts_kept};
 ghost use Rattle.pnm_row_tools.specs.EachRow.{parts_of};
 
 use crate::row_tool::RowTool;
-use pnm_image::{Bits, Head, RowVec, Rows, SampleVec, Samples, Shape};
+use pnm_image::{Head, RowVec, Rows, Shape};
 use pnm_tools::{CutBox, Span, ToolFault, head_within_limits};
 use std::alloc::{AllocError, Global};
 
-/// These columns of a row of an image of this shape, held as the row is.
-///
-/// # Errors
-///
-/// Where there is no memory for them.
-fn keep_columns(
-    alloc: Global,
-    columns: Span,
-    shape: Shape,
-    row: Samples,
-) -> Result<Samples, AllocError>
-    requires columns { KeepsWithin columns shape.depth row }
-    requires range { All (λ sample. sample ≤ shape.maxval) row }
-    ensures { IfOk result (λ kept. kept ≡ columns_of_row columns shape.depth row) }
-{
-    let depth = shape.depth as usize;
-    let count = (columns.last as usize - columns.first as usize + 1) * depth;
-    if count == row.len() {
-        return Ok(row);
-    }
-    match row.into_vec() {
-        SampleVec::Bits(bits) => {
-            let first = columns.first as usize * depth;
-            let mut kept = Bits::empty(alloc);
-            kept.append(&bits, first, count)?;
-            Ok(Samples::within(SampleVec::Bits(kept), shape.maxval))
-        }
-        SampleVec::Bytes(mut bytes) => {
-            keep(&mut bytes, columns, depth);
-            Ok(Samples::within(SampleVec::Bytes(bytes), shape.maxval))
-        }
-        SampleVec::Words(mut words) => {
-            keep(&mut words, columns, depth);
-            Ok(Samples::within(SampleVec::Words(words), shape.maxval))
-        }
-    }
-}
-
-/// Keeps these columns of a row of so many samples a pixel, in place.
-fn keep<T: Copy>(row: &mut Vec<T>, columns: Span, depth: usize)
-    requires { KeepsWithin columns depth row.old.items }
-    ensures { row.new.items ≡ columns_of_row columns depth row.old.items }
-{
-    let first = columns.first as usize * depth;
-    row.truncate((columns.last as usize + 1) * depth);
-    if first > 0 {
-        let kept = row.len() - first;
-        row.copy_within(first.., 0);
-        row.truncate(kept);
-    }
-}
+/// From how many samples on a part of a row is long.
+const LONG_PART: usize = 64;
 
 /// Of each of some rows that follow one another the samples that are kept.
 #[derive(Clone, Copy)]
@@ -86,20 +37,19 @@ struct Parts {
 ///
 /// # Errors
 ///
-/// The rows themselves, where bits are copied, and there is no memory for what is kept of them.
+/// Where there is no memory for bits that are copied.
 fn keep_columns_of_rows(
     alloc: Global,
     columns: Span,
     among: Span,
     shape: Shape,
     rows: Rows,
-) -> Result<Rows, Rows>
+) -> Result<Rows, AllocError>
     requires columns { (columns.first ≤ columns.last) × (columns.last < shape.width) }
     requires among { (among.first ≤ among.last) × (among.last < length rows) }
     requires rows { AllByRecursion (IsRowOf shape) rows }
-    ensures kept { IfOk result
+    ensures { IfOk result
         (λ kept. kept ≡ map (columns_of_row columns shape.depth) (take (span_count among) (drop among.first rows))) }
-    ensures same { IfErr result (λ same. same ≡ rows) }
 {
     let (held, count, row_length) = rows.into_parts();
     let kept_rows = among.last - among.first + 1;
@@ -109,12 +59,8 @@ fn keep_columns_of_rows(
     }
     let kept = match held {
         RowVec::Bits(bits) => {
-            match bits.part(alloc, parts.top, parts.count, parts.first, parts.kept) {
-                Ok(part) => RowVec::Bits(part),
-                Err(_) => {
-                    return Err(Rows::new(RowVec::Bits(bits), shape.maxval, count, row_length));
-                }
-            }
+            let part = bits.part(alloc, parts.top, parts.count, parts.first, parts.kept)?;
+            RowVec::Bits(part)
         }
         RowVec::Bytes(mut bytes) => {
             keep_of_each(&mut bytes, parts);
@@ -150,22 +96,50 @@ fn keep_of_each<T: Copy>(samples: &mut Vec<T>, parts: Parts)
     requires within { parts.first + parts.kept ≤ parts.row_length }
     ensures { samples.new.items ≡ parts_of parts samples.old.items }
 {
+    if parts.kept < LONG_PART {
+        move_parts(samples.as_mut_slice(), parts);
+    } else {
+        move_long_parts(samples.as_mut_slice(), parts);
+    }
+    samples.truncate(parts.count * parts.kept);
+}
+
+/// The same as `move_parts`, compiled by itself: for long parts this took less than half the instructions, for short
+/// ones a quarter more.
+#[inline(never)]
+fn move_long_parts<T: Copy>(samples: &mut [T], parts: Parts)
+    requires rows { parts.top * parts.row_length + parts.count * parts.row_length ≤ length samples.old }
+    requires within { parts.first + parts.kept ≤ parts.row_length }
+    ensures { take (parts.count * parts.kept) samples.new ≡ parts_of parts samples.old }
+{
+    move_parts(samples, parts);
+}
+
+/// Moves these parts of rows to the front, those of the first row first.
+#[inline(always)]
+fn move_parts<T: Copy>(samples: &mut [T], parts: Parts)
+    requires rows { parts.top * parts.row_length + parts.count * parts.row_length ≤ length samples.old }
+    requires within { parts.first + parts.kept ≤ parts.row_length }
+    ensures { take (parts.count * parts.kept) samples.new ≡ parts_of parts samples.old }
+{
     let (skipped, kept) = (parts.top * parts.row_length, parts.kept);
     for i in 0..parts.count {
         let start = skipped + i * parts.row_length + parts.first;
-        copy_down(samples.as_mut_slice(), start, i * kept, kept);
+        copy_down(samples, start, i * kept, kept);
     }
-    samples.truncate(parts.count * kept);
 }
 
-/// Copies so many samples to a place that isn't behind them: all at once where the two don't overlap, which takes a
-/// part of the time that one sample after another does.
+/// Copies so many samples to a place that isn't behind them, unless they are there: all at once where the two don't
+/// overlap, which takes a part of the time that one sample after another does.
 #[inline]
 fn copy_down<T: Copy>(samples: &mut [T], from: usize, to: usize, count: usize)
     requires down { to ≤ from }
     requires within { from + count ≤ length samples.old }
     ensures { samples.new ≡ copy_within samples.old from (from + count) to }
 {
+    if from == to {
+        return;
+    }
     if from - to < count {
         samples.copy_within(from..from + count, to);
     } else {
@@ -213,24 +187,15 @@ impl RowTool for Cutter {
         head_within_limits(alloc, kept, head.tuple_type())
     }
 
-    /// Moves the columns that are kept to the row's front, but those of bits to bytes of their own.
-    fn row(
+    /// Drops the rows that aren't kept, and keeps the columns of the others: they are moved to the front, but those of
+    /// bits to bytes of their own.
+    fn rows(
         &self,
         alloc: Global,
         shape: Shape,
         y: u32,
-        row: Samples,
-    ) -> Result<Option<Samples>, ToolFault> {
-        if y < self.rows.first || self.rows.last < y {
-            return Ok(None);
-        }
-        let kept = keep_columns(alloc, self.columns, shape, row)?;
-        Ok(Some(kept))
-    }
-
-    /// Drops the rows that aren't kept, and keeps the columns of the others: they are moved to the front, but those of
-    /// bits to bytes of their own.
-    fn rows(&self, alloc: Global, shape: Shape, y: u32, rows: Rows) -> Result<Option<Rows>, Rows> {
+        rows: Rows,
+    ) -> Result<Option<Rows>, ToolFault> {
         let Some(among) = kept_among(self.rows, y, rows.count()) else {
             return Ok(None);
         };

@@ -1,9 +1,10 @@
 //! `pamdepth`: the image with another maxval, from pamdepth(1).
 
-ghost use Rattle.std.specs.Prelude.{◌≡◌, ◌≤◌, ◌+◌, All, map, [], IfOk, IfErr, Ok, Err, ◌⊎◌};
+ghost use Rattle.std.specs.Prelude.{ℕ, ◌≡◌, ◌≤◌, ◌+◌, All, map, [], IfOk, IfErr, Ok, Err, ◌⊎◌};
 ghost use Rattle.std.specs.List.{range_with_len};
 ghost use Rattle.pnm_image.specs.declared.limits.TheConstants.{MAX_MAXVAL};
 ghost use Rattle.pnm_image.specs.Heads.{IsWithinLimits};
+ghost use Rattle.pnm_image.specs.HeldRows.{AreRows};
 ghost use Rattle.pnm_tools.specs.declared.fault.ToolFault.TheVariants.{Memory};
 ghost use Rattle.pnm_tools.specs.declared.tool.Tool.TheVariants.{Depth};
 ghost use Rattle.pnm_tools.specs.Depth.{nearest_sample, kind_at, type_at};
@@ -12,7 +13,8 @@ ghost use Rattle.pnm_row_tools.specs.Keeping.{IsTable};
 ghost use Rattle.pnm_tools.specs.Tools.{TakesHead, result_head};
 
 use crate::row_tool::RowTool;
-use pnm_image::{Head, Kind, RowVec, Rows, SampleVec, Samples, Shape};
+use crate::widths::{into_bytes, into_words};
+use pnm_image::{Head, Kind, RowVec, Rows, Samples, Shape};
 use pnm_tools::{ToolFault, head_within_limits};
 use std::alloc::{AllocError, Global};
 
@@ -157,23 +159,6 @@ fn widen_by_table(
     Ok(words)
 }
 
-/// The samples, all within this maxval, as bytes where it is at most 255.
-///
-/// # Errors
-///
-/// Where there is no memory for the bytes.
-fn held_at(alloc: Global, maxval: u32, words: Vec<u16>) -> Result<Samples, AllocError>
-    requires { All (λ sample. sample ≤ maxval) words.items }
-    ensures { IfOk result (λ held. held ≡ words.items) }
-{
-    let samples = Samples::within(SampleVec::Words(words), maxval);
-    if maxval > GREATEST_BYTE {
-        return Ok(samples);
-    }
-    let bytes = samples.into_bytes(alloc)?;
-    Ok(Samples::within(SampleVec::Bytes(bytes), maxval))
-}
-
 impl Rescaler {
     ghost use Rattle.pnm_row_tools.specs.Keeping.{maxval_of};
 
@@ -187,122 +172,86 @@ impl Rescaler {
         }
     }
 
-    /// A row of an image of this maxval, with the new one. It is held as bytes where the new maxval
-    /// is at most 255, and else as words.
+    /// Rows of an image of this maxval, with the new one: as bytes where the new maxval is at most 255, and else as
+    /// words, changed in place where they are held so.
     ///
     /// # Errors
     ///
     /// Where there is no memory for samples of another width.
-    fn rescale_row(&self, alloc: Global, old: u32, row: Samples) -> Result<Samples, AllocError>
+    fn rescale_rows(&self, alloc: Global, old: u32, rows: RowVec) -> Result<RowVec, AllocError>
         requires new { (1 ≤ self.now.maxval) × (self.now.maxval ≤ MAX_MAXVAL) }
         requires old { (1 ≤ old) × (old ≤ MAX_MAXVAL) }
         requires table { IsTable self.now.maxval old self.now.table }
-        requires range { All (λ sample. sample ≤ old) row }
-        ensures { IfOk result (λ rescaled. rescaled ≡ map (nearest_sample self.now.maxval old) row) }
+        requires whole { (count : ℕ) × (each : ℕ) × AreRows count each rows }
+        requires range { All (λ sample. sample ≤ old) (held_samples rows) }
+        ensures { IfOk result (IsEachChanged (nearest_sample self.now.maxval old) rows) }
     {
         let new = self.maxval;
         match &self.table {
-            Table::Absent => {
-                let mut words = row.into_words(alloc)?;
-                rescale(words.as_mut_slice(), new, old);
-                held_at(alloc, new, words)
-            }
+            Table::Absent => rescale_each(alloc, new, old, rows),
             Table::Bytes(table) => {
-                let bytes = row.into_bytes(alloc)?;
-                let bytes = bytes_by_table(bytes, table.as_slice(), new, old);
-                Ok(Samples::within(SampleVec::Bytes(bytes), new))
-            }
-            Table::Words(table) => {
-                let mut words = row.into_words(alloc)?;
-                rescale_by_table(words.as_mut_slice(), table.as_slice(), new, old);
-                held_at(alloc, new, words)
-            }
-        }
-    }
-
-    /// Rows of an image of this maxval, with the new one: changed in place where they stay as wide as they are held,
-    /// and else a copy.
-    ///
-    /// # Errors
-    ///
-    /// The rows themselves, where there is no table for samples that are held so, or no memory for the copy.
-    fn rescale_rows(&self, alloc: Global, old: u32, rows: RowVec) -> Result<RowVec, RowVec>
-        requires new { (1 ≤ self.now.maxval) × (self.now.maxval ≤ MAX_MAXVAL) }
-        requires old { (1 ≤ old) × (old ≤ MAX_MAXVAL) }
-        requires table { IsTable self.now.maxval old self.now.table }
-        requires range { All (λ sample. sample ≤ old) (held_samples rows) }
-        ensures rescaled { IfOk result (IsEachChanged (nearest_sample self.now.maxval old) rows) }
-        ensures same { IfErr result (λ same. same ≡ rows) }
-    {
-        let new = self.maxval;
-        match (&self.table, rows) {
-            (Table::Bytes(table), RowVec::Bits(bits)) => match bits.to_bytes(alloc) {
-                Ok(bytes) => {
-                    Ok(RowVec::Bytes(bytes_by_table(bytes, table.as_slice(), new, old)))
-                }
-                Err(_) => Err(RowVec::Bits(bits)),
-            },
-            (Table::Bytes(table), RowVec::Bytes(bytes)) => {
+                let bytes = into_bytes(alloc, old, rows)?;
                 Ok(RowVec::Bytes(bytes_by_table(bytes, table.as_slice(), new, old)))
             }
-            (Table::Words(table), rows) => rescale_by_words(
-                alloc,
-                table.as_slice(),
-                new,
-                old,
-                rows,
-            ),
-            (Table::Absent, RowVec::Words(mut words)) if new > GREATEST_BYTE => {
-                rescale(words.as_mut_slice(), new, old);
-                Ok(RowVec::Words(words))
-            }
-            (_, rows) => Err(rows),
+            Table::Words(table) => rescale_by_words(alloc, table.as_slice(), new, old, rows),
         }
     }
+}
+
+/// The same without a table: each sample is computed.
+///
+/// # Errors
+///
+/// Where there is no memory for samples of another width.
+fn rescale_each(alloc: Global, new: u32, old: u32, rows: RowVec) -> Result<RowVec, AllocError>
+    requires limits { (1 ≤ new) × (new ≤ MAX_MAXVAL) × (1 ≤ old) × (old ≤ MAX_MAXVAL) }
+    requires whole { (count : ℕ) × (each : ℕ) × AreRows count each rows }
+    requires range { All (λ sample. sample ≤ old) (held_samples rows) }
+    ensures { IfOk result (IsEachChanged (nearest_sample new old) rows) }
+{
+    let mut words = into_words(alloc, rows)?;
+    rescale(words.as_mut_slice(), new, old);
+    if new > GREATEST_BYTE {
+        return Ok(RowVec::Words(words));
+    }
+    let bytes = into_bytes(alloc, new, RowVec::Words(words))?;
+    Ok(RowVec::Bytes(bytes))
 }
 
 /// The same by a table of words: words become bytes, and bytes words, as they are copied.
 ///
 /// # Errors
 ///
-/// The rows themselves, where they are held otherwise than the maxvals want, or there is no memory for the copy.
+/// Where there is no memory for samples of another width.
 fn rescale_by_words(
     alloc: Global,
     table: &[u16],
     new: u32,
     old: u32,
     rows: RowVec,
-) -> Result<RowVec, RowVec>
+) -> Result<RowVec, AllocError>
     requires old { 1 ≤ old }
     requires table { table.now ≡ map (nearest_sample new old) (range_with_len 0 (old + 1)) }
+    requires whole { (count : ℕ) × (each : ℕ) × AreRows count each rows }
     requires range { All (λ sample. sample ≤ old) (held_samples rows) }
-    ensures rescaled { IfOk result (IsEachChanged (nearest_sample new old) rows) }
-    ensures same { IfErr result (λ same. same ≡ rows) }
+    ensures { IfOk result (IsEachChanged (nearest_sample new old) rows) }
 {
+    if new <= GREATEST_BYTE {
+        let words = into_words(alloc, rows)?;
+        let bytes = narrow_by_table(alloc, words.as_slice(), table, new, old)?;
+        return Ok(RowVec::Bytes(bytes));
+    }
     match rows {
-        RowVec::Words(words) if new > GREATEST_BYTE => {
-            Ok(RowVec::Words(words_by_table(words, table, new, old)))
+        RowVec::Bits(bits) => {
+            let bytes = bits.to_bytes(alloc)?;
+            let words = widen_by_table(alloc, bytes.as_slice(), table, new, old)?;
+            Ok(RowVec::Words(words))
         }
-        RowVec::Words(words) => {
-            match narrow_by_table(alloc, words.as_slice(), table, new, old) {
-                Ok(bytes) => Ok(RowVec::Bytes(bytes)),
-                Err(_) => Err(RowVec::Words(words)),
-            }
+        RowVec::Bytes(bytes) => {
+            let words = widen_by_table(alloc, bytes.as_slice(), table, new, old)?;
+            Ok(RowVec::Words(words))
         }
-        RowVec::Bytes(bytes) if new > GREATEST_BYTE => {
-            match widen_by_table(alloc, bytes.as_slice(), table, new, old) {
-                Ok(words) => Ok(RowVec::Words(words)),
-                Err(_) => Err(RowVec::Bytes(bytes)),
-            }
-        }
-        RowVec::Bits(bits) if new > GREATEST_BYTE => match bits.to_bytes(alloc) {
-            Ok(bytes) => match widen_by_table(alloc, bytes.as_slice(), table, new, old) {
-                Ok(words) => Ok(RowVec::Words(words)),
-                Err(_) => Err(RowVec::Bits(bits)),
-            },
-            Err(_) => Err(RowVec::Bits(bits)),
-        },
-        rows => Err(rows),
+        RowVec::Words(words) => Ok(RowVec::Words(words_by_table(words, table, new, old))),
     }
 }
 
@@ -326,23 +275,17 @@ impl RowTool for Rescaler {
         Ok(rescaled)
     }
 
-    /// Changes the row in place where its samples stay as wide as they are held.
-    fn row(
+    /// Changes the rows in place where their samples stay as wide as they are held.
+    fn rows(
         &self,
         alloc: Global,
         shape: Shape,
         _y: u32,
-        row: Samples,
-    ) -> Result<Option<Samples>, ToolFault> {
-        Ok(Some(self.rescale_row(alloc, shape.maxval, row)?))
-    }
-
-    fn rows(&self, alloc: Global, shape: Shape, _y: u32, rows: Rows) -> Result<Option<Rows>, Rows> {
+        rows: Rows,
+    ) -> Result<Option<Rows>, ToolFault> {
         let (held, count, row_length) = rows.into_parts();
-        match self.rescale_rows(alloc, shape.maxval, held) {
-            Ok(rescaled) => Ok(Some(Rows::new(rescaled, self.maxval, count, row_length))),
-            Err(held) => Err(Rows::new(held, shape.maxval, count, row_length)),
-        }
+        let rescaled = self.rescale_rows(alloc, shape.maxval, held)?;
+        Ok(Some(Rows::new(rescaled, self.maxval, count, row_length)))
     }
 }
 

@@ -10,33 +10,17 @@ ghost use Rattle.pnm_image.specs.Places.{IsRowOf};
 ghost use Rattle.pnm_tools.specs.declared.fault.ToolFault.TheVariants.{Memory};
 ghost use Rattle.pnm_tools.specs.declared.tool.Tool.TheVariants.{Flip};
 ghost use Rattle.pnm_tools.specs.Flip.{mirrored_row, moved_rows, moves_rows, turn_of, turned_row, ReversesRows};
-ghost use Rattle.pnm_row_tools.specs.EachRow.{HoldsRows, changed, last_first};
+ghost use Rattle.pnm_samples.specs.Cuts.{last_first};
+ghost use Rattle.pnm_row_tools.specs.EachRow.{HoldsRows, changed};
 ghost use Rattle.pnm_row_tools.specs.Keeping.{FlipsInRows, IsReversingRows, reversed_due};
 ghost use Rattle.pnm_tools.specs.Tools.{TakesHead, result_head};
 
 use crate::row_tool::RowTool;
-use pnm_image::{Head, RowVec, Rows, Samples, Shape};
+use pnm_image::{Head, RowVec, Rows, Shape};
+use pnm_samples::reverse_rows;
 use pnm_tools::{FlipWay, ImageTool, ToolFault, Turn, flipped_head};
 use std::alloc::{AllocError, Global};
 use std::marker::Model;
-
-/// The row as it is, or the last pixel first.
-///
-/// # Errors
-///
-/// Where there is no memory for bits that become bytes.
-fn turn_row(alloc: Global, turn: Turn, shape: Shape, row: Samples) -> Result<Samples, AllocError>
-    requires limits { IsWithinLimits shape }
-    requires row { IsRowOf shape row }
-    ensures { IfOk result (λ turned. turned ≡ turned_row turn shape row) }
-{
-    if !turn.columns_reversed {
-        return Ok(row);
-    }
-    let (held, count, row_length) = Rows::one(row).into_parts();
-    let turned = turn_round(alloc, shape, count, held)?;
-    Ok(Rows::new(turned, shape.maxval, count, row_length).into_first())
-}
 
 /// So many pixels, or rows, of so many samples each, the last one first: all samples change places, and then those of
 /// each pixel do again.
@@ -79,101 +63,70 @@ fn reverse_three<T: Copy>(samples: &mut [T])
     samples[2] = first;
 }
 
-/// These rows of an image of this shape, each the last pixel first, changed in place.
+/// So many rows of an image of this shape, each the last pixel first, changed in place; bits of several planes become
+/// bytes.
 ///
 /// # Errors
 ///
-/// The rows themselves, where they are held as bits of several planes.
-fn mirror_rows(shape: Shape, rows: Rows) -> Result<Rows, Rows>
+/// Where there is no memory for the bytes.
+fn mirror_rows(alloc: Global, shape: Shape, count: u32, rows: RowVec) -> Result<RowVec, AllocError>
     requires limits { IsWithinLimits shape }
-    requires rows { AllByRecursion (IsRowOf shape) rows }
-    ensures mirrored { IfOk result (λ mirrored. mirrored ≡ map (mirrored_row shape) rows) }
-    ensures same { IfErr result (λ same. same ≡ rows) }
+    requires rows { AreRows count (row_length shape) rows }
+    ensures { IfOk result (λ mirrored. HoldsRows count (row_length shape) mirrored
+        (map (mirrored_row shape) (row_lists count (row_length shape) rows))) }
 {
-    let (held, count, row_length) = rows.into_parts();
-    let mirrored = match held {
-        RowVec::Bits(bits) if shape.depth != 1 => {
-            return Err(Rows::new(RowVec::Bits(bits), shape.maxval, count, row_length));
-        }
-        RowVec::Bits(mut bits) => {
+    match rows {
+        RowVec::Bits(mut bits) if shape.depth == 1 => {
             bits.mirror();
-            RowVec::Bits(bits)
+            Ok(RowVec::Bits(bits))
+        }
+        RowVec::Bits(bits) => {
+            let mut unpacked = bits.to_bytes(alloc)?;
+            reverse_each(unpacked.as_mut_slice(), shape, count as usize);
+            Ok(RowVec::Bytes(unpacked))
         }
         RowVec::Bytes(mut bytes) => {
-            reverse_each(bytes.as_mut_slice(), shape, count as usize, row_length);
-            RowVec::Bytes(bytes)
+            reverse_each(bytes.as_mut_slice(), shape, count as usize);
+            Ok(RowVec::Bytes(bytes))
         }
         RowVec::Words(mut words) => {
-            reverse_each(words.as_mut_slice(), shape, count as usize, row_length);
-            RowVec::Words(words)
+            reverse_each(words.as_mut_slice(), shape, count as usize);
+            Ok(RowVec::Words(words))
         }
-    };
-    Ok(Rows::new(mirrored, shape.maxval, count, row_length))
+    }
 }
 
 /// So many rows, each the last pixel first.
-fn reverse_each<T: Copy>(samples: &mut [T], shape: Shape, count: usize, each: usize)
+fn reverse_each<T: Copy>(samples: &mut [T], shape: Shape, count: usize)
     requires limits { IsWithinLimits shape }
-    requires row { each ≡ row_length shape }
-    requires rows { length samples.old ≡ count * each }
-    ensures { samples.new ≡ changed (mirrored_row shape) count each samples.old }
+    requires rows { length samples.old ≡ count * row_length shape }
+    ensures { samples.new ≡ changed (mirrored_row shape) count (row_length shape) samples.old }
 {
+    let (width, depth) = (shape.width as usize, shape.depth as usize);
+    let each = width * depth;
     for i in 0..count {
         let start = i * each;
-        let row = &mut samples[start..start + each];
-        reverse_pixels(row, shape.width as usize, shape.depth as usize);
+        reverse_pixels(&mut samples[start..start + each], width, depth);
     }
 }
 
-/// So many rows of so many samples each, the last row first, copied.
-///
-/// # Errors
-///
-/// Where there is no memory for the copy.
-fn copy_rows_reversed<T: Copy>(
-    alloc: Global,
-    samples: &[T],
-    count: usize,
-    each: usize,
-) -> Result<Vec<T>, AllocError>
-    requires { length samples.now ≡ count * each }
-    ensures { IfOk result (λ made. made.items ≡ last_first count each samples.now) }
-{
-    let mut made = Vec::with_capacity(alloc, samples.len())?;
-    for y in 0..count {
-        let start = (count - 1 - y) * each;
-        made.extend_from_slice(&samples[start..start + each])?;
-    }
-    Ok(made)
-}
-
-/// So many rows of so many samples each, the last row first: they are copied, since a copy moves whole rows.
-///
-/// # Errors
-///
-/// Where there is no memory for the copy.
-fn reverse_rows(
-    alloc: Global,
-    rows: RowVec,
-    count: usize,
-    each: usize,
-) -> Result<RowVec, AllocError>
+/// So many rows of so many samples each, the last row first, in place.
+fn reverse_order(rows: RowVec, count: usize, each: usize) -> RowVec
     requires { AreRows count each rows }
-    ensures { IfOk result
-        (λ reversed. HoldsRows count each reversed (reverse (row_lists count each rows))) }
+    ensures { HoldsRows count each result (reverse (row_lists count each rows)) }
 {
-    if count == 1 {
-        return Ok(rows);
-    }
     match rows {
-        RowVec::Bits(bits) => Ok(RowVec::Bits(bits.reversed(alloc)?)),
-        RowVec::Bytes(bytes) => {
-            let reversed = copy_rows_reversed(alloc, bytes.as_slice(), count, each)?;
-            Ok(RowVec::Bytes(reversed))
+        RowVec::Bits(mut bits) => {
+            bits.reverse();
+            RowVec::Bits(bits)
         }
-        RowVec::Words(words) => {
-            let reversed = copy_rows_reversed(alloc, words.as_slice(), count, each)?;
-            Ok(RowVec::Words(reversed))
+        RowVec::Bytes(mut bytes) => {
+            reverse_rows(bytes.as_mut_slice(), count, each);
+            RowVec::Bytes(bytes)
+        }
+        RowVec::Words(mut words) => {
+            reverse_rows(words.as_mut_slice(), count, each);
+            RowVec::Words(words)
         }
     }
 }
@@ -216,7 +169,7 @@ fn turn_round(alloc: Global, shape: Shape, count: u32, rows: RowVec) -> Result<R
 ///
 /// # Errors
 ///
-/// Where there is no memory for bits that are copied or become bytes.
+/// Where there is no memory for bits that become bytes.
 fn turn_rows(alloc: Global, turn: Turn, shape: Shape, rows: Rows) -> Result<Rows, AllocError>
     requires limits { IsWithinLimits shape }
     requires rows { AllByRecursion (IsRowOf shape) rows }
@@ -227,7 +180,7 @@ fn turn_rows(alloc: Global, turn: Turn, shape: Shape, rows: Rows) -> Result<Rows
         let turned = turn_round(alloc, shape, count, held)?;
         Ok(Rows::new(turned, shape.maxval, count, row_length))
     } else {
-        let reversed = reverse_rows(alloc, held, count as usize, row_length)?;
+        let reversed = reverse_order(held, count as usize, row_length);
         Ok(Rows::new(reversed, shape.maxval, count, row_length))
     }
 }
@@ -262,31 +215,20 @@ impl RowTool for RowFlipper {
         flipped_head(alloc, self.way, head)
     }
 
-    /// Changes the row in place.
-    fn row(
+    /// Changes the rows in place.
+    fn rows(
         &self,
         alloc: Global,
         shape: Shape,
         _y: u32,
-        row: Samples,
-    ) -> Result<Option<Samples>, ToolFault> {
-        Ok(Some(turn_row(alloc, self.way.turn(), shape, row)?))
-    }
-
-    /// Changes the rows in place.
-    fn rows(
-        &self,
-        _alloc: Global,
-        shape: Shape,
-        _y: u32,
         rows: Rows,
-    ) -> Result<Option<Rows>, Rows> {
-        if self.way.turn().columns_reversed {
-            let mirrored = mirror_rows(shape, rows)?;
-            Ok(Some(mirrored))
-        } else {
-            Ok(Some(rows))
+    ) -> Result<Option<Rows>, ToolFault> {
+        if !self.way.turn().columns_reversed {
+            return Ok(Some(rows));
         }
+        let (held, count, row_length) = rows.into_parts();
+        let mirrored = mirror_rows(alloc, shape, count, held)?;
+        Ok(Some(Rows::new(mirrored, shape.maxval, count, row_length)))
     }
 }
 
@@ -300,8 +242,8 @@ impl RowFlipper {
     }
 }
 
-/// Reverses the order of rows: keeps those of an image, as they come together or one by one, and gives the last one
-/// first, each the last pixel first or as it is.
+/// Reverses the order of rows: keeps those of an image in the blocks in which they come, and gives the last one first,
+/// each the last pixel first or as it is.
 #[derive(Drop)]
 pub struct RowReverser {
     way: FlipWay,
@@ -336,29 +278,16 @@ impl ImageTool for RowReverser {
         Ok(reversed)
     }
 
+    /// Keeps the rows, which are answered by none.
     fn take(
         &mut self,
         _alloc: Global,
         _shape: Shape,
         _y: u32,
-        row: Samples,
-    ) -> Result<(), ToolFault> {
-        self.blocks.push(Rows::one(row))?;
-        Ok(())
-    }
-
-    /// Keeps the rows, which are answered by none.
-    fn rows(
-        &mut self,
-        _alloc: Global,
-        _shape: Shape,
-        _y: u32,
         rows: Rows,
-    ) -> Result<Option<Rows>, Rows> {
-        match self.blocks.push(rows) {
-            Ok(()) => Ok(None),
-            Err(failed) => Err(failed.value),
-        }
+    ) -> Result<(), ToolFault> {
+        self.blocks.push(rows)?;
+        Ok(())
     }
 
     fn end(&mut self, shape: Shape) {
@@ -375,10 +304,6 @@ impl ImageTool for RowReverser {
         };
         let turned = turn_rows(alloc, self.way.turn(), shape, kept)?;
         Ok(Some(turned))
-    }
-
-    fn may_give(&self) -> bool {
-        self.ended.is_some()
     }
 
     fn release(&mut self, alloc: Global) {

@@ -1,12 +1,14 @@
 //! `pnminvert`: black becomes white and white black, from pnminvert(1).
 
-ghost use Rattle.std.specs.Prelude.{◌≡◌, ◌≤◌, ◌-◌, All, IfOk, IfErr, map, []};
+ghost use Rattle.std.specs.Prelude.{ℕ, ◌≡◌, ◌≤◌, ◌-◌, All, IfOk, map, []};
+ghost use Rattle.pnm_image.specs.HeldRows.{AreRows};
 ghost use Rattle.pnm_image.specs.declared.limits.TheConstants.{MAX_MAXVAL};
 ghost use Rattle.pnm_tools.specs.declared.tool.Tool.TheVariants.{Invert};
 ghost use Rattle.pnm_row_tools.specs.EachRow.{IsEachChanged, held_samples};
 
 use crate::row_tool::RowTool;
-use pnm_image::{Head, RowVec, Rows, SampleVec, Samples, Shape};
+use crate::widths::into_words;
+use pnm_image::{Head, RowVec, Rows, Shape};
 use pnm_samples::Sample;
 use pnm_tools::ToolFault;
 use std::alloc::{AllocError, Global};
@@ -15,37 +17,17 @@ use std::alloc::{AllocError, Global};
 #[derive(Clone, Copy)]
 pub struct Inverter;
 
-/// The row with each sample taken from the maxval. It is changed in place and held as it was, but as
-/// words where samples up to the maxval can't be held so.
+/// Rows with each sample taken from the maxval, changed in place. They are held as they were, but as words where
+/// samples up to the maxval can't be held so.
 ///
 /// # Errors
 ///
 /// Where there is no memory for the words.
-fn invert_row(alloc: Global, maxval: u32, row: Samples) -> Result<Samples, AllocError>
+fn invert_rows(alloc: Global, maxval: u32, rows: RowVec) -> Result<RowVec, AllocError>
     requires maxval { (1 ≤ maxval) × (maxval ≤ MAX_MAXVAL) }
-    requires range { All (λ sample. sample ≤ maxval) row }
-    ensures { IfOk result (λ made. made ≡ map (λ sample. maxval - sample) row) }
-{
-    let (held, count, each) = Rows::one(row).into_parts();
-    match invert_rows(maxval, held) {
-        Ok(inverted) => Ok(Rows::new(inverted, maxval, count, each).into_first()),
-        Err(held) => {
-            let row = Rows::new(held, maxval, count, each).into_first();
-            Ok(invert_words(maxval, row.into_words(alloc)?))
-        }
-    }
-}
-
-/// Rows with each sample taken from the maxval, changed in place and held as they were.
-///
-/// # Errors
-///
-/// The rows themselves, where samples up to the maxval can't be held so.
-fn invert_rows(maxval: u32, rows: RowVec) -> Result<RowVec, RowVec>
-    requires maxval { (1 ≤ maxval) × (maxval ≤ MAX_MAXVAL) }
+    requires whole { (count : ℕ) × (each : ℕ) × AreRows count each rows }
     requires range { All (λ sample. sample ≤ maxval) (held_samples rows) }
-    ensures inverted { IfOk result (IsEachChanged (λ sample. maxval - sample) rows) }
-    ensures same { IfErr result (λ same. same ≡ rows) }
+    ensures { IfOk result (IsEachChanged (λ sample. maxval - sample) rows) }
 {
     match rows {
         RowVec::Bits(mut bits) if maxval == 1 => {
@@ -56,23 +38,24 @@ fn invert_rows(maxval: u32, rows: RowVec) -> Result<RowVec, RowVec>
             invert(bytes.as_mut_slice(), maxval as u8);
             Ok(RowVec::Bytes(bytes))
         }
-        RowVec::Words(mut words) => {
-            invert(words.as_mut_slice(), maxval as u16);
-            Ok(RowVec::Words(words))
-        }
-        held => Err(held),
+        rows => invert_as_words(alloc, maxval, rows),
     }
 }
 
-/// The words, each taken from the maxval, changed in place.
-fn invert_words(maxval: u32, words: Vec<u16>) -> Samples
+/// The same with all samples as words.
+///
+/// # Errors
+///
+/// Where there is no memory for the words.
+fn invert_as_words(alloc: Global, maxval: u32, rows: RowVec) -> Result<RowVec, AllocError>
     requires maxval { maxval ≤ MAX_MAXVAL }
-    requires range { All (λ sample. sample ≤ maxval) words.items }
-    ensures { result ≡ map (λ sample. maxval - sample) words.items }
+    requires whole { (count : ℕ) × (each : ℕ) × AreRows count each rows }
+    requires range { All (λ sample. sample ≤ maxval) (held_samples rows) }
+    ensures { IfOk result (IsEachChanged (λ sample. maxval - sample) rows) }
 {
-    let mut words = words;
+    let mut words = into_words(alloc, rows)?;
     invert(words.as_mut_slice(), maxval as u16);
-    Samples::within(SampleVec::Words(words), maxval)
+    Ok(RowVec::Words(words))
 }
 
 /// Takes each sample from the maxval.
@@ -101,28 +84,16 @@ impl RowTool for Inverter {
         }
     }
 
-    /// Changes the row in place.
-    fn row(
+    /// Changes the rows in place.
+    fn rows(
         &self,
         alloc: Global,
         shape: Shape,
         _y: u32,
-        row: Samples,
-    ) -> Result<Option<Samples>, ToolFault> {
-        Ok(Some(invert_row(alloc, shape.maxval, row)?))
-    }
-
-    fn rows(
-        &self,
-        _alloc: Global,
-        shape: Shape,
-        _y: u32,
         rows: Rows,
-    ) -> Result<Option<Rows>, Rows> {
+    ) -> Result<Option<Rows>, ToolFault> {
         let (held, count, row_length) = rows.into_parts();
-        match invert_rows(shape.maxval, held) {
-            Ok(inverted) => Ok(Some(Rows::new(inverted, shape.maxval, count, row_length))),
-            Err(held) => Err(Rows::new(held, shape.maxval, count, row_length)),
-        }
+        let inverted = invert_rows(alloc, shape.maxval, held)?;
+        Ok(Some(Rows::new(inverted, shape.maxval, count, row_length)))
     }
 }

@@ -9,6 +9,7 @@ mod depth;
 mod flip;
 mod invert;
 mod row_tool;
+mod widths;
 
 pub use by_row::ByRow;
 pub use channel::picked_head;

@@ -1,20 +1,20 @@
 //! What a tool is that makes of each row at most one row of the result, and keeps none: its head rule
 //! and its row rule.
 
-ghost use Rattle.std.specs.Prelude.{ℕ, ◌≡◌, ◌+◌, ◌<◌, ◌≤◌, ◌⊎◌, List, [], length, OnOk, IfOk, IfErr, Ok, Err};
+ghost use Rattle.std.specs.Prelude.{ℕ, ◌≡◌, ◌+◌, ◌≤◌, ◌⊎◌, List, [], length, OnOk, IfOk, IfErr, Ok, Err};
 ghost use Rattle.std.specs.List.{AllByRecursion};
 ghost use Rattle.pnm_image.specs.Places.{IsRowOf};
 ghost use Rattle.pnm_image.specs.declared.shape.Shape.{Shape as ShapeValue};
 ghost use Rattle.pnm_tools.specs.declared.fault.ToolFault.TheVariants.{Memory};
 ghost use Rattle.pnm_tools.specs.declared.tool.Tool.{Tool as ToolValue};
-ghost use Rattle.pnm_tools.specs.Answering.{rows_answer, row_list, rows_list};
-ghost use Rattle.pnm_tools.specs.Tools.{IsLawfulTool, TakesHead, result_head, row_answer, end_answer};
+ghost use Rattle.pnm_tools.specs.Answering.{rows_answer, rows_list};
+ghost use Rattle.pnm_tools.specs.Tools.{IsLawfulTool, TakesHead, result_head, end_answer};
 
-use pnm_image::{Head, Rows, Samples, Shape};
+use pnm_image::{Head, Rows, Shape};
 use pnm_tools::ToolFault;
 use std::alloc::Global;
 
-/// The head rule and the row rule of a tool.
+/// The head rule and the row rule of a tool. Rows come together, and a row by itself is one of them.
 pub trait RowTool {
     /// Which tool it is.
     ghost tool: { Self → ToolValue };
@@ -32,36 +32,23 @@ pub trait RowTool {
         ensures refused { IfErr result (λ fault. (result_head (tool self.old) head.now ≡ Err fault)
             ⊎ ((fault ≡ Memory) × TakesHead (tool self.old) head.now)) };
 
-    /// The row of the result that row `y` of an image of this shape makes, if it makes one. The only
-    /// fault is `Memory`.
-    fn row(
+    /// The rows of the result that rows of an image of this shape make, from row `y` on, if they make some.
+    ///
+    /// # Errors
+    ///
+    /// `Memory`, where there is no memory for them.
+    fn rows(
         &self,
         alloc: Global,
         shape: Shape,
         y: u32,
-        row: Samples,
-    ) -> Result<Option<Samples>, ToolFault>
-        requires lawful { IsLawfulTool (tool self.now) }
-        requires ready { ready self.now shape }
-        requires row { (y < shape.height) × IsRowOf shape row }
-        ensures row { IfOk result (λ made. row_answer (tool self.now) shape y row ≡ row_list made) }
-        ensures refused { IfErr result (λ fault. fault ≡ Memory) };
-
-    /// The rows of the result that rows of an image of this shape make, from row `y` on, all at once, if they make
-    /// some.
-    ///
-    /// # Errors
-    ///
-    /// The rows themselves, where each is to be taken by itself, as where there is no memory to make all at once.
-    fn rows(&self, alloc: Global, shape: Shape, y: u32, rows: Rows) -> Result<Option<Rows>, Rows>
+        rows: Rows,
+    ) -> Result<Option<Rows>, ToolFault>
         requires lawful { IsLawfulTool (tool self.now) }
         requires ready { ready self.now shape }
         requires rows { (y + length rows ≤ shape.height) × AllByRecursion (IsRowOf shape) rows }
         ensures made { IfOk result (λ made. rows_answer (tool self.now) shape y rows ≡ rows_list made) }
-        ensures same { IfErr result (λ same. same ≡ rows) }
-    {
-        Err(rows)
-    }
+        ensures refused { IfErr result (λ fault. fault ≡ Memory) };
 
     /// The image's end is answered by no row.
     ghost nothing_at_end: { (s : Self) (shape : ShapeValue) (rows : List (List ℕ))

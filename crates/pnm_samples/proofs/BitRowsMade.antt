@@ -9,6 +9,7 @@ use Rattle.std.proofs.Math.Seq.{drop-append-add, take-append-add}
 use borrow.Rule.Slice.PartMut.{put_mid}
 use Rattle.std.specs.List.{concat}
 use Rattle.pnm_samples.specs.BitRows.{row_bytes, ArePackedRows}
+use Rattle.pnm_samples.specs.Cuts.{last_first}
 use Rattle.pnm_samples.specs.PixelRows.{bytes_for, rows_of_bytes}
 use Rattle.pnm_samples.specs.Pixels.{all_pixels, ArePacked}
 use Rattle.pnm_samples.proofs.BitRowLaws.{changed_row, length_of_row_bytes, pixels_of_row, row_before, row_within}
@@ -16,6 +17,7 @@ use Rattle.pnm_samples.proofs.MirrorLaws.{turned_parts}
 use Rattle.pnm_samples.proofs.PixelLaws.{drop-all_pixels, length-all_pixels, take-all_pixels}
 use Rattle.pnm_samples.proofs.PixelRowsLaws.{length_of_rows, row_lies}
 use Rattle.pnm_samples.proofs.RepeatLaws.{repeated, take_repeated}
+use Rattle.pnm_samples.proofs.RowOrderLaws.{last_first_long, row_of_last_first}
 
 -- rows by the pixels of each
 pub rows_are : (count each : ℕ) (bytes : List ℕ) (rows : List (List ℕ)) → length rows ≡ count
@@ -175,12 +177,6 @@ pub record AreFilled (pixels : ℕ → List ℕ) (passed count each : ℕ) (byte
   pub long : length bytes ≡ count * bytes_for each
   pub rows : (row : ℕ) → row < passed → take each (all_pixels (row_bytes (bytes_for each) row bytes)) ≡ pixels row
 
-pub none_filled : (pixels : ℕ → List ℕ) (count each : ℕ) (bytes : List ℕ) → length bytes ≡ count * bytes_for each → AreFilled pixels 0 count each bytes
-none_filled pixels count each bytes long = record {
-  long = long;
-  rows = λ row lt. absurd (omega (arith, lt));
-}
-
 -- a row more
 pub one_more_filled : (pixels : ℕ → List ℕ) (row count each n : ℕ) (now part new : List ℕ) → AreFilled pixels row count each now → row < count
     → n ≡ bytes_for each → length part ≡ bytes_for each → new ≡ put_mid (row * bytes_for each) n now part → take each (all_pixels part) ≡ pixels row
@@ -218,12 +214,6 @@ one_more_filled pixels row count each n now part new known lt fits long is made 
 pub record AreCopied (parts : ℕ → List ℕ) (passed size : ℕ) (bytes : List ℕ) : Type 0 where
   pub long : length bytes ≡ passed * size
   pub rows : (row : ℕ) → row < passed → row_bytes size row bytes ≡ parts row
-
-pub none_copied : (parts : ℕ → List ℕ) (size : ℕ) (bytes : List ℕ) → bytes ≡ [] → AreCopied parts 0 size bytes
-none_copied parts size bytes is = record {
-  long = ap length is ∙ sym (zero-mul size);
-  rows = λ row lt. absurd (omega (arith, lt));
-}
 
 -- a row more
 pub one_more_copied : (parts : ℕ → List ℕ) (passed size : ℕ) (bytes part new : List ℕ) → AreCopied parts passed size bytes → part ≡ parts passed
@@ -287,12 +277,14 @@ part_is top count left each passed bytes rows within all known =
 
 -- ---- rows in the other order
 
-module _ (count each : ℕ) (old new : List ℕ) (h : ArePackedRows count each old)
-    (known : AreCopied (λ (k : ℕ). row_bytes (bytes_for each) (count - 1 - k) old) count (bytes_for each) new) where
+module _ (count each : ℕ) (old new : List ℕ) (h : ArePackedRows count each old) (is : new ≡ last_first count (bytes_for each) old) where
+  reversed_row : (row : ℕ) → row < count → row_bytes (bytes_for each) row new ≡ row_bytes (bytes_for each) (count - 1 - row) old
+  reversed_row row lt = ap (row_bytes (bytes_for each) row) is ∙ row_of_last_first count (bytes_for each) row old h.enough lt
+
   pub reversed_are_packed : ArePackedRows count each new
   reversed_are_packed = record {
-    enough = known.long;
-    packed = λ row lt. subst (ArePacked each) (sym (known.rows row lt)) (h.packed (count - 1 - row) (omega (arith, lt)));
+    enough = ap length is ∙ last_first_long count (bytes_for each) old h.enough;
+    packed = λ row lt. subst (ArePacked each) (sym (reversed_row row lt)) (h.packed (count - 1 - row) (omega (arith, lt)));
   }
 
   pub rows_reversed : rows_of_bytes count each new ≡ reverse (rows_of_bytes count each old)
@@ -301,7 +293,7 @@ module _ (count each : ℕ) (old new : List ℕ) (h : ArePackedRows count each o
       let many : length rows ≡ count = length_of_rows count each old in
       rows_are count each new (reverse rows) (length-reverse rows ∙ many) (λ row lt.
       let place : length rows - 1 - row ≡ count - 1 - row = omega (arith, many) in
-      ap (λ (l : List ℕ). take each (all_pixels l)) (known.rows row lt) ∙ pixels_of_row count each (count - 1 - row) old (omega (arith, lt))
+      ap (λ (l : List ℕ). take each (all_pixels l)) (reversed_row row lt) ∙ pixels_of_row count each (count - 1 - row) old (omega (arith, lt))
       ∙ sym (get_or-reverse rows row [] (omega (arith, many, lt)) ∙ ap (λ (m : ℕ). get_or rows m []) place))
 
 -- ---- rows of which each pixel stands several times

@@ -13,7 +13,7 @@ use Rattle.pnm_samples.specs.Blocks.{bits_of, IsSquare, lane_at}
 use Rattle.std.specs.Int.{bit_at}
 use Rattle.pnm_samples.proofs.BlockLaws.{bit_of_bits}
 use Rattle.std.specs.Global.{Global}
-use Rattle.pnm_samples.specs.Columns.{column_at, AreLong, HasPair, HavePairs, HoldsPixels, HoldsFrom, HoldSixteen, HoldColumns, row_in_place}
+use Rattle.pnm_samples.specs.Columns.{column_at, AreLong, HasPair, HavePairs, HoldsPixels, HoldSixteen, HoldColumns, row_in_place}
 use Rattle.pnm_samples.proofs.PixelLaws.{bit_at-shr, bit_at-low_byte, length-pixels, get_or-pixels, drop-all_pixels, length-all_pixels}
 
 -- a pixel of a byte of many
@@ -30,17 +30,6 @@ byte_holds row bytes byte inside is k lt within =
     sym (pixel_of_bytes bytes byte k inside lt) ∙ sym (get_or-take (length row) (all_pixels bytes) (8 * byte + k) 0 within)
     ∙ ap (λ (l : List ℕ). get_or l (8 * byte + k) 0) (sym is)
 
--- what the bytes of a row from one on hold, or none where it has no such byte
-pub bytes_from_hold : (row bytes : List ℕ) (byte from : ℕ) → length bytes ≡ (length row + 7) / 8 → row ≡ take (length row) (all_pixels bytes)
-    → (byte < length bytes → from ≡ byte) → HoldsFrom byte row (take (length bytes - from) (drop from bytes))
-bytes_from_hold row bytes byte from count is start n k lt within =
-    let inside : byte + n < length bytes = omega (arith, count) in
-    let here : from ≡ byte = start (omega arith) in
-    let place : from + n ≡ byte + n = omega arith in
-    ap (pixel_at (7 - k)) (get_or-take (length bytes - from) (drop from bytes) n 0 (omega arith) ∙ get_or-drop from bytes n 0
-    ∙ ap (λ (i : ℕ). get_or bytes i 0) place)
-    ∙ byte_holds row bytes (byte + n) inside is k lt within
-
 -- ---- the columns of sixteen rows
 
 -- a byte holds the pixels of a row, where there is one
@@ -50,23 +39,6 @@ HoldsRow byte rows r held = r < length rows → HoldsPixels byte (get_or rows r 
 -- eight of the bytes hold the pixels of eight rows, the last row's first
 abbrev pub HoldEight : ℕ → List (List ℕ) → ℕ → ℕ → List ℕ → Type 0
 HoldEight byte rows first from lanes = (m : ℕ) → m < 8 → HoldsRow byte rows (first + (from + m)) (get_or lanes (from + (7 - m)) 0)
-
--- what each of eight bytes holds
-pub eight_hold : (Q : ℕ → ℕ → Type 0) (first from : ℕ) (lanes : List ℕ)
-    → Q (first + (from + 0)) (get_or lanes (from + 7) 0) → Q (first + (from + 1)) (get_or lanes (from + 6) 0)
-    → Q (first + (from + 2)) (get_or lanes (from + 5) 0) → Q (first + (from + 3)) (get_or lanes (from + 4) 0)
-    → Q (first + (from + 4)) (get_or lanes (from + 3) 0) → Q (first + (from + 5)) (get_or lanes (from + 2) 0)
-    → Q (first + (from + 6)) (get_or lanes (from + 1) 0) → Q (first + (from + 7)) (get_or lanes (from + 0) 0)
-    → (m : ℕ) → m < 8 → Q (first + (from + m)) (get_or lanes (from + (7 - m)) 0)
-eight_hold Q first from lanes a b c d e f g h zero lt = a
-eight_hold Q first from lanes a b c d e f g h (suc zero) lt = b
-eight_hold Q first from lanes a b c d e f g h (suc (suc zero)) lt = c
-eight_hold Q first from lanes a b c d e f g h (suc (suc (suc zero))) lt = d
-eight_hold Q first from lanes a b c d e f g h (suc (suc (suc (suc zero)))) lt = e
-eight_hold Q first from lanes a b c d e f g h (suc (suc (suc (suc (suc zero))))) lt = f
-eight_hold Q first from lanes a b c d e f g h (suc (suc (suc (suc (suc (suc zero)))))) lt = g
-eight_hold Q first from lanes a b c d e f g h (suc (suc (suc (suc (suc (suc (suc zero))))))) lt = h
-eight_hold Q first from lanes a b c d e f g h (suc (suc (suc (suc (suc (suc (suc (suc m)))))))) lt = absurd (omega arith)
 
 -- what holds of each of sixteen
 pub sixteen_cases : (Q : ℕ → Type 0) → Q 0 → Q 1 → Q 2 → Q 3 → Q 4 → Q 5 → Q 6 → Q 7 → Q 8 → Q 9 → Q 10 → Q 11 → Q 12 → Q 13 → Q 14 → Q 15

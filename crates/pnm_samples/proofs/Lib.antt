@@ -12,5 +12,6 @@ pub mod PixelLaws
 pub mod PixelRowLaws
 pub mod PixelRowsLaws
 pub mod RepeatLaws
+pub mod RowOrderLaws
 pub mod SquareLaws
 pub mod StretchLaws

@@ -1,9 +1,9 @@
 -- Rows of packed pixels that are held one after another.
-use Rattle.std.proofs.Common.{◌≡◌, ℕ, zero, suc, ◌+◌, ◌-◌, ◌*◌, ◌/◌, ◌%◌, ◌<◌, ◌≤◌, List, [], ◌∷◌, ◌++◌, length, get_or, take, drop, reverse, refl, sym, ap}
-use Rattle.std.proofs.Common.{ap₂, subst, ◌∙◌, arith, suc-mul, zero-mul, mul-le-mul, Bool, true, false, not, if◌then◌else◌, Result, Ok, Err, OnOk, is_ok}
-use Rattle.std.proofs.lemmas.List.{append-nil, drop-append-le, drop-drop, drop_all, drop_at, get_or-drop, length-append, length-drop, length-reverse}
+use Rattle.std.proofs.Common.{◌≡◌, ℕ, zero, suc, ◌+◌, ◌-◌, ◌*◌, ◌%◌, ◌<◌, ◌≤◌, List, [], ◌∷◌, ◌++◌, length, get_or, take, drop, refl, sym, ap}
+use Rattle.std.proofs.Common.{ap₂, subst, ◌∙◌, arith, suc-mul, zero-mul, mul-le-mul, Bool, true, false, if◌then◌else◌}
+use Rattle.std.proofs.lemmas.List.{drop-append-le, drop-drop, get_or-drop, length-drop, length-reverse}
 use Rattle.std.proofs.lemmas.List.{length-take, length-take-le, nil_from_length}
-use Rattle.std.proofs.lemmas.List.{get_or-reverse, reverse-reverse, take-append-drop, take-append-le, take_all}
+use Rattle.std.proofs.lemmas.List.{get_or-reverse, take-append-drop, take-append-le, take_all}
 use Rattle.pnm_samples.specs.Columns.{HoldsFrom}
 use Rattle.pnm_samples.specs.Cuts.{cut_rows}
 use Rattle.pnm_samples.specs.PixelRows.{bytes_for, rows_of_bytes, ordered_rows}
@@ -66,11 +66,6 @@ rows_pushed b n held more each bytes new old cut order is long same before added
     ap (λ (c : Bool). ordered_rows c (n + more) each new) order ∙ rows_added n held more each bytes new cut long same before added
     ∙ ap (λ (l : List (List ℕ)). l ++ cut) (sym (ap (λ (c : Bool). ordered_rows c n held bytes) order) ∙ is)
 
--- the opposite order
-pub order_turned : (b : Bool) (n each : ℕ) (bytes : List ℕ) → ordered_rows (not b) n each bytes ≡ reverse (ordered_rows b n each bytes)
-order_turned true n each bytes = sym (reverse-reverse (rows_of_bytes n each bytes))
-order_turned false n each bytes = refl
-
 -- how many bytes they are then
 pub bytes_added : (n held more each size : ℕ) → size ≡ n * bytes_for held → (0 < n → held ≡ each) → size + more * bytes_for each ≡ (n + more) * bytes_for each
 bytes_added zero held more each size long same = omega (arith, long, zero-mul (bytes_for held))
@@ -88,101 +83,13 @@ aligned (suc count) each bytes whole =
     ap (λ (l : List (List ℕ)). take each (all_pixels bytes) ∷ l)
     (aligned count each (drop (bytes_for each) bytes) whole ∙ ap (cut_rows count each) next)
 
--- all of them
-pub aligned_rows : (count each : ℕ) (bytes pixels : List ℕ) → each % 8 ≡ 0 → length pixels ≡ count * each → length bytes ≡ (length pixels + 7) / 8
-    → pixels ≡ take (length pixels) (all_pixels bytes) → rows_of_bytes count each bytes ≡ cut_rows count each pixels
-aligned_rows count each bytes pixels whole long size is =
-    let part : each ≡ 8 * bytes_for each = omega (arith, whole) in
-    let all : count * each ≡ 8 * (count * bytes_for each) = ap (λ (k : ℕ). count * k) part ∙ omega arith in
-    aligned count each bytes whole
-    ∙ ap (cut_rows count each) (sym (is ∙ take_all (length pixels) (all_pixels bytes) (omega (arith, length-all_pixels bytes, long, all, size))))
-
-pub aligned_size : (count each size : ℕ) → each % 8 ≡ 0 → size ≡ (count * each + 7) / 8 → size ≡ count * bytes_for each
-aligned_size count each size whole is =
-    let part : each ≡ 8 * bytes_for each = omega (arith, whole) in
-    let all : count * each ≡ 8 * (count * bytes_for each) = ap (λ (k : ℕ). count * k) part ∙ omega arith in
-    omega (arith, is, all)
-
--- bytes that were added at once, where there was memory
-pub many_at_once : {T E : Type 0} (r : Result T E) (count each : ℕ) (bytes more new : List ℕ) → new ≡ (if is_ok r then bytes ++ more else bytes)
-    → length more ≡ count * bytes_for each → OnOk r (length new ≡ length bytes + count * bytes_for each)
-many_at_once (Ok x) count each bytes more new is size = omega (arith, ap length is, length-append bytes more, size)
-many_at_once (Err e) count each bytes more new is size = tt
-
-pub added_at_once : {T E : Type 0} (r : Result T E) (count each : ℕ) (bytes more new : List ℕ) (cut : List (List ℕ))
-    → new ≡ (if is_ok r then bytes ++ more else bytes) → rows_of_bytes count each more ≡ cut → OnOk r (rows_of_bytes count each (drop (length bytes) new) ≡ cut)
-added_at_once (Ok x) count each bytes more new cut is rows =
-    ap (λ (l : List ℕ). rows_of_bytes count each (drop (length bytes) l)) is ∙ ap (rows_of_bytes count each) (drop_at bytes more (length bytes) refl) ∙ rows
-added_at_once (Err e) count each bytes more new cut is rows = tt
-
 -- ---- rows that are brought to a byte's start one by one
-
-cut_one_more : (count each : ℕ) (pixels : List ℕ) → cut_rows (count + 1) each pixels ≡ cut_rows count each pixels ++ take each (drop (count * each) pixels) ∷ []
-cut_one_more zero each pixels =
-    let none : 0 * each ≡ 0 = omega (arith, zero-mul each) in
-    sym (ap (λ (k : ℕ). take each (drop k pixels) ∷ []) none)
-cut_one_more (suc count) each pixels =
-    let more : suc count + 1 ≡ suc (count + 1) = omega arith in
-    let place : suc count * each ≡ each + count * each = omega (arith, suc-mul count each) in
-    ap (λ (k : ℕ). cut_rows k each pixels) more
-    ∙ ap (λ (l : List (List ℕ)). take each pixels ∷ l) (cut_one_more count each (drop each pixels))
-    ∙ ap (λ (l : List ℕ). take each pixels ∷ (cut_rows count each (drop each pixels) ++ take each l ∷ []))
-    (drop-drop (count * each) each pixels ∙ ap (λ (k : ℕ). drop k pixels) (sym place))
 
 -- what has been added of rows
 pub record HasAdded (held count each : ℕ) (old bytes pixels : List ℕ) : Type 0 where
   pub before : take held bytes ≡ old
   pub many : length bytes ≡ held + count * bytes_for each
   pub rows : rows_of_bytes count each (drop held bytes) ≡ cut_rows count each pixels
-
--- a row more
-pub row_added : (held count each : ℕ) (old bytes new pixels : List ℕ) → HasAdded held count each old bytes pixels → take (length bytes) new ≡ bytes
-    → length new ≡ length bytes + bytes_for each → take each (all_pixels (drop (length bytes) new)) ≡ take each (drop (count * each) pixels)
-    → HasAdded held (count + 1) each old new pixels
-row_added held count each old bytes new pixels known before size run =
-    let rest : List ℕ = drop (length bytes) new in
-    let parts : new ≡ bytes ++ rest = sym (take-append-drop (length bytes) new) ∙ ap (λ (l : List ℕ). l ++ rest) before in
-    let within : held ≤ length bytes = omega (arith, known.many) in
-    let behind : drop held new ≡ drop held bytes ++ rest = ap (drop held) parts ∙ drop-append-le held bytes rest within in
-    let long : length (drop held bytes) ≡ count * bytes_for each = omega (arith, length-drop held bytes, known.many) in
-    let one : rows_of_bytes 1 each rest ≡ take each (drop (count * each) pixels) ∷ [] = ap (λ (l : List ℕ). l ∷ []) run in
-    record {
-      before = ap (take held) parts ∙ take-append-le held bytes rest within ∙ known.before;
-      many = omega (arith, size, known.many);
-      rows = ap (rows_of_bytes (count + 1) each) behind ∙ rows_behind count 1 each (drop held bytes) rest long
-          ∙ ap₂ (λ (a b : List (List ℕ)). a ++ b) known.rows one ∙ sym (cut_one_more count each pixels);
-    }
-
--- nothing yet
-pub none_added : (held each : ℕ) (old bytes pixels : List ℕ) → held ≡ length old → bytes ≡ old → HasAdded held 0 each old bytes pixels
-none_added held each old bytes pixels many same = record {
-  before = ap (take held) same ∙ take_all held old (omega (arith, many));
-  many = omega (arith, ap length same, many, zero-mul (bytes_for each));
-  rows = refl;
-}
-
--- what was added is given up
-pub given_up : (held : ℕ) (old bytes now new : List ℕ) → take held bytes ≡ old → now ≡ bytes → new ≡ take held now → new ≡ old
-given_up held old bytes now new before same cut = cut ∙ ap (take held) same ∙ before
-
-pub all_before : (old new : List ℕ) → new ≡ old → take (length old) new ≡ old
-all_before old new same = ap (take (length old)) same ∙ take_all (length old) old (omega arith)
-
--- a part that was written behind others
-pub written_behind : (held n : ℕ) (slice part items : List ℕ) → length slice ≡ n → held ≤ n → length part ≡ n - held → length items ≡ n
-    → drop held (take n ((take held slice ++ (part ++ drop (length slice - held) (drop held slice)))
-    ++ drop (length (take held slice ++ (part ++ drop (length slice - held) (drop held slice)))) items)) ≡ part
-written_behind held n slice part items size within long many =
-    let first : List ℕ = take held slice in
-    let post : List ℕ = drop (length slice - held) (drop held slice) in
-    let whole : List ℕ = first ++ (part ++ post) in
-    let none : post ≡ [] = drop_all (length slice - held) (drop held slice) (omega (arith, length-drop held slice)) in
-    let before : length first ≡ held = length-take-le held slice (omega arith) in
-    let parts : whole ≡ first ++ part = ap (λ (l : List ℕ). first ++ (part ++ l)) none ∙ ap (λ (l : List ℕ). first ++ l) (append-nil part) in
-    let all : length whole ≡ n = omega (arith, ap length parts, length-append first part, before, long) in
-    let rest : drop (length whole) items ≡ [] = drop_all (length whole) items (omega arith) in
-    ap (λ (l : List ℕ). drop held (take n (whole ++ l))) rest ∙ ap (λ (l : List ℕ). drop held (take n l)) (append-nil whole)
-    ∙ ap (drop held) (take_all n whole (omega arith)) ∙ ap (drop held) parts ∙ drop_at first part held before
 
 -- ---- the bytes of a row
 

@@ -10,6 +10,7 @@ ghost use Rattle.pnm_samples.specs.Pixels.{all_pixels, packed_bytes, ArePacked};
 use crate::bits::{
     Bits, bytes_of, clear_spare, complement, fill_run, move_to_end, store_pixels, turn_round,
 };
+use crate::row_order::reverse_rows;
 use std::alloc::{AllocError, Global};
 use std::marker::Model;
 
@@ -103,6 +104,8 @@ impl BitRows {
     pub fn append(&mut self, more: &BitRows) -> Result<bool, AllocError>
         ensures added { IfOk result (λ done. IsTrue done → self.new ≡ self.old ++ more.now) }
         ensures same { IfOk result (λ done. IsFalse done → self.new ≡ self.old) }
+        ensures unlike { IfOk result (λ done. IsFalse done → 0 < length self.old → 0 < length more.now
+            → length (get_or self.old 0 []) ≡ length (get_or more.now 0 []) → ⊥) }
         ensures failed { OnErr result (self.new ≡ self.old) }
     {
         if more.each != self.each {
@@ -131,6 +134,14 @@ impl BitRows {
     {
         let (count, each) = (self.count, self.each);
         mirror_each(self.bytes.as_mut_slice(), count, each);
+    }
+
+    /// Puts the last row first, in place.
+    pub fn reverse(&mut self)
+        ensures { self.new ≡ reverse self.old }
+    {
+        let (count, size) = (self.count, self.each.div_ceil(8));
+        reverse_rows(self.bytes.as_mut_slice(), count, size);
     }
 
     /// Turns the rows round, the last row first, each the last pixel first, in place.
@@ -168,27 +179,6 @@ impl BitRows {
             fill_run(buffer, from, left, each);
         }
         Ok(BitRows::new(bytes, count, each))
-    }
-
-    /// A copy of the rows, the last one first.
-    ///
-    /// # Errors
-    ///
-    /// Where there is no memory for it.
-    pub fn reversed(&self, alloc: Global) -> Result<BitRows, AllocError>
-        ensures { IfOk result (λ reversed. reversed ≡ reverse self.now) }
-    {
-        let size = self.each.div_ceil(8);
-        let mut bytes = Vec::with_capacity(alloc, self.bytes.len())?;
-        for copied in 0..self.count {
-            let start = (self.count - 1 - copied) * size;
-            bytes.extend_from_slice(&self.bytes[start..start + size])?;
-        }
-        Ok(BitRows {
-            bytes,
-            count: self.count,
-            each: self.each,
-        })
     }
 
     /// The samples of the rows, a byte each, with nothing between the rows.

@@ -110,7 +110,7 @@ asked_of left failures first before f input feeding = subst (HasAskedBy left fai
 
 -- a message was given, and sent
 pub feeds_more : {R : Type 0} (left : R → Option (List ℕ)) (failures : R → ℕ) (first : Source R) (before : List Message) (f : Feeder R) (next : Source R)
-    (m : Message) (output : Sender) (images : ℕ) (joins_rows : Bool)
+    (m : Message) (output : Sender) (images : ℕ) (may_join : Bool)
     → f.input ≡ None
     → sent output ≡ sent f.output ++ m ∷ []
     → Tells left f.source (Ok (Some m)) next
@@ -118,8 +118,8 @@ pub feeds_more : {R : Type 0} (left : R → Option (List ℕ)) (failures : R →
     → IsUnreadAfter left f.source next
     → failures (reader_of next) ≡ failures (reader_of f.source)
     → IsFeeding left failures first before f
-    → IsFeeding left failures first before (record f { source = next; output = output; images = images; joins_rows = joins_rows })
-feeds_more left failures first before f next m output images joins_rows input added t end unread count feeding =
+    → IsFeeding left failures first before (record f { source = next; output = output; images = images; may_join = may_join })
+feeds_more left failures first before f next m output images may_join input added t end unread count feeding =
     let asked : HasAsked left failures first next (feeding.given ++ m ∷ []) =
     asked_more left failures first f.source next feeding.given m (asked_of left failures first before f input feeding) t end unread count in
     record {

@@ -1,5 +1,5 @@
 -- What passes through the stages.
-use Rattle.std.proofs.Common.{◌≡◌, ◌<◌, ◌+◌, ◌-◌, ℕ, Bool, true, List, [], ◌∷◌, ◌++◌, Option, refl, sym, ap, subst, ◌∙◌, append_assoc, append-nil}
+use Rattle.std.proofs.Common.{◌≡◌, ◌<◌, ◌+◌, ◌-◌, ℕ, Bool, true, List, [], ◌∷◌, ◌++◌, Option, sym, ap, subst, ◌∙◌, append_assoc, append-nil}
 use Rattle.std.proofs.Common.{length, take, drop, get_or, arith}
 use Rattle.std.specs.Prelude.{◌==◌, slice_set}
 use Rattle.std.proofs.lemmas.List.{take_all, drop_all, length-drop}
@@ -17,14 +17,13 @@ use Rattle.pnm_tools.specs.declared.fused_filter.FusedFilter.{FusedFilter}
 use Rattle.pnm_tools.specs.Chains.{AreLawfulTools}
 use Rattle.pnm_tools.specs.ChainAnswers.{AreSound}
 use Rattle.pnm_tools.specs.FusedFilters.{FilterAt, FilterBusy, waiting_at}
-use Rattle.pnm_tools.specs.Tools.{IsLawfulTool}
 use Rattle.pnm_tools.proofs.ChainLaws.{sound_prefix}
 use Rattle.pnm_stages.proofs.PassingSteps.{one_row_more, rows_from}
 use Rattle.pnm_stages.proofs.SendingSteps.{GivesAnswers}
 use Rattle.pnm_serial.specs.declared.downstream.Downstream.{Downstream}
 use Rattle.pnm_serial.specs.Downstreams.{HasTaken}
-use Rattle.pnm_serial.specs.SerialChains.{FiltersAt, FeedsThrough}
-use Rattle.pnm_serial.proofs.SoundSteps.{busy_is_sound, idle_is_sound, goes_on_by_rows}
+use Rattle.pnm_serial.specs.SerialChains.{FiltersAt, FiltersBusy, FeedsThrough, GivesThrough}
+use Rattle.pnm_serial.proofs.SoundSteps.{busy_is_sound, goes_on_by_rows}
 
 -- ---- stages one behind another
 
@@ -41,25 +40,6 @@ put_is : {X : Type 0} (x : X) (xs ys : List X) → put_mid 1 (length (x ∷ xs) 
 put_is {X = X} x xs ys =
     let none : drop (length (x ∷ xs) - 1) xs ≡ [] = ap (λ (k : ℕ). drop k xs) (omega arith) ∙ drop_all (length xs) xs (omega arith) in
     ap (λ (l : List X). x ∷ (ys ++ l)) none ∙ ap (λ (l : List X). x ∷ l) (append-nil ys)
-
--- the first stage and those behind it, which are others now: what was passed, what the first gave for it, and what the last gave
-both_stages : {F : Type 0} (at : F → Tool → List Message → List Message → Type 0) (all_given : F → Bool) (stopped : F → Option ToolFault)
-    (old : List (FusedFilter F)) (first : FusedFilter F) (others : List (FusedFilter F)) (next : FusedFilter F) (ss : List (FusedFilter F)) (tools : List Tool)
-    (l g passed out more : List Message)
-    → old ≡ first ∷ others
-    → ((tool : Tool) (ts : List Tool) (middle : List Message) → IsLawfulTool tool → AreLawfulTools ts → FilterAt at all_given stopped first tool l middle
-    → FiltersAt at all_given stopped others ts middle g
-    → FilterAt at all_given stopped next tool (l ++ passed) (middle ++ out) × FiltersAt at all_given stopped ss ts (middle ++ out) (g ++ more))
-    → AreLawfulTools tools → FiltersAt at all_given stopped old tools l g → FiltersAt at all_given stopped (next ∷ ss) tools (l ++ passed) (g ++ more)
-both_stages at all_given stopped [] first others next ss tools l g passed out more parts both lawful is = absurd cc
-both_stages at all_given stopped (s ∷ olds) first others next ss [] l g passed out more parts both lawful is = absurd is
-both_stages at all_given stopped (s ∷ olds) first others next ss (tool ∷ tools) l g passed out more parts both lawful is =
-    let same_first : s ≡ first = cc in
-    let same_others : olds ≡ others = cc in
-    let now = both tool tools is.0 lawful.0 lawful.1
-    (subst (λ (x : FusedFilter _). FilterAt at all_given stopped x tool l is.0) same_first is.1)
-    (subst (λ (x : List (FusedFilter _)). FiltersAt at all_given stopped x tools is.0 g) same_others is.2) in
-    (is.0 ++ out, now.0, now.1)
 
 -- ---- what has passed
 
@@ -116,158 +96,117 @@ passes_on at all_given stopped held failures [] passed before after none taken =
     record { more = passed; stages = λ tools l g lawful sound is. no_stages at all_given stopped tools l g passed is; taken = taken }
 passes_on at all_given stopped held failures (s ∷ ss) passed before after none taken = absurd (grind (arith, nat_tests))
 
--- ---- a message is fed
+-- ---- the first stage is fed
 
--- the first stage has taken messages, and what it gave so far has passed through those behind it
-pub record Going {F W : Type 0} (at : F → Tool → List Message → List Message → Type 0) (all_given : F → Bool) (stopped : F → Option ToolFault)
-    (held : W → Option (List ℕ)) (failures : W → ℕ)
-    (old : List (FusedFilter F)) (passed : List Message) (now : List (FusedFilter F)) (before after : Downstream W) : Type 0 where
-  pub first : FusedFilter F
-  pub others : List (FusedFilter F)
-  pub first_now : FusedFilter F
-  pub others_now : List (FusedFilter F)
-  pub parts : old ≡ first ∷ others
-  pub parts_now : now ≡ first_now ∷ others_now
-  pub out : List Message
-  pub more : List Message
-  pub stages : (tool : Tool) (tools : List Tool) (l middle g : List Message) → IsLawfulTool tool → AreLawfulTools tools → AreSound (l ++ passed)
-      → FilterAt at all_given stopped first tool l middle → FiltersAt at all_given stopped others tools middle g
-      → FilterBusy at stopped first_now tool (l ++ passed) (middle ++ out) × FiltersAt at all_given stopped others_now tools (middle ++ out) (g ++ more)
-  pub taken : (form : Form) (start : W) (messages : List Message) → HasTaken held failures form start messages before
-      → HasTaken held failures form start (messages ++ more) after
-
--- the first stage was fed
-pub going_first : {F W : Type 0} (at : F → Tool → List Message → List Message → Type 0) (all_given : F → Bool) (stopped : F → Option ToolFault)
-    (held : W → Option (List ℕ)) (failures : W → ℕ) (stages : List (FusedFilter F)) (was other fed : FusedFilter F) (m : Message) (d : Downstream W)
+-- it has taken messages, and may give others
+fed_first : {F : Type 0} (at : F → Tool → List Message → List Message → Type 0) (all_given : F → Bool) (stopped : F → Option ToolFault)
+    (stages : List (FusedFilter F)) (was other fed : FusedFilter F) (tools : List Tool) (l g passed : List Message)
     → was ≡ get_or stages 0 other → 0 < length stages
-    → ((tool : Tool) (l g : List Message) → FilterAt at all_given stopped was tool l g → FilterBusy at stopped fed tool (l ++ m ∷ []) g)
-    → Going at all_given stopped held failures stages (m ∷ []) (slice_set stages 0 fed) d d
-going_first at all_given stopped held failures [] was other fed m d first some feeds = absurd (omega (arith, some))
-going_first at all_given stopped held failures (s ∷ ss) was other fed m d first some feeds = record {
-  first = s;
-  others = ss;
-  first_now = fed;
-  others_now = ss;
-  parts = refl;
-  parts_now = refl;
-  out = [];
+    → ((tool : Tool) (l g : List Message) → FilterAt at all_given stopped was tool l g → FilterBusy at stopped fed tool (l ++ passed) g)
+    → FiltersAt at all_given stopped stages tools l g → FiltersBusy at all_given stopped (slice_set stages 0 fed) tools (l ++ passed) g
+fed_first at all_given stopped [] was other fed tools l g passed first some feeds is = absurd (omega (arith, some))
+fed_first at all_given stopped (s ∷ ss) was other fed [] l g passed first some feeds is = absurd is
+fed_first at all_given stopped (s ∷ ss) was other fed (tool ∷ tools) l g passed first some feeds is =
+    (is.0, feeds tool l is.0 (subst (λ (x : FusedFilter _). FilterAt at all_given stopped x tool l is.0) (sym first) is.1), is.2)
+
+-- and what it gave for them has passed through the others
+pub feeds_first : {F W : Type 0} (at : F → Tool → List Message → List Message → Type 0) (all_given : F → Bool) (stopped : F → Option ToolFault)
+    (held : W → Option (List ℕ)) (failures : W → ℕ) (stages new : List (FusedFilter F)) (was other fed : FusedFilter F) (passed : List Message)
+    (before after : Downstream W)
+    → was ≡ get_or stages 0 other → 0 < length stages
+    → ((tool : Tool) (l g : List Message) → FilterAt at all_given stopped was tool l g → FilterBusy at stopped fed tool (l ++ passed) g)
+    → GivesThrough held failures (FiltersBusy at all_given stopped (slice_set stages 0 fed)) (FiltersAt at all_given stopped new) before after
+    → FeedsThrough at all_given stopped held failures stages passed new before after
+feeds_first at all_given stopped held failures stages new was other fed passed before after first some feeds gives = record {
+  more = gives.more;
+  stages = λ tools l g lawful sound is.
+      gives.stages tools (l ++ passed) g lawful sound (fed_first at all_given stopped stages was other fed tools l g passed first some feeds is);
+  taken = gives.taken;
+}
+
+-- ---- what the first stage gives
+
+-- nothing yet
+pub gives_nothing : {W : Type 0} (held : W → Option (List ℕ)) (failures : W → ℕ) (At : List Tool → List Message → List Message → Type 0) (d : Downstream W)
+    → GivesThrough held failures At At d d
+gives_nothing held failures At d = record {
   more = [];
-  stages = λ tool tools l middle g lawful are sound is others. (
-    subst (FilterBusy at stopped fed tool (l ++ m ∷ [])) (sym (append-nil middle))
-        (feeds tool l middle (subst (λ (x : FusedFilter _). FilterAt at all_given stopped x tool l middle) (sym first) is)),
-    same_stages at all_given stopped ss tools middle g others,
-  );
+  stages = λ tools l g lawful sound is. subst (At tools l) (sym (append-nil g)) is;
   taken = λ form start messages is. same_taken held failures form start messages d is;
 }
 
--- what the first stage gave has passed through the others
-pub going_on : {F W : Type 0} (at : F → Tool → List Message → List Message → Type 0) (all_given : F → Bool) (stopped : F → Option ToolFault) → GivesAnswers at
-    → (held : W → Option (List ℕ)) (failures : W → ℕ) (old now ys : List (FusedFilter F)) (was other next : FusedFilter F) (passed given : List Message)
-    (before d after : Downstream W)
-    → Going at all_given stopped held failures old passed now before d → was ≡ get_or now 0 other
-    → ((tool : Tool) (l g : List Message) → FilterBusy at stopped was tool l g → FilterBusy at stopped next tool l (g ++ given))
-    → FeedsThrough at all_given stopped held failures (mid_of 1 (length (slice_set now 0 next) - 1) (slice_set now 0 next)) given ys d after
-    → Going at all_given stopped held failures old passed (put_mid 1 (length (slice_set now 0 next) - 1) (slice_set now 0 next) ys) before after
-going_on at all_given stopped law held failures old [] ys was other next passed given before d after going first gives passes =
-    let none = going.parts_now in absurd cc
-going_on at all_given stopped law held failures old (s ∷ ss) ys was other next passed given before d after going first gives passes =
-    let same_first : s ≡ going.first_now = let p = going.parts_now in cc in
-    let same_others : ss ≡ going.others_now = let p = going.parts_now in cc in
-    record {
-      first = going.first;
-      others = going.others;
-      first_now = next;
-      others_now = ys;
-      parts = going.parts;
-      parts_now = put_is next ss ys;
-      out = going.out ++ given;
-      more = going.more ++ passes.more;
-      stages = λ tool tools l middle g lawful are sound is others.
-          let at_now = going.stages tool tools l middle g lawful are sound is others in
-          let next_at : FilterBusy at stopped next tool (l ++ passed) ((middle ++ going.out) ++ given) = gives tool (l ++ passed) (middle ++ going.out)
-          (subst (λ (x : FusedFilter _). FilterBusy at stopped x tool (l ++ passed) (middle ++ going.out)) (sym (first ∙ same_first)) at_now.0) in
-          let others_at = subst (λ (x : List (FusedFilter _)). FiltersAt at all_given stopped x tools (middle ++ going.out) (g ++ going.more))
-          (sym (part_is next ss ∙ same_others)) at_now.1 in
-          let ys_at = passes.stages tools (middle ++ going.out) (g ++ going.more) are
-          (busy_is_sound at stopped law next tool (l ++ passed) ((middle ++ going.out) ++ given) lawful sound next_at) others_at in (
-            subst (FilterBusy at stopped next tool (l ++ passed)) (append_assoc middle going.out given) next_at,
-            subst (λ (x : List Message). FiltersAt at all_given stopped ys tools x (g ++ (going.more ++ passes.more))) (append_assoc middle going.out given)
-                (subst (FiltersAt at all_given stopped ys tools ((middle ++ going.out) ++ given)) (append_assoc g going.more passes.more) ys_at),
-          );
-      taken = λ form start messages is. subst (λ (x : List Message). HasTaken held failures form start x after) (append_assoc messages going.more passes.more)
-          (passes.taken form start (messages ++ going.more) (going.taken form start messages is));
-    }
-
--- the first stage has given all
-pub going_done : {F W : Type 0} (at : F → Tool → List Message → List Message → Type 0) (all_given : F → Bool) (stopped : F → Option ToolFault)
-    (held : W → Option (List ℕ)) (failures : W → ℕ) (old now : List (FusedFilter F)) (was other next : FusedFilter F) (passed : List Message)
-    (before after : Downstream W)
-    → Going at all_given stopped held failures old passed now before after → was ≡ get_or now 0 other
-    → ((tool : Tool) (l g : List Message) → FilterBusy at stopped was tool l g → FilterAt at all_given stopped next tool l g)
-    → FeedsThrough at all_given stopped held failures old passed (slice_set now 0 next) before after
-going_done at all_given stopped held failures old [] was other next passed before after going first full = let none = going.parts_now in absurd cc
-going_done at all_given stopped held failures old (s ∷ ss) was other next passed before after going first full =
-    let same_first : s ≡ going.first_now = let p = going.parts_now in cc in
-    let same_others : ss ≡ going.others_now = let p = going.parts_now in cc in
-    record {
-      more = going.more;
-      stages = λ tools l g lawful sound is.
-          both_stages at all_given stopped old going.first going.others next ss tools l g passed going.out going.more going.parts
-          (λ tool ts middle lawful_tool are is_at others.
-          let at_now = going.stages tool ts l middle g lawful_tool are sound is_at others in (
-            full tool (l ++ passed) (middle ++ going.out)
-                (subst (λ (x : FusedFilter _). FilterBusy at stopped x tool (l ++ passed) (middle ++ going.out)) (sym (first ∙ same_first)) at_now.0),
-            subst (λ (x : List (FusedFilter _)). FiltersAt at all_given stopped x ts (middle ++ going.out) (g ++ going.more)) (sym same_others) at_now.1,
-          )) lawful is;
-      taken = going.taken;
-    }
-
--- ---- rows are passed together
-
--- the first stage has given this at once, and it has passed through the others
-passes_first : {F W : Type 0} (at : F → Tool → List Message → List Message → Type 0) (all_given : F → Bool) (stopped : F → Option ToolFault)
-    (held : W → Option (List ℕ)) (failures : W → ℕ) (first next : FusedFilter F) (others ss : List (FusedFilter F)) (passed made : List Message)
-    (before after : Downstream W)
-    → ((tool : Tool) (l g : List Message) → FilterAt at all_given stopped first tool l g → FilterAt at all_given stopped next tool (l ++ passed) (g ++ made))
-    → FeedsThrough at all_given stopped held failures others made ss before after
-    → FeedsThrough at all_given stopped held failures (first ∷ others) passed (next ∷ ss) before after
-passes_first at all_given stopped held failures first next others ss passed made before after gives passes = record {
-  more = passes.more;
+-- and then more
+gives_more : {W : Type 0} (held : W → Option (List ℕ)) (failures : W → ℕ) (Old Now New : List Tool → List Message → List Message → Type 0)
+    (before d after : Downstream W) → GivesThrough held failures Old Now before d → GivesThrough held failures Now New d after
+    → GivesThrough held failures Old New before after
+gives_more held failures Old Now New before d after was then = record {
+  more = was.more ++ then.more;
   stages = λ tools l g lawful sound is.
-      both_stages at all_given stopped (first ∷ others) first others next ss tools l g passed made passes.more refl
-      (λ tool ts middle lawful_tool are is_at others_at.
-      let next_at = gives tool l middle is_at in (
-        next_at,
-        passes.stages ts middle g are (idle_is_sound at all_given stopped next tool (l ++ passed) (middle ++ made) lawful_tool sound next_at) others_at,
-      )) lawful is;
-  taken = passes.taken;
+      subst (New tools l) (append_assoc g was.more then.more) (then.stages tools l (g ++ was.more) lawful sound (was.stages tools l g lawful sound is));
+  taken = λ form start messages is. subst (λ (x : List Message). HasTaken held failures form start x after) (append_assoc messages was.more then.more)
+      (then.taken form start (messages ++ was.more) (was.taken form start messages is));
 }
 
-pub feeds_together : {F W : Type 0} (at : F → Tool → List Message → List Message → Type 0) (all_given : F → Bool) (stopped : F → Option ToolFault)
-    (held : W → Option (List ℕ)) (failures : W → ℕ) (old ys : List (FusedFilter F)) (was other next : FusedFilter F) (passed made : List Message)
+-- it gave something, which has passed through the others
+gives_next : {F W : Type 0} (at : F → Tool → List Message → List Message → Type 0) (all_given : F → Bool) (stopped : F → Option ToolFault) → GivesAnswers at
+    → (held : W → Option (List ℕ)) (failures : W → ℕ) (s next : FusedFilter F) (ss ys : List (FusedFilter F)) (given : List Message)
     (before after : Downstream W)
-    → was ≡ get_or old 0 other → 0 < length old
-    → ((tool : Tool) (l g : List Message) → FilterAt at all_given stopped was tool l g → FilterAt at all_given stopped next tool (l ++ passed) (g ++ made))
-    → FeedsThrough at all_given stopped held failures (mid_of 1 (length (slice_set old 0 next) - 1) (slice_set old 0 next)) made ys before after
-    → FeedsThrough at all_given stopped held failures old passed (put_mid 1 (length (slice_set old 0 next) - 1) (slice_set old 0 next) ys) before after
-feeds_together at all_given stopped held failures [] ys was other next passed made before after first some gives passes = absurd (omega (arith, some))
-feeds_together at all_given stopped held failures (s ∷ ss) ys was other next passed made before after first some gives passes =
-    subst (λ (x : List (FusedFilter _)). FeedsThrough at all_given stopped held failures (s ∷ ss) passed x before after) (sym (put_is next ss ys))
-    (passes_first at all_given stopped held failures s next ss ys passed made before after
-    (λ tool l g is. gives tool l g (subst (λ (x : FusedFilter _). FilterAt at all_given stopped x tool l g) (sym first) is))
-    (subst (λ (x : List (FusedFilter _)). FeedsThrough at all_given stopped held failures x made ys before after) (part_is next ss) passes))
+    → ((tool : Tool) (l g : List Message) → FilterBusy at stopped s tool l g → FilterBusy at stopped next tool l (g ++ given))
+    → (passes : FeedsThrough at all_given stopped held failures ss given ys before after) → (tools : List Tool) (l g : List Message)
+    → AreLawfulTools tools → AreSound l → FiltersBusy at all_given stopped (s ∷ ss) tools l g
+    → FiltersBusy at all_given stopped (next ∷ ys) tools l (g ++ passes.more)
+gives_next at all_given stopped law held failures s next ss ys given before after gives passes [] l g lawful sound is = absurd is
+gives_next at all_given stopped law held failures s next ss ys given before after gives passes (tool ∷ tools) l g lawful sound is =
+    let next_at = gives tool l is.0 is.1 in (
+      is.0 ++ given,
+      next_at,
+      passes.stages tools is.0 g lawful.1 (busy_is_sound at stopped law next tool l (is.0 ++ given) lawful.0 sound next_at) is.2,
+    )
 
--- they are answered by none
-pub feeds_kept : {F W : Type 0} (at : F → Tool → List Message → List Message → Type 0) (all_given : F → Bool) (stopped : F → Option ToolFault)
-    (held : W → Option (List ℕ)) (failures : W → ℕ) (old : List (FusedFilter F)) (was other next : FusedFilter F) (passed : List Message) (d : Downstream W)
-    → was ≡ get_or old 0 other → 0 < length old
-    → ((tool : Tool) (l g : List Message) → FilterAt at all_given stopped was tool l g → FilterAt at all_given stopped next tool (l ++ passed) (g ++ []))
-    → FeedsThrough at all_given stopped held failures old passed (slice_set old 0 next) d d
-feeds_kept at all_given stopped held failures [] was other next passed d first some gives = absurd (omega (arith, some))
-feeds_kept at all_given stopped held failures (s ∷ ss) was other next passed d first some gives =
-    passes_first at all_given stopped held failures s next ss ss passed [] d d
-    (λ tool l g is. gives tool l g (subst (λ (x : FusedFilter _). FilterAt at all_given stopped x tool l g) (sym first) is))
-    (feeds_nothing at all_given stopped held failures ss d)
+pub gives_on : {F W : Type 0} (at : F → Tool → List Message → List Message → Type 0) (all_given : F → Bool) (stopped : F → Option ToolFault) → GivesAnswers at
+    → (held : W → Option (List ℕ)) (failures : W → ℕ) (old now ys : List (FusedFilter F)) (was other next : FusedFilter F) (given : List Message)
+    (before d after : Downstream W)
+    → GivesThrough held failures (FiltersBusy at all_given stopped old) (FiltersBusy at all_given stopped now) before d
+    → was ≡ get_or now 0 other → 0 < length now
+    → ((tool : Tool) (l g : List Message) → FilterBusy at stopped was tool l g → FilterBusy at stopped next tool l (g ++ given))
+    → FeedsThrough at all_given stopped held failures (mid_of 1 (length (slice_set now 0 next) - 1) (slice_set now 0 next)) given ys d after
+    → GivesThrough held failures (FiltersBusy at all_given stopped old)
+    (FiltersBusy at all_given stopped (put_mid 1 (length (slice_set now 0 next) - 1) (slice_set now 0 next) ys)) before after
+gives_on at all_given stopped law held failures old [] ys was other next given before d after so_far first some gives passes = absurd (omega (arith, some))
+gives_on at all_given stopped law held failures old (s ∷ ss) ys was other next given before d after so_far first some gives passes =
+    let through = subst (λ (x : List (FusedFilter _)). FeedsThrough at all_given stopped held failures x given ys d after) (part_is next ss) passes in
+    subst (λ (x : List (FusedFilter _)). GivesThrough held failures (FiltersBusy at all_given stopped old) (FiltersBusy at all_given stopped x) before after)
+    (sym (put_is next ss ys))
+    (gives_more held failures (FiltersBusy at all_given stopped old) (FiltersBusy at all_given stopped (s ∷ ss)) (FiltersBusy at all_given stopped (next ∷ ys))
+    before d after so_far
+    (record {
+      more = through.more;
+      stages = gives_next at all_given stopped law held failures s next ss ys given d after
+          (λ tool l g is. gives tool l g (subst (λ (x : FusedFilter _). FilterBusy at stopped x tool l g) (sym first) is)) through;
+      taken = through.taken;
+    }))
+
+-- it has given all
+gave_all : {F : Type 0} (at : F → Tool → List Message → List Message → Type 0) (all_given : F → Bool) (stopped : F → Option ToolFault)
+    (now : List (FusedFilter F)) (was other next : FusedFilter F) (tools : List Tool) (l g : List Message) → was ≡ get_or now 0 other
+    → ((tool : Tool) (l g : List Message) → FilterBusy at stopped was tool l g → FilterAt at all_given stopped next tool l g)
+    → FiltersBusy at all_given stopped now tools l g → FiltersAt at all_given stopped (slice_set now 0 next) tools l g
+gave_all at all_given stopped [] was other next tools l g first full is = absurd is
+gave_all at all_given stopped (s ∷ ss) was other next [] l g first full is = absurd is
+gave_all at all_given stopped (s ∷ ss) was other next (tool ∷ tools) l g first full is =
+    (is.0, full tool l is.0 (subst (λ (x : FusedFilter _). FilterBusy at stopped x tool l is.0) (sym first) is.1), is.2)
+
+pub gives_all : {F W : Type 0} (at : F → Tool → List Message → List Message → Type 0) (all_given : F → Bool) (stopped : F → Option ToolFault)
+    (held : W → Option (List ℕ)) (failures : W → ℕ) (old now : List (FusedFilter F)) (was other next : FusedFilter F) (before after : Downstream W)
+    → GivesThrough held failures (FiltersBusy at all_given stopped old) (FiltersBusy at all_given stopped now) before after → was ≡ get_or now 0 other
+    → ((tool : Tool) (l g : List Message) → FilterBusy at stopped was tool l g → FilterAt at all_given stopped next tool l g)
+    → GivesThrough held failures (FiltersBusy at all_given stopped old) (FiltersAt at all_given stopped (slice_set now 0 next)) before after
+gives_all at all_given stopped held failures old now was other next before after so_far first full = record {
+  more = so_far.more;
+  stages = λ tools l g lawful sound is.
+      gave_all at all_given stopped now was other next tools l (g ++ so_far.more) first full (so_far.stages tools l g lawful sound is);
+  taken = so_far.taken;
+}
 
 -- ---- row by row
 

@@ -1,5 +1,5 @@
 -- What a stage has given so far for sound messages is sound; and sound messages don't end the stream before the last.
-use Rattle.std.proofs.Common.{◌≡◌, ◌<◌, List, [], ◌∷◌, ◌++◌, ℕ, Bool, Option, length, refl, sym, ap, subst, arith}
+use Rattle.std.proofs.Common.{◌≡◌, ◌<◌, List, [], ◌∷◌, ◌++◌, ℕ, Option, length, refl, sym, ap, subst, arith}
 use Rattle.std.specs.List.{AllByRecursion}
 use Rattle.pnm_image.specs.declared.message.Message.{Message}
 use Rattle.pnm_image.specs.declared.message.Message.TheVariants.{Begin, Row, ImageEnd, StreamEnd, Stop}
@@ -16,7 +16,7 @@ use Rattle.pnm_tools.specs.declared.fused_filter.FusedFilter.{FusedFilter}
 use Rattle.pnm_tools.specs.declared.fused_filter.FusedFilter.TheVariants.{AtWork, Refused}
 use Rattle.pnm_tools.specs.Answers.{Answers}
 use Rattle.pnm_tools.specs.ChainAnswers.{IsSound, AreSound, HasRefused}
-use Rattle.pnm_tools.specs.FusedFilters.{FilterAt, FilterBusy}
+use Rattle.pnm_tools.specs.FusedFilters.{FilterBusy}
 use Rattle.pnm_tools.specs.Tools.{IsLawfulTool, output_due}
 use Rattle.pnm_tools.proofs.ChainLaws.{sound_prefix, prefix_of_due_is_sound}
 use Rattle.pnm_tools.proofs.PrefixLaws.{nothing_changes, prefix_by_results}
@@ -62,16 +62,11 @@ refused_is_sound : (tool : Tool) (fault : ToolFault) (l g : List Message) → Is
 refused_is_sound tool fault l g lawful sound has =
     answers_are_sound tool has.accepted g lawful (sound_prefix has.accepted has.rest (subst AreSound has.parts sound)) has.answers
 
--- a stage that may still give more, and one that has given all
+-- a stage that may still give more
 pub busy_is_sound : {F : Type 0} (at : F → Tool → List Message → List Message → Type 0) (stopped : F → Option ToolFault) → GivesAnswers at
     → (stage : FusedFilter F) (tool : Tool) (l g : List Message) → IsLawfulTool tool → AreSound l → FilterBusy at stopped stage tool l g → AreSound g
 busy_is_sound at stopped law (AtWork filter) tool l g lawful sound busy = answers_are_sound tool l g lawful sound (law filter tool l g busy.state)
 busy_is_sound at stopped law (Refused fault) tool l g lawful sound busy = refused_is_sound tool fault l g lawful sound busy
-
-pub idle_is_sound : {F : Type 0} (at : F → Tool → List Message → List Message → Type 0) (all_given : F → Bool) (stopped : F → Option ToolFault)
-    (stage : FusedFilter F) (tool : Tool) (l g : List Message) → IsLawfulTool tool → AreSound l → FilterAt at all_given stopped stage tool l g → AreSound g
-idle_is_sound at all_given stopped (AtWork filter) tool l g lawful sound idle = answers_are_sound tool l g lawful sound idle.full.answers
-idle_is_sound at all_given stopped (Refused fault) tool l g lawful sound idle = refused_is_sound tool fault l g lawful sound idle
 
 -- ---- what more may come after
 

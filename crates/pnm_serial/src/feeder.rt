@@ -7,25 +7,13 @@ ghost use Rattle.pnm_read.specs.Sources.{reader_of, has_ended, stopped_by, IsFre
 ghost use Rattle.pnm_read.specs.declared.fault.InputFault.{InputFault as Fault};
 
 use crate::summary::count_image;
-use pnm_image::{BytesIn, Message, SampleWidth};
+use pnm_image::{BytesIn, Message};
 use pnm_read::{InputFault, Source, SpareRows};
 use pnm_stages::Sender;
 use std::sync::Wait;
 
 /// So many messages are sent in a turn at most, beside the first.
 const MOST_MESSAGES: u32 = 64;
-
-/// How many samples a row has at most that is passed on together with others which a source holds whole, by how rows
-/// are held: 0 where none is.
-#[derive(Clone, Copy)]
-pub struct JoinedRows {
-    /// Where they are bits.
-    pub bits: u64,
-    /// Where they are bytes.
-    pub bytes: u64,
-    /// Where they are samples of two bytes.
-    pub words: u64,
-}
 
 /// The source of a run, and the ring that its messages go into.
 #[derive(Drop)]
@@ -40,18 +28,18 @@ pub struct Feeder<R> {
     is_gone: bool,
     /// The images whose end was sent, up to `u64::MAX`.
     images: u64,
-    /// Which rows are sent together, and whether those of this image are.
-    joined: JoinedRows,
+    /// Whether rows are sent together that the source gives so.
     joins_rows: bool,
+    /// Whether the source may give those that come next so.
+    may_join: bool,
 }
 
 impl<R: BytesIn + Drop> Feeder<R> {
     ghost use Rattle.pnm_serial.specs.Feeders.{IsFeeding, feeder_is_over};
 
     /// A feeder that has sent nothing yet. Of short messages it sends a few before it wakes the
-    /// first tool (`wake_receiver`). Rows that are no longer than is named it sends together, as many as the source
-    /// holds whole.
-    pub fn new(source: Source<R>, output: Sender, joined: JoinedRows) -> Feeder<R>
+    /// first tool (`wake_receiver`). If it joins rows, it sends those together that the source gives so.
+    pub fn new(source: Source<R>, output: Sender, joins_rows: bool) -> Feeder<R>
         requires { IsUnread (reader_of source) source }
         ensures feeding { IsFeeding R.left R.failures source (sent output) result }
         ensures parts { (result.source ≡ source) × SameSender output result.output
@@ -65,8 +53,8 @@ impl<R: BytesIn + Drop> Feeder<R> {
             input: None,
             is_gone: false,
             images: 0,
-            joined,
-            joins_rows: false,
+            joins_rows,
+            may_join: false,
         }
     }
 
@@ -165,7 +153,7 @@ impl<R: BytesIn + Drop> Feeder<R> {
         ensures ring { SameSender self.old.output self.new.output }
         ensures same_device { R.same (reader_of self.old.source) (reader_of self.new.source) }
     {
-        if !self.joins_rows || !self.send_rows(spares) {
+        if !self.joins_rows || !self.may_join || !self.send_rows(spares) {
             self.send_message(spares);
         }
     }
@@ -207,7 +195,7 @@ impl<R: BytesIn + Drop> Feeder<R> {
         match self.source.next(spares) {
             Ok(Some(message)) => {
                 let is_end = message.ends_image();
-                self.joins_rows = joins_next(self.joined, self.joins_rows, &message);
+                self.may_join = joins_next(self.may_join, &message);
                 self.output.send_reserved(message);
                 count_image(&mut self.images, is_end);
             }
@@ -234,20 +222,12 @@ impl<R: BytesIn + Drop> Feeder<R> {
     }
 }
 
-/// Whether the rows that come after the message are passed on together, where those before it are or not: of an image
-/// that has several, none of which is too long.
-pub fn joins_next(joined: JoinedRows, joins_rows: bool, message: &Message) -> bool {
+/// Whether a source may give those rows together that come after the message, where it may those before it or may not:
+/// rows of an image that has several.
+pub fn joins_next(may_join: bool, message: &Message) -> bool {
     match message {
-        Message::Begin(head) => {
-            let shape = head.shape();
-            let longest = match SampleWidth::of(shape.kind, shape.maxval) {
-                SampleWidth::Bits => joined.bits,
-                SampleWidth::Bytes => joined.bytes,
-                SampleWidth::Words => joined.words,
-            };
-            shape.height > 1 && shape.row_length() <= longest
-        }
-        Message::Row(_) => joins_rows,
+        Message::Begin(head) => head.shape().height > 1,
+        Message::Row(_) => may_join,
         Message::ImageEnd | Message::StreamEnd | Message::Stop => false,
     }
 }

@@ -18,7 +18,7 @@ pub use buffers::Buffers;
 pub use collector::Collector;
 pub use downstream::Downstream;
 pub use fault::RunFault;
-pub use feeder::{Feeder, JoinedRows};
+pub use feeder::Feeder;
 pub use serial::run_filters;
 pub use summary::Summary;
 pub use turns::Turns;

@@ -4,15 +4,14 @@ ghost use Rattle.std.specs.Prelude.{◌∷◌, [], ◌<◌, length};
 ghost use Rattle.pnm_image.specs.Parcels.{messages_in};
 ghost use Rattle.pnm_image.specs.Rows.{row_messages};
 ghost use Rattle.pnm_serial.specs.Downstreams.{output_of};
-ghost use Rattle.pnm_serial.specs.SerialChains.{FeedsThrough};
+ghost use Rattle.pnm_serial.specs.SerialChains.{FeedsThrough, FiltersAt, FiltersBusy, GivesThrough};
 
 use crate::downstream::Downstream;
 use pnm_image::{BytesOut, Message, Parcel, Rows};
 use pnm_tools::{Filter, FusedFilter};
 use std::alloc::Global;
 
-/// Passes a message, or rows together, through the filters, and writes what the last of them gives. Rows stay together
-/// as far as each filter takes them so.
+/// Passes a message, or rows together, through the filters, and writes what the last of them gives.
 #[cycle(through)]
 pub fn feed_through<F: Filter + Drop, W: BytesOut + Drop>(
     alloc: Global,
@@ -49,12 +48,11 @@ fn feed<F: Filter + Drop, W: BytesOut + Drop>(
     ensures same_device { W.same (output_of downstream.old) (output_of downstream.new) }
 {
     stages[0].feed(message);
-    while let Some(answer) = stages[0].next() {
-        feed_through(alloc, &mut stages[1..], answer, downstream);
-    }
+    pass_answers(alloc, stages, downstream);
 }
 
-/// Passes the first filter rows, together if it takes them so, and what it gives through the others.
+/// Feeds the first filter rows, all at once, and passes what it gives through the others. Where not all of them may
+/// come, each is fed by itself.
 #[inline(never)]
 #[cycle(through)]
 fn feed_rows<F: Filter + Drop, W: BytesOut + Drop>(
@@ -68,17 +66,15 @@ fn feed_rows<F: Filter + Drop, W: BytesOut + Drop>(
         stages.old (row_messages rows) stages.new downstream.old downstream.new }
     ensures same_device { W.same (output_of downstream.old) (output_of downstream.new) }
 {
-    match stages[0].pass_rows(rows) {
-        Ok(Some(made)) => {
-            feed_through(alloc, &mut stages[1..], Parcel::of_rows(made), downstream);
-        }
-        Ok(None) => {}
+    match stages[0].feed_rows(rows) {
+        Ok(()) => pass_answers(alloc, stages, downstream),
         Err(rows) => feed_each(alloc, stages, &rows, downstream),
     }
 }
 
-/// Feeds the first filter each of the rows by itself, and passes what it gives through the others. Each is copied:
-/// without memory for that the filter refuses by `Memory`.
+/// Feeds the first filter each of the rows by itself, as a copy, up to the one that is refused, and passes what it
+/// gives through the others. Those behind a refused one are dropped. Without memory for a copy the filter refuses by
+/// `Memory`.
 #[cycle(through)]
 fn feed_each<F: Filter + Drop, W: BytesOut + Drop>(
     alloc: Global,
@@ -97,5 +93,23 @@ fn feed_each<F: Filter + Drop, W: BytesOut + Drop>(
             return;
         };
         feed(alloc, stages, Message::Row(row), downstream);
+    }
+}
+
+/// Passes what the first filter gives through the others, until it has given all, or refused.
+#[inline(always)]
+#[cycle(through)]
+fn pass_answers<F: Filter + Drop, W: BytesOut + Drop>(
+    alloc: Global,
+    stages: &mut [FusedFilter<F>],
+    downstream: &mut Downstream<W>,
+)
+    requires some { 0 < length stages.old }
+    ensures given { GivesThrough W.held W.failures (FiltersBusy F.at F.all_given F.stopped stages.old)
+        (FiltersAt F.at F.all_given F.stopped stages.new) downstream.old downstream.new }
+    ensures same_device { W.same (output_of downstream.old) (output_of downstream.new) }
+{
+    while let Some(answer) = stages[0].next() {
+        feed_through(alloc, &mut stages[1..], answer, downstream);
     }
 }

@@ -15,7 +15,7 @@ ghost use Rattle.pnm_serial.specs.Feeding.{HasFed};
 use crate::buffers::Buffers;
 use crate::downstream::Downstream;
 use crate::fault::RunFault;
-use crate::feeder::{JoinedRows, joins_next};
+use crate::feeder::joins_next;
 use crate::passing::feed_through;
 use crate::summary::Summary;
 use pnm_image::{BytesIn, BytesOut, Form, Parcel};
@@ -25,16 +25,15 @@ use pnm_write::SinkFault;
 use std::alloc::Global;
 
 /// Reads the images of the reader, passes them through the tools that these filters are, each before its first message,
-/// and writes what comes out in the form, as `run_serial` does once it has made them. Of the images that are named it
-/// passes those rows on together that the source holds whole. The input's length is known, or `usize::MAX`: where it is
-/// small, so is the buffer that is read into.
+/// and writes what comes out in the form, as `run_serial` does once it has made them. Rows that the source gives
+/// together it passes on so. The input's length is known, or `usize::MAX`: where it is small, so is the buffer that is
+/// read into.
 pub fn run_filters<R: BytesIn, F: Filter + Drop, W: BytesOut>(
     alloc: Global,
     reader: &mut R,
     writer: &mut W,
     stages: &mut [FusedFilter<F>],
     form: Form,
-    joined: JoinedRows,
     length: usize,
 ) -> Result<Summary, RunFault>
     ensures ran { (tools : List ToolValue) → AreLawfulTools tools
@@ -50,7 +49,7 @@ pub fn run_filters<R: BytesIn, F: Filter + Drop, W: BytesOut>(
     };
     let mut source = Source::with_buffer(read, &mut *reader);
     let mut downstream = Downstream::new(write, &mut *writer, form);
-    let input = feed_all(alloc, &mut source, joined, stages, &mut downstream);
+    let input = feed_all(alloc, &mut source, stages, &mut downstream);
     let read = source.into_reader();
     let (written, output) = downstream.finish();
     // No effect at run time. The proof reads from these uses what the two devices hold.
@@ -87,13 +86,11 @@ fn first_fault<F: Filter + Drop>(stages: &[FusedFilter<F>]) -> Option<(usize, To
     None
 }
 
-/// Passes on all messages of the source, through to its end or its fault; rows that are to be joined it passes on
-/// together, as far as the source holds them whole. After it has asked for `u64::MAX` messages or rows together it
-/// answers `ReadFailed`.
+/// Passes on all messages of the source, through to its end or its fault, and rows together that it gives so. After it
+/// has asked for `u64::MAX` messages or rows together it answers `ReadFailed`.
 fn feed_all<R: BytesIn, F: Filter + Drop, W: BytesOut + Drop>(
     alloc: Global,
     source: &mut Source<R>,
-    joined: JoinedRows,
     stages: &mut [FusedFilter<F>],
     downstream: &mut Downstream<W>,
 ) -> Result<(), InputFault>
@@ -104,10 +101,10 @@ fn feed_all<R: BytesIn, F: Filter + Drop, W: BytesOut + Drop>(
     ensures same_writer { W.same (output_of downstream.old) (output_of downstream.new) }
 {
     let mut spares = SpareRows::none(alloc);
-    let mut joins_rows = false;
+    let mut may_join = false;
     for _ in 0..u64::MAX {
         flush_before_read(source, downstream);
-        if joins_rows {
+        if may_join {
             if let Some(rows) = source.next_rows(&mut spares)? {
                 // Each turn passes something on.
                 prove!(rows.count() > 0);
@@ -117,7 +114,7 @@ fn feed_all<R: BytesIn, F: Filter + Drop, W: BytesOut + Drop>(
         }
         match source.next(&mut spares)? {
             Some(message) => {
-                joins_rows = joins_next(joined, joins_rows, &message);
+                may_join = joins_next(may_join, &message);
                 feed_through(alloc, stages, Parcel::Message(message), downstream);
             }
             None => return Ok(()),

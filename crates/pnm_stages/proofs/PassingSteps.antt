@@ -1,5 +1,4 @@
 -- What a tool was passed, and what was sent of its answers: step by step.
-use Rattle.std.specs.Prelude.{IsTrue, IsFalse}
 use Rattle.std.proofs.Common.{◌≡◌, ◌<◌, ◌+◌, ℕ, Bool, true, false, List, [], ◌∷◌, ◌++◌, Option, length, take, drop, refl, sym, ap, subst, ◌∙◌, arith}
 use Rattle.std.proofs.Common.{append_assoc, append-nil}
 use Rattle.std.proofs.lemmas.List.{take_at, length-take, length-append, take-append-drop, map-append}
@@ -41,35 +40,16 @@ passes_none at all_given stopped stage s = record {
       part_of_more tool l (g ++ []) [] (subst (HasAnsweredPart tool l) (sym (append-nil g)) (part_at at all_given stopped stage tool l g idle));
 }
 
--- a message was fed, and its answers were sent
-pub passes_message : {F : Type 0} (at : F → Tool → List Message → List Message → Type 0) (all_given : F → Bool) (stopped : F → Option ToolFault) (all : Bool)
-    (old fed new : FusedFilter F) (m : Message) (s s1 : List Message)
-    → ((tool : Tool) (l g : List Message) → FilterAt at all_given stopped old tool l g → FilterBusy at stopped fed tool (l ++ m ∷ []) g)
-    → HasSentAnswers at all_given stopped all fed new s s1 → HasPassed at all_given stopped all old new (m ∷ []) s s1
-passes_message at all_given stopped all old fed new m s s1 feeds answers = record {
+-- a message was fed, or rows together, and the answers were sent
+pub passes_fed : {F : Type 0} (at : F → Tool → List Message → List Message → Type 0) (all_given : F → Bool) (stopped : F → Option ToolFault) (all : Bool)
+    (old fed new : FusedFilter F) (passed s s1 : List Message)
+    → ((tool : Tool) (l g : List Message) → FilterAt at all_given stopped old tool l g → FilterBusy at stopped fed tool (l ++ passed) g)
+    → HasSentAnswers at all_given stopped all fed new s s1 → HasPassed at all_given stopped all old new passed s s1
+passes_fed at all_given stopped all old fed new passed s s1 feeds answers = record {
   more = answers.more;
   added = answers.added;
-  full = λ is tool l g ends idle. answers.full is tool (l ++ m ∷ []) g (feeds tool l g idle);
-  part = λ tool l g ends idle. answers.part tool (l ++ m ∷ []) g (feeds tool l g idle);
-}
-
--- rows were passed together, and what they made was sent, or lost since the other end is gone
-pub passes_together : {F : Type 0} (at : F → Tool → List Message → List Message → Type 0) (all_given : F → Bool) (stopped : F → Option ToolFault) (all : Bool)
-    (old new : FusedFilter F) (passed made s s1 : List Message)
-    → ((tool : Tool) (l g : List Message) → FilterAt at all_given stopped old tool l g → FilterAt at all_given stopped new tool (l ++ passed) (g ++ made))
-    → (IsTrue all → s1 ≡ s ++ made) → (IsFalse all → s1 ≡ s) → HasPassed at all_given stopped all old new passed s s1
-passes_together at all_given stopped true old new passed made s s1 passes given gone = record {
-  more = made;
-  added = given refl;
-  full = λ is tool l g ends idle. passes tool l g idle;
-  part = λ tool l g ends idle. part_at at all_given stopped new tool (l ++ passed) (g ++ made) (passes tool l g idle);
-}
-passes_together at all_given stopped false old new passed made s s1 passes given gone = record {
-  more = [];
-  added = gone refl ∙ sym (append-nil s);
-  full = λ is. absurd cc;
-  part = λ tool l g ends idle.
-      part_of_more tool l (g ++ []) passed (subst (HasAnsweredPart tool l) (sym (append-nil g)) (part_at at all_given stopped old tool l g idle));
+  full = λ is tool l g ends idle. answers.full is tool (l ++ passed) g (feeds tool l g idle);
+  part = λ tool l g ends idle. answers.part tool (l ++ passed) g (feeds tool l g idle);
 }
 
 -- and then more

@@ -58,8 +58,8 @@ pub struct StageDone {
 }
 
 /// Passes what comes on `input` through a tool at work, or one that has refused, to `output`, as `run_stage` does
-/// behind its gate. Rows that come together are passed on together where the tool takes them so. Where it doesn't, each
-/// is copied, and fed by itself: without memory for that the tool refuses by `Memory`.
+/// behind its gate. Rows that come together are fed together. Where not all of them may come, each is copied, and fed
+/// by itself, up to the one that is refused: without memory for that the tool refuses by `Memory`.
 pub fn run_filter<R: Wait, F: Filter + Drop>(
     rt: &R,
     alloc: Global,
@@ -173,8 +173,8 @@ fn pass<R: Wait, F: Filter + Drop>(
     }
 }
 
-/// Passes rows that came together through the tool, together if it takes them so; false where the output's other end
-/// was seen dropped before.
+/// Passes rows that came together through the tool, all at once, and sends what that makes of them; false where the
+/// output's other end was seen dropped before. Where not all of them may come, each is passed by itself.
 #[inline(never)]
 fn pass_rows<R: Wait, F: Filter + Drop>(
     rt: &R,
@@ -187,14 +187,15 @@ fn pass_rows<R: Wait, F: Filter + Drop>(
     ensures passed { HasPassed F.at F.all_given F.stopped result stage.old stage.new (row_messages rows)
         (sent output.old) (sent output.new) }
 {
-    match stage.pass_rows(rows) {
-        Ok(Some(made)) => output.send_parcel(rt, Parcel::of_rows(made)),
-        Ok(None) => true,
+    match stage.feed_rows(rows) {
+        Ok(()) => send_answers(rt, stage, output),
         Err(rows) => pass_each(rt, alloc, stage, &rows, output),
     }
 }
 
-/// Passes each of the rows through the tool by itself; false where the output's other end was seen dropped before.
+/// Passes each of the rows through the tool by itself, as a copy, up to the one that is refused; those behind it are
+/// dropped. Without memory for a copy the tool refuses by `Memory`. False where the output's other end was seen dropped
+/// before.
 fn pass_each<R: Wait, F: Filter + Drop>(
     rt: &R,
     alloc: Global,

@@ -1,15 +1,14 @@
 -- The columns and rows that are kept.
 use Rattle.std.proofs.Common.{◌≡◌, ◌⊎◌, inl, inr, ℕ, ◌+◌, ◌-◌, ◌*◌, ◌≤◌, ◌<◌, ℤ, pos, negsuc, Bool, true, false, nat_le, nat_lt, ◌&&◌, if◌then◌else◌, Option}
-use Rattle.std.proofs.Common.{Some, None, Result, Ok, Err, ◌==◌, List, [], ◌∷◌, ◌++◌, All, mul-le-mul, add-mul, length, take, drop, refl, sym, ap, ◌∙◌, subst}
-use Rattle.std.proofs.Common.{arith, length-take-le, length-drop}
+use Rattle.std.proofs.Common.{Some, None, Result, Ok, Err, ◌==◌, List, [], ◌∷◌, mul-le-mul, add-mul, length, take, drop, refl, sym, ap, ◌∙◌, subst}
+use Rattle.std.proofs.Common.{arith, length-drop}
 use Rattle.std.specs.List.{copy_within}
 use Rattle.std.proofs.Math.Seq.{paste}
 use Rattle.std.proofs.lemmas.Bool.{leb-true, ltb-true, le-leb, lt-leb, ne_eqb, and_parts, and_right}
 use Rattle.std.proofs.lemmas.List.{drop-take, take_all}
 use Rattle.std.proofs.lemmas.List.Edits.{take-paste}
-use Rattle.std.proofs.lemmas.List.Elements.{All-take, All-drop}
 use Rattle.pnm_image.specs.declared.shape.Shape.{Shape}
-use Rattle.pnm_image.specs.Heads.{HeadValue, IsWithinLimits, row_length, head_value, is_too_large}
+use Rattle.pnm_image.specs.Heads.{HeadValue, IsWithinLimits, head_value, is_too_large}
 use Rattle.pnm_tools.specs.declared.cut.CutBox.{CutBox}
 use Rattle.pnm_tools.specs.declared.cut.Span.{Span}
 use Rattle.pnm_tools.specs.declared.fault.ToolFault.{ToolFault}
@@ -30,13 +29,6 @@ both_parts first last depth le =
     let e : last + 1 ≡ first + count = omega arith in
     ap (λ (n : ℕ). n * depth) e ∙ omega arith
 
--- what is left of the prefix behind its first samples
-pub rest_is_kept : {X : Type 0} (columns : Span) (depth : ℕ) (row : List X) → KeepsWithin columns depth row
-    → drop (columns.first * depth) (take ((columns.last + 1) * depth) row) ≡ columns_of_row columns depth row
-rest_is_kept columns depth row h =
-    ap (λ (n : ℕ). drop (columns.first * depth) (take n row)) (both_parts columns.first columns.last depth h.0)
-    ∙ drop-take (columns.first * depth) (((columns.last + 1) - columns.first) * depth) row
-
 -- the rest of a list, moved to its front
 moved : {X : Type 0} (xs : List X) (f m : ℕ) → length xs ≡ m → f ≤ m → take (m - f) (copy_within xs f m 0) ≡ drop f xs
 moved xs f m long le =
@@ -44,24 +36,6 @@ moved xs f m long le =
     let size : length (drop f xs) ≡ n = omega (arith, length-drop f xs) in
     let on : n ≡ 0 + n = omega arith in
     ap (λ (k : ℕ). take k (paste xs 0 (drop f xs) n)) on ∙ take-paste xs 0 (drop f xs) n (omega arith) (omega arith) ∙ take_all n (drop f xs) (omega arith)
-
--- the prefix is cut off, and what is kept moved there
-pub kept_in_place : {X : Type 0} (columns : Span) (depth : ℕ) (row prefix copied new : List X) (count m : ℕ) → KeepsWithin columns depth row
-    → prefix ≡ take m row → m ≡ (columns.last + 1) * depth → count ≡ length prefix
-    → copied ≡ copy_within prefix (columns.first * depth) count 0 → new ≡ take (count - columns.first * depth) copied → new ≡ columns_of_row columns depth row
-kept_in_place columns depth row prefix copied new count m h is size counted copy end =
-    let f : ℕ = columns.first * depth in
-    let prefixes : prefix ≡ take ((columns.last + 1) * depth) row = is ∙ ap (λ (n : ℕ). take n row) size in
-    let within : f ≤ (columns.last + 1) * depth = omega (arith, both_parts columns.first columns.last depth h.0) in
-    let long : length prefix ≡ (columns.last + 1) * depth = ap length prefixes ∙ length-take-le ((columns.last + 1) * depth) row h.1 in
-    end ∙ ap (take (count - f)) copy ∙ moved prefix f count (sym counted) (omega arith) ∙ ap (drop f) prefixes ∙ rest_is_kept columns depth row h
-
--- where nothing lies before what is kept
-pub kept_at_front : {X : Type 0} (columns : Span) (depth : ℕ) (row new : List X) (m : ℕ) → KeepsWithin columns depth row → new ≡ take m row
-    → m ≡ (columns.last + 1) * depth → columns.first * depth ≤ 0 → new ≡ columns_of_row columns depth row
-kept_at_front columns depth row new m h is size none =
-    let zero_first : 0 ≡ columns.first * depth = omega arith in
-    is ∙ ap (λ (n : ℕ). take n row) size ∙ ap (λ (n : ℕ). drop n (take ((columns.last + 1) * depth) row)) zero_first ∙ rest_is_kept columns depth row h
 
 -- a row of which all columns are kept
 pub all_kept : {X : Type 0} (columns : Span) (depth count : ℕ) (row : List X) → KeepsWithin columns depth row
@@ -74,13 +48,6 @@ all_kept {X = X} columns depth count row h size all =
     let same : span_count columns ≡ n = omega (arith, h.0) in
     let whole : span_count columns * depth ≡ length row = ap (λ (k : ℕ). k * depth) same ∙ sym size ∙ all in
     sym (ap (λ (k : ℕ). take (span_count columns * depth) (drop k row)) none ∙ take_all (span_count columns * depth) row (omega arith))
-
--- what is kept of samples within a maxval, appended to none
-pub kept_within : (maxval first count : ℕ) (row before new : List ℕ) → before ≡ [] → new ≡ before ++ take count (drop first row)
-    → All (λ sample. sample ≤ maxval) row → All (λ sample. sample ≤ maxval) new
-kept_within maxval first count row before new none is h =
-    let P : ℕ → Type 0 = λ sample. sample ≤ maxval in
-    subst (All P) (sym (is ∙ ap (λ (l : List ℕ). l ++ take count (drop first row)) none)) (All-take P count (drop first row) (All-drop P first row h))
 
 -- ---- spans
 
@@ -131,15 +98,6 @@ pub row_inside : (columns rows : Span) (depth y : ℕ) (row : List ℕ) → rows
 row_inside columns rows depth y row low high =
     ap (λ (b : Bool). if b && nat_le y rows.last then columns_of_row columns depth row ∷ [] else []) (le-leb rows.first y low)
     ∙ ap (λ (b : Bool). if b then columns_of_row columns depth row ∷ [] else []) (le-leb y rows.last high)
-
--- the columns that are kept lie in each row
-pub keeps_within : (box : CutBox) (s : Shape) (span : Span) (row samples : List ℕ) → Some span ≡ columns_kept box s → samples ≡ row → length row ≡ row_length s
-    → KeepsWithin span s.depth samples
-keeps_within box s span row samples e same count =
-    let lies = columns_lie box s span e in
-    let below : (span.last + 1) * s.depth ≤ s.width * s.depth = mul-le-mul {n₁ = span.last + 1} {m₁ = s.depth} {n₂ = s.width} {m₂ = s.depth}
-    (omega (arith, lies.1)) (omega arith) in
-    (lies.0, omega (arith, below, count, ap length same))
 
 -- ---- heads
 

@@ -1,5 +1,6 @@
 -- What a filter may have given for the messages that it accepted, and what it owes.
-use Rattle.std.specs.Prelude.{◌≡◌, ◌⊎◌, ℕ, zero, suc, Bool, true, false, List, [], ◌∷◌, ◌++◌, Result, Ok, Err}
+use Rattle.std.specs.Prelude.{◌≡◌, ◌⊎◌, ◌≤◌, ℕ, zero, suc, Bool, true, false, List, [], ◌∷◌, ◌++◌, length}
+use Rattle.std.specs.Prelude.{Result, Ok, Err}
 use Rattle.pnm_image.specs.declared.message.Message.{Message}
 use Rattle.pnm_image.specs.declared.message.Message.TheVariants.{Begin, Row, ImageEnd, StreamEnd, Stop}
 use Rattle.pnm_image.specs.declared.place.Place.{Place}
@@ -9,7 +10,8 @@ use Rattle.pnm_image.specs.Images.{Image, AreImages, messages_of_image, messages
 use Rattle.pnm_image.specs.declared.message.Ending.{Ending}
 use Rattle.pnm_image.specs.declared.message.Ending.TheVariants.{BrokenOff}
 use Rattle.pnm_image.specs.Messages.{without_stop, EndsBy}
-use Rattle.pnm_image.specs.Places.{Accepts, IsLawful, place_of}
+use Rattle.pnm_image.specs.Places.{Accepts, IsLawful, IsLawfulFrom, place_of}
+use Rattle.pnm_image.specs.Rows.{row_messages}
 use Rattle.pnm_image.specs.Completion.{IsPrefixOf, Completes}
 use Rattle.pnm_tools.specs.declared.fault.ToolFault.{ToolFault}
 use Rattle.pnm_tools.specs.declared.fault.ToolFault.TheVariants.{CutOutside, ChannelOutside, TooLarge, OutOfOrder}
@@ -75,6 +77,11 @@ IfBegin Stop P = Unit {0}
 -- the message may come: all was given for the one before, and it is in order
 abbrev pub MayCome : Bool → List Message → Message → Type 0
 MayCome all_given accepted m = (all_given ≡ true) × Accepts (place_of Between accepted) m
+
+-- rows may come: all was given for the message before, and they are in order
+abbrev pub RowsMayCome : Bool → List Message → List (List ℕ) → Type 0
+RowsMayCome all_given accepted rows =
+    (all_given ≡ true) × (1 ≤ length rows) × IsLawfulFrom (place_of Between accepted) (row_messages rows)
 
 -- the tool takes the image that begins
 abbrev pub Begins : Tool → Message → Type 0

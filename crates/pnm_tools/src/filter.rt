@@ -1,7 +1,7 @@
 //! What a tool is to those who run it: a filter of messages.
 
 ghost use Rattle.std.specs.Prelude.{◌≡◌, ℕ, ◌<◌, List, [], ◌∷◌, ◌++◌, Bool, true, false, Option, Some, None, OnOk};
-ghost use Rattle.std.specs.Prelude.{IfOk, IfErr, IfSome, IfNone, Err};
+ghost use Rattle.std.specs.Prelude.{IfOk, IfErr, IfSome, IfNone, OnErr, Err};
 ghost use Rattle.pnm_image.specs.declared.message.Message.{Message as MessageValue};
 ghost use Rattle.pnm_image.specs.declared.message.Message.TheVariants.{Stop};
 ghost use Rattle.pnm_tools.specs.declared.fault.ToolFault.{ToolFault as Fault};
@@ -11,15 +11,14 @@ ghost use Rattle.pnm_image.specs.declared.message.Ending.TheVariants.{More, Brok
 ghost use Rattle.pnm_image.specs.Messages.{EndsBy};
 ghost use Rattle.pnm_image.specs.Parcels.{messages_in};
 ghost use Rattle.pnm_image.specs.Rows.{row_messages};
-ghost use Rattle.pnm_tools.specs.Answering.{rows_list};
-ghost use Rattle.pnm_tools.specs.Answers.{Answers, AnswersInFull, Judges};
+ghost use Rattle.pnm_tools.specs.Answers.{Answers, AnswersInFull, Judges, RowsMayCome};
 
 use crate::fault::ToolFault;
 use pnm_image::{Message, Parcel, Rows};
 
-/// A tool at work: it takes the messages of images one by one, and gives those of their results.
+/// A tool at work: it takes the messages of images one by one, and rows together, and gives those of their results.
 ///
-/// After each `feed` the caller asks by `next` until it answers `None`, or until `gave_all` answers
+/// After each `feed` or `feed_rows` the caller asks by `next` until it answers `None`, or until `gave_all` answers
 /// true. The result's head is given as soon as an image begins, and all that is left of the result
 /// once the image has ended. How early a row inside the image is given is open. The end of the stream
 /// gives the end of the stream, and Stop gives Stop alone; nothing is given after either.
@@ -28,7 +27,7 @@ pub trait Filter {
     ghost at: { Self → ToolValue → List MessageValue → List MessageValue → Type 0 };
 
     /// `next` has answered `None`, or `gave_all` true, since the last message that was accepted, or
-    /// none was accepted, or the last that were are rows that were passed.
+    /// none was accepted.
     ghost all_given: { Self → Bool };
 
     /// The fault that there was, if any.
@@ -88,19 +87,25 @@ pub trait Filter {
         ensures unknown { result ≡ false → self.new ≡ self.old }
         ensures same { stopped self.new ≡ stopped self.old };
 
-    /// Passes rows of an image that come next, all at once: the rows of the result that answer them are given, if some
-    /// do, and nothing more is owed then.
+    /// Takes rows of an image that come next, all at once, as it would take each by `feed`. The only fault is `Memory`.
     ///
     /// # Errors
     ///
-    /// The rows themselves, and nothing has changed, where they are to be fed one by one.
-    fn pass_rows(&mut self, rows: Rows) -> Result<Option<Rows>, Rows>
-        ensures passed { IfOk result (λ made. (t : ToolValue) (l g : List MessageValue) → at self.old t l g
-            → at self.new t (l ++ row_messages rows) (g ++ row_messages (rows_list made))
-            × AnswersInFull t (l ++ row_messages rows) (g ++ row_messages (rows_list made))) }
-        ensures told { OnOk result (all_given self.new ≡ true) }
-        ensures goes_on { OnOk result ((stopped self.old ≡ None) × (stopped self.new ≡ None)) }
-        ensures kept { IfErr result (λ same. (same ≡ rows) × (self.new ≡ self.old)) };
+    /// The rows themselves, and nothing has changed, where not all of them may come: after a fault, before all was
+    /// given for what was accepted, or where one of them can't come at its place in the stream.
+    fn feed_rows(&mut self, rows: Rows) -> Result<Result<(), ToolFault>, Rows>
+        ensures accepted { IfOk result (λ fed. OnOk fed
+            ((t : ToolValue) (l g : List MessageValue) → at self.old t l g
+            → at self.new t (l ++ row_messages rows) g)) }
+        ensures owes { IfOk result (λ fed. OnOk fed (all_given self.new ≡ false)) }
+        ensures come { OnOk result ((t : ToolValue) (l g : List MessageValue) → at self.old t l g
+            → RowsMayCome (all_given self.old) l rows) }
+        ensures failed { IfOk result (λ fed. IfErr fed (λ k. (k ≡ Memory) × (stopped self.new ≡ Some k))) }
+        ensures began { OnOk result (stopped self.old ≡ None) }
+        ensures goes_on { IfOk result (λ fed. OnOk fed (stopped self.new ≡ None)) }
+        ensures kept { IfErr result (λ same. (same ≡ rows) × (self.new ≡ self.old)) }
+        ensures back { OnErr result (stopped self.old ≡ None → (t : ToolValue) (l g : List MessageValue)
+            → at self.old t l g → RowsMayCome (all_given self.old) l rows → ⊥) };
 
     /// What was given answers what was accepted.
     ghost at_answers: { (s : Self) (t : ToolValue) (l g : List MessageValue) → at s t l g → Answers t l g };

@@ -1,13 +1,13 @@
 //! A tool at work: what it is fed, what it gives, and its refusal.
 
 ghost use Rattle.std.specs.Prelude.{◌≡◌, ◌<◌, ◌∷◌, ◌++◌, [], List, true, IfSome, IfNone, IsTrue, IsFalse};
-ghost use Rattle.std.specs.Prelude.{OnOk, IfOk, IfErr, Some, None};
+ghost use Rattle.std.specs.Prelude.{OnOk, OnErr, IfErr, Some, None};
 ghost use Rattle.pnm_image.specs.declared.message.Ending.TheVariants.{More};
 ghost use Rattle.pnm_image.specs.declared.message.Message.{Message as MessageValue};
 ghost use Rattle.pnm_image.specs.Messages.{EndsBy};
 ghost use Rattle.pnm_image.specs.Parcels.{messages_in};
 ghost use Rattle.pnm_image.specs.Rows.{row_messages};
-ghost use Rattle.pnm_tools.specs.Answering.{rows_list};
+ghost use Rattle.pnm_tools.specs.Answers.{RowsMayCome};
 ghost use Rattle.pnm_tools.specs.declared.fault.ToolFault.{ToolFault as Fault};
 ghost use Rattle.pnm_tools.specs.declared.fault.ToolFault.TheVariants.{Memory};
 ghost use Rattle.pnm_tools.specs.declared.tool.Tool.{Tool as ToolValue};
@@ -95,22 +95,27 @@ impl<F: Filter + Drop> FusedFilter<F> {
         }
     }
 
-    /// Passes the tool rows of an image that come next, all at once: the rows of the result that answer them are given,
-    /// if some do, and the tool has given all then.
+    /// Feeds the tool rows of an image that come next, all at once, as `feed` would each.
     ///
     /// # Errors
     ///
-    /// The rows themselves, and nothing has changed, where they are to be fed one by one; so they are after a refusal.
-    pub fn pass_rows(&mut self, rows: Rows) -> Result<Option<Rows>, Rows>
-        ensures passed { IfOk result (λ made. (tool : ToolValue) (l g : List MessageValue)
+    /// The rows themselves, and nothing has changed, where not all of them may come, as after a refusal.
+    pub fn feed_rows(&mut self, rows: Rows) -> Result<(), Rows>
+        ensures fed { OnOk result ((tool : ToolValue) (l g : List MessageValue)
             → FilterAt F.at F.all_given F.stopped self.old tool l g
-            → FilterAt F.at F.all_given F.stopped self.new tool (l ++ row_messages rows)
-            (g ++ row_messages (rows_list made))) }
-        ensures goes_on { OnOk result ((refusal_in self.old ≡ None) × (refusal_in self.new ≡ None)) }
+            → FilterBusy F.at F.stopped self.new tool (l ++ row_messages rows) g) }
         ensures kept { IfErr result (λ same. (same ≡ rows) × (self.new ≡ self.old)) }
+        ensures back { OnErr result ((tool : ToolValue) (l g : List MessageValue)
+            → FilterAt F.at F.all_given F.stopped self.old tool l g → refusal_in self.old ≡ None
+            → RowsMayCome true l rows → ⊥) }
     {
         match self {
-            FusedFilter::AtWork(filter) => filter.pass_rows(rows),
+            FusedFilter::AtWork(filter) => {
+                if let Err(fault) = filter.feed_rows(rows)? {
+                    self.refuse(fault);
+                }
+                Ok(())
+            }
             FusedFilter::Refused(_) => Err(rows),
         }
     }

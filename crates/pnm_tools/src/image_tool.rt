@@ -1,7 +1,7 @@
 //! What a tool at work makes of the rows of an image: some rows of the result at once, the rest once
-//! the image has ended.
+//! the image has ended. Rows come one by one or together, and are given so.
 
-ghost use Rattle.std.specs.Prelude.{ℕ, false, ◌≡◌, ◌<◌, ◌++◌, ◌∷◌, [], ◌⊎◌, List, length, OnOk, IfOk, IfErr};
+ghost use Rattle.std.specs.Prelude.{ℕ, ◌≡◌, ◌++◌, [], ◌⊎◌, List, length, OnOk, IfOk, IfErr};
 ghost use Rattle.std.specs.Prelude.{IfNone, Ok, Err, ◌+◌, ◌≤◌};
 ghost use Rattle.std.specs.List.{AllByRecursion};
 ghost use Rattle.pnm_image.specs.Places.{IsRowOf};
@@ -9,10 +9,10 @@ ghost use Rattle.pnm_image.specs.declared.shape.Shape.{Shape as ShapeValue};
 ghost use Rattle.pnm_tools.specs.Answering.{rows_answer, rows_list};
 ghost use Rattle.pnm_tools.specs.declared.fault.ToolFault.TheVariants.{Memory};
 ghost use Rattle.pnm_tools.specs.declared.tool.Tool.{Tool as ToolValue};
-ghost use Rattle.pnm_tools.specs.Tools.{IsLawfulTool, TakesHead, result_head, row_answer, end_answer};
+ghost use Rattle.pnm_tools.specs.Tools.{IsLawfulTool, TakesHead, result_head, end_answer};
 
 use crate::fault::ToolFault;
-use pnm_image::{Head, Rows, Samples, Shape};
+use pnm_image::{Head, Rows, Shape};
 use std::alloc::Global;
 
 /// A tool at work on one image after another.
@@ -39,43 +39,17 @@ pub trait ImageTool {
         ensures refused { IfErr result (λ fault. (result_head (tool self.old) head.now ≡ Err fault)
             ⊎ ((fault ≡ Memory) × TakesHead (tool self.old) head.now)) };
 
-    /// Takes row `y` of an image of this shape. The only fault is `Memory`.
-    fn take(&mut self, alloc: Global, shape: Shape, y: u32, row: Samples) -> Result<(), ToolFault>
-        requires lawful { IsLawfulTool (tool self.old) }
-        requires row { (y < shape.height) × IsRowOf shape row }
-        requires ready { (rows : List (List ℕ)) × (length rows ≡ y) × ready self.old shape rows }
-        ensures same { tool self.new ≡ tool self.old }
-        ensures ready { OnOk result ((rows : List (List ℕ))
-            → ready self.old shape rows → ready self.new shape (rows ++ row ∷ [])) }
-        ensures due { OnOk result (due self.new ≡ row_answer (tool self.old) shape y row) }
-        ensures refused { IfErr result (λ fault. fault ≡ Memory) };
-
-    /// Takes rows of an image of this shape, from row `y` on, all at once, and makes the rows of the result that answer
-    /// them, if some do; no row is due then.
-    ///
-    /// # Errors
-    ///
-    /// The rows themselves, and nothing has changed, where each is to be taken by itself, as where there is no memory
-    /// to make all at once.
-    fn rows(
-        &mut self,
-        alloc: Global,
-        shape: Shape,
-        y: u32,
-        rows: Rows,
-    ) -> Result<Option<Rows>, Rows>
+    /// Takes rows of an image of this shape, from row `y` on: the rows of the result that answer them are due then. The
+    /// only fault is `Memory`.
+    fn take(&mut self, alloc: Global, shape: Shape, y: u32, rows: Rows) -> Result<(), ToolFault>
         requires lawful { IsLawfulTool (tool self.old) }
         requires rows { (y + length rows ≤ shape.height) × AllByRecursion (IsRowOf shape) rows }
         requires ready { (before : List (List ℕ)) × (length before ≡ y) × ready self.old shape before }
         ensures same { tool self.new ≡ tool self.old }
         ensures ready { OnOk result ((before : List (List ℕ))
             → ready self.old shape before → ready self.new shape (before ++ rows)) }
-        ensures made { IfOk result (λ made. rows_answer (tool self.old) shape y rows ≡ rows_list made) }
-        ensures due { OnOk result (due self.new ≡ []) }
-        ensures kept { IfErr result (λ same. (same ≡ rows) × (self.new ≡ self.old)) }
-    {
-        Err(rows)
-    }
+        ensures due { OnOk result (due self.new ≡ rows_answer (tool self.old) shape y rows) }
+        ensures refused { IfErr result (λ fault. fault ≡ Memory) };
 
     /// The image of this shape has ended.
     fn end(&mut self, shape: Shape)
@@ -93,10 +67,6 @@ pub trait ImageTool {
         ensures due { IfOk result (λ rows. due self.old ≡ rows_list rows ++ due self.new) }
         ensures all { IfOk result (λ rows. IfNone rows (due self.new ≡ [])) }
         ensures refused { IfErr result (λ fault. fault ≡ Memory) };
-
-    /// Whether a row of the result may be due, as far as a look shows.
-    fn may_give(&self) -> bool
-        ensures { result ≡ false → due self.now ≡ [] };
 
     /// Gives up the rows that it keeps.
     fn release(&mut self, alloc: Global)

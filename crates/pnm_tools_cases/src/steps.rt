@@ -1,15 +1,14 @@
 //! Steps of a tool at work. A message is fed, and all is taken that the tool gives then. With a `~` before it, no
 //! message is told; with a `!`, nothing is taken. `?` takes one answer. A fault is told, and whether it doesn't stay.
-//! Rows between braces, in as few bits as hold their samples, are passed together: if the tool takes them so, the rows
-//! that it makes of them, if any, stand between braces too, and else they are fed one by one. Rows that a tool gives
-//! together are told as one by one, but by `?`: there they stand between braces, as one answer.
+//! Rows between braces, in as few bits as hold their samples, are fed together, or one by one if not all of them may
+//! come. Rows that a tool gives together are told as one by one, but by `?`: there they stand between braces, as one
+//! answer.
 
 use super::tasks::{Task, tell_at_work};
 use pnm_filters::{RowState, RowWise};
 use pnm_image::{Message, Parcel, Rows};
 use pnm_test_support::{
-    Unmade, cut_at, cut_messages, rows_of, tell_each_row, tell_message, tell_parcel, tell_rows,
-    width_of,
+    Unmade, cut_at, cut_messages, rows_of, tell_each_row, tell_message, tell_parcel, width_of,
 };
 use pnm_tools::{Filter, Tool, ToolFault};
 use std::alloc::{AllocError, Global};
@@ -149,30 +148,30 @@ pub fn pass_one<F: Filter>(
     }
 }
 
-/// Passes on rows together, or one by one where the tool doesn't take them so.
+/// Passes on rows together, or one by one if not all of them may come, and adds all that is given then, or the fault.
 fn pass_together<F: Filter>(
     alloc: Global,
     state: &mut F,
     text: &[u8],
     told: &mut String,
 ) -> Result<(), Unmade> {
-    let answer = state.pass_rows(rows_of(alloc, text, true)?);
-    Ok(tell_passed(alloc, state, answer, told)?)
+    let fed = state.feed_rows(rows_of(alloc, text, true)?);
+    Ok(tell_fed(alloc, state, fed, told)?)
 }
 
-/// Adds what is made of rows that were passed together, or passes on one by one those that are given back.
-fn tell_passed<F: Filter>(
+/// Adds what is given for rows that were fed together, or the fault; passes on one by one those that are given back.
+fn tell_fed<F: Filter>(
     alloc: Global,
     state: &mut F,
-    answer: Result<Option<Rows>, Rows>,
+    fed: Result<Result<(), ToolFault>, Rows>,
     told: &mut String,
 ) -> Result<(), AllocError> {
-    match answer {
-        Ok(Some(made)) => {
-            tell_rows(alloc, told, &made)?;
-            take_all(alloc, state, Step::Passes, told)
+    match fed {
+        Ok(Ok(())) => take_all(alloc, state, Step::Passes, told),
+        Ok(Err(fault)) => {
+            write!(told, " {fault}")?;
+            tell_stays(state, fault, told)
         }
-        Ok(None) => take_all(alloc, state, Step::Passes, told),
         Err(rows) => pass_each(alloc, state, &rows, told),
     }
 }

@@ -1,5 +1,5 @@
 -- What a form refuses of messages, one message more at a time.
-use Rattle.std.proofs.Common.{◌≡◌, ℕ, Bool, true, false, List, [], ◌∷◌, ◌++◌, map, Option, Some, None, refl, sym, ap, append_assoc, ◌∙◌}
+use Rattle.std.proofs.Common.{◌≡◌, ℕ, Bool, true, false, List, [], ◌∷◌, ◌++◌, map, Option, Some, None, refl, ap, append_assoc, ◌∙◌}
 use Rattle.pnm_image.specs.declared.format.Form.{Form}
 use Rattle.pnm_image.specs.declared.format.Form.TheVariants.{Raw, Plain}
 use Rattle.pnm_image.specs.declared.message.Message.{Message}
@@ -109,21 +109,6 @@ plain_taken_from-all begun (m ∷ messages) e =
 pub taken_by-all : (form : Form) (messages : List Message) → form_fault_of form messages ≡ None → taken_by form messages ≡ messages
 taken_by-all Raw messages e = refl
 taken_by-all Plain messages e = plain_taken_from-all false messages e
-
--- what is taken isn't refused
-none_step : (first : Option SinkFault) (begun : Bool) (m : Message) (taken : List Message) → first ≡ plain_fault begun m
-    → plain_fault_from (has_begun_after begun m) taken ≡ None → plain_fault_from begun (taken_behind first m taken) ≡ None
-none_step None begun m taken is none = ap (λ (o : Option SinkFault). first_of_two o (plain_fault_from (has_begun_after begun m) taken)) (sym is) ∙ none
-none_step (Some fault) begun m taken is none = refl
-
-plain_taken_is_held : (begun : Bool) (messages : List Message) → plain_fault_from begun (plain_taken_from begun messages) ≡ None
-plain_taken_is_held begun [] = refl
-plain_taken_is_held begun (m ∷ messages) = none_step (plain_fault begun m) begun m (plain_taken_from (has_begun_after begun m) messages) refl
-    (plain_taken_is_held (has_begun_after begun m) messages)
-
-pub taken_is_held : (form : Form) (messages : List Message) → form_fault_of form (taken_by form messages) ≡ None
-taken_is_held Raw messages = refl
-taken_is_held Plain messages = plain_taken_is_held false messages
 
 -- what is taken is a prefix of what is taken of more messages
 abbrev pub IsPrefixOf : List Message → List Message → Type 0

@@ -6,7 +6,7 @@ use Rattle.std.proofs.Math.Seq.{take-set-lt, take-add}
 use Rattle.std.proofs.lemmas.Bool.{cases_lt}
 use Rattle.std.proofs.lemmas.Bool.Decides.{nat_tests}
 use Rattle.std.proofs.lemmas.Grind.{flat_map-append}
-use Rattle.std.proofs.lemmas.List.{take-append-drop, take_all, drop_all, take_more, length-take, length-drop, drop-drop, drop-take, take-take}
+use Rattle.std.proofs.lemmas.List.{take-append-drop, take_all, drop_all, take_more, length-take, length-drop, drop-drop, take-take}
 use Rattle.pnm_samples.specs.Pixels.{pixels, all_pixels}
 use Rattle.pnm_samples.proofs.PixelLaws.{length-all_pixels, all_pixels-push, take-all_pixels, drop-all_pixels}
 use Rattle.pnm_image.specs.declared.shape.Kind.TheVariants.{Bit}
@@ -273,17 +273,3 @@ pixels_split rest part after left count enough count_is prefix back = elim (case
       ap (plain_row_text Bit) here ∙ sym (append-nil (plain_row_text Bit (take count (all_pixels part))))
       ∙ ap (λ (n : ℕ). plain_row_text Bit (take count (all_pixels part)) ++ plain_row_text Bit (take n (all_pixels after))) (sym none)
 ]
-
--- pixels from a whole byte on are those of the bytes from there on
-pub pixels_from : (start count : ℕ) (samples bytes : List ℕ) → start % 8 ≡ 0 → start + count ≤ length samples
-    → samples ≡ take (length samples) (all_pixels bytes) → take count (all_pixels (drop (start / 8) bytes)) ≡ take count (drop start samples)
-pixels_from start count samples bytes whole within held =
-    let all : List ℕ = all_pixels bytes in
-    let left : ℕ = length samples - start in
-    let here : 8 * (start / 8) ≡ start = omega (arith, whole) in
-    let sum : length samples ≡ start + left = omega (arith, within) in
-    let after : drop start samples ≡ take left (drop start all) =
-    ap (drop start) held ∙ ap (λ (n : ℕ). drop start (take n all)) sum ∙ drop-take start left all in
-    ap (take count) (sym (drop-all_pixels (start / 8) bytes) ∙ ap (λ (n : ℕ). drop n all) here)
-    ∙ sym (take-take count left (drop start all) (omega (arith, within)))
-    ∙ ap (take count) (sym after)

@@ -192,7 +192,7 @@ fn writes_plain_with_memory(rt: HostRuntime) {
     }
 }
 
-/// What a run answers whose tools take rows together.
+/// What a run answers whose rows come together.
 fn pass_rows_short_of_memory<H: Threads + Wait + Abort + Sync>(
     rt: &H,
     alloc: Global,
@@ -202,7 +202,7 @@ fn pass_rows_short_of_memory<H: Threads + Wait + Abort + Sync>(
     make_short_of_memory(rt, alloc, way, &tools, LAST_BITS)
 }
 
-/// Each growth of a run whose tools take rows together may be refused: then they go one by one, or the tool runs out.
+/// Each growth of a run whose rows come together may be refused.
 #[test]
 fn passes_rows_or_runs_out(rt: HostRuntime) {
     for way in WAYS {

@@ -183,14 +183,19 @@ fn is_memory(rt: &impl Abort, fault: ToolFault) {
 }
 
 /// Memory ran out, and the tool answers that for good.
-fn has_run_out<F: Filter>(rt: &impl Abort, state: &mut F, fault: ToolFault) {
+pub(super) fn has_run_out<F: Filter>(rt: &impl Abort, state: &mut F, fault: ToolFault) {
     is_memory(rt, fault);
     stays(rt, state, ToolFault::Memory);
 }
 
 /// Takes what the tool gives, which is made of the parts that are next among these. Whether the
 /// tool goes on.
-fn takes<F: Filter>(rt: &impl Abort, state: &mut F, wants: &[Part<'_>], given: &mut usize) -> bool {
+pub(super) fn takes<F: Filter>(
+    rt: &impl Abort,
+    state: &mut F,
+    wants: &[Part<'_>],
+    given: &mut usize,
+) -> bool {
     for _ in 0..wants.len() + 1 {
         if let Some(goes_on) = takes_next(rt, state, wants, given) {
             return goes_on;

@@ -3,11 +3,10 @@
 
 ghost use Rattle.std.specs.Prelude.{◌<◌, length};
 
-use super::memory::{REST, answers_parts, start};
+use super::memory::{REST, answers_parts, has_run_out, start, takes};
 use super::tools::WHOLE;
 use super::{holds, same};
-use pnm_filters::longest_together;
-use pnm_image::{Kind, Rows, SampleSlice, SampleWidth};
+use pnm_image::{Kind, Rows, SampleSlice};
 use pnm_test_support::{Part, rows_of};
 use pnm_tools::{CutBox, Filter, FlipWay, Tool};
 use std::alloc::Global;
@@ -166,8 +165,8 @@ fn is_sample(row: SampleSlice<'_>, x: usize, sample: u16) -> bool {
     }
 }
 
-/// The tool takes the rows of the image together, and answers the image with these parts. Where memory runs out, or it
-/// doesn't take them so, it gives them back as they were, and answers each by itself then. Whether it took them.
+/// The tool is fed the rows of the image together, and answers the image with these parts, or `Memory` from some
+/// message on. Whether it went on to the end.
 fn answers_rows(rt: &impl Abort, alloc: Global, tool: &Tool, wants: &[Part<'_>]) -> bool {
     answers_at_work(rt, alloc, start(rt, alloc, tool), wants)
 }
@@ -188,7 +187,8 @@ fn answers_at_work<F: Filter + Drop>(
         && answers_rest(rt, alloc, &mut state, &IMAGE[END..], wants, &mut given)
 }
 
-/// The tool at work takes the rows together, or answers each by itself once it gave them back.
+/// The tool at work is fed the rows together, and answers with what is next among the wanted parts, or `Memory`.
+/// Whether it goes on.
 fn takes_together<F: Filter>(
     rt: &impl Abort,
     alloc: Global,
@@ -199,18 +199,13 @@ fn takes_together<F: Filter>(
     let Ok(rows) = rows_of(alloc, TOGETHER, true) else {
         return false;
     };
-    match state.pass_rows(rows) {
-        Ok(Some(made)) => {
-            are_wanted(rt, &made, wants, given);
-            true
-        }
-        Ok(None) => true,
-        Err(same) => {
-            let mut first = 1;
-            are_wanted(rt, &same, IMAGE, &mut first);
-            let _ = answers_rest(rt, alloc, state, &IMAGE[1..], wants, given);
+    match state.feed_rows(rows) {
+        Ok(Ok(())) => takes(rt, state, wants, given),
+        Ok(Err(fault)) => {
+            has_run_out(rt, state, fault);
             false
         }
+        Err(_) => panic!(rt; "rows that may come are given back"),
     }
 }
 
@@ -231,20 +226,19 @@ fn answers_rest<F: Filter>(
 }
 
 #[test]
-fn takes_rows_or_gives_them_back(rt: HostRuntime) {
+fn takes_rows_or_runs_out(rt: HostRuntime) {
     for number in 0..TOOLS {
         let (tool, wants) = tool_at_work(number);
         let _ = answers_rows(&rt, rt.alloc(), &tool, wants);
     }
 }
 
-/// Where nothing is refused those tools take rows of bits together that are said to.
+/// Where nothing is refused each tool takes the rows together.
 #[test]
 fn takes_rows_with_memory(rt: HostRuntime) {
     for number in 0..TOOLS {
         let (tool, wants) = tool_at_work(number);
         let takes = answers_rows(&rt, rt.alloc(), &tool, wants);
-        let are_taken = longest_together(&tool, SampleWidth::Bits) > 0;
-        same(&rt, &takes, &are_taken, &number);
+        same(&rt, &takes, &true, &number);
     }
 }

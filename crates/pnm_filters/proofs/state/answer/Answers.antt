@@ -23,5 +23,5 @@ unreachable-requires g c = grind (arith, common_steps)
 pub unreachable-requires-in_default-from : goal.unreachable-requires-in_default-from
 unreachable-requires-in_default-from g c = grind (arith, common_steps)
 
-pub take-requires-clause-row : goal.take-requires-clause-row
-take-requires-clause-row g c = grind (arith, common_steps)
+pub take-requires-clause-rows : goal.take-requires-clause-rows
+take-requires-clause-rows g c = grind (arith, common_steps)

@@ -1,6 +1,7 @@
+use Rattle.pnm_image.specs.Heads.{row_length}
 use Rattle.pnm_row_tools.proofs.FlipRowsLaws.{AreMirrored}
 use Rattle.pnm_row_tools.proofs.flip.reverse_each.Given as goal
 
 -- the rows that have passed are mirrored
 abbrev pub invariant-loop-i : goal.invariant-loop-i
-invariant-loop-i g l = AreMirrored l.fn.shape l.each l.i l.fn.samples l.samples
+invariant-loop-i g l = AreMirrored l.fn.shape (row_length l.fn.shape) l.i l.fn.samples l.samples

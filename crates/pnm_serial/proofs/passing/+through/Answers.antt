@@ -1,9 +1,7 @@
-use Rattle.std.proofs.Common.{◌<◌, ◌++◌, ◌∷◌, [], ℕ, List, Option, length, refl, sym, ap, subst, ◌∙◌, arith}
-use Rattle.pnm_image.specs.declared.message.Message.{Message}
+use Rattle.std.proofs.Common.{◌<◌, ◌∷◌, [], ℕ, length, refl, sym, subst, ◌∙◌, arith}
 use Rattle.pnm_image.specs.Rows.{row_messages}
-use Rattle.pnm_tools.specs.Answering.{rows_list}
-use Rattle.pnm_tools.specs.FusedFilters.{FilterAt}
-use Rattle.pnm_serial.proofs.PassingSteps.{going_first, going_on, going_done, passes_on, feeds_nothing, feeds_together, feeds_kept, feeds_row, drops_rows}
+use Rattle.pnm_serial.specs.SerialChains.{FiltersBusy}
+use Rattle.pnm_serial.proofs.PassingSteps.{passes_on, feeds_nothing, feeds_first, feeds_row, drops_rows, gives_nothing, gives_on, gives_all}
 use Rattle.pnm_serial.proofs.passing.+through.Goals as goal
 
 -- ---- feed_through
@@ -14,45 +12,17 @@ feed_through-returns-then-is_empty-clause-fed g t c = passes_on g.F.Filter.at g.
 
 -- ---- feed
 
-pub feed-loop-answer-init : goal.feed-loop-answer-init
-feed-loop-answer-init g t c = (
-  going_first g.F.Filter.at g.F.Filter.all_given g.F.Filter.stopped g.W.BytesOut.held g.W.BytesOut.failures c.args.stages.now _ c.index-stages-0.result
-      c.feed.new.self c.args.message c.args.downstream.now refl c.requires.some c.feed.ensures,
-  g.met.W.BytesOut.same_at_once _,
-)
-
-pub feed-loop-answer-preserved : goal.feed-loop-answer-preserved
-feed-loop-answer-preserved g t c = (
-  going_on g.F.Filter.at g.F.Filter.all_given g.F.Filter.stopped g.met.F.Filter.at_answers g.W.BytesOut.held g.W.BytesOut.failures c.args.stages.now
-      c.loop-answer.stages c.feed_through.new.stages _ c.index-stages-0-in-loop-answer.result c.next.new.self (c.args.message ∷ []) _
-      c.args.downstream.now c.loop-answer.downstream c.feed_through.new.downstream c.loop-answer.invariant.0 refl c.in-Some.ensures.given
-      c.feed_through.ensures.fed,
-  g.met.W.BytesOut.same_later _ _ _ c.loop-answer.invariant.1 c.feed_through.ensures.same_device,
-)
-
 pub feed-returns-clause-fed : goal.feed-returns-clause-fed
-feed-returns-clause-fed g t c = going_done g.F.Filter.at g.F.Filter.all_given g.F.Filter.stopped g.W.BytesOut.held g.W.BytesOut.failures c.args.stages.now
-    c.loop-answer.stages _ c.index-stages-0-in-loop-answer.result c.next.new.self (c.args.message ∷ [])
-    c.args.downstream.now c.loop-answer.downstream c.loop-answer.invariant.0 refl c.in_default.ensures.full
+feed-returns-clause-fed g t c = feeds_first g.F.Filter.at g.F.Filter.all_given g.F.Filter.stopped g.W.BytesOut.held g.W.BytesOut.failures
+    c.args.stages.now c.pass_answers.new.stages _ c.index-stages-0.result c.feed.new.self (c.args.message ∷ []) c.args.downstream.now
+    c.pass_answers.new.downstream refl c.requires.some c.feed.ensures c.pass_answers.ensures.given
 
 -- ---- feed_rows
 
-pub feed_rows-returns-in-Ok-Some-clause-fed : goal.feed_rows-returns-in-Ok-Some-clause-fed
-feed_rows-returns-in-Ok-Some-clause-fed g t c =
-    let made = c.of_rows.ensures.rows ∙ ap row_messages c.in-Ok-Some.made-is
-    ∙ ap (λ (rows : Option (List (List ℕ))). row_messages (rows_list rows)) (sym c.in-Ok-Some.field-0-is) in
-    feeds_together g.F.Filter.at g.F.Filter.all_given g.F.Filter.stopped g.W.BytesOut.held g.W.BytesOut.failures c.args.stages.now c.feed_through.new.stages _
-    c.index-stages-0.result c.pass_rows.new.self (row_messages c.args.rows) _ c.args.downstream.now c.feed_through.new.downstream refl c.requires.some
-    (λ tool l given is. subst (λ (x : List Message). FilterAt g.F.Filter.at g.F.Filter.all_given g.F.Filter.stopped c.pass_rows.new.self tool
-    (l ++ row_messages c.args.rows) (given ++ x)) (sym made) (c.in-Ok-Some.ensures.passed tool l given is)) c.feed_through.ensures.fed
-
-pub feed_rows-returns-in-Ok-None-clause-fed : goal.feed_rows-returns-in-Ok-None-clause-fed
-feed_rows-returns-in-Ok-None-clause-fed g t c =
-    let none = ap (λ (rows : Option (List (List ℕ))). row_messages (rows_list rows)) c.in-Ok-None.field-0-is in
-    feeds_kept g.F.Filter.at g.F.Filter.all_given g.F.Filter.stopped g.W.BytesOut.held g.W.BytesOut.failures c.args.stages.now _ c.index-stages-0.result
-    c.pass_rows.new.self (row_messages c.args.rows) c.args.downstream.now refl c.requires.some
-    (λ tool l given is. subst (λ (x : List Message). FilterAt g.F.Filter.at g.F.Filter.all_given g.F.Filter.stopped c.pass_rows.new.self tool
-    (l ++ row_messages c.args.rows) (given ++ x)) none (c.in-Ok-None.ensures.passed tool l given is))
+pub feed_rows-returns-in-Ok-clause-fed : goal.feed_rows-returns-in-Ok-clause-fed
+feed_rows-returns-in-Ok-clause-fed g t c = feeds_first g.F.Filter.at g.F.Filter.all_given g.F.Filter.stopped g.W.BytesOut.held g.W.BytesOut.failures
+    c.args.stages.now c.pass_answers.new.stages _ c.index-stages-0.result c.feed_rows.new.self (row_messages c.args.rows) c.args.downstream.now
+    c.pass_answers.new.downstream refl c.requires.some c.in-Ok.ensures.fed c.pass_answers.ensures.given
 
 -- ---- feed_each
 
@@ -81,3 +51,27 @@ feed_each-returns-in_default-clause-fed g t c =
     c.args.stages.now c.loop-at.stages _ c.index-stages-0.result c.refuse_for_memory.new.self
     c.loop-at.at c.args.rows.now c.args.downstream.now c.loop-at.downstream refl some below c.loop-at.invariant.0
     c.refuse_for_memory.ensures.dropped
+
+-- ---- pass_answers
+
+pub pass_answers-loop-answer-init : goal.pass_answers-loop-answer-init
+pass_answers-loop-answer-init g t c = (
+  gives_nothing g.W.BytesOut.held g.W.BytesOut.failures (FiltersBusy g.F.Filter.at g.F.Filter.all_given g.F.Filter.stopped c.args.stages.now)
+      c.args.downstream.now,
+  g.met.W.BytesOut.same_at_once _,
+)
+
+pub pass_answers-loop-answer-preserved : goal.pass_answers-loop-answer-preserved
+pass_answers-loop-answer-preserved g t c =
+    let some : 0 < length c.loop-answer.stages = omega (arith, c.loop-answer.auto.stages, c.requires.some) in (
+      gives_on g.F.Filter.at g.F.Filter.all_given g.F.Filter.stopped g.met.F.Filter.at_answers g.W.BytesOut.held g.W.BytesOut.failures c.args.stages.now
+          c.loop-answer.stages c.feed_through.new.stages _ c.index-stages-0.result c.next.new.self _
+          c.args.downstream.now c.loop-answer.downstream c.feed_through.new.downstream c.loop-answer.invariant.0 refl some c.in-Some.ensures.given
+          c.feed_through.ensures.fed,
+      g.met.W.BytesOut.same_later _ _ _ c.loop-answer.invariant.1 c.feed_through.ensures.same_device,
+    )
+
+pub pass_answers-returns-clause-given : goal.pass_answers-returns-clause-given
+pass_answers-returns-clause-given g t c = gives_all g.F.Filter.at g.F.Filter.all_given g.F.Filter.stopped g.W.BytesOut.held g.W.BytesOut.failures
+    c.args.stages.now c.loop-answer.stages _ c.index-stages-0.result c.next.new.self c.args.downstream.now c.loop-answer.downstream c.loop-answer.invariant.0
+    refl c.in_default.ensures.full

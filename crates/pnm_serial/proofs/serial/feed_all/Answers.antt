@@ -5,7 +5,7 @@ use Rattle.pnm_read.specs.declared.source.Source.{Source}
 use Rattle.pnm_read.specs.Sources.{reader_of}
 use Rattle.pnm_read.proofs.Turns.{no_fault}
 use Rattle.pnm_serial.proofs.FeedingSteps.{going_none, going_flushed, going_more, going_rows, fed_all, fed_until, fed_until_rows, fed_too_many}
-use Rattle.pnm_serial.proofs.serial.feed_all.Goals.{then-joins_rows+in_ok-rows+in_default, else-joins_rows}
+use Rattle.pnm_serial.proofs.serial.feed_all.Goals.{then-may_join+in_ok-rows+in_default, else-may_join}
 use Rattle.pnm_serial.proofs.serial.feed_all.Goals as goal
 
 pub loop-init : goal.loop-init
@@ -36,17 +36,17 @@ loop-preserved-in-Some g c =
 -- a message has passed
 pub loop-preserved : goal.loop-preserved
 loop-preserved g c =
-    let same : c.if-joins_rows.source ≡ c.loop.source = elim c.if-joins_rows.branch [
-      | then-joins_rows+in_ok-rows+in_default w ↦ w.source-is ∙ w.in_ok-rows.ensures.none (ap Ok w.in_default.is)
-      | else-joins_rows w ↦ w.source-is
+    let same : c.if-may_join.source ≡ c.loop.source = elim c.if-may_join.branch [
+      | then-may_join+in_ok-rows+in_default w ↦ w.source-is ∙ w.in_ok-rows.ensures.none (ap Ok w.in_default.is)
+      | else-may_join w ↦ w.source-is
     ] in
     let same_reader = subst (λ (s : Source _). g.R.BytesIn.same (reader_of c.args.source.now) (reader_of s)) (sym same) c.loop.invariant.1 in
     let told = rw c.in-Some-2.is at c.in_ok-message.ensures.told in (
       going_more g.R.BytesIn.left g.R.BytesIn.failures g.F.Filter.at g.F.Filter.all_given g.F.Filter.stopped g.W.BytesOut.held g.W.BytesOut.failures
-          c.args.source.now c.if-joins_rows.source c.next.new.self c.args.stages.now c.loop.stages c.feed_through-in-Some-2.new.stages
+          c.args.source.now c.if-may_join.source c.next.new.self c.args.stages.now c.loop.stages c.feed_through-in-Some-2.new.stages
           c.args.downstream.now c.flush_before_read.new.downstream c.feed_through-in-Some-2.new.downstream c.loop.counter c.in-Some-2.message
           (going_flushed g.R.BytesIn.left g.R.BytesIn.failures g.F.Filter.at g.F.Filter.all_given g.F.Filter.stopped g.W.BytesOut.held g.W.BytesOut.failures
-          c.args.source.now c.loop.source c.if-joins_rows.source c.args.stages.now c.loop.stages c.args.downstream.now c.loop.downstream
+          c.args.source.now c.loop.source c.if-may_join.source c.args.stages.now c.loop.stages c.args.downstream.now c.loop.downstream
           c.flush_before_read.new.downstream c.loop.counter same c.loop.invariant.0 c.flush_before_read.ensures.taken)
           told c.next.ensures.end c.next.ensures.unread (c.in_ok-message.ensures.count (no_fault _ ReadFailed)) c.feed_through-in-Some-2.ensures.fed,
       g.met.R.BytesIn.same_later _ _ _ same_reader c.next.ensures.same_device,
@@ -57,16 +57,16 @@ loop-preserved g c =
 -- the stream has ended
 pub returns-in-None-clause-fed : goal.returns-in-None-clause-fed
 returns-in-None-clause-fed g c =
-    let same : c.if-joins_rows.source ≡ c.loop.source = elim c.if-joins_rows.branch [
-      | then-joins_rows+in_ok-rows+in_default w ↦ w.source-is ∙ w.in_ok-rows.ensures.none (ap Ok w.in_default.is)
-      | else-joins_rows w ↦ w.source-is
+    let same : c.if-may_join.source ≡ c.loop.source = elim c.if-may_join.branch [
+      | then-may_join+in_ok-rows+in_default w ↦ w.source-is ∙ w.in_ok-rows.ensures.none (ap Ok w.in_default.is)
+      | else-may_join w ↦ w.source-is
     ] in
     let told = rw c.in-None.is at c.in_ok-message.ensures.told in
     fed_all g.R.BytesIn.left g.R.BytesIn.failures g.F.Filter.at g.F.Filter.all_given g.F.Filter.stopped g.W.BytesOut.held g.W.BytesOut.failures
-    c.args.source.now c.if-joins_rows.source c.next.new.self c.args.stages.now c.loop.stages c.args.downstream.now c.flush_before_read.new.downstream
+    c.args.source.now c.if-may_join.source c.next.new.self c.args.stages.now c.loop.stages c.args.downstream.now c.flush_before_read.new.downstream
     c.loop.counter
     (going_flushed g.R.BytesIn.left g.R.BytesIn.failures g.F.Filter.at g.F.Filter.all_given g.F.Filter.stopped g.W.BytesOut.held g.W.BytesOut.failures
-    c.args.source.now c.loop.source c.if-joins_rows.source c.args.stages.now c.loop.stages c.args.downstream.now c.loop.downstream
+    c.args.source.now c.loop.source c.if-may_join.source c.args.stages.now c.loop.stages c.args.downstream.now c.loop.downstream
     c.flush_before_read.new.downstream c.loop.counter same c.loop.invariant.0 c.flush_before_read.ensures.taken)
     told c.next.ensures.end c.next.ensures.unread (c.in_ok-message.ensures.count (no_fault _ ReadFailed))
 
@@ -74,16 +74,16 @@ returns-in-None-clause-fed g c =
 pub returns-in_err-message-clause-fed : goal.returns-in_err-message-clause-fed
 returns-in_err-message-clause-fed g c =
     let p = err_from_is_err_and c.from_residual-in_err-message.result c.from_residual-in_err-message.ensures.1 in
-    let same : c.if-joins_rows.source ≡ c.loop.source = elim c.if-joins_rows.branch [
-      | then-joins_rows+in_ok-rows+in_default w ↦ w.source-is ∙ w.in_ok-rows.ensures.none (ap Ok w.in_default.is)
-      | else-joins_rows w ↦ w.source-is
+    let same : c.if-may_join.source ≡ c.loop.source = elim c.if-may_join.branch [
+      | then-may_join+in_ok-rows+in_default w ↦ w.source-is ∙ w.in_ok-rows.ensures.none (ap Ok w.in_default.is)
+      | else-may_join w ↦ w.source-is
     ] in
     rw (p.1, p.2)
     (fed_until g.R.BytesIn.left g.R.BytesIn.failures g.F.Filter.at g.F.Filter.all_given g.F.Filter.stopped g.W.BytesOut.held g.W.BytesOut.failures
-    c.args.source.now c.if-joins_rows.source c.next.new.self c.args.stages.now c.loop.stages c.args.downstream.now c.flush_before_read.new.downstream
+    c.args.source.now c.if-may_join.source c.next.new.self c.args.stages.now c.loop.stages c.args.downstream.now c.flush_before_read.new.downstream
     c.loop.counter c.in_err-message.field-0.0
     (going_flushed g.R.BytesIn.left g.R.BytesIn.failures g.F.Filter.at g.F.Filter.all_given g.F.Filter.stopped g.W.BytesOut.held g.W.BytesOut.failures
-    c.args.source.now c.loop.source c.if-joins_rows.source c.args.stages.now c.loop.stages c.args.downstream.now c.loop.downstream
+    c.args.source.now c.loop.source c.if-may_join.source c.args.stages.now c.loop.stages c.args.downstream.now c.loop.downstream
     c.flush_before_read.new.downstream c.loop.counter same c.loop.invariant.0 c.flush_before_read.ensures.taken)
     c.in_err-message.ensures.told c.next.ensures.end c.next.ensures.unread
     (λ e. c.in_err-message.ensures.not_at_end (ap Err e)) (λ e. c.in_err-message.ensures.read_failed (ap Err e)) c.in_err-message.ensures.count)

@@ -1,9 +1,9 @@
-use Rattle.std.proofs.Common.{sym, subst}
+use Rattle.std.proofs.Common.{◌∷◌, [], sym, subst}
 use Rattle.pnm_image.specs.declared.parcel.Parcel.{Parcel}
 use Rattle.pnm_image.specs.Parcels.{messages_in}
 use Rattle.pnm_stages.specs.Rings.{sent}
 use Rattle.pnm_stages.specs.StageParts.{HasPassed}
-use Rattle.pnm_stages.proofs.PassingSteps.{passes_message}
+use Rattle.pnm_stages.proofs.PassingSteps.{passes_fed}
 use Rattle.pnm_stages.proofs.stage.pass.Goals as goal
 
 pub returns-in-Message : goal.returns-in-Message
@@ -11,8 +11,8 @@ returns-in-Message g c = record {
   output = c.send_answers.ensures.output;
   passed = subst (λ (p : Parcel). HasPassed g.F.Filter.at g.F.Filter.all_given g.F.Filter.stopped c.send_answers.result c.args.stage.now
       c.send_answers.new.stage (messages_in p) (sent c.args.output.now) (sent c.send_answers.new.output)) (sym c.in-Message.is)
-      (passes_message g.F.Filter.at g.F.Filter.all_given g.F.Filter.stopped c.send_answers.result c.args.stage.now c.feed.new.self c.send_answers.new.stage
-      c.in-Message.message (sent c.args.output.now) (sent c.send_answers.new.output) c.feed.ensures c.send_answers.ensures.sent);
+      (passes_fed g.F.Filter.at g.F.Filter.all_given g.F.Filter.stopped c.send_answers.result c.args.stage.now c.feed.new.self c.send_answers.new.stage
+      (c.in-Message.message ∷ []) (sent c.args.output.now) (sent c.send_answers.new.output) c.feed.ensures c.send_answers.ensures.sent);
 }
 
 pub returns-in-Rows : goal.returns-in-Rows

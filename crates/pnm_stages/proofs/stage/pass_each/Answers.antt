@@ -1,11 +1,11 @@
-use Rattle.std.proofs.Common.{◌≡◌, true, false, ap, subst, ◌∙◌, ◌<◌, ◌+◌, List, length, take, ℕ, arith}
+use Rattle.std.proofs.Common.{◌≡◌, true, false, ap, subst, ◌∙◌, ◌<◌, ◌+◌, List, [], ◌∷◌, length, take, ℕ, arith}
 use Rattle.std.proofs.Math.Seq.{take-length}
 use Rattle.pnm_image.specs.Rows.{row_messages}
 use Rattle.pnm_image.specs.declared.message.Message.TheVariants.{Row}
 use Rattle.pnm_stages.specs.Rings.{sent}
 use Rattle.pnm_stages.specs.StageParts.{HasPassed}
 use Rattle.pnm_stages.proofs.RingSteps.{same_output, itself_output}
-use Rattle.pnm_stages.proofs.PassingSteps.{passes_none, passes_message, passes_row, loses_rows, drops_rows}
+use Rattle.pnm_stages.proofs.PassingSteps.{passes_none, passes_fed, passes_row, loses_rows, drops_rows}
 use Rattle.pnm_stages.proofs.stage.pass_each.Goals as goal
 
 pub loop-at-init : goal.loop-at-init
@@ -26,7 +26,7 @@ returns-then-not-send_answers-clause-passed g c =
     c.args.rows.now (sent c.args.output.now) (sent c.send_answers.new.output)
     (passes_row g.F.Filter.at g.F.Filter.all_given g.F.Filter.stopped false c.args.stage.now c.loop-at.stage c.send_answers.new.stage c.loop-at.at
     c.args.rows.now c.in-Ok.row (sent c.args.output.now) (sent c.loop-at.output) (sent c.send_answers.new.output) below c.in-Ok.ensures c.loop-at.invariant.1
-    (passes_message g.F.Filter.at g.F.Filter.all_given g.F.Filter.stopped false c.loop-at.stage c.feed.new.self c.send_answers.new.stage (Row c.in-Ok.row)
+    (passes_fed g.F.Filter.at g.F.Filter.all_given g.F.Filter.stopped false c.loop-at.stage c.feed.new.self c.send_answers.new.stage (Row c.in-Ok.row ∷ [])
     (sent c.loop-at.output) (sent c.send_answers.new.output) c.feed.ensures c.if-not-send_answers.ensures.sent))
 
 pub loop-at-preserved : goal.loop-at-preserved
@@ -36,7 +36,7 @@ loop-at-preserved g c =
       passes_row g.F.Filter.at g.F.Filter.all_given g.F.Filter.stopped true c.args.stage.now c.loop-at.stage c.send_answers.new.stage c.loop-at.at
           c.args.rows.now c.in-Ok.row (sent c.args.output.now) (sent c.loop-at.output) (sent c.send_answers.new.output) below c.in-Ok.ensures
           c.loop-at.invariant.1
-          (passes_message g.F.Filter.at g.F.Filter.all_given g.F.Filter.stopped true c.loop-at.stage c.feed.new.self c.send_answers.new.stage (Row c.in-Ok.row)
+          (passes_fed g.F.Filter.at g.F.Filter.all_given g.F.Filter.stopped true c.loop-at.stage c.feed.new.self c.send_answers.new.stage (Row c.in-Ok.row ∷ [])
           (sent c.loop-at.output) (sent c.send_answers.new.output) c.feed.ensures c.if-not-send_answers.ensures.sent),
     )
 

@@ -1,11 +1,10 @@
 use Rattle.std.proofs.Common.{◌≡◌, ◌∙◌, List, ℕ, take, OnOk, OnErr, sym, ap, subst, arith, rules}
-use Rattle.std.proofs.lemmas.List.{take_all}
 use Rattle.std.specs.Io.KnownBytes.{Appends}
 use Rattle.pnm_image.specs.Devices.{FailsIn}
 use Rattle.pnm_image.specs.declared.shape.Kind.{Kind}
 use Rattle.pnm_image.specs.declared.shape.Kind.TheVariants.{Bit}
 use Rattle.pnm_samples.specs.SampleVecs.{HasWhiteSpare, slice_samples}
-use Rattle.pnm_samples.specs.Pixels.{all_pixels, ArePacked}
+use Rattle.pnm_samples.specs.Pixels.{all_pixels}
 use Rattle.pnm_write.specs.PlainRows.{plain_row_text}
 use Rattle.pnm_write.proofs.PlainLaws.{row_of_numbers}
 use Rattle.pnm_write.proofs.plain.write_lines.Goals as goal

@@ -1,14 +1,13 @@
 use Rattle.std.proofs.Common.{◌≡◌, ◌≤◌, ◌<◌, ◌^◌, ◌∙◌, ◌++◌, ◌+◌, ◌-◌, ◌==◌, min, Bool, true, false, List, ℕ, length, take, drop, All, ap, sym, subst, rules}
 use Rattle.std.proofs.Common.{arith}
 use Rattle.std.proofs.lemmas.List.{length-drop, length-take, length-append, take_at, drop-drop}
-use Rattle.std.proofs.lemmas.List.Elements.{All-weaker, All-take, All-drop}
+use Rattle.std.proofs.lemmas.List.Elements.{All-weaker}
 use Rattle.std.proofs.lemmas.Bool.Decides.{nat_tests}
 use Rattle.pnm_image.specs.declared.shape.Kind.{Kind}
 use Rattle.pnm_samples.specs.SampleVecs.{slice_samples}
 use Rattle.pnm_image.proofs.Written.{Sending, at_any_error, sending_part, sending_part_failed}
 use Rattle.pnm_write.specs.PlainRows.{plain_row_text}
 use Rattle.pnm_write.specs.PlainParts.{text_of_part, column_after_part, sample_texts, row_end}
-use Rattle.pnm_write.proofs.PartLaws.{part_of_part, length-part}
 use Rattle.pnm_write.proofs.PlainLaws.{text_left, left_part, row_text_left}
 use Rattle.pnm_write.proofs.plain.write_others.Goals as goal
 

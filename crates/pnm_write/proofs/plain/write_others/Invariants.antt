@@ -1,4 +1,4 @@
-use Rattle.std.proofs.Common.{◌≡◌, ◌≤◌, ◌-◌, length, take, drop}
+use Rattle.std.proofs.Common.{◌≡◌, ◌≤◌, ◌-◌, length, drop}
 use Rattle.pnm_samples.specs.SampleVecs.{slice_samples}
 use Rattle.pnm_image.proofs.Written.{Sending}
 use Rattle.pnm_write.specs.PlainRows.{plain_row_text}

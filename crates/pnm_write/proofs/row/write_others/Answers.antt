@@ -14,7 +14,7 @@ use Rattle.pnm_write.specs.WriteBuffers.{FitIn}
 use Rattle.std.specs.Io.KnownBytes.{Appends}
 use Rattle.pnm_write.specs.Encoding.{bytes_in}
 use Rattle.pnm_image.specs.Devices.{FailsIn}
-use Rattle.pnm_write.proofs.PartLaws.{part_of_part, length-part, begin_sending, all_written}
+use Rattle.pnm_write.proofs.PartLaws.{begin_sending, all_written}
 use Rattle.pnm_write.proofs.RawLaws.{few_parts}
 use Rattle.pnm_image.proofs.Written.{at_any_error, sending_part, sending_part_failed}
 use Rattle.pnm_write.proofs.row.write_others.Goals as goal

@@ -1,13 +1,12 @@
-use Rattle.std.proofs.Common.{◌≡◌, ◌∙◌, List, ℕ, length, take, OnOk, OnErr, refl, ap, sym, subst}
+use Rattle.std.proofs.Common.{◌≡◌, ◌∙◌, List, ℕ, take, OnOk, OnErr, refl, ap, sym, subst}
 use Rattle.std.specs.Io.KnownBytes.{Appends}
 use Rattle.pnm_samples.specs.Pixels.{all_pixels, AreBytes, ArePacked}
 use Rattle.pnm_samples.specs.SampleVecs.{HasWhiteSpare, slice_samples}
-use Rattle.pnm_samples.specs.declared.samples.SampleSlice.{SampleSlice}
 use Rattle.pnm_samples.proofs.PackedBytes.{packed_view}
 use Rattle.pnm_image.specs.Devices.{FailsIn}
 use Rattle.pnm_image.specs.SampleWidths.{sample_width_of}
 use Rattle.pnm_image.specs.declared.sample_width.SampleWidth.{SampleWidth}
-use Rattle.pnm_image.specs.declared.sample_width.SampleWidth.TheVariants.{Bits, Bytes}
+use Rattle.pnm_image.specs.declared.sample_width.SampleWidth.TheVariants.{Bits}
 use Rattle.pnm_write.specs.Encoding.{packed_bytes, bytes_in}
 use Rattle.pnm_write.proofs.row.write_raw.Goals as goal
 

@@ -1,21 +1,14 @@
-use Rattle.std.proofs.Common.{◌≡◌, ◌∙◌, ◌*◌, ◌≤◌, ℕ, List, All, OnOk, OnErr, length, refl, ap, ap₂, sym, subst, rules}
-use Rattle.std.specs.List.{AllByRecursion, concat, flat_map}
+use Rattle.std.proofs.Common.{◌≡◌, ◌∙◌, ℕ, List, OnOk, OnErr, refl, ap, sym, subst, rules}
+use Rattle.std.specs.List.{flat_map}
 use Rattle.std.specs.Io.KnownBytes.{Appends}
-use Rattle.std.proofs.lemmas.List.Elements.{All-from_recursion, All-weaker}
-use Rattle.pnm_samples.specs.SampleVecs.{slice_samples}
 use Rattle.pnm_image.specs.Devices.{FailsIn}
 use Rattle.pnm_image.specs.Heads.{row_length}
-use Rattle.pnm_image.specs.HeldRows.{AreSliceRows, slice_lists}
-use Rattle.pnm_image.specs.Images.{cut_rows}
-use Rattle.pnm_image.specs.Places.{IsRowOf}
 use Rattle.pnm_image.specs.SampleWidths.{sample_width_of}
 use Rattle.pnm_image.specs.declared.format.Form.{Form}
 use Rattle.pnm_image.specs.declared.format.Form.TheVariants.{Raw}
-use Rattle.pnm_image.specs.declared.rows.RowSlice.{RowSlice}
 use Rattle.pnm_image.specs.declared.sample_width.SampleWidth.{SampleWidth}
 use Rattle.pnm_image.specs.declared.sample_width.SampleWidth.TheVariants.{Bits}
 use Rattle.pnm_image.specs.declared.shape.Shape.{Shape}
-use Rattle.pnm_image.proofs.RowLaws.{concat-cut_rows}
 use Rattle.pnm_write.specs.Encoding.{AreWholeBytes, bytes_in, packed_bytes, rows_bytes}
 use Rattle.pnm_write.proofs.RowsLaws.{long_rows}
 use Rattle.pnm_write.proofs.rows.write_rows.Goals as goal

@@ -3,7 +3,7 @@ use Rattle.pnm_filters.proofs.any_tool.AnyToolImageTool.take.Goals as goal
 pub take-requires : goal.take-requires
 take-requires c = record {
   lawful = rw c.in-Inverting.is at c.requires.lawful;
-  row = c.requires.row;
+  rows = c.requires.rows;
   ready = rw c.in-Inverting.is at c.requires.ready;
 }
 
@@ -15,7 +15,7 @@ returns-in-Inverting c =
 pub take-requires-in-Cutting : goal.take-requires-in-Cutting
 take-requires-in-Cutting c = record {
   lawful = rw c.in-Cutting.is at c.requires.lawful;
-  row = c.requires.row;
+  rows = c.requires.rows;
   ready = rw c.in-Cutting.is at c.requires.ready;
 }
 
@@ -27,7 +27,7 @@ returns-in-Cutting c =
 pub take-requires-in-Rescaling : goal.take-requires-in-Rescaling
 take-requires-in-Rescaling c = record {
   lawful = rw c.in-Rescaling.is at c.requires.lawful;
-  row = c.requires.row;
+  rows = c.requires.rows;
   ready = rw c.in-Rescaling.is at c.requires.ready;
 }
 
@@ -39,7 +39,7 @@ returns-in-Rescaling c =
 pub take-requires-in-Picking : goal.take-requires-in-Picking
 take-requires-in-Picking c = record {
   lawful = rw c.in-Picking.is at c.requires.lawful;
-  row = c.requires.row;
+  rows = c.requires.rows;
   ready = rw c.in-Picking.is at c.requires.ready;
 }
 
@@ -51,7 +51,7 @@ returns-in-Picking c =
 pub take-requires-in-Enlarging : goal.take-requires-in-Enlarging
 take-requires-in-Enlarging c = record {
   lawful = rw c.in-Enlarging.is at c.requires.lawful;
-  row = c.requires.row;
+  rows = c.requires.rows;
   ready = rw c.in-Enlarging.is at c.requires.ready;
 }
 
@@ -63,7 +63,7 @@ returns-in-Enlarging c =
 pub take-requires-in-FlippingRows : goal.take-requires-in-FlippingRows
 take-requires-in-FlippingRows c = record {
   lawful = rw c.in-FlippingRows.is at c.requires.lawful;
-  row = c.requires.row;
+  rows = c.requires.rows;
   ready = rw c.in-FlippingRows.is at c.requires.ready;
 }
 
@@ -75,7 +75,7 @@ returns-in-FlippingRows c =
 pub take-requires-in-ReversingRows : goal.take-requires-in-ReversingRows
 take-requires-in-ReversingRows c = record {
   lawful = rw c.in-ReversingRows.is at c.requires.lawful;
-  row = c.requires.row;
+  rows = c.requires.rows;
   ready = rw c.in-ReversingRows.is at c.requires.ready;
 }
 
@@ -87,7 +87,7 @@ returns-in-ReversingRows c =
 pub take-requires-in-Transposing : goal.take-requires-in-Transposing
 take-requires-in-Transposing c = record {
   lawful = rw c.in-Transposing.is at c.requires.lawful;
-  row = c.requires.row;
+  rows = c.requires.rows;
   ready = rw c.in-Transposing.is at c.requires.ready;
 }
 
@@ -99,7 +99,7 @@ returns-in-Transposing c =
 pub take-requires-in-Tiling : goal.take-requires-in-Tiling
 take-requires-in-Tiling c = record {
   lawful = rw c.in-Tiling.is at c.requires.lawful;
-  row = c.requires.row;
+  rows = c.requires.rows;
   ready = rw c.in-Tiling.is at c.requires.ready;
 }
 

@@ -1,11 +1,15 @@
-use Rattle.std.proofs.Common.{rules, ◌≡◌, ◌∙◌, List, ℕ, Option, Some, ap}
-use Rattle.pnm_geometry_tools.specs.Keeping.{copies_due, kept_row}
-use Rattle.pnm_geometry_tools.proofs.EnlargedRowsLaws.{copies_given}
+use Rattle.std.proofs.Common.{rules}
+use Rattle.pnm_geometry_tools.proofs.WaitingLaws.{alone_given, together_given}
 use Rattle.pnm_geometry_tools.proofs.enlarge.EnlargerImageTool.give.Goals as goal
+
+pub returns-then-count-gt0-clause-due : goal.returns-then-count-gt0-clause-due
+returns-then-count-gt0-clause-due c =
+    together_given c.args.self.now.copies c.replace.new.dest c.args.self.now.waiting c.in_ok-enlarged.rest c.in-Some-replace.waiting
+    c.count_together-count.result c.down-down.result c.in_ok-enlarged.enlarged (search rules) (search rules) (search rules) c.down-down.ensures.down
+    (c.in_ok-enlarged.ensures.made) c.in_ok-enlarged.ensures.rest
 
 pub returns-clause-due : goal.returns-clause-due
 returns-clause-due c =
-    let w = c.args.self.now in
-    let kept : kept_row w ≡ Some c.in-Some.row = search rules in
-    ap (λ (row : Option (List ℕ)). copies_due row w.left) kept
-    ∙ copies_given w.left c.count.result c.in-Some.row c.in_ok-copies.copies c.in_ok-copies.ensures.copies c.count.ensures.rows c.in_ok-copies.ensures.most
+    alone_given c.args.self.now.copies c.in_ok-next-2.left c.args.self.now.waiting c.in_ok-row.rest c.in-Some-replace.waiting c.down-down.result
+    c.in_ok-row.row c.new.result c.in_ok-next-2.next (search rules) (search rules) (search rules) c.down-down.ensures.down c.in_ok-row.ensures.made
+    c.in_ok-row.ensures.rest c.new.ensures c.in_ok-next-2.ensures.next

@@ -1,27 +1,56 @@
-use Rattle.std.proofs.Common.{Bool, [], ◌∷◌, if◌then◌else◌, ap, sym, ◌∙◌}
+use Rattle.std.proofs.Common.{Bool, [], ◌∷◌, if◌then◌else◌, map, ap, sym, subst, ◌∙◌}
+use Rattle.std.proofs.lemmas.List.{map-id}
+use Rattle.std.proofs.lemmas.Bool.{not-false, not-true}
+use Rattle.std.proofs.lemmas.List.Elements.{All-from_recursion}
+use Rattle.pnm_image.specs.HeldRows.{AreRowsWithin}
+use Rattle.pnm_image.specs.Places.{IsRowOf}
 use Rattle.pnm_tools.specs.declared.flip.Turn.{Turn}
 use Rattle.pnm_tools.specs.declared.tool.Tool.TheVariants.{Flip}
 use Rattle.pnm_tools.specs.Flip.{mirrored_row, turn_of, turned_row}
 use Rattle.pnm_tools.proofs.TurnLaws.{row_stays}
-use Rattle.pnm_row_tools.proofs.FlipRowsLaws.{rows_turned}
-use Rattle.pnm_row_tools.proofs.RowsLaws.{rows_stay}
+use Rattle.pnm_row_tools.specs.EachRow.{HoldsRows}
+use Rattle.pnm_row_tools.proofs.FlipRowsLaws.{as_long, mirrored_rows_within, rows_turned}
+use Rattle.pnm_row_tools.proofs.HeldRowsLaws.{length_of_shape, rows_of_shape}
+use Rattle.pnm_row_tools.proofs.EachRowLaws.{each_answered}
 use Rattle.pnm_row_tools.proofs.flip.RowFlipperRowTool.rows.Goals as goal
 
-pub returns-in_ok-mirrored-clause-made : goal.returns-in_ok-mirrored-clause-made
-returns-in_ok-mirrored-clause-made c =
-    let turned = rows_turned c.args.self.now c.args.shape c.args._y c.args.rows c.in_ok-mirrored.mirrored c.requires.ready.stays
-    (ap (λ (t : Turn). t.columns_reversed) (sym (c.turn.ensures ∙ ap turn_of c.self.view_is)) ∙ c.if-turn.true)
-    c.in_ok-mirrored.ensures.mirrored in
-    assumption turned
+pub mirror_rows-requires-clause-rows : goal.mirror_rows-requires-clause-rows
+mirror_rows-requires-clause-rows c =
+    let parts = c.into_parts-held in
+    rows_of_shape c.args.shape parts.result.1 parts.result.2 parts.result.0 c.args.rows parts.ensures.some parts.ensures.whole
+    parts.ensures.rows c.requires.rows.1
 
-pub returns-in_ok-mirrored-clause-same : goal.returns-in_ok-mirrored-clause-same
-returns-in_ok-mirrored-clause-same c = assumption
+-- so many rows of as many samples as they had, each mirrored
+mirrored : (c : goal.In_ok-mirrored) → HoldsRows c.into_parts-held.result.1 c.into_parts-held.result.2 c.in_ok-mirrored.mirrored
+    (map (mirrored_row c.args.shape) c.args.rows)
+mirrored c =
+    let parts = c.into_parts-held in
+    let s = c.args.shape in
+    let is = length_of_shape s parts.result.1 parts.result.2 parts.result.0 c.args.rows parts.ensures.some parts.ensures.whole parts.ensures.rows
+    c.requires.rows.1 in
+    let made = as_long (map (mirrored_row s)) s parts.result.1 parts.result.2 parts.result.0 c.in_ok-mirrored.mirrored is c.in_ok-mirrored.ensures in
+    (made.0, made.1 ∙ ap (map (mirrored_row s)) (sym parts.ensures.rows))
 
-pub returns-else-turn-clause-made : goal.returns-else-turn-clause-made
-returns-else-turn-clause-made c =
+pub new-requires-clause-whole : goal.new-requires-clause-whole
+new-requires-clause-whole c = (mirrored c).0
+
+pub new-requires-clause-within : goal.new-requires-clause-within
+new-requires-clause-within c =
+    let s = c.args.shape in
+    subst (AreRowsWithin s.maxval) (sym (mirrored c).1) (mirrored_rows_within s c.args.rows (All-from_recursion (IsRowOf s) c.args.rows c.requires.rows.1))
+
+pub returns-then-not-turn-clause-made : goal.returns-then-not-turn-clause-made
+returns-then-not-turn-clause-made c =
     let way = c.args.self.now in
     let s = c.args.shape in
-    rows_stay (Flip way) s c.args._y c.args.rows (λ k row.
+    each_answered (Flip way) s (λ row. row) c.args._y c.args.rows (λ k row from to.
     row_stays way s k row c.requires.ready.stays
     ∙ ap (λ (t : Turn). turned_row t s row ∷ []) (sym (c.turn.ensures ∙ ap turn_of c.self.view_is))
-    ∙ ap (λ (reversed : Bool). (if reversed then mirrored_row s row else row) ∷ []) c.if-turn.false)
+    ∙ ap (λ (reversed : Bool). (if reversed then mirrored_row s row else row) ∷ []) (not-true c.turn.result.columns_reversed c.if-not-turn.true))
+    ∙ map-id c.args.rows
+
+pub returns-clause-made : goal.returns-clause-made
+returns-clause-made c =
+    rows_turned c.args.self.now c.args.shape c.args._y c.args.rows c.new.result c.requires.ready.stays
+    (ap (λ (t : Turn). t.columns_reversed) (sym (c.turn.ensures ∙ ap turn_of c.self.view_is)) ∙ not-false c.turn.result.columns_reversed c.if-not-turn.false)
+    (c.new.ensures ∙ (mirrored c.before).1)

@@ -2,6 +2,7 @@ use Rattle.std.proofs.Common.{◌≡◌, ◌+◌, ◌++◌, ◌∙◌, ℕ, List
 use Rattle.pnm_samples.specs.BitRows.{ArePackedRows}
 use Rattle.pnm_samples.specs.PixelRows.{rows_of_bytes}
 use Rattle.pnm_samples.proofs.BitRowLaws.{packed_behind}
+use Rattle.pnm_samples.proofs.BitRowsMade.{row_of_rows}
 use Rattle.pnm_samples.proofs.PixelRowsLaws.{rows_behind}
 use Rattle.pnm_samples.proofs.bit_rows.BitRows.append.Goals as goal
 
@@ -30,3 +31,11 @@ returns-clause-added c _ =
     ∙ rows_behind x.count y.count x.each x.bytes.items y.bytes.items c.self.invariant.enough
     ∙ ap₂ (λ (a b : List (List ℕ)). a ++ b) c.self.view_is
     (ap (λ (k : ℕ). rows_of_bytes y.count k y.bytes.items) (sym alike) ∙ c.more.view_is)
+
+pub returns-then-more-self-clause-unlike : goal.returns-then-more-self-clause-unlike
+returns-then-more-self-clause-unlike c = λ no some also alike.
+    let x = c.self.inside in
+    let y = c.more.inside in
+    let first = row_of_rows x.count x.each 0 x.bytes.items c.args.self.now c.self.view_is c.self.invariant.enough some in
+    let second = row_of_rows y.count y.each 0 y.bytes.items c.args.more.now c.more.view_is c.more.invariant.enough also in
+    grind (arith, first.1, second.1, alike)

@@ -1,7 +1,0 @@
-use Rattle.std.proofs.Common.{◌*◌}
-use Rattle.pnm_row_tools.proofs.EachRowLaws.{AreMoved}
-use Rattle.pnm_row_tools.proofs.cut.keep_of_each.Given as goal
-
--- the parts of the rows that have passed stand at the front
-abbrev pub invariant-loop-i : goal.invariant-loop-i
-invariant-loop-i g l = AreMoved (l.parts.top * l.parts.row_length) l.parts.first l.parts.kept l.parts.row_length l.i l.fn.samples.items l.samples.items
