@@ -18,12 +18,15 @@ use Rattle.pnm_tools.specs.Answers.{Answers}
 use Rattle.pnm_tools.specs.FusedFilters.{FilterAt}
 use Rattle.pnm_tools.specs.declared.fused_filter.FusedFilter.{FusedFilter}
 use Rattle.pnm_tools.specs.Answering.{IsAnswering, rows_come, rows_list}
-use Rattle.pnm_row_tools.specs.Keeping.{cut_of, maxval_of, HasSpans, HasTable, FlipsInRows, IsReversingRows}
+use Rattle.pnm_row_tools.specs.Keeping.{IsTable, cut_of, HasSpans, FlipsInRows, IsReversingRows}
 use Rattle.pnm_geometry_tools.specs.Enlarging.{IsEnlarging}
 use Rattle.pnm_geometry_tools.specs.Keeping.{across_of, down_of, kept_rows, IsTransposing}
 use Rattle.pnm_row_tools.specs.Keeping.{reversed_due}
 use Rattle.pnm_geometry_tools.specs.Keeping.{IsTiling, enlarged_due, transposed_due, tiled_due}
 use Rattle.pnm_tools.specs.Channel.{HasPlanes}
+use Rattle.pnm_tools.specs.Depth.{nearest_sample}
+use Rattle.pnm_tools.specs.Invert.{inverted_sample}
+use Rattle.pnm_row_tools.specs.declared.samplewise.Table.{Table}
 use Rattle.pnm_tools.specs.Tools.{IsLawfulTool}
 
 -- ---- whichever tool is at work
@@ -40,10 +43,15 @@ pub record Worker : Type 1 where
 abbrev pub by_row : Tool → Option (List (List ℕ)) → (Shape → Type 0) → Worker
 by_row tool made ready = record { tool = tool; due = rows_list made; kept = rows_list made; ready = λ s rows. ready s }
 
+-- a tool that changes each sample by itself is ready for rows of an image of this shape
+abbrev pub changes_samples : (ℕ → ℕ → ℕ) → Table → Shape → Type 0
+changes_samples changed table s = IsWithinLimits s × IsTable (changed s.maxval) s.maxval table
+
 abbrev pub worker : AnyTool → Worker
-worker (Inverting w) = by_row Invert w.made IsWithinLimits
+worker (Inverting w) = by_row Invert w.made (changes_samples inverted_sample w.tool.table)
 worker (Cutting w) = by_row (Cut (cut_of w.tool)) w.made (HasSpans w.tool)
-worker (Rescaling w) = by_row (Depth (maxval_of w.tool)) w.made (λ s. IsWithinLimits s × HasTable w.tool s)
+worker (Rescaling w) =
+    by_row (Depth w.tool.tool.maxval) w.made (changes_samples (nearest_sample w.tool.tool.maxval) w.tool.table)
 worker (Picking w) = by_row (Channel w.tool) w.made (HasPlanes w.tool)
 worker (Enlarging w) =
     record {

@@ -2,7 +2,7 @@
 
 use pnm_geometry_tools::{Enlarger, Tiler, Transposer};
 use pnm_image::{Head, Rows, Shape};
-use pnm_row_tools::{ByRow, Cutter, Inverter, Rescaler, RowFlipper, RowReverser};
+use pnm_row_tools::{ByRow, Cutter, Inverter, Rescaler, RowFlipper, RowReverser, Samplewise};
 use pnm_tools::{ImageTool, Planes, ToolFault};
 use std::alloc::Global;
 
@@ -27,11 +27,11 @@ macro_rules! with_tool {
 #[derive(Drop)]
 pub enum AnyTool {
     /// `pnminvert`.
-    Inverting(ByRow<Inverter>),
+    Inverting(ByRow<Samplewise<Inverter>>),
     /// `pamcut`.
     Cutting(ByRow<Cutter>),
     /// `pamdepth`.
-    Rescaling(ByRow<Rescaler>),
+    Rescaling(ByRow<Samplewise<Rescaler>>),
     /// `pamchannel`.
     Picking(ByRow<Planes>),
     /// `pamenlarge`.

@@ -6,7 +6,7 @@ ghost use Rattle.pnm_tools.specs.Tools.{IsLawfulTool, TakesHead, result_head};
 
 use pnm_geometry_tools::{Enlarger, Tiler};
 use pnm_image::Head;
-use pnm_row_tools::{Cutter, Inverter, RowTool, picked_head, rescaled_head};
+use pnm_row_tools::{Cutter, Inverter, RowTool, SampleTool, picked_head, rescaled_head};
 use pnm_tools::{ImageTool, Tool, ToolFault, flipped_head};
 use std::alloc::Global;
 
@@ -20,7 +20,7 @@ pub fn result_head(alloc: Global, tool: &Tool, head: &Head) -> Result<Head, Tool
         ⊎ ((fault ≡ Memory) × TakesHead tool.now head.now)) }
 {
     match tool {
-        Tool::Invert => Inverter.begin(alloc, head),
+        Tool::Invert => Inverter.head(alloc, head),
         Tool::Cut(cut) => Cutter::new(*cut).begin(alloc, head),
         Tool::Depth(maxval) => rescaled_head(alloc, *maxval, head),
         Tool::Channel(planes) => picked_head(alloc, planes, head),

@@ -9,7 +9,7 @@ ghost use Rattle.pnm_tools.specs.Tools.{IsLawfulTool};
 use crate::any_tool::AnyTool;
 use crate::state::State;
 use pnm_geometry_tools::{Enlarger, Tiler, Transposer};
-use pnm_row_tools::{ByRow, Cutter, Inverter, Rescaler, RowFlipper, RowReverser, RowTool};
+use pnm_row_tools::{ByRow, Cutter, Inverter, Rescaler, RowFlipper, RowReverser, RowTool, Samplewise};
 use pnm_tools::{FlipWay, FusedFilter, Tool, ToolFault};
 use std::alloc::Global;
 
@@ -32,9 +32,9 @@ fn any_tool(alloc: Global, tool: &Tool) -> Result<AnyTool, ToolFault>
     ensures refused { IfErr result (λ fault. fault ≡ Memory) }
 {
     Ok(match tool.copy(alloc)? {
-        Tool::Invert => AnyTool::Inverting(by_row(Inverter)),
+        Tool::Invert => AnyTool::Inverting(by_row(Samplewise::new(Inverter))),
         Tool::Cut(cut) => AnyTool::Cutting(by_row(Cutter::new(cut))),
-        Tool::Depth(maxval) => AnyTool::Rescaling(by_row(Rescaler::new(maxval))),
+        Tool::Depth(maxval) => AnyTool::Rescaling(by_row(Samplewise::new(Rescaler { maxval }))),
         Tool::Channel(planes) => AnyTool::Picking(by_row(planes)),
         Tool::Enlarge(across, down) => AnyTool::Enlarging(Enlarger::new(across, down)),
         Tool::Flip(way) => flip(alloc, way),

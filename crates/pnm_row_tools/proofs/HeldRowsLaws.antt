@@ -63,11 +63,6 @@ held_within : (most count each : ℕ) (held : RowVec) → AreRows count each hel
 held_within most count each held whole within =
     subst (All (λ sample. sample ≤ most)) (concat_held count each held whole) (concat_within most (row_lists count each held) within)
 
--- as many words that are the rows when they are cut
-pub words_held : (count each : ℕ) (held : RowVec) (words : List ℕ) → AreRows count each held → length words ≡ count * each
-    → cut_rows count each words ≡ row_lists count each held → words ≡ held_samples held
-words_held count each held words whole long cut = sym (concat-cut_rows count each words long) ∙ ap concat cut ∙ concat_held count each held whole
-
 -- ---- rows of an image of a shape
 
 -- they are as long as it says
@@ -95,7 +90,7 @@ samples_within s count each held rows whole cut are =
 -- ---- each sample of them is changed
 
 -- samples that are cut
-cut_changed : (f : ℕ → ℕ) (count each : ℕ) (samples : List ℕ) → cut_rows count each (map f samples) ≡ map (map f) (cut_rows count each samples)
+pub cut_changed : (f : ℕ → ℕ) (count each : ℕ) (samples : List ℕ) → cut_rows count each (map f samples) ≡ map (map f) (cut_rows count each samples)
 cut_changed f zero each samples = refl
 cut_changed f (suc count) each samples =
     ap₂ (λ (r : List ℕ) (l : List (List ℕ)). r ∷ l) (take-map f each samples)
@@ -132,13 +127,6 @@ pub changed_rows_within : (s : Shape) (f : ℕ → ℕ) (high count each : ℕ) 
     → AreRowsWithin high (row_lists count each new)
 changed_rows_within s f high count each old new rows cut whole changed are stays =
     subst (AreRowsWithin high) (ap (map (map f)) cut ∙ sym (changed count each whole).1) (changed_within f s.maxval high rows stays (rows_within s rows are))
-
--- they answer the rows that they were
-pub changed_answer : (tool : Tool) (s : Shape) (f : ℕ → ℕ) (y count each : ℕ) (old new : RowVec) (rows made : List (List ℕ)) → rows ≡ row_lists count each old
-    → AreRows count each old → IsEachChanged f old new → made ≡ row_lists count each new → ((k : ℕ) (row : List ℕ) → row_answer tool s k row ≡ map f row ∷ [])
-    → rows_answer tool s y rows ≡ made
-changed_answer tool s f y count each old new rows made is whole changed made_is answers =
-    each_answered tool s (map f) y rows (λ k row from to. answers k row) ∙ ap (map (map f)) is ∙ sym (changed count each whole).1 ∙ sym made_is
 
 -- ---- rows in the other order
 

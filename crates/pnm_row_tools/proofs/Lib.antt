@@ -1,8 +1,9 @@
 pub mod FlipRowLaws
-pub mod DepthRowLaws
+pub mod SampleToolLaws
 pub mod ValueLaws
 pub mod EachRowLaws
 pub mod CutRowsLaws
 pub mod FlipRowsLaws
 pub mod ChannelRowsLaws
 pub mod HeldRowsLaws
+pub mod ChangeLaws

@@ -1,5 +1,5 @@
 -- Values of samples that are changed in place.
-use Rattle.std.proofs.Common.{◌≡◌, ℕ, ◌+◌, ◌<◌, ◌≤◌, List, [], ◌∷◌, ◌++◌, length, take, drop, map, get_or, set, sym, ap, ap₂, ◌∙◌, arith}
+use Rattle.std.proofs.Common.{◌≡◌, ℕ, ◌+◌, ◌<◌, ◌≤◌, List, [], ◌∷◌, ◌++◌, length, take, drop, map, get_or, set, All, sym, ap, ap₂, subst, ◌∙◌, arith}
 use Rattle.std.proofs.lemmas.List.{take_all, take_more, take_more_set, map_push, drop_more, drop-set-lt, get_or-drop}
 
 -- the values of the samples that have passed are computed, and the others are as they were
@@ -12,6 +12,12 @@ pub unchanged_at : {X : Type 0} (i : ℕ) (old new : List X) (d : X) → drop i 
 unchanged_at i old new d rest = ap (λ (n : ℕ). get_or new n d) (omega arith) ∙ sym (get_or-drop i new 0 d) ∙ ap (λ l. get_or l 0 d) rest ∙ get_or-drop i old 0 d
     ∙ ap (λ (n : ℕ). get_or old n d) (omega arith)
 
+-- what is read of it is not above a number that no sample was above
+pub read_within : {X : Type 0} (value : X → ℕ) (most n i : ℕ) (old new : List X) (d : X) → drop i new ≡ drop i old → All (λ x. value x ≤ most) old
+    → i < length old → n ≡ value (get_or new i d) → n ≤ most
+read_within value most n i old new d rest within lt is =
+    subst (λ (k : ℕ). k ≤ most) (sym (is ∙ ap value (unchanged_at i old new d rest))) (within i d lt)
+
 -- one more has passed
 pub changed_more : {X : Type 0} (value computed : X → ℕ) (i : ℕ) (old new : List X) (x d : X) → i < length new → length new ≡ length old
     → value x ≡ computed (get_or new i d) → Changed value computed i old new → Changed value computed (i + 1) old (set new i x)
@@ -23,8 +29,3 @@ changed_more value computed i old new x d lt size is h =
           ∙ sym (map_push computed (take i old) (get_or old i d)) ∙ ap (map computed) (sym (take_more old i d (omega arith)));
       rest = drop-set-lt (i + 1) new i x (omega arith) ∙ ap (drop 1) both;
     }
-
--- all have passed
-pub changed_all : {X : Type 0} (value computed : X → ℕ) (i : ℕ) (old new : List X) → length new ≤ i → length new ≡ length old → Changed value computed i old new
-    → map value new ≡ map computed old
-changed_all value computed i old new le size h = ap (map value) (sym (take_all i new le)) ∙ h.done ∙ ap (map computed) (take_all i old (omega arith))

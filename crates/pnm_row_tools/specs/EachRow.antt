@@ -36,3 +36,9 @@ HoldsRows count each held rows = AreRows count each held × (row_lists count eac
 abbrev pub IsEachChanged : (ℕ → ℕ) → RowVec → RowVec → Type 0
 IsEachChanged f old new =
     (count each : ℕ) → AreRows count each old → HoldsRows count each new (map (map f) (row_lists count each old))
+
+-- these samples are held, those of the first row first
+abbrev pub HoldsSamples : List ℕ → RowVec → Type 0
+HoldsSamples samples (Bits rows) = ⊥
+HoldsSamples samples (Bytes bytes) = bytes.items ≡ samples
+HoldsSamples samples (Words words) = words.items ≡ samples

@@ -1,19 +1,17 @@
 -- What tools keep while the rows of an image come, and the rows of the result that they still give.
-use Rattle.std.specs.Prelude.{◌≡◌, ℕ, ◌+◌, ◌*◌, ◌≤◌, false, List, [], map, reverse, All, Option, Some, None}
+use Rattle.std.specs.Prelude.{◌≡◌, ℕ, ◌+◌, ◌*◌, false, List, [], map, reverse, All, Option, Some, None}
 use Rattle.std.specs.List.{flat_map, range_with_len}
 use Rattle.pnm_image.specs.declared.shape.Shape.{Shape}
 use Rattle.pnm_image.specs.Heads.{IsWithinLimits}
 use Rattle.pnm_image.specs.Places.{IsRowOf}
 use Rattle.pnm_row_tools.specs.declared.cut.Cutter.{Cutter}
 use Rattle.pnm_row_tools.specs.declared.cut.Parts.{Parts}
-use Rattle.pnm_row_tools.specs.declared.depth.Rescaler.{Rescaler}
-use Rattle.pnm_row_tools.specs.declared.depth.Table.{Table}
-use Rattle.pnm_row_tools.specs.declared.depth.Table.TheVariants.{Absent, Bytes, Words}
+use Rattle.pnm_row_tools.specs.declared.samplewise.Table.{Table}
+use Rattle.pnm_row_tools.specs.declared.samplewise.Table.TheVariants.{Absent, Words}
 use Rattle.pnm_tools.specs.declared.cut.CutBox.{CutBox}
 use Rattle.pnm_tools.specs.declared.cut.Span.{Span}
 use Rattle.pnm_tools.specs.declared.flip.FlipWay.{FlipWay}
 use Rattle.pnm_tools.specs.Cut.{columns_kept, rows_kept, span_count}
-use Rattle.pnm_tools.specs.Depth.{nearest_sample}
 use Rattle.pnm_tools.specs.Flip.{ReversesRows, turn_of, moves_rows, turned_row}
 
 -- ---- pamcut: the columns and the rows that are kept of an image
@@ -35,19 +33,12 @@ parts_kept columns among depth row_length = record {
   kept = span_count columns * depth;
 }
 
--- ---- pamdepth: a table of the rescaled samples, or none, where each is computed
+-- ---- tools that change each sample by itself: a table of them, or none, where each is computed
 
-abbrev pub maxval_of : Rescaler → ℕ
-maxval_of r = r.maxval
-
--- what becomes of each sample from 0 to the old maxval
-abbrev pub IsTable : ℕ → ℕ → Table → Type 0
-IsTable new old Absent = Unit {0}
-IsTable new old (Bytes bytes) = (old ≤ 255) × (bytes.items ≡ map (nearest_sample new old) (range_with_len 0 (old + 1)))
-IsTable new old (Words words) = words.items ≡ map (nearest_sample new old) (range_with_len 0 (old + 1))
-
-abbrev pub HasTable : Rescaler → Shape → Type 0
-HasTable r s = IsTable r.maxval s.maxval r.table
+-- what becomes of each sample from 0 to the maxval
+abbrev pub IsTable : (ℕ → ℕ) → ℕ → Table → Type 0
+IsTable changed maxval Absent = Unit {0}
+IsTable changed maxval (Words words) = words.items ≡ map changed (range_with_len 0 (maxval + 1))
 
 -- ---- pamchannel
 

@@ -3,12 +3,15 @@
 #![tactic(auto)]
 
 mod by_row;
+mod change;
 mod channel;
 mod cut;
 mod depth;
 mod flip;
 mod invert;
 mod row_tool;
+mod sample_tool;
+mod samplewise;
 mod widths;
 
 pub use by_row::ByRow;
@@ -18,3 +21,5 @@ pub use depth::{Rescaler, rescaled_head};
 pub use flip::{RowFlipper, RowReverser};
 pub use invert::Inverter;
 pub use row_tool::RowTool;
+pub use sample_tool::SampleTool;
+pub use samplewise::{Samplewise, Table};

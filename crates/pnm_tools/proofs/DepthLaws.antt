@@ -1,42 +1,19 @@
--- The rescaled image is what the rows of an image, each rescaled, are the messages of.
-use Rattle.std.proofs.Common.{◌≡◌, ℕ, ◌+◌, ◌*◌, ◌/◌, ◌<◌, ◌≤◌, map, Ok, refl, sym, ap, ◌∙◌, arith, append-nil}
+-- The rescaled image: each sample is changed by itself, to the nearest one.
+use Rattle.std.proofs.Common.{◌≡◌, ℕ, ◌+◌, ◌*◌, ◌/◌, ◌<◌, ◌≤◌, Bool, true, false, not, List, [], refl, ap, arith, mul-le-mul}
+use Rattle.std.proofs.Math.Nat.{lt_of_mul-lt-mul_left}
+use Rattle.std.specs.Prelude.{codes, All, slice_index_or, ◌≢◌, ◌==◌, if◌then◌else◌}
+use Rattle.std.specs.Str.{bytes_eq}
+use Rattle.std.specs.List.{list_all}
+use Rattle.std.proofs.lemmas.Bool.{eqb-true, eqb-false, not-true}
+use Rattle.std.proofs.lemmas.List.Sums.{AllPass-from_list_all}
+use Rattle.pnm_image.specs.declared.shape.Kind.{Kind}
+use Rattle.pnm_image.specs.declared.shape.Kind.TheVariants.{Bit, Gray, Color, Pam}
 use Rattle.pnm_image.specs.declared.shape.Shape.{Shape}
-use Rattle.pnm_image.specs.Heads.{HeadValue}
-use Rattle.pnm_image.specs.Images.{Image, IsImage, rows_of}
+use Rattle.pnm_image.specs.Heads.{HeadValue, IsHead, IsTupleType, Suits}
 use Rattle.pnm_tools.specs.declared.tool.Tool.TheVariants.{Depth}
-use Rattle.pnm_tools.specs.Formulas.{image_by}
-use Rattle.pnm_tools.specs.Depth.{nearest_sample, kind_at, type_at, rescaled_sample, rescaled_row}
-use Rattle.pnm_tools.specs.Tools.{result_head, result_sample}
-use Rattle.pnm_tools.proofs.FormulaLaws.{samplewise_rows}
-use Rattle.pnm_tools.proofs.ImageLaws.{answers_to_rows, each_row_answered, result_by_head, answered_by_rows}
-use Rattle.pnm_tools.proofs.AnsweringLaws.{AnswersImages}
-use Rattle.pnm_tools.proofs.RowLaws.{row_of_depth}
-
--- the head of the rescaled image
-abbrev pub new_head : ℕ → HeadValue → HeadValue
-new_head new head = record { shape = record head.shape { kind = kind_at new head.shape.kind; maxval = new }; tuple_type = type_at new head.tuple_type }
-
-pub new_head_is : (new : ℕ) (head result : HeadValue) → result_head (Depth new) head ≡ Ok result → result ≡ new_head new head
-unfolding result_head
-new_head_is new head result e = cc
-
--- the rows of the rescaled image
-rescaled_rows : (new : ℕ) (i : Image) (result : HeadValue) → IsImage i → result ≡ new_head new i.head → rows_of (image_by result (result_sample (Depth new) i))
-    ≡ map (rescaled_row new i.head.shape) (rows_of i)
-unfolding result_sample
-rescaled_rows new i result is same =
-    ap (λ (h : HeadValue). rows_of (image_by h (rescaled_sample new i))) same
-    ∙ samplewise_rows (nearest_sample new i.head.shape.maxval) i (new_head new i.head) is (record { width = refl; height = refl; depth = refl })
-
-pub depth_answers_images : (maxval : ℕ) → AnswersImages (Depth maxval)
-depth_answers_images maxval i j is e =
-    let s : Shape = i.head.shape in
-    let same : j.head ≡ new_head maxval i.head = new_head_is maxval i.head j.head (result_by_head (Depth maxval) i j e).head in
-    answered_by_rows (Depth maxval) i j e (
-    append-nil (answers_to_rows (Depth maxval) s 0 (rows_of i))
-    ∙ each_row_answered (Depth maxval) s (rescaled_row maxval s) (λ y row. row_of_depth maxval s y row) 0 (rows_of i)
-    ∙ sym (rescaled_rows maxval i j.head is same)
-    )
+use Rattle.pnm_tools.specs.Depth.{nearest_sample, gray_kind, gray_type, rescaled_by}
+use Rattle.pnm_tools.specs.Samplewise.{changed_head}
+use Rattle.pnm_tools.proofs.SamplewiseLaws.{IsSamplewise}
 
 -- the whole part of a quotient
 whole_part : (share each q : ℕ) → 0 < each → q ≡ share / each → (each * q ≤ share) × (share < each * q + each)
@@ -49,3 +26,78 @@ whole_part share each q some e =
 pub nearest_sample_is_nearest : (new old sample q : ℕ) → 0 < old → q ≡ nearest_sample new old sample → (2 * old * q ≤ 2 * sample * new + old)
     × (2 * sample * new + old < 2 * old * q + 2 * old)
 nearest_sample_is_nearest new old sample q some e = whole_part (2 * sample * new + old) (2 * old) q (omega arith) e
+
+-- the nearest sample is in the new range
+pub nearest_in_range : (new old sample : ℕ) → 0 < old → sample ≤ old → nearest_sample new old sample ≤ new
+nearest_in_range new old sample some range =
+    let q : ℕ = nearest_sample new old sample in
+    let near = nearest_sample_is_nearest new old sample q some refl in
+    let share : 2 * sample * new ≤ 2 * old * new = mul-le-mul {n₁ = 2 * sample} {m₁ = new} {n₂ = 2 * old} {m₂ = new} (omega arith) (omega arith) in
+    let next : 2 * old * (new + 1) ≡ 2 * old * new + 2 * old = omega arith in
+    let below : q < new + 1 = lt_of_mul-lt-mul_left (2 * old) (omega (arith, near.0, share, next)) in
+    omega arith
+
+one_line : (text : List ℕ) → list_all (λ b. not (b == 10)) text ≡ true → All (λ b. b ≢ 10) text
+one_line text e k d lt =
+    eqb-false (slice_index_or text k d) 10 (not-true (slice_index_or text k d == 10) (AllPass-from_list_all (λ b. not (b == 10)) text e k d lt))
+
+gray_is_type : IsTupleType (codes "GRAYSCALE")
+gray_is_type = record { short = omega arith; one_line = one_line (codes "GRAYSCALE") refl; first = λ some. refl; last = λ some. refl }
+
+gray_alpha_is_type : IsTupleType (codes "GRAYSCALE_ALPHA")
+gray_alpha_is_type = record { short = omega arith; one_line = one_line (codes "GRAYSCALE_ALPHA") refl; first = λ some. refl; last = λ some. refl }
+
+type_by : (plain alpha : Bool) (text : List ℕ) → IsTupleType text
+    → IsTupleType (if plain then codes "GRAYSCALE" else if alpha then codes "GRAYSCALE_ALPHA" else text)
+type_by true alpha text sound = gray_is_type
+type_by false true text sound = gray_alpha_is_type
+type_by false false text sound = sound
+
+gray_type_is : (text : List ℕ) → IsTupleType text → IsTupleType (gray_type text)
+gray_type_is text sound = type_by (bytes_eq text (codes "BLACKANDWHITE")) (bytes_eq text (codes "BLACKANDWHITE_ALPHA")) text sound
+
+no_gray_type : (text : List ℕ) → text ≡ [] → gray_type text ≡ []
+no_gray_type text none = ap gray_type none
+
+-- the kind and the tuple type suit the new maxval
+gray_suits : (kind : Kind) (depth maxval new : ℕ) (text : List ℕ) → Suits kind depth maxval text → Suits (gray_kind kind) depth new (gray_type text)
+gray_suits Bit depth maxval new text suits = (suits.0, no_gray_type text suits.2)
+gray_suits Gray depth maxval new text suits = (suits.0, no_gray_type text suits.1)
+gray_suits Color depth maxval new text suits = (suits.0, no_gray_type text suits.1)
+gray_suits Pam depth maxval new text suits = gray_type_is text suits
+
+same_suits : (kind : Kind) (depth maxval new : ℕ) (text : List ℕ) → new ≡ 1 → Suits kind depth maxval text → Suits kind depth new text
+same_suits Bit depth maxval new text one suits = (suits.0, one, suits.2)
+same_suits Gray depth maxval new text one suits = suits
+same_suits Color depth maxval new text one suits = suits
+same_suits Pam depth maxval new text one suits = suits
+
+suits_by : (one : Bool) (kind : Kind) (depth maxval new : ℕ) (text : List ℕ) → (new == 1) ≡ one → Suits kind depth maxval text
+    → Suits (if one then kind else gray_kind kind) depth new (if one then text else gray_type text)
+suits_by true kind depth maxval new text is suits = same_suits kind depth maxval new text (eqb-true new 1 is) suits
+suits_by false kind depth maxval new text is suits = gray_suits kind depth maxval new text suits
+
+rescaled_head_is : (new : ℕ) (head : HeadValue) → 1 ≤ new → new ≤ 65535 → IsHead head → IsHead (changed_head (rescaled_by new) head)
+rescaled_head_is new head low high sound =
+    let s : Shape = head.shape in
+    let limits = sound.limits in
+    record {
+      limits = record {
+        width_low = limits.width_low;
+        width_high = limits.width_high;
+        height_high = limits.height_high;
+        depth_low = limits.depth_low;
+        depth_high = limits.depth_high;
+        row_high = limits.row_high;
+        maxval_low = omega arith;
+        maxval_high = high;
+      };
+      suits = suits_by (new == 1) s.kind s.depth s.maxval new head.tuple_type refl sound.suits;
+    }
+
+pub depth_is_samplewise : (new : ℕ) → IsSamplewise (Depth new) (rescaled_by new)
+depth_is_samplewise new = record {
+  means = refl;
+  head = λ h lawful is. rescaled_head_is new h lawful.0 lawful.1 is;
+  within = λ maxval sample lawful some le. nearest_in_range new maxval sample some le;
+}

@@ -11,26 +11,19 @@ use Rattle.pnm_tools.specs.declared.fault.ToolFault.{ToolFault}
 use Rattle.pnm_tools.specs.declared.fault.ToolFault.TheVariants.{Memory, TooLarge, ChannelOutside}
 use Rattle.pnm_tools.specs.declared.cut.CutBox.{CutBox}
 use Rattle.pnm_tools.specs.declared.tool.Tool.{Tool}
-use Rattle.pnm_tools.specs.declared.tool.Tool.TheVariants.{Invert, Cut, Depth, Channel}
+use Rattle.pnm_tools.specs.declared.tool.Tool.TheVariants.{Cut, Channel}
 use Rattle.pnm_tools.specs.Channel.{Picks, picked_head, picked_head_value}
 use Rattle.pnm_tools.specs.Cut.{cut_head}
-use Rattle.pnm_tools.specs.Depth.{kind_at, type_at, rescaled_head}
 use Rattle.pnm_tools.specs.Limits.{within_limits}
+use Rattle.pnm_tools.specs.Samplewise.{SampleRule, changed_head}
 use Rattle.pnm_tools.specs.Tools.{TakesHead, result_head}
+use Rattle.pnm_tools.proofs.SamplewiseLaws.{IsSamplewise, head_of_rule}
 use Rattle.pnm_tools.proofs.PickLaws.{all_below}
 use Rattle.pnm_image.specs.declared.limits.TheConstants.{MAX_DEPTH, MAX_ROW_LENGTH, MAX_SIDE}
-
-pub head_of_invert : (head : HeadValue) → result_head Invert head ≡ Ok head
-unfolding result_head
-head_of_invert head = refl
 
 pub head_of_cut : (box : CutBox) (head : HeadValue) → result_head (Cut box) head ≡ cut_head box head
 unfolding result_head
 head_of_cut box head = refl
-
-pub head_of_depth : (maxval : ℕ) (head : HeadValue) → result_head (Depth maxval) head ≡ rescaled_head maxval head
-unfolding result_head
-head_of_depth maxval head = refl
 
 pub head_of_channel : (planes : Picks) (head : HeadValue) → result_head (Channel planes) head ≡ picked_head planes head
 unfolding result_head
@@ -70,17 +63,19 @@ fault_so tool head x (Err fault) e (inr h) = inr (h.0, (x, e ∙ small_head x h.
 
 -- ---- heads that are made
 
--- the head of a rescaled image, from its parts
-pub rescaled_head_made : (maxval : ℕ) (head : HeadValue) (s : Shape) (kind : Kind) (t old : List ℕ) → s ≡ head.shape → kind ≡ kind_at maxval s.kind
-    → t ≡ type_at maxval old → old ≡ head.tuple_type
-    → IsWithinLimits head.shape → result_head (Depth maxval) head ≡ within_limits (head_value (record s { kind = kind; maxval = maxval }) t)
-rescaled_head_made maxval head s kind t old shape kinds types olds sound =
+-- the head of an image each sample of which is changed by itself, from its parts
+pub changed_head_made : {tool : Tool} {rule : SampleRule} → IsSamplewise tool rule → (head : HeadValue) (s : Shape) (kind : Kind) (maxval : ℕ) (t old : List ℕ)
+    → s ≡ head.shape → kind ≡ rule.kind s.kind → maxval ≡ rule.maxval s.maxval → t ≡ rule.tuple_type old → old ≡ head.tuple_type
+    → IsWithinLimits head.shape → result_head tool head ≡ within_limits (head_value (record s { kind = kind; maxval = maxval }) t)
+changed_head_made {rule = rule} is head s kind maxval t old shape kinds most types olds sound =
     let x : HeadValue = head_value (record s { kind = kind; maxval = maxval }) t in
-    let whole : x ≡ head_value (record head.shape { kind = kind_at maxval head.shape.kind; maxval = maxval }) (type_at maxval head.tuple_type) =
+    let whole : x ≡ changed_head rule head =
     ap (λ (k : Kind). head_value (record s { kind = k; maxval = maxval }) t) kinds
-    ∙ ap (λ (z : Shape). head_value (record z { kind = kind_at maxval z.kind; maxval = maxval }) t) shape
-    ∙ ap (head_value (record head.shape { kind = kind_at maxval head.shape.kind; maxval = maxval })) (types ∙ ap (type_at maxval) olds) in
-    head_of_depth maxval head ∙ ap (λ (h : HeadValue). Ok h) (sym whole) ∙ sym (small_head x (not_too_large s (subst IsWithinLimits (sym shape) sound)))
+    ∙ ap (λ (n : ℕ). head_value (record s { kind = rule.kind s.kind; maxval = n }) t) most
+    ∙ ap (λ (z : Shape). head_value (record z { kind = rule.kind z.kind; maxval = rule.maxval z.maxval }) t) shape
+    ∙ ap (head_value (changed_head rule head).shape) (types ∙ ap rule.tuple_type olds) in
+    head_of_rule is head ∙ ap (λ (h : HeadValue). Ok h) (sym whole)
+    ∙ sym (small_head x (not_too_large s (subst IsWithinLimits (sym shape) sound)))
 
 -- the head of planes, where it was seen whether all are there
 abbrev planes_by : Picks → HeadValue → Bool → Result HeadValue ToolFault

@@ -7,6 +7,7 @@ pub mod HeadFaultLaws
 pub mod RowLaws
 pub mod PickLaws
 pub mod CutRowLaws
+pub mod SamplewiseLaws
 pub mod InvertLaws
 pub mod AtLaws
 pub mod InFullLaws

@@ -23,18 +23,20 @@ use Rattle.pnm_tools.specs.declared.tool.Tool.TheVariants.{Invert, Cut, Depth, C
 use Rattle.pnm_tools.specs.Answering.{answers_from}
 use Rattle.pnm_tools.specs.Channel.{Picks, picked_row, picked_head_value}
 use Rattle.pnm_tools.specs.Dealing.{dealt_height, dealt_head, dealt_image, dealt_result, dealt_rows, IsRowWise, column}
-use Rattle.pnm_tools.specs.Depth.{rescaled_row}
 use Rattle.pnm_tools.specs.Enlarge.{enlarged_head_value, enlarged_row}
 use Rattle.pnm_tools.specs.Flip.{turn, turn_of, moves_rows, moved_rows, turned_head, turned_row}
 use Rattle.pnm_tools.specs.Formulas.{image_by}
-use Rattle.pnm_tools.specs.Invert.{inverted_row}
 use Rattle.pnm_tools.specs.Limits.{within_limits}
+use Rattle.pnm_tools.specs.Samplewise.{SampleRule}
 use Rattle.pnm_tools.specs.Tools.{IsLawfulTool, is_row_wise, applied, result_head, result_sample, row_answer, end_answer}
+use Rattle.pnm_tools.proofs.DepthLaws.{depth_is_samplewise}
+use Rattle.pnm_tools.proofs.InvertLaws.{invert_is_samplewise}
+use Rattle.pnm_tools.proofs.SamplewiseLaws.{IsSamplewise, head_of_rule, no_end_of_rule, row_of_rule}
 use Rattle.pnm_tools.proofs.DealingLaws.{dealt_height_within, dealt_image_is_image, rows_of-dealt_image, dealt_rows-map}
 use Rattle.pnm_tools.proofs.FormulaLaws.{length-image_by}
 use Rattle.pnm_tools.proofs.HeadFaultLaws.{head_is_refused_by_name, no_rows_refused}
 use Rattle.pnm_tools.proofs.ImageLaws.{result_by_head, answers_to_rows, each_row_answered, rows_answered}
-use Rattle.pnm_tools.proofs.RowLaws.{row_of_invert, row_of_depth, row_of_channel, row_of_enlarge}
+use Rattle.pnm_tools.proofs.RowLaws.{row_of_channel, row_of_enlarge}
 use Rattle.pnm_tools.proofs.ToolLaws.{tool_answers_images}
 use Rattle.pnm_tools.proofs.TurnLaws.{row_stays}
 
@@ -162,24 +164,14 @@ either_dealt false lane lanes r r' fault same = refl
 
 -- ---- tool by tool
 
-invert_by_rows : AnswersRowByRow Invert
-unfolding result_head
-invert_by_rows = record {
-  row = inverted_row;
-  one = λ s y r. row_of_invert s y r;
-  none = λ s rows. refl;
+samplewise_by_rows : {tool : Tool} {rule : SampleRule} → IsSamplewise tool rule → AnswersRowByRow tool
+samplewise_by_rows {rule = rule} by = record {
+  row = λ s. map (rule.sample s.maxval);
+  one = row_of_rule by;
+  none = no_end_of_rule by;
   any_height = λ s height r. refl;
-  head = λ lane lanes h is. refl;
-}
-
-depth_by_rows : (maxval : ℕ) → AnswersRowByRow (Depth maxval)
-unfolding result_head
-depth_by_rows maxval = record {
-  row = rescaled_row maxval;
-  one = λ s y r. row_of_depth maxval s y r;
-  none = λ s rows. refl;
-  any_height = λ s height r. refl;
-  head = λ lane lanes h is. refl;
+  head = λ lane lanes h is.
+      head_of_rule by (dealt_head lane lanes h) ∙ ap (dealt_head_result lane lanes) (sym (head_of_rule by h));
 }
 
 channel_by_rows : (planes : Picks) → AnswersRowByRow (Channel planes)
@@ -240,9 +232,9 @@ flip_by_rows way stays = record {
 
 -- a tool that is called row-wise answers row by row
 by_rows : (tool : Tool) → is_row_wise tool ≡ true → AnswersRowByRow tool
-by_rows Invert e = invert_by_rows
+by_rows Invert e = samplewise_by_rows invert_is_samplewise
 by_rows (Cut box) e = absurd cc
-by_rows (Depth maxval) e = depth_by_rows maxval
+by_rows (Depth maxval) e = samplewise_by_rows (depth_is_samplewise maxval)
 by_rows (Channel planes) e = channel_by_rows planes
 by_rows (Enlarge across down) e = subst (λ (n : ℕ). AnswersRowByRow (Enlarge across n)) (sym (eqb-true down 1 e)) (enlarge_by_rows across)
 by_rows (Flip way) e = flip_by_rows way (not-true (moves_rows (turn_of way)) e)

@@ -1,6 +1,7 @@
 pub mod Formulas
 pub mod Limits
 pub mod Meaning
+pub mod Samplewise
 pub mod Invert
 pub mod Cut
 pub mod Depth
@@ -12,6 +13,7 @@ pub mod Tile
 pub mod Tools
 pub mod Answers
 pub mod Answering
+pub mod SampleTools
 pub mod Chains
 pub mod ChainAnswers
 pub mod Laws
