@@ -10,14 +10,12 @@ PLAIN = {"Bit": "P1", "Gray": "P2", "Color": "P3"}
 
 def lines_of(words):
     """Words in lines of at most 70 characters, each in the line of the one before where that has room for it."""
-    lines = [""]
-    for word in words:
-        longer = f"{lines[-1]} {word}" if lines[-1] else word
-        if len(longer) > 70:
-            lines.append(word)
-        else:
-            lines[-1] = longer
-    return "\n".join(lines) + "\n"
+    text, lines, start = " ".join(words), [], 0
+    while len(text) - start > 70:
+        end = text.rindex(" ", start, start + 71)
+        lines.append(text[start:end])
+        start = end + 1
+    return "\n".join([*lines, text[start:]]) + "\n"
 
 
 def header(form, head):
