@@ -75,13 +75,14 @@ gate:
 lint:
 	python3 scripts/lint.py
 
-# lint, and the stored cases, the stored commands, the helpers, the pages' examples and pictures, and whether functions
-# have changed that the model restates: in seconds, and with what is installed
+# lint, and the stored cases, the stored commands, rows of all sizes, the helpers, the pages' examples and pictures, and
+# whether functions have changed that the model restates: in a minute, and with what is installed
 BUILT ?= bin/pnmpipe
 scripts: lint
 	python3 scripts/test_lint.py
 	python3 scripts/test_cases.py
 	python3 scripts/test_commands.py --program $(BUILT)
+	python3 scripts/test_rows.py --program $(BUILT)
 	python3 scripts/test_translate.py --program $(BUILT)
 	python3 scripts/test_helpers.py --program $(BUILT)
 	python3 scripts/test_files.py --program $(BUILT)
@@ -237,7 +238,7 @@ help:
 	@echo "make soak SECONDS=n  runs random chains over random streams for n seconds, in one thread and over threads"
 	@echo "make soak-library    runs 100,000 random cases by the C library and by the program, and compares"
 	@echo "make lint            checks what is written: the layout, lengths, what documents, pages and completions claim, and whether scripts can be read"
-	@echo "make scripts         does what make lint does, and runs the tests of the stored commands, the helpers and the pages, with the program that make has left"
+	@echo "make scripts         does what make lint does, and runs the tests of the stored commands, of rows of all sizes, the helpers and the pages, with the program that make has left"
 	@echo "make model           searches the model of how threads wait, for small sizes, with spin and gcc; ALL=1: for bigger ones too"
 	@echo "make wheel           leaves a wheel of the Python module, with the C library that make library has left, in dist/"
 	@echo "make install         installs the program that make has left, and the C library that make library has left, below PREFIX=/usr/local; make uninstall takes it away"

@@ -4,6 +4,8 @@ some lines are worked out, and what is stored of each is changed: a number is tu
 exchanged, another fault or end is named, a byte or a digit of a CRC-32 is another, the last word is missing, or one
 more is there. `make scripts` runs it."""
 
+import itertools
+import random
 import re
 import unittest
 from array import array
@@ -12,7 +14,11 @@ from collections import Counter
 import cases
 import judge_formats
 import judge_tools
+import row_cases
+import slow_rasters
+import slow_writer
 from case_text import Apart, OneOf, allows, handed_in, numbers_in
+from slow_reader import Fault, answers
 from slow_tools import Work, written_tool
 
 FAULTS = set(" ".join([*judge_formats.FAULTS.values(), *judge_tools.FAULTS.values()]).split())
@@ -270,6 +276,55 @@ class Formulas(unittest.TestCase):
                     for y in range(height)
                 ]
                 self.assertEqual([list(row) for row in made], wanted)
+
+
+class Rasters(unittest.TestCase):
+    """What slow_rasters.py works out of many bytes at once is what slow_tools.py works out of each sample. The texts of
+    row_cases.py have the images that stand beside them."""
+
+    HEADS = [("Bit", 1, 1), ("Pam", 2, 1), ("Gray", 1, 100), ("Color", 3, 255), ("Pam", 4, 9), ("Gray", 1, 65_535)]
+    HEADS += [("Color", 3, 1_000)]
+    SIZES = [(1, 1), (3, 4), (9, 3), (2, 20), (8, 8), (17, 5)]
+
+    TOOLS = [*Formulas.SAMPLES, "cut _ _ 1 _ _ _", "cut _ _ _ -2 _ _", "cut 1 -1 _ _ _ _", "depth 255", "depth 65535"]
+    TOOLS += ["planes 0 ()", "enlarge 1 3", "enlarge 3 1", "enlarge 17 17", "tile 40 1", "tile 1 40"]
+
+    def test_tools(self):
+        numbers = random.Random(1)
+        for (kind, depth, maxval), (width, height) in itertools.product(self.HEADS, self.SIZES):
+            rows = [array("H", numbers.choices(range(maxval + 1), k=width * depth)) for _ in range(height)]
+            head = (kind, width, height, depth, maxval, b"A" if kind == "Pam" else b"")
+            for written, count in itertools.product(self.TOOLS, {height, height // 2}):
+                with self.subTest(written=written, head=head, count=count):
+                    self.is_same(written_tool(written), head, rows[:count])
+
+    def is_same(self, tool, head, rows):
+        samples = b"".join(slow_writer.row_bytes("raw", (None, *head[1:]), row) for row in rows)
+        image = slow_rasters.Image(head, samples)
+        try:
+            work = Work(tool, head)
+        except Fault as fault:
+            self.assertEqual(slow_rasters.answer([tool], [image]), (b"", f"tool 1: {fault}"))
+            return
+        made = [row for it in rows for row in work.answers(it)]
+        made += work.last_answers() if len(rows) == head[2] else []
+        for form in ("raw", "plain") if work.result[0] != "Pam" else ("raw",):
+            wanted = [slow_writer.header(form, work.result)]
+            wanted += [slow_writer.row_bytes(form, work.result, row) for row in made]
+            self.assertEqual(slow_rasters.answer([tool], [image], None, form), (b"".join(wanted), None))
+
+    def test_streams(self):
+        for name in ("few bits 9", "few words-3 512", "bad words 513", "bad flags-2 16384", "plain bytes 9", "refused"):
+            for case in row_cases.Group(name).cases():
+                wanted = []
+                for image in case.images:
+                    numbers = image.samples if image.sample == 1 else slow_rasters.words_of(image.samples)
+                    each = image.head[1] * image.head[3]
+                    wanted += [image.head, *(list(numbers[at : at + each]) for at in range(0, len(numbers), each))]
+                    wanted.append("ImageEnd")
+                wanted[-1 if case.fault else len(wanted) :] = [case.fault or "StreamEnd"]
+                with self.subTest(name=name, chain=case.chain):
+                    self.assertTrue(answers(case.text) == wanted)
 
 
 class Lines(unittest.TestCase):
