@@ -5,9 +5,10 @@ does that is made of the static library of pnm_c.
 The header, its map and the names of its codes are compared with the sources of pnm_memory and pnm_c, field by field.
 The library is linked, and exports the functions of its header alone. Each stored command of crates/pnmpipe/commands
 that names a run is run through it, in memory and between descriptors, and has to be answered as the program answers it.
-Each allocation is refused in turn; threads make calls at once, on a small stack; a C++ file and the examples are built;
-valgrind, where it is there, finds nothing; and the Python module passes its tests, where pytest is there. `--archive`
-names the static library, and `--program` a program beside which random cases are tried.
+Rows of all sizes go through each tool (test_rows.py). Each allocation is refused in turn; threads make calls at once,
+on a small stack; a C++ file and the examples are built; valgrind, where it is there, finds nothing; and the Python
+module passes its tests, where pytest is there. `--archive` names the static library, and `--program` a program beside
+which random cases are tried.
 """
 
 import argparse
@@ -343,6 +344,11 @@ def faults_of_cases(program, shared):
     yield from ended_well("random cases", [sys.executable, script, *words])
 
 
+def faults_of_rows(shared):
+    script = os.path.join(ROOT, "scripts/test_rows.py")
+    yield from ended_well("rows of all sizes", [sys.executable, script, "--library", shared])
+
+
 def faults_of_threads(built):
     program = built.compile(f"{TESTS}/threads.c", "-pthread")
     many = " | ".join(["pamflip -r90"] * refused.MOST_TOOLS)
@@ -441,6 +447,7 @@ def faults_of_library(folder, program):
     yield from faults_of_heap(built)
     if os.path.exists(program):
         yield from faults_of_cases(program, os.path.join(folder, SHARED))
+    yield from faults_of_rows(os.path.join(folder, SHARED))
     yield from faults_of_threads(built)
     yield from faults_of_valgrind(built, driver)
     yield from faults_of_module(folder)
