@@ -23,7 +23,7 @@ SIZES = [1, 7, 8, 9, 511, 512, 513, 16_384, 16_385, 65_535, 65_536, 65_537]
 SHORT = 520
 
 # the most bytes of all results of a case, and the most rows that lanes get
-MOST_RESULT, MOST_DEALT = 1_500_000, 12_000
+MOST_RESULT, MOST_DEALT = 1_000_000, 12_000
 
 
 class Format(typing.NamedTuple):
@@ -365,10 +365,11 @@ def group_names():
     """All groups."""
     for name, form in FORMATS.items():
         for size in SIZES:
-            kinds = ["few", "pairs"]
+            kinds = ["few"]
+            kinds += ["pairs"] if size not in (65_535, 65_537) else []
             kinds += ["tall"] if size <= MOST_ROW else []
             kinds += ["turned"] if size < 10 or size <= SHORT and form.maxvals[0] == 255 else []
             kinds += ["bad"] if size in (7, 9, 513, MOST_ROW, 65_537) or (name, size) == ("bytes", 1) else []
-            kinds += ["plain"] if form.kind != "Pam" and size in (1, 9, 512, MOST_ROW, 65_537) else []
+            kinds += ["plain"] if form.kind != "Pam" and size in (1, 9, 512, MOST_ROW, 65_536) else []
             yield from (f"{kind} {name} {size}" for kind in kinds)
     yield from ("mixed 1", "mixed 2", "mixed 3", "refused")

@@ -130,7 +130,7 @@ def difference(wanted, came):
         told.append(f"printed {came.printed!r}, wanted {wanted.printed!r}")
     if wanted.written != came.written:
         at = len(os.path.commonprefix([wanted.written, came.written]))
-        told.append(f"{len(came.written)} bytes, wanted {len(wanted.written)}, from byte {at} on others")
+        told.append(f"{len(came.written)} bytes, wanted {len(wanted.written)}, and byte {at} is the first other one")
     return "; ".join(told)
 
 
@@ -162,10 +162,10 @@ def judged(words, name):
             try:
                 came = answer()
             except subprocess.TimeoutExpired:
-                return count, [*told, f"{number}: {called}: it hasn't ended after {LONGEST} seconds"]
+                return count, [*told, f"case {number}: {called}: it hasn't ended after {LONGEST} seconds"]
             found = difference(wanted, came)
             if found:
-                told.append(f"{number}: {called}: {found}")
+                told.append(f"case {number}: {called}: {found}")
                 if words.keep:
                     keep(words.keep, f"{name} {number}", case, wanted, came)
     return count, told
@@ -177,7 +177,7 @@ def judge(words, names):
     with concurrent.futures.ProcessPoolExecutor(os.cpu_count()) as pool:
         for name, (count, told) in zip(names, pool.map(functools.partial(judged, words), names)):
             for line in told[:MOST_TOLD]:
-                print(f"test_rows: {name} {line}", flush=True)
+                print(f"test_rows: {name}, {line}", flush=True)
             if told:
                 more = f"{len(told) - MOST_TOLD} more differ; " if len(told) > MOST_TOLD else ""
                 by = ["--library", words.library] if words.library else ["--program", words.program]
