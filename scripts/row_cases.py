@@ -12,7 +12,7 @@ import typing
 from functools import lru_cache
 
 from chain_text import read_chain
-from slow_rasters import Image, answer, unpacked, words_of, written
+from slow_rasters import Image, answer, unpacked, written
 from slow_reader import MOST_HEADER, Fault
 from slow_reading import MOST_ROW, MOST_ROWS
 from slow_tools import named_tool, result_head

@@ -6,7 +6,6 @@ sources; what wants one that isn't there is passed over, and said. A full disk i
 may mount one.
 """
 
-import argparse
 import os
 import pty
 import random
@@ -16,15 +15,14 @@ import signal
 import subprocess
 import sys
 import time
-import unittest
 
 sys.dont_write_bytecode = True
 
 # pylint: disable=wrong-import-position
 from test_commands import stored_commands
-from test_support import COLOR, GRAY, HELPERS, ROOT, Folder, program_of, run
+from test_support import COLOR, GRAY, HELPERS, ROOT, Program, parser_of, run, run_tests
 
-PROGRAM = LIBRARY = None
+LIBRARY = None
 FILES = f"{HELPERS}/pnmpipe-files"
 NOWHERE = "/nonexistent/libpnmpipe.so.1"
 
@@ -120,23 +118,21 @@ def has_ended(process):
     return False
 
 
-class Runs(Folder):
+class Runs(Program):
     """Runs of pnmpipe-files."""
 
     LIBRARY = NOWHERE
 
     def setUp(self):
         super().setUp()
-        if PROGRAM is None:
-            self.skipTest("there is no program")
         for name, data in [("a b.pgm", GRAY), ("c.ppm", COLOR), ("cut.pgm", GRAY[:-1]), ("-d.pgm", GRAY)]:
             self.write("in/" + name, data)
 
     def program(self):
-        return PROGRAM
+        return self.PROGRAM
 
     def environment(self, program=None):
-        return {**os.environ, "PNMPIPE": program or PROGRAM, "PNMPIPE_LIBRARY": self.LIBRARY}
+        return {**os.environ, "PNMPIPE": program or self.PROGRAM, "PNMPIPE_LIBRARY": self.LIBRARY}
 
     def files(self, *words):
         return run([FILES, *words], cwd=self.folder, env=self.environment(), timeout=60)
@@ -195,7 +191,7 @@ class Files(Runs):
 
     def test_signals(self):
         """A signal ends it and its calls within a second, and leaves no part; --resume goes on."""
-        slow = f"[ ! -c /dev/stdin ] || exec {PROGRAM} \"$@\"\nprintf P5\necho $$ >> calls\nexec sleep 60\n"
+        slow = f"[ ! -c /dev/stdin ] || exec {self.PROGRAM} \"$@\"\nprintf P5\necho $$ >> calls\nexec sleep 60\n"
         self.write("slow", b"#!/bin/sh\n" + slow.encode(), 0o755)
         names = ["in/c.ppm", "in/-d.pgm", "in/a b.pgm"]
         words = [FILES, "--jobs", "2", "--small", "0", "pnminvert", "out", *names]
@@ -290,7 +286,8 @@ class SmallFiles(Files):
 
     def calls(self, version, *words):
         """How often the program is called, where one stands in its place that has this version."""
-        text = f"#!/bin/sh\necho call >> calls\n[ \"$1\" != --version ] || exec echo {version}\nexec {PROGRAM} \"$@\"\n"
+        text = f"#!/bin/sh\necho call >> calls\n[ \"$1\" != --version ] || exec echo {version}\n"
+        text += f"exec {self.PROGRAM} \"$@\"\n"
         self.write("counts", text.encode(), 0o755)
         self.write("calls", b"")
         run([FILES, *words], cwd=self.folder, env=self.environment(self.path("counts")))
@@ -298,7 +295,7 @@ class SmallFiles(Files):
 
     def test_calls(self):
         """The program is called for what isn't small or comes to too much, and for all where its version is another."""
-        version = run([PROGRAM, "--version"]).stdout.decode().strip()
+        version = run([self.PROGRAM, "--version"]).stdout.decode().strip()
         files = ("out", "in/a b.pgm", "in/c.ppm", "in/cut.pgm", "in/-d.pgm")
         self.assertEqual(self.calls(version, "pnminvert", *files), 2)
         self.assertEqual(self.calls("pnmpipe 0", "pnminvert", *files), 6)
@@ -308,7 +305,7 @@ class SmallFiles(Files):
 
     def test_each_fault(self):
         """Each fault that a file may have is told in process as the program tells it."""
-        version = run([PROGRAM, "--version"]).stdout.decode().strip()
+        version = run([self.PROGRAM, "--version"]).stdout.decode().strip()
         for words, given in FAULTS.items():
             names = [self.write(f"in/{at:03}", data) for at, data in enumerate(given.values())]
             calls = self.calls(version, *words, "out", *names)
@@ -428,7 +425,7 @@ def run(chain, data, plain):
 """
 
     def environment(self, program=None):
-        module = self.MODULE.replace(b"VERSION", run([PROGRAM, "--version"]).stdout.split()[1])
+        module = self.MODULE.replace(b"VERSION", run([self.PROGRAM, "--version"]).stdout.split()[1])
         self.write("module/pnmpipe/__init__.py", module)
         return {**super().environment(program), "PYTHONPATH": self.path("module")}
 
@@ -453,7 +450,7 @@ def run(chain, data, plain):
 
     def test_all_die(self):
         """Where each file ends its worker, and the program too, each is told, and the run ends."""
-        dies = f"[ ! -c /dev/stdin ] || exec {PROGRAM} \"$@\"\nkill -9 $PPID\nsleep 9\n"
+        dies = f"[ ! -c /dev/stdin ] || exec {self.PROGRAM} \"$@\"\nkill -9 $PPID\nsleep 9\n"
         self.write("dies", b"#!/bin/sh\n" + dies.encode(), 0o755)
         names = [self.write(f"in/{at}.pgm", GRAY) for at in range(9)]
         words = [FILES, "--jobs", "2", "pnminvert", "out", *names]
@@ -462,22 +459,18 @@ def run(chain, data, plain):
         self.assertEqual(self.log(), [os.fsencode(f"137\t{name}\tstatus -9") for name in names])
 
 
-def use(program, library):
-    """Has the tests use these."""
-    global PROGRAM, LIBRARY
-    PROGRAM, LIBRARY = program, library
+def take(options):
+    global LIBRARY
+    if os.path.exists(options.library):
+        LIBRARY = os.path.abspath(options.library)
+    else:
+        print(f"test_files.py: there is no {options.library}, so tests of files in process are passed over")
 
 
 def main():
-    parser = argparse.ArgumentParser(description=__doc__.split("\n", maxsplit=1)[0])
-    parser.add_argument("--program", default=f"{ROOT}/bin/pnmpipe")
+    parser = parser_of(__doc__)
     parser.add_argument("--library", default=f"{ROOT}/bin/libpnmpipe.so.1")
-    options, tests = parser.parse_known_args()
-    is_there = os.path.exists(options.library)
-    use(program_of(options.program), os.path.abspath(options.library) if is_there else None)
-    if not is_there:
-        print(f"test_files.py: there is no {options.library}, so tests of files in process are passed over")
-    unittest.main(argv=[sys.argv[0], *tests])
+    run_tests(parser, take)
 
 
 if __name__ == "__main__":

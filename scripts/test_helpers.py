@@ -5,7 +5,6 @@ They want python3 and sh alone. The program is named by --program; where it isn'
 The stand-ins are tried over scripts that only tell how they were called.
 """
 
-import argparse
 import os
 import pty
 import random
@@ -21,9 +20,7 @@ import unittest
 sys.dont_write_bytecode = True
 
 # pylint: disable=wrong-import-position
-from test_support import COLOR, GRAY, HELPERS, ROOT, SHIMS, Folder, loaded, program_of, run
-
-PROGRAM = None
+from test_support import COLOR, GRAY, HELPERS, ROOT, SHIMS, Folder, Program, loaded, parser_of, run, run_tests
 
 
 def random_header(numbers):
@@ -92,7 +89,7 @@ class Split(Folder):
 
     def test_headers_as_the_program_reads_them(self):
         """Of random headers those are taken that the program takes, with the same length of the raster."""
-        if PROGRAM is None:
+        if Program.PROGRAM is None:
             self.skipTest("there is no program")
         split, numbers, taken = loaded("pnmpipe-split"), random.Random(7), 0
         for _ in range(300):
@@ -106,10 +103,10 @@ class Split(Folder):
                 header, length = given, 0
             finally:
                 os.close(source)
-            done = run([PROGRAM, "pamcut"], header + bytes(length))
+            done = run([Program.PROGRAM, "pamcut"], header + bytes(length))
             self.assertEqual(done.returncode == 0, length > 0, (given, done.stderr))
             # (a byte less is a cut raster)
-            cut = run([PROGRAM, "pamcut"], header + bytes(max(length - 1, 0)))
+            cut = run([Program.PROGRAM, "pamcut"], header + bytes(max(length - 1, 0)))
             self.assertTrue(length == 0 or cut.stderr == b"pnmpipe: input: RasterCut\n", (given, cut.stderr))
             taken += length > 0
         self.assertTrue(60 < taken < 240, taken)
@@ -227,14 +224,13 @@ class StandIns(Folder):
         self.assertIn(b"pnmpipe does not take -pad", done.stderr)
 
 
-class LongRows(unittest.TestCase):
+class LongRows(Program):
     """Rows that the program writes past its output's buffer, between some that it keeps back."""
 
     WIDTHS = (3, 16_384, 7, 16_383, 16_385, 40_000, 70_000, 1)
 
     def setUp(self):
-        if PROGRAM is None:
-            self.skipTest("there is no program")
+        super().setUp()
         images, inverted = [], []
         for width in self.WIDTHS:
             samples = bytes((at * at + width) % 251 for at in range(3 * width))
@@ -244,16 +240,16 @@ class LongRows(unittest.TestCase):
         self.images, self.inverted = b"".join(images), b"".join(inverted)
 
     def test_all_is_written_in_order(self):
-        ran = subprocess.run([PROGRAM, "pnminvert"], input=self.images, stdout=subprocess.PIPE)
+        ran = subprocess.run([self.PROGRAM, "pnminvert"], input=self.images, stdout=subprocess.PIPE)
         self.assertEqual((ran.returncode, ran.stdout == self.inverted), (0, True))
         with tempfile.TemporaryFile() as file:
-            subprocess.run([PROGRAM, "pnminvert"], input=self.images, stdout=file, check=True)
+            subprocess.run([self.PROGRAM, "pnminvert"], input=self.images, stdout=file, check=True)
             file.seek(0)
             self.assertTrue(file.read() == self.inverted)
 
     def test_failed_write_is_told(self):
         with open("/dev/full", "wb") as full:
-            ran = subprocess.run([PROGRAM, "pnminvert"], input=self.images, stdout=full, stderr=subprocess.PIPE)
+            ran = subprocess.run([self.PROGRAM, "pnminvert"], input=self.images, stdout=full, stderr=subprocess.PIPE)
         self.assertEqual((ran.returncode, ran.stderr), (1, b"pnmpipe: output: WriteFailed\n"))
 
 
@@ -356,14 +352,9 @@ class Completion(unittest.TestCase):
         return shown
 
 
-class Install(Folder):
-    def setUp(self):
-        super().setUp()
-        if PROGRAM is None:
-            self.skipTest("there is no program")
-
+class Install(Program):
     def test_installs(self):
-        target = ["-s", "-C", ROOT, f"BUILT={PROGRAM}", f"DESTDIR={self.folder}/x y", "PREFIX=/usr"]
+        target = ["-s", "-C", ROOT, f"BUILT={self.PROGRAM}", f"DESTDIR={self.folder}/x y", "PREFIX=/usr"]
         self.assertEqual(run(["make", "install", *target]).returncode, 0)
         bin_folder = self.path("x y/usr/bin")
         path = {"PATH": f"{bin_folder}:{os.environ['PATH']}"}
@@ -380,7 +371,7 @@ class Install(Folder):
 
     def test_archive(self):
         """install.sh puts all that the archive of the built program has elsewhere, twice too, and takes it away."""
-        target = ["-s", "-C", ROOT, f"BUILT={PROGRAM}", f"DESTDIR={self.folder}/archive", "PREFIX="]
+        target = ["-s", "-C", ROOT, f"BUILT={self.PROGRAM}", f"DESTDIR={self.folder}/archive", "PREFIX="]
         self.assertEqual(run(["make", "install", *target]).returncode, 0)
         shutil.copy(f"{HELPERS}/install.sh", self.path("archive"))
         words = ["sh", self.path("archive/install.sh")]
@@ -393,14 +384,5 @@ class Install(Folder):
         self.assertEqual(run([*words, "--unknown"]).returncode, 2)
 
 
-def main():
-    global PROGRAM
-    parser = argparse.ArgumentParser(description=__doc__.split("\n")[0])
-    parser.add_argument("--program", default=f"{ROOT}/bin/pnmpipe")
-    options, tests = parser.parse_known_args()
-    PROGRAM = program_of(options.program)
-    unittest.main(argv=[sys.argv[0], *tests])
-
-
 if __name__ == "__main__":
-    main()
+    run_tests(parser_of(__doc__))

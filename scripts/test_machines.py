@@ -4,7 +4,6 @@ for the tests alone. They want GNU parallel, rsync and an sshd; where these aren
 that is said. The program is named by --program.
 """
 
-import argparse
 import os
 import shutil
 import signal
@@ -17,8 +16,8 @@ sys.dont_write_bytecode = True
 
 # pylint: disable=wrong-import-position
 from recipes import Host
-from test_files import FILES, Runs, use
-from test_support import GRAY, ROOT, program_of, run
+from test_files import FILES, Runs
+from test_support import GRAY, parser_of, run, run_tests
 
 WANTED = ("parallel", "rsync", "ssh", "ssh-keygen", "sshd")
 LACKING = [name for name in WANTED if not shutil.which(name, path=f"{os.environ['PATH']}:/usr/sbin:/sbin")]
@@ -93,13 +92,9 @@ class Machines(Runs):
 
 
 def main():
-    parser = argparse.ArgumentParser(description=__doc__.split("\n", maxsplit=1)[0])
-    parser.add_argument("--program", default=f"{ROOT}/bin/pnmpipe")
-    options, tests = parser.parse_known_args()
-    use(program_of(options.program), None)
     if LACKING:
         print(f"test_machines.py: there is no {', '.join(LACKING)}, so nothing is handed to machines")
-    unittest.main(argv=[sys.argv[0], *tests])
+    run_tests(parser_of(__doc__))
 
 
 if __name__ == "__main__":

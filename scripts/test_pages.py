@@ -6,21 +6,16 @@ A pasted one has to end with its status below, and to leave what is named beside
 Quotes in examples are \\(aq, since `'` shows as a typographic one in PDF.
 """
 
-import argparse
 import glob
 import os
 import re
 import shutil
-import subprocess
 import sys
-import unittest
 
 sys.dont_write_bytecode = True
 
 # pylint: disable=wrong-import-position
-from test_support import HELPERS, ROOT, Folder, program_of, run
-
-PROGRAM = None
+from test_support import HELPERS, ROOT, Program, parser_of, run, run_tests
 
 # where an example begins, its status, and the beginning of what each of its files holds
 EXAMPLES = [
@@ -70,16 +65,14 @@ def pasted(lines, source):
     return "\n".join(block) + "\n"
 
 
-class Examples(Folder):
+class Examples(Program):
     def setUp(self):
         super().setUp()
-        if PROGRAM is None:
-            self.skipTest("there is no program")
         if not shutil.which("mandoc") and not shutil.which("groff"):
             self.skipTest("neither mandoc nor groff is installed")
         for name in ("pnmpipe-explain", "pnmpipe-files", "pnmpipe-split", "pnmpipe-translate"):
             self.write(f"bin/{name}", f'#!/bin/sh\nexec {HELPERS}/{name} "$@"\n'.encode(), 0o755)
-        os.symlink(PROGRAM, self.path("bin/pnmpipe"))
+        os.symlink(self.PROGRAM, self.path("bin/pnmpipe"))
         # Netpbm's own, which are no part of what is tried
         self.write("bin/pamtopnm", b"#!/bin/sh\nsed -n 's/WIDTH 2/P5\\n2 1\\n255/p' > h; cat h; printf '\\2\\5'", 0o755)
         self.write("bin/pamcut", b"#!/bin/sh\nexec pnmpipe pamcut\n", 0o755)
@@ -99,7 +92,7 @@ class Examples(Folder):
             self.write(f"{folder}/cut.pgm", b"P5\n9 9\n255\n")
             words = ["make", "-k", *files]
         path = f"{self.path('bin')}:{os.environ['PATH']}"
-        environment = {**os.environ, "PATH": path, "PNMPIPE": PROGRAM}
+        environment = {**os.environ, "PATH": path, "PNMPIPE": self.PROGRAM}
         return run(words, cwd=self.path(folder), env=environment, timeout=60)
 
     def test_pasted(self):
@@ -139,14 +132,5 @@ class Examples(Folder):
                     self.assertLess(len(text), 60, f"{page}: {text}")
 
 
-def main():
-    global PROGRAM
-    parser = argparse.ArgumentParser(description=__doc__.split("\n", maxsplit=1)[0])
-    parser.add_argument("--program", default=f"{ROOT}/bin/pnmpipe")
-    options, tests = parser.parse_known_args()
-    PROGRAM = program_of(options.program)
-    unittest.main(argv=[sys.argv[0], *tests])
-
-
 if __name__ == "__main__":
-    main()
+    run_tests(parser_of(__doc__))

@@ -1,5 +1,6 @@
-"""What the tests of the helpers share: a folder of its own, images, and how a helper is run and loaded."""
+"""What the tests of the helpers share: a folder of its own, the program, images, and how a helper is run and loaded."""
 
+import argparse
 import os
 import shutil
 import subprocess
@@ -52,3 +53,29 @@ def program_of(path):
         return os.path.abspath(path)
     print(f"{os.path.basename(sys.argv[0])}: there is no {path}, so tests that want it are passed over")
     return None
+
+
+class Program(Folder):
+    """A test that wants the program. It is passed over if there is none."""
+
+    PROGRAM = None
+
+    def setUp(self):
+        super().setUp()
+        if self.PROGRAM is None:
+            self.skipTest("there is no program")
+
+
+def parser_of(doc):
+    """What reads the words of a script of tests that has this docstring."""
+    parser = argparse.ArgumentParser(description=doc.split("\n", maxsplit=1)[0])
+    parser.add_argument("--program", default=f"{ROOT}/bin/pnmpipe")
+    return parser
+
+
+def run_tests(parser, take=lambda options: None):
+    """Runs the tests of the script, which takes its own options first. Words that name no option name tests."""
+    options, tests = parser.parse_known_args()
+    Program.PROGRAM = program_of(options.program)
+    take(options)
+    unittest.main(argv=[sys.argv[0], *tests])

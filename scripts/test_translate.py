@@ -5,7 +5,6 @@ The scripts at random (--scripts, from --seed on) are read by `sh -n`, and have 
 they are translated. Netpbm's tools run the ones before where they are installed, else the stand-ins that call pnmpipe.
 """
 
-import argparse
 import os
 import re
 import shutil
@@ -15,13 +14,12 @@ import unittest
 sys.dont_write_bytecode = True
 
 # pylint: disable=wrong-import-position
-from test_support import HELPERS, ROOT, SHIMS, Folder, program_of, run
+from test_support import HELPERS, SHIMS, Folder, Program, parser_of, run, run_tests
 
 import netpbm_words
 import translation
 from random_scripts import random_script
 
-PROGRAM = None
 COUNT, SEED = 24, 0
 
 # pipelines, and what they become
@@ -200,20 +198,18 @@ class StandIns(unittest.TestCase):
         self.assertEqual(set(takes_no_value), set().union(*(flags for _, flags in netpbm_words.OPTIONS.values())))
 
 
-class RandomScripts(Folder):
+class RandomScripts(Program):
     """Scripts before and after they are translated."""
 
     def setUp(self):
         super().setUp()
-        if PROGRAM is None:
-            self.skipTest("there is no program")
         os.mkdir(self.path("bin"))
-        os.symlink(PROGRAM, self.path("bin/pnmpipe"))
+        os.symlink(self.PROGRAM, self.path("bin/pnmpipe"))
         tools = shutil.which("pamcut")
         for name in SHIMS if tools is None else []:
             os.symlink(f"{HELPERS}/netpbm-shim", self.path(f"bin/{name}"))
         path = f"{self.path('bin')}:{os.environ['PATH']}"
-        self.environment = {**os.environ, "PATH": path, "PNMPIPE": PROGRAM, "LC_ALL": "C"}
+        self.environment = {**os.environ, "PATH": path, "PNMPIPE": self.PROGRAM, "LC_ALL": "C"}
 
     def outcome(self, name, shell, script):
         """What a script writes and leaves, in a folder of its own, and its status."""
@@ -238,15 +234,16 @@ class RandomScripts(Folder):
         self.assertGreater(calls, 4 * COUNT)
 
 
+def take(options):
+    global COUNT, SEED
+    COUNT, SEED = options.scripts, options.seed
+
+
 def main():
-    global PROGRAM, COUNT, SEED
-    parser = argparse.ArgumentParser(description=__doc__.split("\n", maxsplit=1)[0])
-    parser.add_argument("--program", default=f"{ROOT}/bin/pnmpipe")
+    parser = parser_of(__doc__)
     parser.add_argument("--scripts", type=int, default=COUNT, metavar="N", help=f"random scripts, {COUNT} by default")
     parser.add_argument("--seed", type=int, default=SEED, metavar="N", help="the first one's number, 0 by default")
-    options, tests = parser.parse_known_args()
-    PROGRAM, COUNT, SEED = program_of(options.program), options.scripts, options.seed
-    unittest.main(argv=[sys.argv[0], *tests])
+    run_tests(parser, take)
 
 
 if __name__ == "__main__":
