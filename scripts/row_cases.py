@@ -14,7 +14,7 @@ from functools import lru_cache
 from chain_text import read_chain
 from slow_rasters import Image, answer, unpacked, written
 from slow_reader import MOST_HEADER, Fault
-from slow_reading import MOST_ROW, MOST_ROWS
+from slow_reading import MOST_ROW, MOST_ROWS, raw_row
 from slow_tools import named_tool, result_head
 from slow_writer import header
 
@@ -33,6 +33,9 @@ class Format(typing.NamedTuple):
     depth: int
     maxvals: list
     tuple_type: bytes = b""
+
+    def head(self, width, height=1, turn=0):
+        return self.kind, width, height, self.depth, self.maxvals[turn % len(self.maxvals)], self.tuple_type
 
 
 FORMATS = {
@@ -65,7 +68,7 @@ class Part(typing.NamedTuple):
 
     def block(self, start=0):
         """How many rows the first block has, where the image starts there; 0 where each goes by itself."""
-        row = len(self.raster) // self.image.head[2]
+        row = raw_row(self.image.head)
         come = MOST_ROWS - (start + len(self.header(start))) % MOST_ROWS
         return come // row if row <= MOST_ROW else 0
 
@@ -116,13 +119,13 @@ def raster_of(numbers, maxval, size):
 
 def part(numbers, form, width, height, turn=0, is_aligned=False):
     """A random image."""
-    maxval = form.maxvals[turn % len(form.maxvals)]
-    head = (form.kind, width, height, form.depth, maxval, form.tuple_type)
+    head = form.head(width, height, turn)
+    size = raw_row(head) * height
     if form.kind == "Bit":
         # (spare bits are random, too)
-        raster = numbers.randbytes((width + 7) // 8 * height)
+        raster = numbers.randbytes(size)
         return Part(Image(head, unpacked(raster, width)), raster, is_aligned)
-    raster = raster_of(numbers, maxval, width * height * form.depth * (1 if maxval < 256 else 2))
+    raster = raster_of(numbers, head[4], size)
     return Part(Image(head, raster), raster, is_aligned)
 
 
@@ -130,13 +133,8 @@ def widths(form, size):
     """How wide images are whose rows have so many bytes, or nearly."""
     if form.kind == "Bit":
         return [8 * size, 8 * size - 3, 8 * size - 7]
-    pixel = form.depth * (1 if form.maxvals[0] < 256 else 2)
+    pixel = raw_row(form.head(1))
     return sorted({max(1, size // pixel), -(-size // pixel)}, reverse=True)
-
-
-def row_bytes(form, width):
-    sample = 1 if form.maxvals[0] < 256 else 2
-    return (width + 7) // 8 if form.kind == "Bit" else width * form.depth * sample
 
 
 def parts_of(numbers, form, size, heights):
@@ -144,7 +142,7 @@ def parts_of(numbers, form, size, heights):
     parts, turns = [], itertools.cycle(widths(form, size))
     for turn, (height, is_aligned) in enumerate(heights):
         width = next(turns)
-        rows = height(MOST_ROWS // row_bytes(form, width)) if callable(height) else height
+        rows = height(MOST_ROWS // raw_row(form.head(width))) if callable(height) else height
         parts.append(part(numbers, form, width, rows, turn, is_aligned))
     return parts
 
@@ -174,8 +172,7 @@ def result_of(tools, head):
             head = result_head(tool, head)
         except Fault:
             return None
-        _, width, height, depth, maxval, _ = head
-        most = max(most, width * height * depth * (1 if maxval < 256 else 2) // (8 if head[0] == "Bit" else 1))
+        most = max(most, raw_row(head) * head[2])
     return head, most
 
 
@@ -202,7 +199,7 @@ def single_tools(parts):
         yield from (f"pamcut -top {edge - 1} -height 2", f"pamcut -top {edge}", f"pamcut -height {edge}")
     yield from ("pamchannel 0 -tupletype X", f"pamchannel {depth - 1} 0")
     yield from (f"pamenlarge {options}" for options in ("2", "3", "-xscale 2", "-yscale 3"))
-    is_short = all(len(it.raster) <= SHORT * it.image.head[2] for it in parts)
+    is_short = all(raw_row(it.image.head) <= SHORT for it in parts)
     yield from ["pamenlarge 17"] if is_short else ["pamenlarge -xscale 17", "pamenlarge -yscale 17"]
     yield from (f"pamflip -{way}" for way in ("lr", "tb", "r180", "xy", "r90", "r270"))
     yield from (f"pnmtile {wide + wide // 2 + 1} {high + 3}", f"pnmtile {least // 2 + 1} {high // 2 + 1}")
@@ -262,7 +259,7 @@ class Group:
     def few(self):
         """Few rows, which come at once, or by one byte, a row less a byte, or three rows and a half a read."""
         parts = parts_of(self.numbers, self.form, self.size, SOME if self.size <= SHORT else FEW)
-        row = len(parts[0].raster) // parts[0].image.head[2]
+        row = raw_row(parts[0].image.head)
         pieces = {row - 1, 7 * row // 2, 1 if row < 10 else row - 1} - {0}
         return self.each(single_tools(parts), parts, [min(it, MOST_ROWS) for it in sorted(pieces)])
 
@@ -299,9 +296,9 @@ class Group:
 
     def bad_at(self, y, good, bad, tools):
         """Streams whose second image is at fault in a row."""
-        row, before = bad.image.row, stream_of([good])
-        front, length = before + bad.header(len(before)), len(bad.raster) // bad.image.head[2]
-        images = [good.image, Image(bad.image.head, bad.image.samples[: y * row])]
+        before, length = stream_of([good]), raw_row(bad.image.head)
+        front = before + bad.header(len(before))
+        images = [good.image, Image(bad.image.head, bad.image.samples[: y * bad.image.row])]
         spoiled = self.spoiled(bad, y * length, length)
         ends = [(bad.raster[: y * length + length - 1], "RasterCut")]
         ends += [(spoiled + before, "SampleAboveMaxval")] if spoiled else []

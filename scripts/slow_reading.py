@@ -12,6 +12,12 @@ STRAIGHT = 16_384
 MOST_ROW, MOST_ROWS = 16_384, 65_536
 
 
+def raw_row(head):
+    """The bytes of a row of a raw image."""
+    kind, width, _, depth, maxval, _ = head
+    return (width + 7) // 8 if kind == "Bit" else width * depth * (1 if maxval < 256 else 2)
+
+
 class Known:
     """How many answers are known by each front of a text."""
 
@@ -60,11 +66,9 @@ class Reading:
 
     def begin(self, head, number):
         """Begins an image, whose header ends where its head is known."""
-        kind, width, height, depth, maxval, _ = head
         start = self.needs[number - 1] if number else 0
-        self.sample = 2 if maxval > 255 else 1
-        self.row = (width + 7) // 8 if kind == "Bit" else width * depth * self.sample
-        self.rows = height if self.text[start + 1 : start + 2] in b"4567" else 0
+        self.row, self.sample = raw_row(head), 2 if head[4] > 255 else 1
+        self.rows = head[2] if self.text[start + 1 : start + 2] in b"4567" else 0
 
     def together(self, number):
         """How many rows come together, none for a row by itself."""

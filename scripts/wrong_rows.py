@@ -14,7 +14,7 @@ sys.dont_write_bytecode = True
 from places import SCRIPTS
 
 from slow_reader import magic, read_head
-from slow_reading import MOST_ROW, MOST_ROWS
+from slow_reading import MOST_ROW, MOST_ROWS, raw_row
 
 
 @dataclasses.dataclass
@@ -43,9 +43,8 @@ def images_of(text):
     images = []
     while text:
         head, length = read_head(magic(text, False)[0], text)
-        kind, width, height, depth, maxval, _ = head
-        row = (width + 7) // 8 if kind == "Bit" else width * depth * (1 if maxval < 256 else 2)
-        raster = text[length : length + row * height]
+        row = raw_row(head)
+        raster = text[length : length + row * head[2]]
         rows = [raster[at : at + row] for at in range(0, len(raster), row)]
         images.append(Written(text[:length], head, rows, MOST_ROWS // row if row <= MOST_ROW else 0))
         text = text[length + len(raster) :]
