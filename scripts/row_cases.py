@@ -23,7 +23,7 @@ SIZES = [1, 7, 8, 9, 511, 512, 513, 16_384, 16_385, 65_535, 65_536, 65_537]
 SHORT = 520
 
 # the most bytes of all results of a case, and the most rows that lanes get
-MOST_RESULT, MOST_DEALT = 1_000_000, 12_000
+MOST_RESULT, MOST_DEALT = 1_150_000, 12_000
 
 
 class Format(typing.NamedTuple):
@@ -58,7 +58,7 @@ class Part(typing.NamedTuple):
     is_aligned: bool = False
 
     def header(self, start=0, form="raw"):
-        """The header, where the image starts there in the stream."""
+        """The header of the image if it starts there in the stream."""
         plain = header(form, self.image.head)
         missing = -(start + len(plain)) % MOST_ROWS if self.is_aligned else 0
         if len(plain) + missing > MOST_HEADER:
@@ -67,7 +67,7 @@ class Part(typing.NamedTuple):
         return plain[:3] + comment + plain[3:]
 
     def block(self, start=0):
-        """How many rows the first block has, where the image starts there; 0 where each goes by itself."""
+        """How many rows the first block has if the image starts there; 0 if each travels by itself."""
         row = raw_row(self.image.head)
         come = MOST_ROWS - (start + len(self.header(start))) % MOST_ROWS
         return come // row if row <= MOST_ROW else 0
@@ -165,7 +165,7 @@ TURNED = [(1_023, False), (1_024, False), (1_025, False)]
 
 
 def result_of(tools, head):
-    """The head of a chain's result, and the most bytes that one of its tools makes; None where one refuses."""
+    """The head of a chain's result, and the most bytes that one of its tools makes; None if one refuses."""
     most = 0
     for tool in tools:
         try:
@@ -221,7 +221,7 @@ def pairs_of_tools(parts):
 
 
 class Group:
-    """Cases of one kind, most of them of rows of one format and size."""
+    """Cases of one kind, mostly of rows of one format and size."""
 
     def __init__(self, name):
         self.kind, *facts = name.split()
@@ -308,7 +308,7 @@ class Group:
             yield Case(chain, front + raster, images, ways[: self.numbers.randint(1, 2)], fault)
 
     def spoiled(self, bad, start, length):
-        """The raster with a sample above the maxval, the first or the last one of a row; None where there is none."""
+        """The raster with a sample above the maxval, the first or the last one of a row; None if none can be."""
         maxval, sample = bad.image.head[4], bad.image.sample
         if bad.image.head[0] == "Bit" or maxval in (255, 65_535):
             return None

@@ -84,7 +84,7 @@ def transposed(pieces, size, across):
     return bytes(made)
 
 
-# --- bits: a sample is 1 where the pixel is white, and a bit is 1 where it is black
+# --- bits: a sample is 1 if the pixel is white, and a bit is 1 if it is black
 
 
 def unpacked(raster, width):
@@ -198,7 +198,7 @@ def made_samples(tool, image, head):
 
 
 def made_of(tool, image):
-    """What is due of an image's result; a Fault where the tool refuses its head."""
+    """What is due of an image's result; a Fault if the tool refuses its head."""
     head = result_head(tool, image.head)
     return Image(head, made_samples(tool, image, head))
 

@@ -1,16 +1,16 @@
 #!/usr/bin/env python3
-"""Runs every tool over rows of all critical sizes, in blocks of all critical shapes, and compares the bytes, the status
-and the line with what slow_rasters.py works out, and never with what a program has written before.
+"""Runs every tool over rows of all critical sizes, in blocks of all critical shapes. The bytes, the status and the line
+have to be those that slow_rasters.py works out; nothing is compared with what a program has written before.
 
 The cases (row_cases.py) come in groups: few rows, rows for more than a block, turned images, pairs of tools, samples
-above the maxval and rasters that end too soon, plain texts, images of all formats mixed, and refusals. Each case is run
-with one lane and rings of 64 places. Every other case is run once more, with another number of lanes or other rings, or
-with an input that comes in pieces: a piece is written once the one before it was read. With --library, the path of a
-libpnmpipe.so.1, the library runs each case in one thread, and no program does.
+above the maxval and rasters that end too soon, plain texts, images of all formats mixed, and refusals. Most cases are
+run with one lane and rings of 64 places. About half of all are run in a second way: with other lanes or rings, or with
+an input that comes in pieces, each of which is written once the one before it was read. With --library, the path of a
+libpnmpipe.so.1, the library runs each case in one thread, and no program runs.
 
-A difference is told with its words. `--only` names groups by how their names begin, and `--keep` a folder that gets
-the input of each difference, what is wanted, and what came. `--self-test` wants programs that are wrong in one way each
-(wrong_rows.py) to be told from the right one.
+Each difference comes with the words of its run. --only takes the words with which names of groups begin, and --keep a
+folder for the input of each difference, for what is wanted and for what came. --self-test runs programs that are wrong
+in one way each (wrong_rows.py), and wants each to be found.
 """
 
 import argparse
