@@ -23,7 +23,7 @@ ends_well : (text written : List ℕ) (job : Job) (answer : Result Summary RunFa
 ends_well text written job (Ok summary) ended = record {
   images = ended.images;
   results = ended.results;
-  spelled = ended.spelled;
+  said = ended.said;
   made = ended.output.made;
   fit = ended.output.fit;
   encoded = ended.output.written;

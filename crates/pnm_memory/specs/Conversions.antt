@@ -2,8 +2,7 @@
 use Rattle.std.specs.Prelude.{◌≡◌, ◌⊎◌, ◌≤◌, ◌-◌, ◌^◌, ℕ, List, [], length, Some, None, Result, IfOk, IfErr}
 use Rattle.pnm_image.specs.Images.{Image}
 use Rattle.pnm_read.specs.declared.fault.InputFault.TheVariants.{ReadFailed, Memory as InputMemory}
-use Rattle.pnm_read.specs.Spelling.{Spells}
-use Rattle.pnm_read.specs.Said.{said_of}
+use Rattle.pnm_read.specs.Said.{said_of, AreSaid}
 use Rattle.pnm_tools.specs.declared.fault.ToolFault.TheVariants.{Memory as ToolMemory}
 use Rattle.pnm_tools.specs.Chains.{AreResultsInTurn}
 use Rattle.pnm_write.specs.declared.fault.SinkFault.TheVariants.{WriteFailed}
@@ -16,12 +15,12 @@ use Rattle.pnm_serial.specs.declared.fault.RunFault.{RunFault}
 use Rattle.pnm_serial.specs.declared.fault.RunFault.TheVariants.{NoStart, Input, Tool as OfTool, Output, PeerGone}
 use Rattle.pnm_serial.specs.declared.summary.Summary.{Summary}
 
--- the text spells images, none of which a tool refuses, the form can hold their results, the bytes are the encoding of
--- these, and the summary counts them
+-- images are said of the text, none of which a tool refuses, the form can hold their results, the bytes are the
+-- encoding of these, and the summary counts them
 pub record IsConversion (text : List ℕ) (job : Job) (written : List ℕ) (summary : Summary) : Type 0 where
   pub images : List Image
   pub results : List Image
-  pub spelled : Spells text images
+  pub said : AreSaid text images
   pub made : AreResultsInTurn job.tools images results
   pub fit : images_fault job.form results ≡ None
   pub encoded : written ≡ encoding_of job.form results

@@ -1,7 +1,7 @@
 -- What a text spells is what is said of it, and it spells one list of images or has a fault.
 use Rattle.pnm_image.specs.Formats.{is_plain_form}
-use Rattle.std.proofs.Common.{◌≡◌, ◌⊎◌, ℕ, zero, suc, ◌+◌, ◌<◌, ◌≤◌, Bool, true, false, List, [], ◌∷◌, ◌++◌, length, map, Option, Some, None, Result, Ok, Err}
-use Rattle.std.proofs.Common.{inl, inr, refl, sym, ap, subst, ◌∙◌, append_assoc, arith}
+use Rattle.std.proofs.Common.{◌≡◌, ◌↔◌, ◌⊎◌, ℕ, zero, suc, ◌+◌, ◌<◌, ◌≤◌, Bool, true, false, List, [], ◌∷◌, ◌++◌, length, map, Option, Some, None}
+use Rattle.std.proofs.Common.{Result, Ok, Err, inl, inr, refl, sym, ap, subst, ◌∙◌, append_assoc, arith}
 use Rattle.std.proofs.lemmas.List.{length-append}
 use Rattle.std.proofs.lemmas.Bool.{both_ways}
 use Rattle.pnm_image.specs.declared.message.Message.{Message}
@@ -15,7 +15,7 @@ use Rattle.pnm_read.specs.Headers.{SpellsHeader}
 use Rattle.pnm_read.specs.Rasters.{SpellsRaw, SpellsPlain}
 use Rattle.pnm_read.specs.Spelling.{SpellsRasterBy, SpellsImage, SpellsRawImage, SpellsRawImages, SpellsPlainAlone, Spells}
 use Rattle.pnm_read.specs.Said.{Said, then_said, ends_stream, format_at, head_at, rows_said, head_said, format_said, image_said, later_said, text_said, said_of}
-use Rattle.pnm_read.specs.Said.{fault_of}
+use Rattle.pnm_read.specs.Said.{fault_of, AreSaid}
 use Rattle.pnm_read.specs.TextLaws.{SpellsOnly, IsAtFault}
 use Rattle.pnm_read.proofs.ReadHeaderLaws.{spelled_head, read_header_is_spelled, header_has_bytes}
 use Rattle.pnm_read.proofs.SpelledHeaders.{spelled_header_is_read}
@@ -269,13 +269,35 @@ pub spelled_are_images : (text : List ℕ) (images : List Image) → Spells text
 spelled_are_images text images (inl s) = raw_are_images text images s.1
 spelled_are_images text images (inr s) = subst AreImages (sym s.one) (spelled_is_image s.first s.image_is.0 s.image s.image_is.2, tt)
 
+-- lists of images that have the same messages are the same
+pub images_of_messages_are_one : (images others : List Image) → AreImages images → AreImages others → messages_of_stream images ≡ messages_of_stream others
+    → others ≡ images
+images_of_messages_are_one images others are others_are same =
+    let stream = is_stream_of (messages_of_stream images) (stream_is_messages images are) (stream_is_lawful images are) (stream_ends images) in
+    stream.1.only others others_are same ∙ sym (stream.1.only images are refl)
+
 -- a text spells no two lists of images
 spelled_images_are_one : (text : List ℕ) (images others : List Image) → Spells text images → Spells text others → others ≡ images
 spelled_images_are_one text images others s o =
-    let are = spelled_are_images text images s in
-    let stream = is_stream_of (messages_of_stream images) (stream_is_messages images are) (stream_is_lawful images are) (stream_ends images) in
-    let same : messages_of_stream images ≡ messages_of_stream others = sym (spelled_text_is_said text images s).0 ∙ (spelled_text_is_said text others o).0 in
-    stream.1.only others (spelled_are_images text others o) same ∙ sym (stream.1.only images are refl)
+    images_of_messages_are_one images others (spelled_are_images text images s) (spelled_are_images text others o)
+    (sym (spelled_text_is_said text images s).0 ∙ (spelled_text_is_said text others o).0)
+
+-- the images that a text spells are said of it
+pub are_said : (text : List ℕ) (images : List Image) → Spells text images → AreSaid text images
+are_said text images s =
+    let said = spelled_text_is_said text images s in
+    record { sound = said.1; images_are = spelled_are_images text images s; messages = said.0 }
+
+-- the images that are said of a text are spelled by it
+said_are_spelled : (text : List ℕ) (images : List Image) → AreSaid text images → Spells text images
+said_are_spelled text images said =
+    let spelled = said_text_is_spelled text said.sound in
+    let same = images_of_messages_are_one images spelled.0 said.images_are (spelled_are_images text spelled.0 spelled.1) (sym said.messages ∙ spelled.2) in
+    subst (Spells text) same spelled.1
+
+-- the images that a text spells are those that are said of it
+pub spelled_images_are_said : (text : List ℕ) (images : List Image) → Spells text images ↔ AreSaid text images
+spelled_images_are_said text images = (are_said text images, said_are_spelled text images)
 
 -- a text without a fault spells one list of images, and a text with a fault spells none
 one_or_fault : (text : List ℕ) (fault : Option InputFault) → fault_of text ≡ fault → ((images : List Image) × SpellsOnly text images)

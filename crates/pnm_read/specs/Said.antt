@@ -1,8 +1,8 @@
 -- What is said of a text: the messages of its images, and then the end or the first fault. The fault is that
 -- of the first item that has one.
 use Rattle.pnm_image.specs.Formats.{is_plain_form}
-use Rattle.std.specs.Prelude.{ℕ, zero, suc, ◌+◌, ◌/◌, Bool, true, false, List, [], ◌∷◌, length, take, Option, Some}
-use Rattle.std.specs.Prelude.{None, Result, Ok, Err}
+use Rattle.std.specs.Prelude.{◌≡◌, ℕ, zero, suc, ◌+◌, ◌/◌, Bool, true, false, List, [], ◌∷◌, length, take, Option}
+use Rattle.std.specs.Prelude.{Some, None, Result, Ok, Err}
 use Rattle.std.specs.List.{concat}
 use Rattle.pnm_image.specs.declared.shape.Kind.{Kind}
 use Rattle.pnm_image.specs.declared.shape.Kind.TheVariants.{Bit, Gray, Color, Pam}
@@ -10,6 +10,7 @@ use Rattle.pnm_image.specs.declared.shape.Shape.{Shape}
 use Rattle.pnm_image.specs.declared.message.Message.{Message}
 use Rattle.pnm_image.specs.declared.message.Message.TheVariants.{Begin, Row, ImageEnd, StreamEnd}
 use Rattle.pnm_image.specs.Heads.{HeadValue, row_length}
+use Rattle.pnm_image.specs.Images.{Image, AreImages, messages_of_stream}
 use Rattle.pnm_read.specs.declared.fault.InputFault.{InputFault}
 use Rattle.pnm_image.specs.declared.format.Format.{Format}
 use Rattle.pnm_image.specs.declared.sample_width.SampleWidth.{SampleWidth}
@@ -165,3 +166,11 @@ said_of text = (text_said text).messages
 -- the fault of a text, if it has one
 abbrev pub fault_of : List ℕ → Option InputFault
 fault_of text = (text_said text).fault
+
+-- ---- images
+
+-- the text has no fault, and the messages of these images are said of it: they are the images that it spells (`Spells`)
+pub record AreSaid (text : List ℕ) (images : List Image) : Type 0 where
+  pub sound : fault_of text ≡ None
+  pub images_are : AreImages images
+  pub messages : said_of text ≡ messages_of_stream images

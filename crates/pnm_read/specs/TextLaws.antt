@@ -7,7 +7,7 @@ use Rattle.pnm_image.specs.Places.{IsLawful}
 use Rattle.pnm_read.specs.declared.fault.InputFault.{InputFault}
 use Rattle.pnm_read.specs.declared.fault.InputFault.TheVariants.{ReadFailed, Memory}
 use Rattle.pnm_read.specs.Spelling.{Spells}
-use Rattle.pnm_read.specs.Said.{said_of, fault_of}
+use Rattle.pnm_read.specs.Said.{said_of, fault_of, AreSaid}
 use Rattle.pnm_read.specs.BeforeFaults.{SpellsUpToFault}
 
 -- of a text that spells images their messages are said, without a fault
@@ -21,6 +21,10 @@ abbrev pub SaidIsSpelled : Type 0
 SaidIsSpelled =
     (text : List ℕ) → fault_of text ≡ None → (images : List Image) × Spells text images
     × (said_of text ≡ messages_of_stream images)
+
+-- the images that a text spells are those that are said of it
+abbrev pub SpelledAreSaid : Type 0
+SpelledAreSaid = (text : List ℕ) (images : List Image) → Spells text images ↔ AreSaid text images
 
 -- the images that a text spells are images
 abbrev pub SpelledAreImages : Type 0

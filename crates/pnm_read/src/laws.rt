@@ -2,7 +2,8 @@
 //! nothing.
 
 ghost use Rattle.pnm_read.specs.Examples.{TextExamplesHold};
-ghost use Rattle.pnm_read.specs.TextLaws.{SpelledIsSaid, SaidIsSpelled, SpelledAreImages, OneStreamOrOneFault};
+ghost use Rattle.pnm_read.specs.TextLaws.{SpelledIsSaid, SaidIsSpelled, SpelledAreSaid, SpelledAreImages};
+ghost use Rattle.pnm_read.specs.TextLaws.{OneStreamOrOneFault};
 ghost use Rattle.pnm_read.specs.TextLaws.{SaidBeforeFaultIsSpelled, SaidIsLawful, SaidAreMessages};
 ghost use Rattle.pnm_read.specs.TextLaws.{EndIsSaidWithoutFault, FaultsAreOfTexts};
 ghost use Rattle.pnm_read.specs.declared.decimal.TheConstants.{GAP_LIMIT};
@@ -17,6 +18,11 @@ pub fn spelled_is_said()
 /// A text without a fault spells the images whose messages are said of it.
 pub fn said_is_spelled()
     ensures { SaidIsSpelled }
+{}
+
+/// The images that a text spells are those that are said of it, and the other way round.
+pub fn spelled_are_said()
+    ensures { SpelledAreSaid }
 {}
 
 /// The images that a text spells are images.

@@ -10,9 +10,8 @@ use Rattle.pnm_image.specs.declared.message.Message.{Message}
 use Rattle.pnm_image.specs.declared.message.Message.TheVariants.{Stop}
 use Rattle.pnm_read.specs.declared.fault.InputFault.{InputFault}
 use Rattle.pnm_read.specs.declared.fault.InputFault.TheVariants.{ReadFailed, Memory as NoMemoryToRead}
-use Rattle.pnm_read.specs.Said.{said_of}
+use Rattle.pnm_read.specs.Said.{said_of, fault_of}
 use Rattle.pnm_read.specs.BufferedReaders.{IsOutsideFault}
-use Rattle.pnm_read.specs.TextLaws.{IsAtFault}
 use Rattle.pnm_tools.specs.declared.fault.ToolFault.{ToolFault}
 use Rattle.pnm_tools.specs.declared.fault.ToolFault.TheVariants.{OutOfOrder, Memory}
 use Rattle.pnm_tools.specs.declared.tool.Tool.{Tool}
@@ -113,7 +112,7 @@ ended_without_failure reader held failures start done job (Ok tt) None (Ok summa
 ended_input : {W : Type 0} (reader : Change) (held : W → Option (List ℕ)) (failures : W → ℕ) (start done : W) (job : Job) (input : Result (Unit {0}) InputFault)
     (refused : Option (ℕ × ToolFault)) (output : Result Summary SinkFault)
     → Ended reader held failures start done job input refused output → (text : List ℕ) → reader.old ≡ Some text
-    → IfInput (answer_by input refused output) (λ fault. IsOutsideFault fault ⊎ IsAtFault text fault)
+    → IfInput (answer_by input refused output) (λ fault. IsOutsideFault fault ⊎ (fault_of text ≡ Some fault))
 ended_input reader held failures start done job (Err fault) refused output ended text is =
     input_fault text ended.given fault (own_text reader held failures start done job (Err fault) refused output text ended is)
 ended_input reader held failures start done job (Ok tt) (Some found) output ended text is = tt

@@ -15,10 +15,9 @@ use Rattle.pnm_image.specs.Images.{Image, messages_of_stream}
 use Rattle.pnm_image.specs.Completion.{IsPrefixOf, Completes}
 use Rattle.pnm_read.specs.declared.fault.InputFault.{InputFault}
 use Rattle.pnm_read.specs.declared.source.Source.{Source}
-use Rattle.pnm_read.specs.Said.{said_of, fault_of}
+use Rattle.pnm_read.specs.Said.{said_of, fault_of, AreSaid}
 use Rattle.pnm_read.specs.BufferedReaders.{IsOutsideFault}
-use Rattle.pnm_read.specs.TextLaws.{IsAtFault}
-use Rattle.pnm_read.proofs.TextLaws.{spelled_text_is_said, said_text_is_spelled, spelled_are_images}
+use Rattle.pnm_read.proofs.TextLaws.{said_text_is_spelled, are_said}
 use Rattle.pnm_read.proofs.StreamLaws.{no_text_fault}
 use Rattle.pnm_tools.specs.declared.fault.ToolFault.{ToolFault}
 use Rattle.pnm_tools.specs.declared.tool.Tool.{Tool}
@@ -51,17 +50,18 @@ use Rattle.pnm_serial.proofs.FeedingSteps.{said_are_sound}
 
 -- ---- what is said
 
--- the fault of a text, which spells no images
-at_fault : (text : List ℕ) (fault : InputFault) → fault_of text ≡ Some fault → IsAtFault text fault
-at_fault text fault e = record {
-  first = e;
-  not_spelled = λ images s. let none = (spelled_text_is_said text images s).1 in cc (e, none);
-}
+-- the images of a text without a fault, of which the messages were given
+images_said : (text : List ℕ) (given : List Message) → (said_of text ≡ given) × (fault_of text ≡ None) → (images : List Image) × AreSaid text images
+    × (given ≡ messages_of_stream images)
+images_said text given said =
+    let found = said_text_is_spelled text said.1 in
+    (found.0, are_said text found.0 found.1, sym said.0 ∙ found.2)
 
-pub input_fault : (text : List ℕ) (given : List Message) (fault : InputFault) → IsSaidOf text given (Err fault) → IsOutsideFault fault ⊎ IsAtFault text fault
+pub input_fault : (text : List ℕ) (given : List Message) (fault : InputFault) → IsSaidOf text given (Err fault)
+    → IsOutsideFault fault ⊎ (fault_of text ≡ Some fault)
 input_fault text given fault is =
     elim is [
-      | inl own ↦ inr (at_fault text fault own.1)
+      | inl own ↦ inr own.1
       | inr outside ↦ inl outside.0
     ]
 
@@ -237,11 +237,10 @@ pub run_refused : (tools : List Tool) (faults : List (Option ToolFault)) (given 
     → AreLawfulTools tools → AreSound given → HaveAnswered tools faults given out → (said_of text ≡ given) × (fault_of text ≡ None)
     → IsFirstFault 1 faults number fault → IsStoppedBy text tools number fault
 run_refused tools faults given out text number fault lawful sound_given have said first =
-    let found = said_text_is_spelled text said.1 in
-    let stream : given ≡ messages_of_stream found.0 = sym said.0 ∙ found.2 in
-    let images = spelled_are_images text found.0 found.1 in
-    let sound = subst AreSound stream sound_given in
-    let answered = subst (λ (l : List Message). HaveAnswered tools faults l out) stream have in
+    let found = images_said text given said in
+    let images = found.1.images_are in
+    let sound = subst AreSound found.2 sound_given in
+    let answered = subst (λ (l : List Message). HaveAnswered tools faults l out) found.2 have in
     elim (refusal_is_first tools faults found.0 out number fault lawful images sound answered first) [
       | inl memory ↦ inl (memory, (found.0, found.1, none_before_first_fault tools faults found.0 out number fault lawful images sound answered first))
       | inr refusal ↦ inr (found.0, found.1, refusal)
@@ -251,10 +250,9 @@ run_refused tools faults given out text number fault lawful sound_given have sai
 pub run_taken : (tools : List Tool) (faults : List (Option ToolFault)) (given out : List Message) (text : List ℕ)
     → AreLawfulTools tools → HaveAnswered tools faults given out → (said_of text ≡ given) × (fault_of text ≡ None) → AreWell faults → IsAcceptedBy text tools
 run_taken tools faults given out text lawful have said well =
-    let found = said_text_is_spelled text said.1 in
-    let stream : given ≡ messages_of_stream found.0 = sym said.0 ∙ found.2 in
-    let answered = stream_is_answered tools faults found.0 out lawful (spelled_are_images text found.0 found.1) well
-    (subst (λ (l : List Message). HaveAnswered tools faults l out) stream have) in
+    let found = images_said text given said in
+    let answered = stream_is_answered tools faults found.0 out lawful found.1.images_are well
+    (subst (λ (l : List Message). HaveAnswered tools faults l out) found.2 have) in
     (found.0, found.1, answered.4)
 
 -- and what the form says of the results of all images
@@ -262,14 +260,13 @@ pub run_results : (job : Job) (faults : List (Option ToolFault)) (given out : Li
     → AreLawfulTools job.tools → HaveAnswered job.tools faults given out → (said_of text ≡ given) × (fault_of text ≡ None) → AreWell faults
     → HasResults text job (form_fault_of job.form out)
 run_results job faults given out text lawful have said well =
-    let found = said_text_is_spelled text said.1 in
-    let stream : given ≡ messages_of_stream found.0 = sym said.0 ∙ found.2 in
-    let answered = stream_is_answered job.tools faults found.0 out lawful (spelled_are_images text found.0 found.1) well
-    (subst (λ (l : List Message). HaveAnswered job.tools faults l out) stream have) in
+    let found = images_said text given said in
+    let answered = stream_is_answered job.tools faults found.0 out lawful found.1.images_are well
+    (subst (λ (l : List Message). HaveAnswered job.tools faults l out) found.2 have) in
     record {
       images = found.0;
       results = answered.0;
-      spelled = found.1;
+      said = found.1;
       taken = answered.4;
       made = answered.1;
       fit = sym (ap (form_fault_of job.form) answered.3 ∙ stream_fault job.form answered.0);
@@ -348,14 +345,13 @@ pub run_held : (job : Job) (faults : List (Option ToolFault)) (given out : List 
     → AreLawfulTools job.tools → HaveAnswered job.tools faults given out → (said_of text ≡ given) × (fault_of text ≡ None) → AreWell faults
     → Appends old new (written_of job.form out) → HasWrittenResults text job old new
 run_held job faults given out text old new lawful have said well written =
-    let found = said_text_is_spelled text said.1 in
-    let stream : given ≡ messages_of_stream found.0 = sym said.0 ∙ found.2 in
-    let answered = stream_is_answered job.tools faults found.0 out lawful (spelled_are_images text found.0 found.1) well
-    (subst (λ (l : List Message). HaveAnswered job.tools faults l out) stream have) in
+    let found = images_said text given said in
+    let answered = stream_is_answered job.tools faults found.0 out lawful found.1.images_are well
+    (subst (λ (l : List Message). HaveAnswered job.tools faults l out) found.2 have) in
     record {
       images = found.0;
       results = answered.0;
-      spelled = found.1;
+      said = found.1;
       made = answered.1;
       written = subst (λ (l : List Message). Appends old new (written_of job.form l)) answered.3 written;
     }
@@ -380,10 +376,9 @@ pub run_well : {W : Type 0} (held : W → Option (List ℕ)) (failures : W → �
     → AreWritten held failures job.form start out d → summary ≡ d.summary → Keeps (held (output_of d)) (held done)
     → EndedWell text job (held start) (held done) summary
 run_well held failures start done job faults given out d summary text lawful have said well written same kept =
-    let found = said_text_is_spelled text said.1 in
-    let stream : given ≡ messages_of_stream found.0 = sym said.0 ∙ found.2 in
-    let answered = stream_is_answered job.tools faults found.0 out lawful (spelled_are_images text found.0 found.1) well
-    (subst (λ (l : List Message). HaveAnswered job.tools faults l out) stream have) in
+    let found = images_said text given said in
+    let answered = stream_is_answered job.tools faults found.0 out lawful found.1.images_are well
+    (subst (λ (l : List Message). HaveAnswered job.tools faults l out) found.2 have) in
     let results : List Image = answered.0 in
     let counts_images : d.summary.images ≡ saturate_u64 (length results) = written.images ∙ ap (images_in 0) answered.3 ∙ images_in-stream 0 results
     ∙ ap saturate_u64 (zero-add (length results)) in
@@ -393,7 +388,7 @@ run_well held failures start done job faults given out d summary text lawful hav
     record {
       images = found.0;
       results = results;
-      spelled = found.1;
+      said = found.1;
       output = record {
         made = answered.1;
         fit = sym (ap (form_fault_of job.form) answered.3 ∙ stream_fault job.form results) ∙ takes_written held failures job.form start out d written;

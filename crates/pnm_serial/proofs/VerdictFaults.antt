@@ -6,7 +6,6 @@ use Rattle.pnm_image.specs.declared.message.Message.TheVariants.{Row, ImageEnd}
 use Rattle.pnm_image.specs.Heads.{HeadValue}
 use Rattle.pnm_image.specs.Images.{Image, AreImages, IsImage, rows_of, messages_of_stream}
 use Rattle.pnm_read.proofs.StreamLaws.{no_text_fault}
-use Rattle.pnm_read.proofs.TextLaws.{spelled_text_is_said, spelled_are_images}
 use Rattle.pnm_tools.specs.declared.fault.ToolFault.{ToolFault}
 use Rattle.pnm_tools.specs.declared.fault.ToolFault.TheVariants.{CutOutside, ChannelOutside, TooLarge, OutOfOrder, Memory}
 use Rattle.pnm_tools.specs.declared.tool.Tool.{Tool}
@@ -104,8 +103,8 @@ rows_of_stream (i ∷ is) sound = (sound.0, rows_of_stream is (all_of_rest IsSou
 
 text_refusal : (text : List ℕ) (tools : List Tool) (number : ℕ) (fault : ToolFault) → AreLawfulTools tools → IsRefusedBy text tools number fault → IsNamed fault
 text_refusal text tools number fault lawful is =
-    let sound : AreSound (messages_of_stream is.0) = subst AreSound (spelled_text_is_said text is.0 is.1).0 (said_are_sound text) in
-    chain_refusal 1 tools is.0 (record { number = number; fault = fault }) lawful (spelled_are_images text is.0 is.1) (rows_of_stream is.0 sound.sound) is.2
+    let sound : AreSound (messages_of_stream is.0) = subst AreSound is.1.messages (said_are_sound text) in
+    chain_refusal 1 tools is.0 (record { number = number; fault = fault }) lawful is.1.images_are (rows_of_stream is.0 sound.sound) is.2
 
 pub verdict_is_of_text : VerdictsAreOfTexts
 verdict_is_of_text text job NoStart lawful is = absurd is

@@ -3,11 +3,9 @@ use Rattle.std.proofs.Common.{◌≡◌, ◌⊎◌, ℕ, ◌+◌, List, [], ◌�
 use Rattle.pnm_image.specs.Devices.{Failed}
 use Rattle.pnm_image.specs.Images.{Image}
 use Rattle.pnm_read.specs.declared.fault.InputFault.{InputFault}
-use Rattle.pnm_read.specs.Said.{fault_of}
+use Rattle.pnm_read.specs.Said.{fault_of, AreSaid}
 use Rattle.pnm_read.specs.BufferedReaders.{IsOutsideFault}
-use Rattle.pnm_read.specs.Spelling.{Spells}
-use Rattle.pnm_read.specs.TextLaws.{IsAtFault}
-use Rattle.pnm_read.proofs.TextLaws.{one_list_or_one_fault, spelled_text_is_said}
+use Rattle.pnm_read.proofs.TextLaws.{one_list_or_one_fault, are_said, images_of_messages_are_one}
 use Rattle.pnm_tools.specs.declared.fault.ToolFault.{ToolFault}
 use Rattle.pnm_tools.specs.declared.fault.ToolFault.TheVariants.{Memory}
 use Rattle.pnm_tools.specs.declared.tool.Tool.{Tool}
@@ -66,31 +64,28 @@ results_are_one tools (i ∷ is) (j ∷ js) (k ∷ ks) one other =
 
 -- ---- one verdict
 
-images_are_one : (text : List ℕ) (images others : List Image) → Spells text images → Spells text others → images ≡ others
+images_are_one : (text : List ℕ) (images others : List Image) → AreSaid text images → AreSaid text others → images ≡ others
 images_are_one text images others one other =
-    elim (one_list_or_one_fault text) [
-      | inl found ↦ found.1.only images one ∙ sym (found.1.only others other)
-      | inr found ↦ absurd (found.1.not_spelled images one)
-    ]
+    images_of_messages_are_one others images other.images_are one.images_are (sym other.messages ∙ one.messages)
 
-refusals_are_one : (text : List ℕ) (tools : List Tool) (images others : List Image) (one other : Option Refusal) → Spells text images → Spells text others
+refusals_are_one : (text : List ℕ) (tools : List Tool) (images others : List Image) (one other : Option Refusal) → AreSaid text images → AreSaid text others
     → refusal_of tools images ≡ one → refusal_of tools others ≡ other → one ≡ other
-refusals_are_one text tools images others one other spelled spelled_too is is_too =
-    sym is ∙ ap (refusal_of tools) (images_are_one text images others spelled spelled_too) ∙ is_too
+refusals_are_one text tools images others one other said said_too is is_too =
+    sym is ∙ ap (refusal_of tools) (images_are_one text images others said said_too) ∙ is_too
 
 -- the fault of a refusal
 abbrev fault_of_refusal : Option Refusal → Option RunFault
 fault_of_refusal None = None
 fault_of_refusal (Some refusal) = Some (OfTool refusal.number refusal.fault)
 
--- a text that spells images has no fault
-never_at_fault : (text : List ℕ) (images : List Image) (fault : InputFault) → Spells text images → fault_of text ≡ Some fault → ⊥
-never_at_fault text images fault spelled is = let none = (spelled_text_is_said text images spelled).1 in cc (is, none)
+-- a text of which images are said has no fault
+never_at_fault : (text : List ℕ) (images : List Image) (fault : InputFault) → AreSaid text images → fault_of text ≡ Some fault → ⊥
+never_at_fault text images fault said is = cc (is, said.sound)
 
 -- and no two reasons for which the form can't hold its results
 reasons_are_one : (text : List ℕ) (job : Job) (one other : Option SinkFault) → HasResults text job one → HasResults text job other → one ≡ other
 reasons_are_one text job one other is is_too =
-    let images = images_are_one text is.images is_too.images is.spelled is_too.spelled in
+    let images = images_are_one text is.images is_too.images is.said is_too.said in
     let made = subst (λ (l : List Image). AreResultsInTurn job.tools l is.results) images is.made in
     sym is.fit ∙ ap (images_fault job.form) (results_are_one job.tools is_too.images is.results is_too.results made is_too.made) ∙ is_too.fit
 
@@ -98,7 +93,7 @@ reasons_are_one text job one other is is_too =
 never_refused : (text : List ℕ) (job : Job) (found : Option SinkFault) (number : ℕ) (fault : ToolFault) → HasResults text job found
     → IsRefusedBy text job.tools number fault → ⊥
 never_refused text job found number fault is refused =
-    let same = refusals_are_one text job.tools is.images refused.0 None _ is.spelled refused.1 is.taken refused.2 in absurd cc
+    let same = refusals_are_one text job.tools is.images refused.0 None _ is.said refused.1 is.taken refused.2 in absurd cc
 
 -- the verdict of a form's reason
 abbrev verdict_of_form : Option SinkFault → Option RunFault
@@ -107,17 +102,17 @@ verdict_of_form (Some fault) = Some (Output fault)
 
 verdicts_are_one : (text : List ℕ) (job : Job) (one other : Option RunFault) → IsVerdict text job one → IsVerdict text job other → one ≡ other
 verdicts_are_one text job None None is is_too = refl
-verdicts_are_one text job None (Some (Input fault)) is is_too = absurd (never_at_fault text is.images fault is.spelled is_too)
+verdicts_are_one text job None (Some (Input fault)) is is_too = absurd (never_at_fault text is.images fault is.said is_too)
 verdicts_are_one text job None (Some (OfTool number fault)) is is_too = absurd (never_refused text job None number fault is is_too)
 verdicts_are_one text job None (Some NoStart) is is_too = absurd is_too
 verdicts_are_one text job None (Some (Output fault)) is is_too = ap verdict_of_form (reasons_are_one text job None (Some fault) is is_too)
 verdicts_are_one text job None (Some (PeerGone number)) is is_too = absurd is_too
-verdicts_are_one text job (Some (Input fault)) None is is_too = absurd (never_at_fault text is_too.images fault is_too.spelled is)
+verdicts_are_one text job (Some (Input fault)) None is is_too = absurd (never_at_fault text is_too.images fault is_too.said is)
 verdicts_are_one text job (Some (Input fault)) (Some (Input fault_too)) is is_too = let same : fault ≡ fault_too = cc in
     ap (λ (f : InputFault). Some (Input f)) same
 verdicts_are_one text job (Some (Input fault)) (Some (OfTool number fault_too)) is is_too = absurd (never_at_fault text is_too.0 fault is_too.1 is)
 verdicts_are_one text job (Some (Input fault)) (Some NoStart) is is_too = absurd is_too
-verdicts_are_one text job (Some (Input fault)) (Some (Output fault_too)) is is_too = absurd (never_at_fault text is_too.images fault is_too.spelled is)
+verdicts_are_one text job (Some (Input fault)) (Some (Output fault_too)) is is_too = absurd (never_at_fault text is_too.images fault is_too.said is)
 verdicts_are_one text job (Some (Input fault)) (Some (PeerGone number)) is is_too = absurd is_too
 verdicts_are_one text job (Some (OfTool number fault)) None is is_too = absurd (never_refused text job None number fault is_too is)
 verdicts_are_one text job (Some (OfTool number fault)) (Some (Input fault_too)) is is_too = absurd (never_at_fault text is.0 fault_too is.1 is_too)
@@ -129,7 +124,7 @@ verdicts_are_one text job (Some (OfTool number fault)) (Some (Output fault_too))
 verdicts_are_one text job (Some (OfTool number fault)) (Some (PeerGone number_too)) is is_too = absurd is_too
 verdicts_are_one text job (Some NoStart) other is is_too = absurd is
 verdicts_are_one text job (Some (Output fault)) None is is_too = ap verdict_of_form (reasons_are_one text job (Some fault) None is is_too)
-verdicts_are_one text job (Some (Output fault)) (Some (Input fault_too)) is is_too = absurd (never_at_fault text is.images fault_too is.spelled is_too)
+verdicts_are_one text job (Some (Output fault)) (Some (Input fault_too)) is is_too = absurd (never_at_fault text is.images fault_too is.said is_too)
 verdicts_are_one text job (Some (Output fault)) (Some (OfTool number fault_too)) is is_too =
     absurd (never_refused text job (Some fault) number fault_too is is_too)
 verdicts_are_one text job (Some (Output fault)) (Some NoStart) is is_too = absurd is_too
@@ -145,17 +140,17 @@ by_form : (text : List ℕ) (job : Job) (found : Option SinkFault) → HasResult
 by_form text job None is = has_one text job None is
 by_form text job (Some fault) is = has_one text job (Some (Output fault)) is
 
-by_refusal : (text : List ℕ) (job : Job) (images : List Image) (found : Option Refusal) → Spells text images → refusal_of job.tools images ≡ found
+by_refusal : (text : List ℕ) (job : Job) (images : List Image) (found : Option Refusal) → AreSaid text images → refusal_of job.tools images ≡ found
     → HasOneVerdict text job
-by_refusal text job images None spelled is =
+by_refusal text job images None said is =
     let found = chain_results 1 job.tools images is in
-    by_form text job (images_fault job.form found.0) (record { images = images; results = found.0; spelled = spelled; taken = is; made = found.1; fit = refl })
-by_refusal text job images (Some refusal) spelled is = has_one text job (Some (OfTool refusal.number refusal.fault)) (images, spelled, is)
+    by_form text job (images_fault job.form found.0) (record { images = images; results = found.0; said = said; taken = is; made = found.1; fit = refl })
+by_refusal text job images (Some refusal) said is = has_one text job (Some (OfTool refusal.number refusal.fault)) (images, said, is)
 
 pub one_verdict : OneVerdictForEachText
 one_verdict text job =
     elim (one_list_or_one_fault text) [
-      | inl found ↦ by_refusal text job found.0 (refusal_of job.tools found.0) found.1.spelled refl
+      | inl found ↦ by_refusal text job found.0 (refusal_of job.tools found.0) (are_said text found.0 found.1.spelled) refl
       | inr found ↦ has_one text job (Some (Input found.0)) found.1.first
     ]
 
@@ -164,7 +159,7 @@ one_verdict text job =
 -- The answer is from outside or the verdict, by what it tells at its end, of the input, of a tool and of the output.
 pub verdict_follows : (text : List ℕ) (job : Job) (answer : Result Summary RunFault) (unread : Type 0) (reader writer : Change)
     → IfOk answer (EndedWell text job writer.old writer.new)
-    → IfInput answer (λ fault. IsOutsideFault fault ⊎ IsAtFault text fault)
+    → IfInput answer (λ fault. IsOutsideFault fault ⊎ (fault_of text ≡ Some fault))
     → IfTool answer (λ number fault. ((fault ≡ Memory) × (number ≡ 1) × unread) ⊎ IsStoppedBy text job.tools number fault)
     → IfOutput answer (λ fault. (((fault ≡ WriteFailed) × Failed writer.failures_old writer.failures_new) ⊎ IsFormFault job.form fault)
     × (reader.failures_new ≡ reader.failures_old))
@@ -173,17 +168,13 @@ pub verdict_follows : (text : List ℕ) (job : Job) (answer : Result Summary Run
 verdict_follows text job (Ok summary) unread reader writer well input refusal output form = record {
   images = well.images;
   results = well.results;
-  spelled = well.spelled;
+  said = well.said;
   taken = none_refused 1 job.tools well.images well.results well.output.made;
   made = well.output.made;
   fit = well.output.fit;
 }
 verdict_follows text job (Err NoStart) unread reader writer well input refusal output form = inl tt
-verdict_follows text job (Err (Input fault)) unread reader writer well input refusal output form =
-    elim input [
-      | inl outside ↦ inl outside
-      | inr own ↦ inr own.first
-    ]
+verdict_follows text job (Err (Input fault)) unread reader writer well input refusal output form = input
 verdict_follows text job (Err (OfTool number fault)) unread reader writer well input (inl no_list) output form = inl no_list.0
 verdict_follows text job (Err (OfTool number fault)) unread reader writer well input (inr (inl memory)) output form = inl memory.0
 verdict_follows text job (Err (OfTool number fault)) unread reader writer well input (inr (inr refused)) output form = inr refused
@@ -198,7 +189,7 @@ verdict_follows text job (Err (PeerGone number)) unread reader writer well input
 summaries_are_one : (text : List ℕ) (job : Job) (old new old_too new_too : Option (List ℕ)) (one other : Summary) → EndedWell text job old new one
     → EndedWell text job old_too new_too other → one ≡ other
 summaries_are_one text job old new old_too new_too one other well well_too =
-    let images = images_are_one text well.images well_too.images well.spelled well_too.spelled in
+    let images = images_are_one text well.images well_too.images well.said well_too.said in
     let made = subst (λ (is : List Image). AreResultsInTurn job.tools is well.results) images well.output.made in
     well.counts ∙ ap summary_of (results_are_one job.tools well_too.images well.results well_too.results made well_too.output.made) ∙ sym well_too.counts
 

@@ -8,9 +8,7 @@ use Rattle.pnm_image.specs.Completion.{Completes}
 use Rattle.pnm_read.specs.declared.fault.InputFault.{InputFault}
 use Rattle.pnm_read.specs.declared.fault.InputFault.TheVariants.{ReadFailed}
 use Rattle.pnm_read.specs.BufferedReaders.{IsOutsideFault}
-use Rattle.pnm_read.specs.Spelling.{Spells}
-use Rattle.pnm_read.specs.Said.{said_of, fault_of}
-use Rattle.pnm_read.specs.TextLaws.{IsAtFault}
+use Rattle.pnm_read.specs.Said.{said_of, fault_of, AreSaid}
 use Rattle.pnm_tools.specs.declared.fault.ToolFault.{ToolFault}
 use Rattle.pnm_tools.specs.declared.fault.ToolFault.TheVariants.{OutOfOrder, Memory}
 use Rattle.pnm_tools.specs.declared.tool.Tool.{Tool}
@@ -104,20 +102,20 @@ abbrev pub summary_of : List Image → Summary
 summary_of images =
     record { images = saturate_u64 (length images); rows = saturate_u64 (sum_by (λ i. i.head.shape.height) images) }
 
--- a run that ended well: the text spells images, none of which is refused, the form can hold their results, these were
--- written in it, and the summary counts them
+-- a run that ended well: images are said of the text, none of which is refused, the form can hold their results, these
+-- were written in it, and the summary counts them
 pub record EndedWell (text : List ℕ) (job : Job) (old new : Option (List ℕ)) (summary : Summary) : Type 0 where
   pub images : List Image
   pub results : List Image
-  pub spelled : Spells text images
+  pub said : AreSaid text images
   pub output : IsOutputOf job images results old new
   pub counts : summary ≡ summary_of results
 
--- the text spells images, none of which is refused, and of their results all that the form takes was written
+-- images are said of the text, none of which is refused, and of their results all that the form takes was written
 pub record HasWrittenResults (text : List ℕ) (job : Job) (old new : Option (List ℕ)) : Type 0 where
   pub images : List Image
   pub results : List Image
-  pub spelled : Spells text images
+  pub said : AreSaid text images
   pub made : AreResultsInTurn job.tools images results
   pub written : Appends old new (written_of job.form (messages_of_stream results))
 
@@ -216,10 +214,10 @@ pub record HasRun (job : Job) (answer : Result Summary RunFault) (unread : Type 
   pub well : (text : List ℕ) → reader.old ≡ Some text → IfOk answer (EndedWell text job writer.old writer.new)
   pub no_failure : OnOk answer
       ((reader.failures_new ≡ reader.failures_old) × (writer.failures_new ≡ writer.failures_old))
-  -- A fault of the input is the first of its text, which then spells nothing; or the reader failed, memory ran out, or
-  -- as many messages came as a run takes. With any other answer the reader hasn't failed.
+  -- A fault of the input is the first of its text, which then spells nothing (`OneStreamOrOneFault`); or the reader
+  -- failed, memory ran out, or as many messages came as a run takes. With any other answer the reader hasn't failed.
   pub input : (text : List ℕ) → reader.old ≡ Some text
-      → IfInput answer (λ fault. IsOutsideFault fault ⊎ IsAtFault text fault)
+      → IfInput answer (λ fault. IsOutsideFault fault ⊎ (fault_of text ≡ Some fault))
   pub read_failed : IfInput answer (λ fault. fault ≡ ReadFailed → Failed reader.failures_old reader.failures_new
       ⊎ OutlastsRun reader.old reader.new)
   pub sound_reader : (answer ≡ Err (Input ReadFailed) → ⊥) → reader.failures_new ≡ reader.failures_old

@@ -2,8 +2,7 @@
 use Rattle.std.specs.Prelude.{◌≡◌, ◌≢◌, ◌⊎◌, ℕ, List, Option, Some, None, Result, Ok, Err}
 use Rattle.pnm_image.specs.Images.{Image}
 use Rattle.pnm_read.specs.BufferedReaders.{IsOutsideFault}
-use Rattle.pnm_read.specs.Said.{fault_of}
-use Rattle.pnm_read.specs.Spelling.{Spells}
+use Rattle.pnm_read.specs.Said.{fault_of, AreSaid}
 use Rattle.pnm_tools.specs.declared.fault.ToolFault.{ToolFault}
 use Rattle.pnm_tools.specs.declared.fault.ToolFault.TheVariants.{OutOfOrder, Memory}
 use Rattle.pnm_tools.specs.declared.tool.Tool.{Tool}
@@ -19,26 +18,26 @@ use Rattle.pnm_serial.specs.declared.fault.RunFault.TheVariants.{NoStart, Input,
 
 -- the text is accepted, and a tool is the first that refuses one of the images: which, and why
 abbrev pub IsRefusedBy : List ℕ → List Tool → ℕ → ToolFault → Type 0
-IsRefusedBy text tools number fault = (images : List Image) × Spells text images
+IsRefusedBy text tools number fault = (images : List Image) × AreSaid text images
     × (refusal_of tools images ≡ Some (record { number = number; fault = fault }))
 
 -- the text is accepted, and no tool refuses one of the images
 abbrev pub IsAcceptedBy : List ℕ → List Tool → Type 0
-IsAcceptedBy text tools = (images : List Image) × Spells text images × (refusal_of tools images ≡ None)
+IsAcceptedBy text tools = (images : List Image) × AreSaid text images × (refusal_of tools images ≡ None)
 
 -- the text is accepted and no tool refuses one of the images: why the form can't hold their results, or nothing where
 -- it can
 pub record HasResults (text : List ℕ) (job : Job) (found : Option SinkFault) : Type 0 where
   pub images : List Image
   pub results : List Image
-  pub spelled : Spells text images
+  pub said : AreSaid text images
   pub taken : refusal_of job.tools images ≡ None
   pub made : AreResultsInTurn job.tools images results
   pub fit : images_fault job.form results ≡ found
 
 -- ---- the verdict
 
--- The verdict is the fault of the text, if it has one; else, of the images that it spells, the refusal of the first
+-- The verdict is the fault of the text, if it has one; else, of the images said of it, the refusal of the first
 -- tool that refuses one of the images which the tools before it made, none of which these refused; else the reason for
 -- which the form can't hold the results of all images; else there is none.
 abbrev pub IsVerdict : List ℕ → Job → Option RunFault → Type 0
