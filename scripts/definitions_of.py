@@ -37,7 +37,7 @@ BOOKKEEPING = {
         "steps along a line, for its tokens and values",
     ),
     ("pnm_read", "Items"): (
-        ["after_last", "decimal_end", "ends_in_", "fault_of_", "field_in", "header_end", "is_complete", "is_incomplete"]
+        ["after_last", "decimal_end", "ends_in_", "fault_of_", "header_end", "is_complete", "is_incomplete"]
         + ["is_field_missing", "piece_from", "pixel_end", "pixel_in", "shape_in"],
         "where a piece of a text ends, and what of it was read so far",
     ),

@@ -10,7 +10,7 @@ use Rattle.pnm_image.specs.declared.shape.Kind.{Kind}
 use Rattle.pnm_image.specs.declared.shape.Kind.TheVariants.{Bit, Gray, Color, Pam}
 use Rattle.pnm_image.specs.declared.head.HeadFault.{HeadFault}
 use Rattle.pnm_image.specs.declared.head.HeadFault.TheVariants as heads
-use Rattle.pnm_image.specs.Heads.{HeadValue, head_value, shape_fault}
+use Rattle.pnm_image.specs.Heads.{HeadValue, shape_fault}
 use Rattle.pnm_read.specs.declared.fault.InputFault.{InputFault}
 use Rattle.pnm_read.specs.declared.fault.InputFault.TheVariants.{EmptyInput, BadMagic, HeaderCut, TooLong, BadNumber}
 use Rattle.pnm_read.specs.declared.fault.InputFault.TheVariants.{ZeroSize, TooLarge, BadMaxval, BadPamLine}
@@ -108,7 +108,7 @@ fault_of_head heads.Memory = Memory
 unfoldable pub numbers_item : Kind → List ℕ → Result HeadValue InputFault
 numbers_item kind numbers = elim (shape_fault (shape_of kind numbers)) [
   | Some fault ↦ Err (fault_of_head fault)
-  | None ↦ Ok (head_value (shape_of kind numbers) [])
+  | None ↦ Ok (record { shape = shape_of kind numbers; tuple_type = [] })
 ]
 
 -- ---- the header of PAM
@@ -161,22 +161,19 @@ is_field_missing field lines = length (field_values field lines) == 0
 
 -- one of the four numbers is missing
 abbrev pub is_incomplete : List (List ℕ) → Bool
-is_incomplete lines = is_field_missing Width lines || is_field_missing Height lines || is_field_missing Depth lines
-    || is_field_missing Maxval lines
-
--- the number of a field
-abbrev pub field_in : Field → List (List ℕ) → ℕ
-field_in field lines = slice_index (field_values field lines) 0
+is_incomplete lines =
+    (length (field_values Width lines) == 0) || (length (field_values Height lines) == 0)
+    || (length (field_values Depth lines) == 0) || (length (field_values Maxval lines) == 0)
 
 -- the shape that the lines make
 abbrev pub shape_in : List (List ℕ) → Shape
 shape_in lines =
     record {
       kind = Pam;
-      width = field_in Width lines;
-      height = field_in Height lines;
-      depth = field_in Depth lines;
-      maxval = field_in Maxval lines;
+      width = slice_index (field_values Width lines) 0;
+      height = slice_index (field_values Height lines) 0;
+      depth = slice_index (field_values Depth lines) 0;
+      maxval = slice_index (field_values Maxval lines) 0;
     }
 
 -- the end of a header: the lines together
@@ -185,7 +182,7 @@ lines_item lines =
     if is_incomplete lines then Err MissingField
     else elim (shape_fault (shape_in lines)) [
       | Some fault ↦ Err (fault_of_head fault)
-      | None ↦ Ok (head_value (shape_in lines) (tuple_type_in lines))
+      | None ↦ Ok (record { shape = shape_in lines; tuple_type = tuple_type_in lines })
     ]
 
 -- ---- raw rasters
@@ -207,7 +204,7 @@ ends_in_digit before = not (ends_in_comment before) && ends_by is_digit before
 
 -- the awaited number's last digit is before this byte
 abbrev pub is_complete : List ℕ → ℕ → Bool
-is_complete before b = ends_in_digit before && not (is_digit b)
+is_complete before b = not (ends_in_comment before) && ends_by is_digit before && not (is_digit b)
 
 -- a byte of a number, or of the gap before it
 unfoldable pub decimal_item : List ℕ → ℕ → Judgement
@@ -238,11 +235,11 @@ pixel_end before = Some RasterCut
 abbrev pub pixel_in : List ℕ → ℕ
 pixel_in piece = if ends_by (λ b. b == digit_one) piece then 0 else 1
 
--- a pixel
+-- a pixel: 1 is black, which is sample 0
 unfoldable pub plain_pixel : List ℕ → Result (ℕ × List ℕ) InputFault
 plain_pixel text = do
-  piece ← piece_from pixel_item pixel_end [] text
-  Ok (pixel_in piece.0, piece.1)
+  piece ← piece_from pixel_item (λ before. Some RasterCut) [] text
+  Ok ((if ends_by (λ b. b == digit_one) piece.0 then 0 else 1), piece.1)
 
 -- the end of a number
 abbrev pub sample_item : ℕ → ℕ → Result ℕ InputFault
@@ -251,7 +248,8 @@ sample_item maxval sample = if nat_le sample maxval then Ok sample else Err Samp
 -- a sample, which is a number
 unfoldable pub plain_decimal : ℕ → List ℕ → Result (ℕ × List ℕ) InputFault
 plain_decimal maxval text = do
-  piece ← piece_from decimal_item decimal_end [] text
+  piece ← piece_from decimal_item
+      (λ before. if not (ends_in_comment before) && ends_by is_digit before then None else Some RasterCut) [] text
   sample ← sample_item maxval (number_in piece.0)
   Ok (sample, piece.1)
 

@@ -99,7 +99,7 @@ line_kind line = kind_of_token (first_token line)
 unfoldable pub field_values : Field → List (List ℕ) → List ℕ
 field_values field [] = []
 field_values field (line ∷ lines) =
-    if begins_with (name_of field) line then decimal_value (second_token line) ∷ field_values field
+    if bytes_eq (name_of field) (first_token line) then decimal_value (second_token line) ∷ field_values field
     lines else field_values field lines
 
 -- two texts joined by one blank; an empty one is left out
@@ -112,5 +112,5 @@ joined_with (b ∷ first) (c ∷ text) = (b ∷ first) ++ blank ∷ c ∷ text
 unfoldable pub tuple_type_in : List (List ℕ) → List ℕ
 tuple_type_in [] = []
 tuple_type_in (line ∷ lines) =
-    if begins_with (codes "TUPLTYPE") line then joined_with (value_of line) (tuple_type_in lines) else tuple_type_in
-    lines
+    if bytes_eq (codes "TUPLTYPE") (first_token line) then joined_with (value_of line) (tuple_type_in lines)
+    else tuple_type_in lines
