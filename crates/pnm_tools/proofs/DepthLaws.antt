@@ -98,6 +98,7 @@ rescaled_head_is new head low high sound =
 pub depth_is_samplewise : (new : ℕ) → IsSamplewise (Depth new) (rescaled_by new)
 depth_is_samplewise new = record {
   means = refl;
+  rows = refl;
   head = λ h lawful is. rescaled_head_is new h lawful.0 lawful.1 is;
   within = λ maxval sample lawful some le. nearest_in_range new maxval sample some le;
 }

@@ -5,4 +5,4 @@ use Rattle.pnm_tools.specs.Invert.{inverting}
 use Rattle.pnm_tools.proofs.SamplewiseLaws.{IsSamplewise}
 
 pub invert_is_samplewise : IsSamplewise Invert inverting
-invert_is_samplewise = record { means = refl; head = λ h lawful is. is; within = λ maxval sample lawful some le. omega arith }
+invert_is_samplewise = record { means = refl; rows = refl; head = λ h lawful is. is; within = λ maxval sample lawful some le. omega arith }

@@ -7,17 +7,18 @@ use Rattle.pnm_tools.specs.declared.fault.ToolFault.{ToolFault}
 use Rattle.pnm_tools.specs.declared.tool.Tool.{Tool}
 use Rattle.pnm_tools.specs.Answering.{rows_answer}
 use Rattle.pnm_tools.specs.Formulas.{image_by}
-use Rattle.pnm_tools.specs.Meaning.{Meaning}
+use Rattle.pnm_tools.specs.Meaning.{Meaning, RowRule}
 use Rattle.pnm_tools.specs.SampleTools.{ChangesSamples}
-use Rattle.pnm_tools.specs.Samplewise.{SampleRule, changed_head, samplewise}
-use Rattle.pnm_tools.specs.Tools.{IsLawfulTool, meaning, result_head, result_sample, row_answer, end_answer}
+use Rattle.pnm_tools.specs.Samplewise.{SampleRule, changed_head, samplewise, samplewise_row_rule}
+use Rattle.pnm_tools.specs.Tools.{IsLawfulTool, meaning, result_head, result_sample, row_rule, row_answer, end_answer}
 use Rattle.pnm_tools.proofs.AnsweringLaws.{AnswersImages}
 use Rattle.pnm_tools.proofs.FormulaLaws.{samplewise_rows}
 use Rattle.pnm_tools.proofs.ImageLaws.{answers_to_rows, each_row_answered, result_by_head, answered_by_rows}
 
--- what each such tool has to show: it means its rule, makes heads of heads, and leaves samples within the new maxval
+-- what each such tool has to show: it means its rule, answers rows by it, makes heads of heads, and leaves samples within the new maxval
 pub record IsSamplewise (tool : Tool) (rule : SampleRule) : Type 1 where
   pub means : meaning tool ≡ samplewise (IsLawfulTool tool) rule
+  pub rows : row_rule tool ≡ samplewise_row_rule rule
   pub head : (h : HeadValue) → IsLawfulTool tool → IsHead h → IsHead (changed_head rule h)
   pub within : (maxval sample : ℕ) → IsLawfulTool tool → 1 ≤ maxval → sample ≤ maxval → rule.sample maxval sample ≤ rule.maxval maxval
 
@@ -30,7 +31,7 @@ head_of_rule is head = ap (λ (m : Meaning). m.head head) is.means
 pub row_of_rule : {tool : Tool} {rule : SampleRule} → IsSamplewise tool rule → (s : Shape) (y : ℕ) (row : List ℕ)
     → row_answer tool s y row ≡ map (rule.sample s.maxval) row ∷ []
 unfolding row_answer
-row_of_rule is s y row = ap (λ (m : Meaning). m.row_answer s y row) is.means
+row_of_rule is s y row = ap (λ (r : RowRule). r.row_answer s y row) is.rows
 
 -- rows are answered by as many, each sample changed
 pub rows_of_rule : {tool : Tool} {rule : SampleRule} → IsSamplewise tool rule → (s : Shape) (y : ℕ) (rows : List (List ℕ))
@@ -41,7 +42,7 @@ rows_of_rule {tool = tool} {rule = rule} is s y (row ∷ rows) =
     ∙ ap (λ (l : List (List ℕ)). map (rule.sample s.maxval) row ∷ l) (rows_of_rule is s (y + 1) rows)
 
 pub no_end_of_rule : {tool : Tool} {rule : SampleRule} → IsSamplewise tool rule → (s : Shape) (rows : List (List ℕ)) → end_answer tool s rows ≡ []
-no_end_of_rule is s rows = ap (λ (m : Meaning). m.end_answer s rows) is.means
+no_end_of_rule is s rows = ap (λ (r : RowRule). r.end_answer s rows) is.rows
 
 pub sample_of_rule : {tool : Tool} {rule : SampleRule} → IsSamplewise tool rule → (i : Image) → result_sample tool i
     ≡ (λ x y p. rule.sample i.head.shape.maxval (sample_at i x y p))

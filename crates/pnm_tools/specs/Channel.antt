@@ -11,7 +11,7 @@ use Rattle.pnm_image.specs.Images.{Image, sample_at}
 use Rattle.pnm_tools.specs.declared.fault.ToolFault.{ToolFault}
 use Rattle.pnm_tools.specs.declared.fault.ToolFault.TheVariants.{ChannelOutside}
 use Rattle.pnm_tools.specs.Limits.{within_limits}
-use Rattle.pnm_tools.specs.Meaning.{Meaning}
+use Rattle.pnm_tools.specs.Meaning.{Meaning, RowRule}
 
 -- the numbers of the planes, from 0, and the tuple type of what is picked
 pub record Picks : Type 0 where
@@ -66,6 +66,7 @@ picking picks = record {
   row_wise = true;
   head = picked_head picks;
   sample = picked_sample picks;
-  row_answer = λ s y row. picked_row picks s row ∷ [];
-  end_answer = λ s rows. [];
 }
+
+abbrev pub picked_row_rule : Picks → RowRule
+picked_row_rule picks = record { row_answer = λ s y row. picked_row picks s row ∷ []; end_answer = λ s rows. [] }

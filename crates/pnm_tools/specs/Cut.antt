@@ -14,7 +14,7 @@ use Rattle.pnm_tools.specs.declared.cut.Span.{Span}
 use Rattle.pnm_tools.specs.declared.fault.ToolFault.{ToolFault}
 use Rattle.pnm_tools.specs.declared.fault.ToolFault.TheVariants.{CutOutside, OutOfOrder}
 use Rattle.pnm_tools.specs.Limits.{IsExtent}
-use Rattle.pnm_tools.specs.Meaning.{Meaning}
+use Rattle.pnm_tools.specs.Meaning.{Meaning, RowRule}
 
 -- an edge lies as far as the greatest extent from either end
 abbrev pub IsEdge : ℤ → Type 0
@@ -113,6 +113,7 @@ cutting box = record {
   row_wise = false;
   head = cut_head box;
   sample = cut_sample box;
-  row_answer = cut_rows_of box;
-  end_answer = λ s rows. [];
 }
+
+abbrev pub cut_row_rule : CutBox → RowRule
+cut_row_rule box = record { row_answer = cut_rows_of box; end_answer = λ s rows. [] }

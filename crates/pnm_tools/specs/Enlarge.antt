@@ -8,7 +8,7 @@ use Rattle.pnm_tools.specs.declared.fault.ToolFault.{ToolFault}
 use Rattle.pnm_tools.specs.declared.fault.ToolFault.TheVariants.{OutOfOrder}
 use Rattle.pnm_tools.specs.Limits.{IsExtent, within_limits}
 use Rattle.pnm_tools.specs.Pixels.{pixel_of}
-use Rattle.pnm_tools.specs.Meaning.{Meaning}
+use Rattle.pnm_tools.specs.Meaning.{Meaning, RowRule}
 
 abbrev pub enlarged_head_value : ℕ → ℕ → HeadValue → HeadValue
 enlarged_head_value across down head =
@@ -40,6 +40,8 @@ enlargement across down = record {
   row_wise = down == 1;
   head = enlarged_head across down;
   sample = enlarged_sample across down;
-  row_answer = λ s y row. enlarged_rows across down s row;
-  end_answer = λ s rows. [];
 }
+
+abbrev pub enlarged_row_rule : ℕ → ℕ → RowRule
+enlarged_row_rule across down =
+    record { row_answer = λ s y row. enlarged_rows across down s row; end_answer = λ s rows. [] }

@@ -15,7 +15,7 @@ use Rattle.pnm_tools.specs.declared.flip.FlipWay.TheVariants.{Rotate180, Rotate2
 use Rattle.pnm_tools.specs.declared.flip.Turn.{Turn}
 use Rattle.pnm_tools.specs.Limits.{within_limits}
 use Rattle.pnm_tools.specs.Pixels.{pixel_of}
-use Rattle.pnm_tools.specs.Meaning.{Meaning}
+use Rattle.pnm_tools.specs.Meaning.{Meaning, RowRule}
 
 -- ---- the ways
 
@@ -116,6 +116,8 @@ flipping way = record {
   row_wise = not (moves_rows (turn_of way));
   head = turned_head (turn_of way);
   sample = flipped_sample way;
-  row_answer = λ s y row. turned_rows (turn_of way) s row;
-  end_answer = turned_at_end (turn_of way);
 }
+
+abbrev pub flipped_row_rule : FlipWay → RowRule
+flipped_row_rule way =
+    record { row_answer = λ s y row. turned_rows (turn_of way) s row; end_answer = turned_at_end (turn_of way) }

@@ -1,4 +1,5 @@
--- What a tool means: which options are lawful, and what it makes of an image, or why it refuses it.
+-- What a tool means: which options are lawful, and what it makes of an image, or why it refuses it; and by which rows
+-- it answers the rows of an image and its end.
 use Rattle.std.specs.Prelude.{ℕ, Bool, List, Result}
 use Rattle.pnm_image.specs.declared.shape.Shape.{Shape}
 use Rattle.pnm_image.specs.Heads.{HeadValue}
@@ -14,6 +15,9 @@ pub record Meaning : Type 1 where
   pub head : HeadValue → Result HeadValue ToolFault
   -- the sample of the result in a column, a row and a plane
   pub sample : Image → ℕ → ℕ → ℕ → ℕ
+
+-- when the rows of the result come
+pub record RowRule : Type 0 where
   -- the rows that answer row y of an image of this shape, as soon as it comes
   pub row_answer : Shape → ℕ → List ℕ → List (List ℕ)
   -- the rows that answer the end of an image of this shape and of these rows

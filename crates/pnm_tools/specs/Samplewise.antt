@@ -4,7 +4,7 @@ use Rattle.std.specs.Prelude.{ℕ, List, map, Ok, true, [], ◌∷◌}
 use Rattle.pnm_image.specs.declared.shape.Kind.{Kind}
 use Rattle.pnm_image.specs.Heads.{HeadValue}
 use Rattle.pnm_image.specs.Images.{sample_at}
-use Rattle.pnm_tools.specs.Meaning.{Meaning}
+use Rattle.pnm_tools.specs.Meaning.{Meaning, RowRule}
 
 -- what such a tool does, which depends on the image's maxval alone
 pub record SampleRule : Type 0 where
@@ -35,6 +35,9 @@ samplewise lawful rule = record {
   row_wise = true;
   head = λ head. Ok (changed_head rule head);
   sample = λ i x y p. rule.sample i.head.shape.maxval (sample_at i x y p);
-  row_answer = λ s y row. map (rule.sample s.maxval) row ∷ [];
-  end_answer = λ s rows. [];
 }
+
+-- each row answers itself, and nothing the end
+abbrev pub samplewise_row_rule : SampleRule → RowRule
+samplewise_row_rule rule =
+    record { row_answer = λ s y row. map (rule.sample s.maxval) row ∷ []; end_answer = λ s rows. [] }

@@ -9,7 +9,7 @@ use Rattle.pnm_tools.specs.declared.fault.ToolFault.{ToolFault}
 use Rattle.pnm_tools.specs.declared.fault.ToolFault.TheVariants.{OutOfOrder}
 use Rattle.pnm_tools.specs.Limits.{IsExtent, within_limits}
 use Rattle.pnm_tools.specs.Pixels.{pixel_of}
-use Rattle.pnm_tools.specs.Meaning.{Meaning}
+use Rattle.pnm_tools.specs.Meaning.{Meaning, RowRule}
 
 abbrev pub tiled_head_value : ℕ → ℕ → HeadValue → HeadValue
 tiled_head_value width height head = record head { shape = record head.shape { width = width; height = height } }
@@ -37,6 +37,7 @@ tiling width height = record {
   row_wise = false;
   head = tiled_head width height;
   sample = tiled_sample;
-  row_answer = λ s y row. [];
-  end_answer = tiled_at_end width height;
 }
+
+abbrev pub tiled_row_rule : ℕ → ℕ → RowRule
+tiled_row_rule width height = record { row_answer = λ s y row. []; end_answer = tiled_at_end width height }

@@ -9,14 +9,15 @@ use Rattle.pnm_tools.specs.declared.fault.ToolFault.{ToolFault}
 use Rattle.pnm_tools.specs.declared.tool.Tool.{Tool}
 use Rattle.pnm_tools.specs.declared.tool.Tool.TheVariants.{Invert, Cut, Depth, Channel, Enlarge, Flip, Tile}
 use Rattle.pnm_tools.specs.Formulas.{image_by}
-use Rattle.pnm_tools.specs.Meaning.{Meaning}
-use Rattle.pnm_tools.specs.Invert.{inversion}
-use Rattle.pnm_tools.specs.Cut.{cutting}
-use Rattle.pnm_tools.specs.Depth.{rescaling}
-use Rattle.pnm_tools.specs.Channel.{picking}
-use Rattle.pnm_tools.specs.Enlarge.{enlargement}
-use Rattle.pnm_tools.specs.Flip.{flipping}
-use Rattle.pnm_tools.specs.Tile.{tiling}
+use Rattle.pnm_tools.specs.Meaning.{Meaning, RowRule}
+use Rattle.pnm_tools.specs.Samplewise.{samplewise_row_rule}
+use Rattle.pnm_tools.specs.Invert.{inversion, inverting}
+use Rattle.pnm_tools.specs.Cut.{cutting, cut_row_rule}
+use Rattle.pnm_tools.specs.Depth.{rescaling, rescaled_by}
+use Rattle.pnm_tools.specs.Channel.{picking, picked_row_rule}
+use Rattle.pnm_tools.specs.Enlarge.{enlargement, enlarged_row_rule}
+use Rattle.pnm_tools.specs.Flip.{flipping, flipped_row_rule}
+use Rattle.pnm_tools.specs.Tile.{tiling, tiled_row_rule}
 
 abbrev pub meaning : Tool → Meaning
 meaning Invert = inversion
@@ -72,10 +73,21 @@ output_due tool (i ∷ is) = elim (applied tool i) [
   | Err fault ↦ []
 ]
 
+-- ---- row by row
+
+abbrev pub row_rule : Tool → RowRule
+row_rule Invert = samplewise_row_rule inverting
+row_rule (Cut box) = cut_row_rule box
+row_rule (Depth maxval) = samplewise_row_rule (rescaled_by maxval)
+row_rule (Channel planes) = picked_row_rule planes
+row_rule (Enlarge across down) = enlarged_row_rule across down
+row_rule (Flip way) = flipped_row_rule way
+row_rule (Tile width height) = tiled_row_rule width height
+
 -- the rows that answer row y of an image of this shape, as soon as it comes
 unfoldable pub row_answer : Tool → Shape → ℕ → List ℕ → List (List ℕ)
-row_answer tool s y row = (meaning tool).row_answer s y row
+row_answer tool s y row = (row_rule tool).row_answer s y row
 
 -- the rows that answer the end of an image of this shape and of these rows
 abbrev pub end_answer : Tool → Shape → List (List ℕ) → List (List ℕ)
-end_answer tool s rows = (meaning tool).end_answer s rows
+end_answer tool s rows = (row_rule tool).end_answer s rows
