@@ -306,26 +306,23 @@ fn ends_well_in_threads_with_memory(rt: HostRuntime) {
     assert!(rt; is_well);
 }
 
-/// An image whose rows come together, as bits though its maxval is greater, and what `pnminvert` makes of it, which
-/// takes each row of such bits by itself.
-const BITS_TOGETHER: &[u8] = b"Gray 2 3 1 9 {[0 1] [1 0] [1 1]} ImageEnd StreamEnd";
+/// Rows that come together, one more than their image has: each is taken by itself, up to the one too many.
+const ONE_TOO_MANY: &[u8] = b"Gray 2 2 1 9 {[0 1] [1 0] [1 1]} StreamEnd";
 
-const EACH_INVERTED: &[Part<'static>] = &[
-    Part::Begin(Kind::Gray, 2, 3, 9),
+/// What `pnminvert` sends for the others.
+const OTHERS_INVERTED: &[Part<'static>] = &[
+    Part::Begin(Kind::Gray, 2, 2, 9),
     Part::Row(&[9, 8]),
     Part::Row(&[8, 9]),
-    Part::Row(&[8, 8]),
-    Part::ImageEnd,
-    Part::StreamEnd,
+    Part::Stop,
 ];
 
-/// Whether the stage ends well. Where it doesn't memory ran out, and a prefix of the answer is sent before Stop.
-fn takes_rows_apart<R: Wait + Abort>(rt: &R, alloc: Global) -> Option<bool> {
-    let (_producer, input) = holding_written(alloc, BITS_TOGETHER)?;
-    let (output, mut consumer) = new_ring(alloc, 8)?;
+/// How the stage ends that these rows come to, and the ring that it sends to.
+fn takes_rows_apart<R: Wait + Abort>(rt: &R, alloc: Global) -> Option<(StageEnd, Receiver)> {
+    let (_producer, input) = holding_written(alloc, ONE_TOO_MANY)?;
+    let (output, consumer) = new_ring(alloc, 8)?;
     let done = stage(rt, alloc, &Tool::Invert, input, output);
-    let is_stopped = ends_by_stop(rt, &mut consumer, EACH_INVERTED);
-    Some(is_well_or_short(rt, done.end, is_stopped))
+    Some((done.end, consumer))
 }
 
 /// The stage of this tool, which has to be lawful.
@@ -348,17 +345,24 @@ fn is_well_or_short(rt: &impl Abort, end: StageEnd, is_stopped: bool) -> bool {
     is_well
 }
 
-/// Each growth of a stage that copies the rows which came together may be refused.
+/// Each growth of a stage that copies the rows which came together may be refused: Stop comes last all the same.
 #[test]
 fn takes_rows_apart_or_runs_out(rt: HostRuntime) {
-    let _ = takes_rows_apart(&rt, rt.alloc());
+    if let Some((end, mut consumer)) = takes_rows_apart(&rt, rt.alloc()) {
+        let is_stopped = ends_by_stop(&rt, &mut consumer, OTHERS_INVERTED);
+        let is_short = end == StageEnd::Fault(ToolFault::Memory);
+        assert!(&rt; is_stopped && (is_short || end == StageEnd::Fault(ToolFault::OutOfOrder)));
+    }
 }
 
-/// Where no growth is refused each of the rows is inverted.
+/// Where no growth is refused each of the rows before the one too many is inverted.
 #[test]
 fn takes_rows_apart_with_memory(rt: HostRuntime) {
-    let is_well = takes_rows_apart(&rt, rt.alloc()).unwrap_or(false);
-    assert!(rt; is_well);
+    let Some((end, mut consumer)) = takes_rows_apart(&rt, rt.alloc()) else {
+        panic!(&rt; "there is no memory");
+    };
+    assert!(&rt; end == StageEnd::Fault(ToolFault::OutOfOrder));
+    holds(&rt, &mut consumer, OTHERS_INVERTED, "the other rows, and Stop");
 }
 
 /// An image whose rows come together, and what the first of two lanes is dealt of it, and the second.
