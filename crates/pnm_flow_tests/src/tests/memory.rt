@@ -362,7 +362,12 @@ fn takes_rows_apart_with_memory(rt: HostRuntime) {
         panic!(&rt; "there is no memory");
     };
     assert!(&rt; end == StageEnd::Fault(ToolFault::OutOfOrder));
-    holds(&rt, &mut consumer, OTHERS_INVERTED, "the other rows, and Stop");
+    holds(
+        &rt,
+        &mut consumer,
+        OTHERS_INVERTED,
+        "the other rows, and Stop",
+    );
 }
 
 /// An image whose rows come together, and what the first of two lanes is dealt of it, and the second.
