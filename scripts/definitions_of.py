@@ -53,13 +53,11 @@ BOOKKEEPING = {
     ("pnm_tools", "Chains"): (["applied_in_turn", "refusal_from"], "steps along a chain"),
     ("pnm_serial", "Counts"): (["saturate_"], "a counter that stops at its greatest number"),
     ("pnm_serial", "Jobs"): (["job_of"], "puts two arguments into a record"),
-    ("pnm_serial", "Runs"): (
-        ["Change", "HasMore", "IfInput", "IfOutput", "IfTool", "change", "input_of"],
-        "cases of an answer, and a device before and after a call",
-    ),
+    ("pnm_serial", "Runs"): (["Change", "change"], "a device before and after a call"),
+    ("pnm_serial", "RunFacts"): (["IfGone", "IfInput", "IfOutput", "IfTool"], "cases of an answer"),
     ("pnm_flow", "Chains"): ([], "chooses between one lane and several"),
     ("pnm_flow", "ThreadedRuns"): (
-        ["FitEnds", "IfGone", "IsOfTools", "fault_of_end", "first_fault_from"],
+        ["FitEnds", "IsOfTools", "fault_of_end", "first_fault_from"],
         "cases of an answer",
     ),
 }

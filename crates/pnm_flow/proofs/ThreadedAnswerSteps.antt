@@ -1,10 +1,9 @@
 -- What a run over threads answers once all have ended.
-use Rattle.std.proofs.Common.{◌≡◌, ◌≢◌, inl, inr, ℕ, suc, drop, get_or, ◌+◌, ◌<◌, Bool, true, false, List, [], ◌∷◌, ◌++◌, length, Option, Some, None}
+use Rattle.std.proofs.Common.{◌≡◌, ◌≢◌, inl, inr, ℕ, suc, drop, get_or, ◌+◌, ◌<◌, Bool, true, false, List, [], ◌∷◌, length, Option, Some, None}
 use Rattle.std.proofs.Common.{Result, Ok, Err, refl, ap, subst, ◌∙◌, arith}
 use Rattle.std.proofs.Math.Seq.{drop-cons}
-use Rattle.pnm_image.specs.Messages.{without_stop}
 use Rattle.pnm_read.specs.declared.fault.InputFault.{InputFault}
-use Rattle.pnm_read.specs.declared.fault.InputFault.TheVariants.{ReadFailed, Memory as NoMemoryToRead}
+use Rattle.pnm_read.specs.declared.fault.InputFault.TheVariants.{Memory as NoMemoryToRead}
 use Rattle.pnm_read.specs.declared.source.Source.{Source}
 use Rattle.pnm_read.specs.Sources.{reader_of}
 use Rattle.pnm_write.specs.declared.fault.SinkFault.{SinkFault}
@@ -15,10 +14,9 @@ use Rattle.pnm_stages.specs.declared.stage.StageEnd.TheVariants.{Well, Broken, F
 use Rattle.pnm_serial.specs.declared.summary.Summary.{Summary}
 use Rattle.pnm_serial.specs.Jobs.{Job}
 use Rattle.pnm_serial.specs.Runs.{Change, change}
-use Rattle.pnm_flow.specs.ThreadedRuns.{fault_of_end, first_fault_from, answer_over, IsPrefixWhatever, HasRunOverThreads}
-use Rattle.pnm_serial.proofs.EndSteps.{ended_has_run, ended_without_reading}
-use Rattle.pnm_serial.proofs.RunSteps.{said_prefix, run_prefix}
-use Rattle.pnm_flow.proofs.ThreadedRunSteps.{Over, ran_over, gone_has_run, ended_over, well_stages, refused_stages, all_sent}
+use Rattle.pnm_flow.specs.ThreadedRuns.{fault_of_end, first_fault_from, answer_over, HasRunOverThreads}
+use Rattle.pnm_serial.proofs.EndSteps.{ended_has_run, unread_has_run as serial_unread}
+use Rattle.pnm_flow.proofs.ThreadedRunSteps.{Over, gone_has_run, ended_over, well_stages, refused_stages, all_sent}
 
 -- ---- the answer
 
@@ -45,23 +43,6 @@ of_stage from (Broken ∷ ends) fault is = of_stage (from + 1) ends fault is
 of_stage from (Fault other ∷ ends) fault is = let same : OfTool from other ≡ fault = cc in subst IsOfStage same tt
 of_stage from (PeerGone ∷ ends) fault is = let same : Gone from ≡ fault = cc in subst IsOfStage same tt
 
--- after a failed read anything may come
-prefix_whatever : {R W : Type 0} (left : R → Option (List ℕ)) (reader_failures : R → ℕ) (held : W → Option (List ℕ)) (failures : W → ℕ)
-    (first source : Source R) (start done : W) (lanes : ℕ) (job : Job) (ends : List StageEnd) (fault : InputFault) (has_ended : Bool)
-    (output : Result Summary SinkFault)
-    → Over left reader_failures held failures first source start done lanes job ends (Some (Err fault)) has_ended output → fault ≡ ReadFailed
-    → IsPrefixWhatever job (change left reader_failures (reader_of first) (reader_of source)) (change held failures start done)
-prefix_whatever left reader_failures held failures first source start done lanes job ends fault has_ended output over is =
-    let ran = ran_over left reader_failures held failures first source start done lanes job ends (Some (Err fault)) has_ended output over in
-    record {
-      read = over.asked.read;
-      consumed = over.asked.consumed;
-      prefix = λ rest.
-          let text = over.asked.read ++ rest in
-          run_prefix held failures start done job over.given (without_stop over.got) over.sink text ran
-          (said_prefix text over.given (Err fault) (over.asked.after_failed_read (ap Err is) rest)) over.kept;
-    }
-
 pub over_has_run : {R W : Type 0} (left : R → Option (List ℕ)) (reader_failures : R → ℕ) (held : W → Option (List ℕ)) (failures : W → ℕ)
     (first source : Source R) (start done : W) (lanes : ℕ) (job : Job) (ends : List StageEnd) (input : Option (Result (Unit {0}) InputFault))
     (found : Option RunFault) (has_ended : Bool) (output : Result Summary SinkFault)
@@ -75,15 +56,8 @@ over_has_run left reader_failures held failures first source start done lanes jo
     let ended = ended_over left reader_failures held failures first source start done lanes job ends (Err fault) has_ended output None [] over
     (λ well. absurd cc) in
     record {
-      run = ended_has_run (change left reader_failures (reader_of first) (reader_of source)) held failures start done job (Err fault) None output ⊥ ended;
+      run = ended_has_run ⊥ (change left reader_failures (reader_of first) (reader_of source)) held failures start done job (Err fault) None output ended;
       all_written = λ text has no sound. absurd no;
-      read_failed =
-          λ is. (
-            over.asked.read_failed (ap Err is),
-            prefix_whatever left reader_failures held failures first source start done lanes job ends fault has_ended
-                output over is,
-          );
-      gone = tt;
     }
 over_has_run left reader_failures held failures first source start done lanes job ends (Some (Ok tt)) (Some NoStart) has_ended output over many is =
     absurd (of_stage 1 ends NoStart is)
@@ -97,12 +71,11 @@ over_has_run left reader_failures held failures first source start done lanes jo
     let ended = ended_over left reader_failures held failures first source start done lanes job ends (Ok tt) has_ended output (Some (number, fault)) stages.0
     over (λ well. stages.1) in
     record {
-      run = ended_has_run (change left reader_failures (reader_of first) (reader_of source)) held failures start done job (Ok tt) (Some (number, fault)) output
-          ⊥ ended;
-      read_failed = tt;
+      run = ended_has_run ⊥ (change left reader_failures (reader_of first) (reader_of source)) held failures start done job (Ok tt) (Some (number, fault))
+          output
+          ended;
       all_written = λ text has tools_are sound. all_sent left reader_failures held failures first source start done lanes job ends has_ended output
           (Err (OfTool number fault)) over is text has sound;
-      gone = tt;
     }
 over_has_run left reader_failures held failures first source start done lanes job ends (Some (Ok tt)) (Some (Gone number)) has_ended output over many is =
     gone_has_run left reader_failures held failures first source start done lanes job ends (Some (Ok tt)) has_ended output number over (inr refl)
@@ -115,22 +88,18 @@ over_has_run left reader_failures held failures first source start done lanes jo
     let ended = ended_over left reader_failures held failures first source start done lanes job ends (Ok tt) true (Err fault) None stages.0 over
     (λ well. stages.1) in
     record {
-      run = ended_has_run (change left reader_failures (reader_of first) (reader_of source)) held failures start done job (Ok tt) None (Err fault) ⊥ ended;
-      read_failed = tt;
+      run = ended_has_run ⊥ (change left reader_failures (reader_of first) (reader_of source)) held failures start done job (Ok tt) None (Err fault) ended;
       all_written = λ text has tools_are sound. all_sent left reader_failures held failures first source start done lanes job ends true (Err fault)
           (Err (Output fault)) over is text has sound;
-      gone = tt;
     }
 over_has_run left reader_failures held failures first source start done lanes job ends (Some (Ok tt)) None true (Ok summary) over many is =
     let stages = well_stages left reader_failures held failures first source start done lanes job ends (Ok summary) over is in
     let ended = ended_over left reader_failures held failures first source start done lanes job ends (Ok tt) true (Ok summary) None stages.0 over
     (λ well. stages.1) in
     record {
-      run = ended_has_run (change left reader_failures (reader_of first) (reader_of source)) held failures start done job (Ok tt) None (Ok summary) ⊥ ended;
-      read_failed = tt;
+      run = ended_has_run ⊥ (change left reader_failures (reader_of first) (reader_of source)) held failures start done job (Ok tt) None (Ok summary) ended;
       all_written = λ text has tools_are sound. all_sent left reader_failures held failures first source start done lanes job ends true (Ok summary)
           (Ok summary) over is text has sound;
-      gone = tt;
     }
 
 -- ---- the first fault
@@ -177,8 +146,6 @@ pub unread_has_run : (lanes : ℕ) (job : Job) (reader writer : Change) → read
     → writer.new ≡ writer.old → HasRunOverThreads lanes job (Err (Input NoMemoryToRead)) reader writer
 unread_has_run lanes job reader writer read same_count written =
     record {
-      run = (ended_without_reading job ⊥ reader writer read same_count written).run;
+      run = serial_unread ⊥ job reader writer read same_count written;
       all_written = λ text is has sound. absurd has;
-      read_failed = λ is. absurd cc;
-      gone = tt;
     }

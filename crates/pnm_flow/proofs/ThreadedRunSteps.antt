@@ -35,17 +35,19 @@ use Rattle.pnm_serial.specs.declared.summary.Summary.{Summary}
 use Rattle.pnm_flow.specs.Chains.{IsStageOver, FirstIsThere, AreStages}
 use Rattle.pnm_serial.specs.Collectors.{EndedBy}
 use Rattle.pnm_serial.specs.Downstreams.{output_of, HasTaken, AnswersFlushes}
-use Rattle.pnm_serial.specs.Feeders.{HasAskedBy, closing_messages}
+use Rattle.pnm_serial.specs.Feeders.{HasAskedAll, HasAskedBy, closing_messages}
+use Rattle.pnm_serial.specs.Feeding.{IsSaidOf, HasMore, MayFollowRead}
 use Rattle.pnm_serial.specs.Jobs.{Job}
-use Rattle.pnm_serial.specs.Runs.{change, MayFollowRead}
+use Rattle.pnm_serial.specs.Runs.{Change, change, MayFollow}
+use Rattle.pnm_serial.specs.SerialRuns.{answer_by}
 use Rattle.pnm_stages.specs.Prefixes.{IsPrefixOfDue}
 use Rattle.pnm_flow.specs.ThreadedRuns.{first_fault_from, HasEndedOver, HaveEnded, FitEnds, IsAllSent, HasRunOverThreads}
 use Rattle.pnm_flow.proofs.ToolOverLaws.{stage_ended, received_ended, sent_ended}
 use Rattle.pnm_stages.proofs.EndingLaws.{nothing_follows, stream_ends_whole}
 use Rattle.pnm_stages.proofs.PrefixLaws.{prefix_without_stop, stop_is_cut}
-use Rattle.pnm_serial.proofs.EndSteps.{Ended, HaveEnded as StagesAnswered, rest_follows}
+use Rattle.pnm_serial.proofs.EndSteps.{Ended, HaveEnded as StagesAnswered, ended_so, rest_follows}
 use Rattle.pnm_serial.proofs.FeedingSteps.{given_is_sound, may_give, rest_of}
-use Rattle.pnm_serial.proofs.RunSteps.{Ran, run_prefix, output_all, sound_is_writable}
+use Rattle.pnm_serial.proofs.RunSteps.{Ran, run_due, run_begun, output_all, sound_is_writable}
 use Rattle.pnm_flow.proofs.StageEndLaws.{all_answered, answered_until, next_is_well, next_is_there}
 
 -- ---- what each tool has ended for
@@ -226,6 +228,18 @@ said_by left failures first source given (Some (Ok x)) well asked =
 said_by left failures first source given (Some (Err fault)) (inl none) asked = absurd cc
 said_by left failures first source given (Some (Err fault)) (inr well) asked = absurd cc
 
+-- what may follow by the answer may so where the source had no fault
+may_follow_gone : (number : ℕ) (reader : Change) (rest : List ℕ) → MayFollow ⊥ (Err (Gone number)) reader rest → MayFollowRead (Ok tt) reader rest
+may_follow_gone number reader rest may =
+    elim may [
+      | inl none ↦ inl none
+      | inr others ↦
+          elim others [
+            | inl left ↦ inr (inl (subst HasMore (sym left.2) tt))
+            | inr failed ↦ absurd (let never = failed.0 in cc)
+          ]
+    ]
+
 -- a run in which a ring's other end was seen dropped
 pub gone_has_run : {R W : Type 0} (left : R → Option (List ℕ)) (reader_failures : R → ℕ) (held : W → Option (List ℕ)) (failures : W → ℕ)
     (first source : Source R)
@@ -241,35 +255,46 @@ gone_has_run left reader_failures held failures first source start done lanes jo
     let out = without_stop over.got in
     record {
       run = record {
-        well = λ text is. tt;
-        no_failure = tt;
-        input = λ text is. tt;
-        read_failed = tt;
-        sound_reader = λ no_failure. said.2;
-        tool = tt;
-        refusal = λ text is. tt;
-        output = tt;
-        output_last = λ text is. tt;
-        before_refused = λ text is. tt;
-        verdict = λ text is. inl tt;
-        prefix = λ text is.
-            let rest = rest_of reader.old reader.new said.0 text said.1 is in
-            let prefix = subst (λ (l : List ℕ). IsPrefixOf over.given (said_of l)) (sym rest.2) (said.3 rest.0 (rest_follows (Ok tt) reader rest.0 rest.1)) in
-            run_prefix held failures start done job over.given out over.sink text ran prefix over.kept;
-        prefix_for_each =
-            record {
-              read = said.0;
-              consumed = said.1;
-              prefix = λ rest may. run_prefix held failures start done job over.given out over.sink (said.0 ++ rest)
-                  ran (said.3 rest may) over.kept;
-            };
+        read = said.0;
+        consumed = said.1;
+        verdict = λ rest may. inr within;
+        bytes = record {
+          given = out;
+          due = λ text of images completes.
+              let prefix = subst (λ (l : List ℕ). IsPrefixOf over.given (said_of l)) (sym of.2) (said.3 of.0 (may_follow_gone number reader of.0 of.1)) in
+              run_due held failures start job over.given out over.sink text ran prefix images completes;
+          prefix = run_begun held failures start done job over.given out over.sink ran over.kept;
+          all = λ sound. output_all held failures job.form start done out over.sink over.sink.output ran.writable ran.taken
+              (λ fault e. (over.broken fault e).1) over.kept sound;
+          whole = λ whole. absurd whole;
+        };
+        failures = record {
+          read_failed = λ is. absurd cc;
+          read = λ no_failure. said.2;
+          write_failed = λ is. absurd cc;
+          written = λ summary is. absurd cc;
+        };
       };
       all_written = λ text is has sound. absurd has;
-      read_failed = tt;
-      gone = within;
     }
 
 -- ---- the other answers
+
+-- what the source gave is told of what may follow by the answer: after a failed read of anything
+told_over : {R : Type 0} (left : R → Option (List ℕ)) (failures : R → ℕ) (first source : Source R) (given : List Message)
+    (result : Result (Unit {0}) InputFault) (refused : Option (ℕ × ToolFault)) (output : Result Summary SinkFault)
+    → (asked : HasAskedAll left failures first source given result) → (rest : List ℕ)
+    → MayFollow ⊥ (answer_by result refused output) (change left failures (reader_of first) (reader_of source)) rest
+    → IsSaidOf (asked.read ++ rest) given result
+told_over left failures first source given result refused output asked rest may =
+    elim may [
+      | inl none ↦ asked.told rest (inl none)
+      | inr others ↦
+          elim others [
+            | inl more ↦ asked.told rest (inr (inl (subst HasMore (sym more.2) tt)))
+            | inr failed ↦ asked.after_failed_read (ended_so result refused output failed.0) rest
+          ]
+    ]
 
 pub ended_over : {R W : Type 0} (left : R → Option (List ℕ)) (reader_failures : R → ℕ) (held : W → Option (List ℕ)) (failures : W → ℕ) (first source : Source R)
     (start done : W) (lanes : ℕ) (job : Job) (ends : List StageEnd) (result : Result (Unit {0}) InputFault) (has_ended : Bool)
@@ -277,7 +302,7 @@ pub ended_over : {R W : Type 0} (left : R → Option (List ℕ)) (reader_failure
     (refused : Option (ℕ × ToolFault)) (faults : List (Option ToolFault))
     → (over : Over left reader_failures held failures first source start done lanes job ends (Some result) has_ended output)
     → (result ≡ Ok tt → StagesAnswered job.tools faults over.given (without_stop over.got) refused)
-    → Ended (change left reader_failures (reader_of first) (reader_of source)) held failures start done job result refused output
+    → Ended ⊥ (change left reader_failures (reader_of first) (reader_of source)) held failures start done job result refused output
 ended_over left reader_failures held failures first source start done lanes job ends result has_ended output refused faults over stages = record {
   faults = faults;
   given = over.given;
@@ -285,7 +310,7 @@ ended_over left reader_failures held failures first source start done lanes job 
   sink = over.sink;
   read = over.asked.read;
   consumed = over.asked.consumed;
-  told = over.asked.told;
+  told = λ rest may. told_over left reader_failures first source over.given result refused output over.asked rest may;
   count = over.asked.count;
   read_failed = λ failed. inl (over.asked.read_failed failed);
   ran = ran_over left reader_failures held failures first source start done lanes job ends (Some result) has_ended output over;
@@ -376,7 +401,8 @@ pub all_sent : {R W : Type 0} (left : R → Option (List ℕ)) (reader_failures 
 all_sent left reader_failures held failures first source start done lanes job ends has_ended output answer over fit text is sound =
     let reader = change left reader_failures (reader_of first) (reader_of source) in
     let rest = rest_of reader.old reader.new over.asked.read text over.asked.consumed is in
-    let said = over.asked.told rest.0 (rest_follows (Ok tt) reader rest.0 rest.1) in
+    let said = told_over left reader_failures first source over.given (Ok tt) None output over.asked rest.0
+    (rest_follows ⊥ (answer_by (Ok tt) None output) reader rest.0 rest.1) in
     let text_is : said_of text ≡ over.given = ap said_of rest.2 ∙ said.0 in
     let whole = given_whole left reader_failures first source over.given over.asked in
     let fed : over.given ≡ over.took ++ over.untaken = sym (append-nil over.given) ∙ sym over.passed ∙ over.received in

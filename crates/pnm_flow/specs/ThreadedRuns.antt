@@ -1,12 +1,10 @@
--- What a run over threads answers, reads and writes.
-use Rattle.std.specs.Prelude.{◌≡◌, ◌≤◌, ℕ, ◌+◌, Bool, true, false, length, List, [], ◌∷◌, ◌++◌, Option, Some, None}
-use Rattle.std.specs.Prelude.{Result, Ok, Err}
-use Rattle.std.specs.Io.KnownBytes.{Appends, Consumes}
+-- What a run over threads answers, and what its tools have sent.
+use Rattle.std.specs.Prelude.{◌≡◌, ℕ, ◌+◌, Bool, true, false, List, [], ◌∷◌, Option, Some, None, Result, Ok, Err}
+use Rattle.std.specs.Io.KnownBytes.{Appends}
 use Rattle.pnm_image.specs.Devices.{Failed}
 use Rattle.pnm_image.specs.declared.message.Message.{Message}
 use Rattle.pnm_image.specs.Messages.{without_stop}
 use Rattle.pnm_read.specs.declared.fault.InputFault.{InputFault}
-use Rattle.pnm_read.specs.declared.fault.InputFault.TheVariants.{ReadFailed}
 use Rattle.pnm_read.specs.Said.{said_of}
 use Rattle.pnm_tools.specs.declared.tool.Tool.{Tool}
 use Rattle.pnm_write.specs.declared.fault.SinkFault.{SinkFault}
@@ -18,7 +16,7 @@ use Rattle.pnm_stages.specs.declared.stage.StageEnd.{StageEnd}
 use Rattle.pnm_stages.specs.declared.stage.StageEnd.TheVariants.{Well, Broken, Fault, PeerGone}
 use Rattle.pnm_serial.specs.declared.summary.Summary.{Summary}
 use Rattle.pnm_serial.specs.Jobs.{Job}
-use Rattle.pnm_serial.specs.Runs.{Change, IfInput, IsPrefixOfBytesDue, HasRun}
+use Rattle.pnm_serial.specs.Runs.{Change, HasRun}
 use Rattle.pnm_stages.specs.Stages.{HasEndedSo}
 use Rattle.pnm_lanes.specs.Lanes.{HaveLanesEndedSo}
 use Rattle.pnm_flow.specs.Chains.{ByLanes}
@@ -95,29 +93,10 @@ pub record IsAllSent {A : Type 0} (text : List ℕ) (lanes : ℕ) (job : Job) (a
 
 -- ---- the run
 
--- where a ring's other end was seen dropped, this holds of the number of who saw it
-abbrev pub IfGone : {A : Type 0} → Result A RunFault → (ℕ → Type 0) → Type 0
-IfGone (Ok x) P = Unit {0}
-IfGone (Err NoStart) P = Unit {0}
-IfGone (Err (Input fault)) P = Unit {0}
-IfGone (Err (OfTool number fault)) P = Unit {0}
-IfGone (Err (Output fault)) P = Unit {0}
-IfGone (Err (Gone number)) P = P number
-
--- these bytes were read; and whatever comes after them, what was written is a prefix of what is due for that text
-pub record IsPrefixWhatever (job : Job) (reader writer : Change) : Type 0 where
-  pub read : List ℕ
-  pub consumed : Consumes reader.old reader.new read
-  pub prefix : (rest : List ℕ) → IsPrefixOfBytesDue (read ++ rest) job writer.old writer.new
-
--- a run over threads that was started: what holds of one in one thread, and what its stages did. There is no list of
--- tools for which memory could be missing, and no number of messages ends it: where a failed read is answered the
--- reader failed, and anything may come after the bytes that were read.
+-- a run over threads that was started: what holds of each run, and what its stages did. No number of messages ends it:
+-- where a failed read is answered the reader failed.
 pub record HasRunOverThreads (lanes : ℕ) (job : Job) (answer : Result Summary RunFault)
     (reader writer : Change) : Type 0 where
-  pub run : HasRun job answer ⊥ reader writer
+  pub run : HasRun ⊥ job answer reader writer
   pub all_written : (text : List ℕ) → reader.old ≡ Some text → IsOfTools answer
       → ¬ Failed writer.failures_old writer.failures_new → IsAllSent text lanes job answer writer.old writer.new
-  pub read_failed : IfInput answer (λ fault. fault ≡ ReadFailed → Failed reader.failures_old reader.failures_new
-      × IsPrefixWhatever job reader writer)
-  pub gone : IfGone answer (λ number. number ≤ length job.tools + 1)

@@ -1,10 +1,12 @@
 //! A run in one thread: read, pass through the tools, write.
 
-ghost use Rattle.std.specs.Prelude.{◌≡◌, IfOk, IfErr};
+ghost use Rattle.std.specs.Prelude.{◌≡◌, ◌⊎◌, Err, IfOk, IfErr};
 ghost use Rattle.pnm_tools.specs.declared.fault.ToolFault.TheVariants.{Memory as NoMemory};
 ghost use Rattle.pnm_tools.specs.Chains.{AreLawfulTools, IsChain};
 ghost use Rattle.pnm_serial.specs.Jobs.{job_of};
-ghost use Rattle.pnm_serial.specs.Runs.{change, HasRunInOneThread};
+ghost use Rattle.pnm_serial.specs.Runs.{change};
+ghost use Rattle.pnm_serial.specs.SerialRuns.{HasRunInOneThread};
+ghost use Rattle.pnm_serial.specs.declared.fault.RunFault.TheVariants.{Tool as OfTool};
 ghost use Rattle.pnm_flow.specs.SerialTools.{AreFresh};
 
 use pnm_filters::{ToolState, filter_of};
@@ -28,8 +30,9 @@ pub fn run_serial<R: BytesIn, W: BytesOut>(
     form: Form,
 ) -> Result<Summary, RunFault>
     requires { IsChain tools.now }
-    ensures ran { HasRunInOneThread (job_of tools.now form) result (reader.new ≡ reader.old)
-        (change R.left R.failures reader.old reader.new) (change W.held W.failures writer.old writer.new) }
+    ensures ran { HasRunInOneThread (job_of tools.now form) result (change R.left R.failures reader.old reader.new)
+        (change W.held W.failures writer.old writer.new)
+        ⊎ ((result ≡ Err (OfTool 1 NoMemory)) × (reader.new ≡ reader.old) × (writer.new ≡ writer.old)) }
     ensures same_reader { R.same reader.old reader.new }
     ensures same_writer { W.same writer.old writer.new }
 {
@@ -47,8 +50,9 @@ pub fn run_serial_over<R: BytesIn, W: BytesOut>(
     length: usize,
 ) -> Result<Summary, RunFault>
     requires { IsChain tools.now }
-    ensures ran { HasRunInOneThread (job_of tools.now form) result (reader.new ≡ reader.old)
-        (change R.left R.failures reader.old reader.new) (change W.held W.failures writer.old writer.new) }
+    ensures ran { HasRunInOneThread (job_of tools.now form) result (change R.left R.failures reader.old reader.new)
+        (change W.held W.failures writer.old writer.new)
+        ⊎ ((result ≡ Err (OfTool 1 NoMemory)) × (reader.new ≡ reader.old) × (writer.new ≡ writer.old)) }
     ensures same_reader { R.same reader.old reader.new }
     ensures same_writer { W.same writer.old writer.new }
 {

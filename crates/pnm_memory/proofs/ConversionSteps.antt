@@ -1,16 +1,21 @@
 -- A run over a reader that gives a text and never fails, and a writer that began empty, converts that text.
-use Rattle.std.proofs.Common.{◌≡◌, ◌⊎◌, ℕ, List, [], subst, inl, inr, arith, refl}
+use Rattle.std.proofs.Common.{◌≡◌, ◌⊎◌, ℕ, List, [], subst, sym, inl, inr, arith, refl}
 use Rattle.std.specs.Prelude.{Some, Result, Ok, Err, IfOk, IfErr}
 use Rattle.pnm_image.specs.Devices.{Failed}
 use Rattle.pnm_read.specs.declared.fault.InputFault.{InputFault}
 use Rattle.pnm_read.specs.declared.fault.InputFault.TheVariants.{ReadFailed}
-use Rattle.pnm_serial.specs.Jobs.{Job}
-use Rattle.pnm_serial.specs.Runs.{Change, HasRunInOneThread, IsPrefixOfBytesDue, IsOfOneThread, IfInput, EndedWell}
-use Rattle.pnm_serial.specs.Runs.{OutlastsRun as OutlastsReader}
+use Rattle.pnm_tools.specs.declared.fault.ToolFault.TheVariants.{Memory as ToolMemory}
+use Rattle.pnm_tools.specs.Chains.{AreLawfulTools}
+use Rattle.pnm_serial.specs.Jobs.{Job, bytes_due}
+use Rattle.pnm_serial.specs.Runs.{Change}
+use Rattle.pnm_serial.specs.RunFacts.{IsPrefixOfBytesDue, IfInput, EndedWell}
+use Rattle.pnm_serial.specs.SerialRuns.{HasRunInOneThread, IsOfOneThread, OutlastsRun as OutlastsReader}
 use Rattle.pnm_serial.specs.Verdicts.{AnswersVerdict, IsVerdict}
 use Rattle.pnm_serial.specs.declared.fault.RunFault.{RunFault}
 use Rattle.pnm_serial.specs.declared.fault.RunFault.TheVariants.{NoStart, Input, Tool as OfTool, Output, PeerGone}
 use Rattle.pnm_serial.specs.declared.summary.Summary.{Summary}
+use Rattle.pnm_serial.proofs.RunFactSteps.{tells}
+use Rattle.pnm_serial.proofs.RunSteps.{nothing_prefix}
 use Rattle.pnm_memory.specs.Conversions.{HasConverted, IsConversion, IsWantOfMemory, OutlastsRun}
 
 -- a reader that counts no failure hasn't failed
@@ -60,15 +65,33 @@ has_fault text job (Err (Output fault)) reader is_text is_none is_none_yet (inl 
 has_fault text job (Err (Output fault)) reader is_text is_none is_none_yet (inr verdict) one read = inl verdict
 has_fault text job (Err (PeerGone number)) reader is_text is_none is_none_yet verdict one read = absurd one
 
-pub converted : (text written : List ℕ) (job : Job) (answer : Result Summary RunFault) (unread : Type 0)
-    (reader writer : Change) → HasRunInOneThread job answer unread reader writer → reader.old ≡ Some text
+-- the run has read the text and written
+pub converted : (text written : List ℕ) (job : Job) (answer : Result Summary RunFault) (reader writer : Change)
+    → AreLawfulTools job.tools → HasRunInOneThread job answer reader writer → reader.old ≡ Some text
     → reader.failures_old ≡ 0 → reader.failures_new ≡ 0 → writer.old ≡ Some [] → writer.new ≡ Some written
     → HasConverted text job answer written
-converted text written job answer unread reader writer ran is_text is_none is_none_yet is_empty is_written = record {
-  well = ends_well text written job answer (rw (← is_empty) (rw (← is_written) (ran.run.well text is_text)));
-  fault = has_fault text job answer reader is_text is_none is_none_yet (ran.run.verdict text is_text) ran.one_thread
-      ran.run.read_failed;
-  prefix = subst (λ old. IsPrefixOfBytesDue text job old (Some written)) is_empty
-      (subst (λ new. IsPrefixOfBytesDue text job writer.old new) is_written (ran.run.prefix text is_text));
-  one_thread = ran.one_thread;
+converted text written job answer reader writer lawful ran is_text is_none is_none_yet is_empty is_written =
+    let told = tells (OutlastsReader reader.old reader.new) job answer reader writer lawful ran.run in
+    record {
+      well = ends_well text written job answer (rw (← is_empty) (rw (← is_written) (told.well text is_text)));
+      fault = has_fault text job answer reader is_text is_none is_none_yet (told.verdict text is_text) ran.one_thread
+          told.read_failed;
+      prefix = subst (λ old. IsPrefixOfBytesDue text job old (Some written)) is_empty
+          (subst (λ new. IsPrefixOfBytesDue text job writer.old new) is_written (told.prefix text is_text));
+      one_thread = ran.one_thread;
+    }
+
+-- there was no memory for the list of the tools, and nothing was written
+nothing_written : (text : List ℕ) (job : Job) → HasConverted text job (Err (OfTool 1 ToolMemory)) []
+nothing_written text job = record {
+  well = tt;
+  fault = inr (inl refl);
+  prefix = λ images completes. nothing_prefix (Some []) (bytes_due job images);
+  one_thread = tt;
 }
+
+pub not_converted : (text written : List ℕ) (job : Job) (answer : Result Summary RunFault)
+    → answer ≡ Err (OfTool 1 ToolMemory) → written ≡ [] → HasConverted text job answer written
+not_converted text written job answer is none =
+    subst (λ (a : Result Summary RunFault). HasConverted text job a written) (sym is)
+    (subst (HasConverted text job (Err (OfTool 1 ToolMemory))) (sym none) (nothing_written text job))

@@ -9,8 +9,9 @@ use Rattle.pnm_write.specs.declared.fault.SinkFault.TheVariants.{WriteFailed}
 use Rattle.pnm_write.specs.Encoding.{encoding_of}
 use Rattle.pnm_write.specs.Forms.{images_fault}
 use Rattle.pnm_serial.specs.Jobs.{Job}
-use Rattle.pnm_serial.specs.Runs.{IsOfOneThread, IsPrefixOfBytesDue, summary_of}
-use Rattle.pnm_serial.specs.Verdicts.{IsVerdict}
+use Rattle.pnm_serial.specs.RunFacts.{IsPrefixOfBytesDue}
+use Rattle.pnm_serial.specs.SerialRuns.{IsOfOneThread}
+use Rattle.pnm_serial.specs.Verdicts.{IsVerdict, summary_of}
 use Rattle.pnm_serial.specs.declared.fault.RunFault.{RunFault}
 use Rattle.pnm_serial.specs.declared.fault.RunFault.TheVariants.{NoStart, Input, Tool as OfTool, Output, PeerGone}
 use Rattle.pnm_serial.specs.declared.summary.Summary.{Summary}

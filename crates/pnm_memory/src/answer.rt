@@ -1,7 +1,7 @@
 //! What a caller is told of a call.
 
 ghost use Rattle.std.specs.Prelude.{◌≡◌};
-ghost use Rattle.pnm_serial.specs.Runs.{IsOfOneThread};
+ghost use Rattle.pnm_serial.specs.SerialRuns.{IsOfOneThread};
 ghost use Rattle.pnm_memory.specs.Answers.{refusal, run_answer, without_room as told_without_room};
 
 use crate::codes::{ROOM, WELL, run_code, run_number};

@@ -2,7 +2,7 @@
 
 ghost use Rattle.std.specs.Prelude.{◌≡◌, Err};
 ghost use Rattle.pnm_serial.specs.declared.summary.Summary.{Summary as RunSummary};
-ghost use Rattle.pnm_serial.specs.Runs.{IsOfOneThread};
+ghost use Rattle.pnm_serial.specs.SerialRuns.{IsOfOneThread};
 ghost use Rattle.pnm_memory.specs.Codes.{chain_code as code_of_chain, input_code as code_of_input};
 ghost use Rattle.pnm_memory.specs.Codes.{tool_code as code_of_tool, output_code as code_of_output, code_of, number_of};
 

@@ -7,7 +7,7 @@ use Rattle.pnm_image.specs.declared.message.Message.{Message}
 use Rattle.pnm_image.specs.declared.message.Message.TheVariants.{Stop}
 use Rattle.std.specs.Io.KnownBytes.{Consumes}
 use Rattle.pnm_image.specs.Rows.{row_messages}
-use Rattle.pnm_serial.specs.Runs.{HasMore}
+use Rattle.pnm_serial.specs.Feeding.{HasMore}
 use Rattle.pnm_read.specs.declared.fault.InputFault.{InputFault}
 use Rattle.pnm_read.specs.declared.fault.InputFault.TheVariants.{Memory, ReadFailed}
 use Rattle.pnm_read.specs.declared.source.Source.{Source}

@@ -27,7 +27,9 @@ use Rattle.pnm_serial.specs.declared.downstream.Downstream.{Downstream}
 use Rattle.pnm_tools.specs.declared.fused_filter.FusedFilter.{FusedFilter}
 use Rattle.pnm_serial.specs.Downstreams.{HasTaken}
 use Rattle.pnm_serial.specs.SerialChains.{FeedsThrough}
-use Rattle.pnm_serial.specs.Runs.{change, HasMore, IsReadFailure, MayFollowRead, OutlastsRun}
+use Rattle.pnm_serial.specs.Runs.{change}
+use Rattle.pnm_serial.specs.SerialRuns.{OutlastsRun}
+use Rattle.pnm_serial.specs.Feeding.{HasMore, IsReadFailure, MayFollowRead}
 use Rattle.pnm_serial.specs.Feeding.{HaveTaken, HasFed}
 
 -- the bytes that may follow those that were read are ones that the source may still be given

@@ -12,6 +12,7 @@ pub mod VerdictLaws
 pub mod VerdictFaults
 pub mod RunSteps
 pub mod EndSteps
+pub mod RunFactSteps
 pub mod RefusalExample
 pub mod FeederSteps
 pub mod CollectorSteps

@@ -1,14 +1,15 @@
 -- The results of images that no tool refuses, and what a form says of them.
-use Rattle.std.proofs.Common.{◌≡◌, ℕ, ◌+◌, List, [], ◌∷◌, Some, None, Result, Ok, Err, refl, ap, subst, ◌∙◌}
+use Rattle.std.proofs.Common.{◌≡◌, ℕ, ◌+◌, List, [], ◌∷◌, ◌++◌, Some, None, Result, Ok, Err, refl, ap, subst, ◌∙◌}
 use Rattle.pnm_image.specs.declared.format.Form.{Form}
 use Rattle.pnm_image.specs.declared.format.Form.TheVariants.{Raw, Plain}
 use Rattle.pnm_image.specs.declared.shape.Kind.{Kind}
 use Rattle.pnm_image.specs.declared.shape.Kind.TheVariants.{Bit, Gray, Color, Pam}
-use Rattle.pnm_image.specs.Images.{Image}
+use Rattle.pnm_image.specs.declared.message.Message.{Message}
+use Rattle.pnm_image.specs.Images.{Image, messages_of_image, messages_of_stream}
 use Rattle.pnm_tools.specs.declared.fault.ToolFault.{ToolFault}
 use Rattle.pnm_tools.specs.declared.tool.Tool.{Tool}
 use Rattle.pnm_tools.specs.Answers.{AreResults}
-use Rattle.pnm_tools.specs.Chains.{AreResultsInTurn, results_of, refusal_from}
+use Rattle.pnm_tools.specs.Chains.{AreResultsInTurn, due_in_turn, results_of, refusal_from}
 use Rattle.pnm_tools.specs.Tools.{applied}
 use Rattle.pnm_tools.proofs.RefusalLaws.{refusal_by, results_in_turn, same_in_turn}
 use Rattle.pnm_write.specs.declared.fault.SinkFault.{SinkFault}
@@ -56,6 +57,22 @@ pub chain_results : (number : ℕ) (tools : List Tool) (is : List Image) → ref
 chain_results number [] is none = (is, same_in_turn is)
 chain_results number (tool ∷ tools) is none =
     chain_results_by number tool tools is (results_of tool is) refl (λ js. chain_results (number + 1) tools js) none
+
+-- what is due of the first image and the others, by what becomes of the first
+abbrev due_with : List Message → Result Image ToolFault → List Message
+due_with others r = elim r [
+  | Ok j ↦ messages_of_image j ++ others
+  | Err fault ↦ []
+]
+
+-- what is due for images none of which is refused are the messages of their results
+pub due_of_results : (tools : List Tool) (is js : List Image) → AreResultsInTurn tools is js → due_in_turn tools is ≡ messages_of_stream js
+unfolding due_in_turn
+due_of_results tools [] [] are = refl
+due_of_results tools [] (j ∷ js) are = absurd are
+due_of_results tools (i ∷ is) [] are = absurd are
+due_of_results tools (i ∷ is) (j ∷ js) are = ap (due_with (due_in_turn tools is)) are.0
+    ∙ ap (λ (l : List Message). messages_of_image j ++ l) (due_of_results tools is js are.1)
 
 -- ---- the form
 

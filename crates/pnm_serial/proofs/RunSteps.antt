@@ -31,7 +31,7 @@ use Rattle.pnm_write.specs.Encoding.{bytes_of, written_of}
 use Rattle.pnm_write.specs.Forms.{form_fault_of, IsFormFault}
 use Rattle.pnm_write.specs.Sinks.{HasRows, has_failed}
 use Rattle.pnm_write.proofs.FormLaws.{stream_fault}
-use Rattle.pnm_write.proofs.MessageLaws.{bytes_of_stream, written_all, written_prefix}
+use Rattle.pnm_write.proofs.MessageLaws.{written_all}
 use Rattle.pnm_image.proofs.Written.{prefix-more}
 use Rattle.pnm_serial.specs.declared.downstream.Downstream.{Downstream}
 use Rattle.pnm_tools.specs.declared.fused_filter.FusedFilter.{FusedFilter}
@@ -41,12 +41,14 @@ use Rattle.pnm_serial.specs.declared.summary.Summary.{Summary}
 use Rattle.pnm_serial.specs.Counts.{saturate_u64, images_in, rows_in}
 use Rattle.pnm_serial.specs.Downstreams.{output_of, AreInOrder, AreWritten, CutsOff, AreCutOff, HasTakenWith, AnswersFlushes}
 use Rattle.pnm_serial.specs.Feeding.{IsSaidOf, HasFed}
-use Rattle.pnm_serial.specs.Jobs.{Job, bytes_due}
-use Rattle.pnm_serial.specs.Runs.{EndedWell, HasWrittenResults, IsStoppedBy, IsPrefixOfBytesDue, FitAnswer, IsAllWritten}
-use Rattle.pnm_serial.specs.Verdicts.{IsAcceptedBy, HasResults}
+use Rattle.pnm_serial.specs.Jobs.{Job}
+use Rattle.pnm_serial.specs.RunFacts.{IsStoppedBy}
+use Rattle.pnm_serial.specs.SerialRuns.{FitAnswer, IsAllWritten}
+use Rattle.pnm_serial.specs.Verdicts.{IsAcceptedBy, HasResults, IsAnswer}
 use Rattle.pnm_serial.specs.SerialChains.{refusals_in, FiltersAt}
 use Rattle.pnm_serial.proofs.CountLaws.{images_in-stream, rows_in-stream}
 use Rattle.pnm_serial.proofs.FeedingSteps.{said_are_sound}
+use Rattle.pnm_serial.proofs.ResultSteps.{due_of_results}
 
 -- ---- what is said
 
@@ -204,19 +206,36 @@ completes_prefix l given is sound given_sound prefix c = record {
   );
 }
 
--- however it ends, what was written is a prefix of what is due
-pub run_prefix : {W : Type 0} (held : W → Option (List ℕ)) (failures : W → ℕ) (start done : W) (job : Job) (given out : List Message) (d : Downstream W)
-    (text : List ℕ)
-    → Ran held failures start job given out d → IsPrefixOf given (said_of text) → Keeps (held (output_of d)) (held done)
-    → IsPrefixOfBytesDue text job (held start) (held done)
-run_prefix held failures start done job given out d text ran said kept images completes =
-    let c = completes_prefix (said_of text) given images (said_are_sound text) ran.sound said completes in
-    let prefix = ran.due images c in
-    let more = written_prefix job.form out prefix.0 in
-    prefix-kept (held start) (held (output_of d)) (held done) (bytes_due job images)
-    (subst (AppendsPrefix (held start) (held (output_of d))) (sym (ap (written_of job.form) prefix.1 ∙ more.1))
-    (output_prefix held failures job.form start out more.0 d d.output ran.writable ran.taken))
+-- however it ends, what came out is a prefix of what is due
+pub run_due : {W : Type 0} (held : W → Option (List ℕ)) (failures : W → ℕ) (start : W) (job : Job) (given out : List Message) (d : Downstream W)
+    (text : List ℕ) → Ran held failures start job given out d → IsPrefixOf given (said_of text) → (images : List Image) → Completes images (said_of text)
+    → IsPrefixOf out (due_in_turn job.tools images)
+run_due held failures start job given out d text ran said images completes =
+    ran.due images (completes_prefix (said_of text) given images (said_are_sound text) ran.sound said completes)
+
+-- and a prefix of it was written
+pub run_begun : {W : Type 0} (held : W → Option (List ℕ)) (failures : W → ℕ) (start done : W) (job : Job) (given out : List Message) (d : Downstream W)
+    → Ran held failures start job given out d → Keeps (held (output_of d)) (held done) → AppendsPrefix (held start) (held done) (written_of job.form out)
+run_begun held failures start done job given out d ran kept =
+    prefix-kept (held start) (held (output_of d)) (held done) (written_of job.form out)
+    (subst (AppendsPrefix (held start) (held (output_of d))) (append-nil (written_of job.form out))
+    (output_prefix held failures job.form start out [] d d.output ran.writable ran.taken))
     kept
+
+-- all that came out was written where the output ended well
+pub run_ended : {W : Type 0} (held : W → Option (List ℕ)) (failures : W → ℕ) (start done : W) (job : Job) (out : List Message) (d : Downstream W)
+    → AreWritten held failures job.form start out d → Keeps (held (output_of d)) (held done) → Appends (held start) (held done) (written_of job.form out)
+run_ended held failures start done job out d written kept =
+    Appends-kept (held start) (held (output_of d)) (held done) (written_of job.form out) (all_taken_written held failures job.form start out d written) kept
+
+-- where no stage has refused, what came out is all that is due
+pub run_whole : (tools : List Tool) (faults : List (Option ToolFault)) (given out : List Message) (text : List ℕ)
+    → AreLawfulTools tools → HaveAnswered tools faults given out → (said_of text ≡ given) × (fault_of text ≡ None) → AreWell faults
+    → (images : List Image) → AreSaid text images → out ≡ due_in_turn tools images
+run_whole tools faults given out text lawful have said well images are =
+    let answered = stream_is_answered tools faults images out lawful are.images_are well
+    (subst (λ (l : List Message). HaveAnswered tools faults l out) (sym said.0 ∙ are.messages) have) in
+    answered.3 ∙ sym (due_of_results tools images answered.0 answered.1)
 
 -- where the whole text was read, all that the tools answered was written, unless the writer failed
 pub run_all : {W : Type 0} (held : W → Option (List ℕ)) (failures : W → ℕ) (start done : W) (job : Job) (faults : List (Option ToolFault))
@@ -340,22 +359,6 @@ run_written held failures start done job given out d (Err other) answer fault ra
     (cut_written other job.form out (held start) (held (output_of d)) (failures start) (failures (output_of d)) (cut.prefix ran.writable)
     (subst (IsFormFault job.form) (sym same) of_form))
 
--- and the results of all images are its messages
-pub run_held : (job : Job) (faults : List (Option ToolFault)) (given out : List Message) (text : List ℕ) (old new : Option (List ℕ))
-    → AreLawfulTools job.tools → HaveAnswered job.tools faults given out → (said_of text ≡ given) × (fault_of text ≡ None) → AreWell faults
-    → Appends old new (written_of job.form out) → HasWrittenResults text job old new
-run_held job faults given out text old new lawful have said well written =
-    let found = images_said text given said in
-    let answered = stream_is_answered job.tools faults found.0 out lawful found.1.images_are well
-    (subst (λ (l : List Message). HaveAnswered job.tools faults l out) found.2 have) in
-    record {
-      images = found.0;
-      results = answered.0;
-      said = found.1;
-      made = answered.1;
-      written = subst (λ (l : List Message). Appends old new (written_of job.form l)) answered.3 written;
-    }
-
 -- the writer didn't fail
 pub run_sound : {W : Type 0} (held : W → Option (List ℕ)) (failures : W → ℕ) (start done : W) (job : Job) (given out : List Message) (d : Downstream W)
     (o : Result (Unit {0}) SinkFault) (answer : Result Summary SinkFault) (summary : Summary)
@@ -373,9 +376,8 @@ run_sound held failures start done job given out d (Err other) answer summary ra
 pub run_well : {W : Type 0} (held : W → Option (List ℕ)) (failures : W → ℕ) (start done : W) (job : Job) (faults : List (Option ToolFault))
     (given out : List Message) (d : Downstream W) (summary : Summary) (text : List ℕ)
     → AreLawfulTools job.tools → HaveAnswered job.tools faults given out → (said_of text ≡ given) × (fault_of text ≡ None) → AreWell faults
-    → AreWritten held failures job.form start out d → summary ≡ d.summary → Keeps (held (output_of d)) (held done)
-    → EndedWell text job (held start) (held done) summary
-run_well held failures start done job faults given out d summary text lawful have said well written same kept =
+    → AreWritten held failures job.form start out d → summary ≡ d.summary → IsAnswer text job (Ok summary)
+run_well held failures start done job faults given out d summary text lawful have said well written same =
     let found = images_said text given said in
     let answered = stream_is_answered job.tools faults found.0 out lawful found.1.images_are well
     (subst (λ (l : List Message). HaveAnswered job.tools faults l out) found.2 have) in
@@ -384,20 +386,17 @@ run_well held failures start done job faults given out d summary text lawful hav
     ∙ ap saturate_u64 (zero-add (length results)) in
     let counts_rows : d.summary.rows ≡ saturate_u64 (sum_by (λ i. i.head.shape.height) results) = written.rows ∙ ap (rows_in 0) answered.3
     ∙ rows_in-stream 0 results ∙ ap saturate_u64 (zero-add _) in
-    let both : ℕ → ℕ → Summary = λ (a b : ℕ). record { images = a; rows = b } in
-    record {
-      images = found.0;
-      results = results;
-      said = found.1;
-      output = record {
+    let both : ℕ → ℕ → Summary = λ (a b : ℕ). record { images = a; rows = b } in (
+      record {
+        images = found.0;
+        results = results;
+        said = found.1;
+        taken = answered.4;
         made = answered.1;
         fit = sym (ap (form_fault_of job.form) answered.3 ∙ stream_fault job.form results) ∙ takes_written held failures job.form start out d written;
-        written = subst (Appends (held start) (held done)) (ap (bytes_of job.form) answered.3 ∙ bytes_of_stream job.form results)
-            (Appends-kept (held start) (held (output_of d)) (held done) (bytes_of job.form out) (bytes_written held failures job.form start out d written)
-            kept);
-      };
-      counts = same ∙ ap (λ k. both k d.summary.rows) counts_images ∙ ap (λ k. both (saturate_u64 (length results)) k) counts_rows;
-    }
+      },
+      same ∙ ap (λ k. both k d.summary.rows) counts_images ∙ ap (λ k. both (saturate_u64 (length results)) k) counts_rows,
+    )
 
 -- the stages have answered what the source gave
 pub stages_answered : {R F W : Type 0} (left : R → Option (List ℕ)) (reader_failures : R → ℕ)

@@ -1,13 +1,10 @@
 -- Each text and chain has one verdict, which is what a run answers where its answer isn't from outside.
-use Rattle.std.proofs.Common.{◌≡◌, ◌⊎◌, ℕ, ◌+◌, List, [], ◌∷◌, Option, None, Some, Result, Ok, Err, IfOk, refl, sym, ap, ap₂, subst, ◌∙◌, inl, inr}
-use Rattle.pnm_image.specs.Devices.{Failed}
+use Rattle.std.proofs.Common.{◌≡◌, ◌⊎◌, ℕ, ◌+◌, List, [], ◌∷◌, Option, None, Some, Result, Ok, Err, refl, sym, ap, ap₂, subst, ◌∙◌, inl, inr}
 use Rattle.pnm_image.specs.Images.{Image}
 use Rattle.pnm_read.specs.declared.fault.InputFault.{InputFault}
 use Rattle.pnm_read.specs.Said.{fault_of, AreSaid}
-use Rattle.pnm_read.specs.BufferedReaders.{IsOutsideFault}
 use Rattle.pnm_read.proofs.TextLaws.{one_list_or_one_fault, are_said, images_of_messages_are_one}
 use Rattle.pnm_tools.specs.declared.fault.ToolFault.{ToolFault}
-use Rattle.pnm_tools.specs.declared.fault.ToolFault.TheVariants.{Memory}
 use Rattle.pnm_tools.specs.declared.tool.Tool.{Tool}
 use Rattle.pnm_tools.specs.Answers.{AreResults}
 use Rattle.pnm_tools.specs.Tools.{applied}
@@ -15,15 +12,14 @@ use Rattle.pnm_tools.specs.Chains.{AreResultsInTurn, applied_in_turn, Refusal, r
 use Rattle.pnm_tools.proofs.PrefixLaws.{rest_in_turn}
 use Rattle.pnm_tools.proofs.RefusalLaws.{refusal_by, results_are}
 use Rattle.pnm_write.specs.declared.fault.SinkFault.{SinkFault}
-use Rattle.pnm_write.specs.declared.fault.SinkFault.TheVariants.{WriteFailed}
-use Rattle.pnm_write.specs.Forms.{images_fault, IsFormFault}
+use Rattle.pnm_write.specs.Forms.{images_fault}
 use Rattle.pnm_serial.specs.declared.fault.RunFault.{RunFault}
 use Rattle.pnm_serial.specs.declared.fault.RunFault.TheVariants.{NoStart, Input, Tool as OfTool, Output, PeerGone}
 use Rattle.pnm_serial.specs.declared.summary.Summary.{Summary}
 use Rattle.pnm_serial.specs.Jobs.{Job}
-use Rattle.pnm_serial.specs.Runs.{Change, EndedWell, IfInput, IfTool, IfOutput, IsStoppedBy, summary_of}
+use Rattle.pnm_serial.specs.RunFacts.{EndedWell}
 use Rattle.pnm_serial.specs.RunLaws.{OneAnswerForEachText}
-use Rattle.pnm_serial.specs.Verdicts.{IsRefusedBy, HasResults, IsVerdict, HasOneVerdict, OneVerdictForEachText, IsFromOutside, AnswersVerdict}
+use Rattle.pnm_serial.specs.Verdicts.{IsRefusedBy, HasResults, IsVerdict, HasOneVerdict, OneVerdictForEachText, IsFromOutside, summary_of}
 use Rattle.pnm_serial.proofs.ResultSteps.{chain_results}
 
 -- ---- the results of a chain
@@ -155,35 +151,6 @@ one_verdict text job =
     ]
 
 -- ---- the answer of a run
-
--- The answer is from outside or the verdict, by what it tells at its end, of the input, of a tool and of the output.
-pub verdict_follows : (text : List ℕ) (job : Job) (answer : Result Summary RunFault) (unread : Type 0) (reader writer : Change)
-    → IfOk answer (EndedWell text job writer.old writer.new)
-    → IfInput answer (λ fault. IsOutsideFault fault ⊎ (fault_of text ≡ Some fault))
-    → IfTool answer (λ number fault. ((fault ≡ Memory) × (number ≡ 1) × unread) ⊎ IsStoppedBy text job.tools number fault)
-    → IfOutput answer (λ fault. (((fault ≡ WriteFailed) × Failed writer.failures_old writer.failures_new) ⊎ IsFormFault job.form fault)
-    × (reader.failures_new ≡ reader.failures_old))
-    → IfOutput answer (λ fault. IsFormFault job.form fault → HasResults text job (Some fault))
-    → AnswersVerdict text job answer
-verdict_follows text job (Ok summary) unread reader writer well input refusal output form = record {
-  images = well.images;
-  results = well.results;
-  said = well.said;
-  taken = none_refused 1 job.tools well.images well.results well.output.made;
-  made = well.output.made;
-  fit = well.output.fit;
-}
-verdict_follows text job (Err NoStart) unread reader writer well input refusal output form = inl tt
-verdict_follows text job (Err (Input fault)) unread reader writer well input refusal output form = input
-verdict_follows text job (Err (OfTool number fault)) unread reader writer well input (inl no_list) output form = inl no_list.0
-verdict_follows text job (Err (OfTool number fault)) unread reader writer well input (inr (inl memory)) output form = inl memory.0
-verdict_follows text job (Err (OfTool number fault)) unread reader writer well input (inr (inr refused)) output form = inr refused
-verdict_follows text job (Err (Output fault)) unread reader writer well input refusal output form =
-    elim output.0 [
-      | inl failed ↦ inl failed.0
-      | inr of_form ↦ inr (form of_form)
-    ]
-verdict_follows text job (Err (PeerGone number)) unread reader writer well input refusal output form = inl tt
 
 -- two runs that ended well have the same summary
 summaries_are_one : (text : List ℕ) (job : Job) (old new old_too new_too : Option (List ℕ)) (one other : Summary) → EndedWell text job old new one

@@ -14,7 +14,7 @@ use Rattle.pnm_tools.specs.Channel.{picks}
 use Rattle.pnm_serial.specs.declared.fault.RunFault.TheVariants.{Tool as OfTool}
 use Rattle.pnm_serial.specs.declared.summary.Summary.{Summary}
 use Rattle.pnm_serial.specs.Jobs.{Job, job_of, bytes_due}
-use Rattle.pnm_serial.specs.Runs.{IsAllWritten}
+use Rattle.pnm_serial.specs.SerialRuns.{IsAllWritten}
 
 abbrev pub image_of_samples : Kind → ℕ → ℕ → ℕ → ℕ → List ℕ → Image
 image_of_samples kind width height depth maxval samples =

@@ -11,8 +11,8 @@ use Rattle.pnm_read.specs.declared.source.Source.{Source}
 use Rattle.pnm_read.specs.Sources.{reader_of, MayGive, SeesEnd, HasGiven}
 use Rattle.pnm_tools.specs.ChainAnswers.{AreSound}
 use Rattle.pnm_serial.specs.declared.feeder.Feeder.{Feeder}
-use Rattle.pnm_serial.specs.Feeding.{IsSaidOf}
-use Rattle.pnm_serial.specs.Runs.{change, HasMore, MayFollowRead}
+use Rattle.pnm_serial.specs.Feeding.{IsSaidOf, HasMore, MayFollowRead}
+use Rattle.pnm_serial.specs.Runs.{change}
 
 -- the source has read bytes and given these messages, and hasn't ended
 pub record HasAsked {R : Type 0} (left : R → Option (List ℕ)) (failures : R → ℕ) (first source : Source R)

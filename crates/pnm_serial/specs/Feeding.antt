@@ -1,5 +1,5 @@
 -- What has passed from the source through the stages to the sink of a run.
-use Rattle.std.specs.Prelude.{◌≡◌, ◌⊎◌, ℕ, Bool, List, [], ◌++◌, Option, Some, None, Result, Ok, Err}
+use Rattle.std.specs.Prelude.{◌≡◌, ◌⊎◌, ℕ, ◌<◌, Bool, List, [], ◌∷◌, ◌++◌, Option, Some, None, Result, Ok, Err}
 use Rattle.std.specs.Io.KnownBytes.{Consumes}
 use Rattle.pnm_image.specs.Devices.{Failed}
 use Rattle.pnm_image.specs.declared.format.Form.{Form}
@@ -18,8 +18,24 @@ use Rattle.pnm_tools.specs.declared.tool.Tool.{Tool}
 use Rattle.pnm_serial.specs.declared.downstream.Downstream.{Downstream}
 use Rattle.pnm_tools.specs.declared.fused_filter.FusedFilter.{FusedFilter}
 use Rattle.pnm_serial.specs.Downstreams.{HasTaken}
-use Rattle.pnm_serial.specs.Runs.{change, MayFollowRead, OutlastsRun}
+use Rattle.pnm_serial.specs.Runs.{Change, change}
+use Rattle.pnm_serial.specs.SerialRuns.{OutlastsRun}
 use Rattle.pnm_serial.specs.SerialChains.{FiltersAt}
+
+-- the reader failed: its count rose, or fewer messages came than a run takes
+abbrev pub IsReadFailure : Result (Unit {0}) InputFault → Change → Type 0
+IsReadFailure input reader = (input ≡ Err ReadFailed)
+    × ((reader.failures_old < reader.failures_new) ⊎ (OutlastsRun reader.old reader.new → ⊥))
+
+-- a byte is left, as far as is known
+abbrev pub HasMore : Option (List ℕ) → Type 0
+HasMore None = ⊥
+HasMore (Some []) = ⊥
+HasMore (Some (byte ∷ more)) = Unit {0}
+
+-- what may come after the bytes that were read (`MayFollow`), by how the source ended
+abbrev pub MayFollowRead : Result (Unit {0}) InputFault → Change → List ℕ → Type 0
+MayFollowRead input reader rest = (rest ≡ []) ⊎ HasMore reader.new ⊎ IsReadFailure input reader
 
 -- the messages that were given are all that is said of the text, and then its end or its fault; before a
 -- fault from outside they are a prefix of it

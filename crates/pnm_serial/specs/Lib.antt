@@ -4,6 +4,8 @@ pub mod SerialChains
 pub mod Jobs
 pub mod Verdicts
 pub mod Runs
+pub mod SerialRuns
+pub mod RunFacts
 pub mod RunLaws
 pub mod Feeding
 pub mod Examples

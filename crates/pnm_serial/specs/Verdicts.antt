@@ -1,5 +1,7 @@
--- The verdict on a text and a job: what a run over them is to answer where nothing fails around it.
-use Rattle.std.specs.Prelude.{◌≡◌, ◌≢◌, ◌⊎◌, ℕ, List, Option, Some, None, Result, Ok, Err}
+-- The verdict on a text and a job: what a run over them is to answer where nothing fails around it;
+-- and what a run may answer in its place.
+use Rattle.std.specs.Prelude.{◌≡◌, ◌≢◌, ◌⊎◌, ℕ, ◌≤◌, ◌+◌, ◌-◌, length, take, sum_by, List, Option, Some, None, Result}
+use Rattle.std.specs.Prelude.{Ok, Err}
 use Rattle.pnm_image.specs.Images.{Image}
 use Rattle.pnm_read.specs.BufferedReaders.{IsOutsideFault}
 use Rattle.pnm_read.specs.Said.{fault_of, AreSaid}
@@ -10,9 +12,11 @@ use Rattle.pnm_tools.specs.Chains.{AreLawfulTools, AreResultsInTurn, refusal_of}
 use Rattle.pnm_write.specs.declared.fault.SinkFault.{SinkFault}
 use Rattle.pnm_write.specs.declared.fault.SinkFault.TheVariants.{WriteFailed}
 use Rattle.pnm_write.specs.Forms.{images_fault, IsFormFault}
+use Rattle.pnm_serial.specs.Counts.{saturate_u64}
 use Rattle.pnm_serial.specs.Jobs.{Job}
 use Rattle.pnm_serial.specs.declared.fault.RunFault.{RunFault}
 use Rattle.pnm_serial.specs.declared.fault.RunFault.TheVariants.{NoStart, Input, Tool as OfTool, Output, PeerGone}
+use Rattle.pnm_serial.specs.declared.summary.Summary.{Summary}
 
 -- ---- refusals of images
 
@@ -68,6 +72,27 @@ IsFromOutside (Input fault) = IsOutsideFault fault
 IsFromOutside (OfTool number fault) = fault ≡ Memory
 IsFromOutside (Output fault) = fault ≡ WriteFailed
 IsFromOutside (PeerGone number) = Unit {0}
+
+-- What a run may answer in place of the verdict, since something failed around it: the reader; memory, where the text
+-- and the tools before that one have no fault; the writer, where no tool has one; or a ring's other end.
+abbrev pub FailsAround : List ℕ → Job → RunFault → Type 0
+FailsAround text job NoStart = ⊥
+FailsAround text job (Input fault) = IsOutsideFault fault
+FailsAround text job (OfTool number fault) = (fault ≡ Memory) × (1 ≤ number) × (number ≤ length job.tools)
+    × IsAcceptedBy text (take (number - 1) job.tools)
+FailsAround text job (Output fault) = (fault ≡ WriteFailed) × IsAcceptedBy text job.tools
+FailsAround text job (PeerGone number) = number ≤ length job.tools + 1
+
+-- the images and the rows of a stream
+abbrev pub summary_of : List Image → Summary
+summary_of images =
+    record { images = saturate_u64 (length images); rows = saturate_u64 (sum_by (λ i. i.head.shape.height) images) }
+
+-- a run over the text answers so: it ends well, with a summary of the results, only where there is no verdict, and each
+-- fault is the verdict, or tells of what failed around the run
+abbrev pub IsAnswer : List ℕ → Job → Result Summary RunFault → Type 0
+IsAnswer text job (Ok summary) = (found : HasResults text job None) × (summary ≡ summary_of found.results)
+IsAnswer text job (Err fault) = IsVerdict text job (Some fault) ⊎ FailsAround text job fault
 
 -- a run ends well only where there is no verdict, and each fault that it answers is the verdict, or is from outside
 abbrev pub AnswersVerdict : {A : Type 0} → List ℕ → Job → Result A RunFault → Type 0

@@ -3,6 +3,7 @@
 
 ghost use Rattle.pnm_serial.specs.Examples.{RunExamplesHold, ResultBeforeRefusalIsWritten};
 ghost use Rattle.pnm_serial.specs.ReadAgain.{WrittenIsReadAgain};
+ghost use Rattle.pnm_serial.specs.RunFacts.{WhatARunTells, WhatARunInOneThreadTells, WhatARunWithoutListTells};
 ghost use Rattle.pnm_serial.specs.RunLaws.{OneAnswerForEachText};
 ghost use Rattle.pnm_serial.specs.Verdicts.{OneVerdictForEachText, VerdictsAreOfTexts};
 
@@ -28,6 +29,14 @@ pub fn verdicts_are_of_texts()
 /// where neither answer tells of what failed around it.
 pub fn one_answer_for_each_text()
     ensures { OneAnswerForEachText }
+{}
+
+/// What a run tells by its answer, over threads and in one: each fact by the cases of the answer and by what is said of
+/// the text. And what holds where there is no memory for the list of the tools, so that nothing is read and written.
+pub fn what_a_run_tells()
+    ensures over_threads { WhatARunTells }
+    ensures in_one_thread { WhatARunInOneThreadTells }
+    ensures without_list { WhatARunWithoutListTells }
 {}
 
 /// Small texts, the images that are said of them, and the bytes due for these from small chains, as

@@ -8,7 +8,8 @@ ghost use Rattle.pnm_tools.specs.declared.tool.Tool.{Tool as ToolValue};
 ghost use Rattle.pnm_tools.specs.Chains.{AreLawfulTools};
 ghost use Rattle.pnm_serial.specs.Downstreams.{output_of, HasTaken};
 ghost use Rattle.pnm_serial.specs.Jobs.{job_of};
-ghost use Rattle.pnm_serial.specs.Runs.{answer_by, change, HasRunInOneThread, IsFirstRefusal};
+ghost use Rattle.pnm_serial.specs.Runs.{change};
+ghost use Rattle.pnm_serial.specs.SerialRuns.{answer_by, HasRunInOneThread, IsFirstRefusal};
 ghost use Rattle.pnm_serial.specs.SerialChains.{refusals_in, FiltersAt};
 ghost use Rattle.pnm_serial.specs.Feeding.{HasFed};
 
@@ -38,8 +39,8 @@ pub fn run_filters<R: BytesIn, F: Filter + Drop, W: BytesOut>(
 ) -> Result<Summary, RunFault>
     ensures ran { (tools : List ToolValue) → AreLawfulTools tools
         → FiltersAt F.at F.all_given F.stopped stages.old tools [] []
-        → HasRunInOneThread (job_of tools form) result (reader.new ≡ reader.old)
-        (change R.left R.failures reader.old reader.new) (change W.held W.failures writer.old writer.new) }
+        → HasRunInOneThread (job_of tools form) result (change R.left R.failures reader.old reader.new)
+        (change W.held W.failures writer.old writer.new) }
     ensures same_reader { R.same reader.old reader.new }
     ensures same_writer { W.same writer.old writer.new }
 {

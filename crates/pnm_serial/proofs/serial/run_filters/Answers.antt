@@ -1,11 +1,12 @@
-use Rattle.std.proofs.Common.{rules, ◌≡◌, refl}
+use Rattle.std.proofs.Common.{rules, refl}
 use Rattle.pnm_read.specs.Sources.{reader_of}
 use Rattle.pnm_serial.specs.Downstreams.{output_of}
 use Rattle.pnm_serial.specs.Jobs.{job_of}
 use Rattle.pnm_serial.specs.Runs.{change}
+use Rattle.pnm_serial.specs.SerialRuns.{OutlastsRun}
 use Rattle.pnm_serial.specs.SerialChains.{refusals_in}
 use Rattle.pnm_serial.proofs.RunSteps.{failed_so, ran_of, stages_answered}
-use Rattle.pnm_serial.proofs.EndSteps.{Ended, HaveEnded, ended_in_one_thread, ended_without_reading}
+use Rattle.pnm_serial.proofs.EndSteps.{Ended, HaveEnded, ended_in_one_thread, ended_without_reading, may_follow}
 use Rattle.pnm_serial.proofs.serial.run_filters.Goals as goal
 
 -- there is no memory to read
@@ -15,7 +16,7 @@ returns-in-Err-clause-ran g c =
     let writer = c.args.writer.now in
     λ tools lawful fresh.
     rw c.in-Err.ensures.refused
-    (ended_without_reading (job_of tools c.args.form) _ (change g.R.BytesIn.left g.R.BytesIn.failures reader reader)
+    (ended_without_reading (job_of tools c.args.form) (change g.R.BytesIn.left g.R.BytesIn.failures reader reader)
     (change g.W.BytesOut.held g.W.BytesOut.failures writer writer) refl refl refl)
 
 pub finish-written-requires : goal.finish-written-requires
@@ -45,8 +46,10 @@ returns-clause-ran g c = λ tools lawful fresh.
       first = c.first_fault.ensures;
       all = λ none. refl;
     } in
-    let ended : Ended (change (λ r. g.R.BytesIn.left r.now) (λ r. g.R.BytesIn.failures r.now) (reader_of c.with_buffer-source.result)
-    (reader_of c.feed_all-input.new.source)) (λ w. g.W.BytesOut.held w.now) (λ w. g.W.BytesOut.failures w.now) (output_of c.new-downstream.result)
+    let reader = change (λ r. g.R.BytesIn.left r.now) (λ r. g.R.BytesIn.failures r.now) (reader_of c.with_buffer-source.result)
+    (reader_of c.feed_all-input.new.source) in
+    let ended : Ended (OutlastsRun reader.old reader.new) reader (λ w. g.W.BytesOut.held w.now) (λ w. g.W.BytesOut.failures w.now) (output_of
+    c.new-downstream.result)
     c.finish-written.result.0 (job_of tools c.args.form) c.feed_all-input.result c.first_fault.result c.finish-written.result.1 = record {
       faults = refusals_in c.feed_all-input.new.stages;
       given = fed.given;
@@ -54,7 +57,7 @@ returns-clause-ran g c = λ tools lawful fresh.
       sink = c.feed_all-input.new.downstream;
       read = fed.read;
       consumed = fed.consumed;
-      told = fed.told;
+      told = λ rest may. fed.told rest (may_follow c.feed_all-input.result c.first_fault.result c.finish-written.result.1 reader rest may);
       count = fed.count;
       read_failed = fed.read_failed;
       ran = ran;
@@ -63,10 +66,9 @@ returns-clause-ran g c = λ tools lawful fresh.
       broken = c.finish-written.ensures.broken;
       well = c.finish-written.ensures.well;
     } in
-    let has = ended_in_one_thread (change (λ r. g.R.BytesIn.left r.now) (λ r. g.R.BytesIn.failures r.now) (reader_of c.with_buffer-source.result)
-    (reader_of c.feed_all-input.new.source)) (λ w. g.W.BytesOut.held w.now) (λ w. g.W.BytesOut.failures w.now) (output_of c.new-downstream.result)
+    let has = ended_in_one_thread reader (λ w. g.W.BytesOut.held w.now) (λ w. g.W.BytesOut.failures w.now) (output_of c.new-downstream.result)
     c.finish-written.result.0 (job_of tools c.args.form)
-    c.feed_all-input.result c.first_fault.result c.finish-written.result.1 ((reader_of c.feed_all-input.new.source).now ≡ c.args.reader.now) ended answered
+    c.feed_all-input.result c.first_fault.result c.finish-written.result.1 ended answered
     stages.first in
     let all = rw (c.new-downstream.ensures.writer, c.with_buffer-source.ensures.reader_is, ← c.answer.ensures) at has in
     search rules
