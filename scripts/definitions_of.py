@@ -56,10 +56,7 @@ BOOKKEEPING = {
     ("pnm_serial", "Runs"): (["Change", "change"], "a device before and after a call"),
     ("pnm_serial", "RunFacts"): (["IfGone", "IfInput", "IfOutput", "IfTool"], "cases of an answer"),
     ("pnm_flow", "Chains"): ([], "chooses between one lane and several"),
-    ("pnm_flow", "ThreadedRuns"): (
-        ["FitEnds", "IsOfTools", "fault_of_end", "first_fault_from"],
-        "cases of an answer",
-    ),
+    ("pnm_flow", "ThreadedRuns"): (["fault_of_end", "first_fault_from"], "cases of an answer"),
 }
 
 HEAD = re.compile(r"(?:abbrev|unfoldable)(?: pub)? (\S+)|(?:pub )?(?:record|data) (\S+)")

@@ -6,6 +6,7 @@ use Rattle.pnm_read.specs.declared.fault.InputFault.{InputFault}
 use Rattle.pnm_read.specs.declared.fault.InputFault.TheVariants.{Memory as NoMemoryToRead}
 use Rattle.pnm_read.specs.declared.source.Source.{Source}
 use Rattle.pnm_read.specs.Sources.{reader_of}
+use Rattle.pnm_tools.specs.declared.fault.ToolFault.{ToolFault}
 use Rattle.pnm_write.specs.declared.fault.SinkFault.{SinkFault}
 use Rattle.pnm_serial.specs.declared.fault.RunFault.{RunFault}
 use Rattle.pnm_serial.specs.declared.fault.RunFault.TheVariants.{NoStart, Input, Tool as OfTool, Output, PeerGone as Gone}
@@ -43,6 +44,11 @@ of_stage from (Broken ∷ ends) fault is = of_stage (from + 1) ends fault is
 of_stage from (Fault other ∷ ends) fault is = let same : OfTool from other ≡ fault = cc in subst IsOfStage same tt
 of_stage from (PeerGone ∷ ends) fault is = let same : Gone from ≡ fault = cc in subst IsOfStage same tt
 
+-- a tool's fault is answered
+tool_is : (number n : ℕ) (fault f : ToolFault) (answer : Result Summary RunFault) → answer ≡ Err (OfTool number fault) → answer ≡ Err (OfTool n f)
+    → OfTool number fault ≡ OfTool n f
+tool_is number n fault f answer is is_too = cc
+
 pub over_has_run : {R W : Type 0} (left : R → Option (List ℕ)) (reader_failures : R → ℕ) (held : W → Option (List ℕ)) (failures : W → ℕ)
     (first source : Source R) (start done : W) (lanes : ℕ) (job : Job) (ends : List StageEnd) (input : Option (Result (Unit {0}) InputFault))
     (found : Option RunFault) (has_ended : Bool) (output : Result Summary SinkFault)
@@ -57,7 +63,7 @@ over_has_run left reader_failures held failures first source start done lanes jo
     (λ well. absurd cc) in
     record {
       run = ended_has_run ⊥ (change left reader_failures (reader_of first) (reader_of source)) held failures start done job (Err fault) None output ended;
-      all_written = λ text has no sound. absurd no;
+      all_written = λ text has not_input not_gone sound. absurd (not_input fault refl);
     }
 over_has_run left reader_failures held failures first source start done lanes job ends (Some (Ok tt)) (Some NoStart) has_ended output over many is =
     absurd (of_stage 1 ends NoStart is)
@@ -74,8 +80,9 @@ over_has_run left reader_failures held failures first source start done lanes jo
       run = ended_has_run ⊥ (change left reader_failures (reader_of first) (reader_of source)) held failures start done job (Ok tt) (Some (number, fault))
           output
           ended;
-      all_written = λ text has tools_are sound. all_sent left reader_failures held failures first source start done lanes job ends has_ended output
-          (Err (OfTool number fault)) over is text has sound;
+      all_written = λ text has not_input not_gone sound. all_sent left reader_failures held failures first source start done lanes job ends has_ended output
+          (Err (OfTool number fault)) over (λ n f e. is ∙ ap Some (tool_is number n fault f _ refl e))
+          (λ never. absurd (never number fault refl)) text has sound;
     }
 over_has_run left reader_failures held failures first source start done lanes job ends (Some (Ok tt)) (Some (Gone number)) has_ended output over many is =
     gone_has_run left reader_failures held failures first source start done lanes job ends (Some (Ok tt)) has_ended output number over (inr refl)
@@ -89,8 +96,8 @@ over_has_run left reader_failures held failures first source start done lanes jo
     (λ well. stages.1) in
     record {
       run = ended_has_run ⊥ (change left reader_failures (reader_of first) (reader_of source)) held failures start done job (Ok tt) None (Err fault) ended;
-      all_written = λ text has tools_are sound. all_sent left reader_failures held failures first source start done lanes job ends true (Err fault)
-          (Err (Output fault)) over is text has sound;
+      all_written = λ text has not_input not_gone sound. all_sent left reader_failures held failures first source start done lanes job ends true (Err fault)
+          (Err (Output fault)) over (λ n f e. absurd cc) (λ never. is) text has sound;
     }
 over_has_run left reader_failures held failures first source start done lanes job ends (Some (Ok tt)) None true (Ok summary) over many is =
     let stages = well_stages left reader_failures held failures first source start done lanes job ends (Ok summary) over is in
@@ -98,8 +105,8 @@ over_has_run left reader_failures held failures first source start done lanes jo
     (λ well. stages.1) in
     record {
       run = ended_has_run ⊥ (change left reader_failures (reader_of first) (reader_of source)) held failures start done job (Ok tt) None (Ok summary) ended;
-      all_written = λ text has tools_are sound. all_sent left reader_failures held failures first source start done lanes job ends true (Ok summary)
-          (Ok summary) over is text has sound;
+      all_written = λ text has not_input not_gone sound. all_sent left reader_failures held failures first source start done lanes job ends true (Ok summary)
+          (Ok summary) over (λ n f e. absurd cc) (λ never. is) text has sound;
     }
 
 -- ---- the first fault
@@ -147,5 +154,5 @@ pub unread_has_run : (lanes : ℕ) (job : Job) (reader writer : Change) → read
 unread_has_run lanes job reader writer read same_count written =
     record {
       run = serial_unread ⊥ job reader writer read same_count written;
-      all_written = λ text is has sound. absurd has;
+      all_written = λ text is not_input not_gone sound. absurd (not_input NoMemoryToRead refl);
     }

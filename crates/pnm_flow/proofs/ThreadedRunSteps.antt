@@ -41,7 +41,7 @@ use Rattle.pnm_serial.specs.Jobs.{Job}
 use Rattle.pnm_serial.specs.Runs.{Change, change, MayFollow}
 use Rattle.pnm_serial.specs.SerialRuns.{answer_by}
 use Rattle.pnm_stages.specs.Prefixes.{IsPrefixOfDue}
-use Rattle.pnm_flow.specs.ThreadedRuns.{first_fault_from, HasEndedOver, HaveEnded, FitEnds, IsAllSent, HasRunOverThreads}
+use Rattle.pnm_flow.specs.ThreadedRuns.{first_fault_from, HasEndedOver, HaveEnded, IsAllSent, HasRunOverThreads}
 use Rattle.pnm_flow.proofs.ToolOverLaws.{stage_ended, received_ended, sent_ended}
 use Rattle.pnm_stages.proofs.EndingLaws.{nothing_follows, stream_ends_whole}
 use Rattle.pnm_stages.proofs.PrefixLaws.{prefix_without_stop, stop_is_cut}
@@ -275,7 +275,7 @@ gone_has_run left reader_failures held failures first source start done lanes jo
           written = λ summary is. absurd cc;
         };
       };
-      all_written = λ text is has sound. absurd has;
+      all_written = λ text is not_input not_gone sound. absurd (not_gone number refl);
     }
 
 -- ---- the other answers
@@ -395,10 +395,12 @@ got_ended rest false got ended (inr none) = inr none
 -- all that was sent was written, unless the writer failed
 pub all_sent : {R W : Type 0} (left : R → Option (List ℕ)) (reader_failures : R → ℕ) (held : W → Option (List ℕ)) (failures : W → ℕ) (first source : Source R)
     (start done : W) (lanes : ℕ) (job : Job) (ends : List StageEnd) (has_ended : Bool) (output : Result Summary SinkFault) (answer : Result Summary RunFault)
-    → Over left reader_failures held failures first source start done lanes job ends (Some (Ok tt)) has_ended output → FitEnds answer ends
+    → Over left reader_failures held failures first source start done lanes job ends (Some (Ok tt)) has_ended output
+    → ((number : ℕ) (fault : ToolFault) → answer ≡ Err (OfTool number fault) → first_fault_from 1 ends ≡ Some (OfTool number fault))
+    → (((number : ℕ) (fault : ToolFault) → answer ≢ Err (OfTool number fault)) → first_fault_from 1 ends ≡ None)
     → (text : List ℕ) → left (reader_of first) ≡ Some text → ¬ Failed (failures start) (failures done)
     → IsAllSent text lanes job answer (held start) (held done)
-all_sent left reader_failures held failures first source start done lanes job ends has_ended output answer over fit text is sound =
+all_sent left reader_failures held failures first source start done lanes job ends has_ended output answer over fault_is none text is sound =
     let reader = change left reader_failures (reader_of first) (reader_of source) in
     let rest = rest_of reader.old reader.new over.asked.read text over.asked.consumed is in
     let said = told_over left reader_failures first source over.given (Ok tt) None output over.asked rest.0
@@ -410,7 +412,8 @@ all_sent left reader_failures held failures first source start done lanes job en
     record {
       ends = ends;
       given = over.got;
-      fit = fit;
+      first = fault_is;
+      none = none;
       ended = subst (λ (x : List Message). HaveEnded lanes job.tools ends x over.got) (sym text_is)
           (have_ended lanes job.tools ends over.links over.given over.took over.untaken over.gave over.got over.rest over.stages fed (inl (inl whole)) over.came
           (got_ended over.rest has_ended over.got over.ended over.all));

@@ -1,16 +1,17 @@
 -- What a run over threads answers, and what its tools have sent.
-use Rattle.std.specs.Prelude.{◌≡◌, ℕ, ◌+◌, Bool, true, false, List, [], ◌∷◌, Option, Some, None, Result, Ok, Err}
+use Rattle.std.specs.Prelude.{◌≡◌, ◌≢◌, ℕ, ◌+◌, Bool, true, false, List, [], ◌∷◌, Option, Some, None, Result, Ok, Err}
 use Rattle.std.specs.Io.KnownBytes.{Appends}
 use Rattle.pnm_image.specs.Devices.{Failed}
 use Rattle.pnm_image.specs.declared.message.Message.{Message}
 use Rattle.pnm_image.specs.Messages.{without_stop}
 use Rattle.pnm_read.specs.declared.fault.InputFault.{InputFault}
 use Rattle.pnm_read.specs.Said.{said_of}
+use Rattle.pnm_tools.specs.declared.fault.ToolFault.{ToolFault}
 use Rattle.pnm_tools.specs.declared.tool.Tool.{Tool}
 use Rattle.pnm_write.specs.declared.fault.SinkFault.{SinkFault}
 use Rattle.pnm_write.specs.Encoding.{written_of}
 use Rattle.pnm_serial.specs.declared.fault.RunFault.{RunFault}
-use Rattle.pnm_serial.specs.declared.fault.RunFault.TheVariants.{NoStart, Input, Tool as OfTool, Output}
+use Rattle.pnm_serial.specs.declared.fault.RunFault.TheVariants.{Input, Tool as OfTool, Output}
 use Rattle.pnm_serial.specs.declared.fault.RunFault.TheVariants.{PeerGone as Gone}
 use Rattle.pnm_stages.specs.declared.stage.StageEnd.{StageEnd}
 use Rattle.pnm_stages.specs.declared.stage.StageEnd.TheVariants.{Well, Broken, Fault, PeerGone}
@@ -63,40 +64,26 @@ HaveEnded lanes (tool ∷ tools) [] took gave = ⊥
 HaveEnded lanes (tool ∷ tools) (end ∷ ends) took gave = (middle : List Message)
     × HasEndedOver lanes tool end took middle × HaveEnded lanes tools ends middle gave
 
--- the ends of the tools, as far as the answer tells them
-abbrev pub FitEnds : {A : Type 0} → Result A RunFault → List StageEnd → Type 0
-FitEnds (Ok x) ends = first_fault_from 1 ends ≡ None
-FitEnds (Err NoStart) ends = Unit {0}
-FitEnds (Err (Input fault)) ends = Unit {0}
-FitEnds (Err (OfTool number fault)) ends = first_fault_from 1 ends ≡ Some (OfTool number fault)
-FitEnds (Err (Output fault)) ends = first_fault_from 1 ends ≡ None
-FitEnds (Err (Gone number)) ends = Unit {0}
-
--- the input has no fault, and no ring's other end was seen dropped where that is answered
-abbrev pub IsOfTools : {A : Type 0} → Result A RunFault → Type 0
-IsOfTools (Ok x) = Unit {0}
-IsOfTools (Err NoStart) = ⊥
-IsOfTools (Err (Input fault)) = ⊥
-IsOfTools (Err (OfTool number fault)) = Unit {0}
-IsOfTools (Err (Output fault)) = Unit {0}
-IsOfTools (Err (Gone number)) = ⊥
-
 -- the tools have ended so for all that is said of the text, and what the last one sent was written, as far as the form
--- takes it
-pub record IsAllSent {A : Type 0} (text : List ℕ) (lanes : ℕ) (job : Job) (answer : Result A RunFault)
+-- takes it; the first fault of their ends is the one that is answered, or there is none
+pub record IsAllSent (text : List ℕ) (lanes : ℕ) (job : Job) (answer : Result Summary RunFault)
     (old new : Option (List ℕ)) : Type 0 where
   pub ends : List StageEnd
   pub given : List Message
-  pub fit : FitEnds answer ends
+  pub first : (number : ℕ) (fault : ToolFault) → answer ≡ Err (OfTool number fault)
+      → first_fault_from 1 ends ≡ Some (OfTool number fault)
+  pub none : ((number : ℕ) (fault : ToolFault) → answer ≢ Err (OfTool number fault)) → first_fault_from 1 ends ≡ None
   pub ended : HaveEnded lanes job.tools ends (said_of text) given
   pub written : Appends old new (written_of job.form (without_stop given))
 
 -- ---- the run
 
--- a run over threads that was started: what holds of each run, and what its stages did. No number of messages ends it:
--- where a failed read is answered the reader failed.
+-- A run over threads that was started: what holds of each run, and what its stages did, where the answer is neither of
+-- the input nor of a ring's end and the writer didn't fail. No number of messages ends it: where a failed read is
+-- answered the reader failed.
 pub record HasRunOverThreads (lanes : ℕ) (job : Job) (answer : Result Summary RunFault)
     (reader writer : Change) : Type 0 where
   pub run : HasRun ⊥ job answer reader writer
-  pub all_written : (text : List ℕ) → reader.old ≡ Some text → IsOfTools answer
-      → ¬ Failed writer.failures_old writer.failures_new → IsAllSent text lanes job answer writer.old writer.new
+  pub all_written : (text : List ℕ) → reader.old ≡ Some text → ((fault : InputFault) → answer ≢ Err (Input fault))
+      → ((number : ℕ) → answer ≢ Err (Gone number)) → ¬ Failed writer.failures_old writer.failures_new
+      → IsAllSent text lanes job answer writer.old writer.new
