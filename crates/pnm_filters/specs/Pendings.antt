@@ -4,8 +4,8 @@ use Rattle.pnm_image.specs.declared.message.Message.{Message}
 use Rattle.pnm_filters.specs.declared.state.Owed.{Owed}
 use Rattle.pnm_filters.specs.declared.state.Owed.TheVariants.{Told, One, Rest, RestAndEnd, Untold}
 
--- nothing, and that was told; a message; the rows that the tool still gives, and maybe the end of
--- the image; nothing, which isn't told yet
+-- nothing, and the caller was told so; a message; the rows that the tool still gives, and maybe the end of
+-- the image; nothing, but the caller wasn't told so yet
 pub data Pending : Type 0 where
   AllGiven : Pending
   Waiting : Message → Pending

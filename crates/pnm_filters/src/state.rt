@@ -18,7 +18,7 @@ use std::marker::Model;
 /// What is still to be given for the message that was accepted last.
 #[derive(Clone, Copy)]
 pub enum Owed {
-    /// Nothing, and that was told.
+    /// Nothing, and the caller was told so.
     Told,
     /// The message that waits.
     One,
@@ -26,7 +26,7 @@ pub enum Owed {
     Rest,
     /// The rows that the tool still gives, and the end of the image.
     RestAndEnd,
-    /// Nothing, which isn't told yet.
+    /// Nothing, but the caller wasn't told so yet.
     Untold,
 }
 

@@ -18,7 +18,7 @@ mod texts;
 mod tools;
 
 /// Stops the test where it isn't so, and shows what is given, what is wanted and where. An assertion that shows its
-/// values is dear to prove: this one stands for those of many tests.
+/// values takes long to prove: this one stands for those of many tests.
 fn holds<G: fmt::Debug, W: fmt::Debug, P: fmt::Debug>(
     rt: &impl Abort,
     is_so: bool,

@@ -1,4 +1,4 @@
--- What a call reads, and how what it answers hangs together with the text, of which only a part is held.
+-- What a call reads, and what its answer says of the text, of which only a part is held.
 use Rattle.std.specs.Prelude.{◌≡◌, ℕ, ◌≤◌, ◌⊎◌, true, false, List, [], ◌∷◌, ◌++◌, take, length, Option, Some, None}
 use Rattle.std.specs.Prelude.{Result, Ok, Err}
 use Rattle.std.specs.List.{slice_range}

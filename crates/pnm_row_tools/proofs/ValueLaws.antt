@@ -1,6 +1,6 @@
 -- Values of samples that are changed in place.
 use Rattle.std.proofs.Common.{◌≡◌, ℕ, ◌+◌, ◌<◌, ◌≤◌, List, [], ◌∷◌, ◌++◌, length, take, drop, map, get_or, set, All, sym, ap, ap₂, subst, ◌∙◌, arith}
-use Rattle.std.proofs.lemmas.List.{take_all, take_more, take_more_set, map_push, drop_more, drop-set-lt, get_or-drop}
+use Rattle.std.proofs.lemmas.List.{take_more, take_more_set, map_push, drop_more, drop-set-lt, get_or-drop}
 
 -- the values of the samples that have passed are computed, and the others are as they were
 pub record Changed {X : Type 0} (value computed : X → ℕ) (i : ℕ) (old new : List X) : Type 0 where

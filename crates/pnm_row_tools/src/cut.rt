@@ -16,9 +16,6 @@ use pnm_image::{Head, RowVec, Rows, Shape};
 use pnm_tools::{CutBox, Span, ToolFault, head_within_limits};
 use std::alloc::{AllocError, Global};
 
-/// From how many samples on a part of a row is long.
-const LONG_PART: usize = 64;
-
 /// Of each of some rows that follow one another the samples that are kept.
 #[derive(Clone, Copy)]
 struct Parts {
@@ -96,23 +93,8 @@ fn keep_of_each<T: Copy>(samples: &mut Vec<T>, parts: Parts)
     requires within { parts.first + parts.kept ≤ parts.row_length }
     ensures { samples.new.items ≡ parts_of parts samples.old.items }
 {
-    if parts.kept < LONG_PART {
-        move_parts(samples.as_mut_slice(), parts);
-    } else {
-        move_long_parts(samples.as_mut_slice(), parts);
-    }
+    move_parts(samples.as_mut_slice(), parts);
     samples.truncate(parts.count * parts.kept);
-}
-
-/// The same as `move_parts`, compiled by itself: for long parts this took less than half the instructions, for short
-/// ones a quarter more.
-#[inline(never)]
-fn move_long_parts<T: Copy>(samples: &mut [T], parts: Parts)
-    requires rows { parts.top * parts.row_length + parts.count * parts.row_length ≤ length samples.old }
-    requires within { parts.first + parts.kept ≤ parts.row_length }
-    ensures { take (parts.count * parts.kept) samples.new ≡ parts_of parts samples.old }
-{
-    move_parts(samples, parts);
 }
 
 /// Moves these parts of rows to the front, those of the first row first.

@@ -14,7 +14,7 @@ mod streams;
 mod texts;
 mod tools;
 
-/// Stops the test where something isn't so, and shows these values. An assertion that shows its values is dear to
+/// Stops the test where something isn't so, and shows these values. An assertion that shows its values takes long to
 /// prove: this one stands for all others.
 fn is_so<P: fmt::Debug>(rt: &impl Abort, is_right: bool, shown: &P) {
     assert!(rt; is_right, "{shown:?}");

@@ -5,7 +5,7 @@ use Rattle.std.proofs.Common.{arith, length-drop}
 use Rattle.std.specs.List.{copy_within}
 use Rattle.std.proofs.Math.Seq.{paste}
 use Rattle.std.proofs.lemmas.Bool.{leb-true, ltb-true, le-leb, lt-leb, ne_eqb, and_parts, and_right}
-use Rattle.std.proofs.lemmas.List.{drop-take, take_all}
+use Rattle.std.proofs.lemmas.List.{take_all}
 use Rattle.std.proofs.lemmas.List.Edits.{take-paste}
 use Rattle.pnm_image.specs.declared.shape.Shape.{Shape}
 use Rattle.pnm_image.specs.Heads.{HeadValue, IsWithinLimits, head_value, is_too_large}
@@ -21,13 +21,6 @@ use Rattle.pnm_tools.specs.Tools.{result_head, row_answer}
 use Rattle.pnm_tools.proofs.HeadLaws.{head_of_cut, small_sizes, small_head}
 use Rattle.pnm_tools.proofs.RowLaws.{row_of_cut}
 use Rattle.pnm_image.specs.declared.limits.TheConstants.{MAX_ROW_LENGTH}
-
--- the samples before what is kept, and those that are kept
-both_parts : (first last depth : ℕ) → first ≤ last → (last + 1) * depth ≡ first * depth + ((last + 1) - first) * depth
-both_parts first last depth le =
-    let count : ℕ = (last + 1) - first in
-    let e : last + 1 ≡ first + count = omega arith in
-    ap (λ (n : ℕ). n * depth) e ∙ omega arith
 
 -- the rest of a list, moved to its front
 moved : {X : Type 0} (xs : List X) (f m : ℕ) → length xs ≡ m → f ≤ m → take (m - f) (copy_within xs f m 0) ≡ drop f xs

@@ -38,7 +38,7 @@ impl<F: Filter + Drop> FusedFilter<F> {
     }
 
     /// Feeds the tool a message. After its refusal the message is dropped.
-    // Here and in `next` and `gave_all`: what one stores the other finds in registers, in a stage's loop.
+    // `feed`, `next` and `gave_all` are inlined: in a stage's loop their values stay in registers then.
     #[inline(always)]
     pub fn feed(&mut self, message: Message)
         ensures { (tool : ToolValue) (l g : List MessageValue) → FilterAt F.at F.all_given F.stopped self.old tool l g

@@ -1,4 +1,4 @@
-//! Tools at work. One function holds such a tool, since each that does is dear to prove.
+//! Tools at work. One function holds such a tool, since each one that does takes long to prove.
 
 use super::steps::{Step, go};
 use super::sweeps;

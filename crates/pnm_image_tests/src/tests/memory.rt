@@ -249,7 +249,7 @@ fn answers_image(rt: &impl Abort, alloc: Global, tool: &Tool, wants: &[Part<'_>]
 }
 
 /// The tool at work, if there is one, answers the image with these parts, or `Memory` from some message on. A function
-/// that knows what such a tool is made of is dear to prove, so that one that doesn't keeps it.
+/// that knows what such a tool is made of takes long to prove, so one that doesn't know keeps it.
 fn answers_at_work<F: Filter + Drop>(
     rt: &impl Abort,
     alloc: Global,

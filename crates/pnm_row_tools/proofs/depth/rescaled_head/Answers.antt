@@ -1,7 +1,6 @@
 use Rattle.std.proofs.Common.{◌≡◌, refl}
 use Rattle.pnm_image.specs.Heads.{head_value}
 use Rattle.pnm_tools.specs.declared.tool.Tool.TheVariants.{Depth}
-use Rattle.pnm_tools.specs.Depth.{rescaled_by}
 use Rattle.pnm_tools.specs.Limits.{within_limits}
 use Rattle.pnm_tools.specs.Tools.{result_head}
 use Rattle.pnm_tools.proofs.DepthLaws.{depth_is_samplewise}

@@ -1,4 +1,4 @@
-use Rattle.std.proofs.Common.{Option, sym, subst}
+use Rattle.std.proofs.Common.{sym, subst}
 use Rattle.pnm_tools.specs.Answers.{RowsMayCome}
 use Rattle.pnm_filters.specs.Pendings.{pending_of}
 use Rattle.pnm_filters.specs.States.{Standing, standing, is_all_given}

@@ -1,4 +1,3 @@
-use Rattle.pnm_tools.specs.declared.tool.Tool.TheVariants.{Invert}
 use Rattle.pnm_tools.proofs.InvertLaws.{invert_is_samplewise}
 use Rattle.pnm_row_tools.proofs.SampleToolLaws.{kept_head_so, kept_fault_so}
 use Rattle.pnm_row_tools.proofs.invert.InverterSampleTool.head.Goals as goal
