@@ -2,7 +2,7 @@
 use Rattle.std.proofs.Common.{◌≡◌, ℕ, zero, suc, ◌+◌, ◌*◌, ◌<◌, ◌≤◌, List, [], ◌∷◌, ◌++◌, length, map, take, drop, All, refl, sym, ap, ◌∙◌, ◌-◌}
 use Rattle.std.proofs.Common.{arith, append-nil, append_assoc, length-take-le, length-drop, mul-le-mul, suc-mul, zero-mul}
 use Rattle.std.specs.List.{AllByRecursion, copy_within}
-use Rattle.std.proofs.Math.Seq.{paste}
+use Rattle.std.proofs.Math.Seq.{paste, take-add}
 use Rattle.std.proofs.lemmas.List.{drop_at, drop-drop, drop-take, length-append, take-append-drop, take_at, take-take}
 use Rattle.std.proofs.lemmas.List.Edits.{drop-paste, length-paste, take-paste}
 use Rattle.std.proofs.lemmas.List.Elements.{All-drop, All-take}
@@ -198,3 +198,34 @@ copied_to_self {X = X} samples from to count same =
     ∙ ap (λ (l : List X). take to samples ++ (take count rest ++ l)) (sym (drop-drop count to samples))
     ∙ ap (λ (l : List X). take to samples ++ l) (take-append-drop count rest) ∙ take-append-drop to samples
     )
+
+-- samples that are copied after those that were copied before, all down by as much
+pub copied_further : {X : Type 0} (samples : List X) (from to done count : ℕ) → to ≤ from → from + done + count ≤ length samples
+    → copy_within (copy_within samples from (from + done) to) (from + done) (from + done + count) (to + done)
+    ≡ copy_within samples from (from + (done + count)) to
+copied_further {X = X} samples from to done count down within =
+    let source : List X = drop from samples in
+    let now : List X = paste samples to source done in
+    let first : (from + done) - from ≡ done = omega arith in
+    let next : (from + done + count) - (from + done) ≡ count = omega arith in
+    let both : (from + (done + count)) - from ≡ done + count = omega arith in
+    let enough : done ≤ length source = omega (arith, length-drop from samples, within) in
+    let gap : ℕ = from - to in
+    let place : from + done ≡ (to + done) + gap = omega (arith, down) in
+    let same : drop (to + done) now ≡ drop (to + done) samples = drop-paste samples to source done (omega (arith, down, within)) enough in
+    let behind : drop (from + done) now ≡ drop done source =
+    ap (λ (n : ℕ). drop n now) place ∙ sym (drop-drop gap (to + done) now) ∙ ap (drop gap) same ∙ drop-drop gap (to + done) samples
+    ∙ ap (λ (n : ℕ). drop n samples) (sym place) ∙ sym (drop-drop done from samples) in
+    let last : drop (to + done + count) now ≡ drop (to + (done + count)) samples =
+    sym (drop-drop count (to + done) now) ∙ ap (drop count) same ∙ drop-drop count (to + done) samples
+    ∙ ap (λ (n : ℕ). drop n samples) (omega arith) in
+    ap (λ (n : ℕ). copy_within (paste samples to source n) (from + done) (from + done + count) (to + done)) first
+    ∙ ap (λ (n : ℕ). paste now (to + done) (drop (from + done) now) n) next
+    ∙ ap (λ (l : List X). (l ++ take count (drop (from + done) now)) ++ drop (to + done + count) now)
+    (take-paste samples to source done (omega (arith, down, within)) enough)
+    ∙ ap (λ (l : List X). ((take to samples ++ take done source) ++ take count l) ++ drop (to + done + count) now) behind
+    ∙ ap (λ (l : List X). ((take to samples ++ take done source) ++ take count (drop done source)) ++ l) last
+    ∙ ap (λ (l : List X). l ++ drop (to + (done + count)) samples)
+    (append_assoc (take to samples) (take done source) (take count (drop done source))
+    ∙ ap (λ (l : List X). take to samples ++ l) (sym (take-add done count source)))
+    ∙ ap (λ (n : ℕ). paste samples to source n) (sym both)

@@ -111,8 +111,11 @@ fn move_parts<T: Copy>(samples: &mut [T], parts: Parts)
     }
 }
 
-/// Copies so many samples to a place that isn't behind them, unless they are there: all at once where the two don't
-/// overlap, which takes a part of the time that one sample after another does.
+/// The fewest samples that are copied at once if more of them overlap the place that they go to: one after another
+/// takes less time than copies of fewer.
+const LEAST_COPY: usize = 16;
+
+/// Copies so many samples to a place that isn't behind them, unless they are there.
 #[inline]
 fn copy_down<T: Copy>(samples: &mut [T], from: usize, to: usize, count: usize)
     requires down { to ≤ from }
@@ -122,12 +125,42 @@ fn copy_down<T: Copy>(samples: &mut [T], from: usize, to: usize, count: usize)
     if from == to {
         return;
     }
-    if from - to < count {
+    let gap = from - to;
+    if count <= gap {
+        copy_apart(samples, from, to, count);
+    } else if gap < LEAST_COPY {
         samples.copy_within(from..from + count, to);
     } else {
-        let (front, back) = samples.split_at_mut(from);
-        front[to..to + count].copy_from_slice(&back[..count]);
+        copy_by_gaps(samples, from, to, count);
     }
+}
+
+/// Copies so many samples to a place before them that they overlap: as many at once as the two places lie apart, which
+/// takes a part of the time that one sample after another does.
+fn copy_by_gaps<T: Copy>(samples: &mut [T], from: usize, to: usize, count: usize)
+    requires down { to < from }
+    requires within { from + count ≤ length samples.old }
+    ensures { samples.new ≡ copy_within samples.old from (from + count) to }
+{
+    let gap = from - to;
+    let copies = count / gap;
+    for i in 0..copies {
+        let done = i * gap;
+        copy_apart(samples, from + done, to + done, gap);
+    }
+    let done = copies * gap;
+    copy_apart(samples, from + done, to + done, count - done);
+}
+
+/// Copies so many samples to a place before them that they don't overlap.
+#[inline]
+fn copy_apart<T: Copy>(samples: &mut [T], from: usize, to: usize, count: usize)
+    requires apart { to + count ≤ from }
+    requires within { from + count ≤ length samples.old }
+    ensures { samples.new ≡ copy_within samples.old from (from + count) to }
+{
+    let (front, back) = samples.split_at_mut(from);
+    front[to..to + count].copy_from_slice(&back[..count]);
 }
 
 /// Cuts the rows of images.
