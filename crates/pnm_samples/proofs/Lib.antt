@@ -1,4 +1,5 @@
 pub mod BitRowLaws
+pub mod BitRowParts
 pub mod BitRowsMade
 pub mod BlockLaws
 pub mod BoundLaws

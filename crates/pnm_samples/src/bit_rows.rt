@@ -170,6 +170,9 @@ impl BitRows {
         requires pixels { (k : ℕ) → k < length self.now → left + each ≤ length (get_or self.now k []) }
         ensures { IfOk result (λ part. part ≡ map (λ row. take each (drop left row)) (take count (drop top self.now))) }
     {
+        if left == 0 && each == self.each {
+            return self.copy_rows(alloc, top, count);
+        }
         let (apart, size) = (self.each.div_ceil(8), each.div_ceil(8));
         let mut bytes = Vec::from_elem(alloc, 0, count * size)?;
         for row in 0..count {
@@ -179,6 +182,25 @@ impl BitRows {
             fill_run(buffer, from, left, each);
         }
         Ok(BitRows::new(bytes, count, each))
+    }
+
+    /// A copy of these of the rows, so many from one on.
+    ///
+    /// # Errors
+    ///
+    /// Where there is no memory for it.
+    fn copy_rows(&self, alloc: Global, top: usize, count: usize) -> Result<BitRows, AllocError>
+        requires { top + count ≤ length self.now }
+        ensures { IfOk result (λ part. part ≡ take count (drop top self.now)) }
+    {
+        let size = self.each.div_ceil(8);
+        let start = top * size;
+        let bytes = Vec::from_slice(alloc, &self.bytes[start..start + count * size])?;
+        Ok(BitRows {
+            bytes,
+            count,
+            each: self.each,
+        })
     }
 
     /// The samples of the rows, a byte each, with nothing between the rows.

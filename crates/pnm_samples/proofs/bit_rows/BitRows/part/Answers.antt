@@ -1,4 +1,4 @@
-use Rattle.std.proofs.Common.{◌≡◌, ◌≤◌, ◌+◌, ◌-◌, ◌*◌, ◌∙◌, ℕ, List, [], get_or, length, take, drop, refl, sym, ap, ap₂, subst, arith}
+use Rattle.std.proofs.Common.{◌≡◌, ◌≤◌, ◌<◌, IfOk, ◌+◌, ◌-◌, ◌*◌, ◌∙◌, ℕ, List, [], get_or, length, take, drop, refl, sym, ap, ap₂, subst, arith}
 use Rattle.std.proofs.lemmas.List.{length-drop, length-take, with_items_is}
 use Rattle.std.specs.Vec.{with_items}
 use borrow.Rule.Slice.PartMut.{put_mid, same_len_mid, mid_len}
@@ -6,6 +6,7 @@ use Rattle.pnm_samples.specs.BitRows.{row_bytes}
 use Rattle.pnm_samples.specs.PixelRows.{bytes_for}
 use Rattle.pnm_samples.specs.Pixels.{all_pixels}
 use Rattle.pnm_samples.proofs.BitRowLaws.{counted, length_of_row_bytes, row_within}
+use Rattle.pnm_samples.proofs.BitRowParts.{whole_rows}
 use Rattle.pnm_samples.proofs.BitRowsMade.{AreFilled, one_more_filled, part_fits, part_is, row_of_rows}
 use Rattle.pnm_samples.proofs.PixelRowLaws.{run_of_row}
 use Rattle.pnm_samples.proofs.bit_rows.BitRows.part.Goals as goal
@@ -140,6 +141,14 @@ loop-row-preserved c =
     let stored : (with_items c.loop-row.bytes ws).items ≡ ws = with_items_is c.loop-row.bytes ws (kept ∙ c.as_mut_slice.ensures.len) in
     one_more_filled (λ (k : ℕ). take each (drop c.args.left (get_or c.args.self.now (c.args.top + k) []))) r c.args.count each (bytes_for each) now part _
     before (omega arith) refl long (stored ∙ ap₂ (λ (n k : ℕ). put_mid k n now part) wide place) made
+
+pub returns-then-each-self : goal.returns-then-each-self
+returns-then-each-self c =
+    let x = c.self.inside in
+    let wide : (k : ℕ) → k < length c.args.self.now → length (get_or c.args.self.now k []) ≤ c.args.each = λ k lt.
+    omega (arith, c.if-each-self.true, (row_of_rows x.count x.each k x.bytes.items c.args.self.now c.self.view_is c.self.invariant.enough lt).1) in
+    subst (λ (l : List (List ℕ)). IfOk c.copy_rows.result (λ part. part ≡ l))
+    (whole_rows c.args.top c.args.count c.args.left c.args.each c.args.self.now c.if-left-eq0.true c.requires.rows wide) c.copy_rows.ensures
 
 pub returns : goal.returns
 returns c =
