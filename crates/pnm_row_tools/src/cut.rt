@@ -14,7 +14,7 @@ ghost use Rattle.pnm_row_tools.specs.EachRow.{parts_of};
 use crate::row_tool::RowTool;
 use pnm_image::{Head, RowVec, Rows, Shape};
 use pnm_tools::{CutBox, Span, ToolFault, head_within_limits};
-use std::alloc::{AllocError, Global};
+use std::alloc::Global;
 
 /// Of each of some rows that follow one another the samples that are kept.
 #[derive(Clone, Copy)]
@@ -29,35 +29,23 @@ struct Parts {
     kept: usize,
 }
 
-/// These columns of these of the rows of an image of this shape: they are moved to the front in place, but bits are
-/// copied.
-///
-/// # Errors
-///
-/// Where there is no memory for bits that are copied.
-fn keep_columns_of_rows(
-    alloc: Global,
-    columns: Span,
-    among: Span,
-    shape: Shape,
-    rows: Rows,
-) -> Result<Rows, AllocError>
+/// These columns of these of the rows of an image of this shape, moved to the front in place.
+fn keep_columns_of_rows(columns: Span, among: Span, shape: Shape, rows: Rows) -> Rows
     requires columns { (columns.first ≤ columns.last) × (columns.last < shape.width) }
     requires among { (among.first ≤ among.last) × (among.last < length rows) }
     requires rows { AllByRecursion (IsRowOf shape) rows }
-    ensures { IfOk result
-        (λ kept. kept ≡ map (columns_of_row columns shape.depth) (take (span_count among) (drop among.first rows))) }
+    ensures { result ≡ map (columns_of_row columns shape.depth) (take (span_count among) (drop among.first rows)) }
 {
     let (held, count, row_length) = rows.into_parts();
     let kept_rows = among.last - among.first + 1;
     let parts = parts_kept(columns, among, shape.depth as usize, row_length);
     if parts.kept == row_length && kept_rows == count {
-        return Ok(Rows::new(held, shape.maxval, count, row_length));
+        return Rows::new(held, shape.maxval, count, row_length);
     }
     let kept = match held {
-        RowVec::Bits(bits) => {
-            let part = bits.part(alloc, parts.top, parts.count, parts.first, parts.kept)?;
-            RowVec::Bits(part)
+        RowVec::Bits(mut bits) => {
+            bits.keep_part(parts.top, parts.count, parts.first, parts.kept);
+            RowVec::Bits(bits)
         }
         RowVec::Bytes(mut bytes) => {
             keep_of_each(&mut bytes, parts);
@@ -68,7 +56,7 @@ fn keep_columns_of_rows(
             RowVec::Words(words)
         }
     };
-    Ok(Rows::new(kept, shape.maxval, kept_rows, parts.kept))
+    Rows::new(kept, shape.maxval, kept_rows, parts.kept)
 }
 
 /// What is kept of these of the rows, where these columns are.
@@ -202,11 +190,10 @@ impl RowTool for Cutter {
         head_within_limits(alloc, kept, head.tuple_type())
     }
 
-    /// Drops the rows that aren't kept, and keeps the columns of the others: they are moved to the front, but those of
-    /// bits to bytes of their own.
+    /// Drops the rows that aren't kept, and moves the columns that are kept of the others to the front.
     fn rows(
         &self,
-        alloc: Global,
+        _alloc: Global,
         shape: Shape,
         y: u32,
         rows: Rows,
@@ -214,7 +201,7 @@ impl RowTool for Cutter {
         let Some(among) = kept_among(self.rows, y, rows.count()) else {
             return Ok(None);
         };
-        let kept = keep_columns_of_rows(alloc, self.columns, among, shape, rows)?;
+        let kept = keep_columns_of_rows(self.columns, among, shape, rows);
         Ok(Some(kept))
     }
 }

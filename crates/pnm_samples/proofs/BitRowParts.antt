@@ -25,8 +25,9 @@ row_after : (size top k : ℕ) (bytes : List ℕ) → row_bytes size k (drop (to
 row_after size top k bytes =
     ap (take size) (drop-drop (k * size) (top * size) bytes ∙ ap (λ (m : ℕ). drop m bytes) (counted top k size))
 
-module _ (held whole top count : ℕ) (bytes part : List ℕ) (rows : List (List ℕ)) (h : ArePackedRows held whole bytes) (is : rows_of_bytes held whole bytes ≡ rows)
-    (within : top + count ≤ length rows) (copy : part ≡ take (count * bytes_for whole) (drop (top * bytes_for whole) bytes)) where
+module _ (held whole top count : ℕ) (bytes part : List ℕ) (rows : List (List ℕ)) (h : ArePackedRows held whole bytes)
+    (is : rows_of_bytes held whole bytes ≡ rows) (within : top + count ≤ length rows)
+    (copy : part ≡ take (count * bytes_for whole) (drop (top * bytes_for whole) bytes)) where
   fewer : top + count ≤ held
   fewer = omega (arith, within, length_of_rows held whole bytes, ap length is)
 

@@ -14,5 +14,6 @@ pub mod PixelRowLaws
 pub mod PixelRowsLaws
 pub mod RepeatLaws
 pub mod RowOrderLaws
+pub mod RunLaws
 pub mod SquareLaws
 pub mod StretchLaws

@@ -14,6 +14,10 @@ use crate::row_order::reverse_rows;
 use std::alloc::{AllocError, Global};
 use std::marker::Model;
 
+mod runs;
+
+use runs::move_runs;
+
 /// Rows of as many pixels each, one after another: each from a byte's start on, with white spare bits.
 #[derive(Debug, Drop)]
 pub struct BitRows {
@@ -151,6 +155,21 @@ impl BitRows {
         let (count, each) = (self.count, self.each);
         turn_round(self.bytes.as_mut_slice());
         move_each_to_end(self.bytes.as_mut_slice(), count, each);
+    }
+
+    /// Keeps these of the rows, so many from one on, and of each of them these pixels, so many from one on, in place.
+    pub fn keep_part(&mut self, top: usize, count: usize, left: usize, each: usize)
+        requires rows { top + count ≤ length self.old }
+        requires pixels { (k : ℕ) → k < length self.old → left + each ≤ length (get_or self.old k []) }
+        ensures { self.new ≡ map (λ row. take each (drop left row)) (take count (drop top self.old)) }
+    {
+        let (apart, size) = (self.each.div_ceil(8), each.div_ceil(8));
+        let start = top * apart;
+        move_runs(self.bytes.as_mut_slice(), start, apart, count, left, each);
+        self.bytes.truncate(count * size);
+        clear_spare_of_each(self.bytes.as_mut_slice(), count, each);
+        self.count = count;
+        self.each = each;
     }
 
     /// A copy of these of the rows, so many from one on, and of these of their pixels, so many from one on.

@@ -293,7 +293,9 @@ pub(crate) fn clear_spare(bytes: &mut [u8], count: usize)
     }
 }
 
-/// Fills the buffer with the pixels of the part that come after so many. The part is a byte longer.
+/// Fills the buffer with the pixels of the part that come after so many. The part is a byte longer. Inlined where both
+/// are of one slice, it would shift one byte at a time.
+#[inline(never)]
 fn shift_into(buffer: &mut [u8], part: &[u8], skipped: u32)
     requires skipped { skipped < 8 }
     requires part { length part.now ≡ length buffer.old + 1 }
@@ -335,6 +337,7 @@ fn fill_whole(buffer: &mut [u8], from: &[u8], start: usize)
 }
 
 /// Fills the buffer with a run of so many pixels, from the start on.
+#[inline]
 pub(crate) fn fill_run(buffer: &mut [u8], from: &[u8], start: usize, count: usize)
     requires buffer { length buffer.old ≡ (count + 7) / 8 }
     requires run { start + count ≤ 8 * length from.now }

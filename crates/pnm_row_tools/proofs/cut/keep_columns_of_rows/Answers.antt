@@ -7,7 +7,7 @@ use Rattle.pnm_tools.specs.Cut.{columns_of_row, span_count}
 use Rattle.pnm_row_tools.specs.declared.cut.Parts.{Parts}
 use Rattle.pnm_row_tools.specs.EachRow.{HoldsRows, held_samples}
 use Rattle.pnm_row_tools.proofs.CutRowsLaws.{all_rows, are_cut, columns_within, kept_long, kept_rows_of, lists_kept, part_fits, part_in_row, parts_fit}
-use Rattle.pnm_row_tools.proofs.cut.keep_columns_of_rows.Goals.{in-Bits+in_ok-part-in-Bits, in-Bytes, in-Words}
+use Rattle.pnm_row_tools.proofs.cut.keep_columns_of_rows.Goals.{in-Bits, in-Bytes, in-Words}
 use Rattle.pnm_row_tools.proofs.cut.keep_columns_of_rows.Goals as goal
 
 pub overflow_add-kept_rows : goal.overflow_add-kept_rows
@@ -28,8 +28,8 @@ returns-then-kept_rows-count c =
     let many : span_count c.args.among ≡ length c.args.rows = omega (arith, c.requires.among.0, c.if-kept_rows-count.true, count) in
     c.new.ensures ∙ sym parts.ensures.rows ∙ all_rows c.args.columns c.args.among s c.args.rows c.requires.columns all c.requires.rows many c.requires.among
 
-pub part-requires-clause-pixels : goal.part-requires-clause-pixels
-part-requires-clause-pixels c =
+pub keep_part-requires-clause-pixels : goal.keep_part-requires-clause-pixels
+keep_part-requires-clause-pixels c =
     let parts = c.into_parts-held in
     let cut = are_cut c.args.columns c.args.among c.args.shape parts.result.1 parts.result.2 parts.result.0 c.args.rows c.requires.columns c.requires.among
     parts.ensures.some parts.ensures.whole parts.ensures.rows c.requires.rows in
@@ -85,10 +85,10 @@ made c =
     let Made : RowVec → Type 0 = λ (kept : RowVec).
     HoldsRows kept_rows parts.kept kept (map (columns_of_row c.args.columns s.depth) (take (span_count c.args.among) (drop c.args.among.first c.args.rows))) in
     elim c.match-held.branch [
-      | in-Bits+in_ok-part-in-Bits w ↦
+      | in-Bits w ↦
           subst Made (sym w.kept-is)
-          (lists_kept c.args.columns c.args.among s count each kept_rows parts samples w.in-Bits.bits w.in_ok-part-in-Bits.part c.args.rows cut is
-          (all.ensures.rows ∙ ap (row_lists count each) w.in-Bits.is) w.in_ok-part-in-Bits.ensures refl)
+          (lists_kept c.args.columns c.args.among s count each kept_rows parts samples w.in-Bits.bits w.keep_part.new.self c.args.rows cut is
+          (all.ensures.rows ∙ ap (row_lists count each) w.in-Bits.is) w.keep_part.ensures refl)
       | in-Bytes w ↦
           let old = w.in-Bytes.bytes.items in
           let new = w.keep_of_each.new.samples.items in

@@ -18,4 +18,4 @@ returns-clause-made c =
     let among = c.in-Some.among in
     some_answer w.cut s w.columns w.rows c.args.y among.first _ c.args.rows c.requires.ready.columns c.requires.ready.rows lie.0
     c.in-Some.ensures.before (omega (arith, c.in-Some.ensures.among)) (omega (arith, c.in-Some.ensures.among, c.in-Some.ensures.behind, c.count.ensures.rows))
-    ∙ sym c.in_ok-kept.ensures
+    ∙ sym c.keep_columns_of_rows-kept.ensures

@@ -47,7 +47,8 @@ invariant_of-result c =
     let copy : c.in_ok-bytes.bytes.items ≡ take (c.args.count * bytes_for x.each) (drop (c.args.top * bytes_for x.each) x.bytes.items) =
     c.in_ok-bytes.ensures.items ∙ ap₂ (λ (n k : ℕ). take n (drop k c.deref.result.now)) many from
     ∙ ap (λ (l : List ℕ). take (c.args.count * bytes_for x.each) (drop (c.args.top * bytes_for x.each) l)) c.deref.ensures.value in
-    copied_are_packed x.count x.each c.args.top c.args.count x.bytes.items c.in_ok-bytes.bytes.items c.args.self.now c.self.invariant c.self.view_is c.requires copy
+    copied_are_packed x.count x.each c.args.top c.args.count x.bytes.items c.in_ok-bytes.bytes.items c.args.self.now c.self.invariant
+    c.self.view_is c.requires copy
 
 pub returns : goal.returns
 returns c =
@@ -60,4 +61,5 @@ returns c =
     let copy : c.in_ok-bytes.bytes.items ≡ take (c.args.count * bytes_for x.each) (drop (c.args.top * bytes_for x.each) x.bytes.items) =
     c.in_ok-bytes.ensures.items ∙ ap₂ (λ (n k : ℕ). take n (drop k c.deref.result.now)) many from
     ∙ ap (λ (l : List ℕ). take (c.args.count * bytes_for x.each) (drop (c.args.top * bytes_for x.each) l)) c.deref.ensures.value in
-    rows_copied x.count x.each c.args.top c.args.count x.bytes.items c.in_ok-bytes.bytes.items c.args.self.now c.self.invariant c.self.view_is c.requires copy
+    rows_copied x.count x.each c.args.top c.args.count x.bytes.items c.in_ok-bytes.bytes.items c.args.self.now c.self.invariant
+    c.self.view_is c.requires copy
