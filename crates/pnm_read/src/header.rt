@@ -91,11 +91,33 @@ pub fn is_told(bytes: &[u8], is_first: bool) -> bool {
 fn ends_within(kind: Kind, bytes: &[u8]) -> bool {
     match kind {
         Kind::Bit | Kind::Gray | Kind::Color => {
-            let mut header = HeaderScanner::new(number_count(kind));
-            !matches!(feed(&mut header, bytes), Ok(None))
+            let wanted = number_count(kind);
+            let mut header = HeaderScanner::new(wanted);
+            has_numbers(wanted, bytes) || !matches!(feed(&mut header, bytes), Ok(None))
         }
         Kind::Pam => pam::has_last_line(bytes),
     }
+}
+
+/// Whether so many numbers stand within these bytes, each with white space behind it and nothing but that before it.
+/// Most headers are found whole so, in less time than a scanner takes.
+fn has_numbers(wanted: usize, bytes: &[u8]) -> bool {
+    let mut missing = wanted;
+    let mut in_number = false;
+    for byte in bytes {
+        if is_digit(*byte) {
+            in_number = true;
+        } else if !is_white(*byte) {
+            return false;
+        } else if in_number {
+            in_number = false;
+            missing = missing.saturating_sub(1);
+            if missing == 0 {
+                return true;
+            }
+        }
+    }
+    false
 }
 
 /// The head of PBM, PGM or PPM. It takes the header through its last byte, the delimiter.
