@@ -1,8 +1,9 @@
 #!/usr/bin/env python3
 """Wants what is written in this repository to be so, as `make lint` does: the crates' sources in layout and of some
 length at most (`lint_sources.py`), pages, completions and documents that say what the sources do (`lint_documents.py`),
-and scripts that python3, sh and, where they are installed, shellcheck, zsh and fish read without a fault, with lines of
-at most 120 columns. Given folders, it reads the sources in these alone.
+the same names, options and ranges of the tools everywhere (`lint_tools.py`), and scripts that python3, sh and, where
+they are installed, shellcheck, zsh and fish read without a fault, with lines of at most 120 columns. Given folders, it
+reads the sources in these alone.
 """
 
 import glob
@@ -13,6 +14,7 @@ import sys
 
 import lint_documents
 import lint_sources
+import lint_tools
 from places import ROOT
 
 FOLDERS = ["helpers", "scripts", "bench", "model", ".ci"]
@@ -77,7 +79,7 @@ def main():
     if not sys.argv[1:]:
         scripts_read, of_scripts = faults_in_scripts()
         documents, of_documents = lint_documents.faults()
-        found += of_scripts + of_documents
+        found += of_scripts + of_documents + lint_tools.faults()
         told += f", {scripts_read} scripts, {documents} pages and documents"
     for fault in found:
         print(f"lint: {fault}")

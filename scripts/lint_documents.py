@@ -1,8 +1,8 @@
 """What pages, documents and completions say, beside what the sources do. `lint.py` runs this.
 
-The page's SYNOPSIS is the usage line of the program, and the page names each fault, tool and option that the crates
-name. Options and tools of the completions stand in the pages, and the other way round. Where mandoc is installed, it
-has to find nothing in the pages.
+The page's SYNOPSIS is the usage line of the program, and the page names each fault that the crates name. Completions
+have each option of the pages; what is said of tools is read by `lint_tools.py`. Where mandoc is installed, it has to
+find nothing in the pages.
 
 Lines of documents have at most 100 columns; ARCHITECTURE.md has 25,000 bytes at most, and the README 8,192. Each link
 of the README and of docs leads to a file, and to a heading of it. Each file and folder that a document names is there:
@@ -95,27 +95,13 @@ def options_of(page):
 
 
 def faults_of_completions():
-    page, found = read("man/pnmpipe.1"), []
-    tools = page.split(".Sh TOOLS\n")[1].split(".Sh ")[0].replace("\\\n", "")
-    names = set(re.findall(r"^\.It Ic (\w+)", tools, re.M)) | set(re.findall(r"Fl (\w+)", tools))
-    taken = set(re.findall(r'b"(\w+)"', read("crates/pnm_chain/src/options.rt")))
-    if not taken <= names:
-        found.append(f"man/pnmpipe.1 has no {', '.join(sorted(taken - names))} among the tools and their options")
+    """Options of a page that a completion lacks."""
     options = set().union(*(options_of(read(f"man/{os.path.basename(path)}")) for path in glob.glob(f"{ROOT}/man/*.1")))
     for name in COMPLETIONS:
         completion = read(f"completions/{name}")
-        for tool in re.findall(r"^\.It Ic (\w+)", tools, re.M):
-            told = set()
-            for line in re.findall(rf"^\.It Ic {tool}\b(.*)", tools, re.M):
-                told.update(re.findall(r"Fl (\w+)", line))
-            line = re.search(rf"\b{tool}(?:\)|\n) +(?:set )?words(?:\+?=| )['(]?([^')\n]*)", completion)
-            given = set(re.findall(r"-(\w+)", line.group(1))) if line else set()
-            if given != told or (told and not line):
-                found.append(f"completions/{name} gives {tool} the options {given}, the page {told}")
         for option in sorted(options):
             if not re.search(rf"(--|-l ){option}\b", completion):
-                found.append(f"completions/{name} lacks --{option} of a page")
-    return found
+                yield f"completions/{name} lacks --{option} of a page"
 
 
 OF_DOCS = ["README.md", *sorted(f"docs/{name}" for name in os.listdir(f"{ROOT}/docs") if name.endswith(".md"))]
@@ -384,5 +370,5 @@ def faults_of_mandoc():
 def faults():
     """How many pages and documents there are, and what is wrong with them."""
     pages = glob.glob(os.path.join(ROOT, "man/*.[13]"))
-    found = faults_of_page() + faults_of_completions() + faults_of_documents() + faults_of_figures()
+    found = [*faults_of_page(), *faults_of_completions(), *faults_of_documents(), *faults_of_figures()]
     return len(pages) + len(DOCUMENTS), found + faults_of_mandoc()

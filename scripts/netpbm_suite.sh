@@ -19,7 +19,8 @@ cp -R "$1" "$work/test"
 chmod +x "$work"/test/*.test "$work/test/Execute-Tests" "$work/test/Available-Testprog"
 (cd "$work/test" && ls -- *.test > Test-Order)
 mkdir "$work/shims"
-for name in pnminvert pamcut pamdepth pamchannel pamenlarge pamflip pnmtile pnmcut pnmdepth pnmenlarge pnmflip; do
+stand_ins=$(sed -n 's/^SHIMS := //p' "$root/Makefile")
+for name in $stand_ins; do
     ln -s "$root/helpers/netpbm-shim" "$work/shims/$name"
 done
 

@@ -1,7 +1,8 @@
 #!/usr/bin/env python3
 """Tests of lint: what is just within each limit of sources passes, one line or column more is told, and so is a file
-that rt fmt would change, which stays as it is; and which names, goals, links, words and laws of documents are looked
-up, and told if they lead nowhere. `make scripts` runs it."""
+that rt fmt would change, which stays as it is; which names, goals, links, words and laws of documents are looked up,
+and told if they lead nowhere; and that each difference between a file and the table of tools is told, by the file and
+the tool. `make scripts` runs it."""
 
 import os
 import tempfile
@@ -10,6 +11,7 @@ import unittest
 import lint
 import lint_documents
 import lint_sources
+import lint_tools
 
 RT, SPEC, PROOF = "crates/a/src/lib.rt", "crates/a/specs/Lib.antt", "crates/a/proofs/Lib.antt"
 
@@ -161,6 +163,70 @@ class Documents(unittest.TestCase):
         for link in ("docs/NONE.md", "docs/PROOFS.md#none", "scripts/lint.py"):
             with self.subTest(link):
                 self.assertEqual(len(list(lint_documents.faults_of_links("README.md", f"[x]({link})"))), 1)
+
+
+class Tools(unittest.TestCase):
+    """Differences that are planted: a file, a text of it and what stands in its place, and the line that is told."""
+
+    def told(self, path, old, new):
+        def read(name):
+            text = lint_documents.read(name)
+            if name == path:
+                self.assertIn(old, text)
+                return text.replace(old, new, 1)
+            return text
+
+        return lint_tools.faults(read)
+
+    def test_no_difference(self):
+        self.assertEqual(lint_tools.faults(), [])
+
+    def test_the_table(self):
+        named = {tool.name: tool.options for tool in lint_tools.tools_of(lint_documents.read)}
+        self.assertEqual(len(named), 7)
+        self.assertEqual(list(named["pamenlarge"]), ["xscale", "yscale"])
+        self.assertEqual(named["pamflip"]["lr"], named["pamflip"]["leftright"])
+
+    def test_planted(self):
+        has, lacks = f"which {lint_tools.TABLE} has", f"which {lint_tools.TABLE} lacks"
+        for path, old, new, wanted in (
+            (lint_tools.PAGE, "Fl yscale Ar N", "Ar N", f"lacks yscale of pamenlarge, {has}"),
+            (lint_tools.PAGE, "Fl xscale Ar N", "Fl zscale Ar N", f"gives pamenlarge zscale, {lacks}"),
+            (lint_tools.PAGE, ".It Ic pnmtile", ".It Ic pnmtiles", f"has the tool pnmtiles, {lacks}"),
+            ("completions/pnmpipe.bash", " -tupletype", "", f"lacks tupletype of pamchannel, {has}"),
+            ("completions/_pnmpipe", "(-left ", "(-leftmost ", f"gives pamcut leftmost, {lacks}"),
+            ("completions/pnmpipe.fish", "-tb -xy", "-xy", f"lacks tb of pamflip, {has}"),
+            ("completions/pnmpipe.fish", " pnmtile", "", f"lacks pnmtile, {has}"),
+            (lint_tools.README, "`-tb`, ", "", f"lacks tb, topbottom of pamflip, {has}"),
+            (lint_tools.README, "| `pnmtile` ", "| `pnmtiles` ", "has no row for pnmtile"),
+            (lint_tools.CHAINS, '"height": EXTENT}', "}", f"lacks height of pamcut, {has}"),
+            (lint_tools.CHAINS, '{"tupletype": TYPE}', "{}", f"lacks tupletype of pamchannel, {has}"),
+            (lint_tools.NETPBM, '"scale", "xscale"', '"scale"', f"lacks xscale of pamenlarge, {has}"),
+            (lint_tools.SHIM, "'scale xscale", "'scale", f"lacks xscale of pamenlarge, {has}"),
+            (lint_tools.SHIM, " | pamdepth", "", f"lacks pamdepth, {has}"),
+            (lint_tools.SLOW, '"pnmtile": "tile"', "", f"lacks pnmtile, {has}"),
+            ("scripts/pictures.py", "pnmtile 144", "pnmtiles 144", "has nothing of pnmtile"),
+            ("scripts/package.sh", "pamflip and pnmtile", "pamflip", "lists tools without pnmtile"),
+            ("Makefile", "pamdepth pamchannel", "pamdepth", "lists tools without pamchannel"),
+            (lint_tools.PROGRAM, "pamdepth MAXVAL", "pamdeep MAXVAL", f"lacks pamdepth, {has}"),
+            (lint_tools.PROGRAM, "[-yscale N]", "", f"lacks yscale of pamenlarge, {has}"),
+            (lint_tools.HELP, "WIDTH HEIGHT", "W H", f"has another text than {lint_tools.PROGRAM}"),
+            (lint_tools.HELP_OF_TESTS, "WIDTH HEIGHT", "W H", f"has another text than {lint_tools.HELP}"),
+        ):
+            with self.subTest(path, new=new):
+                lines = [line for line in self.told(path, old, new) if line.endswith(wanted)]
+                self.assertEqual(len(lines), 1)
+                self.assertTrue(lines[0].startswith(path))
+
+    def test_an_eighth_tool(self):
+        """A tool that the table has and nothing else: each file is told once, and lists at each of their lines."""
+        spelled = '.or(spelled(name, b"pnmtile", ToolName::Tile))'
+        told = self.told(lint_tools.TABLE, spelled, f'{spelled}.or(spelled(name, b"pamgreater", ToolName::Greater))')
+        self.assertTrue(all("pamgreater" in line for line in told))
+        paths = {line.split()[0].split(":")[0] for line in told}
+        self.assertLess({lint_tools.PAGE, lint_tools.PROGRAM, lint_tools.README, lint_tools.SLOW, "Makefile"}, paths)
+        self.assertLess({*lint_tools.OF_EACH, lint_tools.CHAINS, lint_tools.NETPBM, lint_tools.SHIM}, paths)
+        self.assertLess({f"completions/{name}" for name in lint_documents.COMPLETIONS}, paths)
 
 
 class Scripts(unittest.TestCase):

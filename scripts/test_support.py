@@ -2,6 +2,7 @@
 
 import argparse
 import os
+import re
 import shutil
 import subprocess
 import sys
@@ -18,7 +19,9 @@ from chain_text import loaded
 GRAY = b"P5\n2 1\n9\n\x01\x02"
 COLOR = b"P6\n1 1\n9\n\x03\x04\x05"
 
-SHIMS = "pnminvert pamcut pamdepth pamchannel pamenlarge pamflip pnmtile pnmcut pnmdepth pnmenlarge pnmflip".split()
+# the names of the stand-ins for Netpbm's tools
+with open(os.path.join(ROOT, "Makefile"), encoding="utf-8") as makefile:
+    SHIMS = re.search(r"^SHIMS := (.*)$", makefile.read(), re.M)[1].split()
 
 
 def run(words, given=b"", **others):

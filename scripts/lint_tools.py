@@ -1,0 +1,184 @@
+"""What the project says of the tools, beside the table of their names and options, `options.rt` of pnm_chain. `lint.py`
+runs this. Each difference is a line that names the file and the tool.
+
+The help text, the page, the README, completions and helpers give each tool the options that the table has; those for
+Netpbm's scripts know them among Netpbm's own. The stored help text and that of the tests are the program's. A list of
+tools names all of them, wherever it stands, and so does each file that shows or tries each tool.
+"""
+
+import os
+import re
+import typing
+
+import lint_documents
+from places import ROOT
+
+TABLE = "crates/pnm_chain/src/options.rt"
+PROGRAM = "crates/pnm_command_line/src/command_line.rt"
+HELP, HELP_OF_TESTS = "crates/pnmpipe/commands/help", "crates/pnm_flow_tests/src/tests/program/help.rt"
+PAGE, README = "man/pnmpipe.1", "README.md"
+CHAINS, NETPBM, SHIM = "helpers/chain_text.py", "helpers/netpbm_words.py", "helpers/netpbm-shim"
+SLOW = "scripts/slow_tools.py"
+
+# files that show or try each tool
+OF_EACH = ["docs/RECIPES.md", "crates/pnm_flow_cases/stdin", "crates/pnm_tools_cases/stdin"]
+OF_EACH += ["crates/pnmpipe/commands/images", "bench/narrow.py", "bench/sweep.py"]
+OF_EACH += [f"scripts/{name}.py" for name in ("disturb", "pictures", "refused", "row_cases", "soak", "soak_library")]
+OF_EACH += [f"scripts/test_{name}.py" for name in ("explain", "helpers", "translate")]
+
+# at least so many tools one after another are a list of all, by the names of the table or by older ones
+LIST = 6
+OLD = ["pnmcut", "pnmdepth", "pnmenlarge", "pnmflip"]
+BETWEEN = r"(?:\W|\b(?:and|or|Xr|1|pnmpipe-\w+)\b)+"
+# folders of texts in which lists are looked for
+OF_LISTS = re.compile(r"Makefile|README\.md|(?:bench|completions|docs|helpers|library|man|scripts)/.*|crates/.*\.rt")
+
+
+class Tool(typing.NamedTuple):
+    """A tool's name, and what each of its options means."""
+
+    name: str
+    options: dict
+
+
+def tools_of(read):
+    """The tools of the table, in its order."""
+    text = read(TABLE)
+    spelled = {}
+    for function, body in re.findall(r"\bfn (\w+)\((?:.|\n)*?\n *\{\n((?:.|\n)*?)\n *\}\n", text):
+        pairs = re.findall(r'spelled\(name, b"(\w+)", Tool(?:Name|Option)::(\w+(?:\([\w:]+\))?)', body)
+        spelled[function] = dict(pairs)
+    arms = dict(re.findall(r"^ +ToolName::(\w+) => (.*_option\(name\).*),$", text, re.M))
+    for name, variant in spelled["named"].items():
+        options = {}
+        for function in re.findall(r"(\w+)\(name\)", arms.get(variant, "")):
+            options.update(spelled[function])
+        yield Tool(name, options)
+
+
+def listed(names):
+    return ", ".join(names) or "none"
+
+
+def differences(path, tool, told, wanted):
+    """What a file says of a tool beside the table, as sets."""
+    if told - wanted:
+        yield f"{path} gives {tool} {listed(sorted(told - wanted))}, which {TABLE} lacks"
+    if wanted - told:
+        yield f"{path} lacks {listed(sorted(wanted - told))} of {tool}, which {TABLE} has"
+
+
+def faults_by(path, tools, told):
+    """What a file says that has the options of each tool, by its name."""
+    for name in told:
+        if name not in [tool.name for tool in tools]:
+            yield f"{path} has the tool {name}, which {TABLE} lacks"
+    for tool in tools:
+        if tool.name not in told:
+            yield f"{path} lacks {tool.name}, which {TABLE} has"
+        else:
+            yield from differences(path, tool.name, set(told[tool.name]), set(tool.options))
+
+
+def in_help(text):
+    """The options of each tool in the help text: a tool's lines are its own, and those behind it that stand in more."""
+    lines = text.split("Tools:\n")[1].split("\n\n")[0]
+    entries = re.findall(r"^  (\w+)(.*(?:\n   .*)*)", lines, re.M)
+    return {name: re.findall(r"-(\w+)", rest) for name, rest in entries}
+
+
+def in_page(text):
+    """The options of each tool in the page."""
+    told = {}
+    lines = text.split(".Sh TOOLS\n")[1].split(".Sh ")[0].replace("\\\n", "")
+    for name, rest in re.findall(r"^\.It Ic (\w+)\b(.*)", lines, re.M):
+        told.setdefault(name, []).extend(re.findall(r"Fl (\w+)", rest))
+    return told
+
+
+def in_completion(text, tools):
+    """The options of each tool in a completion: a tool without any may stand in its list of tools alone."""
+    told = {}
+    for tool in tools:
+        line = re.search(rf"\b{tool.name}(?:\)|\n) +(?:set )?words(?:\+?=| )['(]?([^')\n]*)", text)
+        if line or re.search(rf"words[^\n]*\b{tool.name}\b", text):
+            told[tool.name] = re.findall(r"-(\w+)", line.group(1)) if line else []
+    return told
+
+
+def faults_of_readme(tools, text):
+    """The table has a row for each tool, and options by which each thing that the tool does can be asked for."""
+    rows, name = {}, None
+    for first, rest in re.findall(r"^\| (`\w+`|) ?\| (.*?) \|", text.split("\n## Usage\n")[1], re.M):
+        name = first.strip("`") or name
+        rows.setdefault(name, set()).update(re.findall(r"`-(\w+)", rest))
+    for tool in tools:
+        if tool.name not in rows:
+            yield f"{README} has no row for {tool.name}"
+        else:
+            yield from differences(README, tool.name, rows[tool.name] - set(tool.options), set())
+            meant = {tool.options.get(name) for name in rows[tool.name]}
+            lacking = {name for name, meaning in tool.options.items() if meaning not in meant}
+            yield from differences(README, tool.name, set(), lacking)
+
+
+def names_in(path, read):
+    """What a script in Python defines."""
+    names = {"__name__": os.path.basename(path).removesuffix(".py"), "__file__": os.path.join(ROOT, path)}
+    exec(compile(read(path), path, "exec"), names)  # pylint: disable=exec-used
+    return names
+
+
+def faults_of_helpers(tools, read):
+    forms = names_in(CHAINS, read)["TOOLS"]
+    yield from faults_by(CHAINS, tools, {name: form.options for name, form in forms.items()})
+    known = {name: {*valued, *others} for name, (valued, others) in names_in(NETPBM, read)["OPTIONS"].items()}
+    cases = read(SHIM).split("case $base in\n")[1].split("\nesac\n")[0]
+    of_shim = {}
+    for names, lines in re.findall(r"^    ([\w |]+)\)((?:.|\n)*?);;", cases, re.M):
+        of_shim.update(dict.fromkeys(names.split(" | "), set(re.findall(r"[a-z]\w+", lines))))
+    for path, told in ((NETPBM, known), (SHIM, of_shim)):
+        for tool in tools:
+            lacking = set(tool.options) - told.get(tool.name, set())
+            if tool.name not in told:
+                yield f"{path} lacks {tool.name}, which {TABLE} has"
+            yield from differences(path, tool.name, set(), lacking)
+
+
+def faults_of_lists(path, names, text):
+    """Lists of tools that don't name each."""
+    any_name = rf"\b(?:{'|'.join([*names, *OLD])})\b"
+    for found in re.finditer(rf"{any_name}(?:{BETWEEN}{any_name})+", text):
+        lacking = [name for name in names if name not in re.findall(r"\w+", found[0])]
+        if lacking and len(names) - len(lacking) >= LIST:
+            line = text.count("\n", 0, found.start()) + 1
+            yield f"{path}:{line} lists tools without {listed(lacking)}"
+
+
+def faults_of_help(tools, read):
+    program, stored = read(PROGRAM), read(HELP)
+    own = re.search(r'AFTER_HELP: &str = "([^"]*)"', program)[1]
+    yield from faults_by(PROGRAM, tools, in_help(own + "\n"))
+    if not stored.endswith("\n\n" + own + "\n"):
+        yield f"{HELP} has another text than {PROGRAM}"
+    if f'"{stored}"' not in read(HELP_OF_TESTS):
+        yield f"{HELP_OF_TESTS} has another text than {HELP}"
+
+
+def faults(read=lint_documents.read):
+    """Each difference, where a function reads the project's files."""
+    tools = list(tools_of(read))
+    names = [tool.name for tool in tools]
+    found = [*faults_of_help(tools, read), *faults_by(PAGE, tools, in_page(read(PAGE)))]
+    for name in lint_documents.COMPLETIONS:
+        path = f"completions/{name}"
+        found += faults_by(path, tools, in_completion(read(path), tools))
+    found += [*faults_of_readme(tools, read(README)), *faults_of_helpers(tools, read)]
+    found += [f"{SLOW} lacks {name}, which {TABLE} has" for name in names if name not in names_in(SLOW, read)["NAMES"]]
+    for path in OF_EACH:
+        text = read(path)
+        found += [f"{path} has nothing of {name}" for name in names if not re.search(rf"\b{name}\b", text)]
+    for path in sorted(filter(OF_LISTS.fullmatch, lint_documents.all_files())):
+        if os.path.isfile(os.path.join(ROOT, path)) and not path.endswith((".png", ".tsv")):
+            found += faults_of_lists(path, names, read(path))
+    return found
