@@ -23,9 +23,9 @@ use Rattle.pnm_chain.specs.declared.options.ToolName.TheVariants.{Invert, Cut, D
 use Rattle.pnm_chain.specs.declared.options.ToolOption.{ToolOption}
 use Rattle.pnm_chain.specs.declared.options.ToolOption.TheVariants.{Left, Right, Top, Bottom, Width, Height, TupleType, XScale, YScale, Way}
 use Rattle.pnm_chain.specs.Options.{option_named, wants_value, takes_value, slot_of, excludes, takes_argument, most_arguments, is_numeral, spells_number}
-use Rattle.pnm_chain.specs.Options.{spells_plane, spells_offset, offset_value, begins_with_dash, without_dash}
+use Rattle.pnm_chain.specs.Options.{factor_by, spells_offset, offset_value, begins_with_dash, without_dash}
 use Rattle.pnm_chain.specs.Items.{Item, Argument, Given, Unknown, without_dashes, name_in, value_in, takes_next, given_as, item_of, items_of, arguments_of}
-use Rattle.pnm_chain.specs.Items.{option_value, is_there, factor_by, meant_by, IsFormed, is_conflict, is_missing}
+use Rattle.pnm_chain.specs.Items.{option_value, meant_by, IsFormed, is_conflict, is_missing}
 use Rattle.pnm_chain.specs.ChainText.{SpellsTool, SpellTools, SpellsChain, stage_texts}
 use Rattle.pnm_tools.specs.declared.limits.TheConstants.{MAX_EXTENT, MAX_TOOLS}
 
@@ -140,7 +140,11 @@ some_size : (o : Option (List ℕ)) → IfSome o (λ word. spells_number 1 MAX_E
 some_size None h = h
 some_size (Some word) h = in_range 1 MAX_EXTENT word h
 
-not_three : (start end size : Option (List ℕ)) → (is_some start && (is_some end && is_some size)) ≡ false → IsSome (option_map offset_value start)
+abbrev are_three : Option (List ℕ) → Option (List ℕ) → Option (List ℕ) → Bool
+are_three start end size =
+    is_some (option_map offset_value start) && (is_some (option_map offset_value end) && is_some (option_map decimal_value size))
+
+not_three : (start end size : Option (List ℕ)) → are_three start end size ≡ false → IsSome (option_map offset_value start)
     × IsSome (option_map offset_value end) × IsSome (option_map decimal_value size) → ⊥
 not_three None end size e h = false≢true h.0
 not_three (Some start) None size e h = false≢true h.1
@@ -149,24 +153,27 @@ not_three (Some start) (Some end) (Some size) e h = absurd cc
 
 axis : (start end size : Option (List ℕ)) → IfSome start (λ word. spells_offset word ≡ true) → IfSome end (λ word. spells_offset word ≡ true)
     → IfSome size (λ word. spells_number 1 MAX_EXTENT word ≡ true)
-    → (is_some start && (is_some end && is_some size)) ≡ false → IsLawfulAxis (option_map offset_value start) (option_map offset_value end)
+    → are_three start end size ≡ false → IsLawfulAxis (option_map offset_value start) (option_map offset_value end)
     (option_map decimal_value size)
 axis start end size s e z three =
     record { start_edge = some_edge start s; end_edge = some_edge end e; one_size = some_size size z; one_free = λ h. not_three start end size three h }
 
 -- ---- arguments
 
-first_in_range : (least most : ℕ) (args : List (List ℕ)) → AllByRecursion (λ word. spells_number least most word ≡ true) args → nat_lt (length args) 1 ≡ false
+first_in_range : (least most : ℕ) (args : List (List ℕ)) → AllByRecursion (λ word. spells_number least most word ≡ true) args
+    → nat_lt (length (map decimal_value args)) 1 ≡ false
     → (least ≤ slice_index_or (map decimal_value args) 0 0) × (slice_index_or (map decimal_value args) 0 0 ≤ most)
 first_in_range least most [] all e = absurd cc
 first_in_range least most (word ∷ args) all e = in_range least most word all.0
 
-first_of_two : (args : List (List ℕ)) → AllByRecursion (λ word. spells_number 1 MAX_EXTENT word ≡ true) args → nat_lt (length args) 2 ≡ false
+first_of_two : (args : List (List ℕ)) → AllByRecursion (λ word. spells_number 1 MAX_EXTENT word ≡ true) args
+    → nat_lt (length (map decimal_value args)) 2 ≡ false
     → (1 ≤ slice_index_or (map decimal_value args) 0 0) × (slice_index_or (map decimal_value args) 0 0 ≤ MAX_EXTENT)
 first_of_two [] all e = absurd cc
 first_of_two (word ∷ args) all e = in_range 1 MAX_EXTENT word all.0
 
-second_of_two : (args : List (List ℕ)) → AllByRecursion (λ word. spells_number 1 MAX_EXTENT word ≡ true) args → nat_lt (length args) 2 ≡ false
+second_of_two : (args : List (List ℕ)) → AllByRecursion (λ word. spells_number 1 MAX_EXTENT word ≡ true) args
+    → nat_lt (length (map decimal_value args)) 2 ≡ false
     → (1 ≤ slice_index_or (map decimal_value args) 1 0) × (slice_index_or (map decimal_value args) 1 0 ≤ MAX_EXTENT)
 second_of_two [] all e = absurd cc
 second_of_two (word ∷ []) all e = absurd cc
@@ -175,7 +182,7 @@ second_of_two (word ∷ other ∷ args) all e = in_range 1 MAX_EXTENT other all.
 abbrev IsPlane : ℕ → Type 0
 IsPlane number = number ≤ MAX_DEPTH - 1
 
-planes_in_range : (args : List (List ℕ)) → AllByRecursion (λ word. spells_plane word ≡ true) args → All IsPlane (map decimal_value args)
+planes_in_range : (args : List (List ℕ)) → AllByRecursion (λ word. spells_number 0 (MAX_DEPTH - 1) word ≡ true) args → All IsPlane (map decimal_value args)
 planes_in_range [] all = All-nil IsPlane
 planes_in_range (word ∷ args) all = All-cons IsPlane (decimal_value word) (map decimal_value args) (in_range 0 (MAX_DEPTH - 1) word all.0).1
     (planes_in_range args all.1)
@@ -333,8 +340,8 @@ lawful : (tool : ToolName) (items : List Item) → AllByRecursion HasNoWhite ite
     → is_conflict tool items ≡ false → is_missing tool items ≡ false → IsLawfulTool (meant_by tool items)
 lawful Invert items clear formed many together more = cc
 lawful Cut items clear formed many together more =
-    let free = or_parts (is_there Left items && (is_there Right items && is_there Width items))
-    (is_there Top items && (is_there Bottom items && is_there Height items)) together in
+    let free = or_parts (are_three (option_value Left items) (option_value Right items) (option_value Width items))
+    (are_three (option_value Top items) (option_value Bottom items) (option_value Height items)) together in
     record {
       columns = axis (option_value Left items) (option_value Right items) (option_value Width items) (values_taken Cut Left items refl formed)
           (values_taken Cut Right items refl formed) (values_taken Cut Width items refl formed) free.0;
@@ -343,7 +350,7 @@ lawful Cut items clear formed many together more =
     }
 lawful Depth items clear formed many together more = first_in_range 1 MAX_MAXVAL (arguments_of items) (arguments_taken Depth items formed) more
 lawful Channel items clear formed many together more = record {
-  some = subst (λ (n : ℕ). 1 ≤ n) (sym (length-map (arguments_of items) decimal_value)) (ltb-false (length (arguments_of items)) 1 more);
+  some = ltb-false (length (map decimal_value (arguments_of items))) 1 more;
   not_many = subst (λ (n : ℕ). n ≤ MAX_DEPTH) (sym (length-map (arguments_of items) decimal_value)) many;
   in_range = planes_in_range (arguments_of items) (arguments_taken Channel items formed);
   tuple_type = some_tuple_type (option_value TupleType items) (values_taken Channel TupleType items refl formed) (value_clear TupleType items clear);

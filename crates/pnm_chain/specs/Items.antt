@@ -1,25 +1,21 @@
 -- What stands in a stage of a chain after the tool's name, and the tool that it means.
-use Rattle.std.specs.Prelude.{◌≡◌, ◌≤◌, ℕ, Bool, true, false, not, ◌==◌, ◌&&◌, ◌||◌, nat_le, nat_lt, if◌then◌else◌}
+use Rattle.std.specs.Prelude.{◌≡◌, ◌≤◌, ℕ, Bool, true, false, not, ◌==◌, ◌&&◌, nat_le, if◌then◌else◌}
 use Rattle.std.specs.Prelude.{Option, Some, None, is_some, option_map, unwrap_or, List, [], ◌∷◌, ◌++◌, length, map}
 use Rattle.std.specs.Option.{option_map_or, option_or}
-use Rattle.std.specs.List.{before_first, after_first, list_any, slice_index_or, AllByRecursion, IsDistinct}
+use Rattle.std.specs.List.{before_first, after_first, list_any, AllByRecursion, IsDistinct}
 use Rattle.pnm_image.specs.Texts.{decimal_value}
 use Rattle.pnm_tools.specs.declared.cut.CutBox.{CutBox}
 use Rattle.pnm_tools.specs.declared.flip.FlipWay.{FlipWay}
-use Rattle.pnm_tools.specs.declared.flip.FlipWay.TheVariants.{Null}
 use Rattle.pnm_tools.specs.declared.tool.Tool.{Tool}
-use Rattle.pnm_tools.specs.declared.tool.Tool.TheVariants as tools
-use Rattle.pnm_tools.specs.Channel.{picks}
 use Rattle.pnm_chain.specs.declared.chain_text.ChainKind.{ChainKind}
 use Rattle.pnm_chain.specs.declared.chain_text.ChainKind.TheVariants.{UnknownOption, MissingValue, BadValue, Conflict}
 use Rattle.pnm_chain.specs.declared.chain_text.ChainKind.TheVariants.{MissingArgument, ExtraArgument}
 use Rattle.pnm_chain.specs.declared.options.ToolName.{ToolName}
-use Rattle.pnm_chain.specs.declared.options.ToolName.TheVariants.{Invert, Cut, Depth, Channel, Enlarge, Flip, Tile}
 use Rattle.pnm_chain.specs.declared.options.ToolOption.{ToolOption}
 use Rattle.pnm_chain.specs.declared.options.ToolOption.TheVariants.{Left, Right, Top, Bottom, Width, Height, TupleType}
 use Rattle.pnm_chain.specs.declared.options.ToolOption.TheVariants.{XScale, YScale}
-use Rattle.pnm_chain.specs.Options.{option_named, way_in, wants_value, takes_value, excludes, most_arguments}
-use Rattle.pnm_chain.specs.Options.{takes_argument, offset_value, begins_with_dash, without_dash}
+use Rattle.pnm_chain.specs.Options.{Said, tool_rule, option_named, way_in, wants_value, takes_value, excludes}
+use Rattle.pnm_chain.specs.Options.{most_arguments, takes_argument, offset_value, begins_with_dash, without_dash}
 
 -- an argument; an option of the tool, with the value that it is given, if it is; or an option that the tool hasn't
 pub data Item : Type 0 where
@@ -90,7 +86,7 @@ way_of (Argument word ∷ items) = way_of items
 way_of (Given option value ∷ items) = option_or (way_in option) (way_of items)
 way_of (Unknown ∷ items) = way_of items
 
--- ---- the tool that items mean
+-- ---- what items say
 
 abbrev pub option_number : ToolOption → List Item → Option ℕ
 option_number option items = option_map decimal_value (option_value option items)
@@ -109,10 +105,15 @@ box_of items = record {
 abbrev pub numbers_of : List Item → List ℕ
 numbers_of items = map decimal_value (arguments_of items)
 
--- the one argument is both factors; a scale that isn't given is 1
-abbrev pub factor_by : List ℕ → Option ℕ → ℕ
-factor_by [] scale = unwrap_or scale 1
-factor_by (factor ∷ numbers) scale = factor
+abbrev pub said_of : List Item → Said
+said_of items = record {
+  box = box_of items;
+  tuple_type = option_value TupleType items;
+  across = option_number XScale items;
+  down = option_number YScale items;
+  way = way_of items;
+  numbers = numbers_of items;
+}
 
 -- ---- which items mean a tool
 
@@ -131,71 +132,16 @@ options_of (Argument word ∷ items) = options_of items
 options_of (Given option value ∷ items) = option ∷ options_of items
 options_of (Unknown ∷ items) = options_of items
 
--- ---- what a tool makes of its items
-
--- which items can't stand together, which are too few, and the tool that the others mean
-pub record MeaningRule : Type 0 where
-  pub conflict : List Item → Bool
-  pub missing : List Item → Bool
-  pub meant : List Item → Tool
-
-abbrev never : List Item → Bool
-never items = false
-
-abbrev fewer_than : ℕ → List Item → Bool
-fewer_than wanted items = nat_lt (length (arguments_of items)) wanted
-
-abbrev number_at : ℕ → List Item → ℕ
-number_at at items = slice_index_or (numbers_of items) at 0
-
-abbrev pub has_scale : List Item → Bool
-has_scale items = is_there XScale items || is_there YScale items
-
--- no three options of one axis stand together, and no argument beside a scale
-abbrev pub meaning_rule : ToolName → MeaningRule
-meaning_rule Invert = record { conflict = never; missing = never; meant = λ items. tools.Invert }
-meaning_rule Cut = record {
-  conflict = λ items.
-      (is_there Left items && (is_there Right items && is_there Width items))
-      || (is_there Top items && (is_there Bottom items && is_there Height items));
-  missing = never;
-  meant = λ items. tools.Cut (box_of items);
-}
-meaning_rule Depth =
-    record { conflict = never; missing = fewer_than 1; meant = λ items. tools.Depth (number_at 0 items) }
-meaning_rule Channel = record {
-  conflict = never;
-  missing = fewer_than 1;
-  meant = λ items. tools.Channel (picks (numbers_of items) (unwrap_or (option_value TupleType items) []));
-}
-meaning_rule Enlarge = record {
-  conflict = λ items. nat_lt 0 (length (arguments_of items)) && has_scale items;
-  missing = λ items. fewer_than 1 items && not (has_scale items);
-  meant = λ items. tools.Enlarge (factor_by (numbers_of items) (option_number XScale items))
-      (factor_by (numbers_of items) (option_number YScale items));
-}
-meaning_rule Flip = record {
-  conflict = never;
-  missing = λ items. not (is_some (way_of items));
-  meant = λ items. tools.Flip (unwrap_or (way_of items) Null);
-}
-meaning_rule Tile =
-    record {
-      conflict = never;
-      missing = fewer_than 2;
-      meant = λ items. tools.Tile (number_at 0 items) (number_at 1 items);
-    }
-
 abbrev pub is_conflict : ToolName → List Item → Bool
-is_conflict tool items = (meaning_rule tool).conflict items
+is_conflict tool items = (tool_rule tool).conflict (said_of items)
 
 -- the tool wants more than these
 abbrev pub is_missing : ToolName → List Item → Bool
-is_missing tool items = (meaning_rule tool).missing items
+is_missing tool items = (tool_rule tool).missing (said_of items)
 
 -- the tool, where the items are such as can mean one
 abbrev pub meant_by : ToolName → List Item → Tool
-meant_by tool items = (meaning_rule tool).meant items
+meant_by tool items = (tool_rule tool).meant (said_of items)
 
 -- ---- the items that a tool is called by
 

@@ -1,17 +1,22 @@
 -- The tools of a chain and their options, by the names that their manual pages give them, and what each takes:
 -- pnminvert(1), pamcut(1), pamdepth(1), pamchannel(1), pamenlarge(1), pamflip(1) and pnmtile(1). Names are exact, and
 -- case counts.
-use Rattle.std.specs.Prelude.{ℕ, Bool, false, not, ◌==◌, ◌&&◌, ◌-◌, nat_le, if◌then◌else◌, ℤ, pos, neg_ℤ, Option, Some}
-use Rattle.std.specs.Prelude.{None, is_some, List, [], ◌∷◌, length, codes}
-use Rattle.std.specs.List.{list_all}
+use Rattle.std.specs.Prelude.{ℕ, Bool, false, not, ◌==◌, ◌&&◌, ◌||◌, ◌-◌, nat_le, nat_lt, if◌then◌else◌, ℤ, pos, neg_ℤ}
+use Rattle.std.specs.Prelude.{Option, Some, None, is_some, unwrap_or, List, [], ◌∷◌, length, codes}
+use Rattle.std.specs.List.{list_all, slice_index_or}
 use Rattle.std.specs.Option.{option_or}
 use Rattle.std.specs.Str.{bytes_eq}
 use Rattle.pnm_image.specs.declared.limits.TheConstants.{MAX_DEPTH, MAX_MAXVAL, MAX_TUPLE_TYPE_LENGTH}
 use Rattle.pnm_tools.specs.declared.limits.TheConstants.{MAX_EXTENT}
 use Rattle.pnm_image.specs.Texts.{is_digit, decimal_value}
+use Rattle.pnm_tools.specs.declared.cut.CutBox.{CutBox}
 use Rattle.pnm_tools.specs.declared.flip.FlipWay.{FlipWay}
 use Rattle.pnm_tools.specs.declared.flip.FlipWay.TheVariants.{Null, LeftRight, TopBottom, Transpose, Rotate90}
 use Rattle.pnm_tools.specs.declared.flip.FlipWay.TheVariants.{Rotate180, Rotate270}
+use Rattle.pnm_tools.specs.declared.tool.Tool.{Tool}
+use Rattle.pnm_tools.specs.declared.tool.Tool.TheVariants as tools
+use Rattle.pnm_tools.specs.Channel.{picks}
+use Rattle.pnm_chain.specs.declared.options.Arguments.{Arguments}
 use Rattle.pnm_chain.specs.declared.options.ToolName.{ToolName}
 use Rattle.pnm_chain.specs.declared.options.ToolName.TheVariants.{Invert, Cut, Depth, Channel, Enlarge, Flip, Tile}
 use Rattle.pnm_chain.specs.declared.options.ToolOption.{ToolOption}
@@ -80,13 +85,7 @@ abbrev pub spells_number : ℕ → ℕ → List ℕ → Bool
 spells_number least most word =
     is_numeral word && (nat_le least (decimal_value word) && nat_le (decimal_value word) most)
 
-abbrev pub spells_maxval : List ℕ → Bool
-spells_maxval word = spells_number 1 MAX_MAXVAL word
-
-abbrev pub spells_plane : List ℕ → Bool
-spells_plane word = spells_number 0 (MAX_DEPTH - 1) word
-
--- a width, a height, a factor, or columns or rows to fill
+-- a width, a height or a scale
 abbrev pub spells_extent : List ℕ → Bool
 spells_extent word = spells_number 1 MAX_EXTENT word
 
@@ -153,38 +152,112 @@ slot_of option = (option_rule option).slot
 abbrev pub excludes : ToolOption → ToolOption → Bool
 excludes one other = slot_of one == slot_of other
 
+-- ---- what the items of a stage say
+
+-- the edges and sizes of pamcut, the tuple type, the scales and the way to flip, where they are given, and the numbers
+-- that the arguments are
+pub record Said : Type 0 where
+  pub box : CutBox
+  pub tuple_type : Option (List ℕ)
+  pub across : Option ℕ
+  pub down : Option ℕ
+  pub way : Option FlipWay
+  pub numbers : List ℕ
+
+abbrev never : Said → Bool
+never said = false
+
+abbrev fewer_than : ℕ → Said → Bool
+fewer_than wanted said = nat_lt (length said.numbers) wanted
+
+abbrev number_at : ℕ → List ℕ → ℕ
+number_at at numbers = slice_index_or numbers at 0
+
+abbrev pub has_three : CutBox → Bool
+has_three box =
+    (is_some box.left && (is_some box.right && is_some box.width))
+    || (is_some box.top && (is_some box.bottom && is_some box.height))
+
+abbrev pub has_scale : Said → Bool
+has_scale said = is_some said.across || is_some said.down
+
+-- the one argument is both factors; a scale that isn't given is 1
+abbrev pub factor_by : List ℕ → Option ℕ → ℕ
+factor_by [] scale = unwrap_or scale 1
+factor_by (factor ∷ numbers) scale = factor
+
 -- ---- tools
 
--- a tool's options by their names, the most arguments that it takes, and which words are such
+-- a tool's options by their names, the arguments that it takes, what can't stand together, what is too little, and the
+-- tool that the rest means
 pub record ToolRule : Type 0 where
   pub option : List ℕ → Option ToolOption
-  pub most : ℕ
-  pub takes : List ℕ → Bool
+  pub arguments : Arguments
+  pub conflict : Said → Bool
+  pub missing : Said → Bool
+  pub meant : Said → Tool
 
 abbrev no_option : List ℕ → Option ToolOption
 no_option name = None
 
-abbrev takes_none : List ℕ → Bool
-takes_none word = false
+-- so many numbers from 1 to the greatest
+abbrev pub numbers : ℕ → ℕ → Arguments
+numbers count greatest = record { fewest = count; most = count; least = 1; greatest = greatest }
 
--- the arguments are a maxval, the numbers of planes, a factor, or columns and rows to fill
+-- a tool that takes so many numbers from 1 to the greatest, and no option
+abbrev of_numbers : ℕ → ℕ → (List ℕ → Tool) → ToolRule
+of_numbers count greatest meant = record {
+  option = no_option;
+  arguments = numbers count greatest;
+  conflict = never;
+  missing = fewer_than count;
+  meant = λ said. meant said.numbers;
+}
+
+-- no three options of one axis stand together, and no argument beside a scale
 abbrev pub tool_rule : ToolName → ToolRule
-tool_rule Invert = record { option = no_option; most = 0; takes = takes_none }
-tool_rule Cut = record { option = cut_option; most = 0; takes = takes_none }
-tool_rule Depth = record { option = no_option; most = 1; takes = spells_maxval }
-tool_rule Channel = record { option = channel_option; most = MAX_DEPTH; takes = spells_plane }
-tool_rule Enlarge = record { option = enlarge_option; most = 1; takes = spells_extent }
-tool_rule Flip =
-    record { option = λ name. option_or (flip_option name) (turn_option name); most = 0; takes = takes_none }
-tool_rule Tile = record { option = no_option; most = 2; takes = spells_extent }
+tool_rule Invert = of_numbers 0 0 (λ numbers. tools.Invert)
+tool_rule Cut = record {
+  option = cut_option;
+  arguments = numbers 0 0;
+  conflict = λ said. has_three said.box;
+  missing = never;
+  meant = λ said. tools.Cut said.box;
+}
+tool_rule Depth = of_numbers 1 MAX_MAXVAL (λ numbers. tools.Depth (number_at 0 numbers))
+tool_rule Channel = record {
+  option = channel_option;
+  arguments = record { fewest = 1; most = MAX_DEPTH; least = 0; greatest = MAX_DEPTH - 1 };
+  conflict = never;
+  missing = fewer_than 1;
+  meant = λ said. tools.Channel (picks said.numbers (unwrap_or said.tuple_type []));
+}
+tool_rule Enlarge = record {
+  option = enlarge_option;
+  arguments = record { fewest = 0; most = 1; least = 1; greatest = MAX_EXTENT };
+  conflict = λ said. nat_lt 0 (length said.numbers) && has_scale said;
+  missing = λ said. fewer_than 1 said && not (has_scale said);
+  meant = λ said. tools.Enlarge (factor_by said.numbers said.across) (factor_by said.numbers said.down);
+}
+tool_rule Flip = record {
+  option = λ name. option_or (flip_option name) (turn_option name);
+  arguments = numbers 0 0;
+  conflict = never;
+  missing = λ said. not (is_some said.way);
+  meant = λ said. tools.Flip (unwrap_or said.way Null);
+}
+tool_rule Tile = of_numbers 2 MAX_EXTENT (λ numbers. tools.Tile (number_at 0 numbers) (number_at 1 numbers))
 
 -- the tool's option of this name
 abbrev pub option_named : ToolName → List ℕ → Option ToolOption
 option_named tool name = (tool_rule tool).option name
 
+abbrev pub arguments_taken : ToolName → Arguments
+arguments_taken tool = (tool_rule tool).arguments
+
 abbrev pub most_arguments : ToolName → ℕ
-most_arguments tool = (tool_rule tool).most
+most_arguments tool = (arguments_taken tool).most
 
 -- the word is an argument that the tool takes
 abbrev pub takes_argument : ToolName → List ℕ → Bool
-takes_argument tool word = (tool_rule tool).takes word
+takes_argument tool word = spells_number (arguments_taken tool).least (arguments_taken tool).greatest word

@@ -2,10 +2,11 @@
 
 ghost use Rattle.std.specs.Prelude.{◌≡◌, Some, None, if◌then◌else◌};
 ghost use Rattle.std.specs.Str.{bytes_eq};
-ghost use Rattle.pnm_chain.specs.Options.{channel_option, cut_option, enlarge_option, flip_option};
-ghost use Rattle.pnm_chain.specs.Options.{option_named, tool_named, turn_option, wants_value};
+ghost use Rattle.pnm_chain.specs.Options.{arguments_taken, channel_option, cut_option, enlarge_option, flip_option};
+ghost use Rattle.pnm_chain.specs.Options.{numbers, option_named, tool_named, turn_option, wants_value};
 
-use pnm_tools::FlipWay;
+use pnm_image::limits::{MAX_DEPTH, MAX_MAXVAL};
+use pnm_tools::{FlipWay, MAX_EXTENT};
 
 /// A tool, before its options are known.
 #[derive(Clone, Copy, Debug, PartialEq, Eq)]
@@ -17,6 +18,16 @@ pub(crate) enum ToolName {
     Enlarge,
     Flip,
     Tile,
+}
+
+/// How many arguments a tool takes, and which numbers each may be.
+#[derive(Clone, Copy, Debug, PartialEq, Eq)]
+pub(crate) struct Arguments {
+    /// The fewest, unless an option stands in their place.
+    pub(crate) fewest: usize,
+    pub(crate) most: usize,
+    pub(crate) least: u32,
+    pub(crate) greatest: u32,
 }
 
 /// An option of a tool. The ways to flip are one option, under several names.
@@ -58,6 +69,41 @@ impl ToolName {
             ToolName::Channel => channel_option(name),
             ToolName::Enlarge => enlarge_option(name),
             ToolName::Flip => flip_option(name).or(turn_option(name)),
+        }
+    }
+
+    /// The arguments that the tool takes.
+    pub(crate) fn arguments(self) -> Arguments
+        ensures { result ≡ arguments_taken self }
+    {
+        match self {
+            ToolName::Invert | ToolName::Cut | ToolName::Flip => Arguments::numbers(0, 0),
+            ToolName::Depth => Arguments::numbers(1, MAX_MAXVAL),
+            ToolName::Channel => Arguments {
+                fewest: 1,
+                most: MAX_DEPTH as usize,
+                least: 0,
+                greatest: MAX_DEPTH - 1,
+            },
+            ToolName::Enlarge => Arguments {
+                fewest: 0,
+                ..Arguments::numbers(1, MAX_EXTENT)
+            },
+            ToolName::Tile => Arguments::numbers(2, MAX_EXTENT),
+        }
+    }
+}
+
+impl Arguments {
+    /// So many numbers from 1 to the greatest.
+    fn numbers(count: usize, greatest: u32) -> Arguments
+        ensures { result ≡ numbers count greatest }
+    {
+        Arguments {
+            fewest: count,
+            most: count,
+            least: 1,
+            greatest,
         }
     }
 }

@@ -1,25 +1,25 @@
 //! What the words of a stage set, and the tool that they mean.
 
-ghost use Rattle.std.specs.Prelude.{◌≡◌, ◌⊎◌, ◌++◌, ◌&&◌, ◌∷◌, ◌<◌, [], List, IfOk, IfErr, OnOk, Some, None};
-ghost use Rattle.std.specs.Prelude.{true, false, is_some, length, unwrap_or};
+ghost use Rattle.std.specs.Prelude.{◌≡◌, ◌++◌, ◌∷◌, [], List, IfOk, IfErr, OnOk, Some, None, true, false};
+ghost use Rattle.std.specs.Prelude.{unwrap_or};
+ghost use Rattle.std.specs.List.{slice_index_or};
 ghost use Rattle.pnm_image.specs.Texts.{decimal_value};
 ghost use Rattle.pnm_tools.specs.Channel.{picks};
-ghost use Rattle.pnm_tools.specs.declared.tool.Tool.TheVariants as tools;
-ghost use Rattle.pnm_chain.specs.Options.{offset_value, spells_extent, spells_number, spells_offset, spells_plane};
-ghost use Rattle.pnm_chain.specs.declared.chain_text.ChainKind.TheVariants.{BadValue, Conflict};
-ghost use Rattle.pnm_chain.specs.declared.chain_text.ChainKind.TheVariants.{Memory, MissingArgument};
+ghost use Rattle.pnm_chain.specs.Options.{factor_by, has_scale, has_three, offset_value, spells_extent, spells_offset};
+ghost use Rattle.pnm_chain.specs.Options.{tool_rule};
+ghost use Rattle.pnm_chain.specs.declared.chain_text.ChainKind.TheVariants.{BadValue, Memory};
+ghost use Rattle.pnm_chain.specs.declared.options.ToolName.TheVariants.{Channel};
 ghost use Rattle.pnm_chain.specs.Items.{end_fault, item_fault, meant_by, value_fault};
 ghost use Rattle.pnm_chain.specs.Items.{Item as ItemSaid};
 ghost use Rattle.pnm_chain.specs.ChainText.{IsRefusal};
-ghost use Rattle.pnm_chain.specs.Settings.{AreSettingsOf, IsWithArgument, IsNoArgument, argument_fault, factors_fault};
-ghost use Rattle.pnm_chain.specs.Settings.{factors_meant, has_all_planes, has_option, has_three, item_read, value_read};
-ghost use Rattle.pnm_chain.specs.Settings.{with_option};
+ghost use Rattle.pnm_chain.specs.Settings.{AreSettingsOf, AreTaken, NowSay, argument_fault, has_option, item_read};
+ghost use Rattle.pnm_chain.specs.Settings.{said_by, value_read, with_number, with_option};
 
 use crate::chain_text::ChainKind;
 use crate::items::Item;
 use crate::options::{ToolName, ToolOption};
 use crate::word::{number, offset};
-use pnm_image::limits::{MAX_DEPTH, MAX_MAXVAL, MAX_TUPLE_TYPE_LENGTH};
+use pnm_image::limits::{MAX_DEPTH, MAX_TUPLE_TYPE_LENGTH};
 use pnm_tools::{CutBox, FlipWay, MAX_EXTENT, Planes, Tool};
 use std::alloc::Global;
 
@@ -32,12 +32,8 @@ pub(crate) struct Settings<'a> {
     across: Option<u32>,
     down: Option<u32>,
     way: Option<FlipWay>,
-    /// The arguments of `pamchannel`.
-    planes: Vec<u16>,
-    /// The maxval, the factor, or the width that `pnmtile` fills.
-    first: Option<u32>,
-    /// The height that `pnmtile` fills.
-    second: Option<u32>,
+    /// The arguments.
+    numbers: Vec<u32>,
 }
 
 impl<'a> Settings<'a> {
@@ -59,9 +55,7 @@ impl<'a> Settings<'a> {
             across: None,
             down: None,
             way: None,
-            planes: Vec::new(alloc),
-            first: None,
-            second: None,
+            numbers: Vec::new(alloc),
         }
     }
 
@@ -88,32 +82,100 @@ impl<'a> Settings<'a> {
     }
 
     /// The tool that these settings mean. The faults are `Conflict`, `MissingArgument` and `Memory`.
-    pub(crate) fn finish(self, alloc: Global) -> Result<Tool, ChainKind>
-        ensures meant { IfOk result (λ meaning. (items : List ItemSaid) → AreSettingsOf self.entry.tool items self.entry
-            → (end_fault self.entry.tool items ≡ None) × (meaning ≡ meant_by self.entry.tool items)) }
-        ensures refused { IfErr result (λ kind. (items : List ItemSaid) → AreSettingsOf self.entry.tool items self.entry
-            → IsRefusal (end_fault self.entry.tool items) kind) }
+    pub(crate) fn finish(&self, alloc: Global) -> Result<Tool, ChainKind>
+        ensures meant { IfOk result (λ meaning. (items : List ItemSaid) → AreSettingsOf self.now.tool items self.now
+            → (end_fault self.now.tool items ≡ None) × (meaning ≡ meant_by self.now.tool items)) }
+        ensures refused { IfErr result (λ kind. (items : List ItemSaid) → AreSettingsOf self.now.tool items self.now
+            → IsRefusal (end_fault self.now.tool items) kind) }
+    {
+        if self.is_conflict() {
+            return Err(ChainKind::Conflict);
+        }
+        if self.is_missing() {
+            return Err(ChainKind::MissingArgument);
+        }
+        self.meant(alloc)
+    }
+
+    /// Whether three options of an axis stand together, or an argument and a scale.
+    fn is_conflict(&self) -> bool
+        ensures { result ≡ (tool_rule self.now.tool).conflict (said_by self.now) }
     {
         match self.tool {
-            ToolName::Invert => Ok(Tool::Invert),
-            ToolName::Cut => cut(self.cut),
-            ToolName::Depth => match self.first {
-                Some(maxval) => Ok(Tool::Depth(maxval)),
-                None => Err(ChainKind::MissingArgument),
-            },
-            ToolName::Channel => pick(alloc, self.planes, self.tuple_type),
-            ToolName::Enlarge => enlarge(self.first, self.across, self.down),
-            ToolName::Flip => match self.way {
-                Some(way) => Ok(Tool::Flip(way)),
-                None => Err(ChainKind::MissingArgument),
-            },
-            ToolName::Tile => tile(self.first, self.second),
+            ToolName::Cut => has_three(&self.cut),
+            ToolName::Enlarge => !self.numbers.is_empty() && self.has_scale(),
+            _ => false,
         }
+    }
+
+    /// Whether the tool wants another argument, a way to flip, or a factor.
+    fn is_missing(&self) -> bool
+        ensures { result ≡ (tool_rule self.now.tool).missing (said_by self.now) }
+    {
+        match self.tool {
+            ToolName::Enlarge => self.numbers.is_empty() && !self.has_scale(),
+            ToolName::Flip => self.way.is_none(),
+            tool => self.numbers.len() < tool.arguments().fewest,
+        }
+    }
+
+    fn has_scale(&self) -> bool
+        ensures { result ≡ has_scale (said_by self.now) }
+    {
+        self.across.is_some() || self.down.is_some()
+    }
+
+    /// The tool, if nothing conflicts or is missing.
+    fn meant(&self, alloc: Global) -> Result<Tool, ChainKind>
+        ensures meant { IfOk result (λ meaning. AreTaken self.now.tool self.now.numbers.items
+            → meaning ≡ (tool_rule self.now.tool).meant (said_by self.now)) }
+        ensures refused { IfErr result (λ kind. kind ≡ Memory) }
+    {
+        Ok(match self.tool {
+            ToolName::Invert => Tool::Invert,
+            ToolName::Cut => Tool::Cut(self.cut),
+            ToolName::Depth => Tool::Depth(self.number(0)),
+            ToolName::Channel => Tool::Channel(self.planes(alloc)?),
+            ToolName::Enlarge => Tool::Enlarge(self.factor(self.across), self.factor(self.down)),
+            ToolName::Flip => Tool::Flip(self.way.unwrap_or(FlipWay::Null)),
+            ToolName::Tile => Tool::Tile(self.number(0), self.number(1)),
+        })
+    }
+
+    /// The argument at a place from 0, or 0.
+    fn number(&self, at: usize) -> u32
+        ensures { result ≡ slice_index_or self.now.numbers.items at 0 }
+    {
+        self.numbers.get(at).copied().unwrap_or(0)
+    }
+
+    /// The one argument is both factors, or each has a scale of its own; one that isn't given is 1.
+    fn factor(&self, scale: Option<u32>) -> u32
+        ensures { result ≡ factor_by self.now.numbers.items scale }
+    {
+        match self.numbers.first() {
+            Some(factor) => *factor,
+            None => scale.unwrap_or(1),
+        }
+    }
+
+    /// The arguments as planes, none of which is above the last one, and the tuple type.
+    fn planes(&self, alloc: Global) -> Result<Planes, ChainKind>
+        ensures planes { IfOk result (λ planes. AreTaken Channel self.now.numbers.items
+            → planes ≡ picks self.now.numbers.items (unwrap_or (value_read self.now.tuple_type) [])) }
+        ensures refused { IfErr result (λ kind. kind ≡ Memory) }
+    {
+        let mut planes = Vec::with_capacity(alloc, self.numbers.len())?;
+        for number in &self.numbers {
+            planes.push((*number).min(MAX_DEPTH - 1) as u16)?;
+        }
+        let tuple_type = Vec::from_slice(alloc, self.tuple_type.unwrap_or(b""))?;
+        Ok(Planes::new(planes, tuple_type))
     }
 
     /// Whether the option was there.
     fn has(&self, option: ToolOption) -> bool
-        ensures { result ≡ has_option self.now option }
+        ensures { result ≡ has_option (said_by self.now) option }
     {
         match option {
             ToolOption::Left => self.cut.left.is_some(),
@@ -131,7 +193,7 @@ impl<'a> Settings<'a> {
 
     fn set(&mut self, option: ToolOption, value: Option<&'a [u8]>) -> Result<(), ChainKind>
         ensures set { OnOk result ((value_fault option (value_read value.entry) ≡ None)
-            × (self.new ≡ with_option self.old option value.entry)) }
+            × NowSay self.old (with_option (said_by self.old) option (value_read value.entry)) self.new) }
         ensures refused { IfErr result (λ kind. value_fault option (value_read value.entry) ≡ Some kind) }
     {
         let Some(word) = value else {
@@ -156,7 +218,8 @@ impl<'a> Settings<'a> {
 
     /// Sets the way to flip; any other option wants a value.
     fn set_way(&mut self, option: ToolOption) -> Result<(), ChainKind>
-        ensures set { OnOk result ((value_fault option None ≡ None) × (self.new ≡ with_option self.old option None)) }
+        ensures set { OnOk result ((value_fault option None ≡ None)
+            × NowSay self.old (with_option (said_by self.old) option None) self.new) }
         ensures refused { IfErr result (λ kind. value_fault option None ≡ Some kind) }
     {
         let ToolOption::Way(way) = option else {
@@ -166,19 +229,19 @@ impl<'a> Settings<'a> {
         Ok(())
     }
 
+    /// Adds an argument.
     fn add(&mut self, word: &[u8]) -> Result<(), ChainKind>
         ensures added { OnOk result ((argument_fault self.old.tool self.old word.now ≡ None)
-            × IsWithArgument self.old.tool self.old word.now self.new) }
+            × NowSay self.old (with_number (said_by self.old) (decimal_value word.now)) self.new) }
         ensures refused { IfErr result (λ kind. IsRefusal (argument_fault self.old.tool self.old word.now) kind) }
     {
-        match self.tool {
-            ToolName::Invert | ToolName::Cut | ToolName::Flip => Err(ChainKind::ExtraArgument),
-            ToolName::Depth => fill(&mut self.first, word, MAX_MAXVAL),
-            ToolName::Channel => add_plane(&mut self.planes, word),
-            ToolName::Enlarge => fill(&mut self.first, word, MAX_EXTENT),
-            ToolName::Tile if self.first.is_none() => fill(&mut self.first, word, MAX_EXTENT),
-            ToolName::Tile => fill(&mut self.second, word, MAX_EXTENT),
+        let arguments = self.tool.arguments();
+        if self.numbers.len() >= arguments.most {
+            return Err(ChainKind::ExtraArgument);
         }
+        let number = number(word, arguments.least, arguments.greatest);
+        self.numbers.push(number.ok_or(ChainKind::BadValue)?)?;
+        Ok(())
     }
 }
 
@@ -200,78 +263,11 @@ fn set_extent(extent: &mut Option<u32>, word: &[u8]) -> Result<(), ChainKind>
     Ok(())
 }
 
-/// Fills an argument with a number from 1 to `most`.
-fn fill(argument: &mut Option<u32>, word: &[u8], most: u32) -> Result<(), ChainKind>
-    ensures filled { OnOk result ((argument.old ≡ None) × (spells_number 1 most word.now ≡ true)
-        × (argument.new ≡ Some (decimal_value word.now))) }
-    ensures refused { IfErr result (λ kind. IsNoArgument (is_some argument.old) (spells_number 1 most word.now) kind) }
-{
-    if argument.is_some() {
-        return Err(ChainKind::ExtraArgument);
-    }
-    *argument = Some(number(word, 1, most).ok_or(ChainKind::BadValue)?);
-    Ok(())
-}
-
-fn add_plane(planes: &mut Vec<u16>, word: &[u8]) -> Result<(), ChainKind>
-    ensures added { OnOk result ((has_all_planes planes.old.items ≡ false) × (spells_plane word.now ≡ true)
-        × (planes.new.items ≡ planes.old.items ++ decimal_value word.now ∷ [])) }
-    ensures refused { IfErr result
-        (λ kind. (kind ≡ Memory) ⊎ IsNoArgument (has_all_planes planes.old.items) (spells_plane word.now) kind) }
-{
-    if planes.len() >= MAX_DEPTH as usize {
-        return Err(ChainKind::ExtraArgument);
-    }
-    let plane = number(word, 0, MAX_DEPTH - 1).ok_or(ChainKind::BadValue)?;
-    planes.push(plane as u16)?;
-    Ok(())
-}
-
-fn cut(cut: CutBox) -> Result<Tool, ChainKind>
-    ensures made { IfOk result (λ tool. (has_three cut ≡ false) × (tool ≡ tools.Cut cut)) }
-    ensures refused { IfErr result (λ kind. (has_three cut ≡ true) × (kind ≡ Conflict)) }
+/// Whether both edges and the size of an axis are given.
+fn has_three(cut: &CutBox) -> bool
+    ensures { result ≡ has_three cut.now }
 {
     let across = cut.left.is_some() && cut.right.is_some() && cut.width.is_some();
     let down = cut.top.is_some() && cut.bottom.is_some() && cut.height.is_some();
-    if across || down {
-        return Err(ChainKind::Conflict);
-    }
-    Ok(Tool::Cut(cut))
-}
-
-fn pick(alloc: Global, planes: Vec<u16>, tuple_type: Option<&[u8]>) -> Result<Tool, ChainKind>
-    ensures made { IfOk result (λ tool. (0 < length planes.items)
-        × (tool ≡ tools.Channel (picks planes.items (unwrap_or (value_read tuple_type.entry) [])))) }
-    ensures refused { IfErr result (λ kind. (kind ≡ Memory) ⊎ ((planes.items ≡ []) × (kind ≡ MissingArgument))) }
-{
-    if planes.is_empty() {
-        return Err(ChainKind::MissingArgument);
-    }
-    let tuple_type = Vec::from_slice(alloc, tuple_type.unwrap_or(b""))?;
-    Ok(Tool::Channel(Planes::new(planes, tuple_type)))
-}
-
-/// The one argument is both factors, or each has an option of its own; one that isn't given is 1.
-fn enlarge(factor: Option<u32>, across: Option<u32>, down: Option<u32>) -> Result<Tool, ChainKind>
-    ensures made { IfOk result (λ tool. (factors_fault factor across down ≡ None)
-        × (tool ≡ factors_meant factor across down)) }
-    ensures refused { IfErr result (λ kind. factors_fault factor across down ≡ Some kind) }
-{
-    match (factor, across, down) {
-        (Some(factor), None, None) => Ok(Tool::Enlarge(factor, factor)),
-        (Some(_), _, _) => Err(ChainKind::Conflict),
-        (None, None, None) => Err(ChainKind::MissingArgument),
-        (None, _, _) => Ok(Tool::Enlarge(across.unwrap_or(1), down.unwrap_or(1))),
-    }
-}
-
-fn tile(columns: Option<u32>, rows: Option<u32>) -> Result<Tool, ChainKind>
-    ensures made { IfOk result (λ tool. ((is_some columns && is_some rows) ≡ true)
-        × (tool ≡ tools.Tile (unwrap_or columns 0) (unwrap_or rows 0))) }
-    ensures refused { IfErr result (λ kind. ((is_some columns && is_some rows) ≡ false) × (kind ≡ MissingArgument)) }
-{
-    match (columns, rows) {
-        (Some(columns), Some(rows)) => Ok(Tool::Tile(columns, rows)),
-        _ => Err(ChainKind::MissingArgument),
-    }
+    across || down
 }

@@ -1,21 +1,18 @@
-use Rattle.pnm_chain.specs.declared.options.ToolName.TheVariants.{Channel, Enlarge, Tile}
-use Rattle.pnm_chain.proofs.MeaningLaws.{enlarge_meant, enlarge_refused, planes_meant, planes_refused, tile_meant, tile_refused}
+use Rattle.pnm_chain.proofs.MeaningLaws.{conflicts, lacks, lacks_memory, means}
 use Rattle.pnm_chain.proofs.settings.Settings.finish.Goals as goal
 
-pub returns-in-Channel-clause-meant : goal.returns-in-Channel-clause-meant
-returns-in-Channel-clause-meant c = rw c.in-Channel.is (planes_meant (record c.args.self { tool = Channel }) c.pick.result c.pick.ensures.made)
+pub returns-then-is_conflict-clause-refused : goal.returns-then-is_conflict-clause-refused
+returns-then-is_conflict-clause-refused c = conflicts c.args.self.now.tool c.args.self.now c.is_conflict.result c.is_conflict.ensures c.if-is_conflict.true
 
-pub returns-in-Channel-clause-refused : goal.returns-in-Channel-clause-refused
-returns-in-Channel-clause-refused c = rw c.in-Channel.is (planes_refused (record c.args.self { tool = Channel }) c.pick.result c.pick.ensures.refused)
-
-pub returns-in-Enlarge-clause-meant : goal.returns-in-Enlarge-clause-meant
-returns-in-Enlarge-clause-meant c = rw c.in-Enlarge.is (enlarge_meant (record c.args.self { tool = Enlarge }) c.enlarge.result c.enlarge.ensures.made)
-
-pub returns-in-Enlarge-clause-refused : goal.returns-in-Enlarge-clause-refused
-returns-in-Enlarge-clause-refused c = rw c.in-Enlarge.is (enlarge_refused (record c.args.self { tool = Enlarge }) c.enlarge.result c.enlarge.ensures.refused)
+pub returns-then-is_missing-clause-refused : goal.returns-then-is_missing-clause-refused
+returns-then-is_missing-clause-refused c =
+    lacks c.args.self.now.tool c.args.self.now c.is_conflict.result c.is_conflict.ensures c.if-is_conflict.false c.is_missing.result c.is_missing.ensures
+    c.if-is_missing.true
 
 pub returns-clause-meant : goal.returns-clause-meant
-returns-clause-meant c = rw c.in-Tile.is (tile_meant (record c.args.self { tool = Tile }) c.tile.result c.tile.ensures.made)
+returns-clause-meant c =
+    means c.args.self.now.tool c.args.self.now c.is_conflict.result c.is_conflict.ensures c.if-is_conflict.false c.is_missing.result c.meant.result
+    c.is_missing.ensures c.if-is_missing.false c.meant.ensures.meant
 
 pub returns-clause-refused : goal.returns-clause-refused
-returns-clause-refused c = rw c.in-Tile.is (tile_refused (record c.args.self { tool = Tile }) c.tile.result c.tile.ensures.refused)
+returns-clause-refused c = lacks_memory c.args.self.now.tool c.args.self.now c.meant.result c.meant.ensures.refused

@@ -17,7 +17,7 @@ returns-in-Argument-clause-refused c =
 
 pub returns-else-has-clause-set : goal.returns-else-has-clause-set
 returns-else-has-clause-set c =
-    rw c.in-Given.is (option_set c.args.self.now.tool c.in-Given.option c.in-Given.value c.args.self.now c.set.new.self c.set.result
+    rw c.in-Given.is (option_set c.args.self.now.tool c.in-Given.option (value_read c.in-Given.value) c.args.self.now c.set.new.self c.set.result
     (sym c.has.ensures ∙ c.if-has.false) c.set.ensures.set)
 
 pub returns-else-has-clause-refused : goal.returns-else-has-clause-refused
