@@ -1,9 +1,12 @@
-"""What the project says of the tools, beside the table of their names and options, `options.rt` of pnm_chain. `lint.py`
-runs this. Each difference is a line that names the file and the tool.
+"""What the project says of the tools, beside the table of their names, options and arguments, `options.rt` of
+pnm_chain, and the values that `settings.rt` there takes. `lint.py` runs this. Each difference is a line that names the
+file and the tool.
 
 The help text, the page, the README, completions and helpers give each tool the options that the table has; those for
-Netpbm's scripts know them among Netpbm's own. The stored help text and that of the tests are the program's. A list of
-tools names all of them, wherever it stands, and so does each file that shows or tries each tool.
+Netpbm's scripts know them among Netpbm's own. The help text has as many arguments, completions offer numbers that are
+such, `chain_text.py` has the same ranges of all values, and the page tells each. The stored help text and that of the
+tests are the program's. A list of tools names all of them, wherever it stands, and so does each file that shows or
+tries each tool.
 """
 
 import os
@@ -13,7 +16,8 @@ import typing
 import lint_documents
 from places import ROOT
 
-TABLE = "crates/pnm_chain/src/options.rt"
+TABLE, VALUES = "crates/pnm_chain/src/options.rt", "crates/pnm_chain/src/settings.rt"
+LIMITS = ["crates/pnm_image/src/limits.rt", "crates/pnm_tools/src/limits.rt"]
 PROGRAM = "crates/pnm_command_line/src/command_line.rt"
 HELP, HELP_OF_TESTS = "crates/pnmpipe/commands/help", "crates/pnm_flow_tests/src/tests/program/help.rt"
 PAGE, README = "man/pnmpipe.1", "README.md"
@@ -34,26 +38,69 @@ BETWEEN = r"(?:\W|\b(?:and|or|Xr|1|pnmpipe-\w+)\b)+"
 OF_LISTS = re.compile(r"Makefile|README\.md|(?:bench|completions|docs|helpers|library|man|scripts)/.*|crates/.*\.rt")
 
 
+class Arguments(typing.NamedTuple):
+    """How many arguments a tool takes, and which numbers are such."""
+
+    fewest: int
+    most: int
+    least: int
+    greatest: int
+
+
 class Tool(typing.NamedTuple):
-    """A tool's name, and what each of its options means."""
+    """A tool's name, what each of its options means, which values that takes, from and to, and its arguments."""
 
     name: str
     options: dict
+    values: dict
+    arguments: Arguments
+
+
+def constants(read):
+    found = re.findall(r"^pub const (\w+): \w+ = ([\d_]+);", "".join(map(read, LIMITS)), re.M)
+    return {name: int(number) for name, number in found}
+
+
+def arguments_of(text, limits):
+    """The arguments of each variant, by the arms of `arguments`."""
+
+    def number(written):
+        return eval(written.replace(" as usize", ""), {}, limits)  # pylint: disable=eval-used
+
+    body = text.split("fn arguments(self)")[1].split("\n    }\n")[0]
+    for variants, made in re.findall(r"((?:ToolName::\w+[ |]+)+)=> ((?:(?!ToolName).|\n)*)", body):
+        fields = dict(re.findall(r"(\w+): ([^,:]+),", made))
+        base = re.search(r"numbers\(([^,]+), ([^)]+)\)", made)
+        if base:
+            fields = {"fewest": base[1], "most": base[1], "least": "1", "greatest": base[2], **fields}
+        taken = Arguments(**{name: number(written) for name, written in fields.items()})
+        yield from ((variant, taken) for variant in re.findall(r"ToolName::(\w+)", variants))
+
+
+def values_of(text, limits):
+    """The first and the last number that each option takes, None if it takes no value, by the arms of `set`."""
+    most = limits["MAX_EXTENT"]
+    ranges = {"edge": (-most, most), "extent": (1, most)}
+    values = {option: ranges[kind] for option, kind in re.findall(r"ToolOption::(\w+) => set_(\w+)\(", text)}
+    texts = re.findall(r"ToolOption::(\w+) if word.len\(\) <= \w+ =>", text)
+    return {**values, **dict.fromkeys(texts, "text")}
 
 
 def tools_of(read):
     """The tools of the table, in its order."""
-    text = read(TABLE)
+    text, limits = read(TABLE), constants(read)
     spelled = {}
     for function, body in re.findall(r"\bfn (\w+)\((?:.|\n)*?\n *\{\n((?:.|\n)*?)\n *\}\n", text):
         pairs = re.findall(r'spelled\(name, b"(\w+)", Tool(?:Name|Option)::(\w+(?:\([\w:]+\))?)', body)
         spelled[function] = dict(pairs)
     arms = dict(re.findall(r"^ +ToolName::(\w+) => (.*_option\(name\).*),$", text, re.M))
+    arguments, values = dict(arguments_of(text, limits)), values_of(read(VALUES), limits)
     for name, variant in spelled["named"].items():
         options = {}
         for function in re.findall(r"(\w+)\(name\)", arms.get(variant, "")):
             options.update(spelled[function])
-        yield Tool(name, options)
+        taken = {option: values.get(meaning) for option, meaning in options.items()}
+        yield Tool(name, options, taken, arguments[variant])
 
 
 def listed(names):
@@ -96,14 +143,46 @@ def in_page(text):
     return told
 
 
+def faults_of_ranges(tools, text):
+    """The page tells the range of each argument and value, and how many arguments there are if they may be many."""
+    told = {}
+    lines = text.split(".Sh TOOLS\n")[1].split("\n.El\n")[0].replace("\\-", "-").replace("\n", " ")
+    for part in lines.split(".It Ic ")[1:]:
+        name = part.split(" ", 1)[0]
+        told[name] = told.get(name, "") + part
+    for tool in tools:
+        taken = tool.arguments
+        wanted = [f"{it[0]:,} to {it[1]:,}" for it in tool.values.values() if isinstance(it, tuple)]
+        wanted += [f"{taken.least:,} to {taken.greatest:,}"] * (taken.most > 0)
+        wanted += [f"{taken.fewest:,} to {taken.most:,}"] * (taken.most > 2)
+        for it in dict.fromkeys(wanted):
+            if it not in told.get(tool.name, ""):
+                yield f"{PAGE} doesn't tell {it} of {tool.name}, which {TABLE} has"
+
+
+def offered(text, name):
+    """What a completion offers behind a tool's name; None if it doesn't say."""
+    line = re.search(rf"\b{name}(?:\)|\n) +(?:set )?words(?:\+?=| )['(]?([^')\n]*)", text)
+    return line and line[1]
+
+
 def in_completion(text, tools):
     """The options of each tool in a completion: a tool without any may stand in its list of tools alone."""
     told = {}
     for tool in tools:
-        line = re.search(rf"\b{tool.name}(?:\)|\n) +(?:set )?words(?:\+?=| )['(]?([^')\n]*)", text)
-        if line or re.search(rf"words[^\n]*\b{tool.name}\b", text):
-            told[tool.name] = re.findall(r"-(\w+)", line.group(1)) if line else []
+        words = offered(text, tool.name)
+        if words is not None or re.search(rf"words[^\n]*\b{tool.name}\b", text):
+            told[tool.name] = re.findall(r"-(\w+)", words or "")
     return told
+
+
+def faults_of_numbers(path, tools, text):
+    """Numbers that a completion offers for a tool that doesn't take them."""
+    for tool in tools:
+        taken = tool.arguments
+        for number in re.findall(r"(?<![\w-])\d+", offered(text, tool.name) or ""):
+            if not (taken.most and taken.least <= int(number) <= taken.greatest):
+                yield f"{path} offers {tool.name} {number}, which {TABLE} doesn't take"
 
 
 def faults_of_readme(tools, text):
@@ -132,6 +211,14 @@ def names_in(path, read):
 def faults_of_helpers(tools, read):
     forms = names_in(CHAINS, read)["TOOLS"]
     yield from faults_by(CHAINS, tools, {name: form.options for name, form in forms.items()})
+    for tool in (it for it in tools if it.name in forms):
+        form, wanted = forms[tool.name], tool.arguments
+        argument = (wanted.least, wanted.greatest) if wanted.most else None
+        if (form.least, form.most, form.argument) != (wanted.fewest, wanted.most, argument):
+            yield f"{CHAINS} gives {tool.name} other arguments than {TABLE}"
+        for name, values in tool.values.items():
+            if form.options.get(name, values) != values:
+                yield f"{CHAINS} gives -{name} of {tool.name} other values than {VALUES}"
     known = {name: {*valued, *others} for name, (valued, others) in names_in(NETPBM, read)["OPTIONS"].items()}
     cases = read(SHIM).split("case $base in\n")[1].split("\nesac\n")[0]
     of_shim = {}
@@ -147,6 +234,8 @@ def faults_of_helpers(tools, read):
 
 def faults_of_lists(path, names, text):
     """Lists of tools that don't name each."""
+    if sum(name in text for name in names) < LIST:
+        return
     any_name = rf"\b(?:{'|'.join([*names, *OLD])})\b"
     for found in re.finditer(rf"{any_name}(?:{BETWEEN}{any_name})+", text):
         lacking = [name for name in names if name not in re.findall(r"\w+", found[0])]
@@ -159,6 +248,12 @@ def faults_of_help(tools, read):
     program, stored = read(PROGRAM), read(HELP)
     own = re.search(r'AFTER_HELP: &str = "([^"]*)"', program)[1]
     yield from faults_by(PROGRAM, tools, in_help(own + "\n"))
+    for tool in tools:
+        line = re.search(rf"^  {tool.name}\b(.*)", own, re.M)
+        words = re.findall(r"\b[A-Z]+\b(?:\.\.\.)?", re.sub(r"\[.*?\]", "", line[1])) if line else []
+        most = tool.arguments.most
+        if line and (len(words) != most if most <= 2 else [word[-3:] for word in words] != ["..."]):
+            yield f"{PROGRAM} gives {tool.name} {len(words)} arguments, and {TABLE} {most}"
     if not stored.endswith("\n\n" + own + "\n"):
         yield f"{HELP} has another text than {PROGRAM}"
     if f'"{stored}"' not in read(HELP_OF_TESTS):
@@ -170,9 +265,11 @@ def faults(read=lint_documents.read):
     tools = list(tools_of(read))
     names = [tool.name for tool in tools]
     found = [*faults_of_help(tools, read), *faults_by(PAGE, tools, in_page(read(PAGE)))]
+    found += faults_of_ranges(tools, read(PAGE))
     for name in lint_documents.COMPLETIONS:
         path = f"completions/{name}"
         found += faults_by(path, tools, in_completion(read(path), tools))
+        found += faults_of_numbers(path, tools, read(path))
     found += [*faults_of_readme(tools, read(README)), *faults_of_helpers(tools, read)]
     found += [f"{SLOW} lacks {name}, which {TABLE} has" for name in names if name not in names_in(SLOW, read)["NAMES"]]
     for path in OF_EACH:

@@ -168,12 +168,12 @@ class Documents(unittest.TestCase):
 class Tools(unittest.TestCase):
     """Differences that are planted: a file, a text of it and what stands in its place, and the line that is told."""
 
-    def told(self, path, old, new):
+    def told(self, path, *pairs):
         def read(name):
             text = lint_documents.read(name)
-            if name == path:
+            for old, new in pairs if name == path else ():
                 self.assertIn(old, text)
-                return text.replace(old, new, 1)
+                text = text.replace(old, new, 1)
             return text
 
         return lint_tools.faults(read)
@@ -186,9 +186,13 @@ class Tools(unittest.TestCase):
         self.assertEqual(len(named), 7)
         self.assertEqual(list(named["pamenlarge"]), ["xscale", "yscale"])
         self.assertEqual(named["pamflip"]["lr"], named["pamflip"]["leftright"])
+        taken = {tool.name: tuple(tool.arguments) for tool in lint_tools.tools_of(lint_documents.read)}
+        self.assertEqual([taken[name] for name in ("pamcut", "pamdepth")], [(0, 0, 1, 0), (1, 1, 1, 65_535)])
+        self.assertEqual([taken[name] for name in ("pamchannel", "pnmtile")], [(1, 256, 0, 255), (2, 2, 1, 16_777_216)])
 
     def test_planted(self):
-        has, lacks = f"which {lint_tools.TABLE} has", f"which {lint_tools.TABLE} lacks"
+        table, values = lint_tools.TABLE, lint_tools.VALUES
+        has, lacks = f"which {table} has", f"which {table} lacks"
         for path, old, new, wanted in (
             (lint_tools.PAGE, "Fl yscale Ar N", "Ar N", f"lacks yscale of pamenlarge, {has}"),
             (lint_tools.PAGE, "Fl xscale Ar N", "Fl zscale Ar N", f"gives pamenlarge zscale, {lacks}"),
@@ -210,18 +214,29 @@ class Tools(unittest.TestCase):
             ("Makefile", "pamdepth pamchannel", "pamdepth", "lists tools without pamchannel"),
             (lint_tools.PROGRAM, "pamdepth MAXVAL", "pamdeep MAXVAL", f"lacks pamdepth, {has}"),
             (lint_tools.PROGRAM, "[-yscale N]", "", f"lacks yscale of pamenlarge, {has}"),
+            (lint_tools.PROGRAM, "pnmtile WIDTH", "pnmtile", f"gives pnmtile 1 arguments, and {table} 2"),
+            (lint_tools.PROGRAM, "PLANE...", "PLANE", f"gives pamchannel 1 arguments, and {table} 256"),
+            (lint_tools.PAGE, "1 to 65,535", "1 to 65,536", f"doesn't tell 1 to 65,535 of pamdepth, {has}"),
+            (lint_tools.PAGE, "1 to 256 numbers", "some", f"doesn't tell 1 to 256 of pamchannel, {has}"),
+            (lint_tools.PAGE, "\\-16,777,216 to", "0 to", f"doesn't tell -16,777,216 to 16,777,216 of pamcut, {has}"),
+            ("completions/pnmpipe.bash", "1 255 65535", "0 255", f"offers pamdepth 0, which {table} doesn't take"),
+            (lint_tools.CHAINS, "Form(2, 2", "Form(1, 2", f"gives pnmtile other arguments than {table}"),
+            (lint_tools.CHAINS, "(1, 65_535)", "(0, 65_535)", f"gives pamdepth other arguments than {table}"),
+            (lint_tools.CHAINS, '"top": OFFSET', '"top": EXTENT', f"gives -top of pamcut other values than {values}"),
             (lint_tools.HELP, "WIDTH HEIGHT", "W H", f"has another text than {lint_tools.PROGRAM}"),
             (lint_tools.HELP_OF_TESTS, "WIDTH HEIGHT", "W H", f"has another text than {lint_tools.HELP}"),
         ):
             with self.subTest(path, new=new):
-                lines = [line for line in self.told(path, old, new) if line.endswith(wanted)]
+                lines = [line for line in self.told(path, (old, new)) if line.endswith(wanted)]
                 self.assertEqual(len(lines), 1)
                 self.assertTrue(lines[0].startswith(path))
 
     def test_an_eighth_tool(self):
         """A tool that the table has and nothing else: each file is told once, and lists at each of their lines."""
         spelled = '.or(spelled(name, b"pnmtile", ToolName::Tile))'
-        told = self.told(lint_tools.TABLE, spelled, f'{spelled}.or(spelled(name, b"pamgreater", ToolName::Greater))')
+        arms = ("ToolName::Depth => Arguments", "ToolName::Depth | ToolName::Greater => Arguments")
+        named = (spelled, f'{spelled}.or(spelled(name, b"pamgreater", ToolName::Greater))')
+        told = self.told(lint_tools.TABLE, named, arms)
         self.assertTrue(all("pamgreater" in line for line in told))
         paths = {line.split()[0].split(":")[0] for line in told}
         self.assertLess({lint_tools.PAGE, lint_tools.PROGRAM, lint_tools.README, lint_tools.SLOW, "Makefile"}, paths)
