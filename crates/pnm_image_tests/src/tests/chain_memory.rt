@@ -6,7 +6,7 @@ use pnm_chain::{ChainFault, ChainKind, parse_chain};
 use std::alloc::Global;
 use std::process::Abort;
 
-/// A chain whose planes, tuple type and list are allocated, in turn.
+/// A chain whose arguments, planes, tuple type and list are allocated, in turn.
 const ALLOCATES: &str = "pamchannel 2 0 -tupletype RGB";
 
 /// No stage is at fault.
