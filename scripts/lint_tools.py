@@ -156,7 +156,7 @@ def faults_of_ranges(tools, text):
         wanted += [f"{taken.least:,} to {taken.greatest:,}"] * (taken.most > 0)
         wanted += [f"{taken.fewest:,} to {taken.most:,}"] * (taken.most > 2)
         for it in dict.fromkeys(wanted):
-            if it not in told.get(tool.name, ""):
+            if it not in told.get(tool.name, it):
                 yield f"{PAGE} doesn't tell {it} of {tool.name}, which {TABLE} has"
 
 

@@ -8,6 +8,8 @@ set -eu
 cd "$(dirname "$0")/.."
 version=$(cat VERSION)
 machine=$(uname -m)
+# as descriptions of packages name them
+tools='pnminvert, pamcut, pamdepth, pamchannel, pamenlarge, pamflip and pnmtile'
 work=$(mktemp -d)
 trap 'rm -rf "$work"' EXIT
 
@@ -122,15 +124,17 @@ library_debs() {
 Depends: $(libc bin/libpnmpipe.so.1)
 Multi-Arch: same
 Description: chain of Netpbm tools over images in memory, shared library
- libpnmpipe passes PBM, PGM, PPM and PAM images in memory through pnminvert,
- pamcut, pamdepth, pamchannel, pamenlarge, pamflip and pnmtile in one call.
+ libpnmpipe passes PBM, PGM, PPM and PAM images in memory through
+ $tools
+ in one call.
 CONTROL
     packed libpnmpipe-dev "$architecture" libdevel << CONTROL
 Depends: libpnmpipe1 (= $version)
 Multi-Arch: same
 Description: chain of Netpbm tools over images in memory, header and library
- libpnmpipe passes PBM, PGM, PPM and PAM images in memory through pnminvert,
- pamcut, pamdepth, pamchannel, pamenlarge, pamflip and pnmtile in one call.
+ libpnmpipe passes PBM, PGM, PPM and PAM images in memory through
+ $tools
+ in one call.
  .
  Here are its header, its static library and its manual page.
 CONTROL
@@ -141,8 +145,8 @@ Depends: python3, libpnmpipe1 (>= $version)
 Suggests: python3-numpy
 Description: chain of Netpbm tools over images in memory, for Python
  The module pnmpipe passes PBM, PGM, PPM and PAM images in memory through
- pnminvert, pamcut, pamdepth, pamchannel, pamenlarge, pamflip and pnmtile in
- one call, without the lock of the interpreter.
+ $tools
+ in one call, without the lock of the interpreter.
 CONTROL
 }
 
@@ -159,7 +163,7 @@ Depends: ${needs:+$needs, }python3
 Suggests: libpnmpipe1 (= $version), netpbm, parallel, rsync
 Description: chain of Netpbm tools over a stream of images in one process
  pnmpipe reads PBM, PGM, PPM and PAM images, passes their rows through
- pnminvert, pamcut, pamdepth, pamchannel, pamenlarge, pamflip and pnmtile,
+ $tools,
  each in a thread of its own, and writes raw Netpbm images. Beside it are
  helpers for many files, for streams and for scripts that call Netpbm.
  .
