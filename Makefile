@@ -79,19 +79,19 @@ lint:
 # whether functions have changed that the model restates: in a minute, and with what is installed
 BUILT ?= bin/pnmpipe
 scripts: lint
-	python3 scripts/test_lint.py
-	python3 scripts/test_cases.py
-	python3 scripts/test_commands.py --program $(BUILT)
-	python3 scripts/test_rows.py --program $(BUILT)
-	python3 scripts/test_translate.py --program $(BUILT)
-	python3 scripts/test_helpers.py --program $(BUILT)
-	python3 scripts/test_files.py --program $(BUILT)
-	python3 scripts/test_machines.py --program $(BUILT)
-	python3 scripts/test_pages.py --program $(BUILT)
-	python3 scripts/test_explain.py --program $(BUILT)
-	python3 scripts/test_build.py
-	python3 scripts/test_definitions_of.py
-	python3 scripts/test_library.py --header
+	python3 scripts/tests/test_lint.py
+	python3 scripts/tests/test_cases.py
+	python3 scripts/tests/test_commands.py --program $(BUILT)
+	python3 scripts/tests/test_rows.py --program $(BUILT)
+	python3 scripts/tests/test_translate.py --program $(BUILT)
+	python3 scripts/tests/test_helpers.py --program $(BUILT)
+	python3 scripts/tests/test_files.py --program $(BUILT)
+	python3 scripts/tests/test_machines.py --program $(BUILT)
+	python3 scripts/tests/test_pages.py --program $(BUILT)
+	python3 scripts/tests/test_explain.py --program $(BUILT)
+	python3 scripts/tests/test_build.py
+	python3 scripts/tests/test_definitions_of.py
+	python3 scripts/tests/test_library.py --header
 	python3 scripts/pictures.py --check --program $(BUILT)
 	python3 model/functions.py
 	python3 model/test_functions.py
@@ -166,7 +166,7 @@ test: toolchain
 	for crate in $(TESTED); do (cd crates/$$crate && rt try --test --seconds 600) || exit 1; done
 	for crate in $(CASES); do (cd crates/$$crate && mkdir -p out && rt run < stdin > out/told && cmp out/told stdout) || exit 1; done
 	python3 scripts/cases.py
-	python3 scripts/test_commands.py --program $(BUILT)
+	python3 scripts/tests/test_commands.py --program $(BUILT)
 
 # the program that make has left beside Netpbm's own tools, where these are installed: a table, for a quiet machine, and
 # the figures of the documents, which `make scripts` then wants in their tables

@@ -87,7 +87,7 @@ def answers_stored_commands(folder):
     """Builds the program and runs its stored commands; ends this script where one answers otherwise."""
     with open(os.path.join(folder, "stdin"), "rb") as given:
         call(folder, "run", "--", "pnminvert", stdin=given, stdout=subprocess.DEVNULL)
-    script = os.path.join(ROOT, "scripts/test_commands.py")
+    script = os.path.join(ROOT, "scripts/tests/test_commands.py")
     if subprocess.run([sys.executable, script, "--program", os.path.join(folder, "out", PROGRAM)]).returncode:
         sys.exit("change: a stored command FAILED")
 

@@ -20,7 +20,7 @@ from build import LIBRARY, Toolchain, made_of
 from change import lay_out
 from crates import ROOT, Ended, below, end_by_signals, read_crates
 
-TESTS = os.path.join(ROOT, "scripts/test_library.py")
+TESTS = os.path.join(ROOT, "scripts/tests/test_library.py")
 
 
 def say(text):

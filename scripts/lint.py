@@ -17,7 +17,7 @@ import lint_sources
 import lint_tools
 from places import ROOT
 
-FOLDERS = ["helpers", "scripts", "bench", "model", ".ci"]
+FOLDERS = ["helpers", "scripts", "scripts/judge", "scripts/tests", "bench", "model", ".ci"]
 COMPLETIONS = {"bash": "completions/pnmpipe.bash", "zsh": "completions/_pnmpipe", "fish": "completions/pnmpipe.fish"}
 # other files whose lines have a limit
 IN_C = ["scripts/*.c", "bench/*.c", "library/*.[ch]", "library/*/*.c*"]

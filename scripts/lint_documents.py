@@ -274,12 +274,12 @@ def faults_of_help(known):
 
 def faults_of_sources(files, ends, known):
     """Files and goals that sources, pages and scripts name."""
-    of_folders = re.compile(r"(?:bench|helpers|man|model|scripts)/[^/]*")
-    paths = ["Makefile", ".ci/run", *(path for path in files if of_folders.fullmatch(path))]
+    of_folders = [path for path in files if path.startswith(("bench/", "helpers/", "man/", "model/", "scripts/"))]
+    paths = ["Makefile", ".ci/run", *(path for path in of_folders if os.path.isfile(os.path.join(ROOT, path)))]
     for path in sorted(paths + [os.path.relpath(path, ROOT) for path in all_sources()]):
         text = read(path)
         # (the tests of lint have names that lead nowhere)
-        for name in sorted(set(NAMED.findall(text))) if path != "scripts/test_lint.py" else ():
+        for name in sorted(set(NAMED.findall(text))) if path != "scripts/tests/test_lint.py" else ():
             if not is_there(name, ends):
                 yield f"{path} names {name}, which isn't there"
         yield from faults_of_goals(path, re.findall(r"`(make [^`]*)`", text), known)

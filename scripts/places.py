@@ -1,5 +1,5 @@
-"""The folders of the project. Modules of `helpers` are found once this one is imported, as the installed helpers find
-them: beside themselves."""
+"""The folders of the project. Modules of `helpers`, which the installed helpers find beside themselves, and those of
+the judge are found once this one is imported."""
 
 import os
 import sys
@@ -8,4 +8,4 @@ SCRIPTS = os.path.dirname(os.path.abspath(__file__))
 ROOT = os.path.dirname(SCRIPTS)
 HELPERS = os.path.join(ROOT, "helpers")
 
-sys.path.append(HELPERS)
+sys.path += [HELPERS, os.path.join(SCRIPTS, "judge")]

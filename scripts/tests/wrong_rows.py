@@ -11,7 +11,7 @@ import sys
 
 sys.dont_write_bytecode = True
 
-from places import SCRIPTS
+import support  # first, since it finds the others
 
 from slow_reader import magic, read_head
 from slow_reading import MOST_ROW, MOST_ROWS, raw_row
@@ -119,7 +119,7 @@ FLAWS = {
 
 def stand_in(path, flaw, program):
     """Makes a program of this flaw. Gives its path."""
-    words = [sys.executable, os.path.join(SCRIPTS, "wrong_rows.py"), flaw, program]
+    words = [sys.executable, os.path.abspath(__file__), flaw, program]
     with open(path, "w", encoding="utf-8") as file:
         file.write(f'#!/bin/sh\nexec {shlex.join(words)} "$@"\n')
     os.chmod(path, 0o755)

@@ -1,4 +1,5 @@
-"""What the tests of the helpers share: a folder of its own, the program, images, and how a helper is run and loaded."""
+"""What the tests share: where the modules stand that they try, which are found once this one is imported; a folder of a
+test's own, the program, images, and how a helper is run and loaded."""
 
 import argparse
 import os
@@ -10,9 +11,10 @@ import tempfile
 import unittest
 
 sys.dont_write_bytecode = True
+sys.path.append(os.path.dirname(os.path.dirname(os.path.abspath(__file__))))
 
 # pylint: disable=unused-import,wrong-import-position
-from places import HELPERS, ROOT
+from places import HELPERS, ROOT, SCRIPTS
 
 from chain_text import loaded
 

@@ -8,6 +8,8 @@ import os
 import tempfile
 import unittest
 
+import support  # first, since it finds the others
+
 import lint
 import lint_documents
 import lint_sources

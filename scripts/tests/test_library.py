@@ -23,6 +23,8 @@ import zipfile
 
 sys.dont_write_bytecode = True
 
+import support  # first, since it finds the others
+
 import library
 import refused
 import test_commands
@@ -345,7 +347,7 @@ def faults_of_cases(program, shared):
 
 
 def faults_of_rows(shared):
-    script = os.path.join(ROOT, "scripts/test_rows.py")
+    script = os.path.join(ROOT, "scripts/tests/test_rows.py")
     yield from ended_well("rows of all sizes", [sys.executable, script, "--library", shared])
 
 

@@ -17,8 +17,8 @@ indented below one for that alone:
   printed-room N   so does standard error
   lanes N N ..     it is run with `--lanes N` before its other words, for each N
 
-Bytes and words have the escapes of the stored cases (scripts/case_text.py), as \\x0a and \\63(pnminvert|). A line that
-begins with `#` says what the next ones show.
+Bytes and words have the escapes of the stored cases (scripts/judge/case_text.py), as \\x0a and \\63(pnminvert|). A line
+that begins with `#` says what the next ones show.
 """
 
 import argparse
@@ -36,8 +36,9 @@ import typing
 
 sys.dont_write_bytecode = True
 
+from support import ROOT
+
 from case_text import text_of
-from places import ROOT
 
 STORED = f"{ROOT}/crates/pnmpipe/commands"
 HELP = "help"

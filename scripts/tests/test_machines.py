@@ -15,9 +15,10 @@ import unittest
 sys.dont_write_bytecode = True
 
 # pylint: disable=wrong-import-position
+from support import GRAY, parser_of, run, run_tests
+
 from recipes import Host
 from test_files import FILES, Runs
-from test_support import GRAY, parser_of, run, run_tests
 
 WANTED = ("parallel", "rsync", "ssh", "ssh-keygen", "sshd")
 LACKING = [name for name in WANTED if not shutil.which(name, path=f"{os.environ['PATH']}:/usr/sbin:/sbin")]

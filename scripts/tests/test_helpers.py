@@ -20,7 +20,7 @@ import unittest
 sys.dont_write_bytecode = True
 
 # pylint: disable=wrong-import-position
-from test_support import COLOR, GRAY, HELPERS, ROOT, SHIMS, Folder, Program, loaded, parser_of, run, run_tests
+from support import COLOR, GRAY, HELPERS, ROOT, SHIMS, Folder, Program, loaded, parser_of, run, run_tests
 
 
 def random_header(numbers):

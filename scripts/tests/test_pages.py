@@ -15,7 +15,7 @@ import sys
 sys.dont_write_bytecode = True
 
 # pylint: disable=wrong-import-position
-from test_support import HELPERS, ROOT, Program, parser_of, run, run_tests
+from support import HELPERS, ROOT, Program, parser_of, run, run_tests
 
 # where an example begins, its status, and the beginning of what each of its files holds
 EXAMPLES = [

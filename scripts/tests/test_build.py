@@ -16,8 +16,9 @@ import types
 import unittest
 import unittest.mock
 
+from support import SCRIPTS
+
 import build
-from places import SCRIPTS
 
 CRATES = """low:
 left: low thiserror
@@ -386,11 +387,11 @@ class Changing(Repository):
             self.assertEqual((status, "right_cases FAILED: line" in printed), (1, True), printed)
 
     def test_near_runs_the_stored_commands(self):
-        self.write("root/scripts/test_commands.py", "import sys; sys.exit(len(sys.argv) != 3)")
+        self.write("root/scripts/tests/test_commands.py", "import sys; sys.exit(len(sys.argv) != 3)")
         status, printed = self.run_script("change.py", "near", "pnmpipe")
         self.assertEqual(status, 0, printed)
         self.assertIn("run -- pnminvert (pnmpipe)", self.notes())
-        self.write("root/scripts/test_commands.py", "import sys; sys.exit(1)")
+        self.write("root/scripts/tests/test_commands.py", "import sys; sys.exit(1)")
         status, printed = self.run_script("change.py", "near", "pnmpipe")
         self.assertEqual((status, "a stored command FAILED" in printed), (1, True), printed)
 
@@ -424,7 +425,7 @@ sys.exit(3 if os.environ.get("FAULT") == "tests" else 0)
 class Gate(Repository):
     def setUp(self):
         super().setUp()
-        self.write("root/scripts/test_library.py", TESTS)
+        self.write("root/scripts/tests/test_library.py", TESTS)
 
     def test_the_library_is_built_over_what_the_gate_has_proved(self):
         status, printed = self.run_script("gate_library.py", "--program", "out/it")

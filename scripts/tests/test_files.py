@@ -19,8 +19,9 @@ import time
 sys.dont_write_bytecode = True
 
 # pylint: disable=wrong-import-position
+from support import COLOR, GRAY, HELPERS, ROOT, Program, parser_of, run, run_tests
+
 from test_commands import stored_commands
-from test_support import COLOR, GRAY, HELPERS, ROOT, Program, parser_of, run, run_tests
 
 LIBRARY = None
 FILES = f"{HELPERS}/pnmpipe-files"

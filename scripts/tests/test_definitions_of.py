@@ -6,6 +6,8 @@ import tempfile
 import unittest
 import unittest.mock
 
+import support  # first, since it finds the others
+
 import definitions_of
 from definitions_of import Name
 

@@ -14,7 +14,7 @@ import unittest
 sys.dont_write_bytecode = True
 
 # pylint: disable=wrong-import-position
-from test_support import HELPERS, SHIMS, Folder, Program, parser_of, run, run_tests
+from support import HELPERS, SHIMS, Folder, Program, parser_of, run, run_tests
 
 import netpbm_words
 import translation

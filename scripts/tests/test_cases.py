@@ -11,6 +11,8 @@ import unittest
 from array import array
 from collections import Counter
 
+import support  # first, since it finds the others
+
 import cases
 import judge_formats
 import judge_tools

@@ -31,9 +31,9 @@ import typing
 sys.dont_write_bytecode = True
 
 # pylint: disable=wrong-import-position
-import wrong_rows
-from test_support import ROOT, program_of
+from support import ROOT, program_of
 
+import wrong_rows
 from row_cases import Group, group_names
 
 # how long a run may take, in seconds, and between two looks whether a piece was read
@@ -181,7 +181,7 @@ def judge(words, names):
             if told:
                 more = f"{len(told) - MOST_TOLD} more differ; " if len(told) > MOST_TOLD else ""
                 by = ["--library", words.library] if words.library else ["--program", words.program]
-                again = ["scripts/test_rows.py", *by, "--only", name, "--keep", "FOLDER"]
+                again = ["scripts/tests/test_rows.py", *by, "--only", name, "--keep", "FOLDER"]
                 print(f"test_rows: {name}: {more}to repeat it: python3 {shlex.join(again)}", flush=True)
             runs += count
             differing += len(told)

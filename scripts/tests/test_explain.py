@@ -17,14 +17,12 @@ import unittest
 
 sys.dont_write_bytecode = True
 
-from places import HELPERS, ROOT
+from support import COLOR, GRAY, HELPERS, ROOT, loaded, run
 
-from judge_formats import SETS
-from chain_text import loaded
 from input_faults import Words, in_words
+from judge_formats import SETS
 from soak import chain_of, stream_of
 from test_commands import stored_commands
-from test_support import COLOR, GRAY, run
 
 EXPLAIN = f"{HELPERS}/pnmpipe-explain"
 OPTIONS = None
