@@ -1,6 +1,9 @@
-"""Scripts of the shell at random that call Netpbm's tools in every construct: what `test_translate.py` translates."""
+"""Scripts of the shell at random that call Netpbm's tools in every construct, and calls of a tool by random words: what
+`test_translate.py` translates."""
 
 import random
+
+from netpbm_words import OLD_NAMES, OPTIONS
 
 FILES = ["in.pgm", "in.ppm", "in.pbm"]
 
@@ -134,6 +137,42 @@ class Writer:
                 "cat <<< 'pnminvert |' | cksum; %s | cksum",
             ]
         ) % source
+
+
+# how many arguments each tool is called with; numbers, more of them small; and values of options
+ARGUMENTS = {"pamcut": (0, 1, 4, 5), "pamdepth": (0, 1, 1, 2), "pamchannel": (0, 1, 3), "pamenlarge": (0, 1, 1, 2)}
+ARGUMENTS |= {"pnmtile": (1, 2, 2, 3)}
+NUMBERS = "0 1 01 009 -1 -0 +1 1x - 255 65535 65536 16777215 16777216 -16777215 -16777216 123456789".split()
+NUMBERS += ["", *map(str, [*range(1, 17)] * 3)]
+VALUES = {"infile": ["in.pgm", "-", "none"], "tupletype": ["RGB", "", "a b", "-1"]}
+VALUES |= {"xform": ["leftright", "topbottom,transpose", "left", "transpose,", ""]}
+# of pnmflip, which has its own rules, and of all tools
+OLD_WAYS = "lr left tb to xy tr r90 rotate9 ccw cw r180 r270 rotate2 r l null".split()
+COMMON = ["quiet", "plain", "version"]
+
+
+def random_option(numbers, tool):
+    """The words of an option, most of which are as they should be."""
+    values, flags = OPTIONS[tool]
+    names = [*values, *flags, *(OLD_WAYS if tool == "pnmflip" else []), numbers.choice(COMMON)]
+    name = numbers.choice(names)
+    mark = numbers.choice(["-", "-", "--"])
+    given = name[: numbers.randint(1, len(name))] if numbers.random() < 0.3 else name
+    value = numbers.choice(VALUES.get(name, NUMBERS))
+    if name not in values:
+        return [mark + given + numbers.choice([""] * 19 + ["=1"])]
+    return numbers.choice([[mark + given, value], [mark + given, value], [f"{mark}{given}={value}"], [mark + given]])
+
+
+def random_call(numbers, tool):
+    """The words of a call of a tool, most of which are as they should be, with a file or without."""
+    name = OLD_NAMES.get(tool, tool)
+    parts = [random_option(numbers, name) for _ in range(numbers.choice([0, 0, 1, 1, 1, 2]))]
+    parts += [[numbers.choice(NUMBERS)] for _ in range(numbers.choice(ARGUMENTS.get(name, [0, 0, 1])))]
+    if numbers.random() < 0.5:
+        numbers.shuffle(parts)
+    parts += numbers.choice([[], [], [["in.pgm"]], [["-"]]])
+    return [tool, *(word for part in parts for word in part)]
 
 
 def random_script(seed, bash):

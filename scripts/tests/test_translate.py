@@ -6,21 +6,25 @@ they are translated. Netpbm's tools run the ones before where they are installed
 """
 
 import os
+import random
 import re
+import shlex
 import shutil
 import sys
-import unittest
 
 sys.dont_write_bytecode = True
 
 # pylint: disable=wrong-import-position
-from support import HELPERS, SHIMS, Folder, Program, parser_of, run, run_tests
+from support import GRAY, HELPERS, SHIMS, Folder, Program, parser_of, run, run_tests
 
 import netpbm_words
 import translation
-from random_scripts import random_script
+from random_scripts import random_call, random_script
 
 COUNT, SEED = 24, 0
+
+# how many calls of each tool by random words, of which more than so many are taken
+CALLS, LEAST = 40, 4
 
 # pipelines, and what they become
 TRANSLATED = [
@@ -175,27 +179,56 @@ class Translate(Folder):
         self.assertEqual([call.count("pnminvert") for call in made.split("pnmpipe")[1:]], [64, 2])
 
 
-class StandIns(unittest.TestCase):
-    """netpbm-shim has the options and the ways of netpbm_words.py. It is a script for sh, since one is started for each
-    call of a tool, and python3 takes longer to start."""
+class StandIns(Folder):
+    """netpbm-shim makes of a tool's words what netpbm_words.py makes of them. It is a script for sh: one is started for
+    each call, and python3 takes longer to start."""
 
     def setUp(self):
-        with open(f"{HELPERS}/netpbm-shim", encoding="utf-8") as file:
-            self.text = file.read()
+        super().setUp()
+        self.write("in.pgm", GRAY)
+        self.write("bin/pnmpipe", b'#!/bin/sh\nprintf %s "$2"\n', 0o755)
+        os.mkdir(self.path("shims"))
+        for name in SHIMS:
+            self.write(f"netpbm/{name}", b"#!/bin/sh\n", 0o755)
+            os.symlink(f"{HELPERS}/netpbm-shim", self.path(f"shims/{name}"))
 
-    def test_ways(self):
-        cases = re.findall(r"^ +([\w |]+)\) stages='(pamflip -\w+)' ;;", self.text, re.M)
-        ways = {name: [stage] for names, stage in cases for name in names.split(" | ")}
-        self.assertEqual(ways, netpbm_words.WAYS)
+    def stood_in(self, words):
+        """The chain that pnmpipe gets of a call, with single blanks and no zeros before numbers; none: it goes to the
+        tool."""
+        path = ":".join([*map(self.path, ("shims", "bin", "netpbm")), "/usr/bin", "/bin"])
+        done = run([self.path(f"shims/{words[0]}"), *words[1:]], cwd=self.folder, env={"PATH": path})
+        self.assertEqual((done.returncode, done.stderr), (0, b""), words)
+        chain = " ".join(done.stdout.decode().split())
+        return re.sub(r"(?<= )-?\d+(?= |$)", lambda it: str(int(it[0])), chain)
 
-    def test_options(self):
-        cases = self.text.split("case $base in\n")[1].split("esac")[0]
+    def translated(self, words):
+        """The chain of the call that words become; none where they stay as they are, or a stand-in hands them on: plain
+        output, `pamdepth 1`, and what isn't there."""
+        call = shlex.split(translation.translated(shlex.join(words))[0])
+        is_there = call[2:3] != ["<"] or os.path.isfile(self.path(call[3]))
+        is_taken = call[0] == "pnmpipe" and call[1] not in ("--plain", "pamdepth 1") and is_there
+        return call[1] if is_taken else ""
+
+    def compare(self, calls):
+        chains = [self.translated(words) for words in calls]
+        self.assertEqual([(words, self.stood_in(words)) for words in calls], [*zip(calls, chains)])
+        return [chain for chain in chains if chain]
+
+    def test_each_option(self):
+        arguments = {"pamchannel": ["1"]}
         for tool, (values, flags) in netpbm_words.OPTIONS.items():
-            known = re.search(rf"\b{tool}\b[\w |]*\)((?:.|\n)*?);;", cases)[1]
-            words = re.findall(r"[a-z]\w*", known.replace("known", ""))
-            self.assertEqual(sorted(words), sorted(values + flags), tool)
-        takes_no_value = re.search(r"^flags='([^']*)'", self.text, re.M)[1].split()
-        self.assertEqual(set(takes_no_value), set().union(*(flags for _, flags in netpbm_words.OPTIONS.values())))
+            given = [[f"-{name}", "in.pgm" if name == "infile" else "3"] for name in values]
+            given += [["-xform", names] for names in ("leftright", "transpose,topbottom") if tool == "pamflip"]
+            calls = [[tool, *words, *arguments.get(tool, [])] for words in [*given, *([f"-{name}"] for name in flags)]]
+            # (-pad and -verbose, -memsize and -pagesize aren't taken, nor is -xform 3)
+            lacking = {"pamcut": 2, "pamflip": 4}.get(tool, 0)
+            self.assertEqual(len(self.compare(calls)), len(calls) - lacking, tool)
+
+    def test_random_words(self):
+        numbers = random.Random(1)
+        for tool in SHIMS:
+            chains = self.compare([random_call(numbers, tool) for _ in range(CALLS)])
+            self.assertGreater(len(chains), LEAST, tool)
 
 
 class RandomScripts(Program):
