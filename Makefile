@@ -182,12 +182,12 @@ bench-files:
 	python3 bench/bench.py files
 
 # the program that make has left beside busy processes on its processors, and Netpbm's tools: a table, for a quiet machine
-bench-waits: built
+bench-waits:
 	python3 bench/bench.py waits
 
 # calls of the C library that make library has left, in C and in Python, beside a process of pnmpipe a file, Pillow, numpy
 # and libvips: a table, for a quiet machine
-bench-library: built
+bench-library:
 	python3 bench/bench.py library
 
 # the program that make has left with 1, 2, 4 and 8 lanes: a table, for a quiet machine

@@ -8,6 +8,7 @@ numbers of lanes; and `sweep`, all tools by kinds of images and by options.
 """
 
 import argparse
+import os
 import sys
 import tempfile
 
@@ -42,6 +43,8 @@ def main():
         measure.add_options(words, table.RUNS)
         table.add_options(words)
     args = parser.parse_args()
+    if not os.access(args.program, os.X_OK):
+        return f"bench: there is no {args.program}: run make first"
     with tempfile.TemporaryDirectory(dir=args.folder) as folder:
         return TABLES[args.table].run(args, folder)
 

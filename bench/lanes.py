@@ -10,8 +10,6 @@ files, in /dev/shm or --folder.
 
 import os
 import statistics
-import subprocess
-import sys
 
 from measure import print_columns, print_line, same_bytes, timed, written
 
@@ -50,16 +48,6 @@ CASES = [
 LANES = [1, 2, 4, 8]
 
 
-def require_lanes(program):
-    """Ends where the program isn't there, or has no option `--lanes`."""
-    try:
-        text = subprocess.run([program, "--help"], stdout=subprocess.PIPE, check=False).stdout
-    except OSError as error:
-        sys.exit(f"{program} can't be run ({error.strerror}): `make` builds it")
-    if b"--lanes" not in text:
-        sys.exit(f"{program} has no option --lanes, so there is nothing to time: build one that has it")
-
-
 def measured(program, chain, source, folder, runs):
     """The wall seconds of the runs by their number of lanes, in turn, or None where a run failed or wrote other
     bytes."""
@@ -93,7 +81,6 @@ def add_options(parser):
 
 
 def run(args, folder):
-    require_lanes(args.program)
     failed = 0
     print_columns(["image", "tool", *(f"{lanes} lane{'s' * (lanes > 1)}" for lanes in LANES), "gain"])
     source, there = os.path.join(folder, "source"), None

@@ -189,8 +189,8 @@ def add_options(parser):
 
 
 def run(args, folder):
-    if not (os.path.exists(args.program) and os.path.exists(os.path.join(args.library, library.SHARED))):
-        return "bench library: run make and make library first"
+    if not os.path.exists(os.path.join(args.library, library.SHARED)):
+        return f"bench library: there is no {library.SHARED} in {args.library}: run make library first"
     if not library.compiler():
         return "bench library: there is no C compiler"
     bench = Bench(folder, args.program, args.library, args.runs)
