@@ -6,7 +6,7 @@ TESTED := pnm_image_tests pnm_flow_tests pnm_surface
 # programs that tell what comes of written cases
 CASES := pnm_format_cases pnm_tools_cases pnm_flow_cases
 
-.PHONY: all bench bench-files bench-library bench-sweep bench-waits built check controls deb dist gate help install install-library
+.PHONY: all bench bench-files bench-library bench-sweep bench-waits built check controls deb dist disturb gate help install install-library
 .PHONY: lanes library lint long-stream model near pass pictures recipes refused scripts soak soak-library test toolchain uninstall wheel
 
 # where `make install` puts things, below DESTDIR
@@ -216,6 +216,10 @@ soak: toolchain
 	cd crates/pnm_soak && rt run -- 4 2 7 raw pnminvert < stdin > /dev/null
 	python3 scripts/soak.py --seconds $(SECONDS)
 
+# random runs of the program that make has left, between slow neighbours, and stopped by signals at times
+disturb: built
+	python3 scripts/disturb.py
+
 toolchain:
 	@$(if $(shell command -v rt),:,$(error the command rt of the Rattle toolchain is not on the PATH))
 
@@ -236,6 +240,7 @@ help:
 	@echo "make controls        tries the edits that keep the code's meaning, which must prove"
 	@echo "make refused         refuses each allocation and each start of a thread in turn, of the program that make has left and of tests"
 	@echo "make soak SECONDS=n  runs random chains over random streams for n seconds, in one thread and over threads"
+	@echo "make disturb         runs random chains by the program that make has left, between slow neighbours and signals that stop it"
 	@echo "make soak-library    runs 100,000 random cases by the C library and by the program, and compares"
 	@echo "make lint            checks what is written: the layout, lengths, what documents, pages and completions claim, and whether scripts can be read"
 	@echo "make scripts         does what make lint does, and runs the tests of the stored commands, of rows of all sizes, the helpers and the pages, with the program that make has left"
