@@ -22,13 +22,13 @@ PROGRAM = "crates/pnm_command_line/src/command_line.rt"
 HELP, HELP_OF_TESTS = "crates/pnmpipe/commands/help", "crates/pnm_flow_tests/src/tests/program/help.rt"
 PAGE, README = "man/pnmpipe.1", "README.md"
 CHAINS, NETPBM, SHIM = "helpers/chain_text.py", "helpers/netpbm_words.py", "helpers/netpbm-shim"
-SLOW = "scripts/slow_tools.py"
+SLOW = "scripts/judge/slow_tools.py"
 
 # files that show or try each tool
 OF_EACH = ["docs/RECIPES.md", "crates/pnm_flow_cases/stdin", "crates/pnm_tools_cases/stdin"]
 OF_EACH += ["crates/pnmpipe/commands/images", "bench/narrow.py", "bench/sweep.py"]
-OF_EACH += [f"scripts/{name}.py" for name in ("disturb", "pictures", "refused", "row_cases", "soak", "soak_library")]
-OF_EACH += [f"scripts/test_{name}.py" for name in ("explain", "helpers", "translate")]
+OF_EACH += [f"scripts/{name}.py" for name in ("disturb", "pictures", "refused", "soak", "soak_library")]
+OF_EACH += [f"scripts/tests/{name}.py" for name in ("row_cases", "test_explain", "test_helpers", "test_translate")]
 
 # at least so many tools one after another are a list of all, by the names of the table or by older ones
 LIST = 6

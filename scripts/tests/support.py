@@ -17,13 +17,13 @@ sys.path.append(os.path.dirname(os.path.dirname(os.path.abspath(__file__))))
 from places import HELPERS, ROOT, SCRIPTS
 
 from chain_text import loaded
+from netpbm_words import OLD_NAMES, OPTIONS
 
 GRAY = b"P5\n2 1\n9\n\x01\x02"
 COLOR = b"P6\n1 1\n9\n\x03\x04\x05"
 
-# the names of the stand-ins for Netpbm's tools
-with open(os.path.join(ROOT, "Makefile"), encoding="utf-8") as makefile:
-    SHIMS = re.search(r"^SHIMS := (.*)$", makefile.read(), re.M)[1].split()
+# the tools that have a stand-in
+SHIMS = [*OPTIONS, *OLD_NAMES]
 
 
 def run(words, given=b"", **others):

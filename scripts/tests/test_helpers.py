@@ -363,6 +363,7 @@ class Install(Program):
         path = {"PATH": f"{bin_folder}:{os.environ['PATH']}"}
         self.assertEqual(run([f"{bin_folder}/pnmpipe", "pnminvert"], GRAY).stdout, GRAY[:-2] + b"\x08\x07")
         self.assertEqual(run([f"{bin_folder}/pnmpipe-translate", "pnminvert"]).stdout, b"pnmpipe 'pnminvert'\n")
+        self.assertCountEqual(os.listdir(self.path("x y/usr/libexec/pnmpipe/netpbm")), SHIMS)
         self.assertEqual(run([self.path("x y/usr/libexec/pnmpipe/netpbm/pamcut")], GRAY, env=path).stdout, GRAY)
         self.assertNotIn(b"@VERSION@", self.read("x y/usr/share/man/man1/pnmpipe.1"))
         for name in ("pnmpipe", "pnmpipe-files"):
