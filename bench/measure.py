@@ -62,11 +62,14 @@ def timed(words, source, target):
     return wall, usage.ru_utime + usage.ru_stime, usage.ru_maxrss / 1024
 
 
+def medians_in_turn(calls, source, runs):
+    """The medians of each call's runs, where the calls, words with a target, take turns; None for one that failed."""
+    rounds = [[timed(words, source, target) for words, target in calls] for _ in range(runs)]
+    return [None if None in results else tuple(map(statistics.median, zip(*results))) for results in zip(*rounds)]
+
+
 def median_of(words, source, target, runs):
-    results = [timed(words, source, target) for _ in range(runs)]
-    if None in results:
-        return None
-    return tuple(statistics.median(column) for column in zip(*results))
+    return medians_in_turn([(words, target)], source, runs)[0]
 
 
 def same_bytes(one, other):

@@ -8,10 +8,9 @@ minute or two.
 """
 
 import os
-import statistics
 import subprocess
 
-from measure import print_columns, print_line, same_bytes, status_of, timed, written
+from measure import medians_in_turn, print_columns, print_line, same_bytes, status_of, written
 
 RUNS = 3
 COLUMNS = ["image", "tool", "pnmpipe", "Netpbm", "over Netpbm"]
@@ -82,14 +81,11 @@ def measured(args, folder, kind, tool, factor):
     path, width, height = sized(folder, form, factor, args.megabytes * 8e6)
     chain = tool.format(high=height, twice=2 * height)
     wanted, made = (os.path.join(folder, name) for name in ("wanted", "made"))
-    ours, peers = [], []
-    for _ in range(args.runs):
-        ours.append(timed([args.program, chain], path, made))
-        peers.append(timed(chain.split(), path, wanted))
-    if None in ours or None in peers:
+    results = medians_in_turn([([args.program, chain], made), (chain.split(), wanted)], path, args.runs)
+    if None in results:
         return None, None, False, (width, height), chain
-    medians = (statistics.median(seconds for _, seconds, _ in results) for results in (ours, peers))
-    return *medians, same(wanted, made, is_leaving_pam), (width, height), chain
+    (_, ours, _), (_, peers, _) = results
+    return ours, peers, same(wanted, made, is_leaving_pam), (width, height), chain
 
 
 def line_of(args, folder, kind, tool, factor):

@@ -10,12 +10,11 @@ import itertools
 import math
 import os
 import random
-import statistics
 import subprocess
 import sys
 import time
 
-from measure import Beside, print_columns, print_line, status_of, timed, written
+from measure import Beside, medians_in_turn, print_columns, print_line, status_of, written
 
 RUNS = 7
 
@@ -87,11 +86,11 @@ def compared(programs, runs, cell, folder):
         height = max(20, SAMPLES // width)
         written(path, b"P5\n%d %d\n255\n" % (width, height), width * height)
     words = ["--ring", str(ring), "--lanes", str(lanes), CHAINS[tools]]
-    pairs = [[timed([*on(processors), program, *words], path, os.devnull) for program in programs] for _ in range(runs)]
-    if any(None in pair for pair in pairs):
+    calls = [([*on(processors), program, *words], os.devnull) for program in programs]
+    results = medians_in_turn(calls, path, runs)
+    if None in results:
         sys.exit(f"{words}: a run failed")
-    seconds = [[statistics.median(pair[at][kind] for pair in pairs) for kind in (0, 1)] for at in (0, 1)]
-    return [max(mine, 0.001) / max(other, 0.001) for mine, other in zip(*seconds)]
+    return [max(mine, 0.001) / max(other, 0.001) for mine, other in zip(*results)][:2]
 
 
 def compare(programs, runs, seconds, folder):
