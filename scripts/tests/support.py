@@ -3,7 +3,6 @@ test's own, the program, images, and how a helper is run and loaded."""
 
 import argparse
 import os
-import re
 import shutil
 import subprocess
 import sys
