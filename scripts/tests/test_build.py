@@ -358,9 +358,13 @@ class Building(Repository):
             self.assertEqual(at_work.stdout, b"")
 
     def wait_for_note(self, text):
+        # (a note that comes between a look and a removal would be lost)
         for _ in range(200):
-            if any(text in line for line in self.notes()):
-                return
+            if os.path.exists(self.path("notes")):
+                with open(self.path("notes"), encoding="utf-8") as file:
+                    if text in file.read():
+                        self.notes()
+                        return
             time.sleep(0.05)
         self.fail(f"there is no note of {text}")
 
