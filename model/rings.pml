@@ -21,7 +21,7 @@
 /* What a place of a ring holds. From SEND on it ends the stream (Ending::Whole, Ending::BrokenOff). */
 #define ROW   1
 #define IEND  2
-#define BLOCK 3 /* rows together: Parcel::Rows */
+#define BLOCK 3 /* rows together: Packet::Rows of several */
 #define WIDE  4 /* a wide row, beside which places stay free */
 #define BEGIN 5 /* lanes.pml: BEGIN + h is the head of an image of h rows */
 #define SEND  14
@@ -118,8 +118,8 @@ inline wake_receiver(r) {
     fi
 }
 
-/* Sender::push, for which there is room. Where `holds`, any message may be held back, however many were: so
- * this stands for every messages_per_wake and every width of rows. */
+/* Sender::send_packet_reserved. Where `holds`, any message may be held back, however many were: so this stands for
+ * every messages_per_wake and every width of rows. */
 inline put(r, m, holds) {
 #ifdef M_WAKE_BEFORE_TAIL
     WAKE(RP(r));
@@ -173,7 +173,7 @@ inline wait_at_sender(r) {
     park(SP(r))
 }
 
-/* Sender::send, with wait_for_room; `ok` is its answer */
+/* Sender::send_packet, with wait_for_room; `ok` is its answer */
 inline send(r, m, holds, ok) {
     STEP {
     do

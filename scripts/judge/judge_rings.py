@@ -160,9 +160,11 @@ def gather(lanes, sent):
         message = lanes[lane].pop(0) if lanes[lane] else None
         if message is None:
             send("Stop", "PeerGone")
-        # rows together are a message out of place
+        # rows together are a message out of place, and one row is one by itself
         if isinstance(message, Together):
-            send("Stop", "Fault(OutOfOrder)")
+            if len(message) > 1:
+                send("Stop", "Fault(OutOfOrder)")
+            [message] = message
         if message == "Stop":
             send("Stop", "Broken")
         return message

@@ -5,9 +5,9 @@ use Rattle.std.proofs.lemmas.List.{same_from_push}
 use Rattle.pnm_image.specs.declared.shape.Shape.{Shape}
 use Rattle.pnm_image.specs.declared.message.Message.{Message}
 use Rattle.pnm_image.specs.declared.message.Message.TheVariants.{Begin, Row, ImageEnd, StreamEnd, Stop}
-use Rattle.pnm_image.specs.declared.parcel.Parcel.{Parcel}
-use Rattle.pnm_image.specs.declared.parcel.Parcel.TheVariants.{Message as One}
-use Rattle.pnm_image.specs.Parcels.{messages_in}
+use Rattle.pnm_image.specs.declared.packet.Packet.{Packet}
+use Rattle.pnm_image.specs.declared.packet.Packet.TheVariants.{ImageEnd as EndsImage}
+use Rattle.pnm_image.specs.Packets.{messages_in}
 use Rattle.pnm_image.specs.declared.place.Place.{Place}
 use Rattle.pnm_image.specs.declared.place.Place.TheVariants.{Between, Inside, After}
 use Rattle.pnm_image.specs.Places.{IsLawfulFrom, place_after, place_of}
@@ -43,7 +43,7 @@ none_kept kept old new After gone none = gone
 
 pub ended : {W : Type 0} (tool_at : W → Tool) (ready_for : W → Shape → List (List ℕ) → Type 0) (due kept : W → List (List ℕ)) (old new : W) (before : Pending)
     → before ≡ RowsAndEnd → due old ≡ [] → tool_at new ≡ tool_at old → kept new ≡ []
-    → IsGiven tool_at ready_for due kept old before new Nothing (Some (One ImageEnd))
+    → IsGiven tool_at ready_for due kept old before new Nothing (Some EndsImage)
 ended tool_at ready_for due kept old new before ending none same gone = record {
   waits = ap (λ (p : Pending). waiting_in p (due old)) ending ∙ ap (λ (rows : List (List ℕ)). map Row rows ++ ImageEnd ∷ []) none;
   told = (ap is_all_given ending, refl, omega arith);
@@ -82,7 +82,7 @@ told_given tool_at ready_for due kept work before after owes told = record {
 
 -- the first of the messages that waited are given
 pub gave : {W : Type 0} (tool_at : W → Tool) (ready_for : W → Shape → List (List ℕ) → Type 0) (due kept : W → List (List ℕ)) (old : Standing W) (new : W)
-    (after : Pending) (fault : Option ToolFault) (p : Parcel) (t : Tool) (l g : List Message)
+    (after : Pending) (fault : Option ToolFault) (p : Packet) (t : Tool) (l g : List Message)
     → IsAt tool_at ready_for due kept old t l g → IsGiven tool_at ready_for due kept old.work old.pending new after (Some p)
     → IsAt tool_at ready_for due kept (standing new old.place after fault) t l (g ++ messages_in p)
 gave tool_at ready_for due kept old new after fault p t l g at gives =
@@ -165,7 +165,7 @@ alone Nothing due [] rest some e none = let no : ⊥ = omega (arith, some) in ab
 alone Nothing due (m ∷ first) rest some e none = absurd cc
 
 pub gave_stop : {W : Type 0} (tool_at : W → Tool) (ready_for : W → Shape → List (List ℕ) → Type 0) (due kept : W → List (List ℕ)) (old : Standing W) (new : W)
-    (after : Pending) (p : Parcel) (t : Tool) (l g : List Message)
+    (after : Pending) (p : Packet) (t : Tool) (l g : List Message)
     → IsAt tool_at ready_for due kept old t l g → IsGiven tool_at ready_for due kept old.work old.pending new after (Some p) → EndsBy BrokenOff l
     → messages_in p ≡ Stop ∷ []
 gave_stop tool_at ready_for due kept old new after p t l g at gives ends =
@@ -177,7 +177,7 @@ gave_stop tool_at ready_for due kept old new after p t l g at gives ends =
 -- ---- whether one waits or none
 
 pub given_by : {W : Type 0} (tool_at : W → Tool) (ready_for : W → Shape → List (List ℕ) → Type 0) (due kept : W → List (List ℕ)) (old : Standing W) (new : W)
-    (after : Pending) (fault : Option ToolFault) (given : Option Parcel)
+    (after : Pending) (fault : Option ToolFault) (given : Option Packet)
     → IsGiven tool_at ready_for due kept old.work old.pending new after given
     → IfSome given (λ p. (t : Tool) (l g : List Message) → IsAt tool_at ready_for due kept old t l g
     → IsAt tool_at ready_for due kept (standing new old.place after fault) t l (g ++ messages_in p))
@@ -185,7 +185,7 @@ given_by tool_at ready_for due kept old new after fault None gives = tt
 given_by tool_at ready_for due kept old new after fault (Some p) gives = λ t l g at. gave tool_at ready_for due kept old new after fault p t l g at gives
 
 pub stop_alone_by : {W : Type 0} (tool_at : W → Tool) (ready_for : W → Shape → List (List ℕ) → Type 0) (due kept : W → List (List ℕ)) (old : Standing W)
-    (new : W) (after : Pending) (given : Option Parcel)
+    (new : W) (after : Pending) (given : Option Packet)
     → IsGiven tool_at ready_for due kept old.work old.pending new after given
     → IfSome given (λ p. (t : Tool) (l g : List Message) → IsAt tool_at ready_for due kept old t l g → EndsBy BrokenOff l → messages_in p ≡ Stop ∷ [])
 stop_alone_by tool_at ready_for due kept old new after None gives = tt
@@ -193,7 +193,7 @@ stop_alone_by tool_at ready_for due kept old new after (Some p) gives = λ t l g
     ends
 
 pub full_by : {W : Type 0} (tool_at : W → Tool) (ready_for : W → Shape → List (List ℕ) → Type 0) (due kept : W → List (List ℕ)) (old : Standing W) (new : W)
-    (after : Pending) (fault : Option ToolFault) (given : Option Parcel)
+    (after : Pending) (fault : Option ToolFault) (given : Option Packet)
     → IsGiven tool_at ready_for due kept old.work old.pending new after given
     → IfNone given
     ((is_all_given after ≡ true)

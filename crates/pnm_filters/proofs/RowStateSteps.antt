@@ -2,8 +2,8 @@
 use Rattle.std.proofs.Common.{◌≡◌, ℕ, Bool, true, List, [], ◌∷◌, ◌++◌, Option, Some, None, Result, Ok, Err, OnOk, IfOk, IfSome, IfNone}
 use Rattle.std.specs.Prelude.{OnErr}
 use Rattle.pnm_image.specs.declared.message.Message.{Message}
-use Rattle.pnm_image.specs.declared.parcel.Parcel.{Parcel}
-use Rattle.pnm_image.specs.Parcels.{messages_in}
+use Rattle.pnm_image.specs.declared.packet.Packet.{Packet}
+use Rattle.pnm_image.specs.Packets.{messages_in}
 use Rattle.pnm_tools.specs.declared.fault.ToolFault.{ToolFault}
 use Rattle.pnm_filters.specs.declared.row_state.RowState.{RowState}
 use Rattle.pnm_tools.specs.declared.tool.Tool.{Tool}
@@ -26,7 +26,7 @@ lane_takes (Ok done) old new m takes = λ t l g at. record { state = takes t l g
 lane_takes (Err fault) old new m takes = takes
 
 -- a message was given, or rows together
-pub lane_gives : (r : Result (Option Parcel) ToolFault) (old new : Standing AnyTool)
+pub lane_gives : (r : Result (Option Packet) ToolFault) (old new : Standing AnyTool)
     → IfOk r (λ o. IfSome o (λ p. (t : Tool) (l g : List Message) → IsToolAt old t l g → IsToolAt new t l (g ++ messages_in p)))
     → IfOk r (λ o. IfSome o (λ p. (t : Tool) (l g : List Message) → IsRowWiseAt (lane_of old) t l g → IsRowWiseAt (lane_of new) t l (g ++ messages_in p)))
 lane_gives (Ok (Some p)) old new gives = λ t l g at. record { state = gives t l g at.state; row_wise = at.row_wise }
@@ -34,7 +34,7 @@ lane_gives (Ok None) old new gives = gives
 lane_gives (Err fault) old new gives = gives
 
 -- where the end of what was accepted is Stop, Stop was given
-pub lane_stops : (r : Result (Option Parcel) ToolFault) (old : Standing AnyTool) (P : Parcel → Type 0)
+pub lane_stops : (r : Result (Option Packet) ToolFault) (old : Standing AnyTool) (P : Packet → Type 0)
     → IfOk r (λ o. IfSome o (λ p. (t : Tool) (l g : List Message) → IsToolAt old t l g → EndsBy BrokenOff l → P p))
     → IfOk r (λ o. IfSome o (λ p. (t : Tool) (l g : List Message) → IsRowWiseAt (lane_of old) t l g → EndsBy BrokenOff l → P p))
 lane_stops (Ok (Some p)) old P stops = λ t l g at ends. stops t l g at.state ends
@@ -49,7 +49,7 @@ pub lane_told : (r : Bool) (old new : Standing AnyTool)
 lane_told r old new full = λ e. ((full e).0, λ t l g at. let both = (full e).1 t l g at.state in (record { state = both.0; row_wise = at.row_wise }, both.1))
 
 -- all was given
-pub lane_is_full : (r : Result (Option Parcel) ToolFault) (old new : Standing AnyTool)
+pub lane_is_full : (r : Result (Option Packet) ToolFault) (old new : Standing AnyTool)
     → IfOk r (λ o.
     IfNone o ((is_all_given new.pending ≡ true) × ((t : Tool) (l g : List Message) → IsToolAt old t l g → IsToolAt new t l g × AnswersInFull t l g)))
     → IfOk r (λ o.

@@ -2,7 +2,7 @@
 use Rattle.std.proofs.Common.{◌≡◌, ◌⊎◌, inl, inr, ℕ, Bool, true, List, [], ◌∷◌, ◌++◌, refl, sym, ap, subst, ◌∙◌, append-nil, Option, Some, None, Err}
 use Rattle.pnm_image.specs.declared.shape.Shape.{Shape}
 use Rattle.pnm_image.specs.declared.message.Message.{Message}
-use Rattle.pnm_image.specs.declared.parcel.Parcel.{Parcel}
+use Rattle.pnm_image.specs.declared.packet.Packet.{Packet}
 use Rattle.pnm_image.specs.declared.message.Message.TheVariants.{Begin, Row, ImageEnd, StreamEnd, Stop}
 use Rattle.pnm_image.specs.declared.place.Place.{Place}
 use Rattle.pnm_image.specs.declared.place.Place.TheVariants.{Between}
@@ -82,7 +82,7 @@ sound_fed tool_at ready_for due kept old new from to m before after fault none i
 
 -- and as one is given
 pub sound_given : {W : Type 0} (tool_at : W → Tool) (ready_for : W → Shape → List (List ℕ) → Type 0) (due kept : W → List (List ℕ)) (old new : W)
-    (place : Place) (given : Option Parcel) (before after : Pending) (fault : Option ToolFault) → fault ≡ None
+    (place : Place) (given : Option Packet) (before after : Pending) (fault : Option ToolFault) → fault ≡ None
     → IsStanding ready_for kept old place before fault
     → IsGiven tool_at ready_for due kept old before new after given → IsStanding ready_for kept new place after fault
 sound_given tool_at ready_for due kept old new place given before after fault none is gave =

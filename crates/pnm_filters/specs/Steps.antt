@@ -7,8 +7,8 @@ use Rattle.pnm_image.specs.declared.place.Place.{Place}
 use Rattle.pnm_image.specs.declared.place.Place.TheVariants.{Inside}
 use Rattle.pnm_image.specs.Places.{Accepts, IsLawfulFrom, place_after, place_of}
 use Rattle.pnm_image.specs.Rows.{row_messages}
-use Rattle.pnm_image.specs.Parcels.{messages_in}
-use Rattle.pnm_image.specs.declared.parcel.Parcel.{Parcel}
+use Rattle.pnm_image.specs.Packets.{messages_in}
+use Rattle.pnm_image.specs.declared.packet.Packet.{Packet}
 use Rattle.pnm_tools.specs.declared.fault.ToolFault.{ToolFault}
 use Rattle.pnm_tools.specs.declared.fault.ToolFault.TheVariants.{OutOfOrder, Memory}
 use Rattle.pnm_filters.specs.Pendings.{Pending, AllGiven, Waiting, Rows, RowsAndEnd, Nothing}
@@ -67,19 +67,19 @@ pub record AreTakenRows {W : Type 0} (tool_at : W → Tool) (ready_for : W → S
 
 -- ---- a message is given
 
-abbrev pub message_list : Option Parcel → List Message
+abbrev pub message_list : Option Packet → List Message
 message_list None = []
 message_list (Some p) = messages_in p
 
 -- where none is given, that is told; else some messages are
-abbrev pub IsTold : Option Parcel → Pending → Pending → Type 0
+abbrev pub IsTold : Option Packet → Pending → Pending → Type 0
 IsTold None old new = new ≡ AllGiven
 IsTold (Some p) old new = (is_all_given old ≡ false) × (is_all_given new ≡ false) × (1 ≤ length (messages_in p))
 
 -- the first of the messages that wait, or rows among them, are given, if some do, and the others wait
 pub record IsGiven {W : Type 0} (tool_at : W → Tool) (ready_for : W → Shape → List (List ℕ) → Type 0)
     (due kept : W → List (List ℕ)) (old : W) (before : Pending) (new : W) (after : Pending)
-    (given : Option Parcel) : Type 0 where
+    (given : Option Packet) : Type 0 where
   pub waits : waiting_in before (due old) ≡ message_list given ++ waiting_in after (due new)
   pub told : IsTold given before after
   pub tool : tool_at new ≡ tool_at old
@@ -96,7 +96,7 @@ GivesRows RowsAndEnd = Unit {0}
 GivesRows Nothing = ⊥
 
 abbrev pub Gave : {W : Type 0} → (W → Tool) → (W → Shape → List (List ℕ) → Type 0) → (W → List (List ℕ))
-    → (W → List (List ℕ)) → W → Pending → W → Pending → Result (Option Parcel) ToolFault → Type 0
+    → (W → List (List ℕ)) → W → Pending → W → Pending → Result (Option Packet) ToolFault → Type 0
 Gave tool_at ready_for due kept old before new after (Ok given) =
     IsGiven tool_at ready_for due kept old before new after given
 Gave tool_at ready_for due kept old before new after (Err fault) = (fault ≡ Memory) × GivesRows before

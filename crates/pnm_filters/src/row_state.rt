@@ -10,7 +10,7 @@ ghost use Rattle.pnm_filters.specs.States.{is_all_given, waiting_in, due_of};
 ghost use Rattle.pnm_tools.specs.Tools.{IsLawfulTool, is_row_wise};
 
 use crate::tool_state::{ToolState, start_tool};
-use pnm_image::{Message, Parcel, Rows};
+use pnm_image::{Message, Packet, Rows};
 use pnm_tools::{Filter, FusedFilter, Tool, ToolFault};
 use std::alloc::Global;
 
@@ -42,7 +42,7 @@ impl Filter for RowState {
         self.state.feed(message)
     }
 
-    fn next(&mut self) -> Result<Option<Parcel>, ToolFault> {
+    fn next(&mut self) -> Result<Option<Packet>, ToolFault> {
         self.state.next()
     }
 

@@ -10,7 +10,7 @@ ghost use Rattle.pnm_filters.specs.States.{waiting_in, is_all_given, IsReadyFor}
 ghost use Rattle.pnm_tools.specs.Tools.{IsLawfulTool};
 ghost use Rattle.pnm_filters.specs.Steps.{Answered, AreTakenRows, Gave};
 
-use pnm_image::{Message, Parcel, Place, Rows};
+use pnm_image::{Message, Packet, Place, Rows};
 use pnm_tools::{Filter, ImageTool, ToolFault};
 use std::alloc::Global;
 use std::marker::Model;
@@ -92,7 +92,7 @@ impl<T: ImageTool> Filter for State<T> {
     }
 
     #[inline(always)]
-    fn next(&mut self) -> Result<Option<Parcel>, ToolFault> {
+    fn next(&mut self) -> Result<Option<Packet>, ToolFault> {
         if let Some(fault) = self.fault {
             return Err(fault);
         }
@@ -244,7 +244,7 @@ fn give<T: ImageTool>(
     work: &mut T,
     owed: &mut Owed,
     waiting: &mut Option<Message>,
-) -> Result<Option<Parcel>, ToolFault>
+) -> Result<Option<Packet>, ToolFault>
     ensures { Gave T.tool T.ready T.due T.kept work.old (pending_of owed.old waiting.old) work.new
         (pending_of owed.new waiting.new) result }
 {
@@ -255,21 +255,27 @@ fn give<T: ImageTool>(
             Ok(None)
         }
         Owed::Rest => match work.give(alloc)? {
-            Some(rows) => Ok(Some(Parcel::of_rows(rows))),
+            Some(rows) => {
+                prove!(rows.count() > 0);
+                Ok(Some(Packet::Rows(rows)))
+            }
             None => {
                 *owed = Owed::Told;
                 Ok(None)
             }
         },
         Owed::RestAndEnd => match work.give(alloc)? {
-            Some(rows) => Ok(Some(Parcel::of_rows(rows))),
+            Some(rows) => {
+                prove!(rows.count() > 0);
+                Ok(Some(Packet::Rows(rows)))
+            }
             None => {
                 work.release(alloc);
                 *owed = Owed::Untold;
-                Ok(Some(Parcel::Message(Message::ImageEnd)))
+                Ok(Some(Packet::ImageEnd))
             }
         },
-        Owed::One => Ok(give_one(owed, waiting).map(Parcel::Message)),
+        Owed::One => Ok(give_one(owed, waiting).map(Packet::from)),
     }
 }
 

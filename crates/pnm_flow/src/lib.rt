@@ -11,7 +11,7 @@ mod tool_run;
 
 pub use chain::{ChainDone, Link, run_chain};
 pub use lanes::run_lanes;
-pub use pnm_image::{BytesIn, BytesOut, Form, Message, Parcel, Rows};
+pub use pnm_image::{BytesIn, BytesOut, Form, Message, Packet, Rows};
 pub use pnm_lanes::{DealDone, GatherDone, MAX_LANES, deal, gather};
 pub use pnm_read::InputFault;
 pub use pnm_serial::{RunFault, Summary};

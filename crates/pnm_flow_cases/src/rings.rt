@@ -6,12 +6,12 @@ ghost use Rattle.pnm_tools.specs.Chains.{IsChain};
 
 use pnm_chain::parse_chain;
 use pnm_flow::{
-    MAX_LANES, OpenGate, Parcel, Receiver, Sender, StageEnd, deal, gather, new_ring, run_chain,
+    MAX_LANES, OpenGate, Packet, Receiver, Sender, StageEnd, deal, gather, new_ring, run_chain,
     run_stage,
 };
 use pnm_lanes::dealt_height;
 use pnm_test_support::{
-    Handed, Unmade, cut_at, cut_number, cut_word, handed_of, number_of, tell_message, tell_rows,
+    Handed, Unmade, cut_at, cut_number, cut_word, handed_of, number_of, tell_packet,
 };
 use pnm_tools::Tool;
 use std::alloc::{AllocError, Global};
@@ -41,7 +41,7 @@ fn holding<R: Wait>(
         }
         let is_sent = match handed {
             Handed::Message(message) => sender.send(rt, message),
-            Handed::Rows(rows) => sender.send_rows(rt, rows),
+            Handed::Rows(rows) => sender.send_packet(rt, Packet::Rows(rows)),
         };
         if !is_sent {
             return Err(Unmade);
@@ -80,18 +80,10 @@ fn tell_ring(
     }
     for _ in 0..CAPACITY {
         if input.has_message() {
-            tell_parcel(alloc, told, &input.receive_known())?;
+            tell_packet(alloc, told, input.receive_known())?;
         }
     }
     Ok(())
-}
-
-/// Adds a message, or rows that came together.
-fn tell_parcel(alloc: Global, told: &mut String, parcel: &Parcel) -> Result<(), AllocError> {
-    match parcel {
-        Parcel::Message(message) => tell_message(told, message),
-        Parcel::Rows(rows) => tell_rows(alloc, told, rows),
-    }
 }
 
 /// Adds how a thread at rings has ended.

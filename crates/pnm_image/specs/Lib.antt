@@ -7,7 +7,7 @@ pub mod SampleWidths
 pub mod Messages
 pub mod Places
 pub mod Rows
-pub mod Parcels
+pub mod Packets
 pub mod Images
 pub mod Completion
 pub mod HeldRows

@@ -128,9 +128,9 @@ impl Rows {
     #[inline(always)]
     pub fn into_one(self) -> Result<Samples, Rows>
         ensures one { IfOk result (λ row. self ≡ row ∷ []) }
-        ensures several { IfErr result (λ same. same ≡ self) }
+        ensures several { IfErr result (λ same. (same ≡ self) × (2 ≤ length self)) }
     {
-        if self.count == 1 {
+        if self.count() == 1 {
             Ok(self.into_first())
         } else {
             Err(self)

@@ -3,7 +3,7 @@
 ghost use Rattle.std.specs.Prelude.{◌≡◌, ◌⊎◌, ◌<◌, ◌≤◌, ◌∷◌, [], length, IfSome, IsTrue, IsFalse};
 ghost use Rattle.pnm_image.specs.declared.message.Ending.TheVariants.{More, Whole, BrokenOff};
 ghost use Rattle.pnm_image.specs.Rows.{row_messages};
-ghost use Rattle.pnm_image.specs.Parcels.{messages_in};
+ghost use Rattle.pnm_image.specs.Packets.{messages_in};
 ghost use Rattle.pnm_stages.specs.Rings.{sent, received, known_items, SameReceiver};
 ghost use Rattle.pnm_image.specs.Places.{Accepts};
 ghost use Rattle.pnm_tools.specs.declared.fault.ToolFault.TheVariants.{OutOfOrder};
@@ -15,7 +15,7 @@ ghost use Rattle.pnm_lanes.specs.DealParts.{IsRow, IsSameEnd, part_at, row_part,
 ghost use Rattle.pnm_lanes.specs.DealParts.{HasDealtMessages, HasBrokenOffDealing};
 ghost use Rattle.pnm_lanes.specs.declared.lane.TheConstants.{MAX_LANES};
 
-use pnm_image::{Ending, Message, Parcel, Place, Rows, Samples};
+use pnm_image::{Ending, Message, Packet, Place, Rows, Samples};
 use pnm_stages::{Receiver, Sender, StageEnd};
 use pnm_tools::ToolFault;
 use std::alloc::Global;
@@ -73,12 +73,12 @@ fn deal_all<R: Wait>(
     hold_back_each(outputs);
     for _ in rt.forever() {
         wake_before_input(input, outputs);
-        let Some(parcel) = input.receive(rt) else {
+        let Some(packet) = input.receive(rt) else {
             let end = StageEnd::PeerGone;
             return break_off(rt, end, Ending::More, input, outputs);
         };
-        let ending = parcel.ending();
-        if let Some(end) = deal_parcel(rt, alloc, &mut place, parcel, outputs) {
+        let ending = packet.ending();
+        if let Some(end) = deal_packet(rt, alloc, &mut place, packet, outputs) {
             if is_end_dealt(end, ending) {
                 return StageEnd::PeerGone;
             }
@@ -93,7 +93,7 @@ fn deal_all<R: Wait>(
     unreachable!()
 }
 
-/// Where the dealing ends so at a parcel with this ending: whether the end of the stream, or Stop, was dealt to each
+/// Where the dealing ends so at a packet with this ending: whether the end of the stream, or Stop, was dealt to each
 /// lane whose other end wasn't gone.
 fn is_end_dealt(end: StageEnd, ending: Ending) -> bool
     ensures yes { IsTrue result → (ending ≡ Whole) ⊎ (ending ≡ BrokenOff) }
@@ -107,19 +107,19 @@ fn is_end_dealt(end: StageEnd, ending: Ending) -> bool
 
 /// Deals a message, or rows that came together, and goes on to the place after them. Where not all can be dealt, some
 /// may have been, and it answers how the dealing ends.
-fn deal_parcel<R: Wait>(
+fn deal_packet<R: Wait>(
     rt: &R,
     alloc: Global,
     place: &mut Place,
-    parcel: Parcel,
+    packet: Packet,
     outputs: &mut [Sender],
 ) -> Option<StageEnd>
     requires { IsLaneCount (length outputs.old) }
-    ensures { HasDealtMessages place.old place.new (messages_in parcel) result outputs.old outputs.new }
+    ensures { HasDealtMessages place.old place.new (messages_in packet) result outputs.old outputs.new }
 {
-    match parcel {
-        Parcel::Message(message) => deal_message(rt, place, message, outputs),
-        Parcel::Rows(rows) => deal_rows(rt, alloc, place, &rows, outputs),
+    match packet.into_message() {
+        Ok(message) => deal_message(rt, place, message, outputs),
+        Err(rows) => deal_rows(rt, alloc, place, &rows, outputs),
     }
 }
 

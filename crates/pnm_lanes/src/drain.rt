@@ -3,12 +3,12 @@
 
 ghost use Rattle.std.specs.Prelude.{◌≡◌, ◌<◌, ◌≤◌, length, IfSome};
 ghost use Rattle.pnm_stages.specs.Rings.{received, known_items, SameReceiver};
-ghost use Rattle.pnm_image.specs.Parcels.{ending_of_parcel};
+ghost use Rattle.pnm_image.specs.Packets.{ending_of_packet};
 ghost use Rattle.pnm_lanes.specs.Gathers.{at_lane, AreSameInputs};
 ghost use Rattle.pnm_lanes.specs.GatherParts.{HasDrainedOne, CarriesOn, HasDrainedAll, AreDone, state_by};
 
 use crate::lane::LaneState;
-use pnm_image::{Ending, Parcel};
+use pnm_image::{Ending, Packet};
 use pnm_stages::{Receiver, Sender};
 use std::sync::Wait;
 
@@ -93,10 +93,10 @@ fn drain_one(input: &mut Receiver) -> Option<LaneState>
 }
 
 /// The state of a lane after what a place of its ring held.
-fn state_after(parcel: &Parcel) -> LaneState
-    ensures { result ≡ state_by (ending_of_parcel parcel.now) }
+fn state_after(packet: &Packet) -> LaneState
+    ensures { result ≡ state_by (ending_of_packet packet.now) }
 {
-    match parcel.ending() {
+    match packet.ending() {
         Ending::More => LaneState::Open,
         Ending::Whole | Ending::BrokenOff => LaneState::Ended,
     }

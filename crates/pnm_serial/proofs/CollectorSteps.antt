@@ -10,12 +10,12 @@ use Rattle.pnm_image.specs.declared.message.Ending.TheVariants.{More, Whole, Bro
 use Rattle.pnm_tools.proofs.SoundLaws.{IsUnbroken, unbroken_keeps_all}
 use Rattle.pnm_image.specs.Rows.{row_messages}
 use Rattle.pnm_tools.proofs.InFullLaws.{ends_after}
-use Rattle.pnm_image.specs.declared.parcel.Parcel.{Parcel}
+use Rattle.pnm_image.specs.declared.packet.Packet.{Packet}
 use Rattle.pnm_serial.specs.declared.collector.Collector.{Collector}
 use Rattle.pnm_serial.specs.declared.downstream.Downstream.{Downstream}
 use Rattle.pnm_serial.specs.Downstreams.{HasTaken}
 use Rattle.pnm_serial.specs.Collectors.{EndedBy, HasCollected, IsCollecting}
-use Rattle.pnm_stages.proofs.ParcelLaws.{rows_end_nothing}
+use Rattle.pnm_stages.proofs.PacketLaws.{rows_end_nothing}
 use Rattle.pnm_stages.proofs.RingSteps.{ends_as, ends_nothing}
 use Rattle.pnm_stages.proofs.PrefixLaws.{stop_is_cut}
 
@@ -70,11 +70,11 @@ still_all old new left now sent some all added first =
     ap (λ (x : List Message). x ++ now) added ∙ append_assoc old some now ∙ ap (λ (x : List Message). old ++ x) (sym first) ∙ all
 
 -- what is seen first comes first
-abbrev first_or : Parcel → List Parcel → Parcel
+abbrev first_or : Packet → List Packet → Packet
 first_or m [] = m
 first_or m (n ∷ l) = n
 
-pub first_is : (m n : Parcel) (k l : List Parcel) → m ∷ k ≡ n ∷ l → m ≡ n
+pub first_is : (m n : Packet) (k l : List Packet) → m ∷ k ≡ n ∷ l → m ≡ n
 first_is m n k l same = ap (first_or m) same
 
 -- ---- rows that came together

@@ -1,7 +1,7 @@
 //! What stands behind the tools of a run: the ring that their results come from, and what is written of them.
 
 ghost use Rattle.std.specs.Prelude.{◌≡◌, ◌⊎◌, [], ◌∷◌, ◌++◌, List, true, false};
-ghost use Rattle.pnm_image.specs.Parcels.{messages_in};
+ghost use Rattle.pnm_image.specs.Packets.{messages_in};
 ghost use Rattle.pnm_stages.specs.Rings.{received, sent, known_items, IsPair, SameSender, SameReceiver};
 ghost use Rattle.pnm_image.specs.declared.format.Form.{Form as FormValue};
 ghost use Rattle.pnm_image.specs.declared.message.Message.{Message as MessageValue};
@@ -10,7 +10,7 @@ ghost use Rattle.pnm_serial.specs.Downstreams.{output_of};
 
 use crate::downstream::Downstream;
 use crate::summary::count_image;
-use pnm_image::{BytesOut, Ending, Form, Message, Parcel, Rows};
+use pnm_image::{BytesOut, Ending, Form, Message, Packet};
 use pnm_read::SpareRows;
 use pnm_stages::{Receiver, Sender};
 use pnm_write::WriteBuffer;
@@ -87,11 +87,15 @@ impl<W: BytesOut + Drop> Collector<W> {
         ensures same_device { W.same (output_of self.old.downstream) (output_of self.new.downstream) }
     {
         while !self.has_ended && self.input.has_seen_message() {
-            // It is written out of the ring, and moved once it may go.
-            let parcel = self.input.peek_known();
-            count_image(&mut self.images, parcel.ends_image());
-            put(&mut self.downstream, &mut self.has_ended, parcel);
-            let_go(self.input.receive_known(), spares);
+            if let Packet::Rows(rows) = self.input.peek_known() {
+                // They are written out of the ring, and moved once they may go.
+                self.downstream.put_rows(rows);
+                let_go(self.input.receive_known(), spares);
+                continue;
+            }
+            let packet = self.input.receive_known();
+            count_image(&mut self.images, packet.ends_image());
+            put(&mut self.downstream, &mut self.has_ended, packet);
         }
     }
 
@@ -127,9 +131,11 @@ impl<W: BytesOut + Drop> Collector<W> {
     {
         self.input.look_beside(sender);
         while !self.has_ended && self.input.has_seen_message() {
-            let parcel = self.input.receive_known();
-            put(&mut self.downstream, &mut self.has_ended, &parcel);
-            drop(parcel);
+            put(
+                &mut self.downstream,
+                &mut self.has_ended,
+                self.input.receive_known(),
+            );
         }
     }
 
@@ -141,18 +147,18 @@ impl<W: BytesOut + Drop> Collector<W> {
     }
 }
 
-/// Writes the message or the rows, unless it is Stop, and sees whether it ends the stream.
+/// Writes the packet, unless it is Stop, and sees whether it ends the stream.
 #[inline(always)]
-fn put<W: BytesOut + Drop>(downstream: &mut Downstream<W>, has_ended: &mut bool, parcel: &Parcel)
+fn put<W: BytesOut + Drop>(downstream: &mut Downstream<W>, has_ended: &mut bool, packet: Packet)
     requires going { has_ended.old ≡ false }
     ensures put { (form : FormValue) (start : W) (l : List MessageValue)
         → HasCollected W.held W.failures form start l has_ended.old downstream.old
-        → HasCollected W.held W.failures form start (l ++ messages_in parcel.now) has_ended.new downstream.new }
+        → HasCollected W.held W.failures form start (l ++ messages_in packet) has_ended.new downstream.new }
     ensures same_device { W.same (output_of downstream.old) (output_of downstream.new) }
 {
-    match parcel {
-        Parcel::Message(message) => put_message(downstream, has_ended, message),
-        Parcel::Rows(rows) => downstream.put_rows(rows),
+    match packet.into_message() {
+        Ok(message) => put_message(downstream, has_ended, &message),
+        Err(rows) => downstream.put_rows(&rows),
     }
 }
 
@@ -179,17 +185,9 @@ fn put_message<W: BytesOut + Drop>(
     }
 }
 
-/// Lets the message or the rows go; a row is then a spare one, and so are several together.
-fn let_go(parcel: Parcel, spares: &mut SpareRows) {
-    match parcel {
-        Parcel::Message(Message::Row(row)) => spares.keep(row),
-        Parcel::Rows(rows) => let_rows_go(rows, spares),
-        other => drop(other),
+/// Lets the packet go; rows are then a spare row.
+fn let_go(packet: Packet, spares: &mut SpareRows) {
+    if let Packet::Rows(rows) = packet {
+        spares.keep_rows(rows);
     }
-}
-
-/// Lets the rows go: they are a spare row then. It stands apart, since a message alone is let go most often.
-#[inline(never)]
-fn let_rows_go(rows: Rows, spares: &mut SpareRows) {
-    spares.keep_rows(rows);
 }

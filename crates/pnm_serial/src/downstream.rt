@@ -5,13 +5,13 @@ ghost use Rattle.std.specs.Result.{is_err};
 ghost use Rattle.std.specs.Io.KnownBytes.{Keeps};
 ghost use Rattle.pnm_image.specs.declared.format.Form.{Form as FormValue};
 ghost use Rattle.pnm_image.specs.declared.message.Message.{Message as MessageValue};
-ghost use Rattle.pnm_image.specs.Parcels.{messages_in};
+ghost use Rattle.pnm_image.specs.Packets.{messages_in};
 ghost use Rattle.pnm_image.specs.Rows.{row_messages};
 ghost use Rattle.pnm_write.specs.declared.fault.SinkFault.{SinkFault as Fault};
 ghost use Rattle.pnm_write.specs.Sinks.{has_failed};
 
 use crate::summary::Summary;
-use pnm_image::{BytesOut, Form, Message, Parcel, Rows};
+use pnm_image::{BytesOut, Form, Message, Packet, Rows};
 use pnm_write::{Sink, SinkFault, WriteBuffer};
 
 /// The sink, and what came of it so far.
@@ -48,16 +48,16 @@ impl<W: BytesOut + Drop> Downstream<W> {
         }
     }
 
-    /// Writes the message or the rows, unless there was a fault of the output before, as `put` and `put_rows` do.
-    pub fn put_parcel(&mut self, parcel: &Parcel)
+    /// Writes the packet, unless there was a fault of the output before, as `put` and `put_rows` do.
+    pub fn put_packet(&mut self, packet: Packet)
         ensures taken { (form : FormValue) (start : W) (messages : List MessageValue)
             → HasTaken W.held W.failures form start messages self.old
-            → HasTaken W.held W.failures form start (messages ++ messages_in parcel.now) self.new }
+            → HasTaken W.held W.failures form start (messages ++ messages_in packet) self.new }
         ensures same_device { W.same (output_of self.old) (output_of self.new) }
     {
-        match parcel {
-            Parcel::Message(message) => self.put(message),
-            Parcel::Rows(rows) => self.put_rows(rows),
+        match packet.into_message() {
+            Ok(message) => self.put(&message),
+            Err(rows) => self.put_rows(&rows),
         }
     }
 

@@ -7,7 +7,7 @@ ghost use Rattle.pnm_read.specs.Sources.{reader_of, has_ended, stopped_by, IsFre
 ghost use Rattle.pnm_read.specs.declared.fault.InputFault.{InputFault as Fault};
 
 use crate::summary::count_image;
-use pnm_image::{BytesIn, Message};
+use pnm_image::{BytesIn, Message, Packet};
 use pnm_read::{InputFault, Source, SpareRows};
 use pnm_stages::Sender;
 use std::sync::Wait;
@@ -171,7 +171,7 @@ impl<R: BytesIn + Drop> Feeder<R> {
         ensures none { IsFalse result → self.new ≡ self.old }
     {
         match self.source.next_rows(spares) {
-            Ok(Some(rows)) => self.output.send_rows_reserved(rows),
+            Ok(Some(rows)) => self.output.send_packet_reserved(Packet::Rows(rows)),
             Ok(None) => return false,
             Err(refusal) => {
                 self.input = Some(Err(refusal));

@@ -1,36 +1,35 @@
-//! What is handed over at once through the tools of a chain, in one thread.
+//! Packets, passed through the tools of a chain in one thread.
 
 ghost use Rattle.std.specs.Prelude.{◌∷◌, [], ◌<◌, length};
-ghost use Rattle.pnm_image.specs.Parcels.{messages_in};
+ghost use Rattle.pnm_image.specs.Packets.{messages_in};
 ghost use Rattle.pnm_image.specs.Rows.{row_messages};
 ghost use Rattle.pnm_serial.specs.Downstreams.{output_of};
 ghost use Rattle.pnm_serial.specs.SerialChains.{FeedsThrough, FiltersAt, FiltersBusy, GivesThrough};
 
 use crate::downstream::Downstream;
-use pnm_image::{BytesOut, Message, Parcel, Rows};
+use pnm_image::{BytesOut, Message, Packet, Rows};
 use pnm_tools::{Filter, FusedFilter};
 use std::alloc::Global;
 
-/// Passes a message, or rows together, through the filters, and writes what the last of them gives.
+/// Passes a packet through the filters, and writes what the last of them gives.
 #[cycle(through)]
 pub fn feed_through<F: Filter + Drop, W: BytesOut + Drop>(
     alloc: Global,
     stages: &mut [FusedFilter<F>],
-    parcel: Parcel,
+    packet: Packet,
     downstream: &mut Downstream<W>,
 )
     ensures fed { FeedsThrough F.at F.all_given F.stopped W.held W.failures
-        stages.old (messages_in parcel) stages.new downstream.old downstream.new }
+        stages.old (messages_in packet) stages.new downstream.old downstream.new }
     ensures same_device { W.same (output_of downstream.old) (output_of downstream.new) }
 {
     if stages.is_empty() {
-        downstream.put_parcel(&parcel);
-        drop(parcel);
+        downstream.put_packet(packet);
         return;
     }
-    match parcel {
-        Parcel::Message(message) => feed(alloc, stages, message, downstream),
-        Parcel::Rows(rows) => feed_rows(alloc, stages, rows, downstream),
+    match packet.into_message() {
+        Ok(message) => feed(alloc, stages, message, downstream),
+        Err(rows) => feed_rows(alloc, stages, rows, downstream),
     }
 }
 

@@ -19,7 +19,7 @@ use crate::fault::RunFault;
 use crate::feeder::joins_next;
 use crate::passing::feed_through;
 use crate::summary::Summary;
-use pnm_image::{BytesIn, BytesOut, Form, Parcel};
+use pnm_image::{BytesIn, BytesOut, Form, Packet};
 use pnm_read::{InputFault, Source, SpareRows};
 use pnm_tools::{Filter, FusedFilter, ToolFault};
 use pnm_write::SinkFault;
@@ -109,14 +109,14 @@ fn feed_all<R: BytesIn, F: Filter + Drop, W: BytesOut + Drop>(
             if let Some(rows) = source.next_rows(&mut spares)? {
                 // Each turn passes something on.
                 prove!(rows.count() > 0);
-                feed_through(alloc, stages, Parcel::Rows(rows), downstream);
+                feed_through(alloc, stages, Packet::Rows(rows), downstream);
                 continue;
             }
         }
         match source.next(&mut spares)? {
             Some(message) => {
                 may_join = joins_next(may_join, &message);
-                feed_through(alloc, stages, Parcel::Message(message), downstream);
+                feed_through(alloc, stages, Packet::from(message), downstream);
             }
             None => return Ok(()),
         }

@@ -1,5 +1,5 @@
 pub mod RingSteps
-pub mod ParcelLaws
+pub mod PacketLaws
 pub mod EndingLaws
 pub mod PrefixLaws
 mod LongestPrefixes

@@ -13,7 +13,7 @@ use Rattle.pnm_tools.specs.declared.fused_filter.FusedFilter.{FusedFilter}
 use Rattle.pnm_tools.specs.FusedFilters.{FilterAt, FilterBusy}
 use Rattle.pnm_tools.proofs.InFullLaws.{ends_after}
 use Rattle.pnm_stages.specs.StageParts.{HasAnsweredPart, HasPassed, HasSentAnswers}
-use Rattle.pnm_stages.proofs.ParcelLaws.{rows_end_nothing}
+use Rattle.pnm_stages.proofs.PacketLaws.{rows_end_nothing}
 use Rattle.pnm_stages.proofs.RingSteps.{ends_nothing}
 use Rattle.pnm_stages.proofs.StagedSteps.{part_at}
 

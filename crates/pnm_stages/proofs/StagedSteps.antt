@@ -27,9 +27,9 @@ use Rattle.pnm_stages.specs.StageParts.{HasAnsweredPart, HasPassed, HasBrokenOff
 use Rattle.pnm_tools.specs.Tools.{output_due}
 use Rattle.pnm_tools.proofs.InFullLaws.{ends_after}
 use Rattle.pnm_tools.proofs.SoundLaws.{both_all}
-use Rattle.pnm_image.specs.declared.parcel.Parcel.{Parcel}
-use Rattle.pnm_image.specs.Parcels.{messages_in, ending_of_parcel}
-use Rattle.pnm_stages.proofs.ParcelLaws.{ends_with_parcel}
+use Rattle.pnm_image.specs.declared.packet.Packet.{Packet}
+use Rattle.pnm_image.specs.Packets.{messages_in, ending_of_packet}
+use Rattle.pnm_stages.proofs.PacketLaws.{ends_with_packet}
 use Rattle.pnm_stages.proofs.RingSteps.{ends_nothing}
 use Rattle.pnm_stages.proofs.EndingLaws.{prefix_goes_on, ends_stream}
 use Rattle.pnm_stages.proofs.PrefixLaws.{due_with_stop, due_goes_on}
@@ -62,18 +62,18 @@ passes_nothing at all_given stopped stage r s =
 longer_by : (a b c d more : List Message) → b ≡ a ++ c → d ≡ b ++ more → d ≡ a ++ (c ++ more)
 longer_by a b c d more before added = added ∙ ap (λ (x : List Message). x ++ more) before ∙ append_assoc a c more
 
--- a parcel was received, and all its answers were sent
-pub passes_parcel : {F : Type 0} (at : F → Tool → List Message → List Message → Type 0) (all_given : F → Bool) (stopped : F → Option ToolFault)
-    (first old new : FusedFilter F) (parcel : Parcel) (r r1 r2 s s1 s2 : List Message)
-    → IsPassing at all_given stopped More first old r r1 s s1 → r2 ≡ r1 ++ messages_in parcel → AllByRecursion IsMessage (messages_in parcel)
-    → HasPassed at all_given stopped true old new (messages_in parcel) s1 s2 → IsPassing at all_given stopped (ending_of_parcel parcel) first new r r2 s s2
-passes_parcel at all_given stopped first old new parcel r r1 r2 s s1 s2 passing added are passed = record {
-  took = passing.took ++ messages_in parcel;
+-- a packet was received, and all its answers were sent
+pub passes_packet : {F : Type 0} (at : F → Tool → List Message → List Message → Type 0) (all_given : F → Bool) (stopped : F → Option ToolFault)
+    (first old new : FusedFilter F) (packet : Packet) (r r1 r2 s s1 s2 : List Message)
+    → IsPassing at all_given stopped More first old r r1 s s1 → r2 ≡ r1 ++ messages_in packet → AllByRecursion IsMessage (messages_in packet)
+    → HasPassed at all_given stopped true old new (messages_in packet) s1 s2 → IsPassing at all_given stopped (ending_of_packet packet) first new r r2 s s2
+passes_packet at all_given stopped first old new packet r r1 r2 s s1 s2 passing added are passed = record {
+  took = passing.took ++ messages_in packet;
   gave = passing.gave ++ passed.more;
-  received = longer_by r r1 passing.took r2 (messages_in parcel) passing.received added;
+  received = longer_by r r1 passing.took r2 (messages_in packet) passing.received added;
   sent = longer_by s s1 passing.gave s2 passed.more passing.sent passed.added;
-  messages = both_all IsMessage passing.took (messages_in parcel) passing.messages are;
-  ends = ends_with_parcel passing.took parcel passing.ends;
+  messages = both_all IsMessage passing.took (messages_in packet) passing.messages are;
+  ends = ends_with_packet passing.took packet passing.ends;
   stage = λ tool fresh. passed.full refl tool passing.took passing.gave passing.ends (passing.stage tool fresh);
 }
 
@@ -177,24 +177,24 @@ drained_by BrokenOff drained took r1 r2 left ends has = nothing_more BrokenOff d
 
 -- the output is gone, and the input was drained
 pub output_gone : {F : Type 0} (at : F → Tool → List Message → List Message → Type 0) (all_given : F → Bool) (stopped : F → Option ToolFault)
-    (first old new : FusedFilter F) (parcel : Parcel) (a : Ending) (drained : Bool) (r r1 r2 r3 left s s1 s2 : List Message) (tool : Tool)
-    → IsPassing at all_given stopped More first old r r1 s s1 → r2 ≡ r1 ++ messages_in parcel → AllByRecursion IsMessage (messages_in parcel)
-    → HasPassed at all_given stopped false old new (messages_in parcel) s1 s2 → a ≡ ending_of_parcel parcel → HasDrainedAfter a drained r2 r3 left
+    (first old new : FusedFilter F) (packet : Packet) (a : Ending) (drained : Bool) (r r1 r2 r3 left s s1 s2 : List Message) (tool : Tool)
+    → IsPassing at all_given stopped More first old r r1 s s1 → r2 ≡ r1 ++ messages_in packet → AllByRecursion IsMessage (messages_in packet)
+    → HasPassed at all_given stopped false old new (messages_in packet) s1 s2 → a ≡ ending_of_packet packet → HasDrainedAfter a drained r2 r3 left
     → FilterAt at all_given stopped first tool [] [] → HasRunStage tool PeerGone r r3 left s s2
-output_gone at all_given stopped first old new parcel a drained r r1 r2 r3 left s s1 s2 tool passing added are passed says rest fresh =
-    let took = passing.took ++ messages_in parcel in
-    let ends : EndsBy a took = subst (λ (e : Ending). EndsBy e took) (sym says) (ends_with_parcel passing.took parcel passing.ends) in
+output_gone at all_given stopped first old new packet a drained r r1 r2 r3 left s s1 s2 tool passing added are passed says rest fresh =
+    let took = passing.took ++ messages_in packet in
+    let ends : EndsBy a took = subst (λ (e : Ending). EndsBy e took) (sym says) (ends_with_packet passing.took packet passing.ends) in
     let by = drained_by a drained took r2 r3 left ends rest in
     let part = passed.part tool passing.took passing.gave passing.ends (passing.stage tool fresh) in
     record {
       took = took ++ by.rest;
       gave = passing.gave ++ passed.more;
-      input = longer_by r r2 took r3 by.rest (longer_by r r1 passing.took r2 (messages_in parcel) passing.received added) by.added;
+      input = longer_by r r2 took r3 by.rest (longer_by r r1 passing.took r2 (messages_in packet) passing.received added) by.added;
       output = longer_by s s1 passing.gave s2 passed.more passing.sent passed.added;
       seen_taken = by.all;
       stage = record {
         ended = tt;
-        messages = both_all IsMessage took by.rest (both_all IsMessage passing.took (messages_in parcel) passing.messages are) by.messages;
+        messages = both_all IsMessage took by.rest (both_all IsMessage passing.took (messages_in packet) passing.messages are) by.messages;
         once = by.once;
         due = due_goes_on (output_due tool) took (passing.gave ++ passed.more) by.rest (due_by_part tool took (passing.gave ++ passed.more) part);
       };

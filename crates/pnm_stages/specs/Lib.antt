@@ -1,4 +1,4 @@
-pub mod Parcels
+pub mod Packets
 pub mod Rings
 pub mod Limits
 pub mod Prefixes

@@ -8,10 +8,10 @@ use Rattle.pnm_image.specs.declared.message.Ending.TheVariants.{More, Whole, Bro
 use Rattle.rtrb.specs.Ring.{sent as sent_on, received as received_on, known_items as known_items_on}
 use Rattle.rtrb.specs.Ring.{known_free as known_free_on, IsPair as AreEndsOfRing, SameProducer as IsSameSendingEnd}
 use Rattle.rtrb.specs.Ring.{SameConsumer as IsSameReceivingEnd}
-use Rattle.pnm_image.specs.declared.parcel.Parcel.{Parcel}
+use Rattle.pnm_image.specs.declared.packet.Packet.{Packet}
 use Rattle.pnm_stages.specs.declared.sender.Sender.{Sender}
 use Rattle.pnm_stages.specs.declared.receiver.Receiver.{Receiver}
-use Rattle.pnm_stages.specs.Parcels.{messages_of, has_rows_together}
+use Rattle.pnm_stages.specs.Packets.{messages_of, has_rows_together}
 
 -- ---- the two ends of a ring
 
@@ -30,11 +30,11 @@ kept_free s = s.kept_free
 abbrev pub received : Receiver → List Message
 received r = messages_of (received_on r.ring)
 
-abbrev pub known_parcels : Receiver → List Parcel
-known_parcels r = known_items_on r.ring
+abbrev pub known_packets : Receiver → List Packet
+known_packets r = known_items_on r.ring
 
 abbrev pub known_items : Receiver → List Message
-known_items r = messages_of (known_parcels r)
+known_items r = messages_of (known_packets r)
 
 -- whether rows that were sent together were received by this end
 abbrev pub has_received_rows : Receiver → Bool

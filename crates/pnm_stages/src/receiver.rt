@@ -4,13 +4,13 @@ ghost use Rattle.std.specs.Prelude.{◌≡◌, ◌<◌, length};
 ghost use Rattle.std.specs.List.{AllByRecursion};
 ghost use Rattle.rtrb.specs.Ring.{received as received_on};
 ghost use Rattle.pnm_image.specs.Messages.{IsMessage};
-ghost use Rattle.pnm_image.specs.Parcels.{messages_in};
-ghost use Rattle.pnm_stages.specs.Parcels.{is_rows_together, has_rows_together};
+ghost use Rattle.pnm_image.specs.Packets.{messages_in};
+ghost use Rattle.pnm_stages.specs.Packets.{is_rows_together, has_rows_together};
 
 use crate::ring::AnyMessage;
 use crate::sender::Sender;
 use crate::wakers::ReceiverWaker;
-use pnm_image::{Ending, Message, Parcel};
+use pnm_image::{Ending, Message, Packet};
 use rtrb::Consumer;
 use std::alloc::Global;
 use std::sync::Wait;
@@ -19,7 +19,7 @@ use std::sync::Wait;
 #[derive(Drop)]
 pub struct Receiver {
     /// The end itself. It comes first, since it has to be gone before the other thread is woken.
-    pub(crate) ring: Consumer<Parcel, Global, AnyMessage>,
+    pub(crate) ring: Consumer<Packet, Global, AnyMessage>,
     waker: ReceiverWaker,
     /// Half of the messages that were seen in the ring at the last look. It is narrow, since many ends lie on the stack
     /// of a thread that starts others.
@@ -34,14 +34,14 @@ impl Receiver {
     ghost use Rattle.std.specs.List.{AllByRecursion};
     ghost use Rattle.rtrb.specs.Ring.{received as received_on};
     ghost use Rattle.pnm_image.specs.Messages.{IsMessage};
-    ghost use Rattle.pnm_image.specs.Parcels.{messages_in};
-    ghost use Rattle.pnm_image.specs.declared.parcel.Parcel.{Parcel as ParcelValue};
-    ghost use Rattle.pnm_stages.specs.Parcels.{BeginsByNoMessage};
+    ghost use Rattle.pnm_image.specs.Packets.{messages_in};
+    ghost use Rattle.pnm_image.specs.declared.packet.Packet.{Packet as PacketValue};
+    ghost use Rattle.pnm_stages.specs.Packets.{BeginsByNoMessage};
     ghost use Rattle.pnm_stages.specs.Rings.{sent, received, known_items, IsPair, SameSender, SameReceiver, HasDrained};
-    ghost use Rattle.pnm_stages.specs.Rings.{known_parcels, has_received_rows, HasDrainedAfter};
+    ghost use Rattle.pnm_stages.specs.Rings.{known_packets, has_received_rows, HasDrainedAfter};
 
     /// The end of this ring, with what it has of the ring's wakers.
-    pub(crate) fn new(ring: Consumer<Parcel, Global, AnyMessage>, waker: ReceiverWaker) -> Receiver
+    pub(crate) fn new(ring: Consumer<Packet, Global, AnyMessage>, waker: ReceiverWaker) -> Receiver
         requires { received_on ring ≡ [] }
         ensures { result.ring ≡ ring }
     {
@@ -57,9 +57,9 @@ impl Receiver {
     pub fn has_message(&mut self) -> bool
         ensures ring { SameReceiver self.old self.new }
         ensures received { received self.new ≡ received self.old }
-        ensures some { IsTrue result → 0 < length (known_parcels self.new) }
+        ensures some { IsTrue result → 0 < length (known_packets self.new) }
         ensures none { IsFalse result → known_items self.new ≡ [] }
-        ensures empty { IsFalse result → known_parcels self.new ≡ [] }
+        ensures empty { IsFalse result → known_packets self.new ≡ [] }
     {
         self.has_seen_message() || self.look()
     }
@@ -68,9 +68,9 @@ impl Receiver {
     fn look(&mut self) -> bool
         ensures ring { SameReceiver self.old self.new }
         ensures received { received self.new ≡ received self.old }
-        ensures some { IsTrue result → 0 < length (known_parcels self.new) }
+        ensures some { IsTrue result → 0 < length (known_packets self.new) }
         ensures none { IsFalse result → known_items self.new ≡ [] }
-        ensures empty { IsFalse result → known_parcels self.new ≡ [] }
+        ensures empty { IsFalse result → known_packets self.new ≡ [] }
     {
         let seen = self.ring.slots();
         self.half = u32::try_from(seen / 2).unwrap_or(u32::MAX);
@@ -79,17 +79,17 @@ impl Receiver {
 
     /// Whether a message was seen in the ring that is still there: the next one is received at once then.
     pub fn has_seen_message(&self) -> bool
-        ensures some { IsTrue result → 0 < length (known_parcels self.now) }
+        ensures some { IsTrue result → 0 < length (known_packets self.now) }
         ensures none { IsFalse result → known_items self.now ≡ [] }
-        ensures empty { IsFalse result → known_parcels self.now ≡ [] }
+        ensures empty { IsFalse result → known_packets self.now ≡ [] }
     {
         self.ring.cached_slots() > 0
     }
 
-    /// The next parcel, which is there, and stays there.
-    pub fn peek_known(&self) -> &Parcel
-        requires { 0 < length (known_parcels self.now) }
-        ensures next { (later : List ParcelValue) × (known_parcels self.now ≡ result.now ∷ later) }
+    /// The next packet, which is there, and stays there.
+    pub fn peek_known(&self) -> &Packet
+        requires { 0 < length (known_packets self.now) }
+        ensures next { (later : List PacketValue) × (known_packets self.now ≡ result.now ∷ later) }
     {
         self.ring.peek_known()
     }
@@ -102,26 +102,26 @@ impl Receiver {
         self.ring.is_abandoned()
     }
 
-    /// The next parcel, which is there. It wakes the thread at the sending end on the edge: where none is left of the
+    /// The next packet, which is there. It wakes the thread at the sending end on the edge: where none is left of the
     /// messages that were seen at once, or half of them. So that one is woken soon after it found no room, and seldom
     /// while it finds some.
     #[inline(always)]
-    pub fn receive_known(&mut self) -> Parcel
-        requires { 0 < length (known_parcels self.old) }
+    pub fn receive_known(&mut self) -> Packet
+        requires { 0 < length (known_packets self.old) }
         ensures ring { SameReceiver self.old self.new }
         ensures received { received self.new ≡ received self.old ++ messages_in result }
-        ensures seen { known_parcels self.old ≡ result ∷ known_parcels self.new }
+        ensures seen { known_packets self.old ≡ result ∷ known_packets self.new }
         ensures some { 0 < length (messages_in result) }
         ensures messages { AllByRecursion IsMessage (messages_in result) }
     {
-        let parcel = self.ring.pop_known();
+        let packet = self.ring.pop_known();
         let left = self.ring.cached_slots();
         if left == 0 || left == self.half as usize {
             self.waker.wake_sender();
         }
-        let are_rows = recognise(&parcel);
+        let are_rows = recognise(&packet);
         self.has_rows = self.has_rows || are_rows;
-        parcel
+        packet
     }
 
     /// Whether rows that were sent together were received.
@@ -142,10 +142,10 @@ impl Receiver {
         self.ring.slots_beside(&mut sender.ring);
     }
 
-    /// The next parcel, once there is one; none once the ring is empty and its other end was seen dropped. That it is
+    /// The next packet, once there is one; none once the ring is empty and its other end was seen dropped. That it is
     /// empty is known only of the messages that this end has seen in it.
     #[inline(always)]
-    pub fn receive<R: Wait>(&mut self, rt: &R) -> Option<Parcel>
+    pub fn receive<R: Wait>(&mut self, rt: &R) -> Option<Packet>
         ensures ring { SameReceiver self.old self.new }
         ensures taken { IfSome result (λ p. received self.new ≡ received self.old ++ messages_in p) }
         ensures some { IfSome result (λ p. 0 < length (messages_in p)) }
@@ -165,17 +165,17 @@ impl Receiver {
         ensures taken { IfSome result (λ m. received self.new ≡ received self.old ++ m ∷ []) }
         ensures message { IfSome result IsMessage }
         ensures none { IfNone result
-            ((received self.new ≡ received self.old) × BeginsByNoMessage (known_parcels self.new)) }
+            ((received self.new ≡ received self.old) × BeginsByNoMessage (known_packets self.new)) }
     {
         if !self.has_message() && !self.wait_for_message(rt) {
             return None;
         }
-        if let Parcel::Rows(_) = self.peek_known() {
+        if recognise(self.peek_known()) {
             return None;
         }
-        match self.receive_known() {
-            Parcel::Message(message) => Some(message),
-            Parcel::Rows(_) => unreachable!(),
+        match self.receive_known().into_message() {
+            Ok(message) => Some(message),
+            Err(_) => unreachable!(),
         }
     }
 
@@ -185,9 +185,9 @@ impl Receiver {
     pub(crate) fn wait_for_message<R: Wait>(&mut self, rt: &R) -> bool
         ensures ring { SameReceiver self.old self.new }
         ensures received { received self.new ≡ received self.old }
-        ensures some { IsTrue result → 0 < length (known_parcels self.new) }
+        ensures some { IsTrue result → 0 < length (known_packets self.new) }
         ensures none { IsFalse result → known_items self.new ≡ [] }
-        ensures empty { IsFalse result → known_parcels self.new ≡ [] }
+        ensures empty { IsFalse result → known_packets self.new ≡ [] }
     {
         for _ in rt.forever() {
             if self.has_message() {
@@ -209,11 +209,11 @@ impl Receiver {
         ensures drained { HasDrained result (received self.old) (received self.new) (known_items self.new) }
     {
         for _ in rt.forever() {
-            let Some(parcel) = self.receive(rt) else {
+            let Some(packet) = self.receive(rt) else {
                 return false;
             };
-            let ending = parcel.ending();
-            drop(parcel);
+            let ending = packet.ending();
+            drop(packet);
             match ending {
                 Ending::More => {}
                 Ending::Whole | Ending::BrokenOff => return true,
@@ -240,30 +240,19 @@ impl Receiver {
     }
 }
 
-/// Whether a parcel is rows that were sent together. A proof learns that it is a message at least, and that the head
+/// Whether a packet is rows that were sent together. A proof learns that it is a message at least, and that the head
 /// of an image keeps the rules of heads.
-fn recognise(parcel: &Parcel) -> bool
-    ensures rows { result ≡ is_rows_together parcel.now }
-    ensures some { 0 < length (messages_in parcel.now) }
-    ensures messages { AllByRecursion IsMessage (messages_in parcel.now) }
+fn recognise(packet: &Packet) -> bool
+    ensures rows { result ≡ is_rows_together packet.now }
+    ensures some { 0 < length (messages_in packet.now) }
+    ensures messages { AllByRecursion IsMessage (messages_in packet.now) }
 {
-    match parcel {
-        Parcel::Message(message) => {
-            recognise_message(message);
+    match packet {
+        Packet::Begin(head) => {
+            let _ = head.shape();
             false
         }
-        Parcel::Rows(rows) => {
-            let _ = rows.count();
-            true
-        }
-    }
-}
-
-/// No effect. A proof learns that the head of an image keeps the rules of heads.
-fn recognise_message(message: &Message)
-    ensures { IsMessage message.now }
-{
-    if let Message::Begin(head) = message {
-        let _ = head.shape();
+        Packet::Rows(rows) => rows.count() > 1,
+        Packet::ImageEnd | Packet::StreamEnd | Packet::Stop => false,
     }
 }

@@ -6,22 +6,22 @@ ghost use Rattle.pnm_stages.specs.Rings.{sent, received, IsPair};
 use crate::receiver::Receiver;
 use crate::sender::Sender;
 use crate::wakers::new_wakers;
-use pnm_image::Parcel;
+use pnm_image::Packet;
 use rtrb::{Protocol, RingBuffer};
 use std::alloc::Global;
 
-/// The most parcels that a ring of a run may hold.
+/// The most packets that a ring of a run may hold.
 pub const MAX_RING_CAPACITY: usize = 1_024;
 
-/// The protocol of the rings between stages: every parcel may follow every other.
+/// The protocol of the rings between stages: every packet may follow every other.
 #[derive(Clone, Copy)]
 pub struct AnyMessage;
 
-impl Protocol<Parcel> for AnyMessage {
+impl Protocol<Packet> for AnyMessage {
     ghost allows = { λ _ _. Unit {0} };
 }
 
-/// The two ends of a ring for so many parcels; none where there is no memory.
+/// The two ends of a ring for so many packets; none where there is no memory.
 pub fn new_ring(alloc: Global, capacity: usize) -> Option<(Sender, Receiver)>
     ensures pair { IfSome result (λ ends. IsPair ends.0 ends.1) }
     ensures unused { IfSome result (λ ends. (sent ends.0 ≡ []) × (received ends.1 ≡ [])) }

@@ -1,13 +1,12 @@
 //! The sending end of a ring of messages.
 
 ghost use Rattle.std.specs.Prelude.{◌≡◌, ◌<◌, ◌≤◌, [], ◌∷◌, ◌++◌, IsTrue, IsFalse};
-ghost use Rattle.pnm_image.specs.Rows.{row_messages};
-ghost use Rattle.pnm_image.specs.Parcels.{messages_in};
+ghost use Rattle.pnm_image.specs.Packets.{messages_in};
 ghost use Rattle.pnm_stages.specs.Rings.{sent, known_free, kept_free, SameSender};
 
 use crate::ring::AnyMessage;
 use crate::wakers::SenderWaker;
-use pnm_image::{Message, Parcel, RowSlice, Rows, SampleSlice, Samples};
+use pnm_image::{Message, Packet, RowSlice, Rows};
 use rtrb::Producer;
 use std::alloc::Global;
 use std::sync::Wait;
@@ -34,7 +33,7 @@ const FEW_TOGETHER: usize = 4_096;
 #[derive(Drop)]
 pub struct Sender {
     /// The end itself. It comes first, since it has to be gone before the other thread is woken.
-    pub(crate) ring: Producer<Parcel, Global, AnyMessage>,
+    pub(crate) ring: Producer<Packet, Global, AnyMessage>,
     waker: SenderWaker,
     /// The messages that were sent and woke nobody, and for how many short ones somebody is woken. These numbers are
     /// narrow, since each level of a chain's starts holds a few ends.
@@ -47,7 +46,7 @@ pub struct Sender {
 impl Sender {
     /// The end of this ring, with what it has of the ring's wakers. Each message that it sends wakes the other end's
     /// thread.
-    pub(crate) fn new(ring: Producer<Parcel, Global, AnyMessage>, waker: SenderWaker) -> Sender
+    pub(crate) fn new(ring: Producer<Packet, Global, AnyMessage>, waker: SenderWaker) -> Sender
         ensures { result.ring ≡ ring }
     {
         Sender {
@@ -121,27 +120,18 @@ impl Sender {
         ensures ring { SameSender self.old self.new }
         ensures sent { sent self.new ≡ sent self.old ++ message ∷ [] }
     {
-        self.push(Parcel::Message(message));
+        self.send_packet_reserved(Packet::from(message));
     }
 
-    /// Sends the rows together, for which there is room, and wakes the thread at the receiving end.
-    pub fn send_rows_reserved(&mut self, rows: Rows)
-        requires { 0 < known_free self.old }
-        ensures ring { SameSender self.old self.new }
-        ensures sent { sent self.new ≡ sent self.old ++ row_messages rows }
-    {
-        self.push(Parcel::Rows(rows));
-    }
-
-    /// Puts the parcel into the ring, which has room for it, and wakes the thread at the receiving end.
+    /// Sends the packet, for which there is room, and wakes the thread at the receiving end.
     #[inline(always)]
-    fn push(&mut self, parcel: Parcel)
+    pub fn send_packet_reserved(&mut self, packet: Packet)
         requires { 0 < known_free self.old }
         ensures ring { SameSender self.old self.new }
-        ensures sent { sent self.new ≡ sent self.old ++ messages_in parcel }
+        ensures sent { sent self.new ≡ sent self.old ++ messages_in packet }
     {
-        let bytes = bytes_of(&parcel);
-        self.ring.push_reserved(parcel);
+        let bytes = bytes_of(&packet);
+        self.ring.push_reserved(packet);
         self.unwoken = self.unwoken.saturating_add(1);
         if let Some(bytes) = bytes {
             self.kept_free = places_beyond(self.ring.capacity(), bytes);
@@ -162,44 +152,26 @@ impl Sender {
         ensures given { IsTrue result → sent self.new ≡ sent self.old ++ message ∷ [] }
         ensures gone { IsFalse result → sent self.new ≡ sent self.old }
     {
-        if self.has_room() || self.wait_for_room(rt) {
-            self.send_reserved(message);
-            return true;
-        }
-        false
+        self.send_packet(rt, Packet::from(message))
     }
 
-    /// Sends the rows together, once there is room; false, and the rows are lost, where there is none and the receiving
-    /// end was seen dropped.
-    pub fn send_rows<R: Wait>(&mut self, rt: &R, rows: Rows) -> bool
-        ensures ring { SameSender self.old self.new }
-        ensures given { IsTrue result → sent self.new ≡ sent self.old ++ row_messages rows }
-        ensures gone { IsFalse result → sent self.new ≡ sent self.old }
-    {
-        if !self.has_room() && !self.wait_for_room(rt) {
-            return false;
-        }
-        self.send_rows_reserved(rows);
-        true
-    }
-
-    /// Sends the parcel, once there is room; false, and the parcel is lost, where there is none and the receiving end
+    /// Sends the packet, once there is room; false, and the packet is lost, where there is none and the receiving end
     /// was seen dropped.
     #[inline(always)]
-    pub fn send_parcel<R: Wait>(&mut self, rt: &R, parcel: Parcel) -> bool
+    pub fn send_packet<R: Wait>(&mut self, rt: &R, packet: Packet) -> bool
         ensures ring { SameSender self.old self.new }
-        ensures given { IsTrue result → sent self.new ≡ sent self.old ++ messages_in parcel }
+        ensures given { IsTrue result → sent self.new ≡ sent self.old ++ messages_in packet }
         ensures gone { IsFalse result → sent self.new ≡ sent self.old }
     {
         let room = self.has_room() || self.wait_for_room(rt);
         if room {
-            self.push(parcel);
+            self.send_packet_reserved(packet);
         }
         room
     }
 
     /// Waits until there is room; false where there is none and the receiving end was seen dropped. It stands apart
-    /// from `send`, which mostly finds room.
+    /// from `send_packet`, which mostly finds room.
     #[inline(never)]
     fn wait_for_room<R: Wait>(&mut self, rt: &R) -> bool
         ensures ring { SameSender self.old self.new }
@@ -234,26 +206,17 @@ impl Sender {
     }
 }
 
-/// The bytes that a parcel's samples take, and 0 of few rows together; none of a message that ends the stream, which is
+/// The bytes that a packet's samples take, and 0 of few rows together; none of a message that ends the stream, which is
 /// waited for.
-fn bytes_of(parcel: &Parcel) -> Option<usize> {
-    match parcel {
-        Parcel::Message(Message::Row(row)) => Some(row_bytes(row)),
-        Parcel::Rows(rows) => match rows_bytes(rows) {
-            0..=FEW_TOGETHER => Some(0),
-            bytes => Some(bytes),
-        },
-        Parcel::Message(Message::Begin(_) | Message::ImageEnd) => Some(0),
-        Parcel::Message(Message::StreamEnd | Message::Stop) => None,
-    }
-}
-
-/// The bytes in which a row is held.
-fn row_bytes(row: &Samples) -> usize {
-    match row.as_slice() {
-        SampleSlice::Bits(bytes, _) => bytes.len(),
-        SampleSlice::Bytes(bytes) => bytes.len(),
-        SampleSlice::Words(words) => words.len().saturating_mul(2),
+fn bytes_of(packet: &Packet) -> Option<usize> {
+    match packet {
+        Packet::Rows(rows) => {
+            let bytes = rows_bytes(rows);
+            let are_few = rows.count() > 1 && bytes <= FEW_TOGETHER;
+            Some(if are_few { 0 } else { bytes })
+        }
+        Packet::Begin(_) | Packet::ImageEnd => Some(0),
+        Packet::StreamEnd | Packet::Stop => None,
     }
 }
 

@@ -3,15 +3,15 @@
 ghost use Rattle.std.specs.Prelude.{◌≡◌, ◌<◌, [], length, IsTrue, IsFalse};
 ghost use Rattle.pnm_image.specs.Rows.{row_messages};
 ghost use Rattle.pnm_tools.specs.declared.tool.Tool.{Tool as ToolValue};
-ghost use Rattle.pnm_image.specs.Parcels.{messages_in};
-ghost use Rattle.pnm_stages.specs.Rings.{sent, received, known_items, known_parcels, SameSender, SameReceiver};
+ghost use Rattle.pnm_image.specs.Packets.{messages_in};
+ghost use Rattle.pnm_stages.specs.Rings.{sent, received, known_items, known_packets, SameSender, SameReceiver};
 ghost use Rattle.pnm_tools.specs.FusedFilters.{FilterAt};
 ghost use Rattle.pnm_stages.specs.Stages.{HasRunStage};
 ghost use Rattle.pnm_stages.specs.StageParts.{HasPassed, HasSentAnswers, HasBrokenOffAfter};
 
 use crate::receiver::Receiver;
 use crate::sender::Sender;
-use pnm_image::{Ending, Message, Parcel, Rows};
+use pnm_image::{Ending, Message, Packet, Rows};
 use pnm_tools::{Filter, FusedFilter, ToolFault};
 use std::alloc::Global;
 use std::sync::Wait;
@@ -103,9 +103,9 @@ fn pass_all<R: Wait, F: Filter + Drop>(
             output.send(rt, Message::Stop);
             return StageEnd::PeerGone;
         }
-        let parcel = input.receive_known();
-        let ending = parcel.ending();
-        if !pass(rt, alloc, stage, parcel, output) {
+        let packet = input.receive_known();
+        let ending = packet.ending();
+        if !pass(rt, alloc, stage, packet, output) {
             input.drain_after(rt, ending);
             return StageEnd::PeerGone;
         }
@@ -128,7 +128,7 @@ fn has_next<R: Wait>(rt: &R, input: &mut Receiver, output: &mut Sender) -> bool
     ensures received { received input.new ≡ received input.old }
     ensures output { SameSender output.old output.new }
     ensures sent { sent output.new ≡ sent output.old }
-    ensures some { IsTrue result → 0 < length (known_parcels input.new) }
+    ensures some { IsTrue result → 0 < length (known_packets input.new) }
     ensures none { IsFalse result → known_items input.new ≡ [] }
 {
     input.has_seen_message() || wait(rt, input, output)
@@ -143,33 +143,33 @@ fn wait<R: Wait>(rt: &R, input: &mut Receiver, output: &mut Sender) -> bool
     ensures received { received input.new ≡ received input.old }
     ensures output { SameSender output.old output.new }
     ensures sent { sent output.new ≡ sent output.old }
-    ensures some { IsTrue result → 0 < length (known_parcels input.new) }
+    ensures some { IsTrue result → 0 < length (known_packets input.new) }
     ensures none { IsFalse result → known_items input.new ≡ [] }
 {
     output.wake_receiver();
     input.has_message() || input.wait_for_message(rt)
 }
 
-/// Passes a parcel through the tool, and sends what that makes of it; false where the output's other end was seen
+/// Passes a packet through the tool, and sends what that makes of it; false where the output's other end was seen
 /// dropped before.
 #[inline(always)]
 fn pass<R: Wait, F: Filter + Drop>(
     rt: &R,
     alloc: Global,
     stage: &mut FusedFilter<F>,
-    parcel: Parcel,
+    packet: Packet,
     output: &mut Sender,
 ) -> bool
     ensures output { SameSender output.old output.new }
-    ensures passed { HasPassed F.at F.all_given F.stopped result stage.old stage.new (messages_in parcel)
+    ensures passed { HasPassed F.at F.all_given F.stopped result stage.old stage.new (messages_in packet)
         (sent output.old) (sent output.new) }
 {
-    match parcel {
-        Parcel::Message(message) => {
+    match packet.into_message() {
+        Ok(message) => {
             stage.feed(message);
             send_answers(rt, stage, output)
         }
-        Parcel::Rows(rows) => pass_rows(rt, alloc, stage, rows, output),
+        Err(rows) => pass_rows(rt, alloc, stage, rows, output),
     }
 }
 
@@ -233,7 +233,7 @@ fn send_answers<R: Wait, F: Filter + Drop>(
         (sent output.new) }
 {
     while let Some(answer) = stage.next() {
-        if !output.send_parcel(rt, answer) {
+        if !output.send_packet(rt, answer) {
             return false;
         }
         if stage.gave_all() {

@@ -20,5 +20,5 @@ pub use messages::{
 pub use parts::{Part, is_made_of, message};
 pub use sweep::Sweep;
 pub use telling::{tell_all, tell_change, tell_head, tell_message, tell_row, tell_text, width_of};
-pub use together::{Handed, cut_into, handed_of, rows_of, tell_each_row, tell_parcel, tell_rows};
+pub use together::{Handed, cut_into, handed_of, rows_of, tell_each_row, tell_packet, tell_rows};
 pub use writing::{cut_at, cut_number, cut_pair, cut_word, named, text_of};

@@ -6,7 +6,7 @@ ghost use Rattle.pnm_image.specs.HeldRows.{AreRowsWithin};
 use super::messages::{Unmade, held_by, messages_of};
 use super::telling::{tell_message, tell_row};
 use super::writing::cut_at;
-use pnm_image::{BitRows, Bits, Message, Parcel, RowVec, Rows, SampleVec, Samples};
+use pnm_image::{BitRows, Bits, Message, Packet, RowVec, Rows, SampleVec, Samples};
 use std::alloc::{AllocError, Global};
 
 /// What is handed over at once.
@@ -139,9 +139,9 @@ pub fn tell_each_row(alloc: Global, told: &mut String, rows: &Rows) -> Result<()
 }
 
 /// Adds what is handed over at once, rows that are handed over together between braces.
-pub fn tell_parcel(alloc: Global, told: &mut String, parcel: &Parcel) -> Result<(), AllocError> {
-    match parcel {
-        Parcel::Message(message) => tell_message(told, message),
-        Parcel::Rows(rows) => tell_rows(alloc, told, rows),
+pub fn tell_packet(alloc: Global, told: &mut String, packet: Packet) -> Result<(), AllocError> {
+    match packet.into_message() {
+        Ok(message) => tell_message(told, &message),
+        Err(rows) => tell_rows(alloc, told, &rows),
     }
 }

@@ -9,12 +9,12 @@ ghost use Rattle.pnm_tools.specs.declared.fault.ToolFault.TheVariants.{Memory};
 ghost use Rattle.pnm_tools.specs.declared.tool.Tool.{Tool as ToolValue};
 ghost use Rattle.pnm_image.specs.declared.message.Ending.TheVariants.{More, BrokenOff};
 ghost use Rattle.pnm_image.specs.Messages.{EndsBy};
-ghost use Rattle.pnm_image.specs.Parcels.{messages_in};
+ghost use Rattle.pnm_image.specs.Packets.{messages_in};
 ghost use Rattle.pnm_image.specs.Rows.{row_messages};
 ghost use Rattle.pnm_tools.specs.Answers.{Answers, AnswersInFull, Judges, RowsMayCome};
 
 use crate::fault::ToolFault;
-use pnm_image::{Message, Parcel, Rows};
+use pnm_image::{Message, Packet, Rows};
 
 /// A tool at work: it takes the messages of images one by one, and rows together, and gives those of their results.
 ///
@@ -55,7 +55,7 @@ pub trait Filter {
     /// The next message of the results, or rows of them that follow one another, or `None` where all that is owed was
     /// given. After a fault it is answered for good. The only fault that begins here is `Memory`, and not once the end
     /// of the stream or Stop was given.
-    fn next(&mut self) -> Result<Option<Parcel>, ToolFault>
+    fn next(&mut self) -> Result<Option<Packet>, ToolFault>
         ensures given { IfOk result
             (λ r. IfSome r (λ p. (t : ToolValue) (l g : List MessageValue) → at self.old t l g
             → at self.new t l (g ++ messages_in p))) }

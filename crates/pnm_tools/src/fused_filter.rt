@@ -5,7 +5,7 @@ ghost use Rattle.std.specs.Prelude.{OnOk, OnErr, IfErr, Some, None};
 ghost use Rattle.pnm_image.specs.declared.message.Ending.TheVariants.{More};
 ghost use Rattle.pnm_image.specs.declared.message.Message.{Message as MessageValue};
 ghost use Rattle.pnm_image.specs.Messages.{EndsBy};
-ghost use Rattle.pnm_image.specs.Parcels.{messages_in};
+ghost use Rattle.pnm_image.specs.Packets.{messages_in};
 ghost use Rattle.pnm_image.specs.Rows.{row_messages};
 ghost use Rattle.pnm_tools.specs.Answers.{RowsMayCome};
 ghost use Rattle.pnm_tools.specs.declared.fault.ToolFault.{ToolFault as Fault};
@@ -15,7 +15,7 @@ ghost use Rattle.pnm_tools.specs.FusedFilters.{refusal_in, waiting_at, FilterAt,
 
 use crate::fault::ToolFault;
 use crate::filter::Filter;
-use pnm_image::{Message, Parcel, Rows};
+use pnm_image::{Message, Packet, Rows};
 
 /// A filter of a chain, which takes nothing more once it has refused.
 #[derive(Drop)]
@@ -53,7 +53,7 @@ impl<F: Filter + Drop> FusedFilter<F> {
 
     /// The next message that the tool gives, or rows that follow one another, until it has given all, or refused.
     #[inline(always)]
-    pub fn next(&mut self) -> Option<Parcel>
+    pub fn next(&mut self) -> Option<Packet>
         ensures given { IfSome result (λ p. (tool : ToolValue) (l g : List MessageValue)
             → FilterBusy F.at F.stopped self.old tool l g
             → FilterBusy F.at F.stopped self.new tool l (g ++ messages_in p)) }

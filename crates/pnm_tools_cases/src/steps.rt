@@ -6,9 +6,9 @@
 
 use super::tasks::{Task, tell_at_work};
 use pnm_filters::{RowState, RowWise};
-use pnm_image::{Message, Parcel, Rows};
+use pnm_image::{Message, Packet, Rows};
 use pnm_test_support::{
-    Unmade, cut_at, cut_messages, rows_of, tell_each_row, tell_message, tell_parcel, width_of,
+    Unmade, cut_at, cut_messages, rows_of, tell_each_row, tell_message, tell_packet, width_of,
 };
 use pnm_tools::{Filter, Tool, ToolFault};
 use std::alloc::{AllocError, Global};
@@ -193,7 +193,7 @@ fn pass_each<F: Filter>(
 /// Adds the next answer.
 fn tell_next<F: Filter>(alloc: Global, state: &mut F, told: &mut String) -> Result<(), AllocError> {
     match state.next() {
-        Ok(Some(parcel)) => tell_parcel(alloc, told, &parcel),
+        Ok(Some(packet)) => tell_packet(alloc, told, packet),
         Ok(None) => told.push_str(" nothing"),
         Err(fault) => write!(told, " {fault}"),
     }
@@ -211,7 +211,7 @@ fn take_all<F: Filter>(
     }
     for _ in 0..MOST_ANSWERS {
         match state.next() {
-            Ok(Some(parcel)) => tell_taken(alloc, step, &parcel, told)?,
+            Ok(Some(packet)) => tell_taken(alloc, step, packet, told)?,
             Ok(None) => return Ok(()),
             Err(fault) => return write!(told, " {fault}"),
         }
@@ -223,16 +223,13 @@ fn take_all<F: Filter>(
 fn tell_taken(
     alloc: Global,
     step: Step,
-    parcel: &Parcel,
+    packet: Packet,
     told: &mut String,
 ) -> Result<(), AllocError> {
-    match (step, parcel) {
-        (Step::Passes, Parcel::Message(message)) => tell_message(told, message),
-        (Step::Passes, Parcel::Rows(rows)) => tell_each_row(alloc, told, rows),
-        (Step::Widths, Parcel::Message(Message::Row(row))) => told.push_str(width_of(
-            row.as_slice(),
-        )),
-        (Step::Widths, Parcel::Rows(rows)) => tell_widths(rows, told),
+    match (step, packet) {
+        (Step::Passes, Packet::Rows(rows)) => tell_each_row(alloc, told, &rows),
+        (Step::Widths, Packet::Rows(rows)) => tell_widths(&rows, told),
+        (Step::Passes, other) => tell_packet(alloc, told, other),
         _ => Ok(()),
     }
 }
@@ -269,7 +266,7 @@ fn end_of(number: usize) -> Message {
 }
 
 /// Whether an answer is this fault.
-fn is_fault(answer: Result<Option<Parcel>, ToolFault>, fault: ToolFault) -> bool {
+fn is_fault(answer: Result<Option<Packet>, ToolFault>, fault: ToolFault) -> bool {
     match answer {
         Ok(_) => false,
         Err(other) => other == fault,

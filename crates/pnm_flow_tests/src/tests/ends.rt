@@ -3,7 +3,7 @@
 use super::is_so;
 use super::rings::{holds, is_one_of, send_all};
 use pnm_flow::new_ring;
-use pnm_image::{Kind, Message, Parcel, SampleVec, Samples};
+use pnm_image::{Kind, Message, Packet, SampleVec, Samples};
 use pnm_stages::{Receiver, Sender};
 use pnm_test_support::{Part, cut_into, message};
 use std::alloc::Global;
@@ -37,10 +37,10 @@ fn passes_in_order(rt: &impl Abort, alloc: Global, most: &[Part<'_>]) {
     holds(rt, &mut receiver, most, "all at once");
 }
 
-/// Whether the parcel is a message that is made of this, or there is none.
-fn is_parcel(parcel: &Option<Parcel>, part: Option<Part<'_>>) -> bool {
-    match (parcel, part) {
-        (Some(parcel), Some(part)) => is_one_of(parcel, part),
+/// Whether the packet is a message that is made of this, or there is none.
+fn is_packet(packet: Option<Packet>, part: Option<Part<'_>>) -> bool {
+    match (packet, part) {
+        (Some(packet), Some(part)) => is_one_of(packet, part),
         (None, None) => true,
         _ => false,
     }
@@ -48,7 +48,7 @@ fn is_parcel(parcel: &Option<Parcel>, part: Option<Part<'_>>) -> bool {
 
 /// Whether the next message is made of this, or there is none.
 fn receives(rt: &(impl Wait + Abort), receiver: &mut Receiver, part: Option<Part<'_>>) {
-    let is_right = is_parcel(&receiver.receive(rt), part);
+    let is_right = is_packet(receiver.receive(rt), part);
     is_so(rt, is_right, &part);
 }
 
@@ -104,7 +104,7 @@ fn send_bytes(
     let Ok(rows) = cut_into(alloc, samples, bytes as usize, 1) else {
         return false;
     };
-    sender.send_rows_reserved(rows);
+    sender.send_packet_reserved(Packet::Rows(rows));
     true
 }
 

@@ -2,7 +2,7 @@
 //! number of tries.
 
 use super::is_so;
-use pnm_flow::{Parcel, Receiver, Sender, StageEnd, new_ring};
+use pnm_flow::{Packet, Receiver, Sender, StageEnd, new_ring};
 use pnm_image::{Kind, Message, Rows};
 use pnm_test_support::{Handed, Part, handed_of, is_made_of, message};
 use std::alloc::Global;
@@ -34,11 +34,11 @@ pub fn send_all(alloc: Global, output: &mut Sender, parts: &[Part<'_>]) -> bool 
     true
 }
 
-/// Whether the parcel is a message that is made of this: rows that came together are none.
-pub fn is_one_of(parcel: &Parcel, part: Part<'_>) -> bool {
-    match parcel {
-        Parcel::Message(message) => is_made_of(message, part),
-        Parcel::Rows(_) => false,
+/// Whether the packet is a message that is made of this: rows that came together are none.
+pub fn is_one_of(packet: Packet, part: Part<'_>) -> bool {
+    match packet.into_message() {
+        Ok(message) => is_made_of(&message, part),
+        Err(_) => false,
     }
 }
 
@@ -47,8 +47,10 @@ pub fn next_is(input: &mut Receiver, part: Part<'_>) -> Option<(bool, bool)> {
     if !input.has_message() {
         return None;
     }
-    let parcel = input.receive_known();
-    Some((is_one_of(&parcel, Part::Stop), is_one_of(&parcel, part)))
+    match input.receive_known().into_message() {
+        Ok(message) => Some((is_made_of(&message, Part::Stop), is_made_of(&message, part))),
+        Err(_) => Some((false, false)),
+    }
 }
 
 /// Receives a message, if there is one; whether there was, and it is made of this.
@@ -100,7 +102,7 @@ fn send_handed(output: &mut Sender, handed: Handed) -> bool {
     }
     match handed {
         Handed::Message(message) => output.send_reserved(message),
-        Handed::Rows(rows) => output.send_rows_reserved(rows),
+        Handed::Rows(rows) => output.send_packet_reserved(Packet::Rows(rows)),
     }
     true
 }
@@ -143,7 +145,7 @@ pub fn sends(alloc: Global, output: &mut Sender, part: Part<'_>) -> bool {
 }
 
 /// What comes next, by a counted number of tries.
-fn next_parcel(input: &mut Receiver) -> Option<Parcel> {
+fn next_packet(input: &mut Receiver) -> Option<Packet> {
     for _ in 0..TURNS {
         if input.has_message() {
             return Some(input.receive_known());
@@ -155,8 +157,8 @@ fn next_parcel(input: &mut Receiver) -> Option<Parcel> {
 
 /// Whether the next message that comes, by a counted number of tries, is made of this.
 pub fn comes(input: &mut Receiver, part: Part<'_>) -> bool {
-    match next_parcel(input) {
-        Some(parcel) => is_one_of(&parcel, part),
+    match next_packet(input) {
+        Some(packet) => is_one_of(packet, part),
         None => false,
     }
 }
@@ -168,30 +170,31 @@ pub fn all_come(alloc: Global, input: &mut Receiver, parts: &[Part<'_>]) -> bool
         if come >= parts.len() {
             break;
         }
-        let Some(parcel) = next_parcel(input) else {
+        let Some(packet) = next_packet(input) else {
             return false;
         };
-        if !is_made_from(alloc, &parcel, parts, come) {
+        let count = count_in(&packet);
+        if !is_made_from(alloc, packet, parts, come) {
             return false;
         }
-        come = come.saturating_add(count_in(&parcel));
+        come = come.saturating_add(count);
     }
     come == parts.len()
 }
 
-/// How many messages the parcel stands for.
-fn count_in(parcel: &Parcel) -> usize {
-    match parcel {
-        Parcel::Message(_) => 1,
-        Parcel::Rows(rows) => rows.count() as usize,
+/// How many messages the packet stands for.
+fn count_in(packet: &Packet) -> usize {
+    match packet {
+        Packet::Rows(rows) => rows.count() as usize,
+        _ => 1,
     }
 }
 
-/// Whether the parcel is made of the parts from this one on.
-fn is_made_from(alloc: Global, parcel: &Parcel, parts: &[Part<'_>], from: usize) -> bool {
-    match parcel {
-        Parcel::Message(message) => is_made_at(message, parts, from),
-        Parcel::Rows(rows) => {
+/// Whether the packet is made of the parts from this one on.
+fn is_made_from(alloc: Global, packet: Packet, parts: &[Part<'_>], from: usize) -> bool {
+    match packet.into_message() {
+        Ok(message) => is_made_at(&message, parts, from),
+        Err(rows) => {
             for at in 0..rows.count() {
                 let Ok(row) = rows.row(alloc, at) else {
                     return false;

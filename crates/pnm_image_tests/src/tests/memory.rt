@@ -6,7 +6,7 @@ use super::rows_memory::are_wanted;
 use super::tools::{WHOLE, channel, picks, stays};
 use super::{holds, same};
 use pnm_filters::{ToolState, result_head, start_tool};
-use pnm_image::{Head, Kind, Message, Parcel, Shape};
+use pnm_image::{Head, Kind, Message, Shape};
 use pnm_test_support::{Part, head_of, is_made_of, message};
 use pnm_tools::{CutBox, Filter, FlipWay, Tool, ToolFault};
 use std::alloc::Global;
@@ -213,13 +213,14 @@ fn takes_next<F: Filter>(
     given: &mut usize,
 ) -> Option<bool> {
     match state.next() {
-        Ok(Some(Parcel::Message(message))) => {
-            is_wanted(rt, &message, wants.get(*given));
-            *given = given.wrapping_add(1);
-            None
-        }
-        Ok(Some(Parcel::Rows(rows))) => {
-            are_wanted(rt, &rows, wants, given);
+        Ok(Some(packet)) => {
+            match packet.into_message() {
+                Ok(message) => {
+                    is_wanted(rt, &message, wants.get(*given));
+                    *given = given.wrapping_add(1);
+                }
+                Err(rows) => are_wanted(rt, &rows, wants, given),
+            }
             None
         }
         Ok(None) => Some(true),

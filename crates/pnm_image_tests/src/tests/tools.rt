@@ -1,7 +1,7 @@
 //! Tools of the tests, and what is wanted of them.
 
 use super::{holds, same};
-use pnm_image::{Message, Parcel};
+use pnm_image::{Message, Packet};
 use pnm_test_support::Unmade;
 use pnm_tools::{CutBox, Filter, Planes, Tool, ToolFault};
 use std::alloc::Global;
@@ -50,7 +50,7 @@ fn refuses_again<F: Filter>(rt: &impl Abort, state: &mut F, message: Message, fa
 }
 
 /// The answer is this fault.
-fn gives_fault(rt: &impl Abort, answer: Result<Option<Parcel>, ToolFault>, fault: ToolFault) {
+fn gives_fault(rt: &impl Abort, answer: Result<Option<Packet>, ToolFault>, fault: ToolFault) {
     let is_so = matches!(&answer, Err(other) if *other == fault);
     holds(rt, is_so, &answer, &fault, &"next");
 }

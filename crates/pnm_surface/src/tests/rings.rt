@@ -1,7 +1,7 @@
 //! Rings that hold messages, and what comes out of them.
 
 use super::is_so;
-use pnm_flow::{AnyMessage, Message, Parcel, Receiver, Sender, new_ring};
+use pnm_flow::{AnyMessage, Message, Receiver, Sender, new_ring};
 use pnm_test_support::{Part, is_made_of, message};
 use std::alloc::Global;
 use std::process::Abort;
@@ -35,9 +35,9 @@ fn receives(receiver: &mut Receiver, part: Part<'_>) -> bool {
     if !receiver.has_message() {
         return false;
     }
-    match receiver.receive_known() {
-        Parcel::Message(message) => is_made_of(&message, part),
-        Parcel::Rows(_) => false,
+    match receiver.receive_known().into_message() {
+        Ok(message) => is_made_of(&message, part),
+        Err(_) => false,
     }
 }
 

@@ -2,7 +2,7 @@
 
 use super::{is_so, new_head, same};
 use pnm_filters::{RowState, RowWise, StartTool, ToolState};
-use pnm_image::{Head, Kind, Parcel, Shape};
+use pnm_image::{Head, Kind, Shape};
 use pnm_test_support::{Part, is_made_of, message};
 use pnm_tools::{CutBox, Filter, FlipWay, Planes, Tool, ToolFault};
 use std::alloc::{AllocError, Global};
@@ -224,9 +224,11 @@ fn feed<F: Filter>(
 
 /// The filter gives this next, or nothing more.
 fn gives<F: Filter>(rt: &impl Abort, filter: &mut F, part: Option<Part<'_>>) {
-    let answer = filter.next();
-    let is_given = match (&answer, part) {
-        (Ok(Some(Parcel::Message(message))), Some(part)) => is_made_of(message, part),
+    let is_given = match (filter.next(), part) {
+        (Ok(Some(packet)), Some(part)) => match packet.into_message() {
+            Ok(message) => is_made_of(&message, part),
+            Err(_) => false,
+        },
         (Ok(None), None) => true,
         _ => false,
     };

@@ -5,8 +5,8 @@ use Rattle.pnm_image.specs.declared.message.Ending.TheVariants.{More, Whole, Bro
 use Rattle.pnm_stages.specs.declared.stage.StageEnd.TheVariants.{PeerGone}
 use Rattle.pnm_stages.proofs.RingSteps.{itself_input, same_input}
 use Rattle.pnm_lanes.specs.Limits.{IsLaneCount}
-use Rattle.pnm_lanes.proofs.DealSteps.{IsDealing, deals_nothing, deals_parcel, wakes_dealing, ends_whole, ends_broken}
-use Rattle.pnm_lanes.proofs.BreakSteps.{breaks_off, cuts, cut_here, ends_gone, interrupts_parcel}
+use Rattle.pnm_lanes.proofs.DealSteps.{IsDealing, deals_nothing, deals_packet, wakes_dealing, ends_whole, ends_broken}
+use Rattle.pnm_lanes.proofs.BreakSteps.{breaks_off, cuts, cut_here, ends_gone, interrupts_packet}
 use Rattle.pnm_lanes.proofs.SendSteps.{woken_count}
 use Rattle.pnm_lanes.proofs.dealing.deal_all.Goals as goal
 
@@ -37,30 +37,30 @@ returns-then-is_end_dealt-clause-dealt g c =
     let dealing =
     wakes_dealing c.loop.place (received c.args.input.now) (received c.loop.input) (received c.wake_before_input.new.input) c.args.outputs.now
     c.loop.outputs nows c.loop.invariant.2 c.wake_before_input.ensures.input.1 c.wake_before_input.ensures.outputs in
-    let end = c.in-Some-deal_parcel.end in
+    let end = c.in-Some-deal_packet.end in
     let ending = c.ending-ending.result in
     ends_gone end ending (received c.args.input.now) (received c.receive.new.self) (known_items c.receive.new.self) c.args.outputs.now
-    c.deal_parcel.new.outputs (interrupts_parcel end ending c.loop.place c.deal_parcel.new.place (received c.args.input.now) (received
-    c.wake_before_input.new.input) (received c.receive.new.self) c.args.outputs.now nows c.deal_parcel.new.outputs c.in-Some-receive.parcel
-    c.deal_parcel.result dealing c.in-Some-receive.ensures.taken c.in-Some-receive.ensures.messages (sym c.ending-ending.ensures)
-    c.deal_parcel.ensures c.in-Some-deal_parcel.is) (c.is_end_dealt.ensures.yes c.if-is_end_dealt.true)
+    c.deal_packet.new.outputs (interrupts_packet end ending c.loop.place c.deal_packet.new.place (received c.args.input.now) (received
+    c.wake_before_input.new.input) (received c.receive.new.self) c.args.outputs.now nows c.deal_packet.new.outputs c.in-Some-receive.packet
+    c.deal_packet.result dealing c.in-Some-receive.ensures.taken c.in-Some-receive.ensures.messages (sym c.ending-ending.ensures)
+    c.deal_packet.ensures c.in-Some-deal_packet.is) (c.is_end_dealt.ensures.yes c.if-is_end_dealt.true)
 
-pub returns-in-Some-deal_parcel-clause-dealt : goal.returns-in-Some-deal_parcel-clause-dealt
-returns-in-Some-deal_parcel-clause-dealt g c =
+pub returns-in-Some-deal_packet-clause-dealt : goal.returns-in-Some-deal_packet-clause-dealt
+returns-in-Some-deal_packet-clause-dealt g c =
     let nows = c.wake_before_input.new.outputs in
     let dealing =
     wakes_dealing c.loop.place (received c.args.input.now) (received c.loop.input) (received c.wake_before_input.new.input) c.args.outputs.now
     c.loop.outputs nows c.loop.invariant.2 c.wake_before_input.ensures.input.1 c.wake_before_input.ensures.outputs in
-    let end = c.in-Some-deal_parcel.end in
+    let end = c.in-Some-deal_packet.end in
     let ending = c.ending-ending.result in
-    breaks_off end c.break_off-in-Some-deal_parcel.result ending ending (received c.args.input.now) (received c.receive.new.self) (received
-    c.break_off-in-Some-deal_parcel.new.input) (known_items c.break_off-in-Some-deal_parcel.new.input) c.args.outputs.now c.deal_parcel.new.outputs
-    c.break_off-in-Some-deal_parcel.new.outputs (cuts end ending (received c.args.input.now) (received c.receive.new.self) c.args.outputs.now
-    c.deal_parcel.new.outputs (interrupts_parcel end ending c.loop.place c.deal_parcel.new.place (received c.args.input.now) (received
-    c.wake_before_input.new.input) (received c.receive.new.self) c.args.outputs.now nows c.deal_parcel.new.outputs c.in-Some-receive.parcel
-    c.deal_parcel.result dealing c.in-Some-receive.ensures.taken c.in-Some-receive.ensures.messages (sym c.ending-ending.ensures)
-    c.deal_parcel.ensures c.in-Some-deal_parcel.is) (c.is_end_dealt.ensures.no c.if-is_end_dealt.false)) refl
-    c.break_off-in-Some-deal_parcel.ensures.broken
+    breaks_off end c.break_off-in-Some-deal_packet.result ending ending (received c.args.input.now) (received c.receive.new.self) (received
+    c.break_off-in-Some-deal_packet.new.input) (known_items c.break_off-in-Some-deal_packet.new.input) c.args.outputs.now c.deal_packet.new.outputs
+    c.break_off-in-Some-deal_packet.new.outputs (cuts end ending (received c.args.input.now) (received c.receive.new.self) c.args.outputs.now
+    c.deal_packet.new.outputs (interrupts_packet end ending c.loop.place c.deal_packet.new.place (received c.args.input.now) (received
+    c.wake_before_input.new.input) (received c.receive.new.self) c.args.outputs.now nows c.deal_packet.new.outputs c.in-Some-receive.packet
+    c.deal_packet.result dealing c.in-Some-receive.ensures.taken c.in-Some-receive.ensures.messages (sym c.ending-ending.ensures)
+    c.deal_packet.ensures c.in-Some-deal_packet.is) (c.is_end_dealt.ensures.no c.if-is_end_dealt.false)) refl
+    c.break_off-in-Some-deal_packet.ensures.broken
 
 pub loop-preserved : goal.loop-preserved
 loop-preserved g c =
@@ -71,11 +71,11 @@ loop-preserved g c =
     let same = same_input c.args.input.now c.loop.input c.wake_before_input.new.input c.loop.invariant.0 c.wake_before_input.ensures.input.0 in (
       same_input c.args.input.now c.wake_before_input.new.input c.receive.new.self same c.receive.ensures.ring,
       subst IsLaneCount (sym
-          c.deal_parcel.auto.outputs) (subst IsLaneCount (sym (woken_count c.loop.outputs nows c.wake_before_input.ensures.outputs)) c.loop.invariant.1),
-      deals_parcel More c.loop.place c.deal_parcel.new.place (received c.args.input.now) (received c.wake_before_input.new.input) (received
-          c.receive.new.self) c.args.outputs.now nows c.deal_parcel.new.outputs c.in-Some-receive.parcel c.deal_parcel.result dealing
-          c.in-Some-receive.ensures.taken c.in-Some-receive.ensures.messages (sym c.ending-ending.ensures ∙ c.in-More.is) c.deal_parcel.ensures
-          c.in_default-deal_parcel.is,
+          c.deal_packet.auto.outputs) (subst IsLaneCount (sym (woken_count c.loop.outputs nows c.wake_before_input.ensures.outputs)) c.loop.invariant.1),
+      deals_packet More c.loop.place c.deal_packet.new.place (received c.args.input.now) (received c.wake_before_input.new.input) (received
+          c.receive.new.self) c.args.outputs.now nows c.deal_packet.new.outputs c.in-Some-receive.packet c.deal_packet.result dealing
+          c.in-Some-receive.ensures.taken c.in-Some-receive.ensures.messages (sym c.ending-ending.ensures ∙ c.in-More.is) c.deal_packet.ensures
+          c.in_default-deal_packet.is,
     )
 
 pub returns-in-Whole-clause-dealt : goal.returns-in-Whole-clause-dealt
@@ -84,11 +84,11 @@ returns-in-Whole-clause-dealt g c =
     let dealing =
     wakes_dealing c.loop.place (received c.args.input.now) (received c.loop.input) (received c.wake_before_input.new.input) c.args.outputs.now
     c.loop.outputs nows c.loop.invariant.2 c.wake_before_input.ensures.input.1 c.wake_before_input.ensures.outputs in
-    ends_whole c.deal_parcel.new.place (received c.args.input.now) (received c.receive.new.self) (known_items c.receive.new.self) c.args.outputs.now
-    c.deal_parcel.new.outputs (deals_parcel Whole c.loop.place c.deal_parcel.new.place (received c.args.input.now) (received
-    c.wake_before_input.new.input) (received c.receive.new.self) c.args.outputs.now nows c.deal_parcel.new.outputs c.in-Some-receive.parcel
-    c.deal_parcel.result dealing c.in-Some-receive.ensures.taken c.in-Some-receive.ensures.messages (sym c.ending-ending.ensures ∙ c.in-Whole.is)
-    c.deal_parcel.ensures c.in_default-deal_parcel.is)
+    ends_whole c.deal_packet.new.place (received c.args.input.now) (received c.receive.new.self) (known_items c.receive.new.self) c.args.outputs.now
+    c.deal_packet.new.outputs (deals_packet Whole c.loop.place c.deal_packet.new.place (received c.args.input.now) (received
+    c.wake_before_input.new.input) (received c.receive.new.self) c.args.outputs.now nows c.deal_packet.new.outputs c.in-Some-receive.packet
+    c.deal_packet.result dealing c.in-Some-receive.ensures.taken c.in-Some-receive.ensures.messages (sym c.ending-ending.ensures ∙ c.in-Whole.is)
+    c.deal_packet.ensures c.in_default-deal_packet.is)
 
 pub returns-in-BrokenOff-clause-dealt : goal.returns-in-BrokenOff-clause-dealt
 returns-in-BrokenOff-clause-dealt g c =
@@ -96,11 +96,11 @@ returns-in-BrokenOff-clause-dealt g c =
     let dealing =
     wakes_dealing c.loop.place (received c.args.input.now) (received c.loop.input) (received c.wake_before_input.new.input) c.args.outputs.now
     c.loop.outputs nows c.loop.invariant.2 c.wake_before_input.ensures.input.1 c.wake_before_input.ensures.outputs in
-    ends_broken c.deal_parcel.new.place (received c.args.input.now) (received c.receive.new.self) (known_items c.receive.new.self) c.args.outputs.now
-    c.deal_parcel.new.outputs (deals_parcel BrokenOff c.loop.place c.deal_parcel.new.place (received c.args.input.now) (received
-    c.wake_before_input.new.input) (received c.receive.new.self) c.args.outputs.now nows c.deal_parcel.new.outputs c.in-Some-receive.parcel
-    c.deal_parcel.result dealing c.in-Some-receive.ensures.taken c.in-Some-receive.ensures.messages (sym c.ending-ending.ensures ∙ c.in-BrokenOff.is)
-    c.deal_parcel.ensures c.in_default-deal_parcel.is)
+    ends_broken c.deal_packet.new.place (received c.args.input.now) (received c.receive.new.self) (known_items c.receive.new.self) c.args.outputs.now
+    c.deal_packet.new.outputs (deals_packet BrokenOff c.loop.place c.deal_packet.new.place (received c.args.input.now) (received
+    c.wake_before_input.new.input) (received c.receive.new.self) c.args.outputs.now nows c.deal_packet.new.outputs c.in-Some-receive.packet
+    c.deal_packet.result dealing c.in-Some-receive.ensures.taken c.in-Some-receive.ensures.messages (sym c.ending-ending.ensures ∙ c.in-BrokenOff.is)
+    c.deal_packet.ensures c.in_default-deal_packet.is)
 
 pub returns-in_default-clause-input : goal.returns-in_default-clause-input
 returns-in_default-clause-input g c =
@@ -113,11 +113,11 @@ returns-then-is_end_dealt-clause-input g c =
     let same = same_input c.args.input.now c.loop.input c.wake_before_input.new.input c.loop.invariant.0 c.wake_before_input.ensures.input.0 in
     same_input c.args.input.now c.wake_before_input.new.input c.receive.new.self same c.receive.ensures.ring
 
-pub returns-in-Some-deal_parcel-clause-input : goal.returns-in-Some-deal_parcel-clause-input
-returns-in-Some-deal_parcel-clause-input g c =
+pub returns-in-Some-deal_packet-clause-input : goal.returns-in-Some-deal_packet-clause-input
+returns-in-Some-deal_packet-clause-input g c =
     let same = same_input c.args.input.now c.loop.input c.wake_before_input.new.input c.loop.invariant.0 c.wake_before_input.ensures.input.0 in
-    same_input c.args.input.now c.receive.new.self c.break_off-in-Some-deal_parcel.new.input (same_input c.args.input.now
-    c.wake_before_input.new.input c.receive.new.self same c.receive.ensures.ring) c.break_off-in-Some-deal_parcel.ensures.input
+    same_input c.args.input.now c.receive.new.self c.break_off-in-Some-deal_packet.new.input (same_input c.args.input.now
+    c.wake_before_input.new.input c.receive.new.self same c.receive.ensures.ring) c.break_off-in-Some-deal_packet.ensures.input
 
 pub returns-in-Whole-clause-input : goal.returns-in-Whole-clause-input
 returns-in-Whole-clause-input g c =
@@ -133,11 +133,11 @@ pub break_off-requires : goal.break_off-requires
 break_off-requires g c =
     (subst IsLaneCount (sym (woken_count c.loop.outputs c.wake_before_input.new.outputs c.wake_before_input.ensures.outputs)) c.loop.invariant.1)
 
-pub break_off-requires-in-Some-deal_parcel : goal.break_off-requires-in-Some-deal_parcel
-break_off-requires-in-Some-deal_parcel g c =
-    subst IsLaneCount (sym c.deal_parcel.auto.outputs) (subst IsLaneCount (sym (woken_count c.loop.outputs c.wake_before_input.new.outputs
+pub break_off-requires-in-Some-deal_packet : goal.break_off-requires-in-Some-deal_packet
+break_off-requires-in-Some-deal_packet g c =
+    subst IsLaneCount (sym c.deal_packet.auto.outputs) (subst IsLaneCount (sym (woken_count c.loop.outputs c.wake_before_input.new.outputs
     c.wake_before_input.ensures.outputs)) c.loop.invariant.1)
 
-pub deal_parcel-requires : goal.deal_parcel-requires
-deal_parcel-requires g c =
+pub deal_packet-requires : goal.deal_packet-requires
+deal_packet-requires g c =
     (subst IsLaneCount (sym (woken_count c.loop.outputs c.wake_before_input.new.outputs c.wake_before_input.ensures.outputs)) c.loop.invariant.1)

@@ -1,6 +1,9 @@
-use Rattle.std.proofs.Common.{◌<◌, ◌∷◌, [], ℕ, length, refl, sym, subst, ◌∙◌, arith}
+use Rattle.std.proofs.Common.{◌<◌, ◌∷◌, [], ℕ, List, length, refl, sym, subst, ◌∙◌, arith}
+use Rattle.pnm_image.specs.declared.message.Message.{Message}
+use Rattle.pnm_image.specs.declared.packet.Packet.{Packet}
+use Rattle.pnm_image.specs.Packets.{messages_in}
 use Rattle.pnm_image.specs.Rows.{row_messages}
-use Rattle.pnm_serial.specs.SerialChains.{FiltersBusy}
+use Rattle.pnm_serial.specs.SerialChains.{FeedsThrough, FiltersBusy}
 use Rattle.pnm_serial.proofs.PassingSteps.{passes_on, feeds_nothing, feeds_first, feeds_row, drops_rows, gives_nothing, gives_on, gives_all}
 use Rattle.pnm_serial.proofs.passing.+through.Goals as goal
 
@@ -8,7 +11,18 @@ use Rattle.pnm_serial.proofs.passing.+through.Goals as goal
 
 pub feed_through-returns-then-is_empty-clause-fed : goal.feed_through-returns-then-is_empty-clause-fed
 feed_through-returns-then-is_empty-clause-fed g t c = passes_on g.F.Filter.at g.F.Filter.all_given g.F.Filter.stopped g.W.BytesOut.held g.W.BytesOut.failures
-    c.args.stages.now _ c.args.downstream.now c.put_parcel.new.self (sym c.is_empty.ensures ∙ c.if-is_empty.true) c.put_parcel.ensures.taken
+    c.args.stages.now _ c.args.downstream.now c.put_packet.new.self (sym c.is_empty.ensures ∙ c.if-is_empty.true) c.put_packet.ensures.taken
+
+pub feed_through-returns-in-Ok-clause-fed : goal.feed_through-returns-in-Ok-clause-fed
+feed_through-returns-in-Ok-clause-fed g t c =
+    subst (λ (l : List Message). FeedsThrough g.F.Filter.at g.F.Filter.all_given g.F.Filter.stopped g.W.BytesOut.held g.W.BytesOut.failures
+    c.args.stages.now l c.feed.new.stages c.args.downstream.now c.feed.new.downstream) (sym c.in-Ok.ensures.one) c.feed.ensures.fed
+
+pub feed_through-returns-in-Err-clause-fed : goal.feed_through-returns-in-Err-clause-fed
+feed_through-returns-in-Err-clause-fed g t c =
+    subst (λ (p : Packet). FeedsThrough g.F.Filter.at g.F.Filter.all_given g.F.Filter.stopped g.W.BytesOut.held g.W.BytesOut.failures
+    c.args.stages.now (messages_in p) c.feed_rows.new.stages c.args.downstream.now c.feed_rows.new.downstream) (sym c.in-Err.ensures.several.0)
+    c.feed_rows.ensures.fed
 
 -- ---- feed
 

@@ -1,9 +1,11 @@
-use Rattle.std.proofs.Common.{◌≡◌, ◌≤◌, length, refl, ap, sym, subst, ◌∙◌, arith, Ok, Err}
+use Rattle.std.proofs.Common.{◌≡◌, ◌≤◌, List, length, refl, ap, sym, subst, ◌∙◌, arith, Ok, Err}
+use Rattle.pnm_image.specs.declared.message.Message.{Message}
 use Rattle.std.proofs.lemmas.Result.{err_from_is_err_and}
 use Rattle.pnm_read.specs.declared.fault.InputFault.TheVariants.{ReadFailed}
 use Rattle.pnm_read.specs.declared.source.Source.{Source}
 use Rattle.pnm_read.specs.Sources.{reader_of}
 use Rattle.pnm_read.proofs.Turns.{no_fault}
+use Rattle.pnm_serial.specs.SerialChains.{FeedsThrough}
 use Rattle.pnm_serial.proofs.FeedingSteps.{going_none, going_flushed, going_more, going_rows, fed_all, fed_until, fed_until_rows, fed_too_many}
 use Rattle.pnm_serial.proofs.serial.feed_all.Goals.{then-may_join+in_ok-rows+in_default, else-may_join}
 use Rattle.pnm_serial.proofs.serial.feed_all.Goals as goal
@@ -41,14 +43,17 @@ loop-preserved g c =
       | else-may_join w ↦ w.source-is
     ] in
     let same_reader = subst (λ (s : Source _). g.R.BytesIn.same (reader_of c.args.source.now) (reader_of s)) (sym same) c.loop.invariant.1 in
-    let told = rw c.in-Some-2.is at c.in_ok-message.ensures.told in (
+    let told = rw c.in-Some-2.is at c.in_ok-message.ensures.told in
+    let fed = subst (λ (l : List Message). FeedsThrough g.F.Filter.at g.F.Filter.all_given g.F.Filter.stopped g.W.BytesOut.held g.W.BytesOut.failures
+    c.loop.stages l c.feed_through-in-Some-2.new.stages c.flush_before_read.new.downstream c.feed_through-in-Some-2.new.downstream) c.from.ensures
+    c.feed_through-in-Some-2.ensures.fed in (
       going_more g.R.BytesIn.left g.R.BytesIn.failures g.F.Filter.at g.F.Filter.all_given g.F.Filter.stopped g.W.BytesOut.held g.W.BytesOut.failures
           c.args.source.now c.if-may_join.source c.next.new.self c.args.stages.now c.loop.stages c.feed_through-in-Some-2.new.stages
           c.args.downstream.now c.flush_before_read.new.downstream c.feed_through-in-Some-2.new.downstream c.loop.counter c.in-Some-2.message
           (going_flushed g.R.BytesIn.left g.R.BytesIn.failures g.F.Filter.at g.F.Filter.all_given g.F.Filter.stopped g.W.BytesOut.held g.W.BytesOut.failures
           c.args.source.now c.loop.source c.if-may_join.source c.args.stages.now c.loop.stages c.args.downstream.now c.loop.downstream
           c.flush_before_read.new.downstream c.loop.counter same c.loop.invariant.0 c.flush_before_read.ensures.taken)
-          told c.next.ensures.end c.next.ensures.unread (c.in_ok-message.ensures.count (no_fault _ ReadFailed)) c.feed_through-in-Some-2.ensures.fed,
+          told c.next.ensures.end c.next.ensures.unread (c.in_ok-message.ensures.count (no_fault _ ReadFailed)) fed,
       g.met.R.BytesIn.same_later _ _ _ same_reader c.next.ensures.same_device,
       g.met.W.BytesOut.same_later _ _ _ (g.met.W.BytesOut.same_later _ _ _ c.loop.invariant.2 c.flush_before_read.ensures.same_device)
           c.feed_through-in-Some-2.ensures.same_device,

@@ -1,7 +1,7 @@
 use Rattle.std.proofs.Common.{◌≡◌, ◌<◌, length, map, arith}
 use Rattle.std.proofs.lemmas.List.{length-map}
 use Rattle.pnm_image.specs.declared.message.Message.TheVariants.{Row}
-use Rattle.pnm_stages.proofs.ParcelLaws.{rows_are_messages}
+use Rattle.pnm_stages.proofs.PacketLaws.{rows_are_messages}
 use Rattle.pnm_stages.proofs.receiver.recognise.Goals as goal
 
 pub returns-in-Rows-clause-some : goal.returns-in-Rows-clause-some

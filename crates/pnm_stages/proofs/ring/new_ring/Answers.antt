@@ -1,7 +1,7 @@
 use Rattle.std.proofs.Common.{ap, ◌∙◌}
 use Rattle.rtrb.specs.Ring.{sent, received}
-use Rattle.pnm_stages.specs.Parcels.{messages_of}
-use Rattle.pnm_stages.proofs.ParcelLaws.{none_of}
+use Rattle.pnm_stages.specs.Packets.{messages_of}
+use Rattle.pnm_stages.proofs.PacketLaws.{none_of}
 use Rattle.pnm_stages.proofs.ring.new_ring.Goals as goal
 
 pub returns-in_err-sender_waker : goal.returns-in_err-sender_waker

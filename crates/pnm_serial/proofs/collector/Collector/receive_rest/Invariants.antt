@@ -1,5 +1,5 @@
 use Rattle.std.proofs.Common.{◌≡◌, List, ◌++◌, length}
-use Rattle.pnm_stages.specs.Rings.{sent, received, known_items, known_parcels, SameReceiver}
+use Rattle.pnm_stages.specs.Rings.{sent, received, known_items, known_packets, SameReceiver}
 use Rattle.pnm_image.specs.declared.format.Form.{Form}
 use Rattle.pnm_image.specs.declared.message.Message.{Message}
 use Rattle.pnm_serial.specs.Downstreams.{output_of}
@@ -16,4 +16,4 @@ invariant-loop-self g l =
     × g.W.BytesOut.same (output_of l.fn.self.downstream) (output_of l.self.downstream)
 
 abbrev pub decreases-loop-self : goal.decreases-loop-self
-decreases-loop-self g l = length (known_parcels l.self.input)
+decreases-loop-self g l = length (known_packets l.self.input)

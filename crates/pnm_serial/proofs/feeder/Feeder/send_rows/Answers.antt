@@ -4,8 +4,8 @@ use Rattle.pnm_serial.proofs.feeder.Feeder.send_rows.Goals as goal
 pub returns-in-Ok-Some-clause-feeding : goal.returns-in-Ok-Some-clause-feeding
 returns-in-Ok-Some-clause-feeding g c is first before =
     let told = rw c.in-Ok-Some.field-0-is at c.in-Ok-Some.ensures.told in
-    feeds_rows g.R.BytesIn.left g.R.BytesIn.failures first before c.args.self.now c.next_rows.new.self c.in-Ok-Some.rows c.send_rows_reserved.new.self
-    c.requires.going c.send_rows_reserved.ensures.sent told c.next_rows.ensures.reader c.next_rows.ensures.end c.next_rows.ensures.comes
+    feeds_rows g.R.BytesIn.left g.R.BytesIn.failures first before c.args.self.now c.next_rows.new.self c.in-Ok-Some.rows c.send_packet_reserved.new.self
+    c.requires.going c.send_packet_reserved.ensures.sent told c.next_rows.ensures.reader c.next_rows.ensures.end c.next_rows.ensures.comes
 
 pub returns-in-Err-clause-feeding : goal.returns-in-Err-clause-feeding
 returns-in-Err-clause-feeding g c is first before =

@@ -1,5 +1,5 @@
 use Rattle.std.proofs.Common.{arith}
-use Rattle.pnm_stages.proofs.ParcelLaws.{none_known}
+use Rattle.pnm_stages.proofs.PacketLaws.{none_known}
 use Rattle.rtrb.specs.Ring.{known_items}
 use Rattle.pnm_stages.proofs.receiver.Receiver.look.Goals as goal
 

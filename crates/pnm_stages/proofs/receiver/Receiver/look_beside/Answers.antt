@@ -1,5 +1,5 @@
 use Rattle.std.proofs.Common.{arith}
-use Rattle.pnm_stages.proofs.ParcelLaws.{of_both}
+use Rattle.pnm_stages.proofs.PacketLaws.{of_both}
 use Rattle.pnm_stages.proofs.receiver.Receiver.look_beside.Goals as goal
 
 pub returns-clause-in_order : goal.returns-clause-in_order

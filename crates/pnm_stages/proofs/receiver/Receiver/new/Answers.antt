@@ -1,6 +1,6 @@
 use Rattle.std.proofs.Common.{ap, sym, ◌∙◌}
-use Rattle.pnm_stages.specs.Parcels.{has_rows_together}
-use Rattle.pnm_stages.proofs.ParcelLaws.{none_together}
+use Rattle.pnm_stages.specs.Packets.{has_rows_together}
+use Rattle.pnm_stages.proofs.PacketLaws.{none_together}
 use Rattle.pnm_stages.proofs.receiver.Receiver.new.Goals as goal
 
 pub invariant_of-result : goal.invariant_of-result

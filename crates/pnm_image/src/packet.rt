@@ -1,0 +1,84 @@
+//! What passes at once over rings, out of filters and into stages.
+
+ghost use Rattle.std.specs.Prelude.{◌≡◌};
+ghost use Rattle.pnm_image.specs.Packets.{ending_of_packet};
+
+use crate::head::Head;
+use crate::message::{Ending, Message};
+use crate::rows::Rows;
+
+/// What passes at once, as over a ring: it stands for one message, or for several that are rows.
+#[derive(Debug, Drop)]
+pub enum Packet {
+    /// An image begins.
+    Begin(Head),
+    /// The next rows of the image, which stand for a message each.
+    Rows(Rows),
+    /// All rows of the image have passed.
+    ImageEnd,
+    /// No image follows.
+    StreamEnd,
+    /// The stream was broken off before this point.
+    Stop,
+}
+
+impl From<Message> for Packet {
+    ghost use Rattle.std.specs.Prelude.{◌≡◌, [], ◌∷◌};
+    ghost use Rattle.pnm_image.specs.Packets.{messages_in};
+
+    ghost from_gives = { λ message packet. messages_in packet ≡ message ∷ [] };
+
+    #[inline(always)]
+    fn from(message: Message) -> Packet {
+        match message {
+            Message::Begin(head) => Packet::Begin(head),
+            Message::Row(row) => Packet::Rows(Rows::one(row)),
+            Message::ImageEnd => Packet::ImageEnd,
+            Message::StreamEnd => Packet::StreamEnd,
+            Message::Stop => Packet::Stop,
+        }
+    }
+}
+
+impl Packet {
+    ghost use Rattle.std.specs.Prelude.{◌≡◌, ◌≤◌, [], ◌∷◌, IfOk, IfErr, length};
+    ghost use Rattle.pnm_image.specs.Packets.{messages_in};
+    ghost use Rattle.pnm_image.specs.declared.packet.Packet.TheVariants.{Rows as Several};
+
+    /// The message that the packet stands for, without a copy: a row by itself too.
+    ///
+    /// # Errors
+    ///
+    /// The rows, where it stands for several.
+    #[inline(always)]
+    pub fn into_message(self) -> Result<Message, Rows>
+        ensures one { IfOk result (λ message. messages_in self ≡ message ∷ []) }
+        ensures several { IfErr result (λ rows. (self ≡ Several rows) × (2 ≤ length rows)) }
+    {
+        match self {
+            Packet::Begin(head) => Ok(Message::Begin(head)),
+            Packet::Rows(rows) => Ok(Message::Row(rows.into_one()?)),
+            Packet::ImageEnd => Ok(Message::ImageEnd),
+            Packet::StreamEnd => Ok(Message::StreamEnd),
+            Packet::Stop => Ok(Message::Stop),
+        }
+    }
+
+    /// How the packet's last message ends its stream.
+    #[inline(always)]
+    pub fn ending(&self) -> Ending
+        ensures { result ≡ ending_of_packet self.now }
+    {
+        match self {
+            Packet::Begin(_) | Packet::Rows(_) | Packet::ImageEnd => Ending::More,
+            Packet::StreamEnd => Ending::Whole,
+            Packet::Stop => Ending::BrokenOff,
+        }
+    }
+
+    /// Whether the packet ends an image.
+    #[inline(always)]
+    pub fn ends_image(&self) -> bool {
+        matches!(self, Packet::ImageEnd)
+    }
+}
