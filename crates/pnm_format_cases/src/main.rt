@@ -4,17 +4,17 @@
 //!
 //! Of rows of bits, bytes and words (`samples`):
 //!
-//! - `bits COUNT BYTES`: what a row of so many pixels holds (`pixels`), made of these bytes
-//! - `new FIRST-LAST`, `invert ..`, `reverse ..`: a sweep over made rows (`made`) of so many pixels, as they are,
+//! - `bits COUNT BYTES`: what a row of COUNT pixels holds (`pixels`), made of BYTES
+//! - `new FIRST-LAST`, `invert ..`, `reverse ..`: a sweep over made rows (`made`) of FIRST to LAST pixels, as they are,
 //!   inverted, and reversed
-//! - `take FIRST-LAST`: a sweep over so many pixels of the bytes of 40
-//! - `append HELD-HELD START-START COUNT-COUNT`: a sweep over runs of a made row, after so many pixels
+//! - `take FIRST-LAST`: a sweep over FIRST to LAST pixels of the bytes of 40
+//! - `append HELD-HELD START-START COUNT-COUNT`: a sweep over runs of a made row, each after HELD pixels
 //! - `repeat FIRST-LAST TIMES-TIMES`: a sweep over made rows whose pixels are repeated
 //! - `columns BYTE COUNT-COUNT HEIGHT-HEIGHT`: a sweep over columns of made images, from a byte on
 //! - `words SAMPLES`, `bytes SAMPLES`, `pixels COUNT BYTES`: the greatest sample, and whether the row is within numbers
-//! - `bound NUMBER`: the greatest sample of a row of the samples 3, 9, 0, of whose samples this number is a bound, and
-//!   whether it is within numbers
-//! - `left MAXVAL SAMPLE`: what is left of the maxval, of bytes where it is one, and of words
+//! - `bound NUMBER`: the greatest sample of a row of the samples 3, 9, 0, whose bound is NUMBER, and whether it is
+//!   within numbers
+//! - `left MAXVAL SAMPLE`: the maxval minus the sample, as bytes if both are bytes, and as words
 //! - `samples WIDTH FIRST-LAST`, `parts WIDTH`: a sweep over made rows of bits, bytes or words, and over parts of one
 //!   of 20 samples
 //!
@@ -23,27 +23,27 @@
 //! - `text TEXT`: the answers, which are the same however few bytes a read gives, and no read follows one that gave
 //!   none
 //! - `long TEXT`: the answers to a long text, whole and 4,097 bytes a read
-//! - `cuts TEXT`: the answers to each prefix of the text, by the length from which on they are those
-//! - `fails TEXT`: the answers where a read of a byte each fails, by its number
+//! - `cuts TEXT`: the answers to each prefix of the text, by the length from which on they stay the same
+//! - `fails TEXT`: the answers if one of the reads of a byte each fails, by its number
 //! - `reads MOST FAILING TEXT`: the answers, and what each read asked for and got: at most MOST bytes, and nothing at
 //!   read FAILING
 //! - `joins MOST FAILING TEXT`: the answers where the source is asked for rows together before each message, between
 //!   braces those that come so: a read gives at most MOST bytes, and read FAILING fails, none for 0
 //! - `reads_by SIZE MOST FAILING TEXT`, `joins_by SIZE MOST FAILING TEXT`: the same through a buffer of SIZE bytes
 //! - `ahead COUNT TEXT`: how many reads of a byte each were made before the first answer, and after each
-//! - `held COUNT TEXT`: whether the source tells of each of so many answers that a read will be made for it
+//! - `held COUNT TEXT`: whether the source tells, for each of COUNT answers, that it will make a read for it
 //! - `width TEXT`: how the samples of the first row are held
-//! - `changes SET TEXT`, `inserts SET TEXT`: how many texts, and the CRC-32 of the answers, to all texts with a byte of
-//!   the set in the place of another, or between two others
+//! - `changes SET TEXT`, `inserts SET TEXT`: the number of all texts with a byte of the set in place of another, or
+//!   between two others, and the CRC-32 of the answers to them
 //! - `image TEXT`, then `streams`, `after TEXT`: how many texts, and the CRC-32 of the answers, to these images one
 //!   after another, and to them with a text after them
 //!
 //! Of what a sink writes, and which messages it refuses (`write`); rows between braces are put together:
 //!
 //! - `raw MESSAGES`, `plain MESSAGES`: the faults, how the stream ends, and the bytes, however wide rows are held
-//! - `sips FORM MOST WRITE FLUSH MESSAGES`: the faults, how the stream ends, and the bytes where a write takes up to
-//!   MOST bytes, and those after so many writes and so many flushes fail once, `_` for none; a sink is flushed after
-//!   each image, and told is how often that was, too
+//! - `sips FORM MOST WRITE FLUSH MESSAGES`: the faults, how the stream ends, and the bytes if a write takes up to MOST
+//!   bytes, and the write after WRITE others and the flush after FLUSH others fail once, `_` for none; the sink is
+//!   flushed after each image, and the number of flushes is told, too
 //! - `numbers KIND MAXVAL WIDTH-WIDTH SHIFT-SHIFT`: a sweep over plain images of a made row (`made`), however it is
 //!   held
 //! - `bitmaps FIRST WIDTH-WIDTH`: a sweep over plain images of pixels of a made row

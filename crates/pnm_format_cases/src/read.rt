@@ -70,7 +70,7 @@ pub const FAULTS: &[InputFault] = &[
     InputFault::Memory,
 ];
 
-/// Adds what comes of a case, beside the raw images so far.
+/// Adds what comes of a case. `images` holds the raw images so far.
 pub fn tell(
     alloc: Global,
     how: How,

@@ -47,7 +47,7 @@ pub fn tell(alloc: Global, how: How, text: &[u8], told: &mut String) -> Result<(
     }
 }
 
-/// The form that is named so: raw by default.
+/// The form of this name: raw by default.
 fn form_of(word: &[u8]) -> Form {
     if word == b"plain".as_slice() {
         Form::Plain

@@ -16,7 +16,7 @@ pub struct DeviceFailed;
 
 /// A device that gives bytes.
 pub trait BytesIn {
-    /// The bytes that it will still give, where it tells them.
+    /// The bytes that it will still give, if it tells them.
     ghost left: { Self → Option (List ℕ) };
 
     /// How many calls have failed, up to `u64::MAX`.
@@ -25,8 +25,8 @@ pub trait BytesIn {
     /// The two are one device at two moments.
     ghost same: { Self → Self → Type 0 };
 
-    /// Reads into the front of the buffer, and answers how many bytes came: 0 only at the end, or
-    /// where the buffer is empty. A failed call takes no byte.
+    /// Reads into the front of the buffer, and returns how many bytes came: 0 only at the end, or if the buffer is
+    /// empty. A failed call takes no byte.
     fn read(&mut self, buffer: &mut [u8]) -> Result<usize, DeviceFailed>
         ensures bound { ReadsAtMost result buffer.new }
         ensures bytes { ReadConsumes (left self.old) (left self.new) result buffer.new }
@@ -36,13 +36,13 @@ pub trait BytesIn {
     /// A device is the same as itself.
     ghost same_at_once: { (a : Self) → same a a };
 
-    /// What is the same later is the same over both steps.
+    /// A device that stays the same over each of two steps stays the same over both.
     ghost same_later: { (a b c : Self) → same a b → same b c → same a c };
 }
 
 /// A device that takes bytes.
 pub trait BytesOut {
-    /// The bytes that it holds, where it tells them.
+    /// The bytes that it holds, if it tells them.
     ghost held: { Self → Option (List ℕ) };
 
     /// How many calls have failed, up to `u64::MAX`.
@@ -51,8 +51,8 @@ pub trait BytesOut {
     /// The two are one device at two moments.
     ghost same: { Self → Self → Type 0 };
 
-    /// Writes bytes from the first on, and answers how many it took: at least one, where there
-    /// is one. A failed call takes no byte.
+    /// Writes bytes from the first on, and returns how many it took: at least one, if there is one. A failed call takes
+    /// no byte.
     fn write(&mut self, bytes: &[u8]) -> Result<usize, DeviceFailed>
         ensures bound { WritesAtMost result bytes.now }
         ensures some { IfOk result (λ n. 0 < length bytes.now → 0 < n) }
@@ -69,7 +69,7 @@ pub trait BytesOut {
     /// A device is the same as itself.
     ghost same_at_once: { (a : Self) → same a a };
 
-    /// What is the same later is the same over both steps.
+    /// A device that stays the same over each of two steps stays the same over both.
     ghost same_later: { (a b c : Self) → same a b → same b c → same a c };
 }
 
@@ -188,7 +188,7 @@ impl<D: Write> BytesOut for Device<D> {
     }
 }
 
-/// Writes all the bytes. Where a write fails, what was taken before it is a prefix of them.
+/// Writes all the bytes. If a write fails, the bytes that were taken before it are a prefix of them.
 pub fn write_all<W: BytesOut>(writer: &mut W, bytes: &[u8]) -> Result<(), DeviceFailed>
     ensures written { OnOk result (Appends (W.held writer.old) (W.held writer.new) bytes.now) }
     ensures failed { OnErr result

@@ -25,7 +25,7 @@ pub struct Format {
 }
 
 impl Format {
-    /// The format that the second byte of a magic names; none where it names none.
+    /// The format that the second byte of a magic names, or `None` if it names none.
     pub fn of(byte: u8) -> Option<Format>
         ensures { result ≡ format_of byte }
     {

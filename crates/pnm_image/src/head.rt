@@ -66,7 +66,7 @@ impl Head {
         requires { Suits shape.kind shape.depth shape.maxval tuple_type.now }
         ensures made { IfOk result (λ head. head ≡ head_value shape tuple_type.now) }
         ensures sound { OnOk result (shape_fault shape ≡ None) }
-        // The numbers are judged first: want of memory comes only where nothing is wrong with them.
+        // The numbers are judged first: `Memory` comes only if nothing is wrong with them.
         ensures refused { IfErr result (λ fault. (shape_fault shape ≡ Some fault)
             ⊎ ((fault ≡ HeadFault.Memory) × (shape_fault shape ≡ None))) }
     {
@@ -113,7 +113,7 @@ impl Head {
         self.shape
     }
 
-    /// The bytes of the tuple type, none where the kind isn't `Pam`.
+    /// The bytes of the tuple type; there are none if the kind isn't `Pam`.
     pub fn tuple_type(&self) -> &[u8]
         ensures { result.now ≡ self.now.tuple_type }
     {

@@ -1,5 +1,5 @@
-//! Laws of lists of messages. Each stands over the definitions alone, as the contract of a function
-//! that does nothing.
+//! Laws of lists of messages. Each is stated over the definitions alone, as the contract of a function that does
+//! nothing.
 
 ghost use Rattle.pnm_image.specs.Completion.{LawfulListsAreStreams, StreamsAreLawful, LawfulListsCanBeCompleted};
 ghost use Rattle.pnm_image.specs.declared.limits.TheConstants.{MAX_DEPTH, MAX_MAXVAL, MAX_ROW_LENGTH, MAX_SIDE};
@@ -21,7 +21,7 @@ pub fn lawful_lists_can_be_completed()
     ensures { LawfulListsCanBeCompleted }
 {}
 
-/// The limits of images in numbers: the definitions have them by their names, from the code.
+/// The limits of images in numbers. The definitions take them from the code by their names.
 pub fn limits_are()
     ensures side { MAX_SIDE ≡ 16777216 }
     ensures depth { MAX_DEPTH ≡ 256 }

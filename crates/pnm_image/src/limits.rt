@@ -1,5 +1,5 @@
-//! The limits of images: own ones, which no page has, but for the maxval's. What is proved of them and
-//! what is done by them names these numbers; the law `laws::limits_are` alone says them again.
+//! The limits of images. All but that of the maxval are this project's own: no page of a format gives them. Code and
+//! proofs name these numbers; only the law `laws::limits_are` repeats them.
 
 /// The greatest width and the greatest height.
 pub const MAX_SIDE: u32 = 16_777_216;

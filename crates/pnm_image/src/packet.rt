@@ -12,7 +12,7 @@ use crate::rows::Rows;
 pub enum Packet {
     /// An image begins.
     Begin(Head),
-    /// The next rows of the image, which stand for a message each.
+    /// The next rows of the image, each of which stands for a message.
     Rows(Rows),
     /// All rows of the image have passed.
     ImageEnd,
@@ -45,11 +45,11 @@ impl Packet {
     ghost use Rattle.pnm_image.specs.Packets.{messages_in};
     ghost use Rattle.pnm_image.specs.declared.packet.Packet.TheVariants.{Rows as Several};
 
-    /// The message that the packet stands for, without a copy: a row by itself too.
+    /// The message that the packet stands for, without a copy. That can be a single row, too.
     ///
     /// # Errors
     ///
-    /// The rows, where it stands for several.
+    /// The rows, if it stands for several.
     #[inline(always)]
     pub fn into_message(self) -> Result<Message, Rows>
         ensures one { IfOk result (λ message. messages_in self ≡ message ∷ []) }

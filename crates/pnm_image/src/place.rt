@@ -10,12 +10,12 @@ use crate::rows::Rows;
 use crate::shape::Shape;
 use pnm_samples::Samples;
 
-/// Where a stream of messages stands.
+/// A place in a stream of messages.
 #[derive(Clone, Copy, Debug, PartialEq, Eq)]
 pub enum Place {
     /// Before an image, or before the end of the stream.
     Between,
-    /// In an image of this shape, of which so many rows have passed.
+    /// In an image of this shape, after this many of its rows.
     Inside(Shape, u32),
     /// After the end of the stream, or after it was broken off.
     After,
@@ -32,7 +32,7 @@ impl Place {
     /// Whether the message may come here. An image begins, or the stream ends, between images; an
     /// image of height h has h rows of width times depth samples up to its maxval, and then ends;
     /// a stream may be broken off anywhere before its end.
-    // A tool and the sink ask this of each row: within them the message stays in registers.
+    // A tool and the sink ask this for each row. Inlined into them, it leaves the message in registers.
     #[inline(always)]
     pub fn accepts(&self, message: &Message) -> bool
         ensures { IsTrue result ↔ Accepts self.now message.now }
@@ -92,7 +92,7 @@ impl Place {
     }
 }
 
-/// Whether the row has so many samples, none of them above the maxval.
+/// Whether the row has as many samples as the shape says, none of them above the maxval.
 #[inline(always)]
 fn is_row_of(shape: &Shape, row: &Samples) -> bool
     ensures { IsTrue result ↔ IsRowOf shape.now row.now }
@@ -100,7 +100,7 @@ fn is_row_of(shape: &Shape, row: &Samples) -> bool
     row.len() as u64 == shape.row_length() && row.are_within(shape.maxval)
 }
 
-/// Whether each row has so many samples, none of them above the maxval.
+/// Whether each row has as many samples as the shape says, none of them above the maxval.
 fn are_rows_of(shape: &Shape, rows: &Rows) -> bool
     ensures { IsTrue result ↔ AllByRecursion (IsRowOf shape.now) rows.now }
 {

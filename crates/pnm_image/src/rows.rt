@@ -21,7 +21,7 @@ pub enum RowVec {
     Words(Vec<u16>),
 }
 
-/// Rows that are lent, as wide as they are held.
+/// Borrowed rows, as wide as they are held.
 #[derive(Clone, Copy, Debug)]
 pub enum RowSlice<'a> {
     /// Each is 0 or 1.
@@ -33,7 +33,7 @@ pub enum RowSlice<'a> {
 }
 
 impl RowVec {
-    /// The rows, lent.
+    /// The rows, borrowed.
     pub fn as_slice(&self) -> RowSlice<'_>
         ensures lists { (count : ℕ) (each : ℕ) → slice_lists count each result ≡ row_lists count each self.now }
         ensures whole { (count : ℕ) (each : ℕ) → AreRows count each self.now → AreSliceRows count each result }
@@ -51,7 +51,7 @@ impl RowSlice<'_> {
     ///
     /// # Errors
     ///
-    /// Where there is no memory for them.
+    /// If there is no memory for them.
     pub fn to_words(self, alloc: Global) -> Result<Vec<u16>, AllocError>
         ensures whole { (count : ℕ) (each : ℕ) → AreSliceRows count each self.entry
             → IfOk result (λ words. length words.items ≡ count * each) }
@@ -66,9 +66,9 @@ impl RowSlice<'_> {
     }
 }
 
-/// Rows of one image that follow one another, at least one, held as one long row: each with as many samples as the
-/// others, and none between them; but those of bits as they lie in a raw file. So one message stands for several rows,
-/// and a loop over samples goes over all of them.
+/// Consecutive rows of one image, at least one, held as one long row. All rows have the same number of samples, with
+/// nothing between them; rows of bits are held as they lie in a raw file. So one message stands for several rows, and a
+/// loop over samples goes over all of them.
 #[derive(Debug, Drop)]
 pub struct Rows {
     held: RowVec,
@@ -91,7 +91,7 @@ impl Model for Rows {
 }
 
 impl Rows {
-    /// So many rows of so many samples each, none of them above this number, without a copy.
+    /// `count` rows of `row_length` samples each, none of them above `bound`, without a copy.
     pub fn new(held: RowVec, bound: u32, count: u32, row_length: usize) -> Rows
         requires some { 1 ≤ count }
         requires whole { AreRows count row_length held }
@@ -106,7 +106,7 @@ impl Rows {
         }
     }
 
-    /// A row by itself.
+    /// A single row.
     #[inline(always)]
     pub fn one(row: Samples) -> Rows
         ensures { result ≡ row ∷ [] }
@@ -120,11 +120,11 @@ impl Rows {
         Rows::new(held, bound, 1, row_length)
     }
 
-    /// The row, where it is one by itself.
+    /// The row, if there is only one.
     ///
     /// # Errors
     ///
-    /// The rows themselves, where they are several.
+    /// The rows themselves, if there are several.
     #[inline(always)]
     pub fn into_one(self) -> Result<Samples, Rows>
         ensures one { IfOk result (λ row. self ≡ row ∷ []) }
@@ -145,7 +145,7 @@ impl Rows {
         Samples::within(first_of(self.held, self.row_length), self.bound)
     }
 
-    /// How many rows these are.
+    /// The number of rows.
     pub fn count(&self) -> u32
         ensures rows { result ≡ length self.now }
         ensures some { 1 ≤ result }
@@ -153,7 +153,7 @@ impl Rows {
         self.count
     }
 
-    /// The samples of each row.
+    /// The number of samples in each row.
     pub fn row_length(&self) -> usize
         ensures each { All (λ row. length row ≡ result) self.now }
         ensures some { 1 ≤ length self.now }
@@ -168,7 +168,7 @@ impl Rows {
         self.bound
     }
 
-    /// How the rows are held, lent.
+    /// The rows as they are held, borrowed.
     pub fn as_slice(&self) -> RowSlice<'_>
         ensures rows { (each : ℕ) → All (λ row. length row ≡ each) self.now
             → slice_lists (length self.now) each result ≡ self.now }
@@ -178,7 +178,7 @@ impl Rows {
         self.held.as_slice()
     }
 
-    /// The samples of a row, counted from 0, lent.
+    /// The samples of row `at`, counted from 0, borrowed.
     pub fn row_slice(&self, at: u32) -> SampleSlice<'_>
         requires { at < length self.now }
         ensures samples { slice_samples result ≡ get_or self.now at [] }
@@ -195,7 +195,7 @@ impl Rows {
         }
     }
 
-    /// Whether no sample is above this number. No row is looked at where none can be.
+    /// Whether no sample is above `most`. It looks at no row if none can be above it.
     pub fn are_within(&self, most: u32) -> bool
         ensures { IsTrue result ↔ AreRowsWithin most self.now }
     {
@@ -210,11 +210,11 @@ impl Rows {
         true
     }
 
-    /// A copy of a row, counted from 0.
+    /// A copy of row `at`, counted from 0.
     ///
     /// # Errors
     ///
-    /// Where there is no memory for it.
+    /// If there is no memory for it.
     pub fn row(&self, alloc: Global, at: u32) -> Result<Samples, AllocError>
         requires { at < length self.now }
         ensures { IfOk result (λ row. self.now ≡ take at self.now ++ row ∷ drop (at + 1) self.now) }
@@ -222,11 +222,11 @@ impl Rows {
         copy_of(alloc, self.row_slice(at))
     }
 
-    /// A copy of so many of the rows, from one on.
+    /// A copy of `count` rows, from row `top` on.
     ///
     /// # Errors
     ///
-    /// Where there is no memory for it.
+    /// If there is no memory for it.
     pub fn part(&self, alloc: Global, top: u32, count: u32) -> Result<Rows, AllocError>
         requires some { 1 ≤ count }
         requires within { top + count ≤ length self.now }
@@ -237,7 +237,7 @@ impl Rows {
         Ok(Rows::new(held, self.bound, count, each))
     }
 
-    /// How the rows are held, how many they are, and how many samples a row has, without a copy.
+    /// The rows as they are held, the number of rows, and the number of samples in each, without a copy.
     pub fn into_parts(self) -> (RowVec, u32, usize)
         ensures rows { self ≡ row_lists result.1 result.2 result.0 }
         ensures some { 1 ≤ result.1 }
@@ -247,7 +247,7 @@ impl Rows {
     }
 }
 
-/// The first of rows of so many samples, without a copy.
+/// The first of rows of `each` samples, without a copy.
 #[inline(always)]
 fn first_of(held: RowVec, each: usize) -> SampleVec
     ensures { (count : ℕ) → 1 ≤ count → samples_of result ≡ get_or (row_lists count each held) 0 [] }
@@ -265,11 +265,11 @@ fn first_of(held: RowVec, each: usize) -> SampleVec
     }
 }
 
-/// A copy of so many of rows of so many samples, from one on.
+/// A copy of `many` rows of `each` samples, from row `top` on.
 ///
 /// # Errors
 ///
-/// Where there is no memory for it.
+/// If there is no memory for it.
 fn part_of(
     alloc: Global,
     held: &RowVec,

@@ -12,11 +12,11 @@ use std::alloc::Global;
 /// The bytes of the smallest buffer.
 const LEAST_BYTES: usize = 4096;
 
-/// The bytes of the smallest target that is read into past the buffer. What a smaller one wants comes with what is
-/// behind it in one read.
+/// The size of the smallest target that is read into past the buffer. For a smaller one, one read fetches what it wants
+/// and what follows.
 const LEAST_BYTES_PAST: usize = 16_384;
 
-/// A buffer of 4,096 bytes or more for what is read of an input.
+/// A buffer of 4,096 bytes or more for what is read from an input.
 #[derive(Drop)]
 pub struct ReadBuffer {
     bytes: Vec<u8>,
@@ -32,7 +32,7 @@ impl ReadBuffer {
         ReadBuffer::with_capacity(alloc, LEAST_BYTES)
     }
 
-    /// A buffer of so many bytes that holds nothing yet. The only fault is `Memory`.
+    /// A buffer of `capacity` bytes that holds nothing yet. The only fault is `Memory`.
     pub fn with_capacity(alloc: Global, capacity: usize) -> Result<ReadBuffer, InputFault>
         requires { 4096 ≤ capacity }
         ensures size { IfOk result (λ buffer. vec_len buffer.bytes ≡ capacity) }
@@ -45,11 +45,11 @@ impl ReadBuffer {
     }
 }
 
-/// A reader, and what was read of it and isn't taken yet.
+/// A reader, and what was read from it but isn't taken yet.
 #[derive(Drop)]
 pub struct BufferedReader<R> {
     reader: R,
-    /// Those from `at` up to `end` are held.
+    /// The bytes from `at` up to `end` are held.
     buffer: Vec<u8>,
     at: usize,
     end: usize,
@@ -63,7 +63,7 @@ pub struct BufferedReader<R> {
 impl<R: BytesIn> BufferedReader<R> {
     ghost use Rattle.pnm_read.specs.BufferedReaders.{held_of, ReadCall, Fills, Reads, IsByte, HoldsEnough};
 
-    /// Nothing is read.
+    /// A buffered reader that has read nothing yet.
     pub fn new(buffer: ReadBuffer, reader: R) -> BufferedReader<R>
         ensures reader { result.reader ≡ reader }
         ensures nothing_held { held_of result ≡ [] }
@@ -85,7 +85,7 @@ impl<R: BytesIn> BufferedReader<R> {
         self.reader
     }
 
-    /// The allocator that the buffer was made by.
+    /// The allocator that made the buffer.
     pub fn allocator(&self) -> Global {
         *self.buffer.allocator()
     }
@@ -97,14 +97,14 @@ impl<R: BytesIn> BufferedReader<R> {
         &self.buffer[self.at..self.end]
     }
 
-    /// Whether so many bytes are held, or all that are left.
+    /// Whether `wanted` bytes are held, or all that are left.
     pub fn holds(&self, wanted: usize) -> bool
         ensures { IsTrue result ↔ HoldsEnough wanted self.now }
     {
         self.ended || self.end - self.at >= wanted
     }
 
-    /// Takes so many of the bytes that are held.
+    /// Takes the first `count` of the bytes that are held.
     pub fn advance(&mut self, count: usize)
         requires { count ≤ length (held_of self.old) }
         ensures held { held_of self.new ≡ drop count (held_of self.old) }
@@ -114,7 +114,7 @@ impl<R: BytesIn> BufferedReader<R> {
         self.at += count;
     }
 
-    /// Reads until so many bytes are held, or the input has ended. The only fault is `ReadFailed`.
+    /// Reads until `wanted` bytes are held, or the input has ended. The only fault is `ReadFailed`.
     pub fn fill(&mut self, wanted: usize) -> Result<(), InputFault>
         requires { wanted ≤ 4096 }
         ensures read_call { ReadCall R.left R.failures R.same self.old self.new result (Fills result) }
@@ -157,9 +157,9 @@ impl<R: BytesIn> BufferedReader<R> {
         }
     }
 
-    /// Takes the next bytes into the front of the target, and answers how many came: 0 only at the end of
-    /// the input. They are those that are held, or where none is, those of one read, straight into a
-    /// target of at least 16,384 bytes. The only fault is `ReadFailed`.
+    /// Takes the next bytes into the front of the target, and returns how many came: 0 only at the end of the input.
+    /// These are bytes that are held or, if none are, those of one read, which goes straight into a target of at least
+    /// 16,384 bytes. The only fault is `ReadFailed`.
     pub fn read(&mut self, target: &mut [u8]) -> Result<usize, InputFault>
         requires { 0 < length target.old }
         ensures read_call { ReadCall R.left R.failures R.same self.old self.new result (Reads target.new result) }
@@ -177,7 +177,7 @@ impl<R: BytesIn> BufferedReader<R> {
         Ok(count)
     }
 
-    /// Reads once into the target, past the buffer, of which nothing is held.
+    /// Reads once into the target, past the buffer, which holds nothing.
     fn read_past(&mut self, target: &mut [u8]) -> Result<usize, InputFault>
         requires held { held_of self.old ≡ [] }
         requires target { 0 < length target.old }
@@ -191,7 +191,7 @@ impl<R: BytesIn> BufferedReader<R> {
         read_into(&mut self.reader, &mut self.ended, target)
     }
 
-    /// The next byte; none at the end of the input.
+    /// The next byte, or `None` at the end of the input.
     pub fn next_byte(&mut self) -> Result<Option<u8>, InputFault>
         ensures { ReadCall R.left R.failures R.same self.old self.new result (IsByte result) }
     {
@@ -207,8 +207,8 @@ impl<R: BytesIn> BufferedReader<R> {
     }
 }
 
-/// Reads once into the front of the target, and answers how many bytes came: 0 only at the end, which is
-/// noted then.
+/// Reads once into the front of the target, and returns how many bytes came: 0 only at the end, and `ended` is set
+/// then.
 fn read_into<R: BytesIn>(
     reader: &mut R,
     ended: &mut bool,

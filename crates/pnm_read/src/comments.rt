@@ -12,8 +12,8 @@ pub fn is_apart(byte: u8) -> bool
     is_white(byte) || byte == b'#'
 }
 
-/// Whether what follows the byte is inside a comment; `inside` tells it of the byte. A comment goes
-/// from a `#` through the next CR or LF.
+/// Whether what follows the byte is inside a comment; `inside` says whether the byte itself is. A comment goes from a
+/// `#` through the next CR or LF.
 pub fn commented(inside: bool, byte: u8) -> bool
     ensures { result ≡ commented inside byte }
 {

@@ -12,19 +12,18 @@ use crate::judgement::Judgement;
 use crate::scan::Scanner;
 use pnm_image::characters::is_digit;
 
-/// The bytes from after a sample's last digit, or the header, through the last digit of the next
-/// sample, at most.
+/// The most bytes from after a sample's last digit, or after the header, through the last digit of the next sample.
 pub const GAP_LIMIT: usize = 1_048_576;
 
 /// Takes a number and the gap before it, byte by byte.
 #[derive(Drop)]
 pub struct DecimalScanner {
-    /// What the digits spell that have come; it stops at `u32::MAX`.
+    /// The number that the digits so far spell; it stops at `u32::MAX`.
     value: u32,
     /// The last byte is a digit, outside comments.
     in_number: bool,
     in_comment: bool,
-    /// The bytes that have come.
+    /// The number of bytes so far.
     length: usize,
     ghost short: { length ≤ GAP_LIMIT },
 }
@@ -32,7 +31,7 @@ pub struct DecimalScanner {
 impl DecimalScanner {
     ghost use Rattle.pnm_read.specs.Scanners.{IsDecimalAfter, JudgesDecimal, PushesDecimal};
 
-    /// Before the first byte.
+    /// A scanner before its first byte.
     pub fn new() -> DecimalScanner
         ensures { IsDecimalAfter result [] }
     {
@@ -44,7 +43,7 @@ impl DecimalScanner {
         }
     }
 
-    /// What the digits spell that have come, at most `u32::MAX`.
+    /// The number that the digits so far spell, at most `u32::MAX`.
     pub fn value(&self) -> u32
         ensures { result ≡ self.now.value }
     {
@@ -71,7 +70,7 @@ impl DecimalScanner {
         }
     }
 
-    /// Takes a byte with which the number, or the gap before it, goes on.
+    /// Takes a byte that continues the number or the gap before it.
     fn push(&mut self, byte: u8)
         requires { self.old.length < GAP_LIMIT }
         ensures { PushesDecimal self.old byte self.new }

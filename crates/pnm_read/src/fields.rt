@@ -40,7 +40,7 @@ impl Fields {
         }
     }
 
-    /// The shape; none where a number is missing.
+    /// The shape, or `None` if a number is missing.
     fn shape(&self) -> Option<Shape>
         ensures { result ≡ shape_held self.now }
     {
@@ -68,7 +68,7 @@ impl Fields {
         }
     }
 
-    /// Takes the number of a field, which is the first token of this text.
+    /// Takes the number of a field: the first token of the text.
     fn set_number(&mut self, field: Field, text: &[u8]) -> Judgement
         ensures { SetsNumber self.old field text.now self.new result }
     {
@@ -87,7 +87,7 @@ impl Fields {
         }
     }
 
-    /// Joins this text to the tuple type by a blank; an empty one is left out.
+    /// Joins the text to the tuple type with a blank; an empty text is left out.
     fn add_tuple_type(&mut self, text: &[u8]) -> Judgement
         ensures { AddsTupleType self.old text.now self.new result }
     {
@@ -110,7 +110,7 @@ impl Fields {
     }
 }
 
-/// Puts a number where none is yet.
+/// Sets the number, or fails if it is set already.
 fn set_once(place: &mut Option<u32>, number: u32) -> Judgement
     ensures { SetsOnce place.old number place.new result }
 {

@@ -23,14 +23,14 @@ use pnm_image::characters::{is_digit, is_white};
 use pnm_image::{BytesIn, Format, Head, HeadFault, Kind, Shape};
 use std::alloc::Global;
 
-/// The most bytes of a header, those of its magic among them.
+/// The most bytes of a header, including those of its magic.
 pub const MAX_HEADER_LENGTH: usize = 65_536;
 
-/// The bytes of a header after its magic, at most.
+/// The most bytes of a header after its magic.
 const HEADER_LIMIT: usize = MAX_HEADER_LENGTH - 2;
 
-/// The format that the input's magic names, or the text's fault there, or `ReadFailed`. A plain one may come first
-/// alone.
+/// The format that the input's magic names, or the text's fault there, or `ReadFailed`. A plain format may only come
+/// first.
 pub fn read_format<R: BytesIn>(
     input: &mut BufferedReader<R>,
     is_first: bool,
@@ -48,7 +48,7 @@ pub fn read_format<R: BytesIn>(
     }
 }
 
-/// The format that the second byte of a magic names. A plain one may come first alone.
+/// The format that the second byte of a magic names. A plain format may only come first.
 fn format_named(byte: u8, is_first: bool) -> Result<Format, InputFault>
     ensures { result ≡ format_named is_first byte }
 {
@@ -75,7 +75,7 @@ pub fn read_head<R: BytesIn>(
     }
 }
 
-/// Whether a header, or its fault, is told by these bytes, with which the image begins, and no more are needed.
+/// Whether these bytes, with which the image begins, determine its header, or the fault there, without any more bytes.
 pub fn is_told(bytes: &[u8], is_first: bool) -> bool {
     match bytes {
         [] | [b'P'] => false,
@@ -99,8 +99,8 @@ fn ends_within(kind: Kind, bytes: &[u8]) -> bool {
     }
 }
 
-/// Whether so many numbers stand within these bytes, each with white space behind it and nothing but that before it.
-/// Most headers are found whole so, in less time than a scanner takes.
+/// Whether these bytes begin with `wanted` numbers, each with white space after it and nothing but white space before
+/// it. Most headers are found whole like this, in less time than a scanner takes.
 fn has_numbers(wanted: usize, bytes: &[u8]) -> bool {
     let mut missing = wanted;
     let mut in_number = false;
@@ -129,7 +129,7 @@ fn read_pnm_head<R: BytesIn>(input: &mut BufferedReader<R>, kind: Kind) -> Resul
     head_of(input.allocator(), kind, header.numbers)
 }
 
-/// The head of these numbers, of which PBM has the last two alone, or what is wrong with them.
+/// The head of these numbers, or what is wrong with them. PBM has only the last two.
 fn head_of(alloc: Global, kind: Kind, numbers: [u32; 3]) -> Result<Head, InputFault>
     ensures { (found : List ℕ) → IsNumbers (number_count kind) found numbers
         → GivesInMemory result (numbers_item kind found) }
@@ -164,16 +164,16 @@ pub fn fault_of_head(fault: HeadFault) -> InputFault
 /// Takes a header of PBM, PGM or PPM after its magic, byte by byte.
 #[derive(Drop)]
 struct HeaderScanner {
-    /// The numbers that the header has.
+    /// How many numbers the header has.
     wanted: usize,
-    /// The numbers that have begun.
+    /// How many numbers have begun.
     found: usize,
     /// The last three numbers, 0 for one that hasn't come; each stops at `u32::MAX`.
     numbers: [u32; 3],
     /// The last byte outside comments is a digit.
     in_number: bool,
     in_comment: bool,
-    /// The bytes that have come.
+    /// The number of bytes so far.
     length: usize,
     ghost short: { length ≤ HEADER_LIMIT },
     ghost begun: { found ≤ length },
@@ -214,7 +214,7 @@ impl HeaderScanner {
         }
     }
 
-    /// Whether the byte can't stand here.
+    /// Whether the byte can't come here.
     fn is_bad(&self, byte: u8) -> bool
         ensures { result ≡ is_bad_after self.now byte }
     {
@@ -222,7 +222,7 @@ impl HeaderScanner {
             || (!self.in_comment && !(is_digit(byte) || is_apart(byte)))
     }
 
-    /// Takes a byte with which the header goes on.
+    /// Takes a byte that continues the header.
     fn push(&mut self, byte: u8)
         requires { self.old.length < HEADER_LIMIT }
         ensures { PushesHeader self.old byte self.new }
@@ -238,7 +238,7 @@ impl HeaderScanner {
         self.in_comment = commented(self.in_comment, byte);
     }
 
-    /// Takes a digit's value as the next of a number.
+    /// Takes the value of a number's next digit.
     fn push_digit(&mut self, digit: u8)
         requires { self.old.found < self.old.length }
         ensures { PushesDigit self.old digit self.new }

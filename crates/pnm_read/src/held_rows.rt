@@ -22,9 +22,9 @@ const MOST_BYTES: usize = 65_536;
 /// The sample of a white pixel, which none is above.
 const GREATEST_PIXEL: u32 = 1;
 
-/// How many of the next rows can be handed over together: all that are held whole and left in the image, up to
-/// `MOST_BYTES`; 0 where these are fewer than two, one of them has a sample above the maxval, or they are too long or
-/// have samples of two bytes.
+/// How many of the next rows can be handed over together: all rows left in the image that are held whole, up to
+/// `MOST_BYTES`. 0 if these are fewer than two, if one of them has a sample above the maxval, or if they are too long
+/// or have samples of two bytes.
 pub fn count_held<R: BytesIn>(input: &BufferedReader<R>, raster: &Raster) -> u32
     ensures left { result ≤ raster.now.shape.height - raster.now.y }
     ensures held { 1 ≤ result → AreHeld raster.now result (held_of input.now) }
@@ -42,7 +42,8 @@ pub fn count_held<R: BytesIn>(input: &BufferedReader<R>, raster: &Raster) -> u32
     }
 }
 
-/// Whether the bytes of a row of the raster hold its samples, and before any others.
+/// Whether the samples of a row of the raster are the first of its bytes, and there is no byte more. False for samples
+/// of two bytes.
 fn fits_bytes(raster: &Raster) -> bool
     ensures { IsTrue result → FitsBytes raster.now.sample_width raster.now.shape }
 {
@@ -53,8 +54,8 @@ fn fits_bytes(raster: &Raster) -> bool
     }
 }
 
-/// How many rows of so many bytes are held whole and handed over together, at most this many; 0 of one alone, and of
-/// rows that are too long.
+/// How many rows of `row_bytes` bytes are held whole and can be handed over together, at most `most`. 0 if there is
+/// only one, or if the rows are too long.
 pub fn count_whole<R: BytesIn>(input: &BufferedReader<R>, row_bytes: usize, most: u32) -> u32
     ensures most { result ≤ most }
     ensures held { result * row_bytes ≤ length (held_of input.now) }
@@ -67,11 +68,11 @@ pub fn count_whole<R: BytesIn>(input: &BufferedReader<R>, row_bytes: usize, most
     if count > 1 { count } else { 0 }
 }
 
-/// The next rows, so many of them, which are held: in a spare row, if there is one that they fit in.
+/// The next `count` rows, which are held: in a spare row, if there is one that they fit in.
 ///
 /// # Errors
 ///
-/// `Memory` where there is none for them.
+/// `Memory` if there is none for them.
 pub fn take_rows<R: BytesIn>(
     input: &mut BufferedReader<R>,
     spares: &mut SpareRows,
@@ -96,7 +97,7 @@ pub fn take_rows<R: BytesIn>(
     Ok(rows)
 }
 
-/// So many rows, which these bytes are.
+/// The `count` rows that the bytes hold.
 fn rows_of(bytes: Vec<u8>, raster: &Raster, count: u32) -> Rows
     requires some { 1 ≤ count }
     requires size { length bytes.items ≡ count * raster.now.units }

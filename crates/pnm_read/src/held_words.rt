@@ -12,8 +12,8 @@ use crate::raster::Raster;
 use crate::units::append_wide;
 use pnm_image::{BytesIn, RowVec, Rows, SampleWidth};
 
-/// How many of the next rows can be handed over together, as `held_rows::count_held` counts them, of a raster of
-/// samples of two bytes; 0 of another one. Whether a sample is above the maxval isn't looked at.
+/// How many of the next rows can be handed over together, as `held_rows::count_held` counts them, if the raster has
+/// samples of two bytes; 0 for any other raster. It doesn't look whether a sample is above the maxval.
 pub fn count_held<R: BytesIn>(input: &BufferedReader<R>, raster: &Raster) -> u32
     ensures left { result ≤ raster.now.shape.height - raster.now.y }
     ensures held { 1 ≤ result → AreHeldWide raster.now result (held_of input.now) }
@@ -28,12 +28,12 @@ pub fn count_held<R: BytesIn>(input: &BufferedReader<R>, raster: &Raster) -> u32
     )
 }
 
-/// The next rows, so many of them, which are held; `None`, and nothing has changed, where one of them has a sample
-/// above the maxval.
+/// The next `count` rows, which are held. `None` if one of them has a sample above the maxval; nothing has changed
+/// then.
 ///
 /// # Errors
 ///
-/// `Memory` where there is none for them.
+/// `Memory` if there is none for them.
 pub fn take_rows<R: BytesIn>(
     input: &mut BufferedReader<R>,
     raster: &Raster,

@@ -1,5 +1,4 @@
-//! Laws of texts. Each stands over the definitions alone, as the contract of a function that does
-//! nothing.
+//! Laws of texts. Each is stated over the definitions alone, as the contract of a function that does nothing.
 
 ghost use Rattle.pnm_read.specs.Examples.{TextExamplesHold};
 ghost use Rattle.pnm_read.specs.TextLaws.{SpelledIsSaid, SaidIsSpelled, SpelledAreSaid, SpelledAreImages};
@@ -10,7 +9,7 @@ ghost use Rattle.pnm_read.specs.declared.decimal.TheConstants.{GAP_LIMIT};
 ghost use Rattle.pnm_read.specs.declared.header.TheConstants.{MAX_HEADER_LENGTH};
 ghost use Rattle.std.specs.Prelude.{◌≡◌};
 
-/// Of a text that spells images the messages of these images are said, without a fault.
+/// What is said of a text that spells images is the messages of these images, without a fault.
 pub fn spelled_is_said()
     ensures { SpelledIsSaid }
 {}
@@ -63,8 +62,8 @@ pub fn examples_hold()
     ensures { TextExamplesHold }
 {}
 
-/// The limits of texts in numbers, that of headers and that of plain rasters, from the end of one sample through that
-/// of the next: the definitions have them by their names, from the code.
+/// The limits of texts in numbers: that of headers, and that of plain rasters, from the end of one sample through that
+/// of the next. The definitions take them from the code by their names.
 pub fn limits_are()
     ensures header { MAX_HEADER_LENGTH ≡ 65536 }
     ensures gap { GAP_LIMIT ≡ 1048576 }

@@ -1,4 +1,4 @@
-//! The samples that bytes of a plain raster begin with, where these bytes alone tell them.
+//! The samples that bytes of a plain raster begin with, as far as these bytes alone determine them.
 //!
 //! Comments, long numbers, faults, and a number that the bytes end in, are left to the scanners.
 
@@ -18,12 +18,11 @@ use std::alloc::AllocError;
 /// The greatest number of three digits.
 const MOST_OF_THREE: u32 = 999;
 
-/// Appends the samples that these bytes begin with, until the row has so many. Answers how many
-/// bytes they take.
+/// Appends the samples that the bytes begin with, until the row has `wanted` samples. Returns how many bytes they take.
 ///
 /// # Errors
 ///
-/// Where there is no memory for them.
+/// If there is no memory for them.
 pub fn take_samples(
     bytes: &[u8],
     shape: Shape,
@@ -43,7 +42,7 @@ pub fn take_samples(
     }
 }
 
-/// Appends the pixels as samples. No branch hangs on which of the two a pixel is.
+/// Appends the pixels as samples. No branch depends on which of the two a pixel is.
 fn take_pixels(bytes: &[u8], wanted: usize, row: &mut Vec<u16>) -> Result<usize, AllocError>
     requires { length bytes.now ≤ GAP_LIMIT }
     ensures taken { IfOk result (TakesSamples plain_pixel bytes.now row.old.items row.new.items) }
@@ -121,8 +120,8 @@ fn sample_first(bytes: &[u8], maxval: u32) -> Option<(u16, usize)>
     Some((number as u16, count))
 }
 
-/// The number of at most three digits that comes first, if white space follows, and how many digits
-/// it has. No branch hangs on how many they are, since none could be foretold.
+/// The number of at most three digits that comes first, if white space follows, and how many digits it has. No branch
+/// depends on how many there are, since it couldn't be predicted.
 fn short_number_first(bytes: &[u8]) -> Option<(u32, usize)>
     ensures { IfSome result (λ found. IsNumberFirst bytes.now found.0 found.1) }
 {
@@ -173,7 +172,7 @@ fn number_first(bytes: &[u8]) -> Option<(u32, usize)>
     Some((number, more + 1))
 }
 
-/// What a digit stands for; what is answered for another byte means nothing.
+/// The value of a digit. The result for any other byte means nothing.
 fn digit_value(byte: u8) -> u32
     ensures within { result < 256 }
     ensures value { is_digit byte ≡ true → result ≡ byte - digit_zero }

@@ -32,7 +32,7 @@ pub enum LineKind {
 }
 
 impl LineKind {
-    /// What a line says whose first token is this one, which is empty where it has none.
+    /// What a line with this first token says. The token is empty if the line has none.
     #[tactic(auto, unfolding(crate::specs::PamLines::kind_of_token))]
     pub fn of(token: &[u8]) -> LineKind
         ensures { result ≡ kind_of_token token.now }
@@ -50,14 +50,14 @@ impl LineKind {
     }
 }
 
-/// What has this name, if the token is the name.
+/// Returns `named` if the token is `name`.
 fn spelled<T: Copy>(token: &[u8], name: &[u8], named: T) -> Option<T>
     ensures { result ≡ (if bytes_eq name.now token.now then Some named else None) }
 {
     if token == name { Some(named) } else { None }
 }
 
-/// The first token of a line, which is empty where there is none, and what follows it.
+/// The first token of a line, which is empty if there is none, and what follows it.
 pub fn split_token(line: &[u8]) -> (&[u8], &[u8])
     ensures token { result.0.now ≡ first_token line.now }
     ensures rest { result.1.now ≡ after_first line.now }
@@ -101,7 +101,7 @@ fn trimmed_end(text: &[u8]) -> &[u8]
     rest
 }
 
-/// The number that a token spells, at most `u32::MAX`; none where it isn't decimal.
+/// The number that a token spells, at most `u32::MAX`, or `None` if it isn't decimal.
 pub fn number_of(token: &[u8]) -> Option<u32>
     ensures { result ≡ number_of token.now }
 {

@@ -15,7 +15,7 @@ use crate::scan::{Scanner, scan};
 use pnm_image::{BytesIn, Head};
 use std::alloc::Global;
 
-/// The bytes of a header after its magic and the LF, at most.
+/// The most bytes of a header after its magic and the LF.
 const PAM_LIMIT: usize = MAX_HEADER_LENGTH - 3;
 
 /// The head that follows the magic, or the text's fault there, `ReadFailed` or `Memory`. It takes the header through
@@ -33,7 +33,7 @@ pub fn read_head<R: BytesIn>(input: &mut BufferedReader<R>) -> Result<Head, Inpu
 /// The last line of a header as it is mostly written, with the LF before it.
 const LAST_LINE: &[u8] = b"\nENDHDR\n";
 
-/// Whether the last line of a header, as it is mostly written, stands in these bytes.
+/// Whether these bytes contain the last line of a header as it is mostly written.
 pub fn has_last_line(bytes: &[u8]) -> bool {
     bytes.windows(LAST_LINE.len()).any(|part| part == LAST_LINE)
 }
@@ -57,7 +57,7 @@ struct PamScanner {
     line: Vec<u8>,
     /// What the lines before it say.
     fields: Fields,
-    /// The bytes that have come.
+    /// The number of bytes so far.
     length: usize,
     ghost short: { length ≤ PAM_LIMIT },
 }

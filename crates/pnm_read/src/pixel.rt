@@ -17,7 +17,7 @@ pub struct PixelScanner {
     /// The pixel as a sample, once it has come: 0 for black, 1 for white.
     pixel: u16,
     in_comment: bool,
-    /// The bytes of the gap that have come.
+    /// The number of bytes of the gap so far.
     length: usize,
     ghost short: { length ≤ GAP_LIMIT },
 }
@@ -25,7 +25,7 @@ pub struct PixelScanner {
 impl PixelScanner {
     ghost use Rattle.pnm_read.specs.Scanners.{IsPixelAfter, JudgesPixel};
 
-    /// Before the first byte.
+    /// A scanner before its first byte.
     pub fn new() -> PixelScanner
         ensures { IsPixelAfter result [] }
     {

@@ -17,7 +17,7 @@ use crate::scan::scan;
 use pnm_image::{BytesIn, Kind, SampleVec, Samples, Shape};
 use pnm_samples::greatest;
 
-/// The next row, after which so many others are to come, or the text's fault there, `ReadFailed` or `Memory`.
+/// The next row, which `more` others follow, or the text's fault there, `ReadFailed` or `Memory`.
 pub fn read_row<R: BytesIn>(
     input: &mut BufferedReader<R>,
     shape: Shape,
@@ -34,8 +34,7 @@ pub fn read_row<R: BytesIn>(
     Ok(row)
 }
 
-/// The samples of the next row: those that the bytes which are held tell by themselves, and the
-/// others by a scanner each.
+/// The samples of the next row. The held bytes alone determine some of them; each of the others takes a scanner.
 fn read_samples<R: BytesIn>(
     input: &mut BufferedReader<R>,
     shape: Shape,
@@ -104,7 +103,7 @@ fn read_decimal<R: BytesIn>(input: &mut BufferedReader<R>, maxval: u32) -> Resul
     Ok(value as u16)
 }
 
-/// After the last sample the input ends, or goes on with white space or a comment.
+/// Checks that the input ends after the last sample, or goes on with white space or a comment.
 #[tactic(auto, unfolding(crate::specs::Items::after_last_item))]
 fn check_end<R: BytesIn>(input: &mut BufferedReader<R>) -> Result<(), InputFault>
     ensures { ReadCall R.left R.failures R.same input.old input.new result (Passes after_last_item result) }

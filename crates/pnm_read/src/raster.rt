@@ -8,13 +8,13 @@ ghost use Rattle.pnm_read.specs.Said.{units_in_row};
 use crate::units::units_in_row;
 use pnm_image::{Format, SampleWidth, Shape};
 
-/// A raster of which so many rows have passed.
+/// A raster of which `y` rows have passed.
 #[derive(Clone, Copy)]
 pub struct Raster {
     pub format: Format,
     pub shape: Shape,
     pub y: u32,
-    /// How the samples of its rows lie in their bytes, where it is raw, and how many units a row has.
+    /// How the samples of its rows lie in their bytes, if it is raw, and how many units a row has.
     pub sample_width: SampleWidth,
     pub units: usize,
     ghost within: { y ≤ shape.height },
@@ -43,7 +43,7 @@ impl Raster {
         }
     }
 
-    /// The raster after one row more.
+    /// The raster after one more row.
     pub fn after_row(self) -> Raster
         requires { self.y < self.shape.height }
         ensures format { result.format ≡ self.format }
@@ -59,7 +59,7 @@ impl Raster {
         }
     }
 
-    /// The raster after so many rows more.
+    /// The raster after `count` more rows.
     pub fn after_rows(self, count: u32) -> Raster
         requires { count ≤ self.shape.height - self.y }
         ensures format { result.format ≡ self.format }

@@ -15,8 +15,8 @@ use crate::spare_rows::SpareRows;
 use crate::units::{append_wide, are_units_within, units_in_row};
 use pnm_image::{Bits, BytesIn, SampleVec, SampleWidth, Samples, Shape};
 
-/// The next row, held as it was read, without a copy; where its bytes are held, in a spare row if there is one. No
-/// sample is looked at again: none is above the maxval.
+/// The next row, held as it was read, without a copy. If its bytes are held already, it comes in a spare row, if there
+/// is one. No sample is looked at again: none is above the maxval.
 pub fn read_row<R: BytesIn>(
     input: &mut BufferedReader<R>,
     spares: &mut SpareRows,
@@ -49,7 +49,7 @@ pub fn read_row<R: BytesIn>(
     }
 }
 
-/// The bytes that so many units of a row take.
+/// How many bytes `units` units of a row take.
 pub fn bytes_of(units: usize, sample_width: SampleWidth) -> usize {
     match sample_width {
         SampleWidth::Bits | SampleWidth::Bytes => units,
@@ -80,7 +80,7 @@ fn read_bytes<R: BytesIn>(
     }
 }
 
-/// The bytes of the next row, so many units, part by part.
+/// The bytes of the next row, `count` units, part by part.
 #[inline(never)]
 fn read_parts<R: BytesIn>(
     input: &mut BufferedReader<R>,
@@ -106,7 +106,7 @@ fn read_parts<R: BytesIn>(
     Ok(row)
 }
 
-/// The bytes of the next row, so many units, where they are held: in a spare row, if there is one.
+/// The bytes of the next row, `count` units that are held: in a spare row, if there is one.
 fn take_bytes<R: BytesIn>(
     input: &mut BufferedReader<R>,
     spares: &mut SpareRows,
@@ -132,7 +132,7 @@ fn take_bytes<R: BytesIn>(
     Ok(row)
 }
 
-/// Takes units of a byte that come next into the front of the target, and answers how many.
+/// Takes the next units of a byte into the front of the target, and returns how many.
 fn read_part<R: BytesIn>(
     input: &mut BufferedReader<R>,
     target: &mut [u8],
@@ -178,7 +178,7 @@ fn read_words<R: BytesIn>(
     Ok(row)
 }
 
-/// Appends samples of two bytes that come next, at most so many, and answers how many. Safe code can't
+/// Appends the next samples of two bytes, at most `most` of them, and returns how many. Safe code can't
 /// lend words as bytes to be read into, so these are joined out of the input's buffer.
 fn append_part<R: BytesIn>(
     input: &mut BufferedReader<R>,

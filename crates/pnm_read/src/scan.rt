@@ -19,7 +19,7 @@ pub trait Scanner {
     /// The judgement of a byte, by the bytes of the piece before it.
     ghost item: { Self → List ℕ → ℕ → Judged };
 
-    /// The fault, if that is one, of a text that ends after these bytes of the piece.
+    /// The fault, if any, of a text that ends after these bytes of the piece.
     ghost at_end: { Self → List ℕ → Option Fault };
 
     /// These bytes of the piece were taken.
@@ -28,13 +28,13 @@ pub trait Scanner {
     /// The piece has ended, and these are its bytes.
     ghost is_whole: { Self → List ℕ → Type 0 };
 
-    /// The bytes that can still come, at most.
+    /// The most bytes that can still come.
     ghost remaining: { Self → ℕ };
 
     /// Whether it keeps bytes that it took, for which memory may run out.
     ghost keeps_bytes: { Bool };
 
-    /// Judges the next byte, and takes it where it belongs to the piece.
+    /// Judges the next byte, and takes it if it belongs to the piece.
     fn take(&mut self, byte: u8) -> Judgement
         ensures judged { JudgesByte (item self.old) (is_after self.old) (is_after self.new) (is_whole self.new) byte
             result }
@@ -44,13 +44,13 @@ pub trait Scanner {
         ensures of_text { result ≡ Fails ReadFailed → ⊥ }
         ensures memory { result ≡ Fails Memory → keeps_bytes ≡ true };
 
-    /// The fault, if that is one, of a text that ends here.
+    /// The fault, if any, of a text that ends here.
     fn end(&self) -> Option<InputFault>
         ensures judged { JudgesEnd (at_end self.now) (is_after self.now) (is_whole self.now) result }
         ensures of_text { result ≡ Some ReadFailed → ⊥ };
 }
 
-/// Gives the scanner bytes of the input until its piece ends; asks for more where they run out.
+/// Gives the scanner bytes of the input until its piece ends, and reads more when they run out.
 pub fn scan<R: BytesIn, S: Scanner>(
     input: &mut BufferedReader<R>,
     scanner: &mut S,
@@ -78,8 +78,8 @@ pub fn scan<R: BytesIn, S: Scanner>(
     }
 }
 
-/// Gives the scanner these bytes until its piece ends. Answers how many it took; none where the
-/// piece goes on after them.
+/// Gives the scanner these bytes until its piece ends. Returns how many it took, or `None` if the piece goes on after
+/// them.
 pub fn feed<S: Scanner>(scanner: &mut S, bytes: &[u8]) -> Result<Option<usize>, InputFault>
     ensures fed { Feeds (S.item scanner.old) (S.at_end scanner.old) (S.is_after scanner.old) (S.is_after scanner.new)
         (S.is_whole scanner.new) bytes.now result }

@@ -52,13 +52,12 @@ struct Step {
     state: State,
 }
 
-/// Reads a stream of images, message by message: raw ones of `P4` to `P7` one after another, or one
-/// plain image of `P1` to `P3`, as pbm(5), pgm(5), ppm(5) and pam(5) lay them out. A row is a message
-/// of width times depth samples; a black pixel of PBM is sample 0. What follows a plain image is
-/// ignored where it begins with white space or `#`.
+/// Reads a stream of images, message by message: raw ones of `P4` to `P7` one after another, or one plain image of `P1`
+/// to `P3`, as pbm(5), pgm(5), ppm(5) and pam(5) lay them out. A row is a message of width times depth samples; a black
+/// pixel of PBM is sample 0. What follows a plain image is ignored if it begins with white space or `#`.
 ///
-/// A read is made only where a byte is needed that isn't held, and none after one that gave no byte.
-/// At most a buffer full of bytes and a row are held: 4,096 of the buffer that `new` makes.
+/// A source reads only when it needs a byte that it doesn't hold, and never after a read that gave no byte. It holds at
+/// most a row and a buffer full of bytes: 4,096 in the buffer that `new` makes.
 #[derive(Drop)]
 pub struct Source<R> {
     input: BufferedReader<R>,
@@ -91,13 +90,13 @@ impl<R: BytesIn> Source<R> {
         }
     }
 
-    /// The next message; `None` after the end of the stream, for good.
+    /// The next message, or `None` after the end of the stream, for good.
     ///
-    /// The fault is the first that the text has (see `InputFault`), after all messages that come
-    /// before it; or `ReadFailed` where the reader failed, or `Memory` where memory ran out, in
-    /// place of all later faults. After a fault it answers the same fault and reads nothing.
+    /// The fault is the first that the text has (see `InputFault`), after all messages that come before it. If the
+    /// reader fails, `ReadFailed` takes the place of all later faults; if memory runs out, `Memory` does. After a
+    /// fault, `next` returns the same fault and reads nothing.
     ///
-    /// The memory of a short row is taken from the spares, where there is one that it fits in.
+    /// A short row takes its memory from the spares, if there is one that it fits in.
     pub fn next(&mut self, spares: &mut SpareRows) -> Result<Option<Message>, InputFault>
         // What is said of the text comes in turn, and then its end or its fault. Stop doesn't come.
         ensures told { Tells R.left self.old result self.new }
@@ -129,11 +128,11 @@ impl<R: BytesIn> Source<R> {
     }
 
     /// The next rows of a raw image together, which `next` would give one after another: all that are held whole, up to
-    /// 65,536 bytes, where these are two or more of at most 16,384 bytes each. Otherwise,
-    /// and where one of them has a sample above the maxval, `None`: then `next` tells what comes. It makes no read.
+    /// 65,536 bytes, if these are two or more of at most 16,384 bytes each. Otherwise, or if one of them has a sample
+    /// above the maxval, `None`: `next` then gives what comes. It makes no read.
     ///
-    /// The only fault is `Memory`, after which this answers `None` and `next` the fault. The memory of the rows is
-    /// taken from the spares, where there is some that they fit in.
+    /// The only fault is `Memory`, after which `next_rows` returns `None` and `next` returns the fault. The rows take
+    /// their memory from the spares, if there is one that they fit in.
     pub fn next_rows(&mut self, spares: &mut SpareRows) -> Result<Option<Rows>, InputFault>
         // Rows come in turn; without any nothing has changed.
         ensures told { IfOk result (λ r. IfSome r (TellsRows self.old self.new)) }
@@ -171,8 +170,8 @@ impl<R: BytesIn> Source<R> {
         }
     }
 
-    /// Whether the next message is told by the bytes that are held, so that `next` makes no read. A header is where it
-    /// is held whole, and a row of a plain image where all that is left of the input is held.
+    /// Whether the held bytes determine the next message, so that `next` makes no read. They determine a header if it
+    /// is held whole, and a row of a plain image if all that is left of the input is held.
     pub fn holds_next(&self) -> bool
         // After the end and after a fault nothing is read.
         ensures ended { has_ended self.now ≡ true → result ≡ true }
@@ -201,7 +200,7 @@ impl<R: BytesIn> Source<R> {
         self.take_step(awaited)
     }
 
-    /// The next message where this is awaited and no row is.
+    /// The next message, if what is awaited isn't a row.
     fn take_step(&mut self, awaited: Awaited) -> Result<Option<Message>, InputFault>
         requires { HasRow (State.Awaits awaited) → ⊥ }
         ensures read_call { ReadCall R.left R.failures R.same self.old.input self.new.input result
@@ -234,7 +233,7 @@ impl<R: BytesIn> Source<R> {
         let Awaited::RowOrEnd(raster) = awaited else {
             unreachable!();
         };
-        // Set before anything else is written, so that of the raster `y` alone has to be stored.
+        // Set before anything else is written, so that only `y` of the raster has to be stored.
         self.state = State::Awaits(Awaited::RowOrEnd(raster.after_row()));
         match read_row(&mut self.input, spares, &raster) {
             Ok(row) => Ok(Some(Message::Row(row))),
@@ -276,12 +275,12 @@ fn raw_raster(state: &State) -> Option<Raster>
     }
 }
 
-/// The next rows of the raster together, and how many they are, where two or more are held whole and none has a sample
+/// The next rows of the raster together, and how many there are, if two or more are held whole and none has a sample
 /// above the maxval.
 ///
 /// # Errors
 ///
-/// `Memory` where there is none for them.
+/// `Memory` if there is none for them.
 fn take_held<R: BytesIn>(
     input: &mut BufferedReader<R>,
     spares: &mut SpareRows,
@@ -310,7 +309,7 @@ fn take_held<R: BytesIn>(
     }
 }
 
-/// The next message where this is awaited and no row is, and the state after it.
+/// The next message, if what is awaited isn't a row, and the state after it.
 fn step_at<R: BytesIn>(input: &mut BufferedReader<R>, awaited: Awaited) -> Result<Step, InputFault>
     requires { HasRow (State.Awaits awaited) → ⊥ }
     ensures { ReadCall R.left R.failures R.same input.old input.new result (Steps awaited result) }
@@ -323,7 +322,7 @@ fn step_at<R: BytesIn>(input: &mut BufferedReader<R>, awaited: Awaited) -> Resul
     }
 }
 
-/// Whether what is held tells the message that is awaited.
+/// Whether the held bytes determine the message that is awaited.
 fn holds_at<R: BytesIn>(input: &BufferedReader<R>, awaited: &Awaited) -> bool {
     match awaited {
         Awaited::FirstImage => input.holds(usize::MAX) || is_told(input.bytes(), true),
@@ -333,7 +332,7 @@ fn holds_at<R: BytesIn>(input: &BufferedReader<R>, awaited: &Awaited) -> bool {
     }
 }
 
-/// Whether what is held tells the next row of the raster, or that it has no more.
+/// Whether the held bytes determine the next row of the raster, or it has no more rows.
 fn holds_row<R: BytesIn>(input: &BufferedReader<R>, raster: &Raster) -> bool {
     if raster.y == raster.shape.height {
         true
@@ -402,7 +401,7 @@ fn read_row<R: BytesIn>(
     }
 }
 
-/// What follows a raw image: the next one, or the end of the stream where no byte is left.
+/// What follows a raw image: the next one, or the end of the stream if no byte is left.
 fn follow<R: BytesIn>(input: &mut BufferedReader<R>) -> Result<Step, InputFault>
     ensures { ReadCall R.left R.failures R.same input.old input.new result (Steps Awaited.ImageOrEnd result) }
 {

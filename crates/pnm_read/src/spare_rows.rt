@@ -1,4 +1,4 @@
-//! Rows that were let go, of which new ones are made.
+//! Rows that are no longer in use, whose memory new rows take.
 
 ghost use Rattle.std.specs.Prelude.{◌≡◌, ◌≤◌, IfOk, length, vec_capacity};
 
@@ -9,17 +9,17 @@ use std::collections::VecDeque;
 /// The most rows that are kept.
 const MOST_ROWS: usize = 128;
 
-/// The most bytes that a row takes which is kept, or rows that were handed over together.
+/// The most bytes of a row that is kept, or of rows that were handed over together.
 const MOST_BYTES: usize = 65_536;
 
-/// About so many bytes are kept in all: as many as a ring holds.
+/// About how many bytes are kept in all: as many as a ring holds.
 const MOST_KEPT: usize = 1_048_576;
 
-/// How many times as much room as was asked for last a row has at most that is kept: more of it would lie idle.
+/// A row is kept only if it has at most this many times the room that was asked for last: more of it would lie idle.
 const MOST_TIMES: usize = 4;
 
-/// Rows that were let go, whose memory a source takes for its next ones: first the one that was let go first. At most
-/// 128 of at most 65,536 bytes are kept, about 1 MiB in all, and none before a source has asked for a row.
+/// Rows that are no longer in use, whose memory a source takes for its next ones, the oldest first. At most 128 of at
+/// most 65,536 bytes are kept, about 1 MiB in all, and none before a source has asked for a row.
 #[derive(Drop)]
 pub struct SpareRows {
     rows: VecDeque<Vec<u8>>,
@@ -32,7 +32,7 @@ impl SpareRows {
     ///
     /// # Errors
     ///
-    /// Where there is no memory for the places.
+    /// If there is no memory for the places.
     pub fn new(alloc: Global) -> Result<SpareRows, AllocError> {
         Ok(SpareRows {
             rows: VecDeque::with_capacity(alloc, MOST_ROWS)?,
@@ -48,7 +48,7 @@ impl SpareRows {
         }
     }
 
-    /// Keeps the row's memory, where it serves for a row like the one that was asked for last, and otherwise drops it.
+    /// Keeps the row's memory if it serves for a row like the one that was asked for last, and otherwise drops it.
     #[inline(always)]
     pub fn keep(&mut self, row: Samples) {
         match row.into_vec() {
@@ -67,8 +67,8 @@ impl SpareRows {
         }
     }
 
-    /// Keeps the row, where it has room for as many bytes as were asked for last, and not for many more, and there is a
-    /// place for it.
+    /// Keeps the row if there is a place for it, and if it has room for the bytes that were asked for last and not for
+    /// many more.
     fn keep_bytes(&mut self, row: Vec<u8>) {
         let size = row.capacity();
         let most = self.wanted.saturating_mul(MOST_TIMES).min(MOST_BYTES);
@@ -79,11 +79,11 @@ impl SpareRows {
         }
     }
 
-    /// A row of these bytes, in memory that was kept where there is a row that they fit in.
+    /// A row of these bytes. It takes memory that was kept, if there is a row that they fit in.
     ///
     /// # Errors
     ///
-    /// Where there is no memory for them.
+    /// If there is no memory for them.
     #[inline(always)]
     pub fn copy_of(&mut self, alloc: Global, bytes: &[u8]) -> Result<Vec<u8>, AllocError>
         ensures { IfOk result (λ row. row.items ≡ bytes.now) }
@@ -99,7 +99,7 @@ impl SpareRows {
     }
 }
 
-/// Puts these bytes in place of those of the row, which has room for them.
+/// Replaces the bytes of the row with these bytes, which it has room for.
 fn refill(row: &mut Vec<u8>, bytes: &[u8])
     requires { length bytes.now ≤ vec_capacity row.old }
     ensures { row.new.items ≡ bytes.now }

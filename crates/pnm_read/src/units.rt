@@ -11,8 +11,8 @@ use crate::fault::InputFault;
 use pnm_image::{SampleWidth, Shape};
 use pnm_samples::{are_bytes_within, are_words_within};
 
-/// Appends samples of two bytes; `Memory` where there is none for them, `SampleAboveMaxval` where one is above the
-/// maxval. The loop over them is vector code.
+/// Appends samples of two bytes. Fails with `Memory` if there is none for them, and with `SampleAboveMaxval` if one is
+/// above the maxval. The loop over them is vector code.
 pub fn append_wide(bytes: &[u8], maxval: u32, row: &mut Vec<u16>) -> Result<(), InputFault>
     ensures { AppendsWide maxval bytes.now row.old.items row.new.items result }
 {
@@ -29,7 +29,7 @@ pub fn append_wide(bytes: &[u8], maxval: u32, row: &mut Vec<u16>) -> Result<(), 
     Ok(())
 }
 
-/// Whether none of these units of a byte is a sample above the maxval. A byte of eight pixels is none.
+/// Whether no unit of a byte is a sample above the maxval. A byte of eight pixels never is one.
 pub fn are_units_within(bytes: &[u8], sample_width: SampleWidth, maxval: u32) -> bool
     ensures { IsTrue result ↔ AreBytesWithin sample_width maxval bytes.now }
 {

@@ -18,7 +18,7 @@ mod runs;
 
 use runs::move_runs;
 
-/// Rows of as many pixels each, one after another: each from a byte's start on, with white spare bits.
+/// Rows of pixels, all of the same length, one after another. Each begins at a byte, and its spare bits are white.
 #[derive(Debug, Drop)]
 pub struct BitRows {
     bytes: Vec<u8>,
@@ -40,7 +40,7 @@ impl Model for BitRows {
 }
 
 impl BitRows {
-    /// So many rows of so many pixels, which these bytes are, without a copy. Spare bits are cleared.
+    /// The `count` rows of `each` pixels that the bytes hold, without a copy. Spare bits are cleared.
     pub fn new(bytes: Vec<u8>, count: usize, each: usize) -> BitRows
         requires { length bytes.items ≡ count * bytes_for each }
         ensures { result ≡ rows_of_bytes count each bytes.items }
@@ -50,7 +50,7 @@ impl BitRows {
         BitRows { bytes, count, each }
     }
 
-    /// A row by itself, without a copy.
+    /// A single row, without a copy.
     pub fn one(row: Bits) -> BitRows
         ensures { result ≡ row ∷ [] }
     {
@@ -62,7 +62,7 @@ impl BitRows {
         }
     }
 
-    /// The first row, without a copy, or no pixels where there is none.
+    /// The first row, without a copy, or no pixels if there is none.
     pub fn into_first(self) -> Bits
         ensures { result ≡ get_or self 0 [] }
     {
@@ -70,7 +70,7 @@ impl BitRows {
         Bits::new(self.bytes, count)
     }
 
-    /// The bytes of the rows, with white spare bits, how many rows these are, and how many pixels a row has.
+    /// The bytes of the rows, with white spare bits, the number of rows, and the number of pixels in a row.
     pub fn parts(&self) -> (&[u8], usize, usize)
         ensures bytes { result.0.now ≡ flat_map packed_bytes self.now }
         ensures rows { self.now ≡ rows_of_bytes result.1 result.2 result.0.now }
@@ -84,12 +84,12 @@ impl BitRows {
         ensures { result.items ≡ flat_map packed_bytes self }
     {
         let bytes = self.bytes;
-        // No effect at run time: a proof learns of this that each byte is below 256.
+        // No effect at run time: a proof learns from this that each byte is below 256.
         let _ = bytes_of(bytes.as_slice());
         bytes
     }
 
-    /// The bytes of a row, and how many pixels these are.
+    /// The bytes of row `at`, and how many pixels it has.
     pub fn row(&self, at: usize) -> (&[u8], usize)
         requires { at < length self.now }
         ensures pixels { take result.1 (all_pixels result.0.now) ≡ get_or self.now at [] }
@@ -100,11 +100,11 @@ impl BitRows {
         (&self.bytes[start..start + size], self.each)
     }
 
-    /// Adds other rows at the end; false, and nothing is added, where they aren't as long.
+    /// Adds other rows at the end. Returns false, and adds nothing, if they aren't as long as these.
     ///
     /// # Errors
     ///
-    /// Where there is no memory for them. Then nothing is changed.
+    /// If there is no memory for them. Then nothing is changed.
     pub fn append(&mut self, more: &BitRows) -> Result<bool, AllocError>
         ensures added { IfOk result (λ done. IsTrue done → self.new ≡ self.old ++ more.now) }
         ensures same { IfOk result (λ done. IsFalse done → self.new ≡ self.old) }
@@ -132,7 +132,7 @@ impl BitRows {
         clear_spare_of_each(bytes, self.count, self.each);
     }
 
-    /// Turns each row round, the last pixel first, in place.
+    /// Reverses the pixels of each row, in place.
     pub fn mirror(&mut self)
         ensures { self.new ≡ map reverse self.old }
     {
@@ -140,7 +140,7 @@ impl BitRows {
         mirror_each(self.bytes.as_mut_slice(), count, each);
     }
 
-    /// Puts the last row first, in place.
+    /// Reverses the order of the rows, in place.
     pub fn reverse(&mut self)
         ensures { self.new ≡ reverse self.old }
     {
@@ -148,7 +148,7 @@ impl BitRows {
         reverse_rows(self.bytes.as_mut_slice(), count, size);
     }
 
-    /// Turns the rows round, the last row first, each the last pixel first, in place.
+    /// Reverses the order of the rows and the pixels of each row, in place.
     pub fn turn_round(&mut self)
         ensures { self.new ≡ reverse (map reverse self.old) }
     {
@@ -157,7 +157,7 @@ impl BitRows {
         move_each_to_end(self.bytes.as_mut_slice(), count, each);
     }
 
-    /// Keeps these of the rows, so many from one on, and of each of them these pixels, so many from one on, in place.
+    /// Keeps `count` rows from row `top` on, and of each of them `each` pixels from pixel `left` on, in place.
     pub fn keep_part(&mut self, top: usize, count: usize, left: usize, each: usize)
         requires rows { top + count ≤ length self.old }
         requires pixels { (k : ℕ) → k < length self.old → left + each ≤ length (get_or self.old k []) }
@@ -172,11 +172,11 @@ impl BitRows {
         self.each = each;
     }
 
-    /// A copy of these of the rows, so many from one on, and of these of their pixels, so many from one on.
+    /// A copy of `count` rows from row `top` on, with `each` pixels of each of them from pixel `left` on.
     ///
     /// # Errors
     ///
-    /// Where there is no memory for it.
+    /// If there is no memory for it.
     pub fn part(
         &self,
         alloc: Global,
@@ -203,11 +203,11 @@ impl BitRows {
         Ok(BitRows::new(bytes, count, each))
     }
 
-    /// A copy of these of the rows, so many from one on.
+    /// A copy of `count` rows from row `top` on.
     ///
     /// # Errors
     ///
-    /// Where there is no memory for it.
+    /// If there is no memory for it.
     fn copy_rows(&self, alloc: Global, top: usize, count: usize) -> Result<BitRows, AllocError>
         requires { top + count ≤ length self.now }
         ensures { IfOk result (λ part. part ≡ take count (drop top self.now)) }
@@ -226,18 +226,18 @@ impl BitRows {
     ///
     /// # Errors
     ///
-    /// Where there is no memory for them.
+    /// If there is no memory for them.
     pub fn to_bytes(&self, alloc: Global) -> Result<Vec<u8>, AllocError>
         ensures { IfOk result (λ bytes. bytes.items ≡ concat self.now) }
     {
         rows_to_samples(alloc, self.bytes.as_slice(), self.count, self.each)
     }
 
-    /// Each pixel so many times, one beside the other.
+    /// The rows with each pixel repeated `times` times.
     ///
     /// # Errors
     ///
-    /// Where there is no memory for them.
+    /// If there is no memory for them.
     pub fn widen(&self, alloc: Global, times: usize) -> Result<BitRows, AllocError>
         ensures { IfOk result (λ wide. wide ≡ map (flat_map (λ s. replicate times s)) self.now) }
     {
@@ -252,7 +252,7 @@ impl BitRows {
         };
         let pixels = Bits::new(Vec::from_slice(alloc, self.bytes.as_slice())?, pixels);
         let wide = pixels.repeat(alloc, times)?.into_bytes();
-        // What a row's spare pixels become lies behind it, and may fill whole bytes.
+        // The repeated spare pixels of a row come after it, and may fill whole bytes.
         let size = each.div_ceil(8);
         if apart == size {
             return Ok(BitRows::new(wide, self.count, each));
@@ -266,14 +266,14 @@ impl BitRows {
     }
 }
 
-/// How many pixels of the last byte come after so many.
+/// How many spare pixels the last byte of a row of `each` pixels has.
 fn spare_of(each: usize) -> u32
     ensures { result ≡ (8 - each % 8) % 8 }
 {
     ((8 - each % 8) % 8) as u32
 }
 
-/// Makes the spare pixels white of so many rows of so many pixels.
+/// Makes the spare pixels of `count` rows of `each` pixels white.
 fn clear_spare_of_each(bytes: &mut [u8], count: usize, each: usize)
     requires { length bytes.old ≡ count * bytes_for each }
     ensures same { rows_of_bytes count each bytes.new ≡ rows_of_bytes count each bytes.old }
@@ -288,7 +288,7 @@ fn clear_spare_of_each(bytes: &mut [u8], count: usize, each: usize)
     }
 }
 
-/// Turns each of so many rows of so many pixels round, the last pixel first.
+/// Reverses the pixels of each of `count` rows of `each` pixels.
 fn mirror_each(bytes: &mut [u8], count: usize, each: usize)
     requires { ArePackedRows count each bytes.old }
     ensures turned { rows_of_bytes count each bytes.new ≡ map reverse (rows_of_bytes count each bytes.old) }
@@ -300,7 +300,7 @@ fn mirror_each(bytes: &mut [u8], count: usize, each: usize)
     }
 }
 
-/// Turns a row of so many pixels round, the last pixel first.
+/// Reverses the pixels of a row of `each` pixels.
 fn mirror_row(bytes: &mut [u8], each: usize)
     requires { ArePacked each bytes.old }
     ensures turned { take each (all_pixels bytes.new) ≡ reverse (take each (all_pixels bytes.old)) }
@@ -310,7 +310,7 @@ fn mirror_row(bytes: &mut [u8], each: usize)
     move_to_end(bytes, spare_of(each));
 }
 
-/// Moves the white pixels at the start of each of so many rows of so many pixels to its end.
+/// Moves the white pixels at the start of each row to its end, in `count` rows of `each` pixels.
 fn move_each_to_end(bytes: &mut [u8], count: usize, each: usize)
     requires size { length bytes.old ≡ count * bytes_for each }
     requires white { (row : ℕ) → row < count
@@ -329,11 +329,11 @@ fn move_each_to_end(bytes: &mut [u8], count: usize, each: usize)
     }
 }
 
-/// The samples of so many rows of so many pixels, a byte each, with nothing between the rows.
+/// The samples of `count` rows of `each` pixels, a byte per sample, with nothing between the rows.
 ///
 /// # Errors
 ///
-/// Where there is no memory for them.
+/// If there is no memory for them.
 pub(crate) fn rows_to_samples(
     alloc: Global,
     bytes: &[u8],
@@ -347,7 +347,7 @@ pub(crate) fn rows_to_samples(
     let Some(total) = count.checked_mul(each) else {
         return Err(AllocError);
     };
-    // The spare pixels of a row's last byte are stored, too, and then the next row over them.
+    // The spare pixels of a row's last byte are stored, too, and the next row then overwrites them.
     let mut samples = Vec::from_elem(alloc, 0, total.saturating_add(7))?;
     for row in 0..count {
         let at = row * each;

@@ -15,7 +15,7 @@ mod stretch;
 
 pub(crate) use mirror::{move_to_end, turn_round};
 
-/// Pixels of one bit: eight a byte, the most significant bit leftmost, 1 is black, which is sample 0.
+/// Pixels of one bit, eight to a byte, the most significant bit leftmost. A bit of 1 is black, which is sample 0.
 #[derive(Debug, Drop)]
 pub struct Bits {
     bytes: Vec<u8>,
@@ -34,7 +34,8 @@ impl Model for Bits {
 }
 
 impl Bits {
-    /// So many pixels of these bytes, or all, without a copy. Spare bits of the last byte are cleared.
+    /// The first `count` pixels of the bytes, or all if there are fewer, without a copy. Spare bits of the last byte
+    /// are cleared.
     pub fn new(bytes: Vec<u8>, count: usize) -> Bits
         ensures { result ≡ take count (all_pixels bytes.items) }
     {
@@ -55,11 +56,11 @@ impl Bits {
         }
     }
 
-    /// Equal pixels.
+    /// A copy of the pixels.
     ///
     /// # Errors
     ///
-    /// Where there is no memory for them.
+    /// If there is no memory for them.
     pub fn copy(&self, alloc: Global) -> Result<Bits, AllocError>
         ensures { IfOk result (λ copy. copy ≡ self.now) }
     {
@@ -69,7 +70,7 @@ impl Bits {
         })
     }
 
-    /// How many pixels these are.
+    /// The number of pixels.
     pub fn len(&self) -> usize
         ensures { result ≡ length self.now }
     {
@@ -93,12 +94,12 @@ impl Bits {
         ensures pixels { self ≡ take (length self) (all_pixels result.items) }
     {
         let bytes = self.bytes;
-        // No effect at run time: a proof learns of this that each byte is below 256.
+        // No effect at run time: a proof learns from this that each byte is below 256.
         let _ = bytes_of(bytes.as_slice());
         bytes
     }
 
-    /// A pixel.
+    /// The pixel at place `at`.
     pub fn pixel(&self, at: usize) -> u16
         requires { at < length self.now }
         ensures { result ≡ slice_index self.now at }
@@ -111,7 +112,7 @@ impl Bits {
         ensures white { result ≡ 1 }
         ensures within { All (λ sample. sample ≤ result) self.now }
     {
-        // No effect at run time: a proof learns of this that the pixels are those of the bytes.
+        // No effect at run time: a proof learns from this that the pixels are those of the bytes.
         let _ = &self.bytes;
         1
     }
@@ -120,7 +121,7 @@ impl Bits {
     ///
     /// # Errors
     ///
-    /// Where there is no memory for them.
+    /// If there is no memory for them.
     pub fn to_words(&self, alloc: Global) -> Result<Vec<u16>, AllocError>
         ensures { IfOk result (λ words. words.items ≡ self.now) }
     {
@@ -131,7 +132,7 @@ impl Bits {
     ///
     /// # Errors
     ///
-    /// Where there is no memory for them.
+    /// If there is no memory for them.
     pub fn to_bytes(&self, alloc: Global) -> Result<Vec<u8>, AllocError>
         ensures { IfOk result (λ bytes. bytes.items ≡ self.now) }
     {
@@ -147,11 +148,11 @@ impl Bits {
         clear_spare(bytes, self.count);
     }
 
-    /// Appends a run of so many pixels of a row, from the start on.
+    /// Appends `count` pixels of a row, from pixel `start` on.
     ///
     /// # Errors
     ///
-    /// Where there is no memory for them, or one of the two has 2^62 pixels or more. Then nothing is changed.
+    /// If there is no memory for them, or either row has 2^62 pixels or more. Then nothing is changed.
     pub fn append(&mut self, from: &Bits, start: usize, count: usize) -> Result<(), AllocError>
         requires { start + count ≤ length from.now }
         ensures appended { OnOk result (self.new ≡ self.old ++ take count (drop start from.now)) }
@@ -160,7 +161,7 @@ impl Bits {
         self.append_pixels(from.bytes.as_slice(), start, count)
     }
 
-    /// Appends a run of so many pixels of bytes, from the start on.
+    /// Appends `count` pixels of the bytes, from pixel `start` on.
     ///
     /// # Errors
     ///
@@ -186,7 +187,7 @@ impl Bits {
         Ok(())
     }
 
-    /// Lets all pixels go, and keeps their memory.
+    /// Removes all pixels, and keeps their memory.
     pub fn clear(&mut self)
         ensures { self.new ≡ [] }
     {
@@ -195,7 +196,7 @@ impl Bits {
     }
 }
 
-/// A pixel of bytes.
+/// The pixel of the bytes at place `at`.
 pub(crate) fn pixel_of(bytes: &[u8], at: usize) -> u16
     requires { at < 8 * length bytes.now }
     ensures { result ≡ slice_index (all_pixels bytes.now) at }
@@ -203,7 +204,7 @@ pub(crate) fn pixel_of(bytes: &[u8], at: usize) -> u16
     u16::from(pixel_at((7 - at % 8) as u32, bytes[at / 8]))
 }
 
-/// Whether the first so many pixels of bytes, or all, are black.
+/// Whether the first `count` pixels of the bytes, or all if there are fewer, are black.
 pub(crate) fn are_black(bytes: &[u8], count: usize) -> bool
     ensures { IsTrue result ↔ All (λ sample. sample ≤ 0) (take count (all_pixels bytes.now)) }
 {
@@ -221,7 +222,7 @@ pub(crate) fn are_black(bytes: &[u8], count: usize) -> bool
 /// More pixels than there is memory for.
 const PIXELS_BEYOND_MEMORY: usize = 4_611_686_018_427_387_904;
 
-/// The bytes, of which it is known then that each one is below 256.
+/// The same bytes. A proof learns from the call that each one is below 256.
 pub(crate) fn bytes_of(bytes: &[u8]) -> &[u8]
     ensures same { result.now ≡ bytes.now }
     ensures fit { AreBytes result.now }
@@ -262,7 +263,7 @@ pub(crate) fn complement(bytes: &mut [u8])
     }
 }
 
-/// The eight pixels of two bytes that come after so many.
+/// The eight pixels of two bytes that follow the first `skipped`.
 #[inline]
 fn window(high: u8, low: u8, skipped: u32) -> u8
     requires { skipped < 8 }
@@ -272,7 +273,7 @@ fn window(high: u8, low: u8, skipped: u32) -> u8
     ((both >> (8 - skipped)) % 256) as u8
 }
 
-/// The byte with all pixels white but the first ones.
+/// The byte with all pixels white but the first `kept`.
 #[inline]
 fn whiten_spare(byte: u8, kept: u32) -> u8
     requires { kept < 8 }
@@ -281,7 +282,7 @@ fn whiten_spare(byte: u8, kept: u32) -> u8
     byte & !(0xff >> kept)
 }
 
-/// Makes the pixels white that come after so many.
+/// Makes the pixels after the first `count` white.
 pub(crate) fn clear_spare(bytes: &mut [u8], count: usize)
     requires { length bytes.old ≡ (count + 7) / 8 }
     ensures kept { take count (all_pixels bytes.new) ≡ take count (all_pixels bytes.old) }
@@ -293,8 +294,8 @@ pub(crate) fn clear_spare(bytes: &mut [u8], count: usize)
     }
 }
 
-/// Fills the buffer with the pixels of the part that come after so many. The part is a byte longer. Inlined where both
-/// are of one slice, it would shift one byte at a time.
+/// Fills the buffer with the pixels of the part that follow the first `skipped`. The part is a byte longer. If this
+/// were inlined where both are of one slice, it would shift one byte at a time.
 #[inline(never)]
 fn shift_into(buffer: &mut [u8], part: &[u8], skipped: u32)
     requires skipped { skipped < 8 }
@@ -306,7 +307,7 @@ fn shift_into(buffer: &mut [u8], part: &[u8], skipped: u32)
     }
 }
 
-/// The byte of the pixels that come after so many. Past the end pixels are white.
+/// The byte of the pixels that follow the first `skipped`. Pixels past the end are white.
 #[inline]
 fn byte_after(bytes: &[u8], skipped: usize) -> u8
     requires { skipped < 8 * length bytes.now }
@@ -322,7 +323,7 @@ fn byte_after(bytes: &[u8], skipped: usize) -> u8
     window(bytes[at], low, (skipped % 8) as u32)
 }
 
-/// Fills the buffer with pixels from the start on.
+/// Fills the buffer with the pixels from `start` on.
 fn fill_whole(buffer: &mut [u8], from: &[u8], start: usize)
     requires { start + 8 * length buffer.old ≤ 8 * length from.now }
     ensures { all_pixels buffer.new ≡ take (8 * length buffer.old) (drop start (all_pixels from.now)) }
@@ -336,7 +337,7 @@ fn fill_whole(buffer: &mut [u8], from: &[u8], start: usize)
     }
 }
 
-/// Fills the buffer with a run of so many pixels, from the start on.
+/// Fills the buffer with `count` pixels, from pixel `start` on.
 #[inline]
 pub(crate) fn fill_run(buffer: &mut [u8], from: &[u8], start: usize, count: usize)
     requires buffer { length buffer.old ≡ (count + 7) / 8 }
@@ -351,8 +352,7 @@ pub(crate) fn fill_run(buffer: &mut [u8], from: &[u8], start: usize, count: usiz
     }
 }
 
-/// Places a run of so many pixels, from the start on, after the pixels that are held, the last of
-/// them in a byte that isn't full.
+/// Places `count` pixels, from pixel `start` on, after the first `held` pixels of the buffer, which end within a byte.
 fn place_within(buffer: &mut [u8], held: usize, from: &[u8], start: usize, count: usize)
     requires within { (0 < held % 8) × (0 < count) }
     requires buffer { length buffer.old ≡ (held + count + 7) / 8 }
@@ -369,7 +369,7 @@ fn place_within(buffer: &mut [u8], held: usize, from: &[u8], start: usize, count
     }
 }
 
-/// Places a run of so many pixels, from the start on, after the pixels that are held.
+/// Places `count` pixels, from pixel `start` on, after the first `held` pixels of the buffer.
 fn place_run(buffer: &mut [u8], held: usize, from: &[u8], start: usize, count: usize)
     requires buffer { length buffer.old ≡ (held + count + 7) / 8 }
     requires run { start + count ≤ 8 * length from.now }

@@ -5,8 +5,8 @@ ghost use Rattle.pnm_samples.specs.Blocks.{bits_of, IsSquare, lane_at};
 
 use std::simd::prelude::*;
 
-/// The columns of sixteen rows that lie in a byte of each of them, of which these are the bytes: the
-/// column of the highest bit first, and of each column the first row in the lowest bit.
+/// The eight columns that lie in one byte of each of sixteen rows; `rows` holds these bytes. The column of the highest
+/// bit comes first. In each column the first row has the lowest bit.
 #[inline]
 pub(crate) fn columns_of_sixteen(rows: u8x16) -> [u16; 8]
     requires count { length rows ≡ 16 }
@@ -23,7 +23,7 @@ pub(crate) fn columns_of_sixteen(rows: u8x16) -> [u16; 8]
     columns
 }
 
-/// The highest bits of sixteen bytes, the first one's lowest.
+/// The highest bits of sixteen bytes. That of the first byte is the lowest.
 #[inline]
 fn highest_bits(lanes: u8x16) -> u16
     requires count { length lanes ≡ 16 }
@@ -43,7 +43,7 @@ pub(crate) fn transposed(rows: [u8x16; 16]) -> [u8x16; 16]
     riffled(riffled(riffled(riffled(rows))))
 }
 
-/// The bytes of the first eight rows, each with that of the row eight further down behind it.
+/// The bytes of the first eight rows, each followed by the byte of the row eight further down.
 #[inline(always)]
 fn riffled(rows: [u8x16; 16]) -> [u8x16; 16]
     requires { IsSquare rows }

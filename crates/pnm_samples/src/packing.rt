@@ -3,8 +3,8 @@
 ghost use Rattle.std.specs.Prelude.{◌≡◌, ◌≤◌, ◌*◌, ◌-◌, length, take};
 ghost use Rattle.pnm_samples.specs.Pixels.{packed_byte, packed_bytes};
 
-/// Writes the bytes of pixels, eight a byte, to the front of the buffer, and answers how many they
-/// are. Spare bits of the last byte are 0.
+/// Packs pixels, eight to a byte, into the front of the buffer, and returns how many bytes they take. Spare bits of the
+/// last byte are 0.
 pub fn pack(samples: &[u16], buffer: &mut [u8]) -> usize
     requires { length samples.now ≤ 8 * length buffer.old }
     ensures within { result ≤ length buffer.new }

@@ -11,15 +11,15 @@ use crate::bits::Bits;
 use std::alloc::{AllocError, Global};
 use std::marker::Model;
 
-/// Rows of as many pixels each. They take no memory beside their bytes.
+/// Rows of pixels, all of the same length. They take no memory besides their bytes.
 #[derive(Drop)]
 pub struct PixelRows {
-    /// Of each row as many bytes as hold its pixels. Spare bits of the last of them may be black.
+    /// The bytes of each row, as many as its pixels need. Spare bits of a row's last byte may be black.
     bytes: Vec<u8>,
     /// How many pixels a row has.
     each: usize,
     count: usize,
-    /// The row that came last is the first one.
+    /// Whether the row that was added last is the first one.
     is_reversed: bool,
 }
 
@@ -47,7 +47,7 @@ impl PixelRows {
         }
     }
 
-    /// How many rows these are.
+    /// The number of rows.
     pub(crate) fn len(&self) -> usize
         ensures { result ≡ length self.now }
     {
@@ -58,8 +58,8 @@ impl PixelRows {
     ///
     /// # Errors
     ///
-    /// Where there is no memory for it, it isn't as long as the others, or these are reversed. Then nothing
-    /// has changed.
+    /// If there is no memory for the row, if it isn't as long as the others, or if the others are reversed. Then
+    /// nothing has changed.
     pub fn push(&mut self, row: &Bits) -> Result<(), AllocError>
         ensures added { OnOk result (self.new ≡ self.old ++ row.now ∷ []) }
         ensures unchanged { OnErr result (self.new ≡ self.old) }
@@ -71,7 +71,7 @@ impl PixelRows {
     ///
     /// # Errors
     ///
-    /// Where there is no memory for them, they aren't as long as the others, or these are reversed. Then
+    /// If there is no memory for the rows, if they aren't as long as the others, or if the others are reversed. Then
     /// nothing has changed.
     pub fn push_rows(&mut self, rows: &BitRows) -> Result<(), AllocError>
         ensures added { OnOk result (self.new ≡ self.old ++ rows.now) }
@@ -81,8 +81,7 @@ impl PixelRows {
         self.add(bytes, count, each)
     }
 
-    /// Adds so many rows of so many pixels each at the end, which are held one after another, each from a byte's start
-    /// on.
+    /// Adds `count` rows of `each` pixels at the end. `bytes` holds them one after another, and each begins at a byte.
     ///
     /// # Errors
     ///
@@ -107,14 +106,14 @@ impl PixelRows {
         Ok(())
     }
 
-    /// Puts the rows in the opposite order.
+    /// Reverses the order of the rows.
     pub fn reverse(&mut self)
         ensures { self.new ≡ reverse self.old }
     {
         self.is_reversed = !self.is_reversed;
     }
 
-    /// The bytes of a row from this one on, with others behind them.
+    /// The bytes of row `at` from byte `byte` on, and any bytes that are held after them.
     #[inline]
     pub(crate) fn bytes_from(&self, at: usize, byte: usize) -> &[u8]
         requires row { at < length self.now }

@@ -3,8 +3,7 @@
 ghost use Rattle.std.specs.Prelude.{◌≡◌, ◌*◌, length};
 ghost use Rattle.pnm_samples.specs.Cuts.{last_first};
 
-/// So many rows of so many samples each, the last row first, in place: rows that lie as far from either end change
-/// places.
+/// Reverses the order of `count` rows of `each` samples, in place: rows equally far from either end change places.
 pub fn reverse_rows<T: Copy>(samples: &mut [T], count: usize, each: usize)
     requires { length samples.old ≡ count * each }
     ensures { samples.new ≡ last_first count each samples.old }

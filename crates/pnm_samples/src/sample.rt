@@ -2,13 +2,13 @@
 
 ghost use Rattle.std.specs.Prelude.{◌≡◌, ◌≤◌, ◌-◌, ℕ};
 
-/// A sample that is held as a byte or as a word, for the loops that count with samples. What only
-/// moves samples needs `Copy` alone.
+/// A sample that is held as a byte or as a word, for the loops that calculate with samples. Code that only moves
+/// samples needs `Copy` alone.
 pub trait Sample: Copy {
     /// The number that it is.
     ghost value: { Self → ℕ };
 
-    /// What is left of the maxval.
+    /// The maxval minus the sample.
     fn taken_from(self, maxval: Self) -> Self
         requires { value self ≤ value maxval }
         ensures { value result ≡ value maxval - value self };

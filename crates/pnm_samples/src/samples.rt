@@ -21,10 +21,10 @@ pub enum SampleVec {
     Words(Vec<u16>),
 }
 
-/// Samples that are lent, as wide as they are held.
+/// Borrowed samples, as wide as they are held.
 #[derive(Clone, Copy, Debug)]
 pub enum SampleSlice<'a> {
-    /// Each is 0 or 1: so many pixels of these bytes, the first ones.
+    /// Each is 0 or 1: the first pixels of these bytes, and how many there are.
     Bits(&'a [u8], usize),
     /// Each is at most 255.
     Bytes(&'a [u8]),
@@ -33,7 +33,7 @@ pub enum SampleSlice<'a> {
 }
 
 impl SampleVec {
-    /// The samples, lent.
+    /// The samples, borrowed.
     pub fn as_slice(&self) -> SampleSlice<'_>
         ensures samples { slice_samples result ≡ samples_of self.now }
         ensures spare { HasWhiteSpare result }
@@ -59,7 +59,7 @@ impl SampleSlice<'_> {
         }
     }
 
-    /// Whether no sample is above this number. No pixel is looked at where none can be.
+    /// Whether no sample is above `most`. It looks at no sample if none can be above it.
     pub fn are_within(self, most: u32) -> bool
         ensures { IsTrue result ↔ All (λ sample. sample ≤ most) (slice_samples self.entry) }
     {
@@ -70,7 +70,7 @@ impl SampleSlice<'_> {
         }
     }
 
-    /// Fills the buffer with samples, from one on.
+    /// Fills the buffer with the samples from `start` on.
     pub fn copy_to(self, start: usize, buffer: &mut [u16])
         requires { start + length buffer.old ≤ length (slice_samples self) }
         ensures { buffer.new ≡ take (length buffer.old) (drop start (slice_samples self.entry)) }
@@ -81,8 +81,8 @@ impl SampleSlice<'_> {
     }
 }
 
-/// The samples of a row: columns left to right, and in each column the planes in order. It knows a
-/// number that none is above, so that a row is looked at once, and not by each who is handed it.
+/// The samples of a row: columns left to right, and in each column the planes in order. It keeps a bound that no sample
+/// is above, so that a row is looked at once, and not by everyone who is handed it.
 #[derive(Debug, Drop)]
 pub struct Samples {
     held: SampleVec,
@@ -109,7 +109,7 @@ impl Samples {
         Samples::from_vec(SampleVec::Words(samples))
     }
 
-    /// The samples that are held, without a copy.
+    /// The samples in `held`, without a copy.
     pub fn from_vec(held: SampleVec) -> Samples
         ensures { result ≡ samples_of held }
     {
@@ -117,8 +117,8 @@ impl Samples {
         Samples::within(held, bound)
     }
 
-    /// The samples that are held, none of them above this number, without a copy. A place asks then
-    /// whether the number is within the maxval, and looks at no sample.
+    /// The samples in `held`, none of them above `bound`, without a copy. A place then asks whether the bound is within
+    /// the maxval, and looks at no sample.
     pub fn within(held: SampleVec, bound: u32) -> Samples
         requires { All (λ sample. sample ≤ bound) (samples_of held) }
         ensures { result ≡ samples_of held }
@@ -126,14 +126,14 @@ impl Samples {
         Samples { held, bound }
     }
 
-    /// How the samples are held, without a copy.
+    /// The samples as they are held, without a copy.
     pub fn into_vec(self) -> SampleVec
         ensures { samples_of result ≡ self }
     {
         self.held
     }
 
-    /// How the samples are held, lent.
+    /// The samples as they are held, borrowed.
     pub fn as_slice(&self) -> SampleSlice<'_>
         ensures samples { slice_samples result ≡ self.now }
         ensures spare { HasWhiteSpare result }
@@ -145,12 +145,12 @@ impl Samples {
     pub fn bound(&self) -> u32
         ensures { All (λ sample. sample ≤ result) self.now }
     {
-        // No effect at run time: a proof learns of this that none of those held is above it.
+        // No effect at run time: a proof learns from this that no held sample is above the bound.
         let _ = &self.held;
         self.bound
     }
 
-    /// How many samples these are.
+    /// The number of samples.
     pub fn len(&self) -> usize
         ensures { result ≡ length self.now }
     {
@@ -169,7 +169,7 @@ impl Samples {
         self.as_slice().sample(at)
     }
 
-    /// Whether no sample is above this number. No sample is looked at where none can be.
+    /// Whether no sample is above `most`. It looks at no sample if none can be above it.
     #[inline(always)]
     pub fn are_within(&self, most: u32) -> bool
         ensures { IsTrue result ↔ All (λ sample. sample ≤ most) self.now }
@@ -177,11 +177,11 @@ impl Samples {
         self.bound <= most || self.as_slice().are_within(most)
     }
 
-    /// The samples as bits, without a copy where they are held so.
+    /// The samples as bits, without a copy if they are held as bits.
     ///
     /// # Errors
     ///
-    /// Where there is no memory for the bits.
+    /// If there is no memory for the bits.
     pub fn into_bits(self, alloc: Global) -> Result<Bits, AllocError>
         requires { All (λ sample. sample ≤ 1) self }
         ensures { IfOk result (λ bits. bits ≡ self) }
@@ -196,11 +196,11 @@ impl Samples {
         }
     }
 
-    /// The samples as bytes, without a copy where they are held so.
+    /// The samples as bytes, without a copy if they are held as bytes.
     ///
     /// # Errors
     ///
-    /// Where there is no memory for the bytes.
+    /// If there is no memory for the bytes.
     pub fn into_bytes(self, alloc: Global) -> Result<Vec<u8>, AllocError>
         requires { All (λ sample. sample ≤ 255) self }
         ensures { IfOk result (λ bytes. bytes.items ≡ self) }
@@ -212,11 +212,11 @@ impl Samples {
         }
     }
 
-    /// The samples as words, without a copy where they are held so.
+    /// The samples as words, without a copy if they are held as words.
     ///
     /// # Errors
     ///
-    /// Where there is no memory for the words.
+    /// If there is no memory for the words.
     pub fn into_words(self, alloc: Global) -> Result<Vec<u16>, AllocError>
         ensures { IfOk result (λ words. words.items ≡ self) }
     {
@@ -227,11 +227,11 @@ impl Samples {
         }
     }
 
-    /// The samples as words, in a vector of its own.
+    /// The samples as words, in a new vector.
     ///
     /// # Errors
     ///
-    /// Where there is no memory for the words.
+    /// If there is no memory for the words.
     pub fn to_words(&self, alloc: Global) -> Result<Vec<u16>, AllocError>
         ensures { IfOk result (λ words. words.items ≡ self.now) }
     {
@@ -242,11 +242,11 @@ impl Samples {
         }
     }
 
-    /// Equal samples, held alike.
+    /// A copy of the samples, held in the same way.
     ///
     /// # Errors
     ///
-    /// Where there is no memory for them.
+    /// If there is no memory for them.
     pub fn copy(&self, alloc: Global) -> Result<Samples, AllocError>
         ensures { IfOk result (λ copy. copy ≡ self.now) }
     {
@@ -262,7 +262,7 @@ impl Samples {
     }
 }
 
-/// The greatest number that a sample can be that is held so.
+/// The greatest number that a sample of this width can be.
 fn bound_of(held: &SampleVec) -> u32
     ensures { All (λ sample. sample ≤ result) (samples_of held.now) }
 {
@@ -273,14 +273,14 @@ fn bound_of(held: &SampleVec) -> u32
     }
 }
 
-/// What no byte is above. A proof learns of the call that it is so of these.
+/// A number that no byte is above. A proof learns from the call that this holds for `bytes`.
 fn byte_bound(bytes: &[u8]) -> u32
     ensures { All (λ sample. sample ≤ result) bytes.now }
 {
     GREATEST_BYTE
 }
 
-/// What no word is above. A proof learns of the call that it is so of these.
+/// A number that no word is above. A proof learns from the call that this holds for `words`.
 fn word_bound(words: &[u16]) -> u32
     ensures { All (λ sample. sample ≤ result) words.now }
 {

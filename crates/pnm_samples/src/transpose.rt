@@ -11,16 +11,16 @@ use crate::pixel_rows::PixelRows;
 use std::alloc::{AllocError, Global};
 use std::simd::prelude::*;
 
-/// The bytes of white pixels where there is no row. As many bytes of each row are read side by side,
-/// so that what the processor fetches with one of them is used.
+/// The bytes of white pixels, for a row that isn't there. From each row 32 bytes are read side by side, so that what
+/// the processor fetches with one of them is used.
 static WHITE: [u8; 32] = [0; 32];
 
-/// So many columns of rows of pixels, at most 256, the first of them in the highest bit of this byte
-/// of each row: each a row of as many pixels as there are rows.
+/// `count` columns of the rows, at most 256, each as a row of its own. The first column lies in the highest bit of byte
+/// `byte` of each row. A column has as many pixels as there are rows.
 ///
 /// # Errors
 ///
-/// Where there is no memory for them.
+/// If there is no memory for them.
 pub fn columns(
     alloc: Global,
     rows: &PixelRows,
@@ -41,8 +41,8 @@ pub fn columns(
     Ok(made)
 }
 
-/// The bytes of the columns that lie in so many bytes of each row, from this one on: two of each
-/// column for sixteen rows.
+/// The bytes of the columns that lie in `width` bytes of each row, from byte `byte` on: two bytes of each column for
+/// every sixteen rows.
 fn column_bytes(
     alloc: Global,
     rows: &PixelRows,
@@ -70,7 +70,7 @@ fn column_bytes(
     Ok(columns)
 }
 
-/// So many columns of so many bytes each.
+/// `count` columns of `length` bytes each.
 fn columns_of_length(alloc: Global, count: usize, length: usize) -> Result<Vec<Vec<u8>>, AllocError>
     ensures { IfOk result (λ columns. AreLong count length columns.items) }
 {
@@ -81,8 +81,8 @@ fn columns_of_length(alloc: Global, count: usize, length: usize) -> Result<Vec<V
     Ok(columns)
 }
 
-/// The bytes of sixteen rows from this one on, where there are as many, and white ones beyond: of each eight rows
-/// the last one first, since the first pixel of a byte lies in its highest bit.
+/// The bytes from `byte` on of the sixteen rows from `first` on, with white ones for rows that aren't there. Of every
+/// eight rows the last one comes first, since the first pixel of a byte lies in its highest bit.
 #[inline]
 fn sixteen_from(rows: &PixelRows, first: usize, byte: usize, width: usize) -> [&[u8]; 16]
     requires width { width ≤ 32 }
@@ -112,7 +112,7 @@ fn sixteen_from(rows: &PixelRows, first: usize, byte: usize, width: usize) -> [&
     ]
 }
 
-/// The bytes of a row from this one on, at least as many as are asked for.
+/// The bytes of row `at` from byte `byte` on, at least `width` of them.
 #[inline]
 fn bytes_from(rows: &PixelRows, at: usize, byte: usize, width: usize) -> &[u8]
     requires width { width ≤ 32 }
@@ -126,7 +126,8 @@ fn bytes_from(rows: &PixelRows, at: usize, byte: usize, width: usize) -> &[u8]
     rows.bytes_from(at, byte)
 }
 
-/// Sixteen bytes of each of sixteen rows, from this one on: of each byte of a row those of all rows together.
+/// Sixteen bytes of each of sixteen rows, from byte `at` on. Each vector holds the bytes that all rows have in one
+/// place.
 #[inline]
 pub fn lanes_beside(rows: &[&[u8]], at: usize) -> [u8x16; 16]
     requires count { length rows.now ≡ 16 }
@@ -154,7 +155,7 @@ pub fn lanes_beside(rows: &[&[u8]], at: usize) -> [u8x16; 16]
     ])
 }
 
-/// Sixteen bytes from this one on, white ones behind the last.
+/// Sixteen bytes from `at` on, with white ones after the last.
 #[inline]
 fn sixteen_bytes(row: &[u8], at: usize) -> u8x16
     requires { at < length row.now }
@@ -167,7 +168,7 @@ fn sixteen_bytes(row: &[u8], at: usize) -> u8x16
     u8x16::from_slice(&row[at..at + 16])
 }
 
-/// Fewer bytes than sixteen, and white ones behind them.
+/// Fewer than sixteen bytes, with white ones after them.
 #[inline(never)]
 fn last_bytes(bytes: &[u8]) -> u8x16
     requires { length bytes.now < 16 }
@@ -179,7 +180,7 @@ fn last_bytes(bytes: &[u8]) -> u8x16
     u8x16::from_array(lanes)
 }
 
-/// Puts two bytes into each of eight columns, at this one and behind it, the low one first.
+/// Puts two bytes into each of eight columns, from byte `at` on, the low one first.
 #[inline]
 fn put_pairs(columns: &mut [Vec<u8>], first: usize, at: usize, pairs: &[u16])
     requires columns { first + 8 ≤ length columns.old }

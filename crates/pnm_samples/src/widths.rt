@@ -4,10 +4,10 @@ ghost use Rattle.std.specs.Prelude.{◌≡◌, ◌≤◌, All, IfOk};
 
 use std::alloc::{AllocError, Global};
 
-/// Words, each at most 255, as bytes, a byte a sample.
+/// Words, each at most 255, as bytes, a byte per sample.
 ///
 /// # Errors
-/// Where there is no memory for them.
+/// If there is no memory for them.
 pub fn words_to_bytes(alloc: Global, words: &[u16]) -> Result<Vec<u8>, AllocError>
     requires { All (λ sample. sample ≤ 255) words.now }
     ensures { IfOk result (λ bytes. bytes.items ≡ words.now) }
@@ -19,10 +19,11 @@ pub fn words_to_bytes(alloc: Global, words: &[u16]) -> Result<Vec<u8>, AllocErro
     Ok(bytes)
 }
 
-/// Bytes as words, a word a sample. The buffer is there first, so that nothing is asked for again where there is none.
+/// Bytes as words, a word per sample. The vector gets all its memory first, so that nothing asks for more if there is
+/// none.
 ///
 /// # Errors
-/// Where there is no memory for them.
+/// If there is no memory for them.
 pub fn bytes_to_words(alloc: Global, bytes: &[u8]) -> Result<Vec<u16>, AllocError>
     ensures { IfOk result (λ words. words.items ≡ bytes.now) }
 {

@@ -17,7 +17,7 @@ pub trait Teller {
     ) -> Result<(), Unmade>;
 }
 
-/// Prints for each line of the standard input what comes of its case; a line that begins with `#` as it is.
+/// Prints what comes of the case in each line of standard input. Prints a line that begins with `#` as it is.
 pub fn tell_lines<H: AllocGlobal + Input + Print, T: Teller>(
     rt: &H,
     teller: &mut T,
@@ -43,7 +43,7 @@ fn tell_line<H: Print, T: Teller>(
     Ok(())
 }
 
-/// Adds what comes of the case of a line, which is ` no case` where it isn't one, or can't be made.
+/// Adds what comes of the case of a line, which is ` no case` if the line isn't one, or it can't be made.
 fn tell_case<T: Teller>(
     alloc: Global,
     teller: &mut T,

@@ -1,11 +1,11 @@
-//! Devices of tests: they give and take few bytes a call, and fail where a test wants it.
+//! Devices of tests: they give and take few bytes a call, and fail when a test wants it.
 
 use std::alloc::Global;
 use std::io;
 use std::io::{ErrorKind, Read, Write};
 
-/// Says that a call is to fail, once, after so many calls that succeed. The error is one that std's
-/// own loops take for a call to be made again.
+/// Makes one call fail, once, after `before` calls that succeed. The error is one after which std's own loops make the
+/// call again.
 #[derive(Drop)]
 pub struct FailsOnce {
     before: usize,
@@ -13,7 +13,7 @@ pub struct FailsOnce {
 }
 
 impl FailsOnce {
-    /// The call after so many fails.
+    /// The call after the first `before` fails.
     pub fn after(before: usize) -> FailsOnce {
         FailsOnce {
             before,
@@ -29,7 +29,7 @@ impl FailsOnce {
         }
     }
 
-    /// Counts a call, and fails where it is the one.
+    /// Counts a call, and fails if it is the one.
     fn call(&mut self) -> io::Result<()> {
         if self.before > 0 {
             self.before -= 1;
@@ -41,7 +41,7 @@ impl FailsOnce {
     }
 }
 
-/// A reader that gives up to so many bytes a call.
+/// A reader that gives up to `most` bytes a call.
 #[derive(Drop)]
 pub struct Drips<'a> {
     rest: &'a [u8],
@@ -50,7 +50,7 @@ pub struct Drips<'a> {
 }
 
 impl<'a> Drips<'a> {
-    /// Gives this text, up to so many bytes a read, of which one may fail.
+    /// A reader that gives this text, up to `most` bytes a read. One of the reads may fail.
     pub fn new(text: &'a [u8], most: usize, reads: FailsOnce) -> Drips<'a> {
         Drips {
             rest: text,
@@ -68,7 +68,7 @@ impl Read for Drips<'_> {
     }
 }
 
-/// A writer that takes up to so many bytes a call.
+/// A writer that takes up to `most` bytes a call.
 #[derive(Drop)]
 pub struct Sips {
     held: Vec<u8>,
@@ -79,7 +79,7 @@ pub struct Sips {
 }
 
 impl Sips {
-    /// Takes up to so many bytes a write, of which one may fail, as one of the flushes may.
+    /// A writer that takes up to `most` bytes a write. One of the writes may fail, and one of the flushes.
     pub fn new(alloc: Global, most: usize, writes: FailsOnce, flushes: FailsOnce) -> Sips {
         Sips {
             held: Vec::new(alloc),
@@ -114,14 +114,14 @@ impl Write for Sips {
     }
 }
 
-/// A writer that takes all bytes, and each of whose flushes fails.
+/// A writer that takes all bytes, but fails at every flush.
 #[derive(Drop)]
 pub struct NeverFlushes {
     held: Vec<u8>,
 }
 
 impl NeverFlushes {
-    /// Holds nothing yet.
+    /// A writer that holds nothing yet.
     pub fn new(alloc: Global) -> NeverFlushes {
         NeverFlushes {
             held: Vec::new(alloc),
@@ -144,7 +144,7 @@ impl Write for NeverFlushes {
     }
 }
 
-/// A reader that keeps of each read how many bytes it asked for, and how many it got.
+/// A reader that records, for each read, how many bytes it asked for and how many it got.
 #[derive(Drop)]
 pub struct Recorded<R> {
     reader: R,
@@ -152,7 +152,7 @@ pub struct Recorded<R> {
 }
 
 impl<R: Read + Drop> Recorded<R> {
-    /// Not read yet.
+    /// A reader that isn't read yet.
     pub fn new(alloc: Global, reader: R) -> Recorded<R> {
         Recorded {
             reader,
@@ -160,7 +160,7 @@ impl<R: Read + Drop> Recorded<R> {
         }
     }
 
-    /// The bytes that each read asked for, and those that it got.
+    /// How many bytes each read asked for, and how many it got.
     pub fn calls(&self) -> &[(usize, usize)] {
         self.calls.as_slice()
     }

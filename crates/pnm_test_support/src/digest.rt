@@ -27,7 +27,7 @@ pub struct Crc32 {
 }
 
 impl Crc32 {
-    /// Of no bytes.
+    /// The CRC-32 of no bytes.
     pub fn new() -> Crc32 {
         Crc32 { register: u32::MAX }
     }

@@ -1,4 +1,4 @@
-//! Messages as they are written, which is how they are told, and rows that are held so wide.
+//! Messages as they are written, which is how they are told, and rows that are held in a given width.
 
 use super::writing::{Numbers, cut_at, cut_number, cut_numbers, cut_word, named};
 use pnm_image::{Bits, Head, HeadFault, Kind, Message, SampleVec, SampleWidth, Samples, Shape};
@@ -33,9 +33,9 @@ impl From<io::Error> for Unmade {
     }
 }
 
-/// Adds the message that a line begins with, its row in as few bits as hold its samples, or in words. Gives what
-/// follows it. `[#COUNT,FIRST,STEP,MODULUS,LENGTH]` stands for rows of so many samples: in all COUNT, FIRST plus k
-/// times STEP modulo MODULUS.
+/// Adds the message that a line begins with, its row in as few bits as hold its samples, or in words. Returns what
+/// follows it. `[#COUNT,FIRST,STEP,MODULUS,LENGTH]` stands for rows of LENGTH samples: COUNT samples in all, each of
+/// them FIRST plus k times STEP modulo MODULUS.
 pub fn cut_messages<'a>(
     alloc: Global,
     line: &'a [u8],
@@ -89,7 +89,7 @@ pub fn messages_of(alloc: Global, text: &[u8], is_narrow: bool) -> Result<Vec<Me
     Ok(messages)
 }
 
-/// Adds a row of these samples, or rows of so many numbers.
+/// Adds a row of the written samples, or rows of counted numbers.
 fn add_rows(
     alloc: Global,
     written: &[u8],
@@ -108,7 +108,7 @@ fn add_rows(
     Ok(())
 }
 
-/// The samples that numbers are.
+/// The numbers as samples.
 fn counted(alloc: Global, numbers: Numbers) -> Result<Vec<u16>, Unmade> {
     let mut samples = Vec::new(alloc);
     for k in 0..numbers.count {
@@ -171,7 +171,7 @@ const KINDS: &[(&[u8], Kind)] = &[
     (b"Pam", Kind::Pam),
 ];
 
-/// The number, where it is a sample.
+/// The number, if it is a sample.
 fn sample_of(number: usize) -> Result<u16, Unmade> {
     match u16::try_from(number) {
         Ok(sample) => Ok(sample),
@@ -221,7 +221,7 @@ pub fn held_by(alloc: Global, samples: &[u16], is_narrow: bool) -> Result<Sample
     held(alloc, samples, sample_width)
 }
 
-/// The samples, held so wide.
+/// The samples, held in this width.
 pub fn held(
     alloc: Global,
     samples: &[u16],

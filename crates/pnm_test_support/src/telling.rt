@@ -112,7 +112,7 @@ pub fn width_of(row: SampleSlice<'_>) -> &'static str {
     }
 }
 
-/// Adds a number and answers, unless they are those before.
+/// Adds a number and the answers, unless the answers are the same as before.
 pub fn tell_change(
     told: &mut String,
     number: usize,

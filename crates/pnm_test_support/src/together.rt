@@ -18,7 +18,7 @@ pub enum Handed {
     Rows(Rows),
 }
 
-/// What is handed over by messages that are written one after another: at once those rows that stand between braces.
+/// What is handed over by messages that are written one after another. Rows between braces are handed over at once.
 /// Rows are held in as few bits as hold their samples, or in words.
 pub fn handed_of(alloc: Global, text: &[u8], is_narrow: bool) -> Result<Vec<Handed>, Unmade> {
     let mut handed = Vec::new(alloc);
@@ -60,7 +60,7 @@ fn length_of(message: Option<&Message>) -> usize {
     }
 }
 
-/// Adds the samples of a row that is so long.
+/// Adds the samples of a row of this length.
 fn add_samples(message: &Message, row_length: usize, samples: &mut Vec<u16>) -> Result<(), Unmade> {
     let Message::Row(row) = message else {
         return Err(Unmade);
@@ -74,7 +74,7 @@ fn add_samples(message: &Message, row_length: usize, samples: &mut Vec<u16>) -> 
     Ok(())
 }
 
-/// The samples as so many rows of this length, one at least.
+/// The samples as `count` rows of this length, at least one.
 pub fn cut_into(
     alloc: Global,
     samples: Samples,
@@ -99,7 +99,7 @@ pub fn cut_into(
     })
 }
 
-/// The pixels as so many rows of this length.
+/// The pixels as `count` rows of this length.
 fn rows_of_bits(
     alloc: Global,
     pixels: &Bits,
@@ -111,7 +111,7 @@ fn rows_of_bits(
     ensures each { IfOk result (λ rows. All (λ row. length row ≡ row_length) rows) }
     ensures within { IfOk result (λ rows. AreRowsWithin 1 rows) }
 {
-    // No effect at run time: a proof learns of this that the pixels are as many as this machine can count.
+    // No effect at run time: a proof learns from this that the pixels are as many as this machine can count.
     let _ = pixels.len();
     let mut bytes = Vec::new(alloc);
     for row in 0..count {
@@ -129,7 +129,7 @@ pub fn tell_rows(alloc: Global, told: &mut String, rows: &Rows) -> Result<(), Al
     told.push_str(" }")
 }
 
-/// Adds the rows, each as a row by itself is told.
+/// Adds the rows, each as a single row is told.
 pub fn tell_each_row(alloc: Global, told: &mut String, rows: &Rows) -> Result<(), AllocError> {
     for at in 0..rows.count() {
         let row = rows.row(alloc, at)?;

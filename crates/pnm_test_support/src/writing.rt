@@ -7,7 +7,7 @@ pub fn cut_word(line: &[u8]) -> (&[u8], &[u8]) {
     cut_at(line, b' ')
 }
 
-/// What stands before the first such byte, and what follows it.
+/// What comes before the first byte `mark`, and what follows it.
 pub fn cut_at(line: &[u8], mark: u8) -> (&[u8], &[u8]) {
     for at in 0..line.len() {
         if line[at] == mark {
@@ -52,10 +52,10 @@ pub fn cut_number(line: &[u8]) -> (usize, &[u8]) {
     (number, rest)
 }
 
-/// The bytes that a written text stands for. A byte stands for itself, but for a backslash: `\n`, `\t`, `\r` and `\xHH`
-/// are the byte that they are in Rust, and any other byte after it is itself. `\N(PART)` stands for the part so many
-/// times, and `\#COUNT,FIRST,STEP,MODULUS,BYTES;` for so many numbers, FIRST plus k times STEP modulo MODULUS, of so
-/// many bytes each, or in decimal with a blank after each where that is 0.
+/// The bytes that a written text stands for. A byte stands for itself, except for a backslash: `\n`, `\t`, `\r` and
+/// `\xHH` are the byte that they are in Rust, and any other byte after it is itself. `\N(PART)` stands for N times
+/// PART, and `\#COUNT,FIRST,STEP,MODULUS,BYTES;` for COUNT numbers, FIRST plus k times STEP modulo MODULUS, of BYTES
+/// bytes each, or in decimal with a blank after each if BYTES is 0.
 pub fn text_of(alloc: Global, written: &[u8]) -> Result<Vec<u8>, AllocError> {
     let mut text = Vec::new(alloc);
     let mut rest = written;
@@ -70,14 +70,14 @@ pub fn text_of(alloc: Global, written: &[u8]) -> Result<Vec<u8>, AllocError> {
     Ok(text)
 }
 
-/// Adds the byte that a written text begins with, and gives what follows it.
+/// Adds the byte that a written text begins with, and returns what follows it.
 fn add_byte<'a>(text: &mut Vec<u8>, written: &'a [u8]) -> Result<&'a [u8], AllocError> {
     let (byte, after) = cut_byte(written);
     text.push(byte)?;
     Ok(after)
 }
 
-/// Adds a part so often as the number before it says, and gives what follows it.
+/// Adds a part as often as the number before it says, and returns what follows it.
 fn add_repeated<'a>(text: &mut Vec<u8>, written: &'a [u8]) -> Result<&'a [u8], AllocError> {
     let (count, rest) = cut_number(written);
     let (part, after) = cut_at(rest, b')');
@@ -99,7 +99,7 @@ fn add_bytes(text: &mut Vec<u8>, written: &[u8]) -> Result<(), AllocError> {
     Ok(())
 }
 
-/// The byte that a written text begins with, 0 where it is empty, and what follows it.
+/// The byte that a written text begins with, 0 if it is empty, and what follows it.
 fn cut_byte(written: &[u8]) -> (u8, &[u8]) {
     match written {
         [b'\\', b'x', high, low, rest @ ..] => (
@@ -112,7 +112,7 @@ fn cut_byte(written: &[u8]) -> (u8, &[u8]) {
     }
 }
 
-/// The byte that stands for this one after a backslash.
+/// The byte that `mark` stands for after a backslash.
 fn escaped(mark: u8) -> u8 {
     match mark {
         b'n' => b'\n',
@@ -130,7 +130,7 @@ fn hexadecimal(digit: u8) -> u8 {
     }
 }
 
-/// So many numbers, each of this size: the first one plus k times the step modulo the modulus.
+/// `count` numbers of size `size`: `first` plus k times `step` modulo `modulus`.
 #[derive(Clone, Copy)]
 pub struct Numbers {
     pub count: usize,
@@ -141,14 +141,14 @@ pub struct Numbers {
 }
 
 impl Numbers {
-    /// The number in this place.
+    /// Number `k`, counted from 0.
     pub fn at(self, k: usize) -> usize {
         let turned = k.wrapping_mul(self.step).checked_rem(self.modulus);
         self.first.wrapping_add(turned.unwrap_or(0))
     }
 }
 
-/// The numbers that are written so, and what follows them.
+/// The numbers that a written text begins with, and what follows them.
 pub fn cut_numbers(written: &[u8]) -> (Numbers, &[u8]) {
     let (count, rest) = cut_number(written);
     let (first, rest) = cut_number(rest);
@@ -165,7 +165,7 @@ pub fn cut_numbers(written: &[u8]) -> (Numbers, &[u8]) {
     (numbers, rest)
 }
 
-/// Adds the numbers that are written so, and gives what follows them.
+/// Adds the numbers that a written text begins with, and returns what follows them.
 fn add_numbers<'a>(text: &mut Vec<u8>, written: &'a [u8]) -> Result<&'a [u8], AllocError> {
     let (numbers, rest) = cut_numbers(written);
     for k in 0..numbers.count {
@@ -174,7 +174,7 @@ fn add_numbers<'a>(text: &mut Vec<u8>, written: &'a [u8]) -> Result<&'a [u8], Al
     Ok(rest)
 }
 
-/// Adds a number in so many bytes, 0 for decimal digits and a blank.
+/// Adds a number in `bytes` bytes; 0 stands for decimal digits and a blank.
 fn add_number(text: &mut Vec<u8>, number: usize, bytes: usize) -> Result<(), AllocError> {
     match bytes {
         0 => {

@@ -70,7 +70,7 @@ fn push_fields(buffer: &mut WriteBuffer, shape: Shape, tuple_type: &[u8])
     buffer.push(b"ENDHDR\n");
 }
 
-/// The line of the tuple type, where there is one.
+/// The line of the tuple type, if there is one.
 fn push_tuple_type(buffer: &mut WriteBuffer, tuple_type: &[u8])
     requires { length buffer.old + length tuple_type.now + 10 ≤ 4096 }
     ensures line { buffer.new ≡ buffer.old ++ tuple_type_line tuple_type.now }

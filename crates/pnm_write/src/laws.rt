@@ -1,5 +1,5 @@
-//! Laws of the bytes of messages. Each stands over the definitions alone, as the contract of a
-//! function that does nothing.
+//! Laws of the bytes of messages. Each is stated over the definitions alone, as the contract of a function that does
+//! nothing.
 
 ghost use Rattle.pnm_write.specs.EncodingLaws.{BytesAreTheEncoding, MessagesAddTheirBytes};
 ghost use Rattle.pnm_write.specs.EncodingLaws.{RefusedStreamsAreOfImages, PlainRowsHaveOneText};

@@ -8,11 +8,10 @@ ghost use Rattle.pnm_image.specs.Characters.{blank, line_feed};
 ghost use Rattle.pnm_write.specs.PlainRows.{max_line_length};
 ghost use Rattle.pnm_write.specs.PlainParts.{text_of_part, column_after_part, sample_texts};
 
-/// The bytes of a line without its LF, at most.
+/// The most bytes of a line without its LF.
 pub const MAX_LINE_LENGTH: usize = 70;
 
-/// For each number up to 255 how many bytes its text has behind a blank, the blank too, and these bytes, filled up with
-/// blanks.
+/// For each number up to 255, how many bytes a blank and its text have, and then these bytes, filled up with blanks.
 const ENTRIES: &[u8; 1280] = b"\
     2 0  2 1  2 2  2 3  2 4  2 5  2 6  2 7  2 8  2 9  3 10 3 11 3 12 3 13 3 14 3 15 \
     3 16 3 17 3 18 3 19 3 20 3 21 3 22 3 23 3 24 3 25 3 26 3 27 3 28 3 29 3 30 3 31 \
@@ -59,7 +58,7 @@ pub fn put_four(buffer: &mut [u8], at: usize, bytes: &[u8])
     buffer[at + 3] = fourth;
 }
 
-/// Puts a blank and a small number into the buffer, and answers how many bytes these are.
+/// Puts a blank and a small number into the buffer, and returns how many bytes these are.
 #[inline(always)]
 fn put_small(buffer: &mut [u8], at: usize, number: usize) -> usize
     requires buffer { at + 4 ≤ length buffer.old }
@@ -89,7 +88,7 @@ fn put_three(buffer: &mut [u8], at: usize, number: usize)
     buffer[at + 2] = ones;
 }
 
-/// Puts a blank and a number into the buffer, and answers how many bytes these are.
+/// Puts a blank and a number into the buffer, and returns how many bytes these are.
 #[inline(always)]
 fn put(buffer: &mut [u8], at: usize, number: usize) -> usize
     requires buffer { at + 6 ≤ length buffer.old }
@@ -111,8 +110,8 @@ fn put(buffer: &mut [u8], at: usize, number: usize) -> usize
     }
 }
 
-/// Ends the line before a word of so many bytes, the blank before it too, where there is no room for it in the line.
-/// Answers how many bytes the line has with the word.
+/// Ends the line before a word if it has no room for the word. The word has `size` bytes, including the blank before
+/// it. Returns how many bytes the line has with the word.
 #[inline(always)]
 fn break_line(buffer: &mut [u8], at: usize, column: usize, size: usize) -> usize
     requires buffer { at < length buffer.old }
@@ -134,8 +133,8 @@ fn break_line(buffer: &mut [u8], at: usize, column: usize, size: usize) -> usize
     }
 }
 
-/// Puts small numbers behind what the buffer has, in a line that has begun. Answers how much the buffer has then, and
-/// the line.
+/// Puts small numbers after the first `start` bytes of the buffer, in a line that has begun. Returns how many bytes the
+/// buffer has then, and how many the line has.
 pub fn append_bytes(
     buffer: &mut [u8],
     start: usize,
@@ -161,8 +160,8 @@ pub fn append_bytes(
     (end, at)
 }
 
-/// Puts numbers behind what the buffer has, in a line that has begun. Answers how much the buffer has then, and the
-/// line.
+/// Puts numbers after the first `start` bytes of the buffer, in a line that has begun. Returns how many bytes the
+/// buffer has then, and how many the line has.
 pub fn append_words(
     buffer: &mut [u8],
     start: usize,

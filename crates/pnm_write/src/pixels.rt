@@ -8,10 +8,10 @@ ghost use Rattle.pnm_write.specs.PixelCells.{cells, nibble_cells};
 
 use crate::numerals::put_four;
 
-/// How many pixels a line has: each has a character, and a blank or the LF behind it.
+/// How many pixels a line has: each takes a character, and a blank or the LF after it.
 const LINE: usize = 35;
 
-/// For each four bits their characters, with a blank behind each.
+/// The characters of every four bits, with a blank after each character.
 const NIBBLES: &[u8; 128] = b"\
     0 0 0 0 0 0 0 1 0 0 1 0 0 0 1 1 0 1 0 0 0 1 0 1 0 1 1 0 0 1 1 1 \
     1 0 0 0 1 0 0 1 1 0 1 0 1 0 1 1 1 1 0 0 1 1 0 1 1 1 1 0 1 1 1 1 \
@@ -50,7 +50,7 @@ fn put_byte(buffer: &mut [u8], at: usize, byte: u8)
     put_nibble(buffer, at + 8, bits % 16);
 }
 
-/// Puts the characters of the pixels of these bytes into the buffer, with a blank behind each.
+/// Puts the characters of the pixels of these bytes into the buffer, with a blank after each.
 fn put_cells(buffer: &mut [u8], bytes: &[u8])
     requires { 16 * length bytes.now ≤ length buffer.old }
     ensures { take (16 * length bytes.now) buffer.new ≡ cells (all_pixels bytes.now) }
@@ -60,7 +60,7 @@ fn put_cells(buffer: &mut [u8], bytes: &[u8])
     }
 }
 
-/// Puts the text of a row of so many pixels, the first of these bytes, into the buffer.
+/// Puts the text of a row into the buffer: that of the first `count` pixels of the bytes.
 pub fn put_pixels(buffer: &mut [u8], bytes: &[u8], count: usize)
     requires buffer { 16 * length bytes.now ≤ length buffer.old }
     requires enough { count ≤ 8 * length bytes.now }

@@ -51,7 +51,7 @@ pub fn write_lines<W: BytesOut>(
     }
 }
 
-/// Writes so many pixels, the first of these bytes: whole bytes and whole lines of them at a time.
+/// Writes the first `count` pixels of the bytes, whole bytes and whole lines at a time.
 fn write_pixels<W: BytesOut>(
     writer: &mut W,
     buffer: &mut WriteBuffer,
@@ -134,8 +134,8 @@ fn write_words<W: BytesOut>(
     Ok(())
 }
 
-/// Writes a row of so many samples, which are held otherwise than their kind is. It stands in no other function's
-/// frame, since these would have room for its samples too.
+/// Writes a row of `count` samples that aren't held in the form of their kind. It isn't inlined, since the frames of
+/// its callers would then have room for its samples, too.
 #[inline(never)]
 fn write_others<W: BytesOut>(
     writer: &mut W,
@@ -154,7 +154,7 @@ fn write_others<W: BytesOut>(
     ensures count { OnOk result (W.failures writer.new ≡ W.failures writer.old) }
     ensures same_device { W.same writer.old writer.new }
 {
-    // No effect at run time: a proof learns of this that the maxval keeps the rules of shapes.
+    // No effect at run time: a proof learns from this that the maxval keeps the rules of shapes.
     let _ = shape.maxval;
     let mut words = [0; MOST_SAMPLES];
     let mut column = 0;
@@ -170,7 +170,7 @@ fn write_others<W: BytesOut>(
     Ok(())
 }
 
-/// Puts a part of a row of small numbers into the buffer, and answers how many bytes its last line has.
+/// Puts a part of a row of small numbers into the buffer, and returns how many bytes its last line has.
 fn set_bytes(buffer: &mut WriteBuffer, column: usize, samples: &[u8]) -> usize
     requires some { 0 < length samples.now }
     requires few { length samples.now ≤ 680 }
@@ -185,7 +185,7 @@ fn set_bytes(buffer: &mut WriteBuffer, column: usize, samples: &[u8]) -> usize
     buffer.append_bytes(at, &samples[1..])
 }
 
-/// Puts a part of a row of numbers into the buffer, and answers how many bytes its last line has.
+/// Puts a part of a row of numbers into the buffer, and returns how many bytes its last line has.
 fn set_words(buffer: &mut WriteBuffer, column: usize, samples: &[u16]) -> usize
     requires some { 0 < length samples.now }
     requires few { length samples.now ≤ 680 }
@@ -200,7 +200,7 @@ fn set_words(buffer: &mut WriteBuffer, column: usize, samples: &[u16]) -> usize
     buffer.append_words(at, &samples[1..])
 }
 
-/// Puts a part of a row into the buffer, and answers how many bytes its last line has.
+/// Puts a part of a row into the buffer, and returns how many bytes its last line has.
 fn set_part(buffer: &mut WriteBuffer, kind: Kind, column: usize, samples: &[u16]) -> usize
     requires few { length samples.now ≤ 680 }
     requires line { column ≤ 70 }
@@ -217,7 +217,7 @@ fn set_part(buffer: &mut WriteBuffer, kind: Kind, column: usize, samples: &[u16]
     at
 }
 
-/// Ends the line where the row ends.
+/// Ends the line if the row ends.
 fn end_row(buffer: &mut WriteBuffer, is_end: bool)
     requires { length buffer.old < 4096 }
     ensures { buffer.new ≡ buffer.old ++ row_end is_end }
@@ -227,7 +227,7 @@ fn end_row(buffer: &mut WriteBuffer, is_end: bool)
     }
 }
 
-/// Appends a sample, and answers how many bytes the line has then.
+/// Appends a sample, and returns how many bytes the line has then.
 #[tactic(auto, using(std::proofs::lemmas::Fmt::decimal_nonempty))]
 fn push_sample(buffer: &mut WriteBuffer, kind: Kind, column: usize, sample: u16) -> usize
     requires room { length buffer.old + 6 ≤ 4096 }
@@ -250,7 +250,7 @@ fn push_sample(buffer: &mut WriteBuffer, kind: Kind, column: usize, sample: u16)
     }
 }
 
-/// Appends a word: in this line, where there is room for it, and else in the next.
+/// Appends a word: in this line if it has room for it, and otherwise in the next.
 fn push_word(buffer: &mut WriteBuffer, column: usize, word: &[u8]) -> usize
     requires room { length buffer.old + 1 + length word.now ≤ 4096 }
     requires short { length word.now ≤ 5 }

@@ -7,7 +7,7 @@ ghost use Rattle.pnm_write.specs.WriteBuffers.{most_samples, FitIn};
 use pnm_image::SampleWidth;
 use pnm_samples::pack;
 
-/// The samples, a byte each.
+/// Writes the samples to the front of the buffer, a byte each, and returns how many bytes there are.
 fn narrow(samples: &[u16], buffer: &mut [u8]) -> usize
     requires buffer { length samples.now ≤ length buffer.old }
     requires small { All (λ sample. sample ≤ 255) samples.now }
@@ -20,7 +20,7 @@ fn narrow(samples: &[u16], buffer: &mut [u8]) -> usize
     samples.len()
 }
 
-/// The samples, two bytes each.
+/// Writes the samples to the front of the buffer, two bytes each, and returns how many bytes there are.
 fn widen(samples: &[u16], buffer: &mut [u8]) -> usize
     requires { 2 * length samples.now ≤ length buffer.old }
     ensures within { result ≤ length buffer.new }
@@ -44,7 +44,7 @@ pub fn most_samples(sample_width: SampleWidth) -> usize
     }
 }
 
-/// Writes the bytes of the samples to the front of the buffer, and answers how many they are.
+/// Writes the bytes of the samples to the front of the buffer, and returns how many there are.
 pub fn encode(sample_width: SampleWidth, samples: &[u16], buffer: &mut [u8]) -> usize
     requires buffer { length buffer.old ≡ 4096 }
     requires count { length samples.now ≤ most_samples sample_width }

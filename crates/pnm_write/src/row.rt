@@ -40,7 +40,7 @@ pub fn write_samples<W: BytesOut>(
     }
 }
 
-/// Writes the samples of a raw row: as they are, where they are as wide as their bytes.
+/// Writes the samples of a raw row: as they are, if they are as wide as their bytes.
 #[inline(always)]
 fn write_raw<W: BytesOut>(
     writer: &mut W,
@@ -66,7 +66,7 @@ fn write_raw<W: BytesOut>(
     }
 }
 
-/// The bytes, of which it is known then that each one is below 256.
+/// The same bytes. A proof learns from the call that each one is below 256.
 fn bytes_of(bytes: &[u8]) -> &[u8]
     ensures same { result.now ≡ bytes.now }
     ensures fit { AreBytes result.now }
@@ -74,7 +74,7 @@ fn bytes_of(bytes: &[u8]) -> &[u8]
     bytes
 }
 
-/// How many samples these are.
+/// The number of samples.
 pub fn count_of(row: SampleSlice<'_>) -> usize
     requires { HasWhiteSpare row }
     ensures { length (slice_samples row.entry) ≡ result }
@@ -86,8 +86,8 @@ pub fn count_of(row: SampleSlice<'_>) -> usize
     }
 }
 
-/// Writes so many samples, which are held otherwise than their bytes, some at a time. It stands in no other function's
-/// frame, since these would have room for its samples too.
+/// Writes `count` samples that are held in another form than their bytes, some at a time. It isn't inlined, since the
+/// frames of its callers would then have room for its samples, too.
 #[inline(never)]
 fn write_others<W: BytesOut>(
     writer: &mut W,

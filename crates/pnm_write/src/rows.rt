@@ -15,7 +15,7 @@ use pnm_image::{
     BytesOut, DeviceFailed, Form, RowSlice, Rows, SampleSlice, SampleWidth, Shape, write_all,
 };
 
-/// Writes rows of an image of this shape: all at once, where their bytes are those of their samples in one row.
+/// Writes rows of an image of this shape: all at once, if their bytes are those of their samples in one row.
 #[inline(never)]
 pub fn write_rows<W: BytesOut>(
     writer: &mut W,
@@ -43,7 +43,7 @@ pub fn write_rows<W: BytesOut>(
     }
 }
 
-/// Writes rows of samples of whole bytes in raw form, as one row where they are held so.
+/// Writes rows of samples of whole bytes in raw form, as one row if they are held so.
 fn write_joined<W: BytesOut>(
     writer: &mut W,
     buffer: &mut WriteBuffer,

@@ -38,7 +38,7 @@ impl<W: BytesOut> Sink<W> {
     ///
     /// # Errors
     ///
-    /// Where there is no memory for the buffer. The writer is gone then: `with_buffer` keeps it.
+    /// If there is no memory for the buffer. The writer is gone then: `with_buffer` keeps it.
     pub fn new(alloc: Global, writer: W, form: Form) -> Result<Sink<W>, AllocError>
     where
         W: Drop,
@@ -70,18 +70,17 @@ impl<W: BytesOut> Sink<W> {
         }
     }
 
-    /// Writes all bytes of the message: at the beginning of an image its header, and for a row its
-    /// samples, as pbm(5), pgm(5), ppm(5) and pam(5) lay them out. The other messages have none. What the
-    /// writer keeps back of them is passed on by `flush`, which it doesn't call.
+    /// Writes all bytes of the message: at the beginning of an image its header, and for a row its samples, as pbm(5),
+    /// pgm(5), ppm(5) and pam(5) lay them out. The other messages have none. `flush`, which `put` doesn't call, passes
+    /// on what the writer keeps back of them.
     ///
     /// In plain form each row begins a line, a line has at most 70 bytes before its LF, and as many
     /// samples as it can hold, with one blank between each two.
     ///
-    /// The faults, in order: `Broken` after an earlier fault; `OutOfOrder` where the message can't
-    /// come at this place of the stream, or begins an image of height 0; in plain form `SecondPlain`
-    /// where the message begins a second image, and `PlainPam` where it begins a PAM image;
-    /// `WriteFailed` where the writer fails, with a prefix of the bytes written. At the others nothing
-    /// is written.
+    /// The faults, in order: `Broken` after an earlier fault; `OutOfOrder` if the message can't come at this place of
+    /// the stream, or begins an image of height 0; in plain form `SecondPlain` if the message begins a second image,
+    /// and `PlainPam` if it begins a PAM image; `WriteFailed` if the writer fails, with a prefix of the bytes written.
+    /// For the others nothing is written.
     pub fn put(&mut self, message: &Message) -> Result<(), SinkFault>
         ensures written { OnOk result
             (Appends (W.held (writer_of self.old)) (W.held (writer_of self.new))
@@ -118,9 +117,8 @@ impl<W: BytesOut> Sink<W> {
 
     /// Writes all bytes of the rows, as if each were put as a message of its own, one after another.
     ///
-    /// The faults, in order: `Broken` after an earlier fault; `OutOfOrder` where the rows can't all come at
-    /// this place of the stream, and nothing is written; `WriteFailed` where the writer fails, with a prefix
-    /// of their bytes written.
+    /// The faults, in order: `Broken` after an earlier fault; `OutOfOrder` if the rows can't all come at this place of
+    /// the stream, and nothing is written; `WriteFailed` if the writer fails, with a prefix of their bytes written.
     pub fn put_rows(&mut self, rows: &Rows) -> Result<(), SinkFault>
         ensures written { OnOk result
             (Appends (W.held (writer_of self.old)) (W.held (writer_of self.new))
@@ -154,9 +152,9 @@ impl<W: BytesOut> Sink<W> {
         written
     }
 
-    /// Flushes the writer, so that it passes on what it still keeps back, unless there was a fault before. The
-    /// faults are `Broken` after an earlier one, and `WriteFailed` where the flush fails. That one isn't a fault
-    /// of the sink: more may be put, and another flush may go well.
+    /// Flushes the writer, so that it passes on what it still keeps back, unless there was a fault before. The faults
+    /// are `Broken` after an earlier one, and `WriteFailed` if the flush fails. A failed flush isn't a fault of the
+    /// sink: more may be put, and another flush may succeed.
     pub fn flush(&mut self) -> Result<(), SinkFault>
         ensures bytes { Keeps (W.held (writer_of self.old)) (W.held (writer_of self.new)) }
         ensures place { next_place self.new ≡ next_place self.old }
@@ -183,8 +181,7 @@ impl<W: BytesOut> Sink<W> {
         }
     }
 
-    /// Flushes the writer as `flush` does, and gives it back. That there is no fault doesn't say that the
-    /// stream was ended.
+    /// Flushes the writer as `flush` does, and returns it. Success doesn't mean that the stream was ended.
     pub fn finish(self) -> (W, Result<(), SinkFault>)
         ensures bytes { Keeps (W.held (writer_of self)) (W.held result.0) }
         ensures broken { has_failed self ≡ true
@@ -284,7 +281,7 @@ impl<W: BytesOut> Sink<W> {
     }
 }
 
-/// Whether the message doesn't begin an image of height 0.
+/// False for a message that begins an image of height 0, and true for any other.
 fn has_rows(message: &Message) -> bool
     ensures { IsTrue result ↔ HasRows message.now }
 {
@@ -294,7 +291,7 @@ fn has_rows(message: &Message) -> bool
     }
 }
 
-/// Whether an image has begun after the message, where one had begun before it or not.
+/// Whether an image has begun after the message. `has_begun` says whether one had begun before it.
 fn has_begun_after(has_begun: bool, message: &Message) -> bool
     ensures { result ≡ has_begun_after has_begun message.now }
 {
@@ -304,7 +301,7 @@ fn has_begun_after(has_begun: bool, message: &Message) -> bool
     }
 }
 
-/// Why the form refuses the message, where an image had begun before it or not.
+/// Why the form refuses the message. `has_begun` says whether an image had begun before it.
 fn form_fault(form: Form, has_begun: bool, message: &Message) -> Option<SinkFault>
     ensures { result ≡ form_fault form has_begun message.now }
 {

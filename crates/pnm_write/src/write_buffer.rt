@@ -18,7 +18,7 @@ use std::marker::Model;
 /// The most bytes that are held.
 pub const BUFFER_BYTES: usize = 4096;
 
-/// Up to 4,096 bytes, which are encoded here before they are written. Memory is taken for them once.
+/// Up to 4,096 bytes, which are encoded here before they are written. Their memory is allocated once.
 #[derive(Drop)]
 pub struct WriteBuffer {
     bytes: Vec<u8>,
@@ -51,7 +51,7 @@ impl WriteBuffer {
         &self.bytes[..self.length]
     }
 
-    /// Forgets the bytes.
+    /// Removes all bytes.
     pub fn clear(&mut self)
         ensures { self.new ≡ [] }
     {
@@ -69,7 +69,7 @@ impl WriteBuffer {
         self.length = end;
     }
 
-    /// Holds the bytes of these samples, in place of what it held.
+    /// Replaces what the buffer holds with the bytes of these samples.
     pub fn fill(&mut self, sample_width: SampleWidth, samples: &[u16])
         requires count { length samples.now ≤ most_samples sample_width }
         requires range { FitIn sample_width samples.now }
@@ -78,7 +78,7 @@ impl WriteBuffer {
         self.length = encode(sample_width, samples, &mut self.bytes);
     }
 
-    /// Appends the numbers to a line that has so many bytes, and to those after it, and answers how many bytes the
+    /// Appends the numbers to a line that has `column` bytes, and to the lines after it. Returns how many bytes the
     /// last line has.
     pub fn append_bytes(&mut self, column: usize, samples: &[u8]) -> usize
         requires room { length self.old + 6 * length samples.now ≤ 4096 }
@@ -109,7 +109,7 @@ impl WriteBuffer {
         at
     }
 
-    /// Holds the text of a row of so many pixels, the first of these bytes, in place of what it held.
+    /// Replaces what the buffer holds with the text of a row: that of the first `count` pixels of the bytes.
     pub fn set_pixels(&mut self, bytes: &[u8], count: usize)
         requires few { length bytes.now ≤ 256 }
         requires enough { count ≤ 8 * length bytes.now }

@@ -9,7 +9,7 @@ use std::alloc::{AllocError, Global};
 /// More answers than there are to any case.
 const MOST_ANSWERS: usize = 100_000;
 
-/// A source over the reader, through a buffer of so many bytes, 4,096 at least; none says that it makes its own.
+/// A source over the reader, through a buffer of `size` bytes, 4,096 at least. If `size` is `None`, it makes its own.
 pub fn source_by<R: BytesIn + Drop>(
     alloc: Global,
     size: Option<usize>,
@@ -28,8 +28,9 @@ pub fn source_by<R: BytesIn + Drop>(
     }
 }
 
-/// Adds all that a source answers to its end, and whether it doesn't stay there. Each row that was told is a spare one.
-/// The source may be asked for rows together before each message; those that come so stand between braces.
+/// Adds all that a source answers up to its end, and a word if it doesn't stay there. Each row that was told becomes a
+/// spare one. If `are_joined`, the source is asked for rows together before each message; those that come together
+/// stand between braces.
 pub fn tell_answers<R: BytesIn>(
     alloc: Global,
     source: &mut Source<R>,
@@ -56,7 +57,7 @@ pub fn tell_answers<R: BytesIn>(
     told.push_str(" and more")
 }
 
-/// The next message, or rows that come together, where these are asked for first.
+/// The next message, or rows that come together, if these are asked for first.
 fn next_of<R: BytesIn>(
     source: &mut Source<R>,
     are_joined: bool,
@@ -73,7 +74,7 @@ fn next_of<R: BytesIn>(
     }
 }
 
-/// Adds a message, or rows between braces, and lets them go; a row is then a spare one.
+/// Adds a message, or rows between braces, and drops them; a row becomes a spare one.
 fn tell_handed(
     alloc: Global,
     handed: Handed,
@@ -94,7 +95,7 @@ fn tell_handed(
     }
 }
 
-/// Lets the message go; a row is then a spare one.
+/// Drops the message; a row becomes a spare one.
 fn let_go(message: Message, spares: &mut SpareRows) {
     match message {
         Message::Row(row) => spares.keep(row),
@@ -102,7 +103,8 @@ fn let_go(message: Message, spares: &mut SpareRows) {
     }
 }
 
-/// Adds a word where the source answers anything but this fault, or nothing where there is none; and where rows come.
+/// Adds a word if rows come, or if the source answers anything but the fault, or anything but `None` if there is no
+/// fault.
 fn tell_stays<R: BytesIn>(
     source: &mut Source<R>,
     fault: Option<InputFault>,
@@ -122,7 +124,7 @@ fn have_come(answer: Result<Option<Rows>, InputFault>) -> bool {
     !matches!(answer, Ok(None))
 }
 
-/// Whether the answer is this fault, or nothing where there is none.
+/// Whether the answer is the fault, or `None` if there is no fault.
 fn is_same(answer: Result<Option<Message>, InputFault>, fault: Option<InputFault>) -> bool {
     match answer {
         Ok(message) => message.is_none() && fault.is_none(),
@@ -136,7 +138,7 @@ pub fn tell_whole(alloc: Global, text: &[u8], told: &mut String) -> Result<(), A
     tell_answers(alloc, &mut source, false, told)
 }
 
-/// Whether the answers are these where a read gives up to so many bytes, and no read follows one that gave none.
+/// Whether the answers are `whole` if a read gives up to `most` bytes, and no read follows one that gave none.
 fn are_told_by(alloc: Global, text: &[u8], most: usize, whole: &str) -> Result<bool, AllocError> {
     let mut told = String::new(alloc);
     let calls = tell_recorded(alloc, Reading::of(text, most), &mut told)?;
@@ -155,8 +157,8 @@ fn is_read_on(calls: &[(usize, usize)]) -> bool {
     false
 }
 
-/// Adds the answers to a text, and of these numbers of bytes a read those by which they are others, or by which it is
-/// read on after its end.
+/// Adds the answers to a text. Of the numbers of bytes a read in `few`, adds those at which the answers differ, or at
+/// which the source reads on after the end of the text.
 pub fn tell_text(
     alloc: Global,
     text: &[u8],
@@ -172,7 +174,7 @@ pub fn tell_text(
     Ok(())
 }
 
-/// Adds the answers to each prefix of a text, a byte a read too, by the length from which on they are those.
+/// Adds the answers to each prefix of a text, at a byte a read, too, by the length from which on they stay the same.
 pub fn tell_cuts(alloc: Global, text: &[u8], told: &mut String) -> Result<(), AllocError> {
     let mut before = String::new(alloc);
     for length in 0..=text.len() {
@@ -196,7 +198,7 @@ fn first_width<R: BytesIn>(alloc: Global, source: &mut Source<R>) -> &'static st
     held_width(source.next(&mut spares))
 }
 
-/// How the samples of a row are held, where the answer is one.
+/// How the samples of a row are held, if the answer is a row.
 fn held_width(answer: Result<Option<Message>, InputFault>) -> &'static str {
     match answer {
         Ok(Some(Message::Row(row))) => width_of(row.as_slice()),

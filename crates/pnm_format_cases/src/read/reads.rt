@@ -1,4 +1,4 @@
-//! When a source reads, how much it asks for, and what it answers where a read fails.
+//! When a source reads, how much it asks for, and what it answers if a read fails.
 
 use super::How;
 use super::answers::{source_by, tell_answers};
@@ -7,25 +7,25 @@ use pnm_read::SpareRows;
 use pnm_test_support::{Drips, FailsOnce, Recorded, cut_number, cut_pair, tell_change};
 use std::alloc::{AllocError, Global};
 
-/// The bytes that a read may give where the source tells what it holds.
+/// How many bytes a read may give when the source tells what it holds.
 const FEW: [usize; 9] = [1, 2, 3, 5, 13, 64, 1000, 4096, 65_536];
 
 /// A text, and how it is read.
 #[derive(Clone, Copy)]
 pub struct Reading<'a> {
     text: &'a [u8],
-    /// A read gives up to so many bytes.
+    /// The most bytes that a read gives.
     most: usize,
     /// The number of the read that fails, from 1 on; 0 for none.
     failing: usize,
-    /// How many bytes the buffer has; none says that the source makes its own.
+    /// How many bytes the buffer has; `None` if the source makes its own.
     size: Option<usize>,
     /// Whether the source is asked for rows together.
     are_joined: bool,
 }
 
 impl<'a> Reading<'a> {
-    /// By so many bytes a read, of which none fails.
+    /// A reading of up to `most` bytes a read, in which no read fails.
     pub fn of(text: &'a [u8], most: usize) -> Reading<'a> {
         Reading {
             text,
@@ -37,7 +37,7 @@ impl<'a> Reading<'a> {
     }
 }
 
-/// Says that the call with this number fails, from 1 on; none for 0.
+/// Makes the call with this number fail, counted from 1; none for 0.
 fn failing_at(number: usize) -> FailsOnce {
     match number {
         0 => FailsOnce::never(),
@@ -45,7 +45,7 @@ fn failing_at(number: usize) -> FailsOnce {
     }
 }
 
-/// Adds the answers to a text. Gives what each read asked for and got.
+/// Adds the answers to a text. Returns what each read asked for and got.
 pub fn tell_recorded(
     alloc: Global,
     reading: Reading<'_>,
@@ -59,9 +59,9 @@ pub fn tell_recorded(
     Vec::from_slice(alloc, reader.calls())
 }
 
-/// Adds the answers to a text of which a read gives up to so many bytes, and fails where it has this number, from 1 on;
-/// and what each read asked for and got, unless rows are asked for together. It reads through a buffer of so many
-/// bytes, if that is told.
+/// Adds the answers to a text, and what each read asked for and got, unless rows are asked for together. The line says
+/// how many bytes a read gives at most, and which read fails, counted from 1. If `how` says so, the line begins with
+/// the size of the buffer that the source reads through.
 pub fn tell_reads(
     alloc: Global,
     how: How,
@@ -115,7 +115,7 @@ pub fn tell_fails(alloc: Global, text: &[u8], told: &mut String) -> Result<(), A
     Ok(())
 }
 
-/// Adds the answers where a read of a byte fails after so many. Gives how many there were.
+/// Adds the answers if the read of a byte after the first `before` fails. Returns how many reads there were.
 fn tell_failing(
     alloc: Global,
     text: &[u8],
@@ -130,8 +130,8 @@ fn tell_failing(
     Ok(calls.len())
 }
 
-/// How many reads of up to so many bytes a source has made once it was asked so often, and whether it holds what comes
-/// next.
+/// How many reads of up to `most` bytes a source has made once it was asked `count` times, and whether it holds what
+/// comes next.
 fn reads_of(
     alloc: Global,
     text: &[u8],
@@ -149,7 +149,7 @@ fn reads_of(
     Ok((reader.calls().len(), is_held))
 }
 
-/// Adds how many reads of a byte each were made at first, and after each of so many answers.
+/// Adds how many reads of a byte each were made at first, and after each answer, up to the number in the line.
 pub fn tell_ahead(alloc: Global, line: &[u8], told: &mut String) -> Result<(), AllocError> {
     let (count, text) = cut_number(line);
     for asked in 0..=count {
@@ -159,7 +159,7 @@ pub fn tell_ahead(alloc: Global, line: &[u8], told: &mut String) -> Result<(), A
     Ok(())
 }
 
-/// Adds of how many answers, for each number of bytes a read, the source told whether a read would be made.
+/// Adds, for each number of bytes a read, for how many answers the source rightly told whether it would make a read.
 pub fn tell_held(alloc: Global, line: &[u8], told: &mut String) -> Result<(), AllocError> {
     let (count, text) = cut_number(line);
     for most in FEW {

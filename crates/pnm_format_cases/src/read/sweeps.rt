@@ -4,7 +4,7 @@ use super::answers::tell_whole;
 use pnm_test_support::{Sweep, cut_word, named};
 use std::alloc::{AllocError, Global};
 
-/// Bytes that mean something, and bytes beside them.
+/// Bytes that mean something, and bytes next to them.
 const TELLING: &[u8] =
     b"\x00\x01\x08\t\n\x0b\x0c\r\x0e !\"#$/0123456789:PQx~\x7f\x80\x85\xa0\xfe\xff";
 
@@ -29,8 +29,8 @@ pub fn set_of(alloc: Global, word: &[u8]) -> Result<Vec<u8>, AllocError> {
     }
 }
 
-/// Adds what is answered where each byte of a set stands in the place of so many bytes, wherever there are as many: of
-/// each one byte of a text, or of none before each byte and after them.
+/// Adds the answers to a text with `replaced` of its bytes replaced by each byte of a set, at every place: if
+/// `replaced` is 1, in place of each byte; if it is 0, before each byte and after the last.
 pub fn tell_sweep(
     alloc: Global,
     line: &[u8],

@@ -5,7 +5,7 @@ use pnm_samples::{Bits, Sample, SampleSlice, SampleVec, Samples, greatest, great
 use pnm_test_support::{Unmade, cut_number, held, number_of, samples_of};
 use std::alloc::{AllocError, Global};
 
-/// Numbers at the ends of bits, bytes and words, and beside them.
+/// Numbers at the ends of bits, bytes and words, and next to them.
 const BOUNDS: [u32; 12] = [
     0,
     1,
@@ -50,7 +50,7 @@ fn greatest_of(row: &Samples) -> u32 {
     }
 }
 
-/// Adds the greatest of these samples, held so wide, and whether the row is within numbers.
+/// Adds the greatest of these samples, held in this width, and whether the row is within numbers.
 pub fn tell_samples(
     alloc: Global,
     text: &[u8],
@@ -62,7 +62,7 @@ pub fn tell_samples(
     Ok(tell_both(alloc, &row, told)?)
 }
 
-/// Whether the row of so many pixels of these bytes is within numbers. Spare bits are no pixels.
+/// Adds whether the row of COUNT pixels of BYTES is within numbers. Spare bits are no pixels.
 pub fn tell_pixels(alloc: Global, text: &[u8], told: &mut String) -> Result<(), Unmade> {
     let (count, bytes) = cut_number(text);
     let bits = Bits::new(Vec::from_slice(alloc, bytes)?, count);
@@ -70,7 +70,7 @@ pub fn tell_pixels(alloc: Global, text: &[u8], told: &mut String) -> Result<(), 
     Ok(tell_within(&row, 1, told)?)
 }
 
-/// Whether rows of bytes and of words are within numbers, of whose samples this number is a bound.
+/// Adds whether rows of bytes and of words with this number as their bound are within numbers.
 pub fn tell_bound(alloc: Global, text: &[u8], told: &mut String) -> Result<(), Unmade> {
     let (number, _) = cut_number(text);
     let bound = number_of(number);
@@ -83,12 +83,12 @@ pub fn tell_bound(alloc: Global, text: &[u8], told: &mut String) -> Result<(), U
     Ok(tell_within(&Samples::within(words, bound), 9, told)?)
 }
 
-/// What is left of the maxval of itself, through the bound.
+/// The maxval minus itself, through the trait bound.
 fn left_of<S: Sample>(maxval: S) -> S {
     maxval.taken_from(maxval)
 }
 
-/// Adds what is left of a maxval, and of it alone, as bytes where it is one, and as words.
+/// Adds a maxval minus a sample, and minus itself: as bytes, if both numbers are bytes, and as words.
 pub fn tell_left(text: &[u8], told: &mut String) -> Result<(), Unmade> {
     let (maxval, rest) = cut_number(text);
     let (sample, _) = cut_number(rest);

@@ -12,7 +12,7 @@ pub fn made_up(kind: usize, at: usize) -> u16 {
     u16::from(mixed % 5 > 1)
 }
 
-/// The bytes of so many pixels of a made-up row, the first pixel in the bit of weight 128. Spare bits are set.
+/// The bytes of `count` pixels of a made-up row, the first pixel in the bit of weight 128. Spare bits are set.
 pub fn packed(alloc: Global, kind: usize, count: usize) -> Result<Vec<u8>, AllocError> {
     let mut bytes = Vec::new(alloc);
     for at in 0..count.div_ceil(8) {
@@ -27,7 +27,7 @@ pub fn packed(alloc: Global, kind: usize, count: usize) -> Result<Vec<u8>, Alloc
     Ok(bytes)
 }
 
-/// So many pixels of a made-up row.
+/// `count` pixels of a made-up row.
 pub fn bits_of(alloc: Global, kind: usize, count: usize) -> Result<Bits, AllocError> {
     Ok(Bits::new(packed(alloc, kind, count)?, count))
 }

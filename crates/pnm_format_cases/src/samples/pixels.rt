@@ -6,7 +6,7 @@ use pnm_samples::{BitRows, Bits, PixelRows, columns};
 use pnm_test_support::{Unmade, cut_number, tell_text};
 use std::alloc::{AllocError, Global};
 
-/// Adds how many pixels a row has, each of them, and its bytes; and a word where they are others as they are widened.
+/// Adds how many pixels a row has, each of them, and its bytes; and a word if the pixels differ when they are widened.
 fn tell_row(alloc: Global, bits: &Bits, told: &mut String) -> Result<(), AllocError> {
     let count = bits.len();
     write!(told, " {count} ")?;
@@ -20,7 +20,7 @@ fn tell_row(alloc: Global, bits: &Bits, told: &mut String) -> Result<(), AllocEr
     tell_text(told, bits.as_bytes())
 }
 
-/// Whether the pixels are the same as they are widened.
+/// Whether the pixels stay the same when they are widened.
 fn are_widened(alloc: Global, bits: &Bits) -> Result<bool, AllocError> {
     let widened = bits.to_words(alloc)?;
     for at in 0..bits.len() {
@@ -31,7 +31,7 @@ fn are_widened(alloc: Global, bits: &Bits) -> Result<bool, AllocError> {
     Ok(widened.len() == bits.len())
 }
 
-/// Adds what a row of so many pixels holds, and an empty one, made of these bytes.
+/// Adds what the row of COUNT pixels of BYTES holds, and what an empty one holds.
 pub fn tell_bits_of(alloc: Global, text: &[u8], told: &mut String) -> Result<(), Unmade> {
     let (count, bytes) = cut_number(text);
     let bits = Bits::new(Vec::from_slice(alloc, bytes)?, count);
@@ -39,7 +39,7 @@ pub fn tell_bits_of(alloc: Global, text: &[u8], told: &mut String) -> Result<(),
     Ok(tell_row(alloc, &Bits::empty(alloc), told)?)
 }
 
-/// Adds what the row holds that is made of these numbers.
+/// Adds what the row that is made of these numbers holds.
 pub fn tell_made(
     alloc: Global,
     how: How,
@@ -50,18 +50,18 @@ pub fn tell_made(
     tell_row(alloc, &bits, told)
 }
 
-/// The row that is made of these numbers: of so many pixels unless it is said otherwise.
+/// The row that is made of these numbers: of `count` pixels unless a comment says otherwise.
 fn row_of(
     alloc: Global,
     how: How,
     (count, b, c): (usize, usize, usize),
 ) -> Result<Bits, AllocError> {
     match how {
-        // As many pixels of the bytes of 40.
+        // The first `count` pixels of the bytes of 40.
         How::Take => Ok(Bits::new(packed(alloc, 1, 40)?, count)),
-        // After them a run of others: from this one on, so many.
+        // After them a run of others: `c` pixels from pixel `b` on.
         How::Append => appended(alloc, count, b, c),
-        // Each of them so often.
+        // Each of them `b` times.
         How::Repeat => bits_of(alloc, 2, count)?.repeat(alloc, b),
         How::Reverse => {
             let mut bits = bits_of(alloc, 2, count)?;
@@ -78,7 +78,7 @@ fn row_of(
     }
 }
 
-/// So many pixels, and a run of those of a row of 43, where there is one.
+/// `held` pixels, and a run of those of a row of 43, if it has such a run.
 fn appended(alloc: Global, held: usize, start: usize, count: usize) -> Result<Bits, AllocError> {
     let from = bits_of(alloc, 2, 43)?;
     let mut bits = bits_of(alloc, 1, held)?;
@@ -98,7 +98,7 @@ fn image_bytes(alloc: Global, width: usize, height: usize) -> Result<Vec<u8>, Al
     Ok(bytes)
 }
 
-/// So many columns of an image of this height, from this byte on.
+/// `count` columns of an image of this height, from byte `byte` on.
 fn columns_of(
     alloc: Global,
     byte: usize,
@@ -119,7 +119,7 @@ fn columns_of(
     Ok(columns(alloc, &rows, byte, count)?)
 }
 
-/// Adds what so many columns of an image of this height hold, from this byte on.
+/// Adds what `count` columns of an image of this height hold, from byte `byte` on.
 pub fn tell_columns(
     alloc: Global,
     byte: usize,

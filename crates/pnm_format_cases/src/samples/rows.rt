@@ -6,7 +6,7 @@ use pnm_samples::{SampleSlice, SampleVec, Samples};
 use pnm_test_support::{Unmade, held, named, tell_all};
 use std::alloc::{AllocError, Global};
 
-/// How many samples a row has of which parts are copied.
+/// How many samples the row has whose parts are copied.
 pub const WHOLE: usize = 20;
 
 /// Where its parts may begin, and how many samples they may have.
@@ -31,7 +31,7 @@ fn made(alloc: Global, word: &[u8], count: usize) -> Result<Samples, Unmade> {
     }
 }
 
-/// A row of so many samples from 0 on, each so much above the one before, held so wide.
+/// A row of `count` samples from 0 on, each `step` above the one before, held in this width.
 fn counted(
     alloc: Global,
     count: usize,
@@ -94,7 +94,7 @@ fn tell_words(words: Result<Vec<u16>, AllocError>, told: &mut String) -> Result<
     }
 }
 
-/// Adds so many samples of a row of 20, from one on.
+/// Adds `count` samples of a row of 20, from sample `start` on.
 pub fn tell_part(
     alloc: Global,
     word: &[u8],

@@ -30,7 +30,7 @@ pub fn tell_sweep(
     Ok(sweep.tell(told)?)
 }
 
-/// Adds what comes of these numbers, where that is a case.
+/// Adds what comes of these numbers, if they make a case.
 fn add_case(
     alloc: Global,
     how: How,

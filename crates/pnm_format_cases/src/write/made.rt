@@ -13,7 +13,7 @@ const NUMBERS: [u16; 13] = [
     7, 65_535, 42, 255, 0, 4096, 10, 999, 9, 10_000, 100, 256, 1000,
 ];
 
-/// So many samples, none above the maxval.
+/// `count` samples, none above the maxval.
 fn row_of(
     alloc: Global,
     count: usize,
@@ -66,7 +66,7 @@ pub fn tell_sweep(alloc: Global, kind: Kind, text: &[u8], told: &mut String) -> 
     Ok(sweep.tell(told)?)
 }
 
-/// Adds images of a row, however it is held: as bits where it is of pixels, as bytes where they are, and as words.
+/// Adds images of a row, however it is held: as bits if it has pixels, as bytes if it fits in bytes, and as words.
 fn add_images(
     alloc: Global,
     sweep: &mut Sweep,
@@ -99,7 +99,7 @@ fn add_images(
     Ok(())
 }
 
-/// Whether samples of the image may be held so wide.
+/// Whether samples of the image may be held in this width.
 fn fits(shape: Shape, sample_width: SampleWidth) -> bool {
     match sample_width {
         SampleWidth::Bits => shape.kind == Kind::Bit,
@@ -108,7 +108,7 @@ fn fits(shape: Shape, sample_width: SampleWidth) -> bool {
     }
 }
 
-/// Adds what is written of an image of this one row, held so wide.
+/// Adds what is written of an image of this one row, held in this width.
 fn add_image(
     alloc: Global,
     sweep: &mut Sweep,
@@ -125,7 +125,7 @@ fn add_image(
     Ok(())
 }
 
-/// The messages of an image of this one row, held so wide.
+/// The messages of an image of this one row, held in this width.
 fn messages_of(
     alloc: Global,
     shape: Shape,

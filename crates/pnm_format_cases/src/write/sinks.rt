@@ -8,8 +8,8 @@ use pnm_test_support::{
 use pnm_write::{Form, Sink, SinkFault, WriteBuffer};
 use std::alloc::{AllocError, Global};
 
-/// Adds the faults of a sink over the writer that gets messages and rows, which is flushed after each image where that
-/// is asked; and how the stream ends. Gives the writer.
+/// Adds the faults of a sink over the writer that gets messages and rows, and how the stream ends. If `is_flushed`, the
+/// sink is flushed after each image. Returns the writer.
 pub fn tell_stream<W: BytesOut + Drop>(
     alloc: Global,
     writer: W,
@@ -28,7 +28,7 @@ pub fn tell_stream<W: BytesOut + Drop>(
     Ok(writer)
 }
 
-/// Adds the fault of a sink that gets a message or rows, and that of a flush after an image where that is asked.
+/// Adds the fault of a sink that gets a message or rows, and, if `is_flushed`, that of a flush after an image.
 fn tell_put<W: BytesOut>(
     sink: &mut Sink<W>,
     handed: &Handed,
@@ -58,8 +58,8 @@ fn tell_fault(
     }
 }
 
-/// Adds the faults of messages, how their stream ends, and the bytes; and the same of rows that are held in few bits,
-/// if that is something else.
+/// Adds the faults of messages, how their stream ends, and the bytes; and the same for rows that are held in few bits,
+/// if that differs.
 pub fn tell_written(
     alloc: Global,
     form: Form,
@@ -90,7 +90,7 @@ fn tell_held(
     Ok(tell_text(told, writer.into_inner().as_slice())?)
 }
 
-/// The call that fails: after so many, or none.
+/// The call that fails, after as many as the text begins with, or none for `_`; and what follows in the text.
 fn cut_failing(text: &[u8]) -> (FailsOnce, &[u8]) {
     let (word, rest) = cut_word(text);
     match word.first() {
@@ -102,7 +102,7 @@ fn cut_failing(text: &[u8]) -> (FailsOnce, &[u8]) {
     }
 }
 
-/// What is written where writes take few bytes, or fail; then how often the writer was flushed.
+/// Adds what is written if writes take few bytes, or fail; then how often the writer was flushed.
 pub fn tell_sips(alloc: Global, text: &[u8], told: &mut String) -> Result<(), Unmade> {
     let (form, rest) = cut_word(text);
     let (most, rest) = cut_number(rest);

@@ -7,11 +7,12 @@ ghost use Rattle.pnm_samples.specs.Pixels.{all_pixels};
 
 use crate::bits::fill_run;
 
-/// How many bytes are moved at once. They are made apart from the rows, since a run can overlap its new place.
+/// How many bytes are moved at once. They are put together outside the rows, since a run can overlap its new place.
 const CHUNK: usize = 512;
 
-/// Moves a run of as many pixels of each of so many rows to the front, each to a byte's start. The rows begin at a byte
-/// and lie so many bytes apart. The spare pixels of a run's last byte can be any.
+/// Moves a run of `each` pixels from each of `count` rows to the front, each run to the start of a byte. A run begins
+/// at pixel `left` of its row. The rows begin at byte `start` and lie `apart` bytes apart. The spare pixels of a run's
+/// last byte are unspecified.
 pub(super) fn move_runs(
     bytes: &mut [u8],
     start: usize,
@@ -40,8 +41,8 @@ pub(super) fn move_runs(
     }
 }
 
-/// Moves the run of so many pixels that come after a few from a byte on to the start of a byte that isn't behind it: at
-/// once if the two don't overlap.
+/// Moves a run of `count` pixels to the start of byte `to`. The run begins `skipped` pixels after the start of byte
+/// `from`, and `to` isn't past `from`. The run moves at once if it doesn't overlap its new place.
 #[inline]
 fn move_run(
     bytes: &mut [u8],
@@ -66,7 +67,7 @@ fn move_run(
     }
 }
 
-/// The same of a run that overlaps its new place.
+/// Does the same for a run that overlaps its new place.
 #[inline(never)]
 fn move_by_chunks(
     bytes: &mut [u8],
@@ -94,7 +95,7 @@ fn move_by_chunks(
     move_chunk(bytes, last, from + done, to + done, skipped, rest);
 }
 
-/// The same of as many pixels as the chunk has room for.
+/// Does the same for as many pixels as the chunk has room for.
 fn move_chunk(
     bytes: &mut [u8],
     chunk: &mut [u8],

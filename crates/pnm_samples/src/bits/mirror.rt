@@ -1,4 +1,4 @@
-//! Pixels in the other order.
+//! Pixels in the opposite order.
 
 ghost use Rattle.std.specs.Prelude.{◌≡◌, ℕ, ◌++◌, ◌<◌, List, replicate, reverse};
 ghost use Rattle.pnm_samples.specs.Pixels.{all_pixels};
@@ -6,7 +6,7 @@ ghost use Rattle.pnm_samples.specs.Pixels.{all_pixels};
 use super::{Bits, window};
 
 impl Bits {
-    /// Turns the pixels round, the last one first, in place.
+    /// Reverses the order of the pixels, in place.
     pub fn reverse(&mut self)
         ensures { self.new ≡ reverse self.old }
     {
@@ -16,7 +16,7 @@ impl Bits {
     }
 }
 
-/// Turns all pixels round, with the spare ones of the last byte.
+/// Reverses the order of all pixels, including the spare ones of the last byte.
 pub(crate) fn turn_round(bytes: &mut [u8])
     ensures { all_pixels bytes.new ≡ reverse (all_pixels bytes.old) }
 {
@@ -26,7 +26,7 @@ pub(crate) fn turn_round(bytes: &mut [u8])
     }
 }
 
-/// Moves so many white pixels from the start to the end.
+/// Moves the first `skipped` pixels, which are white, to the end.
 pub(crate) fn move_to_end(bytes: &mut [u8], skipped: u32)
     requires { skipped < 8 }
     ensures { (rest : List ℕ) → all_pixels bytes.old ≡ replicate skipped 1 ++ rest

@@ -1,4 +1,4 @@
-//! Pixels that stand several times.
+//! Pixels repeated several times.
 
 ghost use Rattle.std.specs.Int.{to_be_bytes, w16};
 ghost use Rattle.std.specs.Prelude.{◌≡◌, ◌*◌, ◌<◌, ◌^◌, length, replicate, IfOk};
@@ -9,11 +9,11 @@ use super::Bits;
 use std::alloc::{AllocError, Global};
 
 impl Bits {
-    /// Each pixel so many times, one beside the other.
+    /// The row with each pixel repeated `times` times.
     ///
     /// # Errors
     ///
-    /// Where there is no memory for them.
+    /// If there is no memory for it.
     pub fn repeat(&self, alloc: Global, times: usize) -> Result<Bits, AllocError>
         ensures { IfOk result (λ bits. bits ≡ flat_map (λ s. replicate times s) self.now) }
     {

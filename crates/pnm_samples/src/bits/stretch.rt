@@ -1,4 +1,4 @@
-//! Pixels that stand any number of times.
+//! Pixels repeated any number of times.
 
 ghost use Rattle.std.specs.Prelude.{◌≡◌, ◌+◌, ◌-◌, ◌*◌, ◌/◌, ◌%◌, ◌^◌, ◌<◌, ◌≤◌, ◌++◌, length, take};
 ghost use Rattle.std.specs.Prelude.{replicate, bit_or, IfOk, OnOk};
@@ -14,12 +14,12 @@ use std::simd::prelude::*;
 /// More times than there is memory for.
 const MOST_TIMES: usize = 72_057_594_037_927_936;
 
-/// As many halves of bytes are stretched, if any are. A row of fewer bytes takes less by itself.
+/// How many half bytes are stretched in advance, if any are. A row of fewer bytes takes less work without that.
 const HALVES: usize = 32;
 
 impl Bits {
-    /// Each pixel so many times. What a byte becomes is as many whole bytes: in a long row those of its
-    /// left half and of its right half, one over the other.
+    /// The row with each pixel repeated `times` times. Each byte becomes `times` whole bytes: in a long row, those of
+    /// its left half and those of its right half, laid over each other.
     pub(super) fn stretch_pixels(&self, alloc: Global, times: usize) -> Result<Bits, AllocError>
         ensures { IfOk result (λ bits. bits ≡ flat_map (λ s. replicate times s) self.now) }
     {
@@ -29,7 +29,7 @@ impl Bits {
         ) else {
             return Err(AllocError);
         };
-        // What the last byte becomes reaches up to 15 bytes further.
+        // What is written for the last byte reaches up to 15 bytes further.
         let Some(buffer) = filled.checked_add(15) else {
             return Err(AllocError);
         };
@@ -42,7 +42,7 @@ impl Bits {
     }
 }
 
-/// Fills the white buffer with the pixels of the bytes, each so many times. What lies behind is unknown.
+/// Fills the white buffer with the pixels of the bytes, each `times` times. The rest of the buffer is unspecified.
 fn fill(alloc: Global, buffer: &mut [u8], bytes: &[u8], times: usize) -> Result<(), AllocError>
     requires times { times < 2 ^ 56 }
     requires buffer { length buffer.old ≡ length bytes.now * times + 15 }
@@ -60,7 +60,7 @@ fn fill(alloc: Global, buffer: &mut [u8], bytes: &[u8], times: usize) -> Result<
     Ok(())
 }
 
-/// Fills the white buffer byte by byte, each pixel so many times.
+/// Fills the white buffer byte by byte with the pixels of the bytes, each `times` times.
 fn stretch_each(buffer: &mut [u8], bytes: &[u8], times: usize)
     requires times { times < 2 ^ 56 }
     requires buffer { length buffer.old ≡ length bytes.now * times + 15 }
@@ -74,7 +74,7 @@ fn stretch_each(buffer: &mut [u8], bytes: &[u8], times: usize)
     }
 }
 
-/// In how many bytes a stretched byte is held: so many, up to the next multiple of 16.
+/// How many bytes hold a stretched byte: `times`, rounded up to a multiple of 16.
 fn stride_of(times: usize) -> usize
     requires { times < 2 ^ 56 }
     ensures enough { times ≤ result }
@@ -84,8 +84,8 @@ fn stride_of(times: usize) -> usize
     times.div_ceil(16) * 16
 }
 
-/// What the sixteen multiples of a unit become, from none on, each at its multiple of the stride.
-/// What lies between them is unknown.
+/// The sixteen multiples of `unit` from 0 on, stretched, each at its multiple of the stride. The bytes between them are
+/// unspecified.
 fn stretched_halves(alloc: Global, times: usize, unit: u8) -> Result<Vec<u8>, AllocError>
     requires times { times < 2 ^ 56 }
     requires unit { unit ≤ 16 }
@@ -101,8 +101,7 @@ fn stretched_halves(alloc: Global, times: usize, unit: u8) -> Result<Vec<u8>, Al
     Ok(bytes)
 }
 
-/// Fills the white buffer with the pixels of a byte, each so many times, and the last one up to the
-/// end.
+/// Fills the white buffer with the pixels of a byte, each `times` times, and the last one up to the end.
 fn stretch(buffer: &mut [u8], byte: u8, times: usize)
     requires times { times < 2 ^ 56 }
     requires buffer { times ≤ length buffer.old }
@@ -118,7 +117,7 @@ fn stretch(buffer: &mut [u8], byte: u8, times: usize)
     }
 }
 
-/// Gives all pixels after so many, which are of one colour, that of a pixel.
+/// Sets all pixels after the first `kept` to `pixel`. Before, each of them is `held`.
 #[inline]
 fn paint(buffer: &mut [u8], kept: usize, held: u8, pixel: u8)
     requires buffer { kept ≤ 8 * length buffer.old }
@@ -133,7 +132,7 @@ fn paint(buffer: &mut [u8], kept: usize, held: u8, pixel: u8)
     }
 }
 
-/// Gives all pixels after so many the colour of a pixel.
+/// Sets all pixels after the first `kept` to `pixel`.
 fn paint_from(buffer: &mut [u8], kept: usize, pixel: u8)
     requires buffer { kept ≤ 8 * length buffer.old }
     requires pixel { pixel ≤ 1 }
@@ -152,7 +151,7 @@ fn paint_from(buffer: &mut [u8], kept: usize, pixel: u8)
     }
 }
 
-/// The byte of eight such pixels.
+/// The byte of eight pixels, each of them `pixel`.
 fn plain_byte(pixel: u8) -> u8
     requires { pixel ≤ 1 }
     ensures { pixels result ≡ replicate 8 pixel }
@@ -160,7 +159,7 @@ fn plain_byte(pixel: u8) -> u8
     if pixel == 0 { 0xff } else { 0 }
 }
 
-/// Fills the buffer with the pixels of the bytes, each so many times. What lies behind is unknown.
+/// Fills the buffer with the pixels of the bytes, each `times` times. The rest of the buffer is unspecified.
 fn fill_stretched(buffer: &mut [u8], bytes: &[u8], left: &[u8], right: &[u8], times: usize)
     requires times { times < 2 ^ 56 }
     requires buffer { length buffer.old ≡ length bytes.now * times + 15 }
