@@ -60,8 +60,7 @@ impl Head {
         }
     }
 
-    /// A head with these fields, or the first fault in the order of `HeadFault`; nothing is changed
-    /// by a fault.
+    /// A head with these fields, or the first fault in the order of `HeadFault`.
     pub fn new(alloc: Global, shape: Shape, tuple_type: &[u8]) -> Result<Head, HeadFault>
         requires { Suits shape.kind shape.depth shape.maxval tuple_type.now }
         ensures made { IfOk result (λ head. head ≡ head_value shape tuple_type.now) }

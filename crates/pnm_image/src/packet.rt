@@ -1,4 +1,4 @@
-//! What passes at once over rings, out of filters and into stages.
+//! Packets: what a place of a ring holds, and what a filter gives at once.
 
 ghost use Rattle.std.specs.Prelude.{◌≡◌};
 ghost use Rattle.pnm_image.specs.Packets.{ending_of_packet};
@@ -7,7 +7,7 @@ use crate::head::Head;
 use crate::message::{Ending, Message};
 use crate::rows::Rows;
 
-/// What passes at once, as over a ring: it stands for one message, or for several that are rows.
+/// What a place of a ring holds, and a filter gives at once: one message, or rows, each of which is a message.
 #[derive(Debug, Drop)]
 pub enum Packet {
     /// An image begins.

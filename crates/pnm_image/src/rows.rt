@@ -67,7 +67,7 @@ impl RowSlice<'_> {
 }
 
 /// Consecutive rows of one image, at least one, held as one long row. All rows have the same number of samples, with
-/// nothing between them; rows of bits are held as they lie in a raw file. So one message stands for several rows, and a
+/// nothing between them; rows of bits are held as they lie in a raw file. So one packet stands for several rows, and a
 /// loop over samples goes over all of them.
 #[derive(Debug, Drop)]
 pub struct Rows {

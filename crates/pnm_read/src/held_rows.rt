@@ -68,7 +68,7 @@ pub fn count_whole<R: BytesIn>(input: &BufferedReader<R>, row_bytes: usize, most
     if count > 1 { count } else { 0 }
 }
 
-/// The next `count` rows, which are held: in a spare row, if there is one that they fit in.
+/// The next `count` rows, which are held: in the memory of a spare row, if they fit in it.
 ///
 /// # Errors
 ///

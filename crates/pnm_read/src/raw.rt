@@ -15,8 +15,8 @@ use crate::spare_rows::SpareRows;
 use crate::units::{append_wide, are_units_within, units_in_row};
 use pnm_image::{Bits, BytesIn, SampleVec, SampleWidth, Samples, Shape};
 
-/// The next row, held as it was read, without a copy. If its bytes are held already, it comes in a spare row, if there
-/// is one. No sample is looked at again: none is above the maxval.
+/// The next row. If its bytes are held already, they are copied, bits and bytes into the memory of a spare row if they
+/// fit in it. What is still to be read of bits and bytes goes straight into the row. No sample is above the maxval.
 pub fn read_row<R: BytesIn>(
     input: &mut BufferedReader<R>,
     spares: &mut SpareRows,
@@ -106,7 +106,7 @@ fn read_parts<R: BytesIn>(
     Ok(row)
 }
 
-/// The bytes of the next row, `count` units that are held: in a spare row, if there is one.
+/// The bytes of the next row, `count` units that are held: in the memory of a spare row, if they fit in it.
 fn take_bytes<R: BytesIn>(
     input: &mut BufferedReader<R>,
     spares: &mut SpareRows,

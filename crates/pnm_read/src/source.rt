@@ -96,7 +96,8 @@ impl<R: BytesIn> Source<R> {
     /// reader fails, `ReadFailed` takes the place of all later faults; if memory runs out, `Memory` does. After a
     /// fault, `next` returns the same fault and reads nothing.
     ///
-    /// A short row takes its memory from the spares, if there is one that it fits in.
+    /// A raw row of bits or bytes that is held whole takes the memory of the spare row that was kept the longest, if it
+    /// fits in it.
     pub fn next(&mut self, spares: &mut SpareRows) -> Result<Option<Message>, InputFault>
         // What is said of the text comes in turn, and then its end or its fault. Stop doesn't come.
         ensures told { Tells R.left self.old result self.new }
@@ -131,8 +132,8 @@ impl<R: BytesIn> Source<R> {
     /// 65,536 bytes, if these are two or more of at most 16,384 bytes each. Otherwise, or if one of them has a sample
     /// above the maxval, `None`: `next` then gives what comes. It makes no read.
     ///
-    /// The only fault is `Memory`, after which `next_rows` returns `None` and `next` returns the fault. The rows take
-    /// their memory from the spares, if there is one that they fit in.
+    /// The only fault is `Memory`, after which `next_rows` returns `None` and `next` returns the fault. Rows of bits or
+    /// bytes take the memory of the spare that was kept the longest, if they fit.
     pub fn next_rows(&mut self, spares: &mut SpareRows) -> Result<Option<Rows>, InputFault>
         // Rows come in turn; without any nothing has changed.
         ensures told { IfOk result (λ r. IfSome r (TellsRows self.old self.new)) }

@@ -79,7 +79,7 @@ impl SpareRows {
         }
     }
 
-    /// A row of these bytes. It takes memory that was kept, if there is a row that they fit in.
+    /// A row of these bytes, in the memory that was kept the longest if they fit in it. Memory that is too small goes.
     ///
     /// # Errors
     ///

@@ -117,8 +117,8 @@ impl Samples {
         Samples::within(held, bound)
     }
 
-    /// The samples in `held`, none of them above `bound`, without a copy. A place then asks whether the bound is within
-    /// the maxval, and looks at no sample.
+    /// The samples in `held`, none of them above `bound`, without a copy. A place looks at no sample of a row if this
+    /// bound is within the maxval.
     pub fn within(held: SampleVec, bound: u32) -> Samples
         requires { All (λ sample. sample ≤ bound) (samples_of held) }
         ensures { result ≡ samples_of held }

@@ -40,7 +40,7 @@ pub fn write_samples<W: BytesOut>(
     }
 }
 
-/// Writes the samples of a raw row: as they are, if they are as wide as their bytes.
+/// Writes the samples of a raw row: bits and bytes as they are held, if the file holds them so.
 #[inline(always)]
 fn write_raw<W: BytesOut>(
     writer: &mut W,
