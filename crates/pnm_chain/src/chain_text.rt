@@ -17,7 +17,7 @@ use thiserror::Error;
 /// The longest text of a chain, in bytes.
 pub const MAX_TEXT_LENGTH: usize = 4_096;
 
-/// The most stages of a text, each of which names a tool.
+/// The maximum number of stages in a text. Each stage names a tool.
 const MOST_STAGES: usize = MAX_TOOLS;
 
 /// What is wrong with a chain's text. The text of each variant is its name.
@@ -44,11 +44,10 @@ pub enum ChainKind {
     /// The option wants a value, and no word follows it.
     #[error("MissingValue")]
     MissingValue,
-    /// The value or the argument is no number, is out of range, or is too long; or the option takes
-    /// none.
+    /// The value or the argument isn't a number, is out of range, or is too long; or the option takes no value.
     #[error("BadValue")]
     BadValue,
-    /// The options, or an argument and an option, can't stand together.
+    /// The options, or an argument and an option, can't be given together.
     #[error("Conflict")]
     Conflict,
     /// The tool wants another argument, a way to flip, or a factor.
@@ -78,10 +77,10 @@ impl<T: Drop> From<AllocFailed<T>> for ChainKind {
     }
 }
 
-/// Why a text is no chain.
+/// Why a text isn't a chain.
 #[derive(Clone, Copy, Debug, PartialEq, Eq)]
 pub struct ChainFault {
-    /// The number of the stage, from 1, or 0 where no stage is at fault.
+    /// The number of the stage, from 1, or 0 if no stage is at fault.
     pub stage: usize,
     /// The fault.
     pub kind: ChainKind,
@@ -96,7 +95,7 @@ impl<T: Drop> From<AllocFailed<T>> for ChainFault {
 }
 
 impl ChainFault {
-    /// The whole text is at fault, and no stage.
+    /// Returns a fault of the whole text, and of no stage.
     fn whole(kind: ChainKind) -> ChainFault
         ensures { result ≡ whole_fault kind }
     {
@@ -104,9 +103,11 @@ impl ChainFault {
     }
 }
 
-/// The tools that the text names, 1 to `MAX_TOOLS` with bars between them, each with its options. The fault is
-/// the first of `TooLong`, `Empty` and `TooMany`, or else the first of the first stage that has one;
-/// or `Memory`.
+/// Returns the tools that the text names, each with its options: 1 to `MAX_TOOLS` tools with bars between them.
+///
+/// # Errors
+///
+/// The first of `TooLong`, `Empty` and `TooMany`, or else the first fault of the first stage that has one; or `Memory`.
 pub fn parse_chain(alloc: Global, text: &str) -> Result<Vec<Tool>, ChainFault>
     ensures spelled { IfOk result (λ tools. SpellsChain text.now tools.items) }
     ensures lawful { IfOk result (λ tools. IsChain tools.items) }
@@ -129,7 +130,7 @@ pub fn parse_chain(alloc: Global, text: &str) -> Result<Vec<Tool>, ChainFault>
     Ok(tools)
 }
 
-/// One less than the stages.
+/// Returns the number of bars, which is one less than the number of stages.
 fn count_bars(text: &[u8]) -> usize
     ensures { result + 1 ≡ length (stage_texts text.now) }
 {
@@ -142,7 +143,7 @@ fn count_bars(text: &[u8]) -> usize
     bars
 }
 
-/// The tool of the stage of this number.
+/// Reads the tool of the stage with this number.
 fn read_numbered(alloc: Global, number: usize, stage: &[u8]) -> Result<Tool, ChainFault>
     ensures spelled { IfOk result (λ tool. (stage_fault stage.now ≡ None) × SpellsTool stage.now tool) }
     ensures refused { IfErr result (λ fault. (fault ≡ whole_fault Memory)
@@ -158,7 +159,7 @@ fn read_numbered(alloc: Global, number: usize, stage: &[u8]) -> Result<Tool, Cha
     }
 }
 
-/// The tool of a stage.
+/// Reads the tool of a stage.
 fn read_stage(alloc: Global, stage: &[u8]) -> Result<Tool, ChainKind>
     ensures spelled { IfOk result (λ tool. (stage_fault stage.now ≡ None) × SpellsTool stage.now tool) }
     ensures refused { IfErr result (λ kind. IsRefusal (stage_fault stage.now) kind) }

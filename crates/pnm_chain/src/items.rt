@@ -1,4 +1,4 @@
-//! What stands in a stage of a chain after the tool's name.
+//! What follows the tool's name in a stage of a chain.
 
 ghost use Rattle.std.specs.Prelude.{◌≡◌, ◌<◌, ◌∷◌, [], IfSome, MatchOption, length};
 ghost use Rattle.pnm_image.specs.Texts.{words};
@@ -15,11 +15,11 @@ pub(crate) enum Item<'a> {
     Argument(&'a [u8]),
     /// An option of the tool, and its value, if one is given.
     Given(ToolOption, Option<&'a [u8]>),
-    /// An option that the tool hasn't.
+    /// An option that the tool doesn't have.
     Unknown,
 }
 
-/// The first item of a text that follows the tool's name, and the text after it.
+/// Returns the first item of a text that follows the tool's name, and the text after the item.
 pub(crate) fn split_item<'a>(tool: ToolName, text: &'a [u8]) -> Option<(Item<'a>, &'a [u8])>
     ensures first { MatchOption result (words text.now ≡ [])
         (λ r. items_of tool (words text.now) ≡ item_read r.0 ∷ items_of tool (words r.1.now)) }
@@ -42,7 +42,7 @@ pub(crate) fn split_item<'a>(tool: ToolName, text: &'a [u8]) -> Option<(Item<'a>
     Some((Item::Given(option, value), rest))
 }
 
-/// The name in an option's word, after one or two dashes, and the value that follows its first `=`.
+/// Returns the name in an option's word, after one or two dashes, and the value after the word's first `=`.
 fn split_option(word: &[u8]) -> (&[u8], Option<&[u8]>)
     ensures name { result.0.now ≡ name_in word.now }
     ensures value { value_read result.1 ≡ value_in word.now }
@@ -54,7 +54,7 @@ fn split_option(word: &[u8]) -> (&[u8], Option<&[u8]>)
     }
 }
 
-/// The text after the dash that it begins with, or all of a text that begins with none.
+/// Returns the text without the dash that it begins with, or all of it if it doesn't begin with one.
 fn without_dash(text: &[u8]) -> &[u8]
     ensures { result.now ≡ without_dash text.now }
 {

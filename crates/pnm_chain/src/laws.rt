@@ -1,5 +1,4 @@
-//! Laws of chains' texts. Each stands over the definitions alone, as the contract of a function that
-//! does nothing.
+//! Laws of chains' texts. Each law is about the definitions alone, and is the contract of a function that does nothing.
 
 ghost use Rattle.pnm_chain.specs.ChainExamples.{ChainTextsHold};
 ghost use Rattle.pnm_chain.specs.ChainText.{ChainFaultsArePlaced, OneChainOrOneFault, SpelledChainsAreLawful};
@@ -11,13 +10,13 @@ pub fn chain_texts_hold()
     ensures { ChainTextsHold }
 {}
 
-/// Each text spells one list of tools and has no fault, or it spells none and has one fault.
+/// Each text either spells one list of tools and has no fault, or spells none and has one fault.
 pub fn one_chain_or_one_fault()
     ensures { OneChainOrOneFault }
 {}
 
-/// A fault of a text is of the whole, and has stage 0, or of one of its stages, and has its number, 1
-/// to `MAX_TOOLS`. None is want of memory.
+/// A fault of a text is either of the whole text, with stage 0, or of one of its stages, with the number of that stage,
+/// 1 to `MAX_TOOLS`. None of these faults is want of memory.
 pub fn chain_faults_are_placed()
     ensures { ChainFaultsArePlaced }
 {}

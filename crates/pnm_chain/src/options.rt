@@ -23,7 +23,7 @@ pub(crate) enum ToolName {
 /// How many arguments a tool takes, and which numbers each may be.
 #[derive(Clone, Copy, Debug, PartialEq, Eq)]
 pub(crate) struct Arguments {
-    /// The fewest, unless an option stands in their place.
+    /// The fewest arguments, unless an option replaces them.
     pub(crate) fewest: usize,
     pub(crate) most: usize,
     pub(crate) least: u32,
@@ -46,7 +46,7 @@ pub(crate) enum ToolOption {
 }
 
 impl ToolName {
-    /// The tool of this name.
+    /// Returns the tool of this name, if there is one.
     pub(crate) fn named(name: &[u8]) -> Option<ToolName>
         ensures { result ≡ tool_named name.now }
     {
@@ -59,7 +59,7 @@ impl ToolName {
             .or(spelled(name, b"pnmtile", ToolName::Tile))
     }
 
-    /// The tool's option of this name.
+    /// Returns the tool's option of this name, if there is one.
     pub(crate) fn option(self, name: &[u8]) -> Option<ToolOption>
         ensures { result ≡ option_named self name.now }
     {
@@ -72,7 +72,7 @@ impl ToolName {
         }
     }
 
-    /// The arguments that the tool takes.
+    /// Returns the arguments that the tool takes.
     pub(crate) fn arguments(self) -> Arguments
         ensures { result ≡ arguments_taken self }
     {
@@ -95,7 +95,7 @@ impl ToolName {
 }
 
 impl Arguments {
-    /// So many numbers from 1 to the greatest.
+    /// Returns arguments that are `count` numbers from 1 to `greatest`.
     fn numbers(count: usize, greatest: u32) -> Arguments
         ensures { result ≡ numbers count greatest }
     {
@@ -109,7 +109,7 @@ impl Arguments {
 }
 
 impl ToolOption {
-    /// Whether a value has to follow the option; a way to flip has none.
+    /// Returns true if a value has to follow the option. A way to flip has no value.
     pub(crate) fn wants_value(self) -> bool
         ensures { result ≡ wants_value self }
     {
@@ -162,7 +162,7 @@ fn turn_option(name: &[u8]) -> Option<ToolOption>
         .or(spelled(name, b"r270", ToolOption::Way(FlipWay::Rotate270)))
 }
 
-/// What has this name, if the word is the name.
+/// Returns `named` if the word is its name.
 fn spelled<T: Copy>(word: &[u8], name: &[u8], named: T) -> Option<T>
     ensures { result ≡ (if bytes_eq name.now word.now then Some named else None) }
 {

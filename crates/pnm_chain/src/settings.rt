@@ -37,7 +37,7 @@ pub(crate) struct Settings<'a> {
 }
 
 impl<'a> Settings<'a> {
-    /// Nothing is set for the tool.
+    /// Returns settings of the tool in which nothing is set.
     pub(crate) fn new(alloc: Global, tool: ToolName) -> Settings<'a>
         ensures { AreSettingsOf tool [] result }
     {
@@ -81,7 +81,7 @@ impl<'a> Settings<'a> {
         }
     }
 
-    /// The tool that these settings mean. The faults are `Conflict`, `MissingArgument` and `Memory`.
+    /// Returns the tool that these settings mean. The faults are `Conflict`, `MissingArgument` and `Memory`.
     pub(crate) fn finish(&self, alloc: Global) -> Result<Tool, ChainKind>
         ensures meant { IfOk result (λ meaning. (items : List ItemSaid) → AreSettingsOf self.now.tool items self.now
             → (end_fault self.now.tool items ≡ None) × (meaning ≡ meant_by self.now.tool items)) }
@@ -97,7 +97,7 @@ impl<'a> Settings<'a> {
         self.meant(alloc)
     }
 
-    /// Whether three options of an axis stand together, or an argument and a scale.
+    /// Returns true if three options of an axis are given together, or an argument and a scale.
     fn is_conflict(&self) -> bool
         ensures { result ≡ (tool_rule self.now.tool).conflict (said_by self.now) }
     {
@@ -108,7 +108,7 @@ impl<'a> Settings<'a> {
         }
     }
 
-    /// Whether the tool wants another argument, a way to flip, or a factor.
+    /// Returns true if the tool wants another argument, a way to flip, or a factor.
     fn is_missing(&self) -> bool
         ensures { result ≡ (tool_rule self.now.tool).missing (said_by self.now) }
     {
@@ -125,7 +125,7 @@ impl<'a> Settings<'a> {
         self.across.is_some() || self.down.is_some()
     }
 
-    /// The tool, if nothing conflicts or is missing.
+    /// Returns the tool, if nothing conflicts or is missing.
     fn meant(&self, alloc: Global) -> Result<Tool, ChainKind>
         ensures meant { IfOk result (λ meaning. AreTaken self.now.tool self.now.numbers.items
             → meaning ≡ (tool_rule self.now.tool).meant (said_by self.now)) }
@@ -142,14 +142,15 @@ impl<'a> Settings<'a> {
         })
     }
 
-    /// The argument at a place from 0, or 0.
+    /// Returns argument `at`, counted from 0, or 0 if there is none.
     fn number(&self, at: usize) -> u32
         ensures { result ≡ slice_index_or self.now.numbers.items at 0 }
     {
         self.numbers.get(at).copied().unwrap_or(0)
     }
 
-    /// The one argument is both factors, or each has a scale of its own; one that isn't given is 1.
+    /// Returns a factor. The one argument is both factors, or each factor has a scale of its own. A scale that isn't
+    /// given is 1.
     fn factor(&self, scale: Option<u32>) -> u32
         ensures { result ≡ factor_by self.now.numbers.items scale }
     {
@@ -159,7 +160,7 @@ impl<'a> Settings<'a> {
         }
     }
 
-    /// The arguments as planes, none of which is above the last one, and the tuple type.
+    /// Returns the arguments as planes, none above the last plane, and the tuple type.
     fn planes(&self, alloc: Global) -> Result<Planes, ChainKind>
         ensures planes { IfOk result (λ planes. AreTaken Channel self.now.numbers.items
             → planes ≡ picks self.now.numbers.items (unwrap_or (value_read self.now.tuple_type) [])) }
@@ -173,7 +174,7 @@ impl<'a> Settings<'a> {
         Ok(Planes::new(planes, tuple_type))
     }
 
-    /// Whether the option was there.
+    /// Returns true if the option was given.
     fn has(&self, option: ToolOption) -> bool
         ensures { result ≡ has_option (said_by self.now) option }
     {
@@ -263,7 +264,7 @@ fn set_extent(extent: &mut Option<u32>, word: &[u8]) -> Result<(), ChainKind>
     Ok(())
 }
 
-/// Whether both edges and the size of an axis are given.
+/// Returns true if both edges and the size of an axis are given.
 fn has_three(cut: &CutBox) -> bool
     ensures { result ≡ has_three cut.now }
 {

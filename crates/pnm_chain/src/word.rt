@@ -7,8 +7,8 @@ ghost use Rattle.pnm_chain.specs.Options.{offset_value, spells_number, spells_of
 use pnm_image::characters::is_white;
 use pnm_tools::MAX_EXTENT;
 
-/// The first word of a text, and the text after it. A word is a longest run of bytes that aren't
-/// white space: blank, TAB, CR and LF.
+/// Returns the first word of a text, and the text after it. A word is a longest run of bytes that aren't white space:
+/// blank, TAB, CR and LF.
 pub(crate) fn split_word(text: &[u8]) -> Option<(&[u8], &[u8])>
     ensures first { MatchOption result (words text.now ≡ []) (λ r. words text.now ≡ r.0.now ∷ words r.1.now) }
     ensures shorter { IfSome result (λ r. length r.1.now < length text.now) }
@@ -29,8 +29,8 @@ pub(crate) fn split_word(text: &[u8]) -> Option<(&[u8], &[u8])>
     Some(rest.split_at(length))
 }
 
-/// The offset from -`MAX_EXTENT` to `MAX_EXTENT` that the word spells, if it spells one: a number that
-/// may have one dash before it.
+/// Returns the offset from -`MAX_EXTENT` to `MAX_EXTENT` that the word spells, if it spells one: a number that may have
+/// one dash before it.
 pub(crate) fn offset(word: &[u8]) -> Option<i32>
     ensures { result ≡ (if spells_offset word.now then Some (offset_value word.now) else None) }
 {
@@ -40,7 +40,7 @@ pub(crate) fn offset(word: &[u8]) -> Option<i32>
     }
 }
 
-/// The number from `least` to `most` that the word spells, if it spells one: digits and nothing else.
+/// Returns the number from `least` to `most` that the word spells, if it spells one: digits and nothing else.
 pub(crate) fn number(word: &[u8], least: u32, most: u32) -> Option<u32>
     ensures { result ≡ (if spells_number least most word.now then Some (decimal_value word.now) else None) }
 {
@@ -48,7 +48,7 @@ pub(crate) fn number(word: &[u8], least: u32, most: u32) -> Option<u32>
     (least <= number && number <= most).then_some(number)
 }
 
-/// The number that the word spells, if it spells one that a `u32` holds.
+/// Returns the number that the word spells, if it spells one that a `u32` holds.
 fn decimal(word: &[u8]) -> Option<u32>
     ensures { result ≡ (if spells_number 0 4294967295 word.now then Some (decimal_value word.now) else None) }
 {

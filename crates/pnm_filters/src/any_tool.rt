@@ -36,11 +36,11 @@ pub enum AnyTool {
     Picking(ByRow<Planes>),
     /// `pamenlarge`.
     Enlarging(Enlarger),
-    /// `pamflip` where rows stay in their places.
+    /// `pamflip` if rows stay in their places.
     FlippingRows(ByRow<RowFlipper>),
-    /// `pamflip` where the order of rows is reversed.
+    /// `pamflip` if the order of rows is reversed.
     ReversingRows(RowReverser),
-    /// `pamflip` where columns and rows are exchanged.
+    /// `pamflip` if columns and rows are exchanged.
     Transposing(Transposer),
     /// `pnmtile`.
     Tiling(Tiler),

@@ -10,9 +10,8 @@ use pnm_row_tools::{Cutter, Inverter, RowTool, SampleTool, picked_head, rescaled
 use pnm_tools::{ImageTool, Tool, ToolFault, flipped_head};
 use std::alloc::Global;
 
-/// The head of the result of an image with this head, or the first of these faults: `OutOfOrder`
-/// where the height is 0 and the tool isn't row-wise, `CutOutside` or `ChannelOutside`,
-/// `TooLarge`, `Memory`.
+/// Returns the head of the result of an image with this head, or the first of these faults: `OutOfOrder` if the height
+/// is 0 and the tool isn't row-wise, `CutOutside` or `ChannelOutside`, `TooLarge`, `Memory`.
 pub fn result_head(alloc: Global, tool: &Tool, head: &Head) -> Result<Head, ToolFault>
     requires { IsLawfulTool tool.now }
     ensures made { IfOk result (λ made. result_head tool.now head.now ≡ Ok made) }

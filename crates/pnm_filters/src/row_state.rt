@@ -14,8 +14,8 @@ use pnm_image::{Message, Packet, Rows};
 use pnm_tools::{Filter, FusedFilter, Tool, ToolFault};
 use std::alloc::Global;
 
-/// A tool at work whose rows may be dealt to several of it: what it makes of the image that a lane sees is what the
-/// lane gets of the result, and it refuses the one where it refuses the other.
+/// A tool at work whose rows may be dealt to several copies of it: what it makes of the image that a lane sees is what
+/// the lane gets of the result, and it refuses the one if it refuses the other.
 pub trait RowWise: Filter {
     /// The tool is row-wise.
     ghost row_wise: { (s : Self) (t : ToolValue) (l g : List MessageValue) → Self.at s t l g → IsRowWise t };
@@ -59,7 +59,7 @@ impl RowWise for RowState {
     ghost row_wise = { λ s tool accepted given at. at.row_wise };
 }
 
-/// The tool at work on the messages of a lane, before the first. The only fault is `Memory`.
+/// Returns the tool at work on the messages of a lane, before the first message. The only fault is `Memory`.
 pub fn start_rows(alloc: Global, tool: &Tool) -> Result<RowState, ToolFault>
     requires lawful { IsLawfulTool tool.now }
     requires row_wise { is_row_wise tool.now ≡ true }
@@ -71,7 +71,7 @@ pub fn start_rows(alloc: Global, tool: &Tool) -> Result<RowState, ToolFault>
     })
 }
 
-/// The row-wise tool at work on the messages of a lane; one for which there is no memory has refused.
+/// Returns the row-wise tool at work on the messages of a lane. If there is no memory for the tool, it has refused.
 pub fn row_filter_of(alloc: Global, tool: &Tool) -> FusedFilter<RowState>
     requires lawful { IsLawfulTool tool.now }
     requires row_wise { is_row_wise tool.now ≡ true }

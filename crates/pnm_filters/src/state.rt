@@ -30,8 +30,8 @@ pub enum Owed {
     Untold,
 }
 
-/// A tool at work on a stream. What it keeps of an image it gives up once it has given the image's end,
-/// where the stream is broken off, and at a fault.
+/// A tool at work on a stream. It drops what it keeps of an image once it has given the image's end, when the stream is
+/// broken off, and at a fault.
 #[derive(Drop)]
 pub struct State<T: ImageTool> {
     alloc: Global,
@@ -68,7 +68,7 @@ impl<T: ImageTool> Filter for State<T> {
 
     ghost at_answers = { λ s tool accepted given at. at.answers };
 
-    // What `feed` stores is what `next` takes: in one function of the caller's it stays in registers.
+    // `next` takes what `feed` stores: inlined into one function of the caller, it stays in registers.
     #[inline(always)]
     fn feed(&mut self, message: Message) -> Result<(), ToolFault> {
         if let Some(fault) = self.fault {
@@ -154,7 +154,8 @@ impl<T: ImageTool> State<T> {
     }
 }
 
-/// Takes rows, which may come at this place: the rows that answer them are due then. The only fault is `Memory`.
+/// Takes rows that may come at this place. The rows of the result that answer them are then due. The only fault is
+/// `Memory`.
 fn take_rows<T: ImageTool>(
     alloc: Global,
     work: &mut T,
@@ -168,7 +169,7 @@ fn take_rows<T: ImageTool>(
     ensures taken { OnOk result (AreTakenRows T.tool T.ready T.due work.old place.old rows work.new place.new) }
     ensures refused { IfErr result (λ fault. (fault ≡ Memory) × (T.tool work.new ≡ T.tool work.old)) }
 {
-    // No rows at all could come at any place.
+    // Zero rows could come at any place: the proof has to know that there is at least one.
     prove!(rows.count() > 0);
     let Place::Inside(shape, y) = *place else {
         unreachable!();
@@ -279,7 +280,7 @@ fn give<T: ImageTool>(
     }
 }
 
-/// The message that waits, if one does.
+/// Takes the message that waits, if one does.
 fn give_one(owed: &mut Owed, waiting: &mut Option<Message>) -> Option<Message>
     requires { owed.old ≡ Owed.One }
     ensures given { result ≡ waiting.old }

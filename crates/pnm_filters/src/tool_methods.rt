@@ -19,20 +19,21 @@ pub trait StartTool {
     /// The tool and its options.
     ghost tool: { Self → ToolValue };
 
-    /// The head of the result of an image with this head, as `result_head` answers it.
+    /// Returns the head of the result of an image with this head, as `result_head` does.
     fn head(&self, alloc: Global, head: &Head) -> Result<Head, ToolFault>
         requires { IsLawfulTool (tool self.now) }
         ensures made { IfOk result (λ made. result_head (tool self.now) head.now ≡ Ok made) }
         ensures refused { IfErr result (λ fault. (result_head (tool self.now) head.now ≡ Err fault)
             ⊎ ((fault ≡ Memory) × TakesHead (tool self.now) head.now)) };
 
-    /// The tool at work, before the first message. The only fault is `Memory`.
+    /// Returns the tool at work, before the first message. The only fault is `Memory`.
     fn start(&self, alloc: Global) -> Result<ToolState, ToolFault>
         requires { IsLawfulTool (tool self.now) }
         ensures started { IfOk result (λ state. IsFreshTool state (tool self.now)) }
         ensures refused { IfErr result (λ fault. fault ≡ Memory) };
 
-    /// The row-wise tool at work on the messages of a lane, before the first. The only fault is `Memory`.
+    /// Returns the row-wise tool at work on the messages of a lane, before the first message. The only fault is
+    /// `Memory`.
     fn start_rows(&self, alloc: Global) -> Result<RowState, ToolFault>
         requires lawful { IsLawfulTool (tool self.now) }
         requires row_wise { is_row_wise (tool self.now) ≡ true }

@@ -18,7 +18,7 @@ use std::alloc::Global;
 /// A tool of a chain at work on a stream.
 pub type ToolState = State<AnyTool>;
 
-/// The tool at work, before the first message. The only fault is `Memory`.
+/// Returns the tool at work, before the first message. The only fault is `Memory`.
 pub fn start_tool(alloc: Global, tool: &Tool) -> Result<ToolState, ToolFault>
     requires { IsLawfulTool tool.now }
     ensures started { IfOk result (λ state. IsFreshTool state tool.now) }
@@ -27,7 +27,7 @@ pub fn start_tool(alloc: Global, tool: &Tool) -> Result<ToolState, ToolFault>
     Ok(State::new(alloc, any_tool(alloc, tool)?))
 }
 
-/// The tool at work, which has taken no row.
+/// Returns the tool at work, which has taken no row.
 fn any_tool(alloc: Global, tool: &Tool) -> Result<AnyTool, ToolFault>
     ensures tool { IfOk result (λ work. tool_of work ≡ tool.now) }
     ensures kept { IfOk result (λ work. kept_of work ≡ []) }
@@ -44,7 +44,7 @@ fn any_tool(alloc: Global, tool: &Tool) -> Result<AnyTool, ToolFault>
     })
 }
 
-/// The tool at work that flips images this way.
+/// Returns the tool at work that flips images this way.
 fn flip(alloc: Global, way: FlipWay) -> AnyTool
     ensures tool { tool_of result ≡ Flip way }
     ensures kept { kept_of result ≡ [] }
@@ -59,7 +59,7 @@ fn flip(alloc: Global, way: FlipWay) -> AnyTool
     }
 }
 
-/// The row tool at work, which has made no rows.
+/// Returns the row tool at work, which has made no rows.
 fn by_row<T: RowTool>(tool: T) -> ByRow<T>
     ensures tool { result.tool ≡ tool }
     ensures none { result.made ≡ None }
@@ -67,7 +67,7 @@ fn by_row<T: RowTool>(tool: T) -> ByRow<T>
     ByRow { tool, made: None }
 }
 
-/// The tool at work; one for which there is no memory has refused.
+/// Returns the tool at work. If there is no memory for the tool, it has refused.
 pub fn filter_of(alloc: Global, tool: &Tool) -> FusedFilter<ToolState>
     requires { IsLawfulTool tool.now }
     ensures { ToolAt result tool.now [] [] }

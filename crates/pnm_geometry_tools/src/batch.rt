@@ -25,7 +25,7 @@ pub(crate) trait Column: Drop {
     /// Its samples.
     ghost samples: { Self → List ℕ };
 
-    /// The column as samples, without a copy.
+    /// Returns the column as samples, without a copy.
     fn into_samples(self) -> Samples
         ensures { result ≡ samples self };
 }
@@ -54,7 +54,7 @@ impl Column for Vec<u16> {
     }
 }
 
-/// The columns as samples, the last one first.
+/// Returns the columns as samples, the last column first.
 pub(crate) fn last_first<C: Column>(
     alloc: Global,
     columns: Vec<C>,
@@ -70,7 +70,7 @@ pub(crate) fn last_first<C: Column>(
     Ok(batch)
 }
 
-/// So many columns of the rows, from the first one on.
+/// Returns `count` columns of the rows, from column `first` on.
 pub(crate) fn columns_of<T: BlockSample>(
     alloc: Global,
     kept: &StripedRows<T>,
@@ -86,15 +86,15 @@ pub(crate) fn columns_of<T: BlockSample>(
         ≡ map (kept_column rows_first depth kept.now.strips.items kept.now.rows) (range_with_len first count)) }
     ensures refused { IfErr result (λ fault. fault ≡ Memory) }
 {
-    // The columns have their length first, and what is stored then grows nothing.
+    // The columns have their full length first, so that the stores don't grow them.
     let samples = STRIP_ROWS * depth * kept.strips.len() + depth * kept.rows.len();
     let mut columns = blank_columns(alloc, count, samples)?;
     put_kept(columns.as_mut_slice(), kept, rows_first, first, depth);
     Ok(columns)
 }
 
-/// Stores columns of the rows, each from its first sample on: of those in strips and of those that came
-/// after them, or of the latter first.
+/// Stores columns of the rows, each from its first sample on: first the samples of the rows in strips and then those of
+/// the rows that came after them, or the latter first if `rows_first` is true.
 fn put_kept<T: BlockSample>(
     columns: &mut [Vec<T>],
     kept: &StripedRows<T>,
@@ -121,8 +121,8 @@ fn put_kept<T: BlockSample>(
     }
 }
 
-/// Stores rows' pixels from this place of each column on, a row after the other: in blocks as far as they are exchanged
-/// so, and the others four rows at a time.
+/// Stores the rows' pixels from `at` of each column on, one row after the other: as many rows in blocks as `put_blocks`
+/// exchanges, and the others four at a time.
 pub(crate) fn put_all<T: BlockSample>(
     columns: &mut [Vec<T>],
     at: usize,
@@ -141,7 +141,7 @@ pub(crate) fn put_all<T: BlockSample>(
     put_from(columns, at + begun * depth, rows, begun, first, depth);
 }
 
-/// Stores the pixels of the rows from this one on, from this place of each column on, a row after the other: four rows
+/// Stores the pixels of the rows from row `begun` on, from `at` of each column on, one row after the other: four rows
 /// at a time.
 fn put_from<T: Copy>(
     columns: &mut [Vec<T>],
@@ -177,7 +177,7 @@ fn put_from<T: Copy>(
     );
 }
 
-/// Stores the pixels of four rows, from this one on, from this place of each column on, a row after the other.
+/// Stores the pixels of four rows, from row `y` on, from `at` of each column on, one row after the other.
 fn put_four<T: Copy>(
     columns: &mut [Vec<T>],
     at: usize,
@@ -200,8 +200,8 @@ fn put_four<T: Copy>(
     }
 }
 
-/// Stores four rows, from this one on, where each pixel is one sample. All are taken before one is stored, so that the
-/// compiler stores them at once.
+/// Stores four rows of pixels of one sample, from row `y` on. Reads all samples of a column before it stores one, so
+/// that the compiler stores them at once.
 fn put_four_samples<T: Copy>(
     columns: &mut [Vec<T>],
     at: usize,
@@ -215,7 +215,7 @@ fn put_four_samples<T: Copy>(
     ensures { HavePixels (length columns.old) at (λ k. column_of 1 (take 4 (drop y rows.now)) (first + k))
         columns.old columns.new }
 {
-    // No effect at run time: a proof learns of this that the rows are as many as this machine can count.
+    // No effect at run time: from this, a proof learns that the number of rows fits a `usize`.
     let _ = rows.len();
     let (a, b) = (rows.row(y), rows.row(y + 1));
     let (c, d) = (rows.row(y + 2), rows.row(y + 3));
@@ -225,7 +225,7 @@ fn put_four_samples<T: Copy>(
     }
 }
 
-/// Stores four rows, from this one on, where each pixel is three samples.
+/// Stores four rows of pixels of three samples, from row `y` on.
 fn put_four_colors<T: Copy>(
     columns: &mut [Vec<T>],
     at: usize,
@@ -239,7 +239,7 @@ fn put_four_colors<T: Copy>(
     ensures { HavePixels (length columns.old) at (λ k. column_of 3 (take 4 (drop y rows.now)) (first + k))
         columns.old columns.new }
 {
-    // No effect at run time: a proof learns of this that the rows are as many as this machine can count.
+    // No effect at run time: from this, a proof learns that the number of rows fits a `usize`.
     let _ = rows.len();
     let (a, b) = (rows.row(y), rows.row(y + 1));
     let (c, d) = (rows.row(y + 2), rows.row(y + 3));
@@ -252,7 +252,7 @@ fn put_four_colors<T: Copy>(
     }
 }
 
-/// Stores the pixels of so many rows, from this one on, from this place of each column on, a row after the other.
+/// Stores the pixels of `count` rows, from row `y` on, from `at` of each column on, one row after the other.
 fn put_some<T: Copy>(
     columns: &mut [Vec<T>],
     at: usize,
@@ -269,14 +269,14 @@ fn put_some<T: Copy>(
     ensures { HavePixels (length columns.old) at (λ k. column_of depth (take count (drop y rows.now)) (first + k))
         columns.old columns.new }
 {
-    // No effect at run time: a proof learns of this that the rows are as many as this machine can count.
+    // No effect at run time: from this, a proof learns that the number of rows fits a `usize`.
     let _ = rows.len();
     for n in 0..count {
         put_pixels(columns, at + n * depth, rows.row(y + n), first, depth);
     }
 }
 
-/// Stores strips' parts from this place of each column on, a strip after the other.
+/// Stores the strips' parts from `at` of each column on, one strip after the other.
 fn put_rows<T: Copy>(
     columns: &mut [Vec<T>],
     at: usize,
@@ -296,7 +296,7 @@ fn put_rows<T: Copy>(
     }
 }
 
-/// Stores a row's pixels at this place of each column.
+/// Stores a row's pixels, each at `at` of a column.
 fn put_pixels<T: Copy>(columns: &mut [Vec<T>], at: usize, row: &[T], first: usize, depth: usize)
     requires row { (first + length columns.old) * depth ≤ length row.now }
     requires fits { first + length columns.old ≤ 4294967295 }
@@ -310,7 +310,7 @@ fn put_pixels<T: Copy>(columns: &mut [Vec<T>], at: usize, row: &[T], first: usiz
     }
 }
 
-/// So many columns of so many samples, which are still to be stored.
+/// Returns `count` columns of `samples` samples each, which are still to be stored.
 pub(crate) fn blank_columns<T: Copy + Default>(
     alloc: Global,
     count: usize,

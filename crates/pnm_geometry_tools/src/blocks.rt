@@ -11,8 +11,8 @@ use pnm_samples::lanes_beside;
 
 /// A sample as a row of an image holds it.
 pub(crate) trait BlockSample: Copy + Default {
-    /// Stores pixels of the first rows, as many as are exchanged in blocks, from this place of each column on, a row
-    /// after the other, and tells how many rows these are.
+    /// Stores the pixels of the first rows, as many rows as are exchanged in blocks, from `at` of each column on, one
+    /// row after the other. Returns the number of these rows.
     fn put_blocks(
         columns: &mut [Vec<Self>],
         at: usize,
@@ -30,7 +30,7 @@ pub(crate) trait BlockSample: Copy + Default {
 }
 
 impl BlockSample for u16 {
-    /// None.
+    /// Stores no rows.
     fn put_blocks(
         _columns: &mut [Vec<u16>],
         _at: usize,
@@ -43,7 +43,7 @@ impl BlockSample for u16 {
 }
 
 impl BlockSample for u8 {
-    /// Sixteen at a time, where a pixel is one sample.
+    /// Stores sixteen rows at a time if a pixel is one sample.
     fn put_blocks(
         columns: &mut [Vec<u8>],
         at: usize,
@@ -63,7 +63,7 @@ impl BlockSample for u8 {
     }
 }
 
-/// Stores sixteen rows, from this one on, from this place of each column on: bytes of sixteen columns at a time.
+/// Stores sixteen rows, from row `y` on, from `at` of each column on: bytes of sixteen columns at a time.
 fn put_sixteen(columns: &mut [Vec<u8>], at: usize, rows: &FlatRows<u8>, y: usize, first: usize)
     requires sixteen { y + 16 ≤ length rows.now }
     requires rows { All (λ row. (first + length columns.old) * 1 ≤ length row) rows.now }
@@ -85,13 +85,13 @@ fn put_sixteen(columns: &mut [Vec<u8>], at: usize, rows: &FlatRows<u8>, y: usize
     }
 }
 
-/// Sixteen rows, from this one on.
+/// Returns sixteen rows, from row `y` on.
 fn sixteen_rows(rows: &FlatRows<u8>, y: usize) -> [&[u8]; 16]
     requires { y + 16 ≤ length rows.now }
     ensures count { length result ≡ 16 }
     ensures rows { AreRowsFrom y rows.now result }
 {
-    // No effect at run time: a proof learns of this that the rows are as many as this machine can count.
+    // No effect at run time: from this, a proof learns that the number of rows fits a `usize`.
     let _ = rows.len();
     let mut sixteen = [rows.row(y); 16];
     for i in 1..16 {

@@ -1,8 +1,8 @@
-//! Buffers that are there before their samples are.
+//! Buffers that have their full length before their samples are stored.
 
 ghost use Rattle.std.specs.Prelude.{◌≡◌, ◌≤◌, ◌+◌, ◌++◌, length, take};
 
-/// Stores samples at this place of a buffer.
+/// Stores samples in a buffer, from `at` on.
 #[inline(always)]
 pub(crate) fn store<T: Copy>(buffer: &mut [T], at: usize, samples: &[T])
     requires { at + length samples.now ≤ length buffer.old }

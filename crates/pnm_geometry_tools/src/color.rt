@@ -2,7 +2,7 @@
 
 ghost use Rattle.std.specs.Prelude.{◌≡◌, ◌≤◌, ◌+◌, ◌∷◌, [], length, take, drop};
 
-/// The pixel whose samples begin here.
+/// Returns the pixel whose samples begin at `at`.
 #[inline(always)]
 pub(crate) fn color_at<T: Copy>(row: &[T], at: usize) -> (T, T, T)
     requires { at + 3 ≤ length row.now }

@@ -1,4 +1,4 @@
-//! `pamenlarge`: each pixel so many times across and so many times down, from pamenlarge(1).
+//! `pamenlarge`: each pixel repeated across and down, from pamenlarge(1).
 
 ghost use Rattle.std.specs.Prelude.{◌≡◌, ◌⊎◌, [], OnOk, IfOk, IfErr, Ok, Err};
 ghost use Rattle.pnm_tools.specs.declared.fault.ToolFault.TheVariants.{Memory};
@@ -15,8 +15,8 @@ use pnm_tools::{ImageTool, ToolFault, head_within_limits};
 use std::alloc::Global;
 use std::mem;
 
-/// Repeats pixels across, and rows down: keeps the rows that came together, and makes those of the result as they are
-/// given, of at most 65,536 bytes at once, unless one row takes more.
+/// Repeats pixels across, and rows down. It keeps the rows that came together, and makes the rows of the result as it
+/// gives them: at most 65,536 bytes at once, unless one row takes more.
 #[derive(Drop)]
 pub struct Enlarger {
     across: u32,
@@ -51,7 +51,7 @@ impl ImageTool for Enlarger {
         self.waiting = None;
     }
 
-    /// Gives the rows that some rows make together, or where one row makes more than is given at once, copies of the
+    /// Gives the rows that several rows make together. If one row makes more than is given at once, gives copies of the
     /// row that it makes.
     #[inline(never)]
     fn give(&mut self, alloc: Global) -> Result<Option<Rows>, ToolFault> {

@@ -6,14 +6,14 @@ ghost use Rattle.pnm_geometry_tools.specs.FlatRows.{rows_in};
 use std::alloc::{AllocError, Global};
 use std::marker::Model;
 
-/// Rows of as many samples each. They take no memory beside their samples.
+/// Rows of equal length. They take no memory besides their samples.
 #[derive(Drop)]
 pub(crate) struct FlatRows<T> {
     samples: Vec<T>,
     /// How many samples a row has.
     each: usize,
     count: usize,
-    /// The row that came last is the first one.
+    /// Whether the row that came last is the first one.
     is_reversed: bool,
 }
 
@@ -41,7 +41,7 @@ impl<T> FlatRows<T> {
         }
     }
 
-    /// How many rows these are.
+    /// Returns the number of rows.
     pub fn len(&self) -> usize
         ensures { result ≡ length self.now }
     {
@@ -55,7 +55,7 @@ impl<T> FlatRows<T> {
         self.is_reversed = !self.is_reversed;
     }
 
-    /// A row.
+    /// Returns row `at`.
     #[inline]
     pub fn row(&self, at: usize) -> &[T]
         requires { at < length self.now }
@@ -72,7 +72,7 @@ impl<T> FlatRows<T> {
 }
 
 impl<T: Copy> FlatRows<T> {
-    /// Lets go of all rows, and keeps their memory.
+    /// Removes all rows, and keeps their memory.
     pub fn clear(&mut self)
         ensures { self.new ≡ [] }
     {
@@ -85,8 +85,8 @@ impl<T: Copy> FlatRows<T> {
     ///
     /// # Errors
     ///
-    /// Where there is no memory for it, it isn't as long as the others, or these are reversed. Then nothing
-    /// has changed.
+    /// If there is no memory for the row, if it isn't as long as the others, or if the others are reversed. Then
+    /// nothing has changed.
     pub fn push(&mut self, row: &[T]) -> Result<(), AllocError>
         ensures added { OnOk result (self.new ≡ self.old ++ row.now ∷ []) }
         ensures unchanged { OnErr result (self.new ≡ self.old) }
@@ -94,11 +94,11 @@ impl<T: Copy> FlatRows<T> {
         self.push_rows(row, 1, row.len())
     }
 
-    /// Adds so many rows of so many samples each, which are held one after another, at the end.
+    /// Adds `count` rows of `each` samples, which are held one after another, at the end.
     ///
     /// # Errors
     ///
-    /// Where there is no memory for them, they aren't as long as the others, or these are reversed. Then
+    /// If there is no memory for the rows, if they aren't as long as the others, or if the others are reversed. Then
     /// nothing has changed.
     pub fn push_rows(&mut self, samples: &[T], count: usize, each: usize) -> Result<(), AllocError>
         requires { length samples.now ≡ count * each }

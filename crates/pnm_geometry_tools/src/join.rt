@@ -9,7 +9,7 @@ use pnm_image::{RowSlice, RowVec, Rows, Samples};
 use pnm_tools::ToolFault;
 use std::alloc::AllocError;
 
-/// How many samples a row has at most that is given with others: a longer one costs little to hand over by itself.
+/// The most samples of a row that is given together with others. A longer row costs little to hand over by itself.
 const MOST_SAMPLES: usize = 1024;
 
 /// The most samples of rows that are given together: as words they take 65,536 bytes.
@@ -18,7 +18,7 @@ const MOST_TOGETHER: usize = 32_768;
 /// The most rows that are given together.
 const MOST_ROWS: u32 = 256;
 
-/// How many of so many rows of this length are given together: one where they are long.
+/// Returns how many of `rows` rows of `each` samples are given together: one if the rows are long.
 pub(crate) fn count_together(each: usize, rows: u32) -> u32
     ensures most { result ≤ rows }
     ensures some { 1 ≤ rows → 1 ≤ result }
@@ -29,8 +29,8 @@ pub(crate) fn count_together(each: usize, rows: u32) -> u32
     rows.min((MOST_TOGETHER / each) as u32)
 }
 
-/// The next columns of a batch, of which the last one is the next: as many together as are short and alike, or one.
-/// The only fault is `Memory`.
+/// Takes the next columns of a batch, whose last column is the next one: as many together as are short and alike, or
+/// one. The only fault is `Memory`.
 pub(crate) fn next_columns(batch: &mut Vec<Samples>) -> Result<Option<Rows>, ToolFault>
     ensures given { IfOk result (λ rows. reverse batch.old.items ≡ rows_list rows ++ reverse batch.new.items) }
     ensures all { IfOk result (λ rows. IfNone rows (batch.new.items ≡ [])) }
@@ -54,9 +54,9 @@ pub(crate) fn next_columns(batch: &mut Vec<Samples>) -> Result<Option<Rows>, Too
     Ok(Some(Rows::new(held, bound, count, each)))
 }
 
-/// Takes the next column of a batch to those that are held, each of so many samples and none above the bound.
-/// False where none is left, or the next one has another length or is held otherwise: then it stays in the
-/// batch. The only fault is `Memory`.
+/// Moves the next column of a batch to those that are held, which have `each` samples and none above `bound`. Returns
+/// false if no column is left, or if the next one has another length or is held otherwise: then it stays in the batch.
+/// The only fault is `Memory`.
 fn take_next(
     batch: &mut Vec<Samples>,
     held: &mut RowVec,
@@ -89,11 +89,11 @@ fn take_next(
     Ok(true)
 }
 
-/// Adds rows behind those that are held; false, and nothing is added, where they aren't held alike.
+/// Adds rows behind those that are held. Returns false, and adds nothing, if they aren't held alike.
 ///
 /// # Errors
 ///
-/// Where there is no memory for them. Then nothing has changed.
+/// If there is no memory for them. Then nothing has changed.
 pub(crate) fn append(held: &mut RowVec, more: RowSlice<'_>) -> Result<bool, AllocError>
     ensures added { IfOk result (λ done. IsTrue done → HasAdded held.old more.entry held.new) }
     ensures same { IfOk result (λ done. IsFalse done → HoldsSame held.old held.new) }

@@ -12,8 +12,8 @@ use pnm_image::{RowSlice, RowVec, Rows};
 use std::alloc::{AllocError, Global};
 use std::marker::Model;
 
-/// Rows of as many samples each, one after another in one vector: so many short rows take no more memory than their
-/// samples, and those of bits than whole bytes of each.
+/// Rows of equal length, one after another in one vector. So even many short rows take no more memory than their
+/// samples, and rows of bits no more than the whole bytes of each row.
 #[derive(Drop)]
 pub(crate) struct KeptRows {
     held: RowVec,
@@ -44,7 +44,7 @@ impl KeptRows {
         }
     }
 
-    /// How the rows are held, lent, and how many they are.
+    /// Returns the rows as they are held, borrowed, and the number of rows.
     pub fn parts(&self) -> (RowSlice<'_>, usize)
         ensures rows { (each : ℕ) → All (λ row. length row ≡ each) self.now
             → slice_lists result.1 each result.0 ≡ self.now }
@@ -55,11 +55,11 @@ impl KeptRows {
         (self.held.as_slice(), self.count)
     }
 
-    /// Adds the first samples, so many of each, of the first so many of these rows.
+    /// Adds the first `shown` samples of each of the first `count` rows.
     ///
     /// # Errors
     ///
-    /// Where there is no memory for them. Then nothing has changed.
+    /// If there is no memory for them. Then nothing has changed.
     pub fn push_fronts(
         &mut self,
         alloc: Global,
@@ -87,11 +87,11 @@ impl KeptRows {
     }
 }
 
-/// Adds rows behind those that are held, all as words where they aren't held alike.
+/// Adds rows behind those that are held. All rows become words if they aren't held alike.
 ///
 /// # Errors
 ///
-/// Where there is no memory for them. Then nothing has changed.
+/// If there is no memory for them. Then nothing has changed.
 fn hold_behind(alloc: Global, held: &mut RowVec, more: &RowVec) -> Result<(), AllocError>
     ensures added { OnOk result ((count more_count each : ℕ)
         → AreRows count each held.old → AreRows more_count each more.now
@@ -109,11 +109,11 @@ fn hold_behind(alloc: Global, held: &mut RowVec, more: &RowVec) -> Result<(), Al
     Ok(())
 }
 
-/// A copy of the first samples, so many of each, of the first so many of these rows.
+/// Copies the first `shown` samples of each of the first `count` rows.
 ///
 /// # Errors
 ///
-/// Where there is no memory for it.
+/// If there is no memory for the copy.
 fn fronts_of(alloc: Global, rows: &Rows, count: usize, shown: usize) -> Result<RowVec, AllocError>
     requires count { count ≤ length rows.now }
     requires within { All (λ row. shown ≤ length row) rows.now }
@@ -138,11 +138,11 @@ fn fronts_of(alloc: Global, rows: &Rows, count: usize, shown: usize) -> Result<R
     }
 }
 
-/// The first samples, so many of each, of so many rows of bytes or words.
+/// Copies the first `shown` samples of each of `count` rows of bytes or words.
 ///
 /// # Errors
 ///
-/// Where there is no memory for them.
+/// If there is no memory for them.
 fn slice_fronts<T: Copy>(
     alloc: Global,
     samples: &[T],

@@ -1,4 +1,4 @@
-//! Rows whose pixels stand several times across, and which stand several times down, as they are held.
+//! Enlarges rows as they are held: repeats their pixels across, and the rows down.
 
 ghost use Rattle.std.specs.Prelude.{◌≡◌, ◌≤◌, ◌<◌, ◌*◌, ◌^◌, length, map, replicate, IfOk, IfErr};
 ghost use Rattle.std.specs.List.{AllByRecursion, flat_map};
@@ -18,7 +18,8 @@ use std::alloc::Global;
 /// The most bytes of the result that are made and given at once, unless one row takes more.
 pub(crate) const MOST_GIVEN: usize = 65_536;
 
-/// How many bytes a row of so many samples takes that is held as these, where bits of several planes become bytes.
+/// Returns how many bytes a row of `samples` samples takes if it is held as `rows` are. Bits of several planes count as
+/// bytes, since they become bytes.
 pub(crate) fn bytes_of_row(rows: RowSlice<'_>, depth: u32, samples: usize) -> usize
     ensures enough { samples ≤ 8 * result }
     ensures most { result ≤ 2 * samples }
@@ -30,12 +31,12 @@ pub(crate) fn bytes_of_row(rows: RowSlice<'_>, depth: u32, samples: usize) -> us
     }
 }
 
-/// So many rows of an image of this shape, with each pixel repeated so many times: held as they were, but bits
-/// of several planes as bytes.
+/// Repeats each pixel of `count` rows of an image of this shape `across` times. The result is held as the rows are, but
+/// bits of several planes become bytes.
 ///
 /// # Errors
 ///
-/// `Memory`, where there is none for the rows.
+/// `Memory` if there is no memory for the rows.
 fn widen_rows(
     alloc: Global,
     across: u32,
@@ -75,11 +76,11 @@ fn widen_rows(
     }
 }
 
-/// So many rows of so many samples, each so many times, held as they were.
+/// Repeats each of `count` rows of `each` samples `down` times. The result is held as the rows are.
 ///
 /// # Errors
 ///
-/// `Memory`, where there is none for the rows.
+/// `Memory` if there is no memory for the rows.
 pub(crate) fn repeat_rows(
     alloc: Global,
     down: u32,
@@ -110,11 +111,11 @@ pub(crate) fn repeat_rows(
     }
 }
 
-/// Rows of an image of this shape, each so many times down and its pixels so many times across.
+/// Enlarges rows of an image of this shape: repeats each row `down` times, and its pixels `across` times.
 ///
 /// # Errors
 ///
-/// `Memory`, where there is none for the rows.
+/// `Memory` if there is no memory for the rows.
 pub(crate) fn enlarge_together(
     alloc: Global,
     across: u32,
@@ -135,11 +136,11 @@ pub(crate) fn enlarge_together(
     Ok(Rows::new(held, shape.maxval, rows.count() * down, wide))
 }
 
-/// The same, as they are held.
+/// Enlarges rows as `enlarge_together` does, and returns them as they are held.
 ///
 /// # Errors
 ///
-/// `Memory`, where there is none for the rows.
+/// `Memory` if there is no memory for the rows.
 fn enlarge_held(
     alloc: Global,
     across: u32,

@@ -1,5 +1,5 @@
-//! Tools at work whose results have other rows than the image: pamenlarge(1), pnmtile(1), and pamflip(1) where columns
-//! and rows are exchanged.
+//! Tools at work whose results have other rows than the image: pamenlarge(1), pnmtile(1), and pamflip(1) if columns and
+//! rows are exchanged.
 #![tactic(auto)]
 
 mod batch;

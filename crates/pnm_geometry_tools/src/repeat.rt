@@ -1,4 +1,4 @@
-//! Pixels that stand several times in a row, and rows that do in a column.
+//! Repeats pixels across, and rows down.
 
 ghost use Rattle.std.specs.Prelude.{◌≡◌, ◌≤◌, ◌+◌, ◌*◌, ◌++◌, ◌∷◌, [], length, replicate, take, IfOk, IfErr};
 ghost use Rattle.std.specs.List.{flat_map, range_with_len};
@@ -13,14 +13,15 @@ use pnm_image::{Kind, Shape};
 use pnm_tools::ToolFault;
 use std::alloc::Global;
 
-/// How many samples a run has at least that is copied as one.
+/// The fewest samples of a run that is copied as a whole.
 const LEAST_RUN: usize = 16;
 
-/// So many runs of so many samples, each so many times: long ones by a copy, short ones as pixels are.
+/// Repeats each of `count` runs of `each` samples `times` times: long runs by copies, and short ones as if they were
+/// pixels.
 ///
 /// # Errors
 ///
-/// `Memory`, where there is none for them.
+/// `Memory` if there is no memory for them.
 pub(crate) fn repeat_runs<T: Copy + Default>(
     alloc: Global,
     times: u32,
@@ -57,7 +58,7 @@ pub(crate) fn repeat_runs<T: Copy + Default>(
     Ok(repeated)
 }
 
-/// The row with each pixel repeated so many times.
+/// Returns the row with each pixel repeated `across` times.
 pub(crate) fn repeat_pixels<T: Copy + Default>(
     alloc: Global,
     across: u32,
@@ -71,13 +72,13 @@ pub(crate) fn repeat_pixels<T: Copy + Default>(
     let Some(count) = row.len().checked_mul(across as usize) else {
         return Err(ToolFault::Memory);
     };
-    // The buffer is there first, and the stores then grow nothing.
+    // The buffer has its full length first, so that the stores don't grow it.
     let mut enlarged = Vec::from_elem(alloc, T::default(), count)?;
     repeat_into(across, shape, row, enlarged.as_mut_slice());
     Ok(enlarged)
 }
 
-/// Fills the buffer with the row, each pixel so many times, by the loop for so many and such pixels.
+/// Fills the buffer with the row, each pixel `across` times, by the loop for this factor and depth.
 fn repeat_into<T: Copy>(across: u32, shape: Shape, row: &[T], buffer: &mut [T])
     requires row { length row.now ≡ row_length shape }
     requires buffer { length buffer.old ≡ length row.now * across }
@@ -93,7 +94,7 @@ fn repeat_into<T: Copy>(across: u32, shape: Shape, row: &[T], buffer: &mut [T])
     }
 }
 
-/// Fills the buffer with the row, each pixel twice, where a pixel is one sample.
+/// Fills the buffer with the row, each pixel twice. A pixel is one sample.
 fn double_samples<T: Copy>(shape: Shape, row: &[T], buffer: &mut [T])
     requires depth { shape.depth ≡ 1 }
     requires row { length row.now ≡ row_length shape }
@@ -107,7 +108,7 @@ fn double_samples<T: Copy>(shape: Shape, row: &[T], buffer: &mut [T])
     }
 }
 
-/// Fills the buffer with the row, each pixel twice, where a pixel is three samples.
+/// Fills the buffer with the row, each pixel twice. A pixel is three samples.
 fn double_colors<T: Copy>(shape: Shape, row: &[T], buffer: &mut [T])
     requires depth { shape.depth ≡ 3 }
     requires row { length row.now ≡ row_length shape }
@@ -124,8 +125,8 @@ fn double_colors<T: Copy>(shape: Shape, row: &[T], buffer: &mut [T])
     }
 }
 
-/// Stores four pixels of three samples, each twice. All samples are taken first, so that the compiler
-/// moves them side by side.
+/// Stores four pixels of three samples, each twice. Reads all samples first, so that the compiler moves them side by
+/// side.
 fn double_four_colors<T: Copy>(row: &[T], buffer: &mut [T])
     requires row { length row.now ≡ 12 }
     requires buffer { length buffer.old ≡ 24 }
@@ -139,7 +140,7 @@ fn double_four_colors<T: Copy>(row: &[T], buffer: &mut [T])
     put_twice(buffer, 18, fourth);
 }
 
-/// Stores three samples twice from this place on.
+/// Stores three samples twice, from `at` on.
 #[inline(always)]
 fn put_twice<T: Copy>(buffer: &mut [T], at: usize, color: (T, T, T))
     requires { at + 6 ≤ length buffer.old }
@@ -151,7 +152,7 @@ fn put_twice<T: Copy>(buffer: &mut [T], at: usize, color: (T, T, T))
     store(buffer, at, &[a, b, c, a, b, c]);
 }
 
-/// Fills the buffer with the row, each pixel so many times, where a pixel is one sample.
+/// Fills the buffer with the row, each pixel `across` times. A pixel is one sample.
 fn repeat_samples<T: Copy>(across: u32, shape: Shape, row: &[T], buffer: &mut [T])
     requires depth { shape.depth ≡ 1 }
     requires row { length row.now ≡ row_length shape }
@@ -164,8 +165,8 @@ fn repeat_samples<T: Copy>(across: u32, shape: Shape, row: &[T], buffer: &mut [T
     }
 }
 
-/// Stores a sample so many times from this place on. Sixteen are stored at once where there is room for
-/// them, since what stands behind the last one is stored later.
+/// Stores a sample `count` times, from `at` on. Stores sixteen at once if there is room for them, since what is behind
+/// the last one is stored later.
 fn put_copies<T: Copy>(buffer: &mut [T], at: usize, count: usize, sample: T)
     requires { at + count ≤ length buffer.old }
     ensures long { length buffer.new ≡ length buffer.old }
@@ -184,7 +185,7 @@ fn put_copies<T: Copy>(buffer: &mut [T], at: usize, count: usize, sample: T)
     }
 }
 
-/// Fills the buffer with the row, each pixel so many times, where a pixel is three samples.
+/// Fills the buffer with the row, each pixel `across` times. A pixel is three samples.
 fn repeat_colors<T: Copy>(across: u32, shape: Shape, row: &[T], buffer: &mut [T])
     requires depth { shape.depth ≡ 3 }
     requires row { length row.now ≡ row_length shape }
@@ -197,7 +198,7 @@ fn repeat_colors<T: Copy>(across: u32, shape: Shape, row: &[T], buffer: &mut [T]
     }
 }
 
-/// Stores three samples so many times from this place on, as `put_copies` does one.
+/// Stores three samples `count` times, from `at` on, as `put_copies` stores one.
 fn put_colors<T: Copy>(buffer: &mut [T], at: usize, count: usize, color: (T, T, T))
     requires { at + 3 * count ≤ length buffer.old }
     ensures long { length buffer.new ≡ length buffer.old }
@@ -219,7 +220,7 @@ fn put_colors<T: Copy>(buffer: &mut [T], at: usize, count: usize, color: (T, T, 
     }
 }
 
-/// Fills the buffer with the row, each pixel so many times.
+/// Fills the buffer with the row, each pixel `across` times.
 fn repeat_each<T: Copy>(across: u32, shape: Shape, row: &[T], buffer: &mut [T])
     requires row { length row.now ≡ row_length shape }
     requires buffer { length buffer.old ≡ length row.now * across }
@@ -238,7 +239,7 @@ fn repeat_each<T: Copy>(across: u32, shape: Shape, row: &[T], buffer: &mut [T])
     }
 }
 
-/// Fills the buffer with the row, each pixel so many times, where a pixel is many samples.
+/// Fills the buffer with the row, each pixel `across` times. A pixel is many samples.
 fn repeat_wide<T: Copy>(across: u32, shape: Shape, row: &[T], buffer: &mut [T])
     requires row { length row.now ≡ row_length shape }
     requires buffer { length buffer.old ≡ length row.now * across }

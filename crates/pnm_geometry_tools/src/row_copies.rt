@@ -13,7 +13,7 @@ use std::marker::Model;
 /// A row, and how many times it is still to be given.
 #[derive(Drop)]
 pub(crate) struct RowCopies {
-    /// The row by itself: of rows that come together it is the only one.
+    /// The row, as `Rows` of one.
     row: Rows,
     left: u32,
 }
@@ -29,7 +29,7 @@ impl Model for RowCopies {
 }
 
 impl RowCopies {
-    /// The only one of these rows, so many times, without a copy.
+    /// Takes the only row of `row`, which is to be given `left` times, without a copy.
     pub fn new(row: Rows, left: u32) -> RowCopies
         requires one { length row ≡ 1 }
         requires some { 1 ≤ left }
@@ -38,8 +38,8 @@ impl RowCopies {
         RowCopies { row, left }
     }
 
-    /// The next copies, as many as take 65,536 bytes at most, or one, and those that are left, if some are. The last
-    /// one is the row itself, where it is given alone. The only fault is `Memory`.
+    /// Returns the next copies, as many as take 65,536 bytes at most, or one, and those that are left, if some are. The
+    /// last copy is the row itself if it is given alone. The only fault is `Memory`.
     pub fn next(self, alloc: Global) -> Result<(Rows, Option<RowCopies>), ToolFault>
         ensures next { IfOk result (λ parts. self ≡ parts.0 ++ rows_list parts.1) }
         ensures refused { IfErr result (λ fault. fault ≡ Memory) }

@@ -19,7 +19,7 @@ impl<T> Model for RowOf<T> {
 }
 
 impl<T> RowOf<T> {
-    /// The samples that the vector holds, without a copy.
+    /// Takes the samples that the vector holds, without a copy.
     pub fn new(samples: Vec<T>) -> RowOf<T>
         ensures { result ≡ samples.items }
     {

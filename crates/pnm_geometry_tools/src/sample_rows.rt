@@ -21,19 +21,19 @@ use pnm_samples::PixelRows;
 use pnm_tools::ToolFault;
 use std::alloc::{AllocError, Global};
 
-/// How many columns are made side by side. One at a time would fetch each row of the image from
-/// memory once for each of its columns. As many bytes of a row lie in a line of the processor's cache.
+/// How many columns are made side by side. Making one at a time would fetch each row of the image from memory once for
+/// each of its columns. A line of the processor's cache holds this many bytes of a row.
 const BATCH: u32 = 64;
 
 /// How many columns of bits are made side by side, eight to a byte: as many as lie in 32 bytes.
 const BATCH_OF_BITS: u32 = 256;
 
-/// How many rows an image has at least whose rows are put into strips as they come: so the strip that is made
-/// takes little memory beside the image.
+/// The fewest rows of an image whose rows are put into strips as they come. The strip that is being made then takes
+/// little memory compared with the image.
 const LEAST_HEIGHT: u32 = 1024;
 
-/// How many samples a row has at most that is kept as it is in such an image, too: of short rows many lie in the
-/// processor's cache once they are exchanged, and to make strips of them takes longer than it saves.
+/// The most samples of a row that is kept as it is even in such an image. Of short rows, many lie in the processor's
+/// cache when they are exchanged, and making strips of them takes longer than it saves.
 const MOST_SAMPLES: u64 = 256;
 
 /// The rows of an image, top to bottom, all of one width of samples.
@@ -55,7 +55,7 @@ impl SampleRows {
         SampleRows::Words(StripedRows::new(alloc))
     }
 
-    /// No rows of this width. Memory is taken as they come, and none for those that a head only tells.
+    /// No rows, of this width. Rows take memory as they come: those that a head only announces take none.
     pub fn of_width(alloc: Global, sample_width: SampleWidth) -> SampleRows
         ensures empty { (row_lists result ≡ []) × (strip_lists result ≡ []) }
         ensures sample_width { rows_width result ≡ sample_width }
@@ -67,7 +67,7 @@ impl SampleRows {
         }
     }
 
-    /// Adds the rows at the end: one by one where some of them become a strip. The only fault is `Memory`.
+    /// Adds the rows at the end, one by one if some of them become a strip. The only fault is `Memory`.
     pub fn add(
         &mut self,
         alloc: Global,
@@ -93,8 +93,8 @@ impl SampleRows {
         self.push_each(alloc, last_first, shape, rows)
     }
 
-    /// Adds the rows at the end, one after another, each time with a strip of those that came last if they are as many
-    /// as a strip has. The only fault is `Memory`.
+    /// Adds the rows at the end, one after another. After each row, makes a strip of the rows that came last if there
+    /// are as many as a strip has. The only fault is `Memory`.
     fn push_each(
         &mut self,
         alloc: Global,
@@ -118,7 +118,7 @@ impl SampleRows {
         Ok(())
     }
 
-    /// Adds a row of these, counted from 0, at the end. The only fault is `Memory`.
+    /// Adds row `at` of `rows`, counted from 0, at the end. The only fault is `Memory`.
     fn push(&mut self, alloc: Global, rows: &Rows, at: u32) -> Result<(), ToolFault>
         requires there { at < length rows.now }
         requires fits { FitsWidth (rows_width self.old) (get_or rows.now at []) }
@@ -133,11 +133,11 @@ impl SampleRows {
         self.push_samples(alloc, rows.row(alloc, at)?)
     }
 
-    /// Adds a row of bytes or words at the end; false, and nothing is added, where the others are held otherwise.
+    /// Adds a row of bytes or words at the end. Returns false, and adds nothing, if the others are held otherwise.
     ///
     /// # Errors
     ///
-    /// Where there is no memory for it.
+    /// If there is no memory for it.
     fn push_slice(&mut self, row: SampleSlice<'_>) -> Result<bool, AllocError>
         ensures sample_width { rows_width self.new ≡ rows_width self.old }
         ensures strips { strip_lists self.new ≡ strip_lists self.old }
@@ -158,7 +158,7 @@ impl SampleRows {
         }
     }
 
-    /// Adds a row at the end, without a copy where it is held so. The only fault is `Memory`.
+    /// Adds a row at the end, without a copy if it is held in this width. The only fault is `Memory`.
     fn push_samples(&mut self, alloc: Global, row: Samples) -> Result<(), ToolFault>
         requires { FitsWidth (rows_width self.old) row }
         ensures sample_width { rows_width self.new ≡ rows_width self.old }
@@ -173,7 +173,7 @@ impl SampleRows {
         }
     }
 
-    /// Whether rows of an image of this shape are rather put into strips, for which each is added by itself.
+    /// Returns true if the rows of an image of this shape are put into strips, for which each row is added by itself.
     fn prefers_strips(&self, shape: Shape) -> bool {
         match self {
             SampleRows::Bits(_) => false,
@@ -183,11 +183,11 @@ impl SampleRows {
         }
     }
 
-    /// Adds the rows at the end; false, and nothing is added, where they are held in another width.
+    /// Adds the rows at the end. Returns false, and adds nothing, if they are held in another width.
     ///
     /// # Errors
     ///
-    /// Where there is no memory for them.
+    /// If there is no memory for them.
     fn push_rows(&mut self, rows: &Rows) -> Result<bool, AllocError>
         ensures sample_width { rows_width self.new ≡ rows_width self.old }
         ensures strips { strip_lists self.new ≡ strip_lists self.old }
@@ -212,8 +212,8 @@ impl SampleRows {
         }
     }
 
-    /// Makes a strip of the rows that came last, once they are as many as a strip has, of an image whose rows are
-    /// rather put into strips. The only fault is `Memory`.
+    /// Makes a strip of the rows that came last, once there are as many as a strip has, if the rows of the image are
+    /// put into strips. The only fault is `Memory`.
     fn fill_strip(&mut self, alloc: Global, last_first: bool, shape: Shape) -> Result<(), ToolFault>
         requires sizes { HaveSizes shape.width shape.depth (strip_lists self.old) (row_lists self.old) }
         requires limits { IsWithinLimits shape }
@@ -233,7 +233,7 @@ impl SampleRows {
         }
     }
 
-    /// The strips and the rows in the opposite order, where they are wanted so.
+    /// Reverses the order of the strips and of the rows if `last_first` is true.
     pub fn put_in_order(&mut self, last_first: bool)
         ensures sample_width { rows_width self.new ≡ rows_width self.old }
         ensures strips { strip_lists self.new ≡ in_order last_first (strip_lists self.old) }
@@ -244,7 +244,7 @@ impl SampleRows {
         }
     }
 
-    /// The strips and the rows in the opposite order.
+    /// Reverses the order of the strips and of the rows.
     fn reverse(&mut self)
         ensures sample_width { rows_width self.new ≡ rows_width self.old }
         ensures strips { strip_lists self.new ≡ reverse (strip_lists self.old) }
@@ -257,7 +257,7 @@ impl SampleRows {
         }
     }
 
-    /// How many columns are made side by side.
+    /// Returns how many columns are made side by side.
     pub fn batch_length(&self) -> u32
         ensures length { result ≡ batch_length (rows_width self.now) }
         ensures some { 0 < result }
@@ -268,9 +268,9 @@ impl SampleRows {
         }
     }
 
-    /// So many columns of the rows, from the first one on, the last one first: the samples of the strips
-    /// before those of the rows that came after them, or behind those. The first column of bits is that of
-    /// the highest bit of a byte. The only fault is `Memory`.
+    /// Returns `count` columns of the rows, from column `first` on, the last column first. In each column, the samples
+    /// of the strips come before those of the rows that came after them, or behind those if `rows_first` is true. For
+    /// bits, `first` is the column of the highest bit of a byte. The only fault is `Memory`.
     pub fn batch(
         &self,
         alloc: Global,

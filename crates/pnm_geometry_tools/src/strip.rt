@@ -1,5 +1,5 @@
-//! Rows of an image, most of which are kept in strips with columns and rows exchanged: so they are
-//! exchanged while the image comes, and lie in the processor's cache.
+//! Rows of an image, most of which are kept in strips with columns and rows exchanged. So they are exchanged while the
+//! image comes, when they lie in the processor's cache.
 
 ghost use Rattle.std.specs.Prelude.{◌≡◌, ◌≤◌, ◌+◌, ◌*◌, ◌++◌, [], All, OnOk, IfOk, IfErr, length, reverse};
 ghost use Rattle.std.specs.List.{flat_map, range_with_len};
@@ -17,7 +17,7 @@ use crate::row_of::RowOf;
 use pnm_tools::ToolFault;
 use std::alloc::Global;
 
-/// The rows of a strip: as many samples of a column lie in a line of the processor's cache.
+/// The number of rows in a strip. A line of the processor's cache holds this many samples of a column.
 pub(crate) const STRIP_ROWS: usize = 64;
 
 /// How many columns of a strip are made side by side.
@@ -26,10 +26,10 @@ const STRIP_COLUMNS: usize = 64;
 /// Rows of an image.
 #[derive(Drop)]
 pub(crate) struct StripedRows<T> {
-    /// Of the first rows, `STRIP_ROWS` in each: the samples of the first column, top to bottom or bottom
-    /// to top, those of the second one, and so on.
+    /// The first rows, `STRIP_ROWS` in each strip: the samples of the first column, top to bottom or bottom to top,
+    /// then those of the second column, and so on.
     pub strips: Vec<RowOf<T>>,
-    /// The rows that came after them.
+    /// The rows that came after those in strips.
     pub rows: FlatRows<T>,
 }
 
@@ -45,7 +45,7 @@ impl<T> StripedRows<T> {
         }
     }
 
-    /// The strips and the rows in the opposite order.
+    /// Reverses the order of the strips and of the rows.
     pub fn reverse(&mut self)
         ensures strips { self.new.strips.items ≡ reverse self.old.strips.items }
         ensures rows { self.new.rows ≡ reverse self.old.rows }
@@ -56,8 +56,7 @@ impl<T> StripedRows<T> {
 }
 
 impl<T: BlockSample> StripedRows<T> {
-    /// Makes a strip of the rows that came last, once they are as many as a strip has. The only fault is
-    /// `Memory`.
+    /// Makes a strip of the rows that came last, once there are as many as a strip has. The only fault is `Memory`.
     pub fn fill_strip(
         &mut self,
         alloc: Global,
@@ -82,7 +81,7 @@ impl<T: BlockSample> StripedRows<T> {
     }
 }
 
-/// The rows in the opposite order, where they are wanted so.
+/// Reverses the order of the rows if `last_first` is true.
 fn order_rows<T>(rows: &mut FlatRows<T>, last_first: bool)
     ensures { rows.new ≡ in_order last_first rows.old }
 {
@@ -91,7 +90,7 @@ fn order_rows<T>(rows: &mut FlatRows<T>, last_first: bool)
     }
 }
 
-/// The rows with columns and rows exchanged, the columns one after the other.
+/// Returns the rows with columns and rows exchanged: the columns, one after the other.
 fn strip_of<T: BlockSample>(
     alloc: Global,
     rows: &FlatRows<T>,
@@ -117,7 +116,7 @@ fn strip_of<T: BlockSample>(
     Ok(RowOf::new(strip))
 }
 
-/// Adds columns of the rows, as many as there are to store them in, to the samples of a strip.
+/// Adds columns of the rows to the samples of a strip, as many as `columns` has places for.
 fn add_columns<T: BlockSample>(
     strip: &mut Vec<T>,
     columns: &mut [Vec<T>],

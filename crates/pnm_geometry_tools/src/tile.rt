@@ -22,32 +22,33 @@ use pnm_tools::{ImageTool, ToolFault, head_within_limits};
 use std::alloc::{AllocError, Global};
 use std::marker::Model;
 
-/// Lays images side by side: keeps what the result shows of the rows, one after another, and makes the rows of the
-/// result of these.
+/// Lays copies of an image side by side: keeps what the result shows of the rows, one after another, and makes the rows
+/// of the result from these.
 #[derive(Drop)]
 pub struct Tiler {
     width: u32,
     height: u32,
-    /// That of the image, once it has ended, with the columns of these rows.
+    /// The shape of the image, once the image has ended, with the number of columns of the kept rows.
     shape: Shape,
     /// What the result shows of the rows that have come.
     rows: KeptRows,
-    /// Rows of the result that are still to be given, 0 until the image has ended.
+    /// The number of rows of the result that are still to be given; 0 until the image has ended.
     left: u32,
 }
 
-/// How many samples a row has of an image of this shape where so many columns are shown at most.
+/// Returns how many samples of a row of an image of this shape are shown, of at most `width` columns.
 fn shown_length(width: u32, shape: Shape) -> usize
     ensures { result ≡ min width shape.width * shape.depth }
 {
     width.min(shape.width) as usize * shape.depth as usize
 }
 
-/// So many rows of the result, from row y on, one after another: so many columns, of rows of an image of this shape.
+/// Returns `count` rows of the result, from row `y` on, one after another. They have `width` columns, and are made from
+/// the kept rows of an image of this shape.
 ///
 /// # Errors
 ///
-/// `Memory`, where there is none for them.
+/// `Memory` if there is no memory for them.
 fn tile_rows(
     alloc: Global,
     width: u32,
@@ -80,7 +81,7 @@ fn tile_rows(
     }
 }
 
-/// So many rows of the result, from row y on, of so many rows that are kept.
+/// Returns `count` rows of the result, from row `y` on, made from `kept` rows.
 fn tile<T: Copy>(
     alloc: Global,
     width: u32,
@@ -108,7 +109,7 @@ fn tile<T: Copy>(
     Ok(tiled)
 }
 
-/// Adds a row side by side up to so many columns.
+/// Adds copies of a row side by side, up to `width` columns.
 fn tile_row<T: Copy>(
     tiled: &mut Vec<T>,
     width: u32,
@@ -124,7 +125,7 @@ fn tile_row<T: Copy>(
     let filled = width as usize * shape.depth as usize;
     let start = tiled.len();
     tiled.extend_from_slice(&row[..filled.min(row.len())])?;
-    // What is there is whole copies, and so is twice of it.
+    // What was added so far is whole copies, and so is twice as much.
     while tiled.len() - start < filled {
         let copied = tiled.len() - start;
         let more = copied.min(filled - copied);
@@ -133,11 +134,11 @@ fn tile_row<T: Copy>(
     Ok(())
 }
 
-/// Adds so many samples again, from one on: a copy moves them at once.
+/// Adds `count` samples again, those from `start` on: one copy moves them all.
 ///
 /// # Errors
 ///
-/// Where there is no memory for them.
+/// If there is no memory for them.
 fn repeat_samples<T: Copy>(tiled: &mut Vec<T>, start: usize, count: usize) -> Result<(), AllocError>
     requires some { 0 < count }
     requires within { start + count ≤ length tiled.old.items }
@@ -152,7 +153,7 @@ fn repeat_samples<T: Copy>(tiled: &mut Vec<T>, start: usize, count: usize) -> Re
     Ok(())
 }
 
-/// So many rows of the result, from row y on, of rows of pixels of one bit that are kept.
+/// Returns `count` rows of the result, from row `y` on, made from kept rows of pixels of one bit.
 fn tile_bits(
     alloc: Global,
     width: u32,
@@ -175,7 +176,8 @@ fn tile_bits(
     }
 }
 
-/// The same of rows of so many pixels, each up to so many, where each image begins at a byte: of their bytes.
+/// Does what `tile_bits` does for rows of `each` pixels, repeated up to `filled` pixels, if each copy begins at a byte:
+/// tiles their bytes.
 fn tile_bytes(
     alloc: Global,
     each: u32,
@@ -205,7 +207,7 @@ fn tile_bytes(
     Ok(BitRows::new(tiled, count as usize, filled as usize))
 }
 
-/// The same where images begin within bytes: a row at a time.
+/// Does what `tile_bytes` does if copies begin within bytes: tiles a row at a time.
 fn tile_pixels(
     alloc: Global,
     each: u32,
@@ -235,7 +237,7 @@ fn tile_pixels(
     Ok(BitRows::new(tiled, count as usize, filled as usize))
 }
 
-/// Adds so many pixels: the first so many of these bytes side by side, the last time a part of them.
+/// Adds `filled` pixels: copies of the first `each` pixels of `bytes` side by side, the last time a part of them.
 fn tile_bit_row(tiled: &mut Bits, filled: u32, bytes: &[u8], each: u32) -> Result<(), AllocError>
     requires some { 0 < each }
     requires row { each ≤ 8 * length bytes.now }
@@ -277,7 +279,7 @@ impl ImageTool for Tiler {
         Ok(tiled)
     }
 
-    /// Keeps what the result shows of the rows, which are answered by none.
+    /// Keeps what the result shows of the rows, and makes none of the result yet.
     fn take(&mut self, alloc: Global, shape: Shape, y: u32, rows: Rows) -> Result<(), ToolFault> {
         if y >= self.height {
             return Ok(());
@@ -316,7 +318,7 @@ impl ImageTool for Tiler {
 }
 
 impl Tiler {
-    /// The tool that fills so many columns and rows, before the first row.
+    /// Returns the tool that fills `width` columns and `height` rows, before the first row.
     pub fn new(alloc: Global, width: u32, height: u32) -> Tiler
         ensures width { result.width ≡ width }
         ensures height { result.height ≡ height }

@@ -1,4 +1,4 @@
-//! `pamflip` where columns and rows are exchanged, from pamflip(1).
+//! `pamflip` for the ways that exchange columns and rows, from pamflip(1).
 
 ghost use Rattle.std.specs.Prelude.{◌≡◌, ◌<◌, ◌++◌, [], true, false, length, OnOk, IfErr};
 ghost use Rattle.pnm_tools.specs.declared.fault.ToolFault.TheVariants.{Memory};
@@ -13,19 +13,19 @@ use pnm_tools::{FlipWay, ImageTool, ToolFault, flipped_head};
 use std::alloc::Global;
 use std::marker::Model;
 
-/// Exchanges columns and rows: keeps the rows of an image, and gives its columns. Where the order of
-/// the rows is reversed, that of the kept rows is once the image has ended; where that of the columns
-/// is, they are made from the last one on.
+/// Exchanges columns and rows: keeps the rows of an image, and gives its columns. If the way reverses the order of the
+/// rows, the kept rows are reversed once the image has ended. If it reverses the order of the columns, they are made
+/// from the last one on.
 #[derive(Drop)]
 pub struct Transposer {
     way: FlipWay,
     depth: u32,
     rows: SampleRows,
-    /// Columns that are made, the next one last.
+    /// The columns that are made and not given yet, the next one last.
     batch: Vec<Samples>,
     /// The first column that isn't made yet.
     next: u32,
-    /// The columns before this one aren't made yet from `next` on; 0 until the image has ended.
+    /// The columns from `next` up to this one, exclusive, aren't made yet; 0 until the image has ended.
     columns: u32,
 }
 
@@ -61,7 +61,7 @@ impl ImageTool for Transposer {
         Ok(transposed)
     }
 
-    /// Keeps the rows, which are answered by none.
+    /// Keeps the rows, and makes none of the result yet.
     fn take(&mut self, alloc: Global, shape: Shape, _y: u32, rows: Rows) -> Result<(), ToolFault> {
         let last_first = self.way.turn().rows_reversed;
         self.rows.add(alloc, last_first, shape, &rows)
@@ -74,7 +74,7 @@ impl ImageTool for Transposer {
         self.columns = shape.width;
     }
 
-    /// Gives the next columns of a batch, or makes one first.
+    /// Gives the next columns of the batch. Makes a batch first if there is none.
     #[inline(never)]
     fn give(&mut self, alloc: Global) -> Result<Option<Rows>, ToolFault> {
         if self.batch.is_empty() && self.next < self.columns {
@@ -110,7 +110,7 @@ impl Transposer {
         }
     }
 
-    /// Gives up all rows and columns.
+    /// Drops all rows and columns.
     fn clear(&mut self, alloc: Global)
         ensures way { self.new.way ≡ self.old.way }
         ensures rows { (self.new.strips ≡ []) × (self.new.rows ≡ []) × (self.new.batch ≡ []) }
@@ -122,7 +122,7 @@ impl Transposer {
         self.batch = Vec::new(alloc);
     }
 
-    /// Makes the first of the columns that are left. The only fault is `Memory`.
+    /// Makes a batch of the first columns that are left. The only fault is `Memory`.
     fn make_first(&mut self, alloc: Global) -> Result<(), ToolFault>
         requires order { (turn_of self.old.way).columns_reversed ≡ false }
         requires left { (self.old.batch ≡ []) × (self.old.next < self.old.columns) }
@@ -141,8 +141,8 @@ impl Transposer {
         Ok(())
     }
 
-    /// Makes the last of the columns that are left, so many that their first is at a multiple of a
-    /// batch's length. The only fault is `Memory`.
+    /// Makes a batch of the last columns that are left. The first of them is at a multiple of a batch's length. The
+    /// only fault is `Memory`.
     fn make_last(&mut self, alloc: Global) -> Result<(), ToolFault>
         requires order { (turn_of self.old.way).columns_reversed ≡ true }
         requires left { (self.old.batch ≡ []) × (self.old.next < self.old.columns) }

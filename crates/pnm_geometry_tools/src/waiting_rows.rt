@@ -13,15 +13,15 @@ use pnm_tools::ToolFault;
 use std::alloc::{AllocError, Global};
 use std::marker::Model;
 
-/// Rows of an image that came together, of which some are still to be enlarged, and how many times.
+/// Rows of an image that came together, some of which are still to be enlarged, and the factors.
 #[derive(Drop)]
 pub(crate) struct WaitingRows {
     across: u32,
     down: u32,
-    /// That of the image.
+    /// The shape of the image.
     shape: Shape,
     rows: Rows,
-    /// The first of them that is still to be enlarged.
+    /// The first row that is still to be enlarged.
     next: u32,
 }
 
@@ -37,15 +37,15 @@ impl Model for WaitingRows {
 }
 
 impl WaitingRows {
-    /// Rows of an image of this shape, each pixel of which is to stand so many times across, and each row so many
-    /// times down, without a copy.
+    /// Takes rows of an image of this shape, without a copy. Each pixel is to be repeated `across` times, and each row
+    /// `down` times.
     pub fn new(across: u32, down: u32, shape: Shape, rows: Rows) -> WaitingRows
         requires lawful { IsExtent across × IsExtent down }
         requires ready { IsEnlarging across shape }
         requires rows { AllByRecursion (IsRowOf shape) rows }
         ensures { result ≡ to_enlarge across down shape rows }
     {
-        // No effect at run time: a proof learns of this that there is a row.
+        // No effect at run time: from this, a proof learns that there is a row.
         let _ = rows.count();
         WaitingRows {
             across,
@@ -56,7 +56,7 @@ impl WaitingRows {
         }
     }
 
-    /// How many times each row is to stand down.
+    /// Returns how many times each row is to be repeated down.
     pub fn down(&self) -> u32
         ensures down { result ≡ self.now.down }
         ensures some { 1 ≤ result }
@@ -64,8 +64,8 @@ impl WaitingRows {
         self.down
     }
 
-    /// How many of the next rows are enlarged at once: as many as make 65,536 bytes of the result, and none where one
-    /// makes more.
+    /// Returns how many of the next rows are enlarged at once: as many as make at most 65,536 bytes of the result, or 0
+    /// if one row makes more.
     pub fn count_together(&self) -> u32
         ensures within { result ≤ length self.now.rows }
         ensures pixels { self.now.shape.width * result < 2 ^ 32 }
@@ -77,8 +77,8 @@ impl WaitingRows {
         (self.rows.count() - self.next).min(most as u32)
     }
 
-    /// So many of the next rows, enlarged, each so many times down, and the rows that wait behind them, if some do. The
-    /// only fault is `Memory`.
+    /// Enlarges the next `count` rows, each `down` times down. Returns them and the rows that wait behind them, if some
+    /// do. The only fault is `Memory`.
     pub fn enlarge_next(
         self,
         alloc: Global,
@@ -102,12 +102,12 @@ impl WaitingRows {
         Ok((enlarged, rest))
     }
 
-    /// So many of the next rows as they are, without a copy where no others came with them, and those behind them, if
-    /// some are left.
+    /// Returns the next `count` rows as they are, without a copy if no others came with them, and the rows behind them,
+    /// if some are left.
     ///
     /// # Errors
     ///
-    /// Where there is no memory for a copy.
+    /// If there is no memory for a copy.
     fn split(self, alloc: Global, count: u32) -> Result<(Rows, Option<WaitingRows>), AllocError>
         requires { (1 ≤ count) × (count ≤ length self.rows) }
         ensures next { IfOk result (λ parts. parts.0 ≡ take count self.rows) }

@@ -1,5 +1,5 @@
-//! What no clause says: the limits in figures, printed names, that calls can succeed, devices that fail, and what is
-//! answered where memory runs out.
+//! What no clause says: the limits in figures, printed names, that calls can succeed, devices that fail, and what calls
+//! return when memory runs out.
 
 use std::fmt;
 use std::process::Abort;
@@ -17,8 +17,8 @@ mod rows_memory;
 mod texts;
 mod tools;
 
-/// Stops the test where it isn't so, and shows what is given, what is wanted and where. An assertion that shows its
-/// values takes long to prove: this one stands for those of many tests.
+/// Stops the test if `is_so` is false, and shows what is given, what is wanted and where. An assertion that shows its
+/// values takes long to prove: this one serves many tests.
 fn holds<G: fmt::Debug, W: fmt::Debug, P: fmt::Debug>(
     rt: &impl Abort,
     is_so: bool,
@@ -29,7 +29,7 @@ fn holds<G: fmt::Debug, W: fmt::Debug, P: fmt::Debug>(
     assert!(rt; is_so, "{given:?} in place of {want:?} at {place:?}");
 }
 
-/// Stops the test where the two aren't the same, and shows them.
+/// Stops the test if the two aren't the same, and shows them.
 fn same<T: PartialEq + fmt::Debug, P: fmt::Debug>(rt: &impl Abort, given: &T, want: &T, place: &P) {
     holds(rt, given == want, given, want, place);
 }

@@ -8,12 +8,12 @@ use pnm_tools::{ImageTool, ToolFault};
 use std::alloc::Global;
 use std::mem;
 
-/// A tool that makes of each row at most one row of the result, and the rows that it has made.
+/// A tool that makes at most one row of the result from each row, and the rows that it has made.
 #[derive(Drop)]
 pub struct ByRow<T: RowTool> {
     /// The tool.
     pub tool: T,
-    /// The rows of the result that are given next; `None` where none are due.
+    /// The rows of the result that are given next; `None` if none are due.
     pub made: Option<Rows>,
 }
 

@@ -1,4 +1,4 @@
-//! Rows each sample of which is changed by itself, in whichever width they are held.
+//! Changes rows sample by sample, in whichever width they are held.
 
 ghost use Rattle.std.specs.Prelude.{ℕ, ◌≡◌, ◌≤◌, ◌<◌, All, IfOk, map, length, slice_index};
 ghost use Rattle.std.specs.List.{concat};
@@ -13,15 +13,15 @@ use pnm_image::RowVec;
 use pnm_samples::BitRows;
 use std::alloc::{AllocError, Global};
 
-/// The greatest sample that is a byte.
+/// The greatest sample that fits a byte.
 const GREATEST_BYTE: u32 = 255;
 
-/// What becomes of samples. It is copied into the loops over them.
+/// What becomes of samples. It is copied into the loops over samples.
 pub(crate) trait Change: Copy {
-    /// It says what becomes of this sample.
+    /// The change is defined for this sample.
     ghost takes: { Self → ℕ → Type 0 };
 
-    /// What becomes of it.
+    /// What becomes of the sample.
     ghost changed: { Self → ℕ → ℕ };
 
     /// What becomes of a sample.
@@ -30,7 +30,7 @@ pub(crate) trait Change: Copy {
         ensures { result ≡ changed self sample };
 }
 
-/// What a tool makes of samples of an image of this maxval, one by one.
+/// What a tool makes of samples of an image of this maxval, computed one by one.
 #[derive(Clone, Copy)]
 pub(crate) struct Computed<T: SampleTool> {
     pub(crate) tool: T,
@@ -49,7 +49,7 @@ impl<T: SampleTool> Change for Computed<T> {
     }
 }
 
-/// What stands in a table, by the number of the sample.
+/// What a table holds for each sample, by the sample's number.
 #[derive(Clone, Copy)]
 pub(crate) struct LookedUp<'a> {
     pub(crate) table: &'a [u16],
@@ -66,13 +66,13 @@ impl Change for LookedUp<'_> {
     }
 }
 
-/// Rows with each sample changed, as bytes where no sample is above 255 then, and else as words; in place where they
-/// are held so. Of pixels of one bit each it looks what becomes of black and of white: they stay, are exchanged, or
-/// become bytes first.
+/// Changes each sample of rows whose samples are at most `most` afterwards. Rows become bytes if `most` is at most 255,
+/// and words otherwise; those that are held that way already are changed in place. Bits of an image of maxval 1 stay
+/// bits if black and white stay or are exchanged; all other bits become bytes first.
 ///
 /// # Errors
 ///
-/// Where there is no memory for samples of another width.
+/// If there is no memory for samples of another width.
 pub(crate) fn change_rows<C: Change>(
     alloc: Global,
     change: C,
@@ -97,11 +97,11 @@ pub(crate) fn change_rows<C: Change>(
     }
 }
 
-/// Rows of pixels of one bit each, of an image of maxval 1.
+/// Changes rows of pixels of one bit each, of an image of maxval 1.
 ///
 /// # Errors
 ///
-/// Where there is no memory for samples of another width.
+/// If there is no memory for samples of another width.
 fn change_bits<C: Change>(
     alloc: Global,
     change: C,
@@ -128,11 +128,11 @@ fn change_bits<C: Change>(
     }
 }
 
-/// Samples that are held as bytes.
+/// Changes samples that are held as bytes.
 ///
 /// # Errors
 ///
-/// Where there is no memory for words.
+/// If there is no memory for words.
 fn change_bytes<C: Change>(
     alloc: Global,
     change: C,
@@ -155,11 +155,11 @@ fn change_bytes<C: Change>(
     Ok(RowVec::Bytes(bytes))
 }
 
-/// Samples that are held as words.
+/// Changes samples that are held as words.
 ///
 /// # Errors
 ///
-/// Where there is no memory for bytes.
+/// If there is no memory for bytes.
 fn change_words<C: Change>(
     alloc: Global,
     change: C,
@@ -195,11 +195,11 @@ fn change_each<C: Change, W: Width>(change: C, maxval: u32, most: u32, samples: 
     }
 }
 
-/// The samples, each changed, in another width.
+/// Returns the samples, each changed, in another width.
 ///
 /// # Errors
 ///
-/// Where there is no memory for them.
+/// If there is no memory for them.
 fn change_into<C: Change, W: Width, N: Width>(
     alloc: Global,
     change: C,

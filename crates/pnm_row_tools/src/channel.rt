@@ -15,11 +15,12 @@ use pnm_image::{Head, Kind, RowSlice, RowVec, Rows, Shape};
 use pnm_tools::{Planes, ToolFault, head_within_limits};
 use std::alloc::{AllocError, Global};
 
-/// These planes of rows of an image of this shape, of all pixels at once, held as the rows are, but bits as bytes.
+/// Picks planes of rows of an image of this shape, for all pixels at once. The result is held as the rows are, but bits
+/// become bytes.
 ///
 /// # Errors
 ///
-/// Where there is no memory for them.
+/// If there is no memory for them.
 fn pick_planes(
     alloc: Global,
     planes: &Planes,
@@ -51,11 +52,11 @@ fn pick_planes(
     Ok(Rows::new(held, shape.maxval, count, width * numbers.len()))
 }
 
-/// The samples of these planes of so many pixels of an image of this shape.
+/// Returns the samples of the planes `numbers` of `pixels` pixels of an image of this shape.
 ///
 /// # Errors
 ///
-/// Where there is no memory for them.
+/// If there is no memory for them.
 fn pick<T: Copy + Default>(
     alloc: Global,
     numbers: &[u16],
@@ -89,7 +90,7 @@ fn pick<T: Copy + Default>(
     Ok(picked)
 }
 
-/// Fills the buffer with the samples of this plane of as many pixels, without a loop over a pixel's planes.
+/// Fills the buffer with the samples of plane `number`, one for each pixel, without a loop over a pixel's planes.
 fn pick_plane<T: Copy>(buffer: &mut [T], number: usize, samples: &[T], depth: usize)
     requires number { number < depth }
     requires pixels { length samples.now ≡ length buffer.old * depth }
@@ -102,7 +103,7 @@ fn pick_plane<T: Copy>(buffer: &mut [T], number: usize, samples: &[T], depth: us
     }
 }
 
-/// Fills the buffer with the samples of these planes of the pixel whose samples begin here.
+/// Fills the buffer with the samples of the planes `numbers` of the pixel whose samples begin at `first`.
 fn pick_pixel<T: Copy>(buffer: &mut [T], numbers: &[u16], row: &[T], first: usize)
     requires buffer { length buffer.old ≡ length numbers.now }
     requires numbers { All (λ number. first + number < length row.now) numbers.now }
@@ -137,11 +138,12 @@ impl RowTool for Planes {
     }
 }
 
-/// The head of the image of these planes, as pamchannel(1) has it: PAM of as many planes, with their tuple type.
+/// Returns the head of the image of these planes, as pamchannel(1) has it: PAM with one plane for each number, and with
+/// the tuple type of `planes`.
 ///
 /// # Errors
 ///
-/// `ChannelOutside` where the image lacks one of the planes; then as `head_within_limits`.
+/// `ChannelOutside` if the image lacks one of the planes; otherwise as `head_within_limits`.
 pub fn picked_head(alloc: Global, planes: &Planes, head: &Head) -> Result<Head, ToolFault>
     requires { IsLawfulPick planes.now }
     ensures made { IfOk result (λ made. result_head (Channel planes.now) head.now ≡ Ok made) }
@@ -162,7 +164,7 @@ pub fn picked_head(alloc: Global, planes: &Planes, head: &Head) -> Result<Head, 
     head_within_limits(alloc, picked, planes.tuple_type())
 }
 
-/// Whether each plane lies below the depth.
+/// Returns true if the number of each plane is below the depth.
 fn are_below(numbers: &[u16], depth: u32) -> bool
     ensures { IsTrue result ↔ All (λ number. number < depth) numbers.now }
 {

@@ -16,20 +16,21 @@ use pnm_image::{Head, RowVec, Rows, Shape};
 use pnm_tools::{CutBox, Span, ToolFault, head_within_limits};
 use std::alloc::Global;
 
-/// Of each of some rows that follow one another the samples that are kept.
+/// The samples to keep of rows that follow one another.
 #[derive(Clone, Copy)]
 struct Parts {
-    /// The first of these rows, and how many they are.
+    /// The first of these rows, and the number of rows.
     top: usize,
     count: usize,
-    /// The samples of a row.
+    /// The number of samples in a row.
     row_length: usize,
-    /// The first sample of a row that is kept, and how many are.
+    /// The first sample to keep of a row, and how many to keep.
     first: usize,
     kept: usize,
 }
 
-/// These columns of these of the rows of an image of this shape, moved to the front in place.
+/// Keeps the columns that `columns` spans, of those of the rows that `among` spans: moves their samples to the front in
+/// place. The rows are those of an image of this shape.
 fn keep_columns_of_rows(columns: Span, among: Span, shape: Shape, rows: Rows) -> Rows
     requires columns { (columns.first ≤ columns.last) × (columns.last < shape.width) }
     requires among { (among.first ≤ among.last) × (among.last < length rows) }
@@ -59,7 +60,7 @@ fn keep_columns_of_rows(columns: Span, among: Span, shape: Shape, rows: Rows) ->
     Rows::new(kept, shape.maxval, kept_rows, parts.kept)
 }
 
-/// What is kept of these of the rows, where these columns are.
+/// Returns the samples to keep of the rows that `among` spans: those of the columns that `columns` spans.
 fn parts_kept(columns: Span, among: Span, depth: usize, row_length: usize) -> Parts
     requires columns { (columns.first ≤ columns.last) × ((columns.last + 1) * depth < 2 ^ 64) }
     requires among { among.first ≤ among.last }
@@ -74,7 +75,7 @@ fn parts_kept(columns: Span, among: Span, depth: usize, row_length: usize) -> Pa
     }
 }
 
-/// Keeps these parts of rows, those of the first row first, in place.
+/// Keeps these parts of the rows, that of the first row first, in place.
 fn keep_of_each<T: Copy>(samples: &mut Vec<T>, parts: Parts)
     requires rows { parts.top * parts.row_length + parts.count * parts.row_length
         ≤ length samples.old.items }
@@ -85,7 +86,7 @@ fn keep_of_each<T: Copy>(samples: &mut Vec<T>, parts: Parts)
     samples.truncate(parts.count * parts.kept);
 }
 
-/// Moves these parts of rows to the front, those of the first row first.
+/// Moves these parts of the rows to the front, that of the first row first.
 #[inline(always)]
 fn move_parts<T: Copy>(samples: &mut [T], parts: Parts)
     requires rows { parts.top * parts.row_length + parts.count * parts.row_length ≤ length samples.old }
@@ -99,11 +100,12 @@ fn move_parts<T: Copy>(samples: &mut [T], parts: Parts)
     }
 }
 
-/// The fewest samples that are copied at once if more of them overlap the place that they go to: one after another
-/// takes less time than copies of fewer.
+/// The fewest samples that are copied at once if samples overlap the place that they go to. Copying samples one after
+/// another takes less time than copying fewer at once.
 const LEAST_COPY: usize = 16;
 
-/// Copies so many samples to a place that isn't behind them, unless they are there.
+/// Copies `count` samples from `from` to `to`, which isn't behind `from`. Copies nothing if the two places are the
+/// same.
 #[inline]
 fn copy_down<T: Copy>(samples: &mut [T], from: usize, to: usize, count: usize)
     requires down { to ≤ from }
@@ -123,8 +125,8 @@ fn copy_down<T: Copy>(samples: &mut [T], from: usize, to: usize, count: usize)
     }
 }
 
-/// Copies so many samples to a place before them that they overlap: as many at once as the two places lie apart, which
-/// takes a part of the time that one sample after another does.
+/// Copies `count` samples to a place before them that they overlap: as many at once as the two places lie apart. This
+/// takes a fraction of the time that it takes to copy one sample after another.
 fn copy_by_gaps<T: Copy>(samples: &mut [T], from: usize, to: usize, count: usize)
     requires down { to < from }
     requires within { from + count ≤ length samples.old }
@@ -140,7 +142,7 @@ fn copy_by_gaps<T: Copy>(samples: &mut [T], from: usize, to: usize, count: usize
     copy_apart(samples, from + done, to + done, count - done);
 }
 
-/// Copies so many samples to a place before them that they don't overlap.
+/// Copies `count` samples to a place before them that they don't overlap.
 #[inline]
 fn copy_apart<T: Copy>(samples: &mut [T], from: usize, to: usize, count: usize)
     requires apart { to + count ≤ from }
@@ -155,7 +157,7 @@ fn copy_apart<T: Copy>(samples: &mut [T], from: usize, to: usize, count: usize)
 #[derive(Clone, Copy)]
 pub struct Cutter {
     cut: CutBox,
-    /// The columns and the rows that are kept of the image.
+    /// The columns and the rows to keep of the image.
     columns: Span,
     rows: Span,
 }
@@ -190,7 +192,7 @@ impl RowTool for Cutter {
         head_within_limits(alloc, kept, head.tuple_type())
     }
 
-    /// Drops the rows that aren't kept, and moves the columns that are kept of the others to the front.
+    /// Drops the rows that aren't kept, and moves the kept columns of the others to the front.
     fn rows(
         &self,
         _alloc: Global,
@@ -209,7 +211,7 @@ impl RowTool for Cutter {
 impl Cutter {
     ghost use Rattle.pnm_row_tools.specs.Keeping.{cut_of};
 
-    /// The tool that keeps this rectangle, before the first image.
+    /// Returns the tool that keeps this rectangle, before the first image.
     pub fn new(cut: CutBox) -> Cutter
         ensures { cut_of result ≡ cut }
     {
@@ -222,7 +224,7 @@ impl Cutter {
     }
 }
 
-/// The columns that are kept of an image of this shape.
+/// Returns the columns to keep of an image of this shape, if they lie inside it.
 fn columns_kept(cut: &CutBox, shape: Shape) -> Option<Span>
     requires { IsLawfulBox cut.now }
     ensures { result ≡ columns_kept cut.now shape }
@@ -230,7 +232,7 @@ fn columns_kept(cut: &CutBox, shape: Shape) -> Option<Span>
     span_of(shape.width, cut.left, cut.right, cut.width)
 }
 
-/// The rows that are kept of an image of this shape.
+/// Returns the rows to keep of an image of this shape, if they lie inside it.
 fn rows_kept(cut: &CutBox, shape: Shape) -> Option<Span>
     requires { IsLawfulBox cut.now }
     ensures { result ≡ rows_kept cut.now shape }
@@ -238,7 +240,8 @@ fn rows_kept(cut: &CutBox, shape: Shape) -> Option<Span>
     span_of(shape.height, cut.top, cut.bottom, cut.height)
 }
 
-/// Which of so many rows, from row y on, are kept, the first of them counted as 0; none where none is.
+/// Returns which of `count` rows, from row `y` on, are kept, counted from 0 at row `y`. Returns `None` if none of them
+/// is.
 fn kept_among(kept: Span, y: u32, count: u32) -> Option<Span>
     requires kept { kept.first ≤ kept.last }
     requires some { 1 ≤ count }
@@ -258,7 +261,7 @@ fn kept_among(kept: Span, y: u32, count: u32) -> Option<Span>
     })
 }
 
-/// How many columns or rows these are.
+/// Returns the number of columns or rows in the span.
 fn span_count(span: Span) -> u32
     requires { (span.first ≤ span.last) × (span.last < MAX_SIDE) }
     ensures { result ≡ span_count span }
@@ -266,7 +269,7 @@ fn span_count(span: Span) -> u32
     span.last - span.first + 1
 }
 
-/// What is kept of so many columns or rows, where it lies among them.
+/// Returns what is kept of `count` columns or rows, if it lies among them.
 fn span_of(count: u32, start: Option<i32>, end: Option<i32>, size: Option<u32>) -> Option<Span>
     requires { IsLawfulAxis start end size }
     ensures { result ≡ span_of count start end size }
@@ -306,7 +309,7 @@ fn last_kept(count: u32, start: Option<i32>, end: Option<i32>, size: Option<u32>
     }
 }
 
-/// A column or a row by its number.
+/// Returns a column or a row by its number from the start. A negative `edge` counts from the end.
 fn edge_of(count: u32, edge: i32) -> i64
     ensures { result ≡ edge_of count edge }
 {

@@ -29,7 +29,7 @@ impl SampleTool for Rescaler {
 
     ghost rule = { λ r. rescaled_by r.maxval };
 
-    /// A division.
+    /// Each sample costs a division.
     const IS_COSTLY: bool = true;
 
     ghost changes = { λ r. changes_samples (depth_is_samplewise r.maxval) };
@@ -42,7 +42,7 @@ impl SampleTool for Rescaler {
         self.maxval
     }
 
-    /// The sample nearest to the same share of the new maxval, halves up.
+    /// Returns the sample nearest to the same share of the new maxval. Halves are rounded up.
     #[inline(always)]
     fn sample(self, maxval: u32, sample: u16) -> u16 {
         let (new, old, sample) = (u64::from(self.maxval), u64::from(maxval), u64::from(sample));
@@ -50,8 +50,8 @@ impl SampleTool for Rescaler {
     }
 }
 
-/// The head of the image with this maxval, as pamdepth(1) has it: bits are gray, and black and white is grayscale, at
-/// any maxval but 1.
+/// Returns the head of the image with this maxval, as pamdepth(1) has it. At any maxval but 1, bits become gray
+/// samples, and black and white becomes grayscale.
 ///
 /// # Errors
 ///
@@ -71,7 +71,7 @@ pub fn rescaled_head(alloc: Global, maxval: u32, head: &Head) -> Result<Head, To
     head_within_limits(alloc, rescaled, type_at(maxval, head.tuple_type()))
 }
 
-/// Bits are gray samples at any maxval but 1.
+/// Returns the kind at this maxval: bits become gray samples at any maxval but 1.
 fn kind_at(maxval: u32, kind: Kind) -> Kind
     ensures { result ≡ kind_at maxval kind }
 {
@@ -81,7 +81,7 @@ fn kind_at(maxval: u32, kind: Kind) -> Kind
     }
 }
 
-/// Black and white is grayscale at any maxval but 1.
+/// Returns the tuple type at this maxval: black and white becomes grayscale at any maxval but 1.
 fn type_at(maxval: u32, tuple_type: &[u8]) -> &[u8]
     ensures { result.now ≡ type_at maxval tuple_type.now }
 {

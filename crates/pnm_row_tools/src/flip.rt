@@ -1,5 +1,5 @@
-//! `pamflip` where rows stay rows, from pamflip(1). Each way is a rule: the order of the columns is reversed or not,
-//! and that of the rows.
+//! `pamflip` for the ways by which rows stay rows, from pamflip(1). Each way is a rule: it may reverse the order of the
+//! columns and that of the rows.
 
 ghost use Rattle.std.specs.Prelude.{◌≡◌, ◌≤◌, ◌*◌, ◌⊎◌, All, if◌then◌else◌, length, map, reverse, false, [], None};
 ghost use Rattle.std.specs.Prelude.{OnOk, IfOk, IfErr, Ok, Err};
@@ -22,8 +22,8 @@ use pnm_tools::{FlipWay, ImageTool, ToolFault, Turn, flipped_head};
 use std::alloc::{AllocError, Global};
 use std::marker::Model;
 
-/// So many pixels, or rows, of so many samples each, the last one first: all samples change places, and then those of
-/// each pixel do again.
+/// Reverses the order of `pixels` pixels, or rows, of `size` samples each: reverses all samples, and then those of each
+/// pixel again.
 fn reverse_pixels<T: Copy>(samples: &mut [T], pixels: usize, size: usize)
     requires size { 1 ≤ size }
     requires pixels { length samples.old ≡ pixels * size }
@@ -40,7 +40,7 @@ fn reverse_pixels<T: Copy>(samples: &mut [T], pixels: usize, size: usize)
     }
 }
 
-/// So many pixels of three samples, the last one first, without a loop over a pixel's samples.
+/// Reverses the order of `pixels` pixels of three samples, without a loop over a pixel's samples.
 fn reverse_colors<T: Copy>(samples: &mut [T], pixels: usize)
     requires { length samples.old ≡ pixels * 3 }
     ensures { samples.new ≡ last_first pixels 3 samples.old }
@@ -52,7 +52,7 @@ fn reverse_colors<T: Copy>(samples: &mut [T], pixels: usize)
     }
 }
 
-/// Three samples, the last one first.
+/// Reverses the order of three samples.
 #[inline]
 fn reverse_three<T: Copy>(samples: &mut [T])
     requires { length samples.old ≡ 3 }
@@ -63,12 +63,12 @@ fn reverse_three<T: Copy>(samples: &mut [T])
     samples[2] = first;
 }
 
-/// So many rows of an image of this shape, each the last pixel first, changed in place; bits of several planes become
+/// Reverses the pixels of each of `count` rows of an image of this shape, in place. Bits of several planes become
 /// bytes.
 ///
 /// # Errors
 ///
-/// Where there is no memory for the bytes.
+/// If there is no memory for the bytes.
 fn mirror_rows(alloc: Global, shape: Shape, count: u32, rows: RowVec) -> Result<RowVec, AllocError>
     requires limits { IsWithinLimits shape }
     requires rows { AreRows count (row_length shape) rows }
@@ -96,7 +96,7 @@ fn mirror_rows(alloc: Global, shape: Shape, count: u32, rows: RowVec) -> Result<
     }
 }
 
-/// So many rows, each the last pixel first.
+/// Reverses the pixels of each of `count` rows.
 fn reverse_each<T: Copy>(samples: &mut [T], shape: Shape, count: usize)
     requires limits { IsWithinLimits shape }
     requires rows { length samples.old ≡ count * row_length shape }
@@ -110,7 +110,7 @@ fn reverse_each<T: Copy>(samples: &mut [T], shape: Shape, count: usize)
     }
 }
 
-/// So many rows of so many samples each, the last row first, in place.
+/// Reverses the order of `count` rows of `each` samples, in place.
 fn reverse_order(rows: RowVec, count: usize, each: usize) -> RowVec
     requires { AreRows count each rows }
     ensures { HoldsRows count each result (reverse (row_lists count each rows)) }
@@ -131,12 +131,12 @@ fn reverse_order(rows: RowVec, count: usize, each: usize) -> RowVec
     }
 }
 
-/// So many rows of an image of this shape, the last row first, each the last pixel first: all pixels are one long row
-/// then; bits of several planes become bytes.
+/// Reverses the order of `count` rows of an image of this shape, and the pixels of each row: all pixels are reversed as
+/// one long row. Bits of several planes become bytes.
 ///
 /// # Errors
 ///
-/// Where there is no memory for the bytes.
+/// If there is no memory for the bytes.
 fn turn_round(alloc: Global, shape: Shape, count: u32, rows: RowVec) -> Result<RowVec, AllocError>
     requires limits { IsWithinLimits shape }
     requires rows { AreRows count (row_length shape) rows }
@@ -165,11 +165,11 @@ fn turn_round(alloc: Global, shape: Shape, count: u32, rows: RowVec) -> Result<R
     }
 }
 
-/// These rows of an image of this shape, the last one first, each the last pixel first or as it is.
+/// Reverses the order of rows of an image of this shape, and the pixels of each row if `turn` reverses the columns.
 ///
 /// # Errors
 ///
-/// Where there is no memory for bits that become bytes.
+/// If there is no memory for bits that become bytes.
 fn turn_rows(alloc: Global, turn: Turn, shape: Shape, rows: Rows) -> Result<Rows, AllocError>
     requires limits { IsWithinLimits shape }
     requires rows { AllByRecursion (IsRowOf shape) rows }
@@ -185,8 +185,7 @@ fn turn_rows(alloc: Global, turn: Turn, shape: Shape, rows: Rows) -> Result<Rows
     }
 }
 
-/// Passes the rows of images on, the last pixel first or as they are: any way that leaves rows in their
-/// places.
+/// Passes the rows of images on, with their pixels reversed or as they are: any way that leaves rows in their places.
 #[derive(Drop)]
 pub struct RowFlipper {
     way: FlipWay,
@@ -242,13 +241,13 @@ impl RowFlipper {
     }
 }
 
-/// Reverses the order of rows: keeps those of an image in the blocks in which they come, and gives the last one first,
-/// each the last pixel first or as it is.
+/// Reverses the order of rows: keeps the rows of an image in the blocks in which they come, and gives the last row
+/// first, each with its pixels reversed or as it is.
 #[derive(Drop)]
 pub struct RowReverser {
     way: FlipWay,
     blocks: Vec<Rows>,
-    /// The image's shape once it has ended, and its rows are given.
+    /// The image's shape, once the image has ended and the tool gives its rows.
     ended: Option<Shape>,
 }
 
@@ -278,7 +277,7 @@ impl ImageTool for RowReverser {
         Ok(reversed)
     }
 
-    /// Keeps the rows, which are answered by none.
+    /// Keeps the rows, and makes none of the result yet.
     fn take(
         &mut self,
         _alloc: Global,

@@ -5,7 +5,7 @@ use pnm_image::Head;
 use pnm_tools::ToolFault;
 use std::alloc::Global;
 
-/// Inverts images: takes each sample from the maxval.
+/// Inverts images: subtracts each sample from the maxval.
 #[derive(Clone, Copy)]
 pub struct Inverter;
 

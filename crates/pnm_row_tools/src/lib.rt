@@ -1,5 +1,5 @@
-//! Tools at work whose results have the rows of the image, each made of one row by itself: pnminvert(1), pamcut(1),
-//! pamdepth(1), pamchannel(1), and pamflip(1) where rows stay rows.
+//! Tools at work that make each row of the result from one row of the image: pnminvert(1), pamcut(1), pamdepth(1),
+//! pamchannel(1), and pamflip(1) if rows stay rows.
 #![tactic(auto)]
 
 mod by_row;

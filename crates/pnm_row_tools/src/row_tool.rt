@@ -1,5 +1,4 @@
-//! What a tool is that makes of each row at most one row of the result, and keeps none: its head rule
-//! and its row rule.
+//! A tool that makes at most one row of the result from each row, and keeps no row: its head rule and its row rule.
 
 ghost use Rattle.std.specs.Prelude.{ℕ, ◌≡◌, ◌+◌, ◌≤◌, ◌⊎◌, List, [], length, OnOk, IfOk, IfErr, Ok, Err};
 ghost use Rattle.std.specs.List.{AllByRecursion};
@@ -14,7 +13,7 @@ use pnm_image::{Head, Rows, Shape};
 use pnm_tools::ToolFault;
 use std::alloc::Global;
 
-/// The head rule and the row rule of a tool. Rows come together, and a row by itself is one of them.
+/// The head rule and the row rule of a tool. Rows come together; a row by itself comes as `Rows` of one.
 pub trait RowTool {
     /// Which tool it is.
     ghost tool: { Self → ToolValue };
@@ -22,8 +21,8 @@ pub trait RowTool {
     /// It is ready for the rows of an image of this shape.
     ghost ready: { Self → ShapeValue → Type 0 };
 
-    /// The head of the result of an image with this head, or the refusal. Then it is ready for the
-    /// image's rows.
+    /// Returns the head of the result of an image with this head, or the refusal. After a head, the tool is ready for
+    /// the image's rows.
     fn begin(&mut self, alloc: Global, head: &Head) -> Result<Head, ToolFault>
         requires { IsLawfulTool (tool self.old) }
         ensures same { tool self.new ≡ tool self.old }
@@ -32,11 +31,12 @@ pub trait RowTool {
         ensures refused { IfErr result (λ fault. (result_head (tool self.old) head.now ≡ Err fault)
             ⊎ ((fault ≡ Memory) × TakesHead (tool self.old) head.now)) };
 
-    /// The rows of the result that rows of an image of this shape make, from row `y` on, if they make some.
+    /// Returns the rows of the result that `rows` make, if they make some. `rows` are those of an image of this shape,
+    /// from row `y` on.
     ///
     /// # Errors
     ///
-    /// `Memory`, where there is no memory for them.
+    /// `Memory` if there is no memory for them.
     fn rows(
         &self,
         alloc: Global,
@@ -50,7 +50,7 @@ pub trait RowTool {
         ensures made { IfOk result (λ made. rows_answer (tool self.now) shape y rows ≡ rows_list made) }
         ensures refused { IfErr result (λ fault. fault ≡ Memory) };
 
-    /// The image's end is answered by no row.
+    /// No row of the result answers the image's end.
     ghost nothing_at_end: { (s : Self) (shape : ShapeValue) (rows : List (List ℕ))
         → ready s shape → end_answer (tool s) shape rows ≡ [] };
 }

@@ -1,4 +1,4 @@
-//! What a tool is that changes each sample by itself: its head rule, and what becomes of a sample.
+//! A tool that changes each sample by itself: its head rule, and what becomes of a sample.
 
 ghost use Rattle.std.specs.Prelude.{ℕ, ◌≡◌, ◌≤◌, ◌⊎◌, IfOk, IfErr, Ok, Err};
 ghost use Rattle.pnm_image.specs.declared.limits.TheConstants.{MAX_MAXVAL};
@@ -12,8 +12,8 @@ use pnm_image::Head;
 use pnm_tools::ToolFault;
 use std::alloc::Global;
 
-/// A tool that changes each sample by itself. It is its options and no more, since it is copied into the loops over
-/// samples.
+/// A tool that changes each sample by itself. It holds its options and nothing else, since it is copied into the loops
+/// over samples.
 pub trait SampleTool: Copy {
     /// Which tool it is.
     ghost tool: { Self → ToolValue };
@@ -21,40 +21,40 @@ pub trait SampleTool: Copy {
     /// What it does to the head and to each sample.
     ghost rule: { Self → SampleRule };
 
-    /// Whether a sample costs so much that they are looked up in a table, in an image that has more samples than the
-    /// table.
+    /// Whether computing a sample costs so much that samples are looked up in a table, in an image that has more
+    /// samples than the table.
     const IS_COSTLY: bool;
 
-    /// The head of the result of an image with this head, or the refusal.
+    /// Returns the head of the result of an image with this head, or the refusal.
     fn head(self, alloc: Global, head: &Head) -> Result<Head, ToolFault>
         requires { IsLawfulTool (tool self) }
         ensures head { IfOk result (λ made. result_head (tool self) head.now ≡ Ok made) }
         ensures refused { IfErr result (λ fault. (result_head (tool self) head.now ≡ Err fault)
             ⊎ ((fault ≡ Memory) × TakesHead (tool self) head.now)) };
 
-    /// The maxval of the result of an image of this maxval.
+    /// Returns the maxval of the result of an image of this maxval.
     fn maxval(self, maxval: u32) -> u32
         requires lawful { IsLawfulTool (tool self) }
         requires maxval { (1 ≤ maxval) × (maxval ≤ MAX_MAXVAL) }
         ensures value { result ≡ (rule self).maxval maxval }
         ensures high { result ≤ MAX_MAXVAL };
 
-    /// What becomes of a sample of an image of this maxval.
+    /// Returns what becomes of a sample of an image of this maxval.
     fn sample(self, maxval: u32, sample: u16) -> u16
         requires lawful { IsLawfulTool (tool self) }
         requires maxval { (1 ≤ maxval) × (maxval ≤ MAX_MAXVAL) }
         requires sample { sample ≤ maxval }
         ensures { result ≡ (rule self).sample maxval sample };
 
-    /// That is all that it does.
+    /// The tool does nothing but follow its rule.
     ghost changes: { (s : Self) → ChangesSamples (tool s) (rule s) };
 }
 
-/// The head of an image, for a tool that leaves it as it is.
+/// Copies the head of an image, for a tool that leaves it as it is.
 ///
 /// # Errors
 ///
-/// `Memory`, where there is none for the tuple type.
+/// `Memory` if there is no memory for the tuple type.
 pub(crate) fn kept_head(head: &Head) -> Result<Head, ToolFault>
     ensures kept { IfOk result (λ made. made ≡ head.now) }
     ensures refused { IfErr result (λ fault. fault ≡ Memory) }

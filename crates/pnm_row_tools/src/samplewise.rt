@@ -15,7 +15,7 @@ use pnm_image::{Head, RowVec, Rows, Shape};
 use pnm_tools::ToolFault;
 use std::alloc::{AllocError, Global};
 
-/// A tool that changes each sample by itself, and a table of what becomes of samples, where it pays.
+/// A tool that changes each sample by itself, and a table of what becomes of samples, if a table pays.
 #[derive(Drop)]
 pub struct Samplewise<T: SampleTool> {
     /// The tool.
@@ -29,7 +29,7 @@ pub struct Samplewise<T: SampleTool> {
 pub enum Table {
     /// No table: a sample costs little, or the image has too few.
     Absent,
-    /// By the number of the sample.
+    /// What becomes of each sample, by the sample's number.
     Words(Vec<u16>),
 }
 
@@ -44,11 +44,11 @@ impl<T: SampleTool> Samplewise<T> {
         }
     }
 
-    /// Rows of an image of this maxval, each sample changed.
+    /// Changes each sample of rows of an image of this maxval.
     ///
     /// # Errors
     ///
-    /// Where there is no memory for samples of another width.
+    /// If there is no memory for samples of another width.
     fn change(
         &self,
         alloc: Global,
@@ -94,7 +94,7 @@ impl<T: SampleTool> RowTool for Samplewise<T> {
         Ok(made)
     }
 
-    /// Changes the rows in place where their samples stay as wide as they are held.
+    /// Changes the rows in place if their samples stay in the width in which they are held.
     fn rows(
         &self,
         alloc: Global,
@@ -109,7 +109,7 @@ impl<T: SampleTool> RowTool for Samplewise<T> {
     }
 }
 
-/// What becomes of each sample from 0 to the maxval.
+/// Returns what becomes of each sample from 0 to the maxval.
 fn words_of<T: SampleTool>(alloc: Global, tool: T, maxval: u32) -> Result<Vec<u16>, AllocError>
     requires lawful { IsLawfulTool (T.tool tool) }
     requires maxval { (1 ≤ maxval) × (maxval ≤ MAX_MAXVAL) }
@@ -122,7 +122,8 @@ fn words_of<T: SampleTool>(alloc: Global, tool: T, maxval: u32) -> Result<Vec<u1
     Ok(words)
 }
 
-/// A table costs a sample for each number up to the maxval; without it each sample of the image costs one.
+/// Returns true if a table pays. A table computes a sample for each number up to the maxval; without a table, each
+/// sample of the image is computed.
 fn is_worth_a_table(shape: Shape) -> bool
     requires { IsWithinLimits shape }
 {

@@ -4,17 +4,17 @@ ghost use Rattle.std.specs.Prelude.{ℕ, ◌≡◌, ◌≤◌};
 
 /// A sample as it is held: a byte or a word.
 pub(crate) trait Width: Copy {
-    /// The number that it is.
+    /// The number that the sample is.
     ghost value: { Self → ℕ };
 
-    /// The greatest number that is held so.
+    /// The greatest number that this width holds.
     ghost greatest: { ℕ };
 
-    /// The number that it is.
+    /// The number that the sample is.
     fn number(self) -> u16
         ensures { result ≡ value self };
 
-    /// The number, so held.
+    /// Returns the number as a sample of this width.
     fn of_number(number: u16) -> Self
         requires { number ≤ greatest }
         ensures { value result ≡ number };

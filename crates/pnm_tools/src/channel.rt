@@ -9,13 +9,13 @@ use pnm_image::limits::MAX_DEPTH;
 use pnm_image::{Head, Kind};
 use std::marker::Model;
 
-/// The most planes that are picked.
+/// The maximum number of planes in a pick.
 const MOST_PLANES: usize = MAX_DEPTH as usize;
 
 /// The greatest number of a plane.
 const LAST_PLANE: u16 = MAX_DEPTH as u16 - 1;
 
-/// The numbers of the planes that are picked, from 0, and the tuple type of what is picked.
+/// The planes to pick, by their numbers from 0, and the tuple type of the result.
 #[derive(Debug, Drop)]
 pub struct Planes {
     numbers: Vec<u16>,
@@ -34,7 +34,7 @@ impl Planes {
     ghost use Rattle.pnm_tools.specs.Channel.{IsLawfulPick, HasPlanes};
     ghost use Rattle.pnm_tools.specs.Tools.{TakesHead, result_head};
 
-    /// These planes, in this order, and this tuple type.
+    /// Creates a pick of the planes with these numbers, in their order, and with this tuple type.
     pub fn new(numbers: Vec<u16>, tuple_type: Vec<u8>) -> Planes
         ensures numbers { result.numbers ≡ numbers.items }
         ensures tuple_type { result.tuple_type ≡ tuple_type.items }
@@ -59,7 +59,7 @@ impl Planes {
         self.tuple_type.as_slice()
     }
 
-    /// Equal planes. The only fault is `Memory`.
+    /// Copies the planes. The only fault is `Memory`.
     pub(crate) fn copy(&self) -> Result<Planes, ToolFault>
         ensures equal { IfOk result (λ planes. planes ≡ self.now) }
         ensures refused { IfErr result (λ fault. fault ≡ Memory) }
@@ -70,7 +70,7 @@ impl Planes {
         })
     }
 
-    /// Whether there are 1 to 256 numbers, each 0 to 255, and the tuple type is one of PAM.
+    /// Returns true if there are 1 to 256 numbers, each from 0 to 255, and the tuple type is one of PAM.
     pub(crate) fn is_lawful(&self) -> bool
         ensures { IsTrue result ↔ IsLawfulPick self.now }
     {

@@ -16,8 +16,8 @@ pub struct Span {
     pub last: u32,
 }
 
-/// Which part of an image is kept: the first and the last column and row, of which negative numbers
-/// count from the end (-1 is the last), or its width and height in place of one of two edges.
+/// The part of an image to keep: its first and last column and row. Negative numbers count from the end: -1 is the
+/// last. A width can replace one of `left` and `right`, and a height one of `top` and `bottom`.
 #[derive(Clone, Copy, Debug, PartialEq, Eq)]
 pub struct CutBox {
     /// The first column.
@@ -28,17 +28,17 @@ pub struct CutBox {
     pub top: Option<i32>,
     /// The last row.
     pub bottom: Option<i32>,
-    /// Columns.
+    /// The number of columns.
     pub width: Option<u32>,
-    /// Rows.
+    /// The number of rows.
     pub height: Option<u32>,
 }
 
 impl CutBox {
     ghost use Rattle.pnm_tools.specs.Cut.{IsLawfulBox};
 
-    /// Whether each edge is from -`MAX_EXTENT` to `MAX_EXTENT`, each size from 1 to it, and no axis has
-    /// two edges and a size.
+    /// Returns true if each edge is from -`MAX_EXTENT` to `MAX_EXTENT`, each size is from 1 to `MAX_EXTENT`, and no
+    /// axis has both edges and a size.
     pub(crate) fn is_lawful(&self) -> bool
         ensures { IsTrue result ↔ IsLawfulBox self.now }
     {

@@ -9,16 +9,16 @@ use thiserror::Error;
 /// Why a tool refused a message or an image. The text of each variant is its name.
 #[derive(Clone, Copy, Debug, PartialEq, Eq, Error)]
 pub enum ToolFault {
-    /// The part that is to be kept lies outside the image.
+    /// The part to keep lies outside the image.
     #[error("CutOutside")]
     CutOutside,
-    /// The image has no plane of a number that was asked for.
+    /// The image lacks one of the planes to pick.
     #[error("ChannelOutside")]
     ChannelOutside,
     /// The result is beyond the limits.
     #[error("TooLarge")]
     TooLarge,
-    /// The message can't come here.
+    /// The message can't come at this place in the stream.
     #[error("OutOfOrder")]
     OutOfOrder,
     /// Memory ran out.

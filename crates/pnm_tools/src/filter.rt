@@ -16,32 +16,41 @@ ghost use Rattle.pnm_tools.specs.Answers.{Answers, AnswersInFull, Judges, RowsMa
 use crate::fault::ToolFault;
 use pnm_image::{Message, Packet, Rows};
 
-/// A tool at work: it takes the messages of images one by one, and rows together, and gives those of their results.
+/// A tool at work: it takes the messages of images, one by one or several rows together, and gives the messages of
+/// their results.
 ///
-/// After each `feed` or `feed_rows` the caller asks by `next` until it answers `None`, or until `gave_all` answers
-/// true. The result's head is given as soon as an image begins, and all that is left of the result
-/// once the image has ended. How early a row inside the image is given is open. The end of the stream
-/// gives the end of the stream, and Stop gives Stop alone; nothing is given after either.
+/// After each `feed` or `feed_rows`, the caller calls `next` until it returns `None`, or until `gave_all` returns true.
+/// The tool gives the result's head as soon as an image begins, and all that is left of the result once the image has
+/// ended. How early it gives a row in between is open. For the end of the stream it gives the end of the stream, and
+/// for Stop it gives Stop alone. It gives nothing after either.
 pub trait Filter {
-    /// The state of this tool, which has accepted these messages and given those.
+    /// The state of a filter for this tool that has accepted the messages of the first list and given those of the
+    /// second.
     ghost at: { Self → ToolValue → List MessageValue → List MessageValue → Type 0 };
 
-    /// `next` has answered `None`, or `gave_all` true, since the last message that was accepted, or
-    /// none was accepted.
+    /// `next` has returned `None`, or `gave_all` true, since the filter last accepted a message, or it has accepted
+    /// none.
     ghost all_given: { Self → Bool };
 
-    /// The fault that there was, if any.
+    /// The fault that stopped the filter, if any.
     ghost stopped: { Self → Option Fault };
 
-    /// The messages that are still to be given, at most.
+    /// The maximum number of messages that are still to be given.
     ghost waiting: { Self → ℕ };
 
-    /// Takes the next message. The first of these faults is answered, for good, and the message is
-    /// dropped: the earlier fault, if there was one; `OutOfOrder` where neither `next` has answered
-    /// `None` nor `gave_all` true since the last message that was accepted, where the message can't
-    /// come at its place in the stream, or where an image of height 0 begins and the tool isn't
-    /// row-wise; `CutOutside` or `ChannelOutside` where the image that begins hasn't the part that is
-    /// asked for; `TooLarge` where its result is beyond the limits; `Memory`.
+    /// Takes the next message.
+    ///
+    /// # Errors
+    ///
+    /// The first of these faults. The filter drops the message, and `feed` and `next` return this fault from then on.
+    ///
+    /// - the earlier fault, if there was one;
+    /// - `OutOfOrder` if neither `next` has returned `None` nor `gave_all` true since the last message that was
+    ///   accepted, if the message can't come at its place in the stream, or if an image of height 0 begins and the tool
+    ///   isn't row-wise;
+    /// - `CutOutside` or `ChannelOutside` if the image that begins lacks the part that the tool picks;
+    /// - `TooLarge` if the result of that image is beyond the limits;
+    /// - `Memory`.
     fn feed(&mut self, message: Message) -> Result<(), ToolFault>
         ensures accepted { OnOk result ((t : ToolValue) (l g : List MessageValue) → at self.old t l g
             → at self.new t (l ++ message ∷ []) g) }
@@ -53,8 +62,8 @@ pub trait Filter {
         ensures stays { (k : Fault) → stopped self.old ≡ Some k → result ≡ Err k };
 
     /// The next message of the results, or rows of them that follow one another, or `None` where all that is owed was
-    /// given. After a fault it is answered for good. The only fault that begins here is `Memory`, and not once the end
-    /// of the stream or Stop was given.
+    /// given. After a fault, it always returns that fault. The only fault that can begin here is `Memory`, and none can
+    /// begin once the end of the stream or Stop was given.
     fn next(&mut self) -> Result<Option<Packet>, ToolFault>
         ensures given { IfOk result
             (λ r. IfSome r (λ p. (t : ToolValue) (l g : List MessageValue) → at self.old t l g
@@ -79,7 +88,7 @@ pub trait Filter {
         ensures stays { (k : Fault) → stopped self.old ≡ Some k → result ≡ Err k };
 
     /// Whether all that is owed was given, as far as a look shows; that is told then, as by a `None`
-    /// of `next`. Where it answers false nothing has changed, and `next` is to be asked.
+    /// of `next`. If it returns false, nothing has changed, and the caller has to call `next`.
     fn gave_all(&mut self) -> bool
         ensures full { result ≡ true → (all_given self.new ≡ true)
             × ((t : ToolValue) (l g : List MessageValue)
@@ -87,12 +96,12 @@ pub trait Filter {
         ensures unknown { result ≡ false → self.new ≡ self.old }
         ensures same { stopped self.new ≡ stopped self.old };
 
-    /// Takes rows of an image that come next, all at once, as it would take each by `feed`. The only fault is `Memory`.
+    /// Takes the next rows of an image together, as `feed` would take each of them. The only fault is `Memory`.
     ///
     /// # Errors
     ///
-    /// The rows themselves, and nothing has changed, where not all of them may come: after a fault, before all was
-    /// given for what was accepted, or where one of them can't come at its place in the stream.
+    /// Returns the rows, and changes nothing, if not all of them may come: after a fault, before the filter has given
+    /// all for what it accepted, or if one of the rows can't come at its place in the stream.
     fn feed_rows(&mut self, rows: Rows) -> Result<Result<(), ToolFault>, Rows>
         ensures accepted { IfOk result (λ fed. OnOk fed
             ((t : ToolValue) (l g : List MessageValue) → at self.old t l g

@@ -1,5 +1,5 @@
-//! `pamflip`: an image flipped or turned, from pamflip(1). Each way is a rule: the order of the columns
-//! is reversed or not, and that of the rows, and then columns and rows are exchanged or not.
+//! `pamflip`: an image flipped or turned, from pamflip(1). Each way is a rule: it may reverse the order of the columns
+//! and that of the rows, and then it may exchange columns and rows.
 
 ghost use Rattle.std.specs.Prelude.{◌≡◌, true, false};
 ghost use Rattle.pnm_tools.specs.Flip.{moves_rows, turn_of};
@@ -23,7 +23,7 @@ pub enum FlipWay {
     Rotate270,
 }
 
-/// A way as a rule, applied in this order.
+/// A way to flip, as a rule: its steps, in the order in which they apply.
 #[derive(Clone, Copy)]
 pub struct Turn {
     /// Whether the order of the columns is reversed.
@@ -35,7 +35,7 @@ pub struct Turn {
 }
 
 impl FlipWay {
-    /// The rule.
+    /// Returns the way as a rule.
     pub fn turn(self) -> Turn
         ensures { result ≡ turn_of self }
     {
@@ -57,7 +57,7 @@ impl FlipWay {
 }
 
 impl Turn {
-    /// Whether rows don't stay in their places.
+    /// Returns true if rows don't stay in their places.
     pub(crate) fn moves_rows(self) -> bool
         ensures { result ≡ moves_rows self }
     {

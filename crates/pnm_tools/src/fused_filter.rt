@@ -22,7 +22,7 @@ use pnm_image::{Message, Packet, Rows};
 pub enum FusedFilter<F> {
     /// It takes messages.
     AtWork(F),
-    /// It refused so, and takes no more.
+    /// It has refused with this fault, and takes no more messages.
     Refused(ToolFault),
 }
 
@@ -37,8 +37,8 @@ impl<F: Filter + Drop> FusedFilter<F> {
         }
     }
 
-    /// Feeds the tool a message. After its refusal the message is dropped.
-    // `feed`, `next` and `gave_all` are inlined: in a stage's loop their values stay in registers then.
+    /// Feeds the tool a message. Drops the message if the tool has refused.
+    // `feed`, `next` and `gave_all` are inlined, so that their values stay in registers in a stage's loop.
     #[inline(always)]
     pub fn feed(&mut self, message: Message)
         ensures { (tool : ToolValue) (l g : List MessageValue) → FilterAt F.at F.all_given F.stopped self.old tool l g
@@ -51,7 +51,8 @@ impl<F: Filter + Drop> FusedFilter<F> {
         }
     }
 
-    /// The next message that the tool gives, or rows that follow one another, until it has given all, or refused.
+    /// Returns the next message that the tool gives, or rows that follow one another. Returns `None` once the tool has
+    /// given all, or has refused.
     #[inline(always)]
     pub fn next(&mut self) -> Option<Packet>
         ensures given { IfSome result (λ p. (tool : ToolValue) (l g : List MessageValue)
@@ -74,7 +75,8 @@ impl<F: Filter + Drop> FusedFilter<F> {
         }
     }
 
-    /// The tool has refused so, and goes. It stands apart, since callers would clear room for a tool on each message.
+    /// Drops the tool, which has refused with this fault. A function of its own, since callers would otherwise clear
+    /// room for a tool on each message.
     #[inline(never)]
     fn refuse(&mut self, fault: ToolFault)
         ensures { self.new ≡ FusedFilter.Refused fault }
@@ -82,7 +84,8 @@ impl<F: Filter + Drop> FusedFilter<F> {
         *self = FusedFilter::Refused(fault);
     }
 
-    /// Whether the tool has given all, or refused, as far as a look shows. Where it answers false `next` tells.
+    /// Returns true if the tool has given all, or has refused, as far as a look shows. If it returns false, call `next`
+    /// to find out.
     #[inline(always)]
     pub fn gave_all(&mut self) -> bool
         ensures full { IsTrue result → (tool : ToolValue) (l g : List MessageValue)
@@ -95,11 +98,11 @@ impl<F: Filter + Drop> FusedFilter<F> {
         }
     }
 
-    /// Feeds the tool rows of an image that come next, all at once, as `feed` would each.
+    /// Feeds the tool the next rows of an image together, as `feed` would feed each of them.
     ///
     /// # Errors
     ///
-    /// The rows themselves, and nothing has changed, where not all of them may come, as after a refusal.
+    /// Returns the rows, and changes nothing, if not all of them may come, as after a refusal.
     pub fn feed_rows(&mut self, rows: Rows) -> Result<(), Rows>
         ensures fed { OnOk result ((tool : ToolValue) (l g : List MessageValue)
             → FilterAt F.at F.all_given F.stopped self.old tool l g

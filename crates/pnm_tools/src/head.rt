@@ -14,12 +14,12 @@ use pnm_image::limits::MAX_MAXVAL;
 use pnm_image::{Head, HeadFault, Shape};
 use std::alloc::Global;
 
-/// The head of a result with these fields, which may have height 0 as the image's has.
+/// Returns the head of a result with these fields. Like the head of an image, it may have height 0.
 ///
 /// # Errors
 ///
-/// `TooLarge` where its width, height, depth or samples a row are beyond the limits of images; else `Memory`, where
-/// there is none for the tuple type.
+/// `TooLarge` if its width, height, depth or number of samples in a row is beyond the limits of images; otherwise
+/// `Memory`, if there is no memory for the tuple type.
 pub fn head_within_limits(alloc: Global, shape: Shape, tuple_type: &[u8]) -> Result<Head, ToolFault>
     requires some { (1 ≤ shape.width) × (1 ≤ shape.depth) }
     requires maxval { (1 ≤ shape.maxval) × (shape.maxval ≤ MAX_MAXVAL) }
@@ -28,7 +28,7 @@ pub fn head_within_limits(alloc: Global, shape: Shape, tuple_type: &[u8]) -> Res
     ensures refused { IfErr result (λ fault. ((fault ≡ TooLarge) × (is_too_large shape ≡ true))
         ⊎ ((fault ≡ Memory) × (is_too_large shape ≡ false))) }
 {
-    // No new head has height 0, but one is changed to it.
+    // `Head::new` makes no head of height 0, so the height is changed afterwards.
     let height = shape.height;
     let shape = Shape {
         height: height.max(1),
@@ -41,11 +41,12 @@ pub fn head_within_limits(alloc: Global, shape: Shape, tuple_type: &[u8]) -> Res
     }
 }
 
-/// The head of the image flipped this way, as pamflip(1) has it: the sizes exchanged where columns and rows are.
+/// Returns the head of the image flipped this way, as pamflip(1) has it: width and height are exchanged if columns and
+/// rows are.
 ///
 /// # Errors
 ///
-/// `OutOfOrder` where the height is 0 and rows don't stay in their places; then as `head_within_limits`.
+/// `OutOfOrder` if the height is 0 and rows don't stay in their places; otherwise as `head_within_limits`.
 pub fn flipped_head(alloc: Global, way: FlipWay, head: &Head) -> Result<Head, ToolFault>
     ensures made { IfOk result (λ made. result_head (Flip way) head.now ≡ Ok made) }
     ensures limits { OnOk result (IsWithinLimits head.now.shape) }

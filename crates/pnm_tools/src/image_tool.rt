@@ -1,5 +1,5 @@
-//! What a tool at work makes of the rows of an image: some rows of the result at once, the rest once
-//! the image has ended. Rows come one by one or together, and are given so.
+//! What a tool at work makes of the rows of an image: some rows of the result at once, the rest once the image has
+//! ended. Rows come, and are given, one by one or together.
 
 ghost use Rattle.std.specs.Prelude.{ℕ, ◌≡◌, ◌++◌, [], ◌⊎◌, List, length, OnOk, IfOk, IfErr};
 ghost use Rattle.std.specs.Prelude.{IfNone, Ok, Err, ◌+◌, ◌≤◌};
@@ -20,7 +20,7 @@ pub trait ImageTool {
     /// Which tool it is.
     ghost tool: { Self → ToolValue };
 
-    /// It is ready for the next row of an image of this shape, of which these rows have come.
+    /// It is ready for the next row of an image of this shape, after these rows.
     ghost ready: { Self → ShapeValue → List (List ℕ) → Type 0 };
 
     /// The rows of the result that it still gives for what has come.
@@ -29,8 +29,8 @@ pub trait ImageTool {
     /// The rows that it keeps.
     ghost kept: { Self → List (List ℕ) };
 
-    /// The head of the result of an image with this head, or the refusal. Then it is ready for the
-    /// image's first row.
+    /// Returns the head of the result of an image with this head, or the refusal. After a head, the tool is ready for
+    /// the image's first row.
     fn begin(&mut self, alloc: Global, head: &Head) -> Result<Head, ToolFault>
         requires { IsLawfulTool (tool self.old) }
         ensures same { tool self.new ≡ tool self.old }
@@ -39,7 +39,7 @@ pub trait ImageTool {
         ensures refused { IfErr result (λ fault. (result_head (tool self.old) head.now ≡ Err fault)
             ⊎ ((fault ≡ Memory) × TakesHead (tool self.old) head.now)) };
 
-    /// Takes rows of an image of this shape, from row `y` on: the rows of the result that answer them are due then. The
+    /// Takes rows of an image of this shape, from row `y` on. The rows of the result that answer them are then due. The
     /// only fault is `Memory`.
     fn take(&mut self, alloc: Global, shape: Shape, y: u32, rows: Rows) -> Result<(), ToolFault>
         requires lawful { IsLawfulTool (tool self.old) }
@@ -51,7 +51,7 @@ pub trait ImageTool {
         ensures due { OnOk result (due self.new ≡ rows_answer (tool self.old) shape y rows) }
         ensures refused { IfErr result (λ fault. fault ≡ Memory) };
 
-    /// The image of this shape has ended.
+    /// Ends the image, which has this shape.
     fn end(&mut self, shape: Shape)
         requires lawful { IsLawfulTool (tool self.old) }
         requires ready { (rows : List (List ℕ)) × (length rows ≡ shape.height) × ready self.old shape rows }
@@ -59,7 +59,7 @@ pub trait ImageTool {
         ensures due { (rows : List (List ℕ)) → length rows ≡ shape.height → ready self.old shape rows
             → due self.new ≡ end_answer (tool self.old) shape rows };
 
-    /// The next rows of the result, if some are due. The only fault is `Memory`.
+    /// Returns the next rows of the result, or `None` if none are due. The only fault is `Memory`.
     fn give(&mut self, alloc: Global) -> Result<Option<Rows>, ToolFault>
         ensures same { tool self.new ≡ tool self.old }
         ensures ready { OnOk result ((shape : ShapeValue) (rows : List (List ℕ))
@@ -68,7 +68,7 @@ pub trait ImageTool {
         ensures all { IfOk result (λ rows. IfNone rows (due self.new ≡ [])) }
         ensures refused { IfErr result (λ fault. fault ≡ Memory) };
 
-    /// Gives up the rows that it keeps.
+    /// Drops the rows that it keeps.
     fn release(&mut self, alloc: Global)
         ensures same { tool self.new ≡ tool self.old }
         ensures kept { kept self.new ≡ [] };

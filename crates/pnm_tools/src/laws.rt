@@ -1,5 +1,5 @@
-//! Laws of tools and of their answers. Each stands over the definitions alone, as the contract of a
-//! function that does nothing.
+//! Laws of tools and of their answers. Each law is about the definitions alone, and is the contract of a function that
+//! does nothing.
 
 ghost use Rattle.pnm_tools.specs.Answers.{FullAnswerIsTheStream};
 ghost use Rattle.pnm_tools.specs.Dealing.{RowWiseToolsCommuteWithDealing, DealtExamplesHold};
@@ -15,42 +15,42 @@ pub fn full_answer_is_the_stream()
     ensures { FullAnswerIsTheStream }
 {}
 
-/// A tool refuses a head as cut outside, as a plane outside or as too large, and never for want of
-/// memory; as out of order exactly where the head has no rows and the tool isn't row-wise.
+/// A tool refuses a head as cut outside, as a plane outside or as too large, but never for want of memory. It refuses a
+/// head as out of order exactly if the head has no rows and the tool isn't row-wise.
 pub fn heads_are_refused_by_name()
     ensures { HeadsAreRefusedByName }
 {}
 
-/// The result of an image is an image, and has rows where the image has.
+/// The result of an image is an image. It has rows if the image has rows.
 pub fn results_are_images()
     ensures { ResultsAreImages }
 {}
 
-/// The result of an image has the head of its tool's rule, and in each column, row and plane the sample
-/// of its tool's formula.
+/// The result of an image has the head that the tool's rule gives and, in each column, row and plane, the sample that
+/// the tool's formula gives.
 pub fn samples_are_by_the_formula()
     ensures { SamplesAreByTheFormula }
 {}
 
-/// Two quarter turns of an image are a half turn, and one counterclockwise and one clockwise give it back, where
-/// the first isn't refused. Each turn is two flips: transposed and then top for bottom, left for right and then
-/// top for bottom, and top for bottom and then transposed.
+/// Two quarter turns of an image are a half turn, and one counterclockwise and one clockwise give the image back, if
+/// the first isn't refused. Each turn is two flips: transposed and then top for bottom, left for right and then top for
+/// bottom, and top for bottom and then transposed.
 pub fn quarter_turns_add_up()
     ensures { QuarterTurnsAddUp }
 {}
 
-/// A rescaled sample is the nearest to the same share of the new maxval, halves up.
+/// A rescaled sample is the one nearest to the same share of the new maxval. Halves are rounded up.
 pub fn rescaled_samples_are_nearest()
     ensures { SamplesAreNearest }
 {}
 
-/// Where no tool of a chain in one thread has refused, a stream is answered by the stream of its
-/// results, and the chain refuses none of its images.
+/// If no tool of a chain in one thread has refused, the chain answers a stream with the stream of its results, and
+/// refuses none of its images.
 pub fn streams_are_answered()
     ensures { StreamsAreAnswered }
 {}
 
-/// The first fault of the tools of a chain, in their order, that a stream has passed is the chain's
+/// Once a stream has passed the tools of a chain, the first of their faults, in the order of the tools, is the chain's
 /// refusal, unless memory ran out.
 pub fn first_fault_is_the_refusal()
     ensures { FirstFaultIsTheRefusal }
@@ -62,9 +62,8 @@ pub fn answers_are_due()
     ensures { AnswersAreDue }
 {}
 
-/// The tools that are called row-wise are those that commute with dealing: what such a tool makes of the
-/// image that a lane sees is what the lane gets of the result, and it refuses the one where it refuses the other,
-/// by the same fault.
+/// The tools that are called row-wise are those that commute with dealing: what such a tool makes of the image that a
+/// lane sees is what the lane gets of the result, and it refuses the one if it refuses the other, with the same fault.
 pub fn row_wise_tools_commute_with_dealing()
     ensures { RowWiseToolsCommuteWithDealing }
 {}

@@ -1,6 +1,6 @@
-//! The tools of a chain: what each of them makes of an image, its options, what a tool at work on rows is, and what a
-//! filter is that does it. They are pnminvert(1), pamcut(1), pamdepth(1), pamchannel(1), pamenlarge(1), pamflip(1) and
-//! pnmtile(1).
+//! The tools of a chain: what each of them makes of an image, its options, and the traits of a tool at work on rows and
+//! of the filter that runs it. They are pnminvert(1), pamcut(1), pamdepth(1), pamchannel(1), pamenlarge(1), pamflip(1)
+//! and pnmtile(1).
 #![tactic(auto)]
 
 mod channel;

@@ -3,13 +3,13 @@
 ghost use Rattle.std.specs.Prelude.{◌↔◌, IsTrue};
 ghost use Rattle.pnm_tools.specs.Limits.{IsExtent};
 
-/// The greatest number of columns or rows that an option of a tool names.
+/// The greatest number of columns or rows that an option of a tool can name.
 pub const MAX_EXTENT: u32 = 16_777_216;
 
-/// The most tools of a chain.
+/// The maximum number of tools in a chain.
 pub const MAX_TOOLS: usize = 64;
 
-/// Whether a factor, or a number of columns or rows, is from 1 to the greatest.
+/// Returns true if `count`, a factor or a number of columns or rows, is from 1 to `MAX_EXTENT`.
 pub(crate) fn is_extent(count: u32) -> bool
     ensures { IsTrue result ↔ IsExtent count }
 {

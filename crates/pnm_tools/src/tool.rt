@@ -24,19 +24,19 @@ pub enum Tool {
     Depth(u32),
     /// `pamchannel`: these planes of the image.
     Channel(Planes),
-    /// `pamenlarge`: each pixel so many times across, and so many times down.
+    /// `pamenlarge`: each pixel repeated by the first factor across and by the second down.
     Enlarge(u32, u32),
     /// `pamflip`: the image flipped this way.
     Flip(FlipWay),
-    /// `pnmtile`: copies of the image side by side that fill so many columns, and so many rows.
+    /// `pnmtile`: copies of the image side by side that fill a width in columns and a height in rows.
     Tile(u32, u32),
 }
 
 impl Tool {
-    /// Whether the options are in their ranges: `Cut` has edges from -`MAX_EXTENT` to
-    /// `MAX_EXTENT` and sizes from 1 to it, but not two edges and a size of one axis; `Depth` has 1 to
-    /// `MAX_MAXVAL`; `Channel` has 1 to `MAX_DEPTH` numbers, each below that, and a tuple type as PAM
-    /// allows it; both numbers of `Enlarge` and of `Tile` are 1 to `MAX_EXTENT`.
+    /// Returns true if the options are in their ranges: `Cut` has edges from -`MAX_EXTENT` to `MAX_EXTENT` and sizes
+    /// from 1 to `MAX_EXTENT`, but not both edges and a size of one axis; `Depth` has 1 to `MAX_MAXVAL`; `Channel` has
+    /// 1 to `MAX_DEPTH` numbers, each below `MAX_DEPTH`, and a tuple type that PAM allows; both numbers of `Enlarge`
+    /// and of `Tile` are from 1 to `MAX_EXTENT`.
     pub fn is_lawful(&self) -> bool
         ensures { IsTrue result ↔ IsLawfulTool self.now }
     {
@@ -51,7 +51,7 @@ impl Tool {
         }
     }
 
-    /// An equal tool. The only fault is `Memory`.
+    /// Copies the tool. The only fault is `Memory`.
     pub fn copy(&self, _alloc: Global) -> Result<Tool, ToolFault>
         ensures equal { IfOk result (λ tool. tool ≡ self.now) }
         ensures refused { IfErr result (λ fault. fault ≡ Memory) }
@@ -67,9 +67,9 @@ impl Tool {
         })
     }
 
-    /// Whether the rows of an image may be dealt to several of this tool, each of which sees an image
-    /// of its own: `Invert`, `Depth`, `Channel`, `Enlarge` by 1 down, and `Flip` where rows stay in
-    /// their places, but no other.
+    /// Returns true if the rows of an image may be dealt to several copies of this tool, each of which sees an image of
+    /// its own. That is so for `Invert`, `Depth`, `Channel`, `Enlarge` by 1 down, and `Flip` if rows stay in their
+    /// places, and for no other tool.
     pub fn is_row_wise(&self) -> bool
         ensures { result ≡ is_row_wise self.now }
     {

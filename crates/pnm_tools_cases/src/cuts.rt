@@ -7,7 +7,7 @@ use pnm_test_support::{Sweep, Unmade, cut_number, head_of, number_of};
 use pnm_tools::{CutBox, Tool};
 use std::alloc::Global;
 
-/// The columns, or rows, of an image from which few enough follow for a sweep.
+/// The most columns, or rows, of an image whose cuts are few enough for a sweep.
 const SHORT: u32 = 5;
 
 /// The columns of an image, or its rows, and options of a cut along them.
@@ -28,7 +28,7 @@ const ONE: Axis = Axis {
 };
 
 impl Axis {
-    /// The axis that is written.
+    /// Returns the axis that the text spells.
     pub fn of(text: &[u8]) -> Axis {
         let (length, rest) = cut_number(text);
         let (start, rest) = cut_offset(rest);
@@ -43,7 +43,7 @@ impl Axis {
     }
 }
 
-/// The cut by these options across and down.
+/// Returns the cut with these options across and down.
 fn cut_by(across: Axis, down: Axis) -> Tool {
     Tool::Cut(CutBox {
         left: across.start,
@@ -78,7 +78,7 @@ pub fn tell_axis(alloc: Global, axis: Axis, told: &mut String) -> Result<(), Unm
     tell_cut_head(alloc, ONE, axis, told)
 }
 
-/// Adds a sweep over the cuts of short images by each of these across and each down.
+/// Adds a sweep over the cuts of short images, by each of the axes across and each down.
 pub fn tell_axes(alloc: Global, axes: &[Axis], told: &mut String) -> Result<(), Unmade> {
     let mut sweep = Sweep::new();
     for across in axes {
@@ -93,7 +93,7 @@ pub fn tell_axes(alloc: Global, axes: &[Axis], told: &mut String) -> Result<(), 
     Ok(sweep.tell(told)?)
 }
 
-/// An image of colours of so many columns and rows.
+/// Returns the shape of an image of colours of `width` columns and `height` rows.
 fn image(width: u32, height: u32) -> Shape {
     Shape {
         kind: Kind::Color,

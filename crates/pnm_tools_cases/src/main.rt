@@ -4,20 +4,20 @@
 //!
 //! - `judge TOOL`: whether the tool is lawful, and whether row-wise
 //! - `copy TOOL`: the tool, and a copy of it
-//! - `tool TOOL`: what `judge` tells; the lines that follow are about this tool too, after `none` about no other
+//! - `tool TOOL`: what `judge` tells; the lines that follow are about this tool and all others since the last `none`
 //! - `head HEAD`: the head of the result
 //! - `run STEPS`: what the tool gives for each step (`steps`), however wide rows are held
 //! - `lane STEPS`: what the tool gives for each step in a lane
-//! - `held STEPS`: how the rows are held that the tool gives, of rows in as few bits as hold their samples
+//! - `held STEPS`: how the tool holds the rows that it gives, if it is fed rows in as few bits as hold their samples
 //! - `images SIZES`: a sweep over made images of these sizes in one stream (`sweeps`)
 //! - `types FIRST-LAST WIDTH-WIDTHxHEIGHT-HEIGHT`: a sweep over made images of these types and sizes, each by itself
-//! - `axis LENGTH START END SIZE`: what is kept of so many columns, and of so many rows, by these options of a cut
+//! - `axis LENGTH START END SIZE`: what a cut with these options keeps of `LENGTH` columns, and of `LENGTH` rows
 //! - `axes`: a sweep over the cuts of short images by each of the options so far across and down
 //! - `chain TEXT`: the tools that the text of a chain names, or the number of the stage at fault and the fault
 //! - `names tools`, `names chain`: the printed faults of tools, and of texts of chains
 //!
-//! Of several tools the answers are told with the number from which on they are those; of a sweep how many images there
-//! were, and a CRC-32.
+//! For several tools, answers are told whenever they change, with the number of the first tool that gives them. For a
+//! sweep, the number of images and a CRC-32 are told.
 #![tactic(auto)]
 
 mod chains;
@@ -138,7 +138,7 @@ fn tell(
     }
 }
 
-/// Adds whether a tool is lawful and row-wise, or it and its copy. It may stay named.
+/// Adds whether a tool is lawful and row-wise, or the tool and its copy. Keeps the tool named if `how` is `Tool`.
 fn tell_tool(
     alloc: Global,
     how: How,

@@ -1,8 +1,8 @@
-//! Steps of a tool at work. A message is fed, and all is taken that the tool gives then. With a `~` before it, no
-//! message is told; with a `!`, nothing is taken. `?` takes one answer. A fault is told, and whether it doesn't stay.
-//! Rows between braces, in as few bits as hold their samples, are fed together, or one by one if not all of them may
-//! come. Rows that a tool gives together are told as one by one, but by `?`: there they stand between braces, as one
-//! answer.
+//! Steps of a tool at work. A message is fed, and then all that the tool gives is taken. With a `~` before the message,
+//! no message is told; with a `!`, nothing is taken. `?` takes one answer. A fault is told, and whether it doesn't
+//! stay. Rows between braces, in as few bits as hold their samples, are fed together, or one by one if not all of them
+//! may come. Rows that a tool gives together are told one by one, except by `?`, which tells them between braces, as
+//! one answer.
 
 use super::tasks::{Task, tell_at_work};
 use pnm_filters::{RowState, RowWise};
@@ -13,23 +13,23 @@ use pnm_test_support::{
 use pnm_tools::{Filter, Tool, ToolFault};
 use std::alloc::{AllocError, Global};
 
-/// More messages than a tool gives for one.
+/// More messages than a tool gives for one message.
 const MOST_ANSWERS: usize = 100_000;
 
 /// How a message is passed on.
 #[derive(Clone, Copy)]
 pub enum Step {
-    /// All that is given then is told.
+    /// All that the tool gives then is told.
     Passes,
-    /// All is taken, and told how wide rows are held.
+    /// All is taken, and how wide its rows are held is told.
     Widths,
-    /// All is taken, and a fault alone is told.
+    /// All is taken, but only a fault is told.
     Drops,
-    /// It isn't taken.
+    /// Nothing is taken.
     Takes,
 }
 
-/// Adds what a tool gives by these steps, and whether that is something else where rows are held in few bits.
+/// Adds what a tool gives by these steps, and what it gives if rows are held in few bits, if that is something else.
 pub fn tell_run(alloc: Global, tool: &Tool, text: &[u8], told: &mut String) -> Result<(), Unmade> {
     let mut narrow = String::new(alloc);
     tell_at_work(alloc, tool, Task::Steps(text, Step::Passes, false), told)?;
@@ -46,7 +46,7 @@ pub fn tell_run(alloc: Global, tool: &Tool, text: &[u8], told: &mut String) -> R
     Ok(())
 }
 
-/// A lawful and row-wise tool at work in a lane.
+/// Returns the tool, which must be lawful and row-wise, at work in a lane.
 fn start_rows(alloc: Global, tool: &Tool) -> Result<RowState, Unmade> {
     if !tool.is_lawful() || !tool.is_row_wise() {
         return Err(Unmade);
@@ -73,7 +73,7 @@ fn go_in_lane<F: RowWise>(
     go(alloc, lane, text, Step::Passes, false, told)
 }
 
-/// Adds what is given by these steps. A message without a mark is passed on by this one.
+/// Adds what a filter gives by these steps. A message without a mark is passed on by `step`.
 pub fn go<F: Filter>(
     alloc: Global,
     state: &mut F,
@@ -105,7 +105,7 @@ pub fn go<F: Filter>(
     Ok(())
 }
 
-/// How the message is passed on that a text begins with, and the text without its mark.
+/// Returns how to pass on the message that a text begins with, and the text without the message's mark.
 fn cut_mark(text: &[u8], step: Step) -> (Step, &[u8]) {
     match text.split_first() {
         Some((b'~', after)) => (Step::Drops, after),
@@ -114,7 +114,7 @@ fn cut_mark(text: &[u8], step: Step) -> (Step, &[u8]) {
     }
 }
 
-/// Passes on the message that a text begins with, and gives what follows it.
+/// Passes on the message that a text begins with, and returns the text after it.
 fn pass<'a, F: Filter>(
     alloc: Global,
     state: &mut F,
@@ -131,7 +131,7 @@ fn pass<'a, F: Filter>(
     Ok(rest)
 }
 
-/// Passes on a message, and adds all that is given then, or the fault, and whether it doesn't stay.
+/// Passes on a message, and adds all that the filter gives then, or the fault, and whether it doesn't stay.
 pub fn pass_one<F: Filter>(
     alloc: Global,
     state: &mut F,
@@ -148,7 +148,8 @@ pub fn pass_one<F: Filter>(
     }
 }
 
-/// Passes on rows together, or one by one if not all of them may come, and adds all that is given then, or the fault.
+/// Passes on rows together, or one by one if not all of them may come, and adds all that the filter gives then, or the
+/// fault.
 fn pass_together<F: Filter>(
     alloc: Global,
     state: &mut F,
@@ -159,7 +160,8 @@ fn pass_together<F: Filter>(
     Ok(tell_fed(alloc, state, fed, told)?)
 }
 
-/// Adds what is given for rows that were fed together, or the fault; passes on one by one those that are given back.
+/// Adds what the filter gives for rows that were fed together, or the fault. Passes on one by one the rows that it
+/// returned.
 fn tell_fed<F: Filter>(
     alloc: Global,
     state: &mut F,
@@ -199,7 +201,7 @@ fn tell_next<F: Filter>(alloc: Global, state: &mut F, told: &mut String) -> Resu
     }
 }
 
-/// Takes all that is given until nothing is, and adds of it what the step tells, and a fault.
+/// Takes all that the filter gives, and adds what the step tells of it, and a fault.
 fn take_all<F: Filter>(
     alloc: Global,
     state: &mut F,
@@ -219,7 +221,7 @@ fn take_all<F: Filter>(
     told.push_str(" and more")
 }
 
-/// Adds what a step tells of what is given.
+/// Adds what a step tells of a packet.
 fn tell_taken(
     alloc: Global,
     step: Step,
@@ -234,7 +236,7 @@ fn tell_taken(
     }
 }
 
-/// Adds of each of the rows how wide it is held.
+/// Adds how wide each of the rows is held.
 fn tell_widths(rows: &Rows, told: &mut String) -> Result<(), AllocError> {
     for at in 0..rows.count() {
         told.push_str(width_of(rows.row_slice(at)))?;
@@ -242,7 +244,7 @@ fn tell_widths(rows: &Rows, told: &mut String) -> Result<(), AllocError> {
     Ok(())
 }
 
-/// Adds a word where anything but this fault is answered.
+/// Adds words if the filter answers with anything but this fault.
 fn tell_stays<F: Filter>(
     state: &mut F,
     fault: ToolFault,
@@ -256,7 +258,7 @@ fn tell_stays<F: Filter>(
     Ok(())
 }
 
-/// A message that ends something, by its number.
+/// Returns a message that ends something, by its number.
 fn end_of(number: usize) -> Message {
     match number {
         0 => Message::StreamEnd,
@@ -265,7 +267,7 @@ fn end_of(number: usize) -> Message {
     }
 }
 
-/// Whether an answer is this fault.
+/// Returns true if an answer is this fault.
 fn is_fault(answer: Result<Option<Packet>, ToolFault>, fault: ToolFault) -> bool {
     match answer {
         Ok(_) => false,

@@ -44,8 +44,9 @@ const IMAGE_TYPES: [ImageType; 30] = [
     (Kind::Pam, 1000, SampleWidth::Words, 5),
 ];
 
-/// The sample in this column, row and plane of an image of this maxval. At 65,535 it tells which they are in images of
-/// up to 32 columns, 5 rows and 256 planes, or of colours up to 10 columns. At others samples come in no order.
+/// Returns the sample in this column, row and plane of an image of this shape. At maxval 65,535, a sample shows its
+/// column, row and plane in images of up to 32 columns, 5 rows and 256 planes, or of colours of up to 10 columns. At
+/// other maxvals, samples come in no order.
 fn sample_at(shape: Shape, x: u32, y: u32, plane: u32) -> u16 {
     let (across, down, deep, shift) = match (shape.maxval, shape.kind) {
         (65_535, Kind::Color) => (10, 100, 1, 0),
@@ -61,7 +62,7 @@ fn sample_at(shape: Shape, x: u32, y: u32, plane: u32) -> u16 {
     (sample.unwrap_or(0) % 65_536) as u16
 }
 
-/// A row of a made image.
+/// Returns a row of a made image.
 fn row_of(alloc: Global, shape: Shape, y: u32) -> Result<Vec<u16>, AllocError> {
     let mut samples = Vec::new(alloc);
     for x in 0..shape.width {
@@ -94,7 +95,7 @@ pub fn feed_image<F: Filter>(
     Ok(pass_one(alloc, state, Step::Passes, Message::ImageEnd, told)?)
 }
 
-/// Adds what it gives for the end of the stream, where that comes.
+/// Adds what a tool at work gives for the end of the stream, if `is_ended` is true.
 pub fn feed_end<F: Filter>(
     alloc: Global,
     state: &mut F,
@@ -130,7 +131,7 @@ pub fn tell_stream<F: Filter>(
     feed_end(alloc, state, true, told)
 }
 
-/// The columns, rows and planes of an image, and what follows them.
+/// Returns the shape of an image with the columns, rows and planes that the text begins with, and what follows them.
 fn cut_sizes(text: &[u8]) -> (Shape, &[u8]) {
     let (width, rest) = cut_number(text);
     let (height, rest) = cut_number(rest);
@@ -169,7 +170,7 @@ pub fn tell_types(
     Ok(sweep.tell(told)?)
 }
 
-/// An image by itself.
+/// Returns the task of a made image by itself.
 fn task_of(image_type: ImageType, width: u32, height: u32) -> Task<'static> {
     let (kind, maxval, sample_width, depth) = image_type;
     let shape = Shape {

@@ -1,4 +1,4 @@
-//! Tools at work. One function holds such a tool, since each one that does takes long to prove.
+//! Tools at work. Only one function holds such a tool, since each function that does takes long to prove.
 
 use super::steps::{Step, go};
 use super::sweeps;
@@ -11,11 +11,11 @@ use std::alloc::Global;
 /// What a tool at work is to do.
 #[derive(Clone, Copy)]
 pub enum Task<'a> {
-    /// These steps, by which messages are passed on so, with rows in few bits, or in words.
+    /// These steps, how they pass messages on, and whether rows are in few bits rather than in words.
     Steps(&'a [u8], Step, bool),
     /// Made images of these sizes.
     Stream(&'a [u8]),
-    /// A made image, its samples held so wide, and the end of the stream where that is asked.
+    /// A made image, the width in which its samples are held, and whether the end of the stream follows.
     Image(Shape, SampleWidth, bool),
 }
 
@@ -37,7 +37,7 @@ impl Task<'_> {
     }
 }
 
-/// A lawful tool at work.
+/// Returns the tool, which must be lawful, at work.
 fn start(alloc: Global, tool: &Tool) -> Result<ToolState, Unmade> {
     if !tool.is_lawful() {
         return Err(Unmade);

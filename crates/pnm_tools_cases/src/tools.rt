@@ -1,4 +1,4 @@
-//! Tools as they are written: `invert`; `cut LEFT RIGHT TOP BOTTOM WIDTH HEIGHT`, where `_` is none; `depth MAXVAL`;
+//! Tools as they are written: `invert`; `cut LEFT RIGHT TOP BOTTOM WIDTH HEIGHT`, with `_` for `None`; `depth MAXVAL`;
 //! `planes NUMBERS (TUPLE TYPE)`; `enlarge ACROSS DOWN`; `flip WAY`; `tile WIDTH HEIGHT`.
 
 use pnm_filters::result_head;
@@ -20,7 +20,7 @@ const WAYS: &[(&[u8], FlipWay)] = &[
     (b"r270", FlipWay::Rotate270),
 ];
 
-/// The tool that is written.
+/// Returns the tool that the text spells.
 pub fn tool_of(alloc: Global, text: &[u8]) -> Result<Tool, Unmade> {
     let (name, rest) = cut_word(text);
     match name.first() {
@@ -46,13 +46,13 @@ pub fn tool_of(alloc: Global, text: &[u8]) -> Result<Tool, Unmade> {
     }
 }
 
-/// Two numbers.
+/// Returns the two numbers that the text spells.
 fn pair_of(text: &[u8]) -> (u32, u32) {
     let (first, second, _) = cut_pair(text);
     (number_of(first), number_of(second))
 }
 
-/// The options of a cut.
+/// Returns the options of a cut that the text spells.
 fn cut_of(text: &[u8]) -> CutBox {
     let (left, rest) = cut_offset(text);
     let (right, rest) = cut_offset(rest);
@@ -70,7 +70,7 @@ fn cut_of(text: &[u8]) -> CutBox {
     }
 }
 
-/// The number that a line begins with, which may be negative; none where that is `_`. And what follows it.
+/// Returns the number that a line begins with, which may be negative, or `None` for a `_`; and the text after it.
 pub fn cut_offset(line: &[u8]) -> (Option<i32>, &[u8]) {
     let (word, rest) = cut_word(line);
     match word.split_first() {
@@ -80,7 +80,7 @@ pub fn cut_offset(line: &[u8]) -> (Option<i32>, &[u8]) {
     }
 }
 
-/// The number of these digits, or the opposite one.
+/// Returns the number that the digits spell, or its opposite if `is_negative` is true.
 fn offset_of(digits: &[u8], is_negative: bool) -> Option<i32> {
     let (number, _) = cut_number(digits);
     let number = i64::try_from(number).ok()?;
@@ -92,7 +92,7 @@ fn offset_of(digits: &[u8], is_negative: bool) -> Option<i32> {
     i32::try_from(number).ok()
 }
 
-/// The number that a line begins with; none where that is `_`. And what follows it.
+/// Returns the number that a line begins with, or `None` for a `_`; and the text after it.
 pub fn cut_size(line: &[u8]) -> (Option<u32>, &[u8]) {
     let (word, rest) = cut_word(line);
     match word.first() {
@@ -104,7 +104,7 @@ pub fn cut_size(line: &[u8]) -> (Option<u32>, &[u8]) {
     }
 }
 
-/// The pick of these planes, with a tuple type.
+/// Returns the tool that picks these planes, with a tuple type.
 fn planes_of(alloc: Global, text: &[u8]) -> Result<Tool, Unmade> {
     let (written, rest) = cut_at(text, b'(');
     let (tuple_type, _) = cut_at(rest, b')');

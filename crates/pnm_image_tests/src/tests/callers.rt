@@ -13,7 +13,7 @@ pub(super) enum ReadFault {
     Memory,
 }
 
-/// Appends to the text all bytes that the reader gives.
+/// Appends all bytes that the reader gives to the text.
 pub(super) fn read_all<R: BytesIn>(reader: &mut R, text: &mut Vec<u8>) -> Result<(), ReadFault>
     ensures whole { OnOk result (IfSome (R.left reader.old) (λ bytes. text.new.items ≡ text.old.items ++ bytes)) }
     ensures end { OnOk result (IsAtEnd (R.left reader.new)) }
@@ -38,7 +38,7 @@ pub(super) fn read_all<R: BytesIn>(reader: &mut R, text: &mut Vec<u8>) -> Result
     }
 }
 
-/// Writes all the bytes. Where the device fails, it holds more by a prefix of them.
+/// Writes all the bytes. If the device fails, it has taken a prefix of them.
 pub(super) fn write_all<W: BytesOut>(writer: &mut W, bytes: &[u8]) -> Result<(), DeviceFailed>
     ensures whole { OnOk result (Appends (W.held writer.old) (W.held writer.new) bytes.now) }
     ensures prefix { OnErr result ((n : ℕ) × Appends (W.held writer.old) (W.held writer.new) (take n bytes.now)) }
@@ -60,7 +60,7 @@ struct Through<D> {
 }
 
 impl<R: BytesIn> Through<R> {
-    /// Appends to the text all bytes that the device gives.
+    /// Appends all bytes that the device gives to the text.
     fn read_all(&mut self, text: &mut Vec<u8>) -> Result<(), ReadFault>
         ensures whole { OnOk result
             (IfSome (R.left self.old.device) (λ bytes. text.new.items ≡ text.old.items ++ bytes)) }
@@ -91,7 +91,7 @@ impl<W: BytesOut> Through<W> {
     }
 }
 
-/// `read_all` by a part that is lent the device for the time.
+/// Does what `read_all` does, by a part that borrows the device.
 pub(super) fn read_through<R: BytesIn>(reader: &mut R, text: &mut Vec<u8>) -> Result<(), ReadFault>
     ensures whole { OnOk result (IfSome (R.left reader.old) (λ bytes. text.new.items ≡ text.old.items ++ bytes)) }
     ensures end { OnOk result (IsAtEnd (R.left reader.new)) }
@@ -108,7 +108,7 @@ pub(super) fn read_through<R: BytesIn>(reader: &mut R, text: &mut Vec<u8>) -> Re
     part.read_all(text)
 }
 
-/// `write_all` by a part that is lent the device for the time.
+/// Does what `write_all` does, by a part that borrows the device.
 pub(super) fn write_through<W: BytesOut>(writer: &mut W, bytes: &[u8]) -> Result<(), DeviceFailed>
     ensures whole { OnOk result (Appends (W.held writer.old) (W.held writer.new) bytes.now) }
     ensures prefix { OnErr result ((n : ℕ) × Appends (W.held writer.old) (W.held writer.new) (take n bytes.now)) }
@@ -122,7 +122,7 @@ pub(super) fn write_through<W: BytesOut>(writer: &mut W, bytes: &[u8]) -> Result
     part.write_all(bytes)
 }
 
-/// `write_all` a byte at a time: the part that is lent the device is used again and again.
+/// Does what `write_all` does, a byte at a time: the part that borrows the device is used again and again.
 pub(super) fn write_bytewise<W: BytesOut>(writer: &mut W, bytes: &[u8]) -> Result<(), DeviceFailed>
     ensures whole { OnOk result (Appends (W.held writer.old) (W.held writer.new) bytes.now) }
     ensures prefix { OnErr result ((n : ℕ) × Appends (W.held writer.old) (W.held writer.new) (take n bytes.now)) }

@@ -15,7 +15,7 @@ const MEMORY: ChainFault = ChainFault {
     kind: ChainKind::Memory,
 };
 
-/// The text is a chain of one tool, or memory ran out. Whether nothing was refused.
+/// Asserts that the text is a chain of one tool, or that memory ran out. Returns true if nothing was refused.
 fn parses(rt: &impl Abort, alloc: Global) -> bool {
     match parse_chain(alloc, ALLOCATES) {
         Ok(tools) => {
@@ -29,13 +29,13 @@ fn parses(rt: &impl Abort, alloc: Global) -> bool {
     }
 }
 
-/// Want of memory for a chain's text is Memory, and no stage is at fault.
+/// Want of memory for a chain's text is `Memory`, and no stage is at fault.
 #[test]
 fn answers_want_of_memory_for_a_chain(rt: HostRuntime) {
     let _ = parses(&rt, rt.alloc());
 }
 
-/// Where no allocation is refused the text is a chain.
+/// If no allocation is refused, the text is a chain.
 #[test]
 fn parses_with_memory(rt: HostRuntime) {
     assert!(rt; parses(&rt, rt.alloc()));

@@ -1,4 +1,4 @@
-//! Devices over memory, and devices of which a call fails.
+//! Devices over memory, and devices with a call that fails.
 
 use super::callers::{
     ReadFault, flush, read_all, read_through, write_all, write_bytewise, write_through,
@@ -21,7 +21,7 @@ fn reads_to_the_end(rt: HostRuntime) {
     holds_bytes(&rt, reader.into_inner(), &[]);
 }
 
-/// Reads of no byte, and then of three each, of a reader of four.
+/// Reads no byte, and then three bytes at a time, from a reader of four.
 fn reads_by_threes<R: BytesIn>(rt: &impl Abort, reader: &mut R) {
     let mut buffer = [9; 3];
     reads(rt, reader, &mut [], 0, &[]);
@@ -30,7 +30,7 @@ fn reads_by_threes<R: BytesIn>(rt: &impl Abort, reader: &mut R) {
     reads(rt, reader, &mut buffer, 0, &[4, 2, 3]);
 }
 
-/// The next read gives so many bytes, and the buffer holds these then.
+/// Asserts that the next read gives `count` bytes, and that the buffer then holds `held`.
 fn reads<R: BytesIn>(
     rt: &impl Abort,
     reader: &mut R,
@@ -42,7 +42,7 @@ fn reads<R: BytesIn>(
     holds_bytes(rt, buffer, held);
 }
 
-/// All that the reader gives is read, or some call fails, and the text holds these bytes then.
+/// Reads all that the reader gives, or until a call fails. Asserts the answer, and that the text then holds `held`.
 fn reads_all<R: BytesIn>(
     rt: &impl Abort,
     reader: &mut R,
@@ -73,14 +73,14 @@ fn numbers(alloc: Global) -> Result<Vec<u8>, AllocError> {
     (0..200).collect(alloc)
 }
 
-/// The text holds a byte, and then these too, which the reader gives.
+/// Reads all that the reader gives, and asserts that the text, which held a byte, then holds `bytes` as well.
 fn appends<R: BytesIn>(rt: &impl Abort, reader: &mut R, text: &mut Vec<u8>, bytes: &[u8]) {
     same(rt, &read_all(reader, text), &Ok(()), &"the end");
     let want = Some((&255, bytes));
     same(rt, &text.as_slice().split_first(), &want, &"the end");
 }
 
-/// A call has answered this.
+/// Asserts that a call has returned this.
 fn answers(
     rt: &impl Abort,
     given: Result<(), DeviceFailed>,
@@ -90,7 +90,7 @@ fn answers(
     same(rt, &given, &want, &place);
 }
 
-/// A write answers this.
+/// Asserts that a write returns this.
 fn writes<W: BytesOut>(
     rt: &impl Abort,
     writer: &mut W,
@@ -109,7 +109,7 @@ fn writes_all(rt: HostRuntime) -> Result<(), Fail> {
     Ok(())
 }
 
-/// Two bytes are written, none, and three more.
+/// Writes two bytes, none, and three more.
 fn writes_more<W: BytesOut>(rt: &impl Abort, writer: &mut W) {
     writes(rt, writer, &[2, 3], Ok(2));
     writes(rt, writer, &[], Ok(0));
@@ -117,7 +117,7 @@ fn writes_more<W: BytesOut>(rt: &impl Abort, writer: &mut W) {
     answers(rt, flush(writer), Ok(()), "a flush");
 }
 
-/// What is held are these bytes.
+/// Asserts that `held` is these bytes.
 fn holds_bytes(rt: &impl Abort, held: &[u8], bytes: &[u8]) {
     same(rt, &held, &bytes, &"what is held");
 }
@@ -130,7 +130,7 @@ fn lends_readers(rt: HostRuntime) {
     lends_reader(&rt, rt.alloc(), &mut reader, &[2, 3]);
 }
 
-/// A part that is lent the reader reads these bytes, and a further one none.
+/// Asserts that a part that borrows the reader reads these bytes, and a further part none.
 fn lends_reader<R: BytesIn>(rt: &impl Abort, alloc: Global, reader: &mut R, rest: &[u8]) {
     let mut text = Vec::new(alloc);
     same(rt, &read_through(reader, &mut text), &Ok(()), &rest);
@@ -145,7 +145,7 @@ fn lends_writers(rt: HostRuntime) {
     holds_bytes(&rt, writer.into_inner().as_slice(), BYTES);
 }
 
-/// Parts that are lent the writer write five bytes.
+/// Writes five bytes by parts that borrow the writer.
 fn lends_writer<W: BytesOut>(rt: &impl Abort, writer: &mut W) {
     answers(rt, write_through(writer, &[1, 2]), Ok(()), "a part");
     answers(rt, write_all(&mut &mut *writer, &[3]), Ok(()), "a loan");
@@ -163,13 +163,13 @@ fn goes_on_after_a_failed_read(rt: HostRuntime) {
     fails_at_a_read(&rt, alloc, 3, &[1, 2, 3, 4, 5]);
 }
 
-/// The read after so many fails; the bytes before it are this prefix.
+/// Asserts that the read after `before` others fails, and that the bytes before it are `prefix`.
 fn fails_at_a_read(rt: &impl Abort, alloc: Global, before: usize, prefix: &[u8]) {
     let drips = Drips::new(BYTES, 2, FailsOnce::after(before));
     reads_after_a_fault(rt, alloc, &mut Device::new(drips), prefix);
 }
 
-/// A read fails after this prefix, and then the reader gives what is left.
+/// Asserts that a read fails after this prefix, and that the reader then gives what is left.
 fn reads_after_a_fault<R: BytesIn>(rt: &impl Abort, alloc: Global, reader: &mut R, prefix: &[u8]) {
     let mut text = Vec::new(alloc);
     reads_all(rt, reader, &mut text, Err(ReadFault::Device), prefix);
@@ -185,14 +185,14 @@ fn goes_on_after_a_failed_write(rt: HostRuntime) {
     fails_at_a_write(&rt, alloc, 2, &[1, 2, 3, 4], &[5]);
 }
 
-/// The write after so many fails; the bytes before it are this prefix, and the others this rest.
+/// Asserts that the write after `before` others fails. The bytes before it are `prefix`, and the others are `rest`.
 fn fails_at_a_write(rt: &impl Abort, alloc: Global, before: usize, prefix: &[u8], rest: &[u8]) {
     let mut sips = Sips::new(alloc, 2, FailsOnce::after(before), FailsOnce::never());
     writes_sips(rt, &mut sips, BYTES, Err(DeviceFailed), prefix);
     writes_sips(rt, &mut sips, rest, Ok(()), BYTES);
 }
 
-/// A write of these bytes answers this, and these are held then.
+/// Asserts that a write of `bytes` returns `want`, and that `sips` then holds `held`.
 fn writes_sips(
     rt: &impl Abort,
     sips: &mut Sips,
@@ -205,12 +205,12 @@ fn writes_sips(
     holds_bytes(rt, sips.held(), held);
 }
 
-/// A writer whose first flush fails.
+/// Returns a writer whose first flush fails.
 fn flushes_late(alloc: Global) -> Sips {
     Sips::new(alloc, 2, FailsOnce::never(), FailsOnce::after(0))
 }
 
-/// A flush fails, and the next one doesn't.
+/// Asserts that a flush fails, and that the next one doesn't.
 fn flushes_again<W: BytesOut>(rt: &impl Abort, writer: &mut W) {
     answers(rt, flush(writer), Err(DeviceFailed), "a flush");
     answers(rt, flush(writer), Ok(()), "the next flush");
@@ -240,7 +240,7 @@ fn fails_where_no_byte_is_taken(rt: HostRuntime) {
     holds_bytes(&rt, &buffer, &[1, 2, 3]);
 }
 
-/// The writer takes three bytes, and no more.
+/// Asserts that the writer takes three bytes, and no more.
 fn takes_three<W: BytesOut>(rt: &impl Abort, writer: &mut W) {
     let answer = write_all(writer, &[1, 2, 3, 4]);
     answers(rt, answer, Err(DeviceFailed), "four bytes");

@@ -23,7 +23,7 @@ fn magics_name_formats(rt: HostRuntime) {
     }
 }
 
-/// The magic, whose second byte this is, names the format.
+/// Asserts that the magic, whose second byte is `byte`, names the format.
 fn names(rt: &impl Abort, byte: u8, magic: &[u8], format: Format) {
     same(rt, &Format::of(byte), &Some(format), &magic);
     same(rt, &format.magic(), &magic, &magic);

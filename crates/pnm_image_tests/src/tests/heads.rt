@@ -42,7 +42,7 @@ fn judges_numbers_in_order(rt: HostRuntime) {
     }
 }
 
-/// What is wrong with the numbers of a PAM image.
+/// Asserts what is wrong with the numbers of a PAM image.
 fn judges(rt: &impl Abort, alloc: Global, numbers: &Numbers) {
     let (width, height, depth, maxval, fault) = *numbers;
     let shape = Shape {
@@ -55,7 +55,7 @@ fn judges(rt: &impl Abort, alloc: Global, numbers: &Numbers) {
     is_judged(rt, alloc, shape, fault);
 }
 
-/// What is wrong with the shape is this.
+/// Asserts that `fault` is what is wrong with the shape.
 fn is_judged(rt: &impl Abort, alloc: Global, shape: Shape, fault: Option<HeadFault>) {
     assert!(rt; Head::suits(shape.kind, shape.depth, shape.maxval, &[]));
     let given = Head::new(alloc, shape, &[]).err();
@@ -70,7 +70,7 @@ const FIELDS: &[(Kind, u32, u32, &str)] = &[
     (Pam, 4, 300, "RGB_ALPHA of two\tlayers"),
 ];
 
-/// The head has these fields.
+/// Asserts that the head has these fields.
 fn has_fields(rt: &impl Abort, head: &Head, shape: Shape, tuple_type: &[u8]) {
     same(rt, &head.shape(), &shape, &"the shape");
     same(rt, &head.tuple_type(), &tuple_type, &shape);
@@ -93,7 +93,7 @@ fn keeps_fields(rt: HostRuntime) -> Result<(), Fail> {
     Ok(())
 }
 
-/// A new head has the fields that were asked for, and so has its copy.
+/// Asserts that a new head and its copy have the fields that were asked for.
 fn keeps(rt: &impl Abort, alloc: Global, shape: Shape, tuple_type: &[u8]) -> Result<(), HeadFault> {
     assert!(rt; Head::suits(shape.kind, shape.depth, shape.maxval, tuple_type));
     let head = Head::new(alloc, shape, tuple_type)?;
@@ -103,7 +103,7 @@ fn keeps(rt: &impl Abort, alloc: Global, shape: Shape, tuple_type: &[u8]) -> Res
     Ok(())
 }
 
-/// The head has these fields, and another height changes the height alone.
+/// Asserts that the head has these fields, and that another height changes the height alone.
 fn has_changed(rt: &impl Abort, head: Head, shape: Shape, height: u32, tuple_type: &[u8]) {
     has_fields(rt, &head, shape, tuple_type);
     assert!(rt; height <= 16_777_216);
@@ -112,7 +112,7 @@ fn has_changed(rt: &impl Abort, head: Head, shape: Shape, height: u32, tuple_typ
     begins_stream(rt, other);
 }
 
-/// A stream may begin with the head.
+/// Asserts that a stream may begin with the head.
 fn begins_stream(rt: &impl Abort, head: Head) {
     assert!(rt; Place::new().accepts(&Message::Begin(head)));
 }
@@ -158,7 +158,7 @@ fn kinds_suit(rt: HostRuntime) {
     }
 }
 
-/// Whether the fields suit each other.
+/// Asserts whether the fields suit each other.
 fn suits(rt: &impl Abort, fields: &Fields) {
     let (kind, depth, maxval, tuple_type, suits) = fields;
     let answer = Head::suits(*kind, *depth, *maxval, tuple_type);

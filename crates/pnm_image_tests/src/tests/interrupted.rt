@@ -10,7 +10,7 @@ use std::io::{BufWriter, ErrorKind, Read, Write};
 use std::process::Abort;
 use std::test::Fail;
 
-/// A reader or writer of which each other call is interrupted, from the first one on.
+/// A reader or writer whose every other call is interrupted, from the first one on.
 #[derive(Drop)]
 struct Interrupted<D> {
     inner: D,
@@ -55,25 +55,25 @@ impl<W: Write> Write for Interrupted<W> {
 
 const BYTES: &[u8] = b"P5\n2 1\n122\nAB";
 
-/// A device of which each other call is interrupted, and made again.
+/// Returns a device whose every other call is interrupted, and made again.
 fn again<D>(inner: D) -> Uninterrupted<Interrupted<D>> {
     Uninterrupted::new(Interrupted::new(inner))
 }
 
-/// The reader gives the bytes, to their end.
+/// Asserts that the reader gives the bytes, to their end.
 fn gives_bytes<R: BytesIn>(rt: &impl Abort, alloc: Global, reader: &mut R) {
     let mut text = Vec::new(alloc);
     same(rt, &read_all(reader, &mut text), &Ok(()), &"a read");
     same(rt, &text.as_slice(), &BYTES, &"what is read");
 }
 
-/// The writer takes the bytes, and a flush.
+/// Asserts that the writer takes the bytes, and a flush.
 fn takes_bytes<W: BytesOut>(rt: &impl Abort, writer: &mut W) {
     same(rt, &write_all(writer, BYTES), &Ok(()), &"a write");
     same(rt, &flush(writer), &Ok(()), &"a flush");
 }
 
-/// What was written is the bytes.
+/// Asserts that the bytes are what was written.
 fn has_bytes(rt: &impl Abort, written: &[u8]) {
     same(rt, &written, &BYTES, &"what is written");
 }
@@ -86,14 +86,14 @@ fn makes_interrupted_calls_again(rt: HostRuntime) {
     has_bytes(&rt, written.into_inner().inner.as_slice());
 }
 
-/// The writer, once it has taken the bytes through a device.
+/// Returns the writer, once it has taken the bytes through a device.
 fn written_to<W: Write + Drop>(rt: &impl Abort, writer: W) -> W {
     let mut output = Device::new(writer);
     takes_bytes(rt, &mut output);
     output.into_inner()
 }
 
-/// So they are behind a buffer.
+/// Interrupted calls are made again behind a buffer, too.
 #[test]
 fn makes_interrupted_calls_again_behind_a_buffer(rt: HostRuntime) -> Result<(), Fail> {
     let held = again(Vec::new(rt.alloc()));
@@ -102,7 +102,7 @@ fn makes_interrupted_calls_again_behind_a_buffer(rt: HostRuntime) -> Result<(), 
     Ok(())
 }
 
-/// The writer, once it has taken the bytes through a device behind a buffer of four.
+/// Returns the writer, once it has taken the bytes through a device behind a buffer of four bytes.
 fn written_behind_a_buffer<W: Write + Drop>(
     rt: &impl Abort,
     alloc: Global,

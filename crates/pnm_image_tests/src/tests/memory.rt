@@ -1,6 +1,6 @@
-//! Want of memory. With ample memory each call succeeds; where an allocation is refused, the call
-//! answers `Memory`, and a tool at work answers it for good though memory is there again.
-//! `scripts/refused.py tests` refuses each allocation of these tests in turn.
+//! Want of memory. With ample memory, each call succeeds. If an allocation is refused, the call returns `Memory`, and a
+//! tool at work returns it for good, even once there is memory again. `scripts/refused.py tests` refuses each
+//! allocation of these tests in turn.
 
 use super::rows_memory::are_wanted;
 use super::tools::{WHOLE, channel, picks, stays};
@@ -164,12 +164,12 @@ pub(super) const REST: CutBox = CutBox {
     ..WHOLE
 };
 
-/// The message is made of this part.
+/// Asserts that the message is made of this part.
 fn is_part<P: fmt::Debug>(rt: &impl Abort, message: &Message, want: Part<'_>, place: &P) {
     holds(rt, is_made_of(message, want), message, &want, place);
 }
 
-/// What the tool gives is made of this part, if there is one.
+/// Asserts that there is a wanted part, and that the message that the tool gives is made of it.
 fn is_wanted(rt: &impl Abort, message: &Message, want: Option<&Part<'_>>) {
     match want {
         Some(want) => is_part(rt, message, *want, &"a tool"),
@@ -177,19 +177,19 @@ fn is_wanted(rt: &impl Abort, message: &Message, want: Option<&Part<'_>>) {
     }
 }
 
-/// Memory ran out.
+/// Asserts that memory ran out.
 fn is_memory(rt: &impl Abort, fault: ToolFault) {
     same(rt, &fault, &ToolFault::Memory, &"a tool");
 }
 
-/// Memory ran out, and the tool answers that for good.
+/// Asserts that memory ran out, and that the tool answers that for good.
 pub(super) fn has_run_out<F: Filter>(rt: &impl Abort, state: &mut F, fault: ToolFault) {
     is_memory(rt, fault);
     stays(rt, state, ToolFault::Memory);
 }
 
-/// Takes what the tool gives, which is made of the parts that are next among these. Whether the
-/// tool goes on.
+/// Takes what the tool gives, and asserts that it is made of the next of the wanted parts. Returns true if the tool
+/// goes on.
 pub(super) fn takes<F: Filter>(
     rt: &impl Abort,
     state: &mut F,
@@ -204,8 +204,8 @@ pub(super) fn takes<F: Filter>(
     panic!(rt; "the answers have no end")
 }
 
-/// Takes what the tool gives next, which is made of the parts that are next among these. Whether the tool goes on,
-/// where it gives nothing.
+/// Takes what the tool gives next, and asserts that it is made of the next of the wanted parts. If the tool gives
+/// nothing, returns whether it goes on.
 fn takes_next<F: Filter>(
     rt: &impl Abort,
     state: &mut F,
@@ -231,7 +231,7 @@ fn takes_next<F: Filter>(
     }
 }
 
-/// The tool, which has to be lawful, at work; none where memory ran out.
+/// Returns the tool, which has to be lawful, at work, or `None` if memory ran out.
 pub(super) fn start(rt: &impl Abort, alloc: Global, tool: &Tool) -> Option<ToolState> {
     assert!(rt; tool.is_lawful());
     match start_tool(alloc, tool) {
@@ -243,14 +243,15 @@ pub(super) fn start(rt: &impl Abort, alloc: Global, tool: &Tool) -> Option<ToolS
     }
 }
 
-/// The tool answers the image with these parts, or `Memory` from some message on. Whether nothing was
-/// refused.
+/// Asserts that the tool answers the image with these parts, or with `Memory` from some message on. Returns true if
+/// nothing was refused.
 fn answers_image(rt: &impl Abort, alloc: Global, tool: &Tool, wants: &[Part<'_>]) -> bool {
     answers_at_work(rt, alloc, start(rt, alloc, tool), wants)
 }
 
-/// The tool at work, if there is one, answers the image with these parts, or `Memory` from some message on. A function
-/// that knows what such a tool is made of takes long to prove, so one that doesn't know keeps it.
+/// Asserts that the tool at work, if there is one, answers the image with these parts, or with `Memory` from some
+/// message on. A function that knows what such a tool is made of takes long to prove, so this one, which doesn't know,
+/// keeps the tool.
 fn answers_at_work<F: Filter + Drop>(
     rt: &impl Abort,
     alloc: Global,
@@ -263,7 +264,7 @@ fn answers_at_work<F: Filter + Drop>(
     }
 }
 
-/// The tool at work answers the image with all these parts, or `Memory` from some message on.
+/// Asserts that the tool at work answers the image with all these parts, or with `Memory` from some message on.
 fn answers_all<F: Filter>(
     rt: &impl Abort,
     alloc: Global,
@@ -278,8 +279,8 @@ fn answers_all<F: Filter>(
     goes_on
 }
 
-/// The tool at work answers messages that are made of these parts with those that are next among the wanted ones, or
-/// `Memory` from some message on. Whether it goes on.
+/// Asserts that the tool at work answers messages that are made of these parts with the next of the wanted ones, or
+/// with `Memory` from some message on. Returns true if it goes on.
 pub(super) fn answers_parts<F: Filter>(
     rt: &impl Abort,
     alloc: Global,
@@ -296,8 +297,8 @@ pub(super) fn answers_parts<F: Filter>(
     true
 }
 
-/// The tool at work is fed the message that is made of this, or answers `Memory`. Whether it goes on; where no message
-/// can be made, the test ends.
+/// Feeds the tool at work the message that is made of this part. If the tool refuses it, asserts that the fault is
+/// `Memory`. Returns true if the tool goes on. If no message can be made, the test ends.
 fn feeds<F: Filter>(rt: &impl Abort, alloc: Global, state: &mut F, part: Part<'_>) -> bool {
     let Ok(message) = message(alloc, part) else {
         return false;
@@ -311,8 +312,8 @@ fn feeds<F: Filter>(rt: &impl Abort, alloc: Global, state: &mut F, part: Part<'_
     }
 }
 
-/// The head rule answers the image's head with this, or with `Memory`, and then with this. Whether
-/// nothing was refused.
+/// Asserts that the head rule answers the image's head with this part, or first with `Memory` and then with this part.
+/// Returns true if nothing was refused.
 fn answers_head(rt: &impl Abort, alloc: Global, tool: &Tool, want: Part<'_>) -> bool {
     match head_of(alloc, SHAPE, b"A") {
         Ok(head) => makes_head(rt, alloc, tool, &head, want),
@@ -320,7 +321,8 @@ fn answers_head(rt: &impl Abort, alloc: Global, tool: &Tool, want: Part<'_>) -> 
     }
 }
 
-/// The head rule of the tool answers the head with this, asked again where that is `Memory`. Whether it wasn't.
+/// Asserts that the head rule of the tool answers the head with this part, asked again if its answer is `Memory`.
+/// Returns true if it wasn't.
 fn makes_head(rt: &impl Abort, alloc: Global, tool: &Tool, head: &Head, want: Part<'_>) -> bool {
     assert!(rt; tool.is_lawful());
     match result_head(alloc, tool, head) {
@@ -335,7 +337,7 @@ fn makes_head(rt: &impl Abort, alloc: Global, tool: &Tool, head: &Head, want: Pa
     }
 }
 
-/// The head rule of the tool has answered this.
+/// Asserts that the head rule of the tool has answered with this part.
 fn is_head(rt: &impl Abort, tool: &Tool, answer: Result<Head, ToolFault>, want: Part<'_>) {
     match answer {
         Ok(head) => is_part(rt, &Message::Begin(head), want, tool),
@@ -346,16 +348,16 @@ fn is_head(rt: &impl Abort, tool: &Tool, answer: Result<Head, ToolFault>, want: 
 /// How many tools the image is given to, those that hold a list left out.
 const TOOLS: usize = 15;
 
-/// Each of them, and what it gives for the image.
+/// Returns the tool of this number, and what it gives for the image.
 fn tool_at_work(number: usize) -> (Tool, &'static [Part<'static>]) {
     match number {
         0 => (Tool::Invert, INVERTED),
         1 => (Tool::Cut(REST), CUT),
         // Twelve samples up to 4: the image is worth a table.
         2 => (Tool::Depth(8), RESCALED),
-        // A row that is made where it comes, and copied where it is given.
+        // A row that is made when it comes, and copied when it is given.
         3 => (Tool::Enlarge(2, 2), ENLARGED),
-        // A row that is copied where it is given, and was kept as it came.
+        // A row that is copied when it is given, and was kept as it came.
         4 => (Tool::Enlarge(1, 2), REPEATED),
         5 => (Tool::Flip(FlipWay::Null), IMAGE),
         6 => (Tool::Flip(FlipWay::LeftRight), MIRRORED),
@@ -373,7 +375,7 @@ fn tool_at_work(number: usize) -> (Tool, &'static [Part<'static>]) {
     }
 }
 
-/// Whether nothing was refused.
+/// Returns true if nothing was refused.
 fn gives_images(rt: &impl Abort, alloc: Global) -> bool {
     let mut goes_on = true;
     for number in 0..TOOLS {
@@ -390,7 +392,7 @@ fn gives_images_or_runs_out(rt: HostRuntime) {
     let _ = gives_images(&rt, rt.alloc());
 }
 
-/// Where nothing is refused the images are given.
+/// If nothing is refused, the images are given.
 #[test]
 fn gives_images_with_memory(rt: HostRuntime) {
     assert!(rt; gives_images(&rt, rt.alloc()));
@@ -406,7 +408,7 @@ fn picks_or_runs_out(rt: HostRuntime) {
 /// How many tools and ways hold no list.
 const PLAIN_TOOLS: usize = 9;
 
-/// Each of them, and the head that it makes of the image's.
+/// Returns the tool of this number, and the head that it makes of the image's.
 fn plain_tool(number: usize) -> (Tool, Part<'static>) {
     let same = Part::Pam(3, 2, 2, 4, "A");
     let wider = Part::Pam(6, 4, 2, 4, "A");
@@ -423,7 +425,7 @@ fn plain_tool(number: usize) -> (Tool, Part<'static>) {
     }
 }
 
-/// Whether nothing was refused.
+/// Returns true if nothing was refused.
 fn gives_heads(rt: &impl Abort, alloc: Global) -> bool {
     let plain = gives_plain_heads(rt, alloc);
     match channel(alloc, &[1, 0, 1], "B") {
@@ -432,7 +434,7 @@ fn gives_heads(rt: &impl Abort, alloc: Global) -> bool {
     }
 }
 
-/// Whether nothing was refused of the tools that hold no list.
+/// Returns true if nothing was refused to the tools that hold no list.
 fn gives_plain_heads(rt: &impl Abort, alloc: Global) -> bool {
     let mut goes_on = true;
     for number in 0..PLAIN_TOOLS {
@@ -449,7 +451,7 @@ fn gives_heads_or_runs_out(rt: HostRuntime) {
     let _ = gives_heads(&rt, rt.alloc());
 }
 
-/// Where nothing is refused the heads are given.
+/// If nothing is refused, the heads are given.
 #[test]
 fn gives_heads_with_memory(rt: HostRuntime) {
     assert!(rt; gives_heads(&rt, rt.alloc()));
@@ -463,7 +465,7 @@ fn copies_or_runs_out(rt: HostRuntime) {
     }
 }
 
-/// The copy of a tool, asked for again where memory ran out, picks the same planes.
+/// Asserts that the copy of a tool, asked for again if memory ran out, picks the same planes.
 fn copies(rt: &impl Abort, alloc: Global, tool: &Tool) {
     match tool.copy(alloc) {
         Err(ToolFault::Memory) => is_copy(rt, tool.copy(alloc)),
@@ -471,7 +473,7 @@ fn copies(rt: &impl Abort, alloc: Global, tool: &Tool) {
     }
 }
 
-/// The answer is a tool that picks these planes.
+/// Asserts that the answer is a tool that picks the same planes.
 fn is_copy(rt: &impl Abort, answer: Result<Tool, ToolFault>) {
     match answer {
         Ok(copy) => picks(rt, &copy, &[1, 0, 1], "B"),

@@ -9,7 +9,7 @@ fn handed_on<T: Send>(value: T) -> T {
     value
 }
 
-/// Whether the message is a row of one sample, which is this one.
+/// Returns true if the message is a row of one sample, which is `sample`.
 fn is_row_of(message: &Message, sample: u16) -> bool {
     match message {
         Message::Row(row) => row.len() == 1 && row.sample(0) == sample,
@@ -17,7 +17,7 @@ fn is_row_of(message: &Message, sample: u16) -> bool {
     }
 }
 
-/// A row of one sample.
+/// Returns a row of one sample.
 fn row_of(alloc: Global, sample: u16) -> Result<Message, AllocError> {
     Ok(Message::Row(Samples::new(vec![in alloc; sample]?)))
 }

@@ -53,14 +53,14 @@ fn passes_two_images(rt: HostRuntime) -> Result<(), Fail> {
     Ok(())
 }
 
-/// The message that is made of this may come.
+/// Makes a message of the part, asserts that it may come, and steps over it.
 fn passes(rt: &impl Abort, alloc: Global, place: &mut Place, part: Part<'_>) -> Result<(), Unmade> {
     let message = message(alloc, part)?;
     steps(rt, place, &message, &part);
     Ok(())
 }
 
-/// The message may come, and is stepped over.
+/// Asserts that the message may come, and steps over it.
 fn steps<P: fmt::Debug>(rt: &impl Abort, place: &mut Place, message: &Message, part: &P) {
     assert!(rt; place.accepts(message), "at {part:?}");
     place.step(message);
@@ -108,7 +108,7 @@ fn refuses_what_may_not_come(rt: HostRuntime) -> Result<(), Fail> {
     Ok(())
 }
 
-/// Whether the message may come at this place.
+/// Asserts whether the message may come at this place.
 fn may_come(rt: &impl Abort, place: Place, message: &Message, accepts: bool) {
     same(rt, &place.accepts(message), &accepts, &(place, message));
 }
@@ -120,7 +120,7 @@ fn nothing_comes_after_the_end(rt: HostRuntime) {
     ends(&rt, &Message::Stop);
 }
 
-/// Nothing may come after this message.
+/// Asserts that nothing may come after this message.
 fn ends(rt: &impl Abort, message: &Message) {
     let mut place = Place::new();
     steps(rt, &mut place, message, message);

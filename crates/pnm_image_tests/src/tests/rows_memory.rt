@@ -12,10 +12,10 @@ use pnm_tools::{CutBox, Filter, FlipWay, Tool};
 use std::alloc::Global;
 use std::process::Abort;
 
-/// Rows of pixels, of which the second and the third begin within a byte.
+/// Rows of pixels. The second and the third begin within a byte.
 const TOGETHER: &[u8] = b"[0 1 1 1 1] [0 0 1 0 1] [1 1 0 0 0]";
 
-/// The image that they are.
+/// The image of these rows.
 const IMAGE: &[Part<'static>] = &[
     Part::Begin(Kind::Bit, 5, 3, 1),
     Part::Row(&[0, 1, 1, 1, 1]),
@@ -25,7 +25,7 @@ const IMAGE: &[Part<'static>] = &[
     Part::StreamEnd,
 ];
 
-/// Where the image's end stands there.
+/// The place of the image's end in `IMAGE`.
 const END: usize = 4;
 
 const CUT: &[Part<'static>] = &[
@@ -114,7 +114,7 @@ const BELOW: CutBox = CutBox {
 /// How many tools the rows are given to.
 const TOOLS: usize = 8;
 
-/// Each of them, and what it gives for the image.
+/// Returns the tool of this number, and what it gives for the image.
 fn tool_at_work(number: usize) -> (Tool, &'static [Part<'static>]) {
     match number {
         0 => (Tool::Cut(REST), CUT),
@@ -128,7 +128,7 @@ fn tool_at_work(number: usize) -> (Tool, &'static [Part<'static>]) {
     }
 }
 
-/// The rows are made of the parts that are next among these.
+/// Asserts that the rows are made of the next of the wanted parts.
 pub(super) fn are_wanted(rt: &impl Abort, rows: &Rows, wants: &[Part<'_>], given: &mut usize) {
     for at in 0..rows.count() {
         match wants.get(*given) {
@@ -139,7 +139,7 @@ pub(super) fn are_wanted(rt: &impl Abort, rows: &Rows, wants: &[Part<'_>], given
     }
 }
 
-/// The samples of this one of the rows are those of the row.
+/// Asserts that the samples of row `at` of `rows` are those of `row`.
 fn has_row(rt: &impl Abort, rows: &Rows, at: u32, row: &[u16])
     requires { at < length rows.now }
 {
@@ -150,7 +150,7 @@ fn has_row(rt: &impl Abort, rows: &Rows, at: u32, row: &[u16])
     }
 }
 
-/// It is a sample of the row: of bits a black pixel, which is a set bit, is 0.
+/// Returns true if sample `x` of the row is `sample`. In bits, a black pixel is a set bit, and its sample is 0.
 fn is_sample(row: SampleSlice<'_>, x: usize, sample: u16) -> bool {
     match row {
         SampleSlice::Bits(bytes, _) => match bytes.get(x / 8) {
@@ -165,13 +165,13 @@ fn is_sample(row: SampleSlice<'_>, x: usize, sample: u16) -> bool {
     }
 }
 
-/// The tool is fed the rows of the image together, and answers the image with these parts, or `Memory` from some
-/// message on. Whether it went on to the end.
+/// Feeds the tool the rows of the image together, and asserts that it answers the image with these parts, or with
+/// `Memory` from some message on. Returns true if it went on to the end.
 fn answers_rows(rt: &impl Abort, alloc: Global, tool: &Tool, wants: &[Part<'_>]) -> bool {
     answers_at_work(rt, alloc, start(rt, alloc, tool), wants)
 }
 
-/// The tool at work, if there is one, is fed the head of the image, its rows together, and its end.
+/// Feeds the tool at work, if there is one, the head of the image, its rows together, and its end.
 fn answers_at_work<F: Filter + Drop>(
     rt: &impl Abort,
     alloc: Global,
@@ -187,8 +187,8 @@ fn answers_at_work<F: Filter + Drop>(
         && answers_rest(rt, alloc, &mut state, &IMAGE[END..], wants, &mut given)
 }
 
-/// The tool at work is fed the rows together, and answers with what is next among the wanted parts, or `Memory`.
-/// Whether it goes on.
+/// Feeds the tool at work the rows together, and asserts that it answers with the next of the wanted parts, or with
+/// `Memory`. Returns true if it goes on.
 fn takes_together<F: Filter>(
     rt: &impl Abort,
     alloc: Global,
@@ -209,7 +209,8 @@ fn takes_together<F: Filter>(
     }
 }
 
-/// The tool at work answers these parts with all that is left of the wanted ones, or `Memory`. Whether it goes on.
+/// Asserts that the tool at work answers these parts with all that is left of the wanted ones, or with `Memory`.
+/// Returns true if it goes on.
 fn answers_rest<F: Filter>(
     rt: &impl Abort,
     alloc: Global,
@@ -233,7 +234,7 @@ fn takes_rows_or_runs_out(rt: HostRuntime) {
     }
 }
 
-/// Where nothing is refused each tool takes the rows together.
+/// If nothing is refused, each tool takes the rows together.
 #[test]
 fn takes_rows_with_memory(rt: HostRuntime) {
     for number in 0..TOOLS {

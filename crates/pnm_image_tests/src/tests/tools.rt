@@ -17,7 +17,7 @@ pub(super) const WHOLE: CutBox = CutBox {
     height: None,
 };
 
-/// The tool that picks these planes.
+/// Returns the tool that picks these planes.
 pub(super) fn channel(alloc: Global, numbers: &[u16], tuple_type: &str) -> Result<Tool, Unmade> {
     Ok(Tool::Channel(Planes::new(
         Vec::from_slice(alloc, numbers)?,
@@ -25,7 +25,7 @@ pub(super) fn channel(alloc: Global, numbers: &[u16], tuple_type: &str) -> Resul
     )))
 }
 
-/// The tool picks these planes.
+/// Asserts that the tool picks these planes.
 pub(super) fn picks(rt: &impl Abort, tool: &Tool, numbers: &[u16], tuple_type: &str) {
     match tool {
         Tool::Channel(planes) => {
@@ -36,20 +36,20 @@ pub(super) fn picks(rt: &impl Abort, tool: &Tool, numbers: &[u16], tuple_type: &
     }
 }
 
-/// The state answers nothing but this fault, whatever it is asked.
+/// Asserts that the state answers nothing but this fault, whatever it is asked.
 pub(super) fn stays<F: Filter>(rt: &impl Abort, state: &mut F, fault: ToolFault) {
     refuses_again(rt, state, Message::StreamEnd, fault);
     refuses_again(rt, state, Message::Stop, fault);
     refuses_again(rt, state, Message::ImageEnd, fault);
 }
 
-/// The state gives nothing but this fault, and answers this message by it.
+/// Asserts that the state gives nothing but this fault, and answers this message with it.
 fn refuses_again<F: Filter>(rt: &impl Abort, state: &mut F, message: Message, fault: ToolFault) {
     gives_fault(rt, state.next(), fault);
     same(rt, &state.feed(message), &Err(fault), &"feed");
 }
 
-/// The answer is this fault.
+/// Asserts that the answer is this fault.
 fn gives_fault(rt: &impl Abort, answer: Result<Option<Packet>, ToolFault>, fault: ToolFault) {
     let is_so = matches!(&answer, Err(other) if *other == fault);
     holds(rt, is_so, &answer, &fault, &"next");
