@@ -9,13 +9,13 @@ use std::ptr;
 #[repr(C)]
 #[derive(Drop)]
 pub struct Bytes {
-    /// Where they lie; null where there are none.
+    /// Where they lie, or null if there are none.
     pub at: *mut u8,
-    /// How many.
+    /// How many there are.
     pub length: usize,
 }
 
-/// Gives the block of the bytes away.
+/// Hands out the block of the bytes, which C has to free.
 pub fn hand_out(written: Vec<u8>) -> Bytes
     ensures { IsHandedOut written result }
 {

@@ -8,7 +8,7 @@ use crate::bytes::{Bytes, hand_out};
 use pnm_memory::{Answer, check, run_into, run_new};
 use std::alloc::Global;
 
-/// Looks at the text of a chain.
+/// Checks the text of a chain.
 #[unsafe(no_mangle)]
 pub extern "C" fn pnm_c_check(alloc: Global, chain: &[u8], stage: &mut usize) -> u32
     ensures { IsCodeOf chain.now result stage.new }
@@ -35,7 +35,7 @@ pub extern "C" fn pnm_c_run(
     answer.code
 }
 
-/// The same, with the results in a block that C frees.
+/// As `pnm_c_run`, with the results in a block that C frees.
 #[unsafe(no_mangle)]
 pub extern "C" fn pnm_c_run_new(
     alloc: Global,

@@ -18,7 +18,7 @@ use std::alloc::{AllocError, Global};
 /// The version, as in the file VERSION.
 const VERSION: &str = "0.1.0";
 
-/// What a call for the version is answered by.
+/// What a call for the version prints.
 pub const VERSION_LINE: &str = "pnmpipe 0.1.0\n";
 
 /// How the program is called.
@@ -85,7 +85,7 @@ impl From<AllocError> for CommandLineFault {
     }
 }
 
-/// Reads the words, of which the first is the program's own name.
+/// Reads the words; the first is the program's own name.
 #[inline(never)]
 pub fn read_words<'a>(
     alloc: Global,
@@ -119,7 +119,7 @@ fn form_by(is_plain: Option<bool>) -> Form
     }
 }
 
-/// The command that the words are read by.
+/// The command that reads the words.
 fn program<'a>(alloc: Global) -> Result<Command<'a>, AllocError>
     ensures { IfOk result (λ command. app_of command ≡ program) }
 {
@@ -167,7 +167,7 @@ fn lanes_option<'a>(alloc: Global) -> Arg<'a>
     value_option(alloc, "lanes", "K", parser, "1", LANES_HELP)
 }
 
-/// An option whose value is given by this parser, and is the default where it isn't given.
+/// An option whose value this parser reads, and which has the default if it isn't given.
 fn value_option<'a>(
     alloc: Global,
     name: &'a str,
@@ -197,7 +197,7 @@ fn plain_option<'a>(alloc: Global) -> Arg<'a>
         .help(PLAIN_HELP)
 }
 
-/// What is at fault where `clap` gives this error.
+/// The fault for this error of `clap`.
 fn fault_of(alloc: Global, error: &clap::Error) -> CommandLineFault
     ensures { FitsKind (kind_of error.now) result }
 {

@@ -30,12 +30,12 @@ const RUN_FAULT: u8 = 1;
 /// The status of words that name no run.
 pub const COMMAND_LINE_FAULT: u8 = 2;
 
-/// Runs the program: `words` are its own name, options and the chain. By the runner it reads the images of `input`
-/// and writes those that come out to `output`, in the form that the words ask for. Where they ask for
-/// help or the version, that is written to `output` and nothing is read. A fault prints one line to `errors`; if that
-/// can't be written, nothing else changes. The status is 0 where all went well, or help or the version was asked for, 1
-/// after a fault of the run, and 2 where the words name no chain or memory ran out before the run, and then nothing is
-/// read or written.
+/// Runs the program: `words` are its own name, options and the chain. It has the runner read the images of `input` and
+/// write those that come out to `output`, in the form that the words ask for. If they ask for help or the version, it
+/// writes that to `output` and reads nothing. At a fault it prints one line to `errors`; if that can't be written,
+/// nothing else changes. Returns the status: 0 if all went well, or if the words ask for help or the version; 1 after a
+/// fault of the run; and 2 if the words name no chain, or if memory ran out before the run, and then nothing is read or
+/// written.
 pub fn command<
     A: Runner,
     H: AllocGlobal + Threads + Wait + Sync,
@@ -49,7 +49,7 @@ pub fn command<
     ensures help { AsksForHelp (map string_bytes words.now) → (result ≢ 1) × (input.new ≡ input.old) }
     ensures helped { AsksForHelp (map string_bytes words.now) → result ≡ 0
         → (text : List ℕ) × Appends (W.held output.old) (W.held output.new) text }
-    // The version is one line, cut short only where a write failed.
+    // The version is one line, cut short only if a write failed.
     ensures version { AsksForVersion (map string_bytes words.now) → (result ≢ 1) × (input.new ≡ input.old) }
     ensures versioned { AsksForVersion (map string_bytes words.now) → result ≡ 0
         → AppendsPrefix (W.held output.old) (W.held output.new) VERSION_LINE.now
@@ -97,9 +97,9 @@ pub fn command<
     }
 }
 
-/// Runs the tools over the input, with rings for so many messages between them and each row-wise one over
-/// so many lanes, writes the results in the form, and prints the run's fault. It stands in a frame of its own, and so
-/// do the words, so that what reads them takes no stack while the tools run.
+/// Runs the tools over the input, with rings for `ring` messages between them and each row-wise tool over `lanes`
+/// lanes, writes the results in the form, and prints the run's fault. It has a stack frame of its own, and so has what
+/// reads the words, so that the latter takes no stack while the tools run.
 #[inline(never)]
 fn run_tools<A: Runner, H: AllocGlobal + Threads + Wait + Sync, R: BytesIn, W: BytesOut, E: Write>(
     rt: &H,
@@ -130,7 +130,7 @@ fn run_tools<A: Runner, H: AllocGlobal + Threads + Wait + Sync, R: BytesIn, W: B
     }
 }
 
-/// Writes the text. What is left after a failed write is left out.
+/// Writes the text. After a failed write, the rest is left out.
 fn print_text<W: BytesOut>(output: &mut W, text: &str)
     ensures prefix { AppendsPrefix (W.held output.old) (W.held output.new) text.now }
     ensures whole { Appends (W.held output.old) (W.held output.new) text.now

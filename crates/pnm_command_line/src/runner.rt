@@ -16,11 +16,11 @@ use std::thread::Threads;
 
 /// What runs the tools that the words name, so that what is made of words is proved beside the runs.
 pub trait Runner {
-    /// What is known of a run: over so many lanes, of this job, by its answer and what it read and wrote.
+    /// What is known of a run, by its number of lanes, its job, its answer, and what it read and wrote.
     ghost has_run: { RunRelation };
 
     /// Reads the images of the reader, passes them through the tools and writes what comes out in the form, over rings
-    /// of so many messages and so many lanes of each row-wise tool.
+    /// of `capacity` messages and `lanes` lanes of each row-wise tool.
     fn run<H: AllocGlobal + Threads + Wait + Sync, R: BytesIn, W: BytesOut>(
         &self,
         rt: &H,

@@ -39,21 +39,20 @@ pub struct ChainDone {
     pub output: Sender,
     /// The rings between a tool and the next, in the order of the tools: one less than there are tools.
     pub links: Vec<Link>,
-    /// How each tool has ended, in their order.
+    /// How each tool has ended, in the order of the tools.
     pub ends: Vec<StageEnd>,
 }
 
-/// Passes what comes on `input` through the tools to `output`, each tool a stage in a thread of its own. Where there
-/// are several lanes, 8 at most, a row-wise tool works over so many in its place: it has a thread for each lane, one
-/// that deals the rows to them, and one that gathers what they make. All rings hold so many messages each, 1 to 1,024.
-/// The gate is called by each stage with its tool's number, from 1, and lane 0, and by each lane with that number and
-/// its own, from 0.
+/// Passes what comes on `input` through the tools to `output`, each tool a stage in a thread of its own. If there are
+/// several `lanes`, 8 at most, a row-wise tool works over that many lanes instead: it has a thread for each lane, one
+/// that deals the rows to the lanes, and one that gathers what they make. Each ring holds `capacity` messages, 1 to
+/// 1,024. Each stage calls the gate with its tool's number, from 1, and lane 0; each lane calls it with its tool's
+/// number and its own, from 0.
 ///
-/// It returns once all tools have ended, which they do when the end of the stream or Stop has come, or the
-/// input's other end is dropped; that the output's other end is dropped is seen only where its ring is
-/// full. So other threads have to send and take, or all that is to come is in the input, and there is room
-/// for what comes of it. `NoStart` is answered where there is no memory for a ring or a list, or a thread
-/// can't be started.
+/// It returns once all tools have ended. They end when the end of the stream or Stop has come, or the input's other end
+/// is dropped; they see that the output's other end is dropped only when its ring is full. So other threads have to
+/// send and take, or the input has to hold all that is to come, and the output room for what comes of it. Returns
+/// `NoStart` if there is no memory for a ring or a list, or if a thread can't be started.
 pub fn run_chain<R: Threads + Wait + Sync, G: Gate>(
     rt: &R,
     alloc: Global,
@@ -80,7 +79,7 @@ pub fn run_chain<R: Threads + Wait + Sync, G: Gate>(
 }
 
 /// Passes what comes on `input` through the tools to `output`, as `run_chain` does. Once each of its threads is
-/// started, other work is done in this one. At `NoStart` that work isn't done.
+/// started, this thread does the work `beside`. At `NoStart` that work isn't done.
 pub fn run_chain_beside<R: Threads + Wait + Sync, G: Gate, T: Task<Output = B> + Drop, B: Drop>(
     rt: &R,
     alloc: Global,
@@ -120,7 +119,7 @@ struct Reserved {
 }
 
 impl Reserved {
-    /// For so many tools; none where there is no memory.
+    /// Reserves the lists for `count` tools. Returns `None` if there is no memory.
     fn new(alloc: Global, count: usize) -> Option<Reserved>
         ensures { IfSome result
             (λ reserved. IsReserved count reserved.links.items (vec_capacity reserved.links) reserved.ends.items
@@ -132,7 +131,7 @@ impl Reserved {
     }
 }
 
-/// Starts the tools, at least one, from the last one on, each in threads of its own, and does the work beside them once
+/// Starts the tools, at least one, from the last one on, each in threads of its own, and does the work `beside` once
 /// all are started.
 fn run_stages<R: Threads + Wait + Sync, G: Gate, T: Task<Output = B> + Drop, B: Drop>(
     rt: &R,
@@ -205,7 +204,7 @@ fn run_stages<R: Threads + Wait + Sync, G: Gate, T: Task<Output = B> + Drop, B: 
     }
 }
 
-/// A chain of which nothing has been started: its ring ends come back.
+/// The answer of a chain of which nothing was started: it gives the ring ends back.
 fn not_started(input: Receiver, output: Sender) -> NoStart
     ensures { IfSome result.ends (IsUntouched input output) }
 {

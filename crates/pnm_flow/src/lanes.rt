@@ -21,16 +21,16 @@ use std::alloc::Global;
 use std::sync::Wait;
 use std::thread::Threads;
 
-/// Passes what comes on `input` through a row-wise tool to `output`, over 1 to 8 lanes: a thread deals the rows, row y
-/// to lane y mod their number; in a thread of its own each lane does the tool's work on the images that it sees; and
-/// another thread gathers the rows. The rings to and from the lanes hold so many messages each, 1 to 1,024. Each lane
-/// calls the gate with the tool's number and its own, from 0, before it takes its first message; the threads that deal
-/// and gather don't.
+/// Passes what comes on `input` through a row-wise tool to `output`, over 1 to 8 lanes. One thread deals the rows, row
+/// y to lane y mod the number of lanes; each lane does the tool's work on the images that it sees, in a thread of its
+/// own; and another thread gathers the rows. Each ring to or from a lane holds `capacity` messages, 1 to 1,024. Each
+/// lane calls the gate with the tool's number and its own, from 0, before it takes its first message; the threads that
+/// deal and gather don't.
 ///
-/// It ends as `run_stage` does, with the same messages in the same order; rows that come together are dealt each by
-/// itself, as a copy. Its end is `PeerGone` where it is that of one of its threads; else the first fault of the thread
-/// that deals, of the lanes in their order and of the one that gathers. `NoStart` is answered where there is no memory
-/// for a ring or a list, or a thread can't be started.
+/// It ends as `run_stage` does, with the same messages in the same order; rows that come together are dealt one by one,
+/// as copies. Its end is `PeerGone` if one of its threads ended so; otherwise it is the first fault, in this order: the
+/// thread that deals, the lanes in their order, the thread that gathers. Returns `NoStart` if there is no memory for a
+/// ring or a list, or if a thread can't be started.
 pub fn run_lanes<R: Threads + Wait + Sync, G: Gate>(
     rt: &R,
     alloc: Global,
@@ -65,8 +65,9 @@ pub fn run_lanes<R: Threads + Wait + Sync, G: Gate>(
 }
 
 /// Passes what comes on `input` through a row-wise tool to `output`, as `run_lanes` does, over the lanes of these
-/// rings. Once each of its threads is started, other work is done in this one. None where a thread can't be started, or
-/// the output's wakers have too many owners: that work isn't done then, and the threads that were started have ended.
+/// rings. Once each of its threads is started, this thread does the work `beside`. Returns `None` if a thread can't be
+/// started, or if the output's wakers have too many owners; then that work isn't done, and the threads that were
+/// started have ended.
 pub fn run_lanes_beside<R: Threads + Wait + Sync, G: Gate, T: Task<Output = B> + Drop, B: Drop>(
     rt: &R,
     alloc: Global,
@@ -148,8 +149,9 @@ impl<'a, R: Wait, G: Gate> Task for Lane<'a, R, G> {
     }
 }
 
-/// The threads of these lanes, from the last one on, and of those that deal and gather; then the work beside them. None
-/// where one can't be started, or a lane can't have its home: all that were started have ended then.
+/// Starts the threads of these lanes, from the last one on, and those that gather and deal; then does the work `beside`
+/// in this one. Returns `None` if one can't be started, or if a lane can't have its home; then all that were started
+/// have ended.
 fn run_threads<R: Threads + Wait + Sync, G: Gate, T: Task<Output = B> + Drop, B: Drop>(
     rt: &R,
     alloc: Global,

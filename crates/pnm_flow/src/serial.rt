@@ -16,12 +16,12 @@ use pnm_tools::{FusedFilter, Tool, ToolFault};
 use std::alloc::Global;
 
 /// Reads the images of the reader, passes them through the tools and writes what comes out in the
-/// form. The input's fault is answered before those of the tools, these in the order of the tools, and
-/// all of them before the output's: the writer's, or that the form can't hold the results. After a
-/// fault of a tool or of the output it goes on reading, and so it does after want of memory for one of
-/// the tools, so that a fault that comes before that one in this order is still met; where there is no
-/// memory for the list of the tools, nothing is read and the fault is that of tool 1. After `u64::MAX` messages, or
-/// rows that pass together, it answers `ReadFailed`.
+/// form. If there are several faults, returns the first in this order: the input's, those of the tools in their order,
+/// the output's. The output's fault is the writer's, or that the form can't hold the results. After a fault of a tool
+/// or of the output it goes on reading, so that it still meets a fault that comes before that one in this order; it
+/// does so if there is no memory for one of the tools, too. If there is no memory for the list of the tools, it reads
+/// nothing, and the fault is that of tool 1. After `u64::MAX` messages, or rows that pass together, it returns
+/// `ReadFailed`.
 pub fn run_serial<R: BytesIn, W: BytesOut>(
     alloc: Global,
     reader: &mut R,
@@ -39,8 +39,8 @@ pub fn run_serial<R: BytesIn, W: BytesOut>(
     run_serial_over(alloc, reader, writer, tools, form, usize::MAX)
 }
 
-/// The same, over an input of so many bytes, as far as is known. It reads no more of them at a time, and takes less
-/// memory for a small input. That changes no answer, also where there are more bytes or fewer.
+/// As `run_serial`, over an input that has `length` bytes, as far as is known. For a small input it reads fewer bytes
+/// at a time, and takes less memory. The length changes no answer, even if the input has more bytes or fewer.
 pub fn run_serial_over<R: BytesIn, W: BytesOut>(
     alloc: Global,
     reader: &mut R,
@@ -63,8 +63,8 @@ pub fn run_serial_over<R: BytesIn, W: BytesOut>(
     run_filters(alloc, reader, writer, stages.as_mut_slice(), form, length)
 }
 
-/// Each tool at work, fused; one for which there is no memory has refused. The only fault is
-/// `Memory`, for the list.
+/// Each tool at work, fused; a tool for which there is no memory has refused. The only fault is `Memory`, if there is
+/// no memory for the list.
 fn filters_of(alloc: Global, tools: &[Tool]) -> Result<Vec<FusedFilter<ToolState>>, ToolFault>
     requires { AreLawfulTools tools.now }
     ensures fresh { IfOk result (λ stages. AreFresh stages.items tools.now) }

@@ -11,9 +11,9 @@ use std::alloc::Global;
 use std::sync::Wait;
 
 /// Passes what comes on `input` through the tool to `output`, message by message, until the stream
-/// has ended. The gate is called once, with the tool's number and lane 0, before the first message is
-/// taken. Where the input's other end is dropped early, or the output's, the stage ends by `PeerGone`;
-/// else only once the end of the stream or Stop was taken.
+/// has ended. It calls the gate once, with the tool's number and lane 0, before it takes the first message. If the
+/// input's other end is dropped early, or the output's, the stage ends by `PeerGone`; otherwise it ends only once it
+/// has taken the end of the stream or Stop.
 pub fn run_stage<R: Wait, G: Gate>(
     rt: &R,
     alloc: Global,

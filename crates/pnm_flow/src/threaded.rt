@@ -34,12 +34,12 @@ use std::thread::Threads;
 
 /// Reads the images of the reader, passes them through the tools and writes what comes out in the form, with the
 /// answers and the bytes of `run_serial`. This thread reads and writes, and each tool works in a thread of its own,
-/// which passes the gate with its number, from 1, and lane 0. Where there are several lanes, 8 at most, each row-wise
-/// tool has a thread for each of them, which passes the gate with the tool's number and its lane, from 0, and two more
-/// that deal the rows and gather them. All rings hold so many messages each, 1 to 1,024.
+/// which passes the gate with its number, from 1, and lane 0. If there are several `lanes`, 8 at most, each row-wise
+/// tool has a thread for each lane, which passes the gate with the tool's number and its lane, from 0, and two more
+/// threads, which deal the rows and gather them. Each ring holds `capacity` messages, 1 to 1,024.
 ///
-/// `NoStart` is answered where there is no memory for a ring or a list, or a thread can't be started. Where a source
-/// waits for its reader, all that had come from the last tool by then was written before.
+/// Returns `NoStart` if there is no memory for a ring or a list, or if a thread can't be started. Before the source
+/// waits for its reader, all that has come from the last tool by then is written.
 pub fn run<H: Threads + Wait + Sync, R: BytesIn, W: BytesOut, G: Gate>(
     rt: &H,
     alloc: Global,
@@ -56,7 +56,7 @@ pub fn run<H: Threads + Wait + Sync, R: BytesIn, W: BytesOut, G: Gate>(
     requires lanes { IsLaneCount lanes }
     ensures ran { (result ≡ Err NotStarted) ⊎ HasRunOverThreads lanes (job_of tools.now form) result
         (change R.left R.failures reader.old reader.new) (change W.held W.failures writer.old writer.new) }
-    // Where no chain came back, what it held didn't either.
+    // If no chain came back, what it held didn't either.
     ensures same_reader { result ≢ Err NotStarted → R.same reader.old reader.new }
     ensures same_writer { result ≢ Err NotStarted → W.same writer.old writer.new }
 {
@@ -202,7 +202,7 @@ fn first_fault(ends: &[StageEnd]) -> Option<RunFault>
     None
 }
 
-/// What the end of the stage of this number is answered by, if it isn't passed over.
+/// The run's fault for this end of the stage with this number. Returns `None` if the end is no fault.
 fn fault_of(end: StageEnd, number: usize) -> Option<RunFault>
     ensures { result ≡ fault_of_end number end }
 {

@@ -29,7 +29,7 @@ pub enum Across {
 
 impl Across {
     /// What this tool works over, where there are so many lanes for the tools that can have them, with rings for so
-    /// many messages each; none where there is no memory.
+    /// many messages each. Returns `None` if there is no memory.
     pub fn new(alloc: Global, tool: &Tool, lanes: usize, capacity: usize) -> Option<Across>
         requires lanes { IsLaneCount lanes }
         requires capacity { IsRingCapacity capacity }
@@ -45,8 +45,8 @@ impl Across {
     }
 }
 
-/// Whether the tool works over several lanes, where there are so many: one thread receives for it then, and another
-/// sends.
+/// Whether the tool works over several lanes, if there are `lanes` of them. If it does, one thread receives for it, and
+/// another sends.
 pub fn runs_in_lanes(tool: &Tool, lanes: usize) -> bool
     ensures { IsTrue result ↔ RunsInLanes lanes tool.now }
 {
@@ -134,9 +134,9 @@ impl<'a, R: Wait, T: Task<Output = B> + Drop, B: Drop> Task for Listener<'a, R, 
     }
 }
 
-/// Passes what comes on `input` through the tool to `output`, in threads of its own; once these are started, other work
-/// is done in this one. None where a thread can't be started: that work isn't done then, and the threads that were
-/// started have ended.
+/// Passes what comes on `input` through the tool to `output`, in threads of its own. Once these are started, this
+/// thread does the work `beside`. Returns `None` if a thread can't be started; then that work isn't done, and the
+/// threads that were started have ended.
 pub fn run_tool<R: Threads + Wait + Sync, G: Gate, T: Task<Output = B> + Drop, B: Drop>(
     rt: &R,
     alloc: Global,

@@ -19,13 +19,13 @@ pub struct Calls {
 pub enum Devices {
     /// All bytes are given and taken.
     Whole,
-    /// Few bytes a call, of which some fail.
+    /// Each call moves few bytes, and some calls fail.
     Failing(Calls),
     /// Each flush fails.
     NeverFlushes,
-    /// There is room for so many bytes.
+    /// The writer has room for this many bytes.
     Room(usize),
-    /// There is room for so many bytes behind a buffer.
+    /// The writer has room for this many bytes, behind a buffer.
     Buffered(usize),
 }
 
@@ -44,7 +44,7 @@ impl Calls {
         }
     }
 
-    /// These, where one of the calls of this name fails so much later.
+    /// These calls, but the one of this name that fails is `by` calls later.
     pub fn later(self, name: &[u8], by: usize) -> Calls {
         let mut calls = self;
         match name {

@@ -2,23 +2,25 @@
 //! input; escapes are those of texts (`pnm_test_support`). A line that begins with `#` is given back.
 //!
 //! - `raw (CHAIN) INPUT`, `plain (CHAIN) INPUT`: the images and rows of the output, or the fault; and the bytes
-//! - `cuts (CHAIN) INPUT`: the same of each prefix of the input, with the length from which on it is that
+//! - `cuts (CHAIN) INPUT`: the same for each prefix of the input, with the length from which on it holds
 //! - `reads FORM COUNT SIZE/READS SIZE/WRITES/FLUSHES (CHAIN) INPUT`, and so `writes` and `flushes`: the same over a
-//!   reader and a writer that move so many bytes a call, of which the read, the write and the flush after so many fail,
-//!   and later ones don't; for COUNT numbers of calls of that name, from the given one on
+//!   reader and a writer that move SIZE bytes a call. The read after READS reads, the write after WRITES writes and the
+//!   flush after FLUSHES flushes fail, and later ones don't; for COUNT numbers of calls of that name, from the given
+//!   one on
 //! - `never (CHAIN) INPUT`: the same over a writer each of whose flushes fails
-//! - `room SIZE (CHAIN) INPUT`: the same over a writer that has room for so many bytes, and all of these
-//! - `buffered COUNT (CHAIN) INPUT`: the same where the writer stands behind a buffer, of room for 0, 1 and so on
+//! - `room SIZE (CHAIN) INPUT`: the same over a writer that has room for SIZE bytes, and all of these
+//! - `buffered COUNT (CHAIN) INPUT`: the same over a writer behind a buffer, with room for 0 bytes, 1 and so on, for
+//!   COUNT numbers
 //! - `stage ROOM GONE (TOOL) MESSAGES`, `deal LANES GONE MESSAGES`, `gather ROOM GONE MESSAGES|MESSAGES`: how a stage
 //!   over rings ends, the dealing to lanes and the gathering from lanes; what is left of what came, and what is sent
 //!   (`rings`); an end of a ring is gone: `input`, `inputs`, `output`, that of a lane by its number, or none of them.
 //!   Rows between braces lie in a ring together
-//! - `chain LANES (CHAIN) MESSAGES`: how each tool of a chain over so many lanes ends; what is left of what came, and
+//! - `chain LANES (CHAIN) MESSAGES`: how each tool of a chain over LANES lanes ends; what is left of what came, and
 //!   what is sent
 //! - `heights LANES HEIGHT`: how many rows of an image each lane gets
 //!
-//! Each input is run in one thread, and over threads with several rings and lanes (`ways`): where one of these runs
-//! answers or writes something else, that is told, too.
+//! Each input is run in one thread, and over threads with several rings and lanes (`ways`): if one of these runs
+//! answers or writes something else, that is printed, too.
 #![tactic(auto)]
 
 mod failing;
@@ -69,8 +71,8 @@ fn main(rt: HostRuntime) -> Result<(), Unmade> {
     tell_lines(&rt)
 }
 
-/// Prints for each line of the standard input what comes of its case; a line that begins with `#` as it is. A method
-/// of `Teller` can't be told that its runtime may be shared between threads, so this stands here.
+/// Prints what comes of the case of each line of the standard input, and a line that begins with `#` as it is. This is
+/// a function of its own, since a method of `Teller` can't be told that its runtime may be shared between threads.
 fn tell_lines<H: AllocGlobal + Input + Print + Threads + Wait + Sync>(
     rt: &H,
 ) -> Result<(), Unmade> {
@@ -94,7 +96,7 @@ fn tell_line<H: Print + Threads + Wait + Sync>(
     Ok(())
 }
 
-/// Adds what comes of the case of a line, which is ` no case` where it isn't one, or can't be made.
+/// Adds what comes of the case of a line, or ` no case` if it isn't one, or can't be made.
 fn tell_case<R: Threads + Wait + Sync>(
     rt: &R,
     alloc: Global,
@@ -165,7 +167,8 @@ fn tell_runs<R: Threads + Wait + Sync>(
     }
 }
 
-/// Adds what runs answer and write where a call of this name fails, and where a later one does, for so many.
+/// Adds what runs answer and write if a call of this name fails, and if a later one does, for as many calls as `facts`
+/// says.
 fn tell_failing<R: Threads + Wait + Sync>(
     rt: &R,
     alloc: Global,

@@ -22,7 +22,7 @@ use std::thread::Threads;
 /// How many messages a ring has room for.
 const CAPACITY: usize = 8;
 
-/// A ring for so many messages.
+/// A ring for `capacity` messages.
 fn ring(alloc: Global, capacity: usize) -> Result<(Sender, Receiver), Unmade> {
     new_ring(alloc, capacity).ok_or(Unmade)
 }
@@ -54,7 +54,7 @@ fn holding<R: Wait>(
     Ok((Some(sender), receiver))
 }
 
-/// A ring for so many messages, and its receiving end, unless that is gone.
+/// A ring for `capacity` messages: its sending end, and its receiving end unless that is gone.
 fn taking(
     alloc: Global,
     capacity: usize,
@@ -68,7 +68,7 @@ fn taking(
     Ok((sender, Some(receiver)))
 }
 
-/// Adds all that a ring holds after a word, or nothing where that is nothing.
+/// Adds the word and all that the ring holds, or nothing if it holds nothing.
 fn tell_ring(
     alloc: Global,
     word: &str,
@@ -104,8 +104,7 @@ fn tools_of(alloc: Global, text: &[u8]) -> Result<Vec<Tool>, Unmade>
     }
 }
 
-/// Adds how a stage of a tool, or each tool of a chain over so many lanes, ends; what is left of what came; and what is
-/// sent.
+/// Adds how a stage of a tool ends, or each tool of a chain over lanes; what is left of what came; and what is sent.
 pub fn tell_tools<R: Threads + Wait + Sync>(
     rt: &R,
     alloc: Global,
@@ -129,7 +128,7 @@ pub fn tell_tools<R: Threads + Wait + Sync>(
     tell_sent(alloc, receiver, told)
 }
 
-/// Adds how a stage of the first of these tools ends, which has to be lawful, and what it leaves.
+/// Adds how a stage of the first of these tools ends, and what it leaves. The tool has to be lawful.
 fn tell_stage<R: Wait>(
     rt: &R,
     alloc: Global,
@@ -164,7 +163,7 @@ fn tell_left(alloc: Global, input: Receiver, told: &mut String) -> Result<(), Al
     tell_ring(alloc, " left", &mut input, told)
 }
 
-/// Adds how each tool of a chain over so many lanes ends, and what the first one leaves.
+/// Adds how each tool of a chain over `lanes` lanes ends, and what the first one leaves.
 fn tell_chain<R: Threads + Wait + Sync>(
     rt: &R,
     alloc: Global,
@@ -196,7 +195,7 @@ fn tell_ends(ends: &[StageEnd], told: &mut String) -> Result<(), AllocError> {
     Ok(())
 }
 
-/// Adds what was sent, where it is taken.
+/// Adds what was sent, if there is a receiving end.
 fn tell_sent(alloc: Global, receiver: Option<Receiver>, told: &mut String) -> Result<(), Unmade> {
     if let Some(mut receiver) = receiver {
         tell_ring(alloc, " sent", &mut receiver, told)?;
@@ -204,7 +203,7 @@ fn tell_sent(alloc: Global, receiver: Option<Receiver>, told: &mut String) -> Re
     Ok(())
 }
 
-/// So many rings. Of the lane that is gone the sending end alone, with room for the head.
+/// Makes `count` rings. Of the lane that is gone, there is only the sending end, with room for the head.
 fn lanes_but(
     alloc: Global,
     count: usize,
@@ -223,7 +222,7 @@ fn lanes_but(
     Ok((outputs, inputs))
 }
 
-/// The number of a lane; none of another word.
+/// The number of a lane, or `None` if the word names no lane.
 fn lane_of(word: &[u8]) -> Option<usize> {
     match word.first() {
         Some(b'0'..=b'9') => {
@@ -234,7 +233,7 @@ fn lane_of(word: &[u8]) -> Option<usize> {
     }
 }
 
-/// Adds how the dealing to so many lanes ends, what it leaves, and what each lane is sent.
+/// Adds how the dealing to lanes ends, what it leaves, and what each lane is sent.
 pub fn tell_dealt<R: Wait>(
     rt: &R,
     alloc: Global,
@@ -253,7 +252,8 @@ pub fn tell_dealt<R: Wait>(
     Ok(tell_rings(alloc, (" |", ""), lanes.as_mut_slice(), told)?)
 }
 
-/// Adds all that rings hold, each after one of these words, and after the other one where it holds something.
+/// Adds all that the rings hold, each after the first of these words, and after the other one too if the ring holds
+/// something.
 fn tell_rings(
     alloc: Global,
     (word, word_of_some): (&str, &str),
@@ -267,7 +267,7 @@ fn tell_rings(
     Ok(())
 }
 
-/// Rings that hold what lanes give, which a bar parts, and their sending ends, unless these are gone.
+/// Rings that hold what the lanes give, which a bar parts in the text, and their sending ends, unless these are gone.
 fn giving<R: Wait>(
     rt: &R,
     alloc: Global,
@@ -310,7 +310,7 @@ pub fn tell_gathered<R: Wait>(
     tell_sent(alloc, receiver, told)
 }
 
-/// Adds how many rows of an image of a height each of so many lanes gets.
+/// Adds how many rows of an image each lane gets, for a number of lanes and a height.
 pub fn tell_heights(text: &[u8], told: &mut String) -> Result<(), AllocError> {
     let (lanes, rest) = cut_number(text);
     let (height, _) = cut_number(rest);

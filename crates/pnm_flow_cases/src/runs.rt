@@ -36,12 +36,12 @@ pub fn tell_input<R: Threads + Wait + Sync>(
     }
 }
 
-/// What runs that are told after one another differ in.
+/// How runs that are told one after another differ.
 #[derive(Clone, Copy)]
 pub enum Changes<'a> {
     /// The input is cut after 0 bytes, 1 and so on.
     Input,
-    /// One of these calls, of this name, fails so much later.
+    /// The call of this name that fails is 0 calls later, 1 and so on.
     Calls(&'a [u8], Calls),
     /// The writer has room for 0 bytes behind a buffer, 1 and so on.
     Room,
@@ -62,7 +62,8 @@ impl Changes<'_> {
     }
 }
 
-/// Adds what runs that change so answer and write, so many of them, with the number from which on it is that.
+/// Adds what `count` runs that change so answer and write, each answer with the number of the run from which on it
+/// holds.
 pub fn tell_changes<R: Threads + Wait + Sync>(
     rt: &R,
     alloc: Global,
@@ -80,7 +81,7 @@ pub fn tell_changes<R: Threads + Wait + Sync>(
     Ok(())
 }
 
-/// Adds what a run of these tools answers and writes, and what one in another way does, where that is something else.
+/// Adds what a run of these tools answers and writes, and what a run in another way does, if that is something else.
 fn tell_ways<R: Threads + Wait + Sync>(
     rt: &R,
     alloc: Global,
@@ -99,7 +100,7 @@ fn tell_ways<R: Threads + Wait + Sync>(
     Ok(())
 }
 
-/// Adds what a run in another way answers and writes, where that is something else than is told.
+/// Adds what a run in another way answers and writes, if that is something else than `told`.
 fn tell_other(told: &mut String, way: Way, again: &str) -> Result<(), AllocError> {
     if again != told.as_str() {
         write!(told, " but by {way:?}")?;
@@ -151,7 +152,7 @@ fn run_over<R: Threads + Wait + Sync, W: BytesOut>(
     run_by(rt, alloc, way, &mut reader, writer, tools, job.form)
 }
 
-/// Adds what a run in this way answers whose writer has room for so many bytes, and these bytes.
+/// Adds what a run in this way answers if its writer has room for `size` bytes, and all of these bytes.
 fn tell_run_in_room<R: Threads + Wait + Sync>(
     rt: &R,
     alloc: Global,
@@ -169,7 +170,8 @@ fn tell_run_in_room<R: Threads + Wait + Sync>(
     tell_answer(told, answer, target.as_slice())
 }
 
-/// Adds the same where a buffer keeps the bytes back until a flush, as before the program's standard output.
+/// Adds the same for a writer behind a buffer, which keeps the bytes back until a flush, as before the program's
+/// standard output.
 fn tell_buffered_run<R: Threads + Wait + Sync>(
     rt: &R,
     alloc: Global,
@@ -190,7 +192,7 @@ fn tell_buffered_run<R: Threads + Wait + Sync>(
     tell_answer(told, answer, target.as_slice())
 }
 
-/// Adds what a run in this way answers and writes whose devices make these calls.
+/// Adds what a run in this way answers and writes if its devices make these calls.
 fn tell_failing_run<R: Threads + Wait + Sync>(
     rt: &R,
     alloc: Global,

@@ -10,7 +10,7 @@ use std::alloc::Global;
 use std::sync::Wait;
 use std::thread::Threads;
 
-/// In one thread; or over threads, with rings for so many messages and so many lanes for each row-wise tool.
+/// In one thread; or over threads, with the messages that a ring holds and the lanes of each row-wise tool.
 #[derive(Clone, Copy, Debug)]
 pub enum Way {
     OneThread,

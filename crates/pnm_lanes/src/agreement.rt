@@ -10,7 +10,7 @@ use crate::lane::MAX_LANES;
 use pnm_image::limits::MAX_SIDE;
 use pnm_image::{Head, Message, Shape};
 
-/// The height of the image that the message begins; 0 where it begins none.
+/// The height of the image that the message begins, or 0 if it begins none.
 pub fn height_of(message: &Message) -> u32
     ensures height { result ≡ height_in message.now }
     ensures within { result ≤ MAX_SIDE }
@@ -21,8 +21,8 @@ pub fn height_of(message: &Message) -> u32
     }
 }
 
-/// Whether the two messages are those of two lanes for one message of the whole stream: heads that may differ in the
-/// height alone, or twice the end of an image or of the stream.
+/// Whether the two messages are those of two lanes for one message of the whole stream: two heads that differ at most
+/// in the height, two ends of an image, or two ends of the stream.
 pub fn are_alike(first: &Message, other: &Message) -> bool
     ensures { IsTrue result ↔ AreAlike first.now other.now }
 {
@@ -33,7 +33,7 @@ pub fn are_alike(first: &Message, other: &Message) -> bool
     }
 }
 
-/// Whether the two heads may differ in the height alone.
+/// Whether the two heads differ at most in the height.
 fn are_heads_alike(first: &Head, other: &Head) -> bool
     ensures { IsTrue result ↔ (other.now ≡ with_height first.now other.now.shape.height) }
 {
@@ -46,7 +46,8 @@ fn are_heads_alike(first: &Head, other: &Head) -> bool
         && other.tuple_type() == first.tuple_type()
 }
 
-/// The height of an image, of which the lanes have these heights; none where there is no such height within the limits.
+/// The height of the image whose parts in the lanes have these heights. Returns `None` if no height within the limits
+/// has such parts.
 pub fn whole_height(heights: &[u32]) -> Option<u32>
     requires some { 1 ≤ length heights.now }
     requires few { length heights.now ≤ MAX_LANES }
@@ -62,7 +63,7 @@ pub fn whole_height(heights: &[u32]) -> Option<u32>
     Some(height)
 }
 
-/// The sum of the heights, where it is within the limits.
+/// The sum of the heights, if it is within the limits.
 fn sum_of(heights: &[u32]) -> Option<u32>
     requires { length heights.now ≤ MAX_LANES }
     ensures found { IfSome result (λ height. (height ≤ MAX_SIDE) × (height ≡ sum heights.now)) }
@@ -78,7 +79,8 @@ fn sum_of(heights: &[u32]) -> Option<u32>
     Some(sum as u32)
 }
 
-/// The message of the whole stream, for which the lanes have given messages like this one with these heights.
+/// The message of the whole stream for which the lanes have given messages like `first`, with these heights. Returns
+/// `None` if there is no such message.
 pub fn together(first: Message, heights: &[u32]) -> Option<Message>
     requires some { 1 ≤ length heights.now }
     requires few { length heights.now ≤ MAX_LANES }

@@ -19,11 +19,11 @@ use std::thread::Threads;
 pub struct OuterRingEnds {
     /// The end that the dealer receives on.
     pub input: Receiver,
-    /// Those that it sends on, one for each lane.
+    /// The ends that the dealer sends on, one for each lane.
     pub outputs: Vec<Sender>,
-    /// Those that the gatherer receives on, one for each lane.
+    /// The ends that the gatherer receives on, one for each lane.
     pub inputs: Vec<Receiver>,
-    /// The end that it sends on.
+    /// The end that the gatherer sends on.
     pub output: Sender,
 }
 
@@ -91,8 +91,9 @@ impl<'a, R: Threads + Wait + Sync, T: Task<Output = B> + Drop, B: Drop> Task
     }
 }
 
-/// The thread that gathers, and the one that deals; then the work beside them. None where one can't be started:
-/// what was started has ended then. It stands in no frame of its caller, who may have one a lane.
+/// Starts the thread that gathers and the one that deals, then does the work `beside` in this one. Returns `None` if
+/// one can't be started; then what was started has ended. It isn't inlined, since its caller may have a stack frame for
+/// each lane.
 #[inline(never)]
 pub fn deal_and_gather<R: Threads + Wait + Sync, T: Task<Output = B> + Drop, B: Drop>(
     rt: &R,

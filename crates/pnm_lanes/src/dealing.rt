@@ -32,13 +32,14 @@ pub struct DealDone {
     pub end: StageEnd,
 }
 
-/// Deals what comes on `input` to as many lanes as there are outputs, 1 to 8. Row y of an image goes to lane y mod
-/// the number of lanes, all counted from 0; it is moved, or copied where it comes together with others. Each lane gets
-/// a copy of each head, with the number of the lane's rows as the height, and each end of an image and of the stream.
+/// Deals what comes on `input` to lanes, one for each of the `outputs`, of which there are 1 to 8. Row y of an image
+/// goes to lane y mod the number of lanes, both counted from 0; it is moved, or copied if it comes together with
+/// others. Each lane gets a copy of each head, with the number of the lane's rows as the height, and each end of an
+/// image and of the stream.
 ///
-/// The faults are `OutOfOrder`, where a message can't come at its place, and `Memory`, where there is none for the
-/// copy of a head or a row. Each lane is sent Stop then, and the input is taken and dropped through its end or its
-/// Stop. Where the other end of a ring is dropped early, the end is `PeerGone`: each lane whose stream hasn't ended is
+/// The faults are `OutOfOrder`, if a message can't come at its place, and `Memory`, if there is no memory for the copy
+/// of a head or a row. After a fault each lane is sent Stop, and the input is taken and dropped through its end or its
+/// Stop. If the other end of a ring is dropped early, the end is `PeerGone`: each lane whose stream hasn't ended is
 /// sent Stop, and the input is drained.
 pub fn deal<R: Wait>(rt: &R, alloc: Global, input: Receiver, outputs: Vec<Sender>) -> DealDone
     requires { IsLaneCount (length outputs.items) }
@@ -93,8 +94,8 @@ fn deal_all<R: Wait>(
     unreachable!()
 }
 
-/// Where the dealing ends so at a packet with this ending: whether the end of the stream, or Stop, was dealt to each
-/// lane whose other end wasn't gone.
+/// If the dealing ends with `end` at a packet with this ending: whether the end of the stream, or Stop, was dealt to
+/// each lane whose other end wasn't gone.
 fn is_end_dealt(end: StageEnd, ending: Ending) -> bool
     ensures yes { IsTrue result → (ending ≡ Whole) ⊎ (ending ≡ BrokenOff) }
     ensures no { IsFalse result → (end ≡ Fault OutOfOrder) ⊎ (ending ≡ More) }
@@ -105,8 +106,8 @@ fn is_end_dealt(end: StageEnd, ending: Ending) -> bool
     }
 }
 
-/// Deals a message, or rows that came together, and goes on to the place after them. Where not all can be dealt, some
-/// may have been, and it answers how the dealing ends.
+/// Deals a message, or rows that came together, and goes on to the place after them. If not all can be dealt, returns
+/// how the dealing ends; some may have been dealt.
 fn deal_packet<R: Wait>(
     rt: &R,
     alloc: Global,
@@ -163,8 +164,8 @@ fn deal_message<R: Wait>(
     send_parts(rt, here, message, outputs)
 }
 
-/// Sends each lane its part of a message at this place. Where not each can be sent its own, some may have been, and it
-/// answers how the dealing ends.
+/// Sends each lane its part of a message at this place. If a lane can't be sent its part, returns how the dealing ends;
+/// other lanes may have been sent theirs.
 fn send_parts<R: Wait>(
     rt: &R,
     place: Place,
@@ -220,7 +221,8 @@ fn send_each<R: Wait>(rt: &R, message: &Message, outputs: &mut [Sender]) -> Opti
     unsent
 }
 
-/// From now on each lane is woken once for several short messages, and so before the dealer waits for anything.
+/// From now on, wakes each lane once for several short messages. So the dealer has to wake each before it waits for
+/// anything.
 fn hold_back_each(outputs: &mut [Sender])
     ensures { AtEach IsSameEnd outputs.old outputs.new }
 {
@@ -229,7 +231,7 @@ fn hold_back_each(outputs: &mut [Sender])
     }
 }
 
-/// Wakes each lane for what it was sent, where the next message of the input may have to be waited for.
+/// Wakes each lane for what it was sent, if the dealer may have to wait for the input's next message.
 fn wake_before_input(input: &mut Receiver, outputs: &mut [Sender])
     ensures input { SameReceiver input.old input.new × (received input.new ≡ received input.old) }
     ensures outputs { AtEach IsSameEnd outputs.old outputs.new }
@@ -239,7 +241,7 @@ fn wake_before_input(input: &mut Receiver, outputs: &mut [Sender])
     }
 }
 
-/// Wakes each lane for what it was sent, where room in this lane's ring may have to be waited for.
+/// Wakes each lane for what it was sent, if the dealer may have to wait for room in this lane's ring.
 fn wake_before_room(outputs: &mut [Sender], lane: usize)
     requires { lane < length outputs.old }
     ensures { AtEach IsSameEnd outputs.old outputs.new }
@@ -249,7 +251,7 @@ fn wake_before_room(outputs: &mut [Sender], lane: usize)
     }
 }
 
-/// Wakes each lane, where something was sent to it that it wasn't woken for.
+/// Wakes each lane that was sent something since the dealer last woke it.
 fn wake_each(outputs: &mut [Sender])
     ensures { AtEach IsSameEnd outputs.old outputs.new }
 {
@@ -259,7 +261,7 @@ fn wake_each(outputs: &mut [Sender])
 }
 
 /// A lane's part of a message that isn't a row: a head with the number of the lane's rows as the height, or the same
-/// message. None where there is no memory for a head.
+/// message. Returns `None` if there is no memory for a head.
 fn part_of(message: &Message, lane: usize, lanes: usize) -> Option<Message>
     requires lane { lane < lanes }
     requires lanes { lanes ≤ MAX_LANES }
@@ -279,7 +281,7 @@ fn part_of(message: &Message, lane: usize, lanes: usize) -> Option<Message>
     }
 }
 
-/// How many rows of an image of this height the lane gets, where row y goes to lane y mod `lanes`, all counted from 0.
+/// How many rows of an image of this height the lane gets, if row y goes to lane y mod `lanes`, both counted from 0.
 pub fn dealt_height(height: u32, lane: u32, lanes: u32) -> u32
     requires { lane < lanes }
     ensures { result ≡ dealt_height lane lanes height }
@@ -292,8 +294,8 @@ pub fn dealt_height(height: u32, lane: u32, lanes: u32) -> u32
     }
 }
 
-/// Ends the dealing so, after a message with this ending: sends each lane Stop, and drops what comes through to the end
-/// of the stream.
+/// Ends the dealing with `end`, after a message with this ending: sends each lane Stop, and drops what comes, through
+/// the end of the stream or Stop. Returns `PeerGone` instead if the other end of a ring was seen dropped before that.
 fn break_off<R: Wait>(
     rt: &R,
     end: StageEnd,

@@ -1,5 +1,4 @@
-//! What is done with lanes whose messages are no longer wanted: they are taken and dropped, from whichever lane has
-//! some.
+//! Lanes whose messages are no longer wanted: they are taken and dropped, from whichever lane has some.
 
 ghost use Rattle.std.specs.Prelude.{◌≡◌, ◌<◌, ◌≤◌, length, IfSome};
 ghost use Rattle.pnm_stages.specs.Rings.{received, known_items, SameReceiver};
@@ -13,8 +12,8 @@ use pnm_stages::{Receiver, Sender};
 use std::sync::Wait;
 
 /// Takes and drops what comes from the lanes that haven't ended, each through the end of its stream or Stop. It tries
-/// them in turn, and waits for none of them alone: it sleeps at the output, the home of their sending ends. False where
-/// a lane's other end was seen dropped before.
+/// them in turn, and waits for none of them alone: it sleeps at the output, the home of their sending ends. Returns
+/// false if a lane's other end was seen dropped before that.
 pub fn drain_all<R: Wait>(
     rt: &R,
     inputs: &mut [Receiver],
@@ -39,7 +38,7 @@ pub fn drain_all<R: Wait>(
     unreachable!()
 }
 
-/// Tries each lane that hasn't ended once; whether one had a message, or was seen to have lost its other end.
+/// Tries each lane that hasn't ended once. Returns whether one had a message, or its other end was seen dropped.
 fn drain_round(inputs: &mut [Receiver], states: &mut [LaneState]) -> bool
     requires { length inputs.old ≡ length states.old }
     ensures inputs { AreSameInputs inputs.old inputs.new }
@@ -53,7 +52,7 @@ fn drain_round(inputs: &mut [Receiver], states: &mut [LaneState]) -> bool
     has_moved
 }
 
-/// Tries a lane once, unless it has ended; whether it had a message, or was seen to have lost its other end.
+/// Tries a lane once, unless it has ended. Returns whether it had a message, or its other end was seen dropped.
 fn drain_lane(inputs: &mut [Receiver], states: &mut [LaneState], lane: usize) -> bool
     requires lane { lane < length inputs.old }
     requires states { length inputs.old ≡ length states.old }
@@ -73,8 +72,8 @@ fn drain_lane(inputs: &mut [Receiver], states: &mut [LaneState], lane: usize) ->
     }
 }
 
-/// Takes and drops the next message, where there is one; the lane's state then, or `Gone` where the ring is empty and
-/// its other end was seen dropped.
+/// Takes and drops the next message, if there is one, and returns the lane's state after it. Returns `Gone` if the ring
+/// is empty and its other end was seen dropped, and `None` if there is no message yet.
 fn drain_one(input: &mut Receiver) -> Option<LaneState>
     ensures ring { SameReceiver input.old input.new }
     ensures drained { HasDrainedOne result (received input.old) (received input.new) (known_items input.new) }
@@ -92,7 +91,7 @@ fn drain_one(input: &mut Receiver) -> Option<LaneState>
     Some(LaneState::Gone)
 }
 
-/// The state of a lane after what a place of its ring held.
+/// The state of a lane after this packet.
 fn state_after(packet: &Packet) -> LaneState
     ensures { result ≡ state_by (ending_of_packet packet.now) }
 {
@@ -102,7 +101,7 @@ fn state_after(packet: &Packet) -> LaneState
     }
 }
 
-/// Once no lane is open any more: whether all have ended.
+/// Returns whether all lanes have ended, once no lane is open any more, and `None` before.
 fn outcome(states: &[LaneState]) -> Option<bool>
     ensures done { IfSome result (λ ended. AreDone ended states.now) }
 {

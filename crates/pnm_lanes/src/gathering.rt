@@ -28,19 +28,19 @@ pub struct GatherDone {
 /// How the gathering has ended.
 #[derive(Clone, Copy)]
 struct GatherEnd {
-    /// As it is told, where each row comes by itself.
+    /// The end that `gather_from_lanes` returns, to which each row comes by itself.
     end: StageEnd,
     /// Stop was sent, and each lane has ended.
     is_stopped: bool,
 }
 
-/// Puts together what comes on `inputs`, one for each lane, and sends it on `output`: row y comes from lane y mod the
-/// number of lanes, and a head is that of each lane with the height of all. It ends `Well` with the end of the stream,
-/// which each lane gives; `Broken` where a lane gives Stop; and by `Fault(OutOfOrder)` where the lanes don't agree, a
-/// message is out of place, or rows come together, which takes memory to take apart, and no lane sends. After these two
-/// Stop is sent, and all lanes are drained, tried in turn and none waited for alone. Where the other end of a ring was
-/// seen dropped it ends by `PeerGone`, and has sent Stop, where there is someone to take it, and drained the lanes. No
-/// memory is taken.
+/// Puts together what comes on `inputs`, one for each lane, and sends it on `output`. Row y comes from lane y mod the
+/// number of lanes, and a head is that of each lane, with the height of the whole image. It ends `Well` with the end of
+/// the stream, once each lane has given that; `Broken` if a lane gives Stop; and by `Fault(OutOfOrder)` if the lanes
+/// don't agree, if a message is out of place, or if rows come together: no lane sends these, and to take them apart
+/// would take memory. After `Broken` and `Fault` it has sent Stop and drained all lanes; it tries them in turn, and
+/// waits for none alone. If the other end of a ring was seen dropped, it ends by `PeerGone`, and has sent Stop, if
+/// there is someone to take it, and drained the lanes. It takes no memory.
 ///
 /// The lanes' sending ends have `output` as their home (`Sender::set_home`), where this thread sleeps while it drains.
 pub fn gather<R: Wait>(rt: &R, inputs: Vec<Receiver>, output: Sender) -> GatherDone
@@ -62,8 +62,8 @@ pub fn gather<R: Wait>(rt: &R, inputs: Vec<Receiver>, output: Sender) -> GatherD
     }
 }
 
-/// As `gather`, from the lanes of a tool, which send each row by itself. Where rows come together it ends by
-/// `PeerGone`, once Stop is sent and all lanes are drained.
+/// As `gather`, from the lanes of a tool, which send each row by itself. If rows come together, it ends by `PeerGone`,
+/// once Stop is sent and all lanes are drained.
 pub fn gather_from_lanes<R: Wait>(rt: &R, inputs: Vec<Receiver>, output: Sender) -> GatherDone
     requires { IsLaneCount (length inputs.items) }
     ensures inputs { AreSameInputs inputs.items result.inputs.items }
@@ -150,8 +150,8 @@ fn gather_all<R: Wait>(rt: &R, inputs: &mut [Receiver], output: &mut Sender) -> 
     unreachable!()
 }
 
-/// Ends the gatherer so, where there is no next message: sends Stop, and drains the lanes. `PeerGone` where the other
-/// end of a ring was seen dropped before.
+/// Ends the gatherer with `end`, since there is no next message: sends Stop, and drains the lanes. It ends by
+/// `PeerGone` instead if the other end of a ring was seen dropped before that.
 fn break_off<R: Wait>(
     rt: &R,
     end: StageEnd,

@@ -16,16 +16,17 @@ use pnm_stages::{StageDone, StageEnd};
 /// The threads of a tool over several lanes, each of which has ended.
 #[derive(Drop)]
 pub struct LanesDone {
-    /// The one that dealt.
+    /// The thread that dealt.
     pub dealt: DealDone,
-    /// Those of the lanes, in their order.
+    /// The threads of the lanes, in the order of the lanes.
     pub lanes: Vec<StageDone>,
-    /// The one that gathered.
+    /// The thread that gathered.
     pub gathered: GatherDone,
 }
 
-/// All threads as one stage. It ends by `PeerGone` where one of them did; else by the first fault, of the thread that
-/// dealt, of the lanes in their order and of the thread that gathered; else as this one did.
+/// All threads as one stage. It ends by `PeerGone` if one of them did. Otherwise it ends by the first fault, in this
+/// order: the thread that dealt, the lanes in their order, the thread that gathered. Without a fault it ends as the
+/// thread that gathered did.
 pub fn joined(done: LanesDone) -> StageDone
     requires rings { ArePairs done.dealt.outputs.items done.lanes.items done.gathered.inputs.items }
     ensures outer { (result.input ≡ done.dealt.input) × (result.output ≡ done.gathered.output) }
@@ -71,7 +72,7 @@ pub fn joined(done: LanesDone) -> StageDone
     }
 }
 
-/// The end of two threads, of which the first comes before the other.
+/// The end of two threads together. A fault of the first comes before one of the other.
 fn end_of_both(first: StageEnd, other: StageEnd) -> StageEnd
     ensures { result ≡ end_of_both first other }
 {

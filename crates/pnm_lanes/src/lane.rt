@@ -1,4 +1,4 @@
-//! A lane whose messages are gathered: what is taken of it, and whether it has ended.
+//! A lane whose messages are gathered: what is taken from it, and whether it has ended.
 
 ghost use Rattle.std.specs.Prelude.{◌<◌, ◌≤◌, length};
 ghost use Rattle.pnm_stages.specs.Rings.{received};
@@ -23,9 +23,9 @@ pub enum LaneState {
     Gone,
 }
 
-/// The next message of a lane that hasn't ended. `Broken` where it is Stop; `PeerGone` once the lane's ring is empty
-/// and its other end was seen dropped, and where rows that were sent together come next, which no lane sends. They stay
-/// in the ring.
+/// Receives the next message of a lane that hasn't ended. Returns `Broken` if it is Stop. Returns `PeerGone` once the
+/// lane's ring is empty and its other end was seen dropped, and if rows that were sent together come next, which no
+/// lane sends; they stay in the ring.
 pub fn receive_from<R: Wait>(
     rt: &R,
     inputs: &mut [Receiver],

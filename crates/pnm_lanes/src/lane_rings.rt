@@ -15,21 +15,22 @@ pub struct LaneRingEnds {
     pub output: Sender,
 }
 
-/// The ends of the rings of several lanes, in the order of the lanes, and room for what comes back of these.
+/// The ends of the rings of several lanes, in the order of the lanes, and room for what the lanes give back.
 #[derive(Drop)]
 pub struct LaneRings {
-    /// Those that the thread before the lanes sends on.
+    /// The ends that the thread before the lanes sends on.
     pub outputs: Vec<Sender>,
-    /// Those of the lanes.
+    /// The ends of the lanes themselves.
     pub lanes: Vec<LaneRingEnds>,
-    /// Those that the thread behind the lanes receives on.
+    /// The ends that the thread behind the lanes receives on.
     pub inputs: Vec<Receiver>,
     /// A list that has room for the lanes once they have ended.
     pub reserved: Vec<StageDone>,
 }
 
 impl LaneRings {
-    /// Rings for so many messages each, and the list reserved for what comes back; none where there is no memory.
+    /// Makes the rings of `lanes` lanes, for `capacity` messages each, and reserves the list for what the lanes give
+    /// back. Returns `None` if there is no memory.
     pub fn new(alloc: Global, lanes: usize, capacity: usize) -> Option<LaneRings>
         ensures unused { IfSome result (λ rings. AreUnused rings.outputs.items rings.lanes.items rings.inputs.items) }
         ensures count { IfSome result (λ rings. length rings.lanes.items ≡ lanes) }

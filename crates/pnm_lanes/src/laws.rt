@@ -24,13 +24,13 @@ pub fn due_is_dealt()
     ensures { DueIsDealt }
 {}
 
-/// Where a row-wise tool refuses no image that a lane sees it refuses none, and the results that the lane
-/// makes are what it gets of the results.
+/// If a row-wise tool refuses no image that a lane sees, it refuses no image at all, and the results that the lane
+/// makes are what the lane gets of the results.
 pub fn results_are_dealt()
     ensures { ResultsAreDealt }
 {}
 
-/// What is gathered from the lanes of a tool is a prefix of what is due, where it is one of the stream of the results
+/// What is gathered from the lanes of a tool is a prefix of what is due, if it is a prefix of the stream of the results
 /// and ends only as the lanes do.
 pub fn gathered_is_due()
     ensures { GatheredIsDue }
@@ -54,7 +54,7 @@ pub fn lanes_are_a_stage()
     ensures { LanesAreAStage }
 {}
 
-/// The limit of lanes in a number: the definitions have it by its name, from the code.
+/// The limit of lanes as a number: the definitions take it from the code, by its name.
 pub fn limits_are()
     ensures lanes { MAX_LANES ≡ 8 }
 {}

@@ -1,4 +1,4 @@
-//! The next message of the whole stream, taken of the lanes: a row of one lane, or a message of each.
+//! The next message of the whole stream, taken from the lanes: a row of one lane, or a message of each.
 
 ghost use Rattle.std.specs.Prelude.{◌<◌, ◌≤◌, length};
 ghost use Rattle.pnm_stages.specs.Rings.{received};
@@ -15,9 +15,9 @@ use std::sync::Wait;
 /// The lanes don't agree, or a message is out of place.
 pub const OUT_OF_ORDER: StageEnd = StageEnd::Fault(ToolFault::OutOfOrder);
 
-/// The next message of the whole stream. `Broken` where a lane gives Stop; `Fault` where the lanes don't agree on it,
-/// or it is out of place; `PeerGone` where a lane's other end was seen dropped before, and where rows come together,
-/// which stay in the lane's ring.
+/// Receives the next message of the whole stream. Returns `Broken` if a lane gives Stop, and `Fault` if the lanes don't
+/// agree on the message, or it is out of place. Returns `PeerGone` if a lane's other end was seen dropped before, and
+/// if rows come together, which stay in the lane's ring.
 pub fn receive_next<R: Wait>(
     rt: &R,
     inputs: &mut [Receiver],
@@ -63,7 +63,7 @@ fn receive_row<R: Wait>(
     Ok(message)
 }
 
-/// The next message at a place where none is a row: one of each lane, put together.
+/// Receives the next message at a place where no row comes: one message of each lane, put together.
 fn receive_of_each<R: Wait>(
     rt: &R,
     inputs: &mut [Receiver],
@@ -91,7 +91,7 @@ fn receive_of_each<R: Wait>(
     together(first, &heights[..inputs.len()]).ok_or(OUT_OF_ORDER)
 }
 
-/// The height in the next message of a lane, where this is like the first lane's.
+/// Receives the next message of a lane, and returns the height in it if it is like the first lane's message.
 fn receive_alike<R: Wait>(
     rt: &R,
     inputs: &mut [Receiver],

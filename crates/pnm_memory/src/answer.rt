@@ -1,4 +1,4 @@
-//! What a caller is told of a call.
+//! What a call returns to its caller.
 
 ghost use Rattle.std.specs.Prelude.{◌≡◌};
 ghost use Rattle.pnm_serial.specs.SerialRuns.{IsOfOneThread};
@@ -21,7 +21,7 @@ pub struct Answer {
     pub images: u64,
     /// Rows that were written.
     pub rows: u64,
-    /// Bytes of results, also where the room is too small for them.
+    /// Bytes of results, even if the room is too small for them.
     pub size: usize,
     /// 0.
     pub reserved_1: u64,
@@ -29,7 +29,7 @@ pub struct Answer {
     pub reserved_2: u64,
 }
 
-/// Nothing was run.
+/// The answer of a call that ran nothing.
 pub(crate) fn refused(code: u32, number: usize) -> Answer
     ensures { result ≡ refusal code number }
 {
@@ -45,7 +45,7 @@ pub(crate) fn refused(code: u32, number: usize) -> Answer
     }
 }
 
-/// A run wrote so many bytes.
+/// The answer of a run that wrote `size` bytes.
 pub(crate) fn answer_of(answer: Result<Summary, RunFault>, size: usize) -> Answer
     requires { IsOfOneThread answer }
     ensures { result ≡ run_answer answer size }
@@ -64,7 +64,7 @@ pub(crate) fn answer_of(answer: Result<Summary, RunFault>, size: usize) -> Answe
     }
 }
 
-/// The room was too small for what a run wrote. Any other fault is told before that.
+/// The answer if the room was too small for what a run wrote. Any other fault comes before that one.
 pub(crate) fn without_room(answer: Answer) -> Answer
     ensures { result ≡ told_without_room answer }
 {

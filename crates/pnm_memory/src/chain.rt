@@ -11,7 +11,7 @@ use pnm_chain::parse_chain;
 use pnm_tools::Tool;
 use std::alloc::Global;
 
-/// Looks at the text of a chain.
+/// Checks the text of a chain.
 pub fn check(alloc: Global, chain: &[u8]) -> Answer
     ensures { IsChecked chain.now result }
 {
@@ -21,7 +21,7 @@ pub fn check(alloc: Global, chain: &[u8]) -> Answer
     }
 }
 
-/// The tools of a chain, or what is told of its text.
+/// Reads the tools of a chain. If there are none, returns the answer that says why.
 pub(crate) fn read_chain(alloc: Global, chain: &[u8]) -> Result<Vec<Tool>, Answer>
     ensures lawful { IfOk result (λ tools. IsChain tools.items) }
     ensures spelled { IfOk result (λ tools. SpellsChain chain.now tools.items) }

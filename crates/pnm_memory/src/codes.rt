@@ -1,4 +1,4 @@
-//! The numbers by which faults are told. They stay; new ones may come.
+//! The numbers of faults. They stay as they are; new ones may be added.
 
 ghost use Rattle.std.specs.Prelude.{◌≡◌, Err};
 ghost use Rattle.pnm_serial.specs.declared.summary.Summary.{Summary as RunSummary};

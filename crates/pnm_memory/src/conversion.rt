@@ -20,8 +20,8 @@ pub struct Converted {
     pub written: Vec<u8>,
 }
 
-/// Passes the images of the text through the tools, and keeps the results in the form. Memory that runs out while
-/// results are kept is told as a failed write.
+/// Passes the images of the text through the tools, and keeps the results in the form. If memory runs out while it
+/// keeps results, the answer is a failed write.
 pub fn convert(alloc: Global, tools: &[Tool], form: Form, text: &[u8]) -> Converted
     requires { IsChain tools.now }
     ensures { HasConverted text.now (job_of tools.now form) result.answer result.written.items }

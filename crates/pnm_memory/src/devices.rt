@@ -40,7 +40,7 @@ impl BytesIn for TextReader<'_> {
     }
 }
 
-/// Keeps the bytes that it takes. It fails where there is no memory for them, and nowhere else.
+/// Keeps the bytes that it takes. It fails only if there is no memory for them.
 #[derive(Drop)]
 pub struct VecWriter {
     bytes: Vec<u8>,

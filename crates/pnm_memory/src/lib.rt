@@ -1,5 +1,5 @@
 //! Runs over images in memory: the input is a slice, and what is written goes into a vector or into the caller's room.
-//! What comes of a run is told by numbers that stay, so that programs in other languages can read it.
+//! The outcome of a run is given by numbers that never change, so that programs in other languages can read it.
 #![tactic(auto)]
 
 mod answer;

@@ -1,4 +1,4 @@
-//! Calls that are told what to do by a chain's text and a form's number.
+//! Calls that take a chain's text and a form's number.
 
 ghost use Rattle.std.specs.Prelude.{◌≡◌, []};
 ghost use Rattle.pnm_tools.specs.Chains.{IsChain};
@@ -13,17 +13,17 @@ use pnm_image::Form;
 use pnm_tools::Tool;
 use std::alloc::Global;
 
-/// Results in memory of their own, and what is told of them.
+/// Results in memory of their own, and the answer.
 #[derive(Drop)]
 pub struct Made {
     /// What was written, also before a fault.
     pub results: Vec<u8>,
-    /// What is told.
+    /// The answer of the call.
     pub answer: Answer,
 }
 
-/// Passes the images of the input through the tools of the chain, and puts the results into the front of the room. One
-/// that is too small for them is left as it was.
+/// Passes the images of the input through the tools of the chain, and puts the results into the front of the room. If
+/// the room is too small for them, it is left as it was.
 pub fn run_into(alloc: Global, chain: &[u8], form: u32, input: &[u8], room: &mut [u8]) -> Answer
     ensures { IsTold chain.now form input.now room.old room.new result }
 {
@@ -46,7 +46,7 @@ fn convert_into(alloc: Global, tools: &[Tool], form: Form, input: &[u8], room: &
     if fits { answer } else { without_room(answer) }
 }
 
-/// Puts the bytes into the front of the room, where there are no more than it holds.
+/// Puts the bytes into the front of the room, if there are no more than it holds. Returns whether it has.
 fn put(room: &mut [u8], bytes: &[u8]) -> bool
     ensures { IsPut bytes.now room.old room.new result }
 {
@@ -57,7 +57,7 @@ fn put(room: &mut [u8], bytes: &[u8]) -> bool
     true
 }
 
-/// The same, with the results in memory of their own.
+/// As `run_into`, with the results in memory of their own.
 pub fn run_new(alloc: Global, chain: &[u8], form: u32, input: &[u8]) -> Made
     ensures { IsMade chain.now form input.now result }
 {

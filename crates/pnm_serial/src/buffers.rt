@@ -7,15 +7,15 @@ use pnm_read::{InputFault, ReadBuffer};
 use pnm_write::WriteBuffer;
 use std::alloc::Global;
 
-/// The bytes that a run reads at a time at most. Where images are small these are of several, and before each read the
-/// result of each image that was sent whole is taken and written.
+/// The most bytes that a run reads at a time. If images are small, these are the bytes of several, and before each read
+/// the run takes and writes the result of each image that was sent whole.
 const READ_BYTES: usize = 65_536;
 
-/// The bytes that it reads at a time at least.
+/// The fewest bytes that a read buffer has room for.
 const LEAST_READ_BYTES: usize = 4096;
 
 /// What a run reads into, and what it encodes into. Both are made before it takes its reader and its writer, so that a
-/// run for which there is no memory leaves these as they were.
+/// run for which there is no memory leaves the reader and the writer as they were.
 #[derive(Drop)]
 pub struct Buffers {
     pub read: ReadBuffer,
@@ -30,7 +30,8 @@ impl Buffers {
         Buffers::for_input(alloc, READ_BYTES)
     }
 
-    /// The same, for an input of so many bytes: there is room for no more of them, if they are few.
+    /// As `new`, for an input of `length` bytes: if they are few, there is less room to read into. The only fault is
+    /// `Memory`.
     pub fn for_input(alloc: Global, length: usize) -> Result<Buffers, InputFault>
         ensures refused { IfErr result (λ fault. fault ≡ Memory) }
     {

@@ -1,4 +1,4 @@
-//! What stands behind the tools of a run: the ring that their results come from, and what is written of them.
+//! What comes behind the tools of a run: the ring that their results come from, and what is written of them.
 
 ghost use Rattle.std.specs.Prelude.{◌≡◌, ◌⊎◌, [], ◌∷◌, ◌++◌, List, true, false};
 ghost use Rattle.pnm_image.specs.Packets.{messages_in};
@@ -19,15 +19,15 @@ use std::sync::Wait;
 /// The ring that the results of a run come from, and what is written of them.
 #[derive(Drop)]
 pub struct Collector<W> {
-    /// The end of the ring that they are received on.
+    /// The end of the ring that the results are received on.
     pub input: Receiver,
     /// What is written of them.
     pub downstream: Downstream<W>,
-    /// The end of the stream, or Stop, was taken.
+    /// Whether the end of the stream, or Stop, was taken.
     pub has_ended: bool,
-    /// The ring's other end was seen dropped.
+    /// Whether the ring's other end was seen dropped.
     is_gone: bool,
-    /// The images whose end was taken, up to `u64::MAX`.
+    /// How many images have had their end taken, up to `u64::MAX`.
     images: u64,
 }
 
@@ -48,20 +48,21 @@ impl<W: BytesOut + Drop> Collector<W> {
         }
     }
 
-    /// Whether no more is to be taken: the end of the stream or Stop was, or the ring's other end was seen dropped.
+    /// Whether there is nothing more to take: the end of the stream or Stop was taken, or the ring's other end was seen
+    /// dropped.
     pub fn is_over(&self) -> bool
         ensures { result ≡ collector_is_over self.now }
     {
         self.has_ended || self.is_gone
     }
 
-    /// The images whose end was taken, up to `u64::MAX`.
+    /// How many images have had their end taken, up to `u64::MAX`.
     pub fn images(&self) -> u64 {
         self.images
     }
 
-    /// Takes the messages that one look at the ring shows, and writes them; rows are spare ones then. False where no
-    /// message is there, and the ring's other end still is.
+    /// Takes the messages that one look at the ring shows, and writes them; the rows become spare ones. Returns false
+    /// if there is no message, and the ring's other end wasn't seen dropped.
     pub fn turn(&mut self, spares: &mut SpareRows) -> bool
         requires going { collector_is_over self.old ≡ false }
         ensures collecting { (form : FormValue) (start : W) (before : List MessageValue)
@@ -88,7 +89,7 @@ impl<W: BytesOut + Drop> Collector<W> {
     {
         while !self.has_ended && self.input.has_seen_message() {
             if let Packet::Rows(rows) = self.input.peek_known() {
-                // They are written out of the ring, and moved once they may go.
+                // They are written while they lie in the ring, and are taken out of it only then.
                 self.downstream.put_rows(rows);
                 let_go(self.input.receive_known(), spares);
                 continue;
@@ -99,7 +100,7 @@ impl<W: BytesOut + Drop> Collector<W> {
         }
     }
 
-    /// Flushes the writer, where an image has ended since the last flush, so that none is kept back while the source
+    /// Flushes the writer, if an image has ended since the last flush, so that no image is kept back while the source
     /// waits for its reader.
     pub fn flush_images(&mut self)
         ensures collecting { (form : FormValue) (start : W) (before : List MessageValue)
@@ -116,8 +117,8 @@ impl<W: BytesOut + Drop> Collector<W> {
         self.input.wait(rt);
     }
 
-    /// Takes what is left in the ring, both of whose ends are here: what was sent before the other end was seen
-    /// dropped.
+    /// Takes and writes what is left in the ring, with both of its ends at hand: what was sent before the other end was
+    /// seen dropped.
     pub fn receive_rest(&mut self, sender: &mut Sender)
         requires one_ring { IsPair sender.old self.old.input }
         ensures collecting { (form : FormValue) (start : W) (before : List MessageValue)
@@ -139,7 +140,7 @@ impl<W: BytesOut + Drop> Collector<W> {
         }
     }
 
-    /// What stands behind the ring, and whether the end of the stream or Stop was taken.
+    /// Returns what comes behind the ring, and whether the end of the stream or Stop was taken.
     pub fn into_parts(self) -> (Downstream<W>, bool)
         ensures { (result.0 ≡ self.downstream) × (result.1 ≡ self.has_ended) }
     {
@@ -147,7 +148,7 @@ impl<W: BytesOut + Drop> Collector<W> {
     }
 }
 
-/// Writes the packet, unless it is Stop, and sees whether it ends the stream.
+/// Writes the packet, unless it is Stop, and sets `has_ended` if it ends the stream.
 #[inline(always)]
 fn put<W: BytesOut + Drop>(downstream: &mut Downstream<W>, has_ended: &mut bool, packet: Packet)
     requires going { has_ended.old ≡ false }
@@ -162,7 +163,7 @@ fn put<W: BytesOut + Drop>(downstream: &mut Downstream<W>, has_ended: &mut bool,
     }
 }
 
-/// Writes the message, unless it is Stop, and sees whether it ends the stream.
+/// Writes the message, unless it is Stop, and sets `has_ended` if it ends the stream.
 #[inline(always)]
 fn put_message<W: BytesOut + Drop>(
     downstream: &mut Downstream<W>,
@@ -185,7 +186,7 @@ fn put_message<W: BytesOut + Drop>(
     }
 }
 
-/// Lets the packet go; rows are then a spare row.
+/// Drops the packet, but keeps rows as a spare row.
 fn let_go(packet: Packet, spares: &mut SpareRows) {
     if let Packet::Rows(rows) = packet {
         spares.keep_rows(rows);

@@ -1,4 +1,4 @@
-//! What stands behind the tools of a run: the sink, and the count of what it wrote.
+//! What comes behind the tools of a run: the sink, and the count of what it wrote.
 
 ghost use Rattle.std.specs.Prelude.{◌≡◌, [], ◌∷◌, ◌++◌, List, Ok, Err};
 ghost use Rattle.std.specs.Result.{is_err};
@@ -22,11 +22,11 @@ pub struct Downstream<W> {
     summary: Summary,
     /// The fault of the output, once there is one.
     pub output: Result<(), SinkFault>,
-    /// It writes in plain form: after one image another is refused, and after that nothing is flushed.
+    /// Whether it writes in plain form: then a second image is refused, and nothing is flushed after that.
     is_plain: bool,
-    /// An image has ended since the last flush.
+    /// Whether an image has ended since the last flush.
     keeps_image: bool,
-    /// A flush has failed.
+    /// Whether a flush has failed.
     flush_failed: bool,
 }
 
@@ -48,7 +48,7 @@ impl<W: BytesOut + Drop> Downstream<W> {
         }
     }
 
-    /// Writes the packet, unless there was a fault of the output before, as `put` and `put_rows` do.
+    /// Writes the packet as `put` or `put_rows` does, unless the output had a fault before.
     pub fn put_packet(&mut self, packet: Packet)
         ensures taken { (form : FormValue) (start : W) (messages : List MessageValue)
             → HasTaken W.held W.failures form start messages self.old
@@ -61,8 +61,8 @@ impl<W: BytesOut + Drop> Downstream<W> {
         }
     }
 
-    /// Writes the message, unless there was a fault of the output before. What the writer keeps back of an image that
-    /// has ended is passed on by `flush_images`, but in plain form at once.
+    /// Writes the message, unless the output had a fault before. If the writer keeps back some of an image that has
+    /// ended, `flush_images` passes that on; in plain form it is passed on at once.
     pub fn put(&mut self, message: &Message)
         ensures taken { (form : FormValue) (start : W) (messages : List MessageValue)
             → HasTaken W.held W.failures form start messages self.old
@@ -78,7 +78,7 @@ impl<W: BytesOut + Drop> Downstream<W> {
         }
     }
 
-    /// Writes the rows, unless there was a fault of the output before, as if each were put as a message of its own.
+    /// Writes the rows as if each were put as a message of its own, unless the output had a fault before.
     #[inline(never)]
     pub fn put_rows(&mut self, rows: &Rows)
         ensures taken { (form : FormValue) (start : W) (messages : List MessageValue)
@@ -95,7 +95,7 @@ impl<W: BytesOut + Drop> Downstream<W> {
         }
     }
 
-    /// Notes that an image has ended, if it has, and in plain form flushes the writer then.
+    /// If the message has ended an image, notes that, and in plain form flushes the writer.
     fn pass_on(&mut self, message: &Message)
         ensures written { (form : FormValue) (start : W) (messages : List MessageValue)
             → AreWritten W.held W.failures form start messages self.old
@@ -111,8 +111,9 @@ impl<W: BytesOut + Drop> Downstream<W> {
         }
     }
 
-    /// Flushes the writer, where an image has ended since the last flush and there was no fault of the output, so that
-    /// the image isn't kept back. Where that fails more is written, and `finish` answers so.
+    /// Flushes the writer, if an image has ended since the last flush and the output has no fault, so that the image
+    /// isn't kept back. If the flush fails, writing goes on, and `finish` returns `WriteFailed`, unless the output has
+    /// another fault by then.
     pub fn flush_images(&mut self)
         ensures taken { (form : FormValue) (start : W) (messages : List MessageValue)
             → HasTaken W.held W.failures form start messages self.old
@@ -140,8 +141,8 @@ impl<W: BytesOut + Drop> Downstream<W> {
         self.keeps_image = false;
     }
 
-    /// Flushes the writer, unless there was a fault of the output before, which is then answered. Else a flush that
-    /// fails is, and so is one that has failed before.
+    /// Flushes the writer, and returns it with the summary. If the output had a fault before, returns that fault and
+    /// doesn't flush. Otherwise returns `WriteFailed` if this flush fails or an earlier one did.
     pub fn finish(self) -> (W, Result<Summary, SinkFault>)
         requires { has_failed self.sink ≡ is_err self.output }
         ensures bytes { Keeps (W.held (output_of self)) (W.held result.0) }

@@ -4,9 +4,9 @@ use pnm_read::InputFault;
 use pnm_tools::ToolFault;
 use pnm_write::SinkFault;
 
-/// Why a run ended without its whole output: the input's fault, if it has one; or else the fault of
-/// the first tool of the chain that has one; or else the output's. Over threads also, and before all these, that it
-/// couldn't be started; and, where a tool's fault would be answered, that this tool saw a ring's other end dropped.
+/// Why a run ended without its whole output: the input's fault, if it has one; otherwise the fault of the first tool of
+/// the chain that has one; otherwise the output's. Over threads there are two more reasons: before all of these, that
+/// the run couldn't be started; and, in the place of a tool's fault, that this tool saw a ring's other end dropped.
 #[derive(Clone, Copy, Debug, PartialEq, Eq)]
 pub enum RunFault {
     /// There was no memory for a ring or a list, or a thread couldn't be started.

@@ -1,4 +1,4 @@
-//! What stands before the tools of a run: the source, and the ring that its messages go into.
+//! What comes before the tools of a run: the source, and the ring that its messages go into.
 
 ghost use Rattle.std.specs.Prelude.{◌≡◌, ◌<◌, List, IsTrue, IsFalse, true, false, Some, None};
 ghost use Rattle.pnm_stages.specs.Rings.{sent, known_free, SameSender};
@@ -20,17 +20,17 @@ const MOST_MESSAGES: u32 = 64;
 pub struct Feeder<R> {
     /// The source, which is asked for one message after another.
     pub source: Source<R>,
-    /// The end of the ring that they are sent on.
+    /// The end of the ring that the messages are sent on.
     pub output: Sender,
     /// How the source has ended, once it has. After a fault Stop was sent.
     pub input: Option<Result<(), InputFault>>,
-    /// The ring's other end was seen dropped.
+    /// Whether the ring's other end was seen dropped.
     is_gone: bool,
-    /// The images whose end was sent, up to `u64::MAX`.
+    /// How many images have had their end sent, up to `u64::MAX`.
     images: u64,
-    /// Whether rows are sent together that the source gives so.
+    /// Whether rows that the source gives together are sent together.
     joins_rows: bool,
-    /// Whether the source may give those that come next so.
+    /// Whether the source may give the next rows together.
     may_join: bool,
 }
 
@@ -58,20 +58,20 @@ impl<R: BytesIn + Drop> Feeder<R> {
         }
     }
 
-    /// Whether there is no more to be sent: the end of the stream was, or Stop after a fault of the input; or the
-    /// ring's other end was seen dropped.
+    /// Whether there is nothing more to send: the end of the stream was sent, or Stop after a fault of the input, or
+    /// the ring's other end was seen dropped.
     pub fn is_over(&self) -> bool
         ensures { result ≡ feeder_is_over self.now }
     {
         self.is_gone || self.input.is_some()
     }
 
-    /// The images whose end was sent, up to `u64::MAX`.
+    /// How many images have had their end sent, up to `u64::MAX`.
     pub fn images(&self) -> u64 {
         self.images
     }
 
-    /// Whether to ask the source for the next message may have to wait for its reader.
+    /// Whether the source may have to wait for its reader if it is asked for the next message.
     pub fn would_read(&self) -> bool
         // After the end and after a fault nothing is read.
         ensures ended { has_ended self.now.source ≡ true → result ≡ false }
@@ -80,7 +80,7 @@ impl<R: BytesIn + Drop> Feeder<R> {
         !self.source.holds_next()
     }
 
-    /// Wakes the first tool's thread, where something was sent that it wasn't woken for.
+    /// Wakes the first tool's thread, if something was sent since this end last woke it.
     pub fn wake_receiver(&mut self)
         ensures feeding { (first : Source R) (before : List MessageValue)
             → IsFeeding R.left R.failures first before self.old
@@ -105,7 +105,7 @@ impl<R: BytesIn + Drop> Feeder<R> {
 
     /// Asks the source for its next message, or for rows, and sends that, where there is room for it in the ring; and
     /// so on, while there is and the source holds the next one, for as many as a turn sends. Short rows are made of
-    /// spare ones. False where there is no room for the first.
+    /// spare ones. Returns false if there is no room for the first, and the ring's other end wasn't seen dropped.
     pub fn turn(&mut self, spares: &mut SpareRows) -> bool
         requires going { feeder_is_over self.old ≡ false }
         ensures feeding { (first : Source R) (before : List MessageValue)
@@ -158,8 +158,8 @@ impl<R: BytesIn + Drop> Feeder<R> {
         }
     }
 
-    /// Asks the source for rows that it holds whole, and sends them together. False, and nothing has changed, where it
-    /// holds none so.
+    /// Asks the source for rows that it holds whole, and sends them together. Returns false, and changes nothing, if
+    /// the source gives no rows. After the source's fault Stop is sent.
     fn send_rows(&mut self, spares: &mut SpareRows) -> bool
         requires going { self.old.input ≡ None }
         requires room { 0 < known_free self.old.output }
@@ -181,7 +181,7 @@ impl<R: BytesIn + Drop> Feeder<R> {
         true
     }
 
-    /// Asks the source for its next message and sends it, for which there is room. After the source's fault Stop is
+    /// Asks the source for its next message and sends it; there has to be room for it. After the source's fault Stop is
     /// sent.
     fn send_message(&mut self, spares: &mut SpareRows)
         requires going { self.old.input ≡ None }
@@ -207,8 +207,8 @@ impl<R: BytesIn + Drop> Feeder<R> {
         }
     }
 
-    /// The reader, the ring's end, and how the source has ended; none where the ring's other end was seen dropped
-    /// before.
+    /// Returns the reader, the ring's end, and how the source has ended: `None` if the ring's other end was seen
+    /// dropped before that.
     pub fn into_parts(self) -> (R, Sender, Option<Result<(), InputFault>>)
         ensures { (result.0 ≡ reader_of self.source) × (result.1 ≡ self.output) × (result.2 ≡ self.input) }
     {
@@ -222,8 +222,8 @@ impl<R: BytesIn + Drop> Feeder<R> {
     }
 }
 
-/// Whether a source may give those rows together that come after the message, where it may those before it or may not:
-/// rows of an image that has several.
+/// Whether a source may give the rows after the message together: those of an image that has several. `may_join` says
+/// whether it may give the rows before the message so.
 pub fn joins_next(may_join: bool, message: &Message) -> bool {
     match message {
         Message::Begin(head) => head.shape().height > 1,

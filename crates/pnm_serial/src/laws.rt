@@ -7,8 +7,7 @@ ghost use Rattle.pnm_serial.specs.RunFacts.{WhatARunTells, WhatARunInOneThreadTe
 ghost use Rattle.pnm_serial.specs.RunLaws.{OneAnswerForEachText};
 ghost use Rattle.pnm_serial.specs.Verdicts.{OneVerdictForEachText, VerdictsAreOfTexts};
 
-/// What is written of images that the form can hold, of which each has rows, is read again as the
-/// same images.
+/// If a form can hold images that each have rows, what is written of them is read again as the same images.
 pub fn written_is_read_again()
     ensures { WrittenIsReadAgain }
 {}
@@ -19,20 +18,20 @@ pub fn one_verdict_for_each_text()
     ensures { OneVerdictForEachText }
 {}
 
-/// A verdict never tells of what failed around a run, nor that a message came out of order; of the
-/// output it is a fault that a form has.
+/// A verdict never says what failed around a run, nor that a message came out of order; if it is of the output, it is a
+/// fault that a form has.
 pub fn verdicts_are_of_texts()
     ensures { VerdictsAreOfTexts }
 {}
 
-/// Two runs over the same text that do the same job, in one thread or over several, answer the same
-/// where neither answer tells of what failed around it.
+/// Two runs that do the same job over the same text, in one thread or over several, answer the same if neither answer
+/// says what failed around its run.
 pub fn one_answer_for_each_text()
     ensures { OneAnswerForEachText }
 {}
 
 /// What a run tells by its answer, over threads and in one: each fact by the cases of the answer and by what is said of
-/// the text. And what holds where there is no memory for the list of the tools, so that nothing is read and written.
+/// the text. And what holds if there is no memory for the list of the tools: nothing is read or written.
 pub fn what_a_run_tells()
     ensures over_threads { WhatARunTells }
     ensures in_one_thread { WhatARunInOneThreadTells }
@@ -45,8 +44,7 @@ pub fn examples_hold()
     ensures { RunExamplesHold }
 {}
 
-/// Where a tool refuses the second image and all that was due was written, the result of the first
-/// one was.
+/// If a tool refuses the second image and all that was due was written, the result of the first image was written.
 pub fn result_before_refusal_is_written()
     ensures { ResultBeforeRefusalIsWritten }
 {}

@@ -50,8 +50,8 @@ fn feed<F: Filter + Drop, W: BytesOut + Drop>(
     pass_answers(alloc, stages, downstream);
 }
 
-/// Feeds the first filter rows, all at once, and passes what it gives through the others. Where not all of them may
-/// come, each is fed by itself.
+/// Feeds the first filter rows, all at once, and passes what it gives through the others. If not all of them may come,
+/// feeds each by itself.
 #[inline(never)]
 #[cycle(through)]
 fn feed_rows<F: Filter + Drop, W: BytesOut + Drop>(
@@ -71,8 +71,8 @@ fn feed_rows<F: Filter + Drop, W: BytesOut + Drop>(
     }
 }
 
-/// Feeds the first filter each of the rows by itself, as a copy, up to the one that is refused, and passes what it
-/// gives through the others. Those behind a refused one are dropped. Without memory for a copy the filter refuses by
+/// Feeds the first filter a copy of each row by itself, up to the one that is refused, and passes what it gives through
+/// the others. The rows behind a refused one are dropped. If there is no memory for a copy, the filter refuses by
 /// `Memory`.
 #[cycle(through)]
 fn feed_each<F: Filter + Drop, W: BytesOut + Drop>(

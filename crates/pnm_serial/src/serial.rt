@@ -26,9 +26,9 @@ use pnm_write::SinkFault;
 use std::alloc::Global;
 
 /// Reads the images of the reader, passes them through the tools that these filters are, each before its first message,
-/// and writes what comes out in the form, as `run_serial` does once it has made them. Rows that the source gives
-/// together it passes on so. The input's length is known, or `usize::MAX`: where it is small, so is the buffer that is
-/// read into.
+/// and writes what comes out in the form, as `run_serial` does once it has made the filters. It passes on together the
+/// rows that the source gives together. `length` is the input's length, or `usize::MAX` if that isn't known: if it is
+/// small, so is the buffer that is read into.
 pub fn run_filters<R: BytesIn, F: Filter + Drop, W: BytesOut>(
     alloc: Global,
     reader: &mut R,
@@ -87,8 +87,8 @@ fn first_fault<F: Filter + Drop>(stages: &[FusedFilter<F>]) -> Option<(usize, To
     None
 }
 
-/// Passes on all messages of the source, through to its end or its fault, and rows together that it gives so. After it
-/// has asked for `u64::MAX` messages or rows together it answers `ReadFailed`.
+/// Passes on all messages of the source, through to its end or its fault; rows that it gives together are passed on
+/// together. Returns `ReadFailed` after it has asked for `u64::MAX` messages or rows together.
 fn feed_all<R: BytesIn, F: Filter + Drop, W: BytesOut + Drop>(
     alloc: Global,
     source: &mut Source<R>,
@@ -124,7 +124,7 @@ fn feed_all<R: BytesIn, F: Filter + Drop, W: BytesOut + Drop>(
     Err(InputFault::ReadFailed)
 }
 
-/// Passes the images on that have ended, where the source may have to wait for its reader.
+/// Flushes the images that have ended, if the source may have to wait for its reader.
 fn flush_before_read<R: BytesIn, W: BytesOut + Drop>(
     source: &Source<R>,
     downstream: &mut Downstream<W>,

@@ -28,7 +28,7 @@ impl Summary {
     }
 }
 
-/// Counts an image, where the message that has passed ended it. It stores the count at no other message.
+/// Counts an image, if the message that has passed ended it. At any other message it doesn't store the count.
 pub(crate) fn count_image(images: &mut u64, is_end: bool) {
     if is_end {
         *images = images.saturating_add(1);

@@ -69,7 +69,7 @@ impl<'a, H: Wait, R: BytesIn + Drop, W: BytesOut + Drop> Task for Turns<'a, H, R
     }
 }
 
-/// Takes and sends until there is no more to do. Of the rows that were written new ones are made.
+/// Takes and sends until there is no more to do. New rows are made of the rows that were written.
 fn take_turns<H: Wait, R: BytesIn + Drop, W: BytesOut + Drop>(
     rt: &H,
     feeder: &mut Feeder<R>,
@@ -128,8 +128,8 @@ fn wake_before_taking<R: BytesIn + Drop, W: BytesOut + Drop>(
 }
 
 /// Goes on with what was done in the turn before, to take and write a message or to send one, as long as that can be
-/// done, and then does the other: so the caller looks at a ring for many messages at once. False where nothing can be
-/// done.
+/// done, and then does the other: so the caller looks at a ring for many messages at once. Returns false if nothing can
+/// be done.
 fn turn<R: BytesIn + Drop, W: BytesOut + Drop>(
     feeder: &mut Feeder<R>,
     collector: &mut Collector<W>,
@@ -149,7 +149,7 @@ fn turn<R: BytesIn + Drop, W: BytesOut + Drop>(
     send_or_take(feeder, collector, spares, takes)
 }
 
-/// Sends a message, or takes one where that can't be done and goes on with that.
+/// Sends a message. If that can't be done, takes one, and goes on with taking.
 #[inline(always)]
 fn send_or_take<R: BytesIn + Drop, W: BytesOut + Drop>(
     feeder: &mut Feeder<R>,
@@ -167,8 +167,8 @@ fn send_or_take<R: BytesIn + Drop, W: BytesOut + Drop>(
     take(collector, spares)
 }
 
-/// Sends a message, if there is more to be sent and room for it. Where the source may have to wait for its reader the
-/// images that have ended are passed on first.
+/// Sends a message, if there is more to send and room for it. If the source may have to wait for its reader, flushes
+/// the images that have ended first.
 #[inline(always)]
 fn send<R: BytesIn + Drop, W: BytesOut + Drop>(
     feeder: &mut Feeder<R>,
@@ -199,8 +199,8 @@ fn take<W: BytesOut + Drop>(collector: &mut Collector<W>, spares: &mut SpareRows
     !collector.is_over() && collector.turn(spares)
 }
 
-/// Whether there is more to be sent. Where the result of an image that was sent is still to be written, it isn't what
-/// the source may have to wait for.
+/// Whether there is more to send. While the result of an image that was sent isn't written yet, what the source may
+/// have to wait for doesn't count.
 fn may_feed<R: BytesIn + Drop, W: BytesOut + Drop>(
     feeder: &Feeder<R>,
     collector: &Collector<W>,

@@ -1,9 +1,9 @@
 //! Runs a chain over the images of standard input twice, in one thread and over threads between slow devices, and wants
-//! the same answer and the same bytes. `scripts/soak.py` calls it with random ones.
+//! the same answer and the same bytes. `scripts/soak.py` calls it with random chains and images.
 //!
 //! The words are the rings' capacity, the number of lanes, a seed for the devices, `raw` or `plain`, and the chain. The
-//! status is 0 where both runs agree, 1 where they don't, and 2 where the words are no such ones or memory ran out
-//! before the runs.
+//! status is 0 if both runs agree, 1 if they don't, and 2 if the words aren't of that kind, or if memory ran out before
+//! the runs.
 #![tactic(auto)]
 
 mod slow;
@@ -50,7 +50,7 @@ fn main(rt: HostRuntime) -> ExitCode {
     ExitCode::from(compare(&rt, input.as_slice(), &words))
 }
 
-/// The words; none where there are fewer, or one that should be a number isn't.
+/// Reads the words. Returns `None` if there are too few, or if one that should be a number or a form isn't.
 fn read_words<H: Env + AllocGlobal>(rt: &H) -> Option<Words> {
     let mut words = env::args(rt).ok()?;
     let _program = words.next()?;
@@ -77,7 +77,7 @@ fn form_of(word: &str) -> Option<Form> {
     }
 }
 
-/// Runs both, and prints what each answers and how much it wrote. Gives the status: whether they agree.
+/// Runs both, and prints what each answers and how much it wrote. Returns the status, which says whether they agree.
 fn compare<H: AllocGlobal + Clock + Print + Threads + Wait + Sync>(
     rt: &H,
     input: &[u8],

@@ -6,7 +6,7 @@ use std::io::{Read, Write};
 use std::time::{Clock, Duration};
 use std::{io, thread};
 
-/// The waits of a device: few enough for a run to end soon.
+/// The most waits of a device: few enough for a run to end soon.
 const MOST_WAITS: u32 = 100;
 
 /// How many bytes a call may move.
@@ -36,12 +36,12 @@ impl<'a, H: Clock, D> Slow<'a, H, D> {
         }
     }
 
-    /// What it gives to or takes from.
+    /// The reader or writer inside.
     pub fn into_inner(self) -> D {
         self.inner
     }
 
-    /// Waits or doesn't.
+    /// Waits, at some calls.
     fn wait(&mut self) {
         let number = self.numbers.next_word();
         if self.waits > 0 && number % 8 == 0 {

@@ -34,8 +34,8 @@ impl<S: Task<Output = A>, A> Promise<A> for Gives<S> {
     ghost kept_by = { λ p r. S.run_gives p.0.value r };
 }
 
-/// Runs the first task in a thread of its own and the second here; none where the thread couldn't be started, and then
-/// the second isn't run.
+/// Runs the first task in a thread of its own and the second in the caller's. Returns `None` if the thread couldn't be
+/// started; then the second isn't run.
 pub fn run_both<
     R: Threads + Wait + Sync,
     S: Task<Output = A> + Send + Drop,
@@ -72,8 +72,8 @@ pub fn run_both<
     )
 }
 
-/// A closure as a task: for a function that starts itself again beside other work, since a cycle of calls can't go
-/// through a struct that is a task.
+/// A closure as a task. It is for a function that starts itself again beside other work, since a cycle of calls can't
+/// go through a struct that is a task.
 #[derive(Drop)]
 pub struct Call<F>(pub F);
 
@@ -107,7 +107,7 @@ impl Task for Idle {
 /// started.
 #[derive(Drop)]
 pub struct NoStart {
-    /// The ends of the outer rings, where no thread was to be started yet; nothing was sent or received
-    /// then. None once a start was tried, and then all threads that were started have ended.
+    /// The ends of the outer rings, if no start of a thread was tried yet; then nothing was sent or received. `None`
+    /// once a start was tried; then all threads that were started have ended.
     pub ends: Option<(Receiver, Sender)>,
 }

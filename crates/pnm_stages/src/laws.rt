@@ -9,13 +9,13 @@ pub fn lists_have_longest_prefixes()
     ensures { ListsHaveLongestPrefixes }
 {}
 
-/// What is a prefix of what is due for a lawful prefix of the messages that were received is one for the
-/// longest such prefix, too.
+/// A prefix of what is due for some lawful prefix of the received messages is also a prefix of what is due for the
+/// longest lawful prefix.
 pub fn longest_prefix_is_due()
     ensures { LongestPrefixIsDue }
 {}
 
-/// The limit of rings in a number: the definitions have it by its name, from the code.
+/// The limit of rings as a number: the definitions take it from the code, by its name.
 pub fn limits_are()
     ensures ring_capacity { MAX_RING_CAPACITY ≡ 1024 }
 {}

@@ -15,16 +15,17 @@ use rtrb::Consumer;
 use std::alloc::Global;
 use std::sync::Wait;
 
-/// The receiving end of a ring of messages. Once it goes, the thread at the sending end is woken, and sees that.
+/// The receiving end of a ring of messages. When it is dropped, it wakes the thread at the sending end, which then sees
+/// that this end is gone.
 #[derive(Drop)]
 pub struct Receiver {
-    /// The end itself. It comes first, since it has to be gone before the other thread is woken.
+    /// The end itself. It is the first field, since it has to be gone before `waker` wakes the other thread.
     pub(crate) ring: Consumer<Packet, Global, AnyMessage>,
     waker: ReceiverWaker,
-    /// Half of the messages that were seen in the ring at the last look. It is narrow, since many ends lie on the stack
+    /// Half the number of messages that the last look saw in the ring. It is narrow, since many ends lie on the stack
     /// of a thread that starts others.
     half: u32,
-    /// Whether rows that were sent together were received.
+    /// Whether this end has received rows that were sent together.
     has_rows: bool,
     ghost rows: { has_rows ≡ has_rows_together (received_on ring) },
 }
@@ -40,7 +41,7 @@ impl Receiver {
     ghost use Rattle.pnm_stages.specs.Rings.{sent, received, known_items, IsPair, SameSender, SameReceiver, HasDrained};
     ghost use Rattle.pnm_stages.specs.Rings.{known_packets, has_received_rows, HasDrainedAfter};
 
-    /// The end of this ring, with what it has of the ring's wakers.
+    /// The receiving end over `ring`, with its part of the ring's wakers.
     pub(crate) fn new(ring: Consumer<Packet, Global, AnyMessage>, waker: ReceiverWaker) -> Receiver
         requires { received_on ring ≡ [] }
         ensures { result.ring ≡ ring }
@@ -64,7 +65,7 @@ impl Receiver {
         self.has_seen_message() || self.look()
     }
 
-    /// Looks into the ring, in which none is left of the messages that were seen. Whether there is one.
+    /// Looks into the ring, once none of the messages that were seen is left. Returns whether there is a message.
     fn look(&mut self) -> bool
         ensures ring { SameReceiver self.old self.new }
         ensures received { received self.new ≡ received self.old }
@@ -77,7 +78,7 @@ impl Receiver {
         seen > 0
     }
 
-    /// Whether a message was seen in the ring that is still there: the next one is received at once then.
+    /// Whether a message that was seen in the ring is still there. If so, the next one is received at once.
     pub fn has_seen_message(&self) -> bool
         ensures some { IsTrue result → 0 < length (known_packets self.now) }
         ensures none { IsFalse result → known_items self.now ≡ [] }
@@ -86,7 +87,7 @@ impl Receiver {
         self.ring.cached_slots() > 0
     }
 
-    /// The next packet, which is there, and stays there.
+    /// Returns the next packet, which has to be there, and leaves it in the ring.
     pub fn peek_known(&self) -> &Packet
         requires { 0 < length (known_packets self.now) }
         ensures next { (later : List PacketValue) × (known_packets self.now ≡ result.now ∷ later) }
@@ -102,9 +103,9 @@ impl Receiver {
         self.ring.is_abandoned()
     }
 
-    /// The next packet, which is there. It wakes the thread at the sending end on the edge: where none is left of the
-    /// messages that were seen at once, or half of them. So that one is woken soon after it found no room, and seldom
-    /// while it finds some.
+    /// Receives the next packet, which has to be there. It wakes the thread at the sending end when half of the
+    /// messages that the last look saw are left, and when none is. So that thread is woken soon after it found no room,
+    /// and seldom while it finds some.
     #[inline(always)]
     pub fn receive_known(&mut self) -> Packet
         requires { 0 < length (known_packets self.old) }
@@ -124,15 +125,15 @@ impl Receiver {
         packet
     }
 
-    /// Whether rows that were sent together were received.
+    /// Whether this end has received rows that were sent together.
     pub fn has_received_rows(&self) -> bool
         ensures { result ≡ has_received_rows self.now }
     {
         self.has_rows
     }
 
-    /// What was received, and what is left of the messages then, are all that was sent, since both ends of the ring are
-    /// here.
+    /// Looks into the ring with both of its ends at hand. Afterwards, what was received and what is known to be left
+    /// make up all that was sent.
     pub fn look_beside(&mut self, sender: &mut Sender)
         requires { IsPair sender.old self.old }
         ensures looked { SameReceiver self.old self.new × (received self.new ≡ received self.old) }
@@ -142,8 +143,8 @@ impl Receiver {
         self.ring.slots_beside(&mut sender.ring);
     }
 
-    /// The next packet, once there is one; none once the ring is empty and its other end was seen dropped. That it is
-    /// empty is known only of the messages that this end has seen in it.
+    /// Receives the next packet, once there is one. Returns `None` once the ring is empty and its other end was seen
+    /// dropped. Empty means that none of the messages that this end has seen is left.
     #[inline(always)]
     pub fn receive<R: Wait>(&mut self, rt: &R) -> Option<Packet>
         ensures ring { SameReceiver self.old self.new }
@@ -158,8 +159,8 @@ impl Receiver {
         None
     }
 
-    /// The next message, once there is one. None where rows that were sent together come next, which stay there; and
-    /// once the ring is empty and its other end was seen dropped.
+    /// Receives the next message, once there is one. Returns `None` if rows that were sent together come next, which
+    /// stay in the ring, and once the ring is empty and its other end was seen dropped.
     pub fn receive_message<R: Wait>(&mut self, rt: &R) -> Option<Message>
         ensures ring { SameReceiver self.old self.new }
         ensures taken { IfSome result (λ m. received self.new ≡ received self.old ++ m ∷ []) }
@@ -179,8 +180,8 @@ impl Receiver {
         }
     }
 
-    /// Waits until a message is there; false once the ring is empty and its other end was seen dropped. It stands apart
-    /// from `receive`, which mostly finds a message.
+    /// Waits until a message is there. Returns false once the ring is empty and its other end was seen dropped. It is a
+    /// function of its own, since `receive` mostly finds a message at once.
     #[inline(never)]
     pub(crate) fn wait_for_message<R: Wait>(&mut self, rt: &R) -> bool
         ensures ring { SameReceiver self.old self.new }
@@ -202,8 +203,8 @@ impl Receiver {
         unreachable!()
     }
 
-    /// Receives and drops what comes, through the end of the stream or Stop; false where the sending end was seen
-    /// dropped before.
+    /// Receives and drops what comes, through the end of the stream or Stop. Returns false if the sending end was seen
+    /// dropped before that.
     pub fn drain<R: Wait>(&mut self, rt: &R) -> bool
         ensures ring { SameReceiver self.old self.new }
         ensures drained { HasDrained result (received self.old) (received self.new) (known_items self.new) }
@@ -222,8 +223,8 @@ impl Receiver {
         unreachable!()
     }
 
-    /// After a message with this ending, receives and drops what comes through to the end of the stream; false where
-    /// the sending end was seen dropped before.
+    /// After a message with this ending, receives and drops what comes, through the end of the stream or Stop. Returns
+    /// false if the sending end was seen dropped before that.
     pub fn drain_after<R: Wait>(&mut self, rt: &R, ending: Ending) -> bool
         ensures ring { SameReceiver self.old self.new }
         ensures drained { HasDrainedAfter ending result (received self.old) (received self.new) (known_items self.new) }

@@ -21,7 +21,7 @@ impl Protocol<Packet> for AnyMessage {
     ghost allows = { λ _ _. Unit {0} };
 }
 
-/// The two ends of a ring for so many packets; none where there is no memory.
+/// Makes a ring for `capacity` packets, and returns its two ends. Returns `None` if there is no memory.
 pub fn new_ring(alloc: Global, capacity: usize) -> Option<(Sender, Receiver)>
     ensures pair { IfSome result (λ ends. IsPair ends.0 ends.1) }
     ensures unused { IfSome result (λ ends. (sent ends.0 ≡ []) × (received ends.1 ≡ [])) }

@@ -11,41 +11,43 @@ use rtrb::Producer;
 use std::alloc::Global;
 use std::sync::Wait;
 
-/// How many short messages at most are sent before the thread at the receiving end is woken for them: to wake one that
-/// sleeps costs as much as to make some of them, and so few are soon made.
+/// The most short messages that are sent before the thread at the receiving end is woken for them. To wake a sleeping
+/// thread costs as much as to make some of them, and so few are soon made.
 const MOST_MESSAGES: u16 = 32;
 
 /// A row of fewer bytes is short, as are the messages around rows: some of them are made in less time than a sleeping
 /// thread takes to wake.
 const SHORT: usize = 1_024;
 
-/// A row of more bytes is wide: of such rows no more lie in a ring at once than would come to so many bytes a place, so
-/// that what passes stays in the processors' own caches, and a slow reader doesn't have a run take memory without end.
+/// A row of more bytes is wide. The wide rows in a ring have no more bytes at once than this number times the ring's
+/// places. So what passes stays in the processors' own caches, and a slow reader doesn't make a run take memory without
+/// end.
 const BYTES_PER_PLACE: usize = 16_384;
 
-/// But for so many rows, however wide, so that the threads at both ends have something to do.
+/// But this many rows may lie in a ring, however wide they are, so that the threads at both ends have something to do.
 const LEAST_ROWS: usize = 2;
 
-/// Rows together of no more bytes are soon made, since their bytes are copied alone: they are short as well.
+/// Rows together of no more bytes are short as well: they are soon made, since their bytes are only copied.
 const FEW_TOGETHER: usize = 4_096;
 
-/// The sending end of a ring of messages. Once it goes, the thread at the receiving end is woken, and sees that.
+/// The sending end of a ring of messages. When it is dropped, it wakes the thread at the receiving end, which then sees
+/// that this end is gone.
 #[derive(Drop)]
 pub struct Sender {
-    /// The end itself. It comes first, since it has to be gone before the other thread is woken.
+    /// The end itself. It is the first field, since it has to be gone before `waker` wakes the other thread.
     pub(crate) ring: Producer<Packet, Global, AnyMessage>,
     waker: SenderWaker,
-    /// The messages that were sent and woke nobody, and for how many short ones somebody is woken. These numbers are
-    /// narrow, since each level of a chain's starts holds a few ends.
+    /// How many messages were sent since this end last woke the receiver, and for how many short ones it wakes it. Both
+    /// numbers are narrow, since each level of a chain's starts holds a few ends.
     unwoken: u16,
     messages_per_wake: u16,
-    /// The places that stay free, since the row that was sent last is wide.
+    /// How many places stay free because the row that was sent last is wide.
     kept_free: u32,
 }
 
 impl Sender {
-    /// The end of this ring, with what it has of the ring's wakers. Each message that it sends wakes the other end's
-    /// thread.
+    /// The sending end over `ring`, with its part of the ring's wakers. Each message that it sends wakes the other
+    /// end's thread.
     pub(crate) fn new(ring: Producer<Packet, Global, AnyMessage>, waker: SenderWaker) -> Sender
         ensures { result.ring ≡ ring }
     {
@@ -58,9 +60,9 @@ impl Sender {
         }
     }
 
-    /// From now on the thread at the receiving end is woken once for several short messages, for half of the ring at
-    /// most, and at the end of the stream. So this one has to wake it for them (`wake_receiver`) before it waits for
-    /// anything but room in this ring.
+    /// From now on, wakes the thread at the receiving end once for several short messages, for half of the ring at
+    /// most, and at the end of the stream. So this end's thread has to wake it for the rest (`wake_receiver`) before it
+    /// waits for anything but room in this ring.
     pub fn hold_back(&mut self)
         ensures ring { SameSender self.old self.new }
         ensures sent { sent self.new ≡ sent self.old }
@@ -69,10 +71,11 @@ impl Sender {
         self.messages_per_wake = half.min(MOST_MESSAGES);
     }
 
-    /// From now on the sending end of that ring, the home of this ring's receiver, is woken, too, before this end's
-    /// thread sleeps for want of room, where it ends the stream, and once this end goes. The thread at the receiving
-    /// end sends on that ring, and so it may sleep there while this ring is full, or has all that will come. False, and
-    /// nobody else is woken, where that ring's wakers have too many owners.
+    /// Makes `home`, the sending end of another ring, the home of this ring's receiver. From now on, the thread at the
+    /// receiving end is woken there, too, before this end's thread sleeps for want of room, when it ends the stream,
+    /// and when this end is dropped. That thread sends on the ring of `home`, so it may sleep there while this ring is
+    /// full, or has all that will come. Returns false, and nobody else is woken, if that ring's wakers have too many
+    /// owners.
     pub fn set_home(&mut self, home: &Sender) -> bool
         ensures ring { SameSender self.old self.new }
         ensures sent { sent self.new ≡ sent self.old }
@@ -80,7 +83,7 @@ impl Sender {
         self.waker.set_home(&home.waker)
     }
 
-    /// Wakes the thread at the receiving end, where something was sent that it wasn't woken for.
+    /// Wakes the thread at the receiving end, if something was sent since this end last woke it.
     pub fn wake_receiver(&mut self)
         ensures ring { SameSender self.old self.new }
         ensures sent { sent self.new ≡ sent self.old }
@@ -92,8 +95,8 @@ impl Sender {
         }
     }
 
-    /// Whether there is room for a message: a place of the ring is free, and not only those that stay so beside wide
-    /// rows.
+    /// Whether there is room for a message: more places of the ring are free than have to stay free because of a wide
+    /// row.
     pub fn has_room(&mut self) -> bool
         ensures ring { SameSender self.old self.new }
         ensures sent { sent self.new ≡ sent self.old }
@@ -113,7 +116,8 @@ impl Sender {
         self.ring.is_abandoned()
     }
 
-    /// Sends the message, for which there is room, and wakes the thread at the receiving end.
+    /// Sends the message, for which there has to be room, and wakes the thread at the receiving end, unless that wake
+    /// is held back (`hold_back`).
     #[inline(always)]
     pub fn send_reserved(&mut self, message: Message)
         requires { 0 < known_free self.old }
@@ -123,7 +127,8 @@ impl Sender {
         self.send_packet_reserved(Packet::from(message));
     }
 
-    /// Sends the packet, for which there is room, and wakes the thread at the receiving end.
+    /// Sends the packet, for which there has to be room, and wakes the thread at the receiving end, unless that wake is
+    /// held back (`hold_back`).
     #[inline(always)]
     pub fn send_packet_reserved(&mut self, packet: Packet)
         requires { 0 < known_free self.old }
@@ -144,8 +149,8 @@ impl Sender {
         self.wake_receiver();
     }
 
-    /// Sends the message, once there is room; false, and the message is lost, where there is none and the receiving end
-    /// was seen dropped.
+    /// Sends the message, once there is room. Returns false, and the message is lost, if there is none and the
+    /// receiving end was seen dropped.
     #[inline(always)]
     pub fn send<R: Wait>(&mut self, rt: &R, message: Message) -> bool
         ensures ring { SameSender self.old self.new }
@@ -155,8 +160,8 @@ impl Sender {
         self.send_packet(rt, Packet::from(message))
     }
 
-    /// Sends the packet, once there is room; false, and the packet is lost, where there is none and the receiving end
-    /// was seen dropped.
+    /// Sends the packet, once there is room. Returns false, and the packet is lost, if there is none and the receiving
+    /// end was seen dropped.
     #[inline(always)]
     pub fn send_packet<R: Wait>(&mut self, rt: &R, packet: Packet) -> bool
         ensures ring { SameSender self.old self.new }
@@ -170,8 +175,8 @@ impl Sender {
         room
     }
 
-    /// Waits until there is room; false where there is none and the receiving end was seen dropped. It stands apart
-    /// from `send_packet`, which mostly finds room.
+    /// Waits until there is room. Returns false if there is none and the receiving end was seen dropped. It is a
+    /// function of its own, since `send_packet` mostly finds room at once.
     #[inline(never)]
     fn wait_for_room<R: Wait>(&mut self, rt: &R) -> bool
         ensures ring { SameSender self.old self.new }
@@ -206,8 +211,8 @@ impl Sender {
     }
 }
 
-/// The bytes that a packet's samples take, and 0 of few rows together; none of a message that ends the stream, which is
-/// waited for.
+/// How many bytes a packet's samples take, or 0 for short rows together (`FEW_TOGETHER`). Returns `None` for a message
+/// that ends the stream, since that is waited for.
 fn bytes_of(packet: &Packet) -> Option<usize> {
     match packet {
         Packet::Rows(rows) => {
@@ -229,7 +234,7 @@ fn rows_bytes(rows: &Rows) -> usize {
     }
 }
 
-/// The places of a ring that stay free beside rows of so many bytes.
+/// How many of a ring's `capacity` places stay free next to rows of `bytes` bytes.
 fn places_beyond(capacity: usize, bytes: usize) -> u32 {
     if bytes <= BYTES_PER_PLACE {
         return 0;

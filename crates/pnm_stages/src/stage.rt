@@ -16,8 +16,7 @@ use pnm_tools::{Filter, FusedFilter, ToolFault};
 use std::alloc::Global;
 use std::sync::Wait;
 
-/// What each thread that runs a tool calls once, before it takes its first message. Tests hold a
-/// thread back by it.
+/// What each thread that runs a tool calls once, before it takes its first message. Tests use it to hold a thread back.
 pub trait Gate: Sync {
     /// The thread of the tool of this number, from 1, in this lane, from 0, has come to the gate.
     fn arrive(&self, stage: usize, lane: usize);
@@ -38,11 +37,11 @@ pub enum StageEnd {
     Well,
     /// Stop was taken, and sent.
     Broken,
-    /// The tool refused so; Stop was sent, and the input was taken and dropped through its end or its
+    /// The tool refused with this fault. Stop was sent, and the input was taken and dropped through its end or its
     /// Stop.
     Fault(ToolFault),
-    /// The other end of a ring was seen dropped. Where it was the output's, the input was drained first; where it was
-    /// the input's, Stop was sent.
+    /// The other end of a ring was seen dropped. If it was the output's, the input was drained first; if it was the
+    /// input's, Stop was sent.
     PeerGone,
 }
 
@@ -58,8 +57,8 @@ pub struct StageDone {
 }
 
 /// Passes what comes on `input` through a tool at work, or one that has refused, to `output`, as `run_stage` does
-/// behind its gate. Rows that come together are fed together. Where not all of them may come, each is copied, and fed
-/// by itself, up to the one that is refused: without memory for that the tool refuses by `Memory`.
+/// behind its gate. Rows that come together are fed together. If not all of them may come, each is copied and fed by
+/// itself, up to the one that is refused; if there is no memory for a copy, the tool refuses by `Memory`.
 pub fn run_filter<R: Wait, F: Filter + Drop>(
     rt: &R,
     alloc: Global,
@@ -121,7 +120,7 @@ fn pass_all<R: Wait, F: Filter + Drop>(
     unreachable!()
 }
 
-/// Whether a message is there, which is waited for; false once the ring is empty and its other end was seen dropped.
+/// Waits until a message is there. Returns false once the ring is empty and its other end was seen dropped.
 #[inline(always)]
 fn has_next<R: Wait>(rt: &R, input: &mut Receiver, output: &mut Sender) -> bool
     ensures ring { SameReceiver input.old input.new }
@@ -135,8 +134,8 @@ fn has_next<R: Wait>(rt: &R, input: &mut Receiver, output: &mut Sender) -> bool
 }
 
 /// Waits until a message is there, once the thread behind is told of all that was sent, since the stage may have to
-/// wait; false once the ring is empty and its other end was seen dropped. It stands apart from `has_next`, which mostly
-/// finds a message.
+/// wait. Returns false once the ring is empty and its other end was seen dropped. It is a function of its own, since
+/// `has_next` mostly finds a message at once.
 #[inline(never)]
 fn wait<R: Wait>(rt: &R, input: &mut Receiver, output: &mut Sender) -> bool
     ensures ring { SameReceiver input.old input.new }
@@ -150,8 +149,8 @@ fn wait<R: Wait>(rt: &R, input: &mut Receiver, output: &mut Sender) -> bool
     input.has_message() || input.wait_for_message(rt)
 }
 
-/// Passes a packet through the tool, and sends what that makes of it; false where the output's other end was seen
-/// dropped before.
+/// Passes a packet through the tool, and sends what the tool makes of it. Returns false if the output's other end was
+/// seen dropped before all was sent.
 #[inline(always)]
 fn pass<R: Wait, F: Filter + Drop>(
     rt: &R,
@@ -173,8 +172,8 @@ fn pass<R: Wait, F: Filter + Drop>(
     }
 }
 
-/// Passes rows that came together through the tool, all at once, and sends what that makes of them; false where the
-/// output's other end was seen dropped before. Where not all of them may come, each is passed by itself.
+/// Passes rows that came together through the tool, all at once, and sends what the tool makes of them. If not all of
+/// them may come, passes each by itself. Returns false if the output's other end was seen dropped before all was sent.
 #[inline(never)]
 fn pass_rows<R: Wait, F: Filter + Drop>(
     rt: &R,
@@ -193,9 +192,9 @@ fn pass_rows<R: Wait, F: Filter + Drop>(
     }
 }
 
-/// Passes each of the rows through the tool by itself, as a copy, up to the one that is refused; those behind it are
-/// dropped. Without memory for a copy the tool refuses by `Memory`. False where the output's other end was seen dropped
-/// before.
+/// Passes a copy of each row through the tool by itself, up to the one that is refused; the rows behind it are dropped.
+/// If there is no memory for a copy, the tool refuses by `Memory`. Returns false if the output's other end was seen
+/// dropped before all was sent.
 fn pass_each<R: Wait, F: Filter + Drop>(
     rt: &R,
     alloc: Global,
@@ -220,8 +219,8 @@ fn pass_each<R: Wait, F: Filter + Drop>(
     true
 }
 
-/// Sends what the tool gives, until it has given all, or refused; false where the output's other end
-/// was seen dropped before.
+/// Sends what the tool gives, until it has given all, or refused. Returns false if the output's other end was seen
+/// dropped before that.
 #[inline(always)]
 fn send_answers<R: Wait, F: Filter + Drop>(
     rt: &R,
@@ -244,7 +243,7 @@ fn send_answers<R: Wait, F: Filter + Drop>(
 }
 
 /// Ends the stage of a tool that refused at a message with this ending: sends Stop, and drops what
-/// comes through to the end of the stream.
+/// comes, through the end of the stream or Stop.
 fn break_off<R: Wait>(
     rt: &R,
     fault: ToolFault,

@@ -9,10 +9,10 @@ use std::time::Duration;
 /// cost if nobody did.
 const LONGEST_SLEEP: u64 = 400;
 
-/// What the thread at one end of a ring sleeps by. While messages flow, the thread at the other end alone wakes it: so
-/// to wake a thread at work costs an exchange on a cache line that no other thread writes, since it shares that with
-/// nothing. The threads that have it as a home (`SenderWaker::set_home`) wake it only before they sleep themselves, and
-/// once their stream ends.
+/// What the thread at one end of a ring sleeps on. While messages flow, only the thread at the other end wakes it. So
+/// to wake a thread at work costs an exchange on a cache line that no other thread writes: the waker shares that line
+/// with nothing. The threads that have it as a home (`SenderWaker::set_home`) wake it only before they sleep
+/// themselves, and once their stream ends.
 #[derive(Drop)]
 struct Waker {
     _before: [u64; 7],
@@ -29,7 +29,7 @@ impl Waker {
         }
     }
 
-    /// Sleeps until the thread is woken; not at all where it was since the last sleep.
+    /// Sleeps until the thread is woken. Returns at once if it was woken since the last sleep.
     fn sleep<R: Wait>(&self, rt: &R) {
         self.parker
             .park_timeout(rt, Duration::from_millis(LONGEST_SLEEP));
@@ -47,18 +47,18 @@ struct Wakers {
     receiver: Waker,
 }
 
-/// What the sending end has of its ring's wakers. Once it goes, the thread at the receiving end is woken, and at its
-/// home too.
+/// The sending end's part of its ring's wakers. When it is dropped, it wakes the thread at the receiving end, and wakes
+/// it at its home, too.
 pub struct SenderWaker {
     wakers: Arc<Wakers>,
-    /// Those of the ring at whose sending end the thread at the receiving end may sleep as well.
+    /// The wakers of the ring at whose sending end the thread at the receiving end may sleep as well.
     home: Option<Arc<Wakers>>,
 }
 
-/// What the receiving end has of its ring's wakers. Once it goes, the thread at the sending end is woken.
+/// The receiving end's part of its ring's wakers. When it is dropped, it wakes the thread at the sending end.
 pub struct ReceiverWaker(Arc<Wakers>);
 
-/// Those of the two ends of a ring; none where there is no memory.
+/// Makes the wakers of a ring's two ends. Returns `None` if there is no memory.
 pub fn new_wakers(alloc: Global) -> Option<(SenderWaker, ReceiverWaker)> {
     let wakers = Wakers {
         sender: Waker::new(),
@@ -74,20 +74,21 @@ pub fn new_wakers(alloc: Global) -> Option<(SenderWaker, ReceiverWaker)> {
 }
 
 impl SenderWaker {
-    /// From now on the thread at the receiving end, which sends on that ring too, is woken there as well before this
-    /// end's thread sleeps, and once this end goes. False where as many share that ring's wakers as may.
+    /// From now on, wakes the thread at the receiving end at `home` as well, before this end's thread sleeps and when
+    /// this end is dropped. That thread sends on the ring of `home`. Returns false if as many share that ring's wakers
+    /// as may.
     pub fn set_home(&mut self, home: &SenderWaker) -> bool {
         self.home = Arc::try_clone(&home.wakers).ok();
         self.home.is_some()
     }
 
-    /// Sleeps until the thread at the receiving end wakes this one; not at all where it did since the last sleep.
+    /// Sleeps until the thread at the receiving end wakes this one. Returns at once if it did so since the last sleep.
     pub fn sleep<R: Wait>(&self, rt: &R) {
         self.wake_home();
         self.wakers.sender.sleep(rt);
     }
 
-    /// Wakes the thread at the receiving end where it sleeps at its home, if it has one.
+    /// Wakes the thread at the receiving end at its home, if it has one.
     pub fn wake_home(&self) {
         if let Some(home) = &self.home {
             home.sender.wake();
@@ -109,7 +110,7 @@ impl Drop for SenderWaker {
 }
 
 impl ReceiverWaker {
-    /// Sleeps until the thread at the sending end wakes this one; not at all where it did since the last sleep.
+    /// Sleeps until the thread at the sending end wakes this one. Returns at once if it did so since the last sleep.
     pub fn sleep<R: Wait>(&self, rt: &R) {
         self.0.receiver.sleep(rt);
     }

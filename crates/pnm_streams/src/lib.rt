@@ -1,4 +1,4 @@
-//! What stands between a process's standard streams and a run: calls that a signal interrupts are made again, and long
+//! What lies between a process's standard streams and a run: calls that a signal interrupts are made again, and long
 //! writes go past a buffer.
 #![tactic(auto)]
 

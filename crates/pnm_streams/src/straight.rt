@@ -9,7 +9,8 @@ use std::io::{BufWriter, Write};
 /// What has so many bytes is written straight: to copy it would take longer than the call that is saved.
 const LONG: usize = 16_384;
 
-/// A buffered writer that keeps back what is short alone. What is long is written once what was kept back is.
+/// A buffered writer that keeps back only short parts. It writes a long part straight, once it has written what was
+/// kept back.
 #[derive(Drop)]
 pub struct Straight<W: Write + Drop> {
     buffered: BufWriter<W>,

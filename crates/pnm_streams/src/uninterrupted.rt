@@ -5,8 +5,8 @@ ghost use Rattle.std.specs.Prelude.{◌≡◌};
 use std::io;
 use std::io::{ErrorKind, Read, Write};
 
-/// A reader or writer each of whose calls is made again where a signal has interrupted it (signal(7)), so that a
-/// process that was stopped and goes on loses nothing. Any other error is handed on.
+/// A reader or writer that makes each call again if a signal has interrupted it (signal(7)), so that a process that was
+/// stopped and goes on loses nothing. It hands on any other error.
 #[derive(Debug, Drop)]
 pub struct Uninterrupted<D> {
     inner: D,

@@ -14,18 +14,18 @@ mod streams;
 mod texts;
 mod tools;
 
-/// Stops the test where something isn't so, and shows these values. An assertion that shows its values takes long to
+/// Stops the test if something isn't so, and shows these values. An assertion that shows its values takes long to
 /// prove: this one stands for all others.
 fn is_so<P: fmt::Debug>(rt: &impl Abort, is_right: bool, shown: &P) {
     assert!(rt; is_right, "{shown:?}");
 }
 
-/// Stops the test where the two aren't the same, and shows them.
+/// Stops the test if the two aren't the same, and shows them.
 fn same<T: PartialEq + fmt::Debug, P: fmt::Debug>(rt: &impl Abort, given: &T, want: &T, place: &P) {
     is_so(rt, given == want, &(given, want, place));
 }
 
-/// What is answered where a head is asked for, whose kind has to suit the rest.
+/// What `Head::new` answers. The kind has to suit the rest.
 fn new_head(
     rt: &impl Abort,
     alloc: Global,

@@ -24,7 +24,8 @@ const INVERT: [Tool; 1] = [Tool::Invert];
 
 const INVERT_THRICE: [Tool; 3] = [Tool::Invert, Tool::Invert, Tool::Invert];
 
-/// What a run has read so far, who has come to its gate, and whether that was waited for in vain or too long.
+/// How much a run has read so far, who has come to its gate, and whether a wait for reads was in vain, or there were
+/// too many reads.
 #[derive(Drop)]
 struct Seen {
     reads: AtomicU64,
@@ -53,7 +54,7 @@ impl Seen {
         }
     }
 
-    /// How often the first three stages have come, the second lane of the first one, and anybody else.
+    /// How often these have come: the first three stages, the second lane of the first one, and anybody else.
     fn came(&self) -> [u64; 5] {
         [
             self.first.load(SeqCst),
@@ -65,7 +66,7 @@ impl Seen {
     }
 }
 
-/// Gives a byte a read, and is seen.
+/// Gives one byte for each read, and counts the reads.
 #[derive(Drop)]
 struct ByteByByte<'a>(&'a [u8], &'a Seen);
 
@@ -77,8 +78,8 @@ impl Read for ByteByByte<'_> {
     }
 }
 
-/// Holds a stage, or a lane of it, until as many bytes were read as can be where that one has taken nothing, and a
-/// while longer, and counts who comes.
+/// Holds a stage, or a lane of it, until as many reads were made as can be before it takes anything, and a while
+/// longer. Counts who comes.
 #[derive(Drop)]
 struct HoldsOne<'a> {
     /// The stage and the lane that are held.
@@ -105,7 +106,7 @@ impl Gate for HoldsOne<'_> {
     }
 }
 
-/// Waits until so many bytes were read, and a while longer.
+/// Waits until `most` reads were made, and a while longer.
 fn hold(seen: &Seen, most: u64) {
     for turn in 0..TURNS {
         if seen.reads.load(SeqCst) >= most {
@@ -124,7 +125,8 @@ fn hold(seen: &Seen, most: u64) {
     }
 }
 
-/// While this stage and lane are held so many reads are made and no more, and these come, each so often.
+/// While this stage and lane are held, `most` reads are made and no more; `came` says how often each of the stages and
+/// lanes comes.
 fn comes_before_it_takes<R: Threads + Wait + Abort + Sync>(
     rt: &R,
     alloc: Global,
@@ -148,7 +150,7 @@ fn comes_before_it_takes<R: Threads + Wait + Abort + Sync>(
     has_come(rt, &seen, came);
 }
 
-/// These have come, none was waited for in vain, and nothing was read too early.
+/// Each has come as often as `came` says, no wait was in vain, and nothing was read too early.
 fn has_come(rt: &impl Abort, seen: &Seen, came: [u64; 5]) {
     let late = [seen.missed.load(SeqCst), seen.early.load(SeqCst)];
     is_so(rt, seen.came() == came && late == [0, 0], &late);
@@ -157,9 +159,9 @@ fn has_come(rt: &impl Abort, seen: &Seen, came: [u64; 5]) {
 /// Stages, and how many reads are made while each is held.
 const READ_BEFORE_STAGES: &[(usize, u64)] = &[(1, 9), (2, 11), (3, 13)];
 
-/// Over rings of one message each ring before the stage that is held holds one, and each stage before it one: the
-/// image's head, of nine bytes, and 2 k - 2 rows where stage k is held. The caller holds none, and doesn't read for
-/// one.
+/// Over rings of one message, each ring before the stage that is held holds one message, and so does each stage before
+/// it: the image's head, of nine bytes, and 2 k - 2 rows if stage k is held. The caller holds none, and doesn't read
+/// for one.
 #[test]
 fn each_stage_comes_before_it_takes(rt: HostRuntime) {
     for (stage, most) in READ_BEFORE_STAGES {
@@ -178,8 +180,8 @@ fn each_stage_comes_before_it_takes(rt: HostRuntime) {
 /// Lanes, and how many reads are made while each is held.
 const READ_BEFORE_LANES: &[(usize, u64)] = &[(0, 11), (1, 12)];
 
-/// Each lane has been sent the head. Where the first one is held the first row waits for room with the dealer, where
-/// the second is the second; the ring before the dealer holds a row.
+/// Each lane has been sent the head. If the first lane is held, the first row waits for room with the dealer; if the
+/// second lane is held, the second row does. The ring before the dealer holds a row.
 #[test]
 fn each_lane_comes_before_it_takes(rt: HostRuntime) {
     for (lane, most) in READ_BEFORE_LANES {

@@ -11,10 +11,10 @@ use std::process::Abort;
 use std::sync::Wait;
 use std::thread::Threads;
 
-/// Tools, how many messages a ring between them holds, and over how many lanes they are.
+/// Tools, the messages that a ring between them holds, and the number of lanes that they work over.
 pub type Chain<'a> = (&'a [Tool], usize, usize);
 
-/// The run of this chain at the gate that writes in this form.
+/// Runs this chain at the gate, and writes in this form.
 pub fn run_at<H: Threads + Wait + Abort + Sync, R: BytesIn, W: BytesOut>(
     rt: &H,
     alloc: Global,
@@ -52,7 +52,7 @@ pub fn is_chain(tools: &[Tool]) -> bool
     1 <= tools.len() && tools.len() <= 64 && are_lawful(tools)
 }
 
-/// Whether a ring may be for so many messages, and a tool over so many lanes.
+/// Whether a ring may hold `capacity` messages, and a tool may work over `lanes` lanes.
 pub fn are_limits(capacity: usize, lanes: usize) -> bool
     ensures capacity { IsTrue result → (1 ≤ capacity) × (capacity ≤ 1024) }
     ensures lanes { IsTrue result → (1 ≤ lanes) × (lanes ≤ 8) }

@@ -25,7 +25,7 @@ fn passes_messages_in_order(rt: HostRuntime) {
     }
 }
 
-/// So it is over a ring that has room for so many.
+/// Messages pass in order over a ring that has room for as many as `most` has.
 fn passes_in_order(rt: &impl Abort, alloc: Global, most: &[Part<'_>]) {
     let (mut sender, mut receiver) = new_ring(alloc, most.len()).expect(rt, "a ring");
     for part in PARTS {
@@ -52,7 +52,7 @@ fn receives(rt: &(impl Wait + Abort), receiver: &mut Receiver, part: Option<Part
     is_so(rt, is_right, &part);
 }
 
-/// A ring for so many messages that holds these.
+/// A ring for `capacity` messages that holds these.
 fn ring_of(
     rt: &impl Abort,
     alloc: Global,
@@ -84,7 +84,7 @@ fn sends_nothing_where_nobody_receives(rt: HostRuntime) {
     assert!(rt; !is_sent);
 }
 
-/// Sends a row of so many bytes, or as many rows of a byte together, where there is room.
+/// Sends a row of `bytes` bytes, or `bytes` rows of one byte together, if there is room.
 fn send_bytes(
     rt: &impl Abort,
     alloc: Global,
@@ -108,8 +108,8 @@ fn send_bytes(
     true
 }
 
-/// How many rows of so many bytes an empty ring has room for, or as many rows of a byte together, up to nine. They are
-/// sent and dropped.
+/// How many rows of `bytes` bytes an empty ring has room for, up to nine; or how many times `bytes` rows of one byte
+/// together. They are sent and dropped.
 fn count_rows(
     rt: &impl Abort,
     alloc: Global,
@@ -142,8 +142,8 @@ const ROOMS: &[(u32, u32)] = &[
     (64, 8),
 ];
 
-/// Of rows of more than 16,384 bytes no more than come to so many a place of the ring, and two at least; so it is of
-/// rows together.
+/// All rows of more than 16,384 bytes in a ring have at most that many bytes a place of it, but there is room for two.
+/// So it is with rows together.
 #[test]
 fn leaves_room_beside_wide_rows(rt: HostRuntime) {
     let (mut sender, mut receiver) = new_ring(rt.alloc(), 8).expect(&rt, "a ring");

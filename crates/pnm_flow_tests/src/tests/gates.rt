@@ -32,7 +32,7 @@ const TWO_ROWS_INVERTED: &[u8] = b"P5\n1 2\n9\n\x08\x07";
 
 const TWO_ROWS_PASSED: Result<Summary, RunFault> = Ok(Summary { images: 1, rows: 2 });
 
-/// Tools over so many lanes, an input, and the image of two rows that they make of it.
+/// Tools, the number of their lanes, an input, and the image of two rows that they make of it.
 type HeldRun<'a> = (&'a [Tool], usize, &'a [u8], &'a [u8]);
 
 /// The run passes the gate, and makes the image.
@@ -121,8 +121,8 @@ impl Write for SeenWriter<'_> {
     }
 }
 
-/// Holds the first tool back, or the first lane of it alone, until something was read, and a while longer, and counts
-/// what was written by then.
+/// Holds back the first tool, or only its first lane, until something was read, and a while longer. Counts what was
+/// written by then.
 #[derive(Drop)]
 struct HoldsFirst<'a>(&'a Seen);
 
@@ -149,8 +149,8 @@ impl Gate for HoldsFirst<'_> {
     }
 }
 
-/// The input is read while the gate holds the first tool back, or the first lane of it, once, and nothing is written
-/// without it.
+/// The input is read while the gate holds back the first tool, or its first lane, once; nothing is written without that
+/// one.
 fn reads_and_writes<R: Threads + Wait + Abort + Sync>(rt: &R, alloc: Global, held: HeldRun<'_>) {
     let seen = Seen::new();
     let mut writer = Device::new(SeenWriter(Vec::new(alloc), &seen));
@@ -165,7 +165,7 @@ fn reads_and_writes<R: Threads + Wait + Abort + Sync>(rt: &R, alloc: Global, hel
     has_held(rt, &seen);
 }
 
-/// That run, which is seen to read.
+/// Makes that run, over a reader that is seen.
 fn run_held<R: Threads + Wait + Abort + Sync, W: BytesOut>(
     rt: &R,
     alloc: Global,
@@ -200,8 +200,8 @@ fn reads_and_writes_beside_the_lanes(rt: HostRuntime) {
     reads_and_writes(&rt, rt.alloc(), held);
 }
 
-/// Gives the sample's image again and again, one a read, and counts the reads that came before the result of each image
-/// given until then was flushed.
+/// Gives the sample's image again and again, one for each read. Counts the reads that came before the results of all
+/// images given until then were flushed.
 #[derive(Drop)]
 struct ImageByImage<'a> {
     more: u64,
@@ -234,7 +234,7 @@ fn writes_each_image_before_the_next_is_read(rt: HostRuntime) {
     }
 }
 
-/// So it is over rings for so many messages, and over so many lanes.
+/// Over rings for `capacity` messages and over `lanes` lanes, each image's result is written before the next read.
 fn writes_before_reads<R: Threads + Wait + Abort + Sync>(
     rt: &R,
     alloc: Global,
@@ -251,7 +251,7 @@ fn writes_before_reads<R: Threads + Wait + Abort + Sync>(
     is_so(rt, is_right, &(written, early));
 }
 
-/// The run of this chain that is given 200 images, one after another.
+/// Runs this chain on 200 images, one after another.
 fn run_images<R: Threads + Wait + Abort + Sync, W: BytesOut>(
     rt: &R,
     alloc: Global,

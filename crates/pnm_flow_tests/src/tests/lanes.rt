@@ -15,7 +15,7 @@ use std::sync::Wait;
 use std::thread;
 use std::thread::Threads;
 
-/// Deals to the outputs, of which there have to be 1 to 8.
+/// Deals to the outputs. There have to be 1 to 8.
 pub fn dealt(
     rt: &(impl Wait + Abort),
     alloc: Global,
@@ -26,13 +26,13 @@ pub fn dealt(
     deal(rt, alloc, input, outputs)
 }
 
-/// Gathers from the inputs, of which there have to be 1 to 8.
+/// Gathers from the inputs. There have to be 1 to 8.
 pub fn gathered(rt: &(impl Wait + Abort), inputs: Vec<Receiver>, output: Sender) -> GatherDone {
     assert!(rt; 1 <= inputs.len() && inputs.len() <= 8);
     gather(rt, inputs, output)
 }
 
-/// So many rings of this capacity; none where there is no memory.
+/// Makes `count` rings of this capacity. Returns `None` if there is no memory.
 pub fn rings(alloc: Global, count: usize, capacity: usize) -> Option<(Vec<Sender>, Vec<Receiver>)> {
     let mut ends = (Vec::new(alloc), Vec::new(alloc));
     let mut are_made = true;
@@ -42,7 +42,7 @@ pub fn rings(alloc: Global, count: usize, capacity: usize) -> Option<(Vec<Sender
     are_made.then_some(ends)
 }
 
-/// Adds the ends of a ring of this capacity; none where there is no memory.
+/// Adds the ends of a ring of this capacity. Returns `None` if there is no memory.
 fn add_ring(
     alloc: Global,
     capacity: usize,
@@ -55,7 +55,7 @@ fn add_ring(
     output.and(input)
 }
 
-/// How many of so many rows go to the lane.
+/// How many of `height` rows go to the lane.
 fn rows_of(height: u32, lane: usize, lanes: usize) -> u32 {
     let mut count: u32 = 0;
     for y in 0..height as usize {
@@ -91,7 +91,7 @@ fn begins(alloc: Global, producer: &mut Sender, lanes: &mut [Receiver], height: 
     true
 }
 
-/// Sends so many rows, each only once the one before has come to its lane.
+/// Sends `height` rows, each only once the one before has come to its lane.
 fn deals_rows(alloc: Global, producer: &mut Sender, lanes: &mut [Receiver], height: u16) -> bool {
     let count = lanes.len();
     for y in 0..height {
@@ -116,7 +116,7 @@ fn one_by_one(alloc: Global, producer: &mut Sender, lanes: &mut [Receiver], heig
         && each_gets(lanes, Part::StreamEnd)
 }
 
-/// Whether each message of an image of this height is dealt to so many lanes before the next one is there.
+/// Whether each message of an image of this height is dealt to the lanes before the next one is there.
 fn deals_at_once<R: Threads + Wait + Abort + Sync>(
     rt: &R,
     alloc: Global,
@@ -144,7 +144,7 @@ fn deals_each_message_at_once(rt: HostRuntime) {
     }
 }
 
-/// Sends so many rows, each only once the one before has come at the other end.
+/// Sends `height` rows, each only once the one before has come at the other end.
 fn passes_rows(alloc: Global, producer: &mut Sender, consumer: &mut Receiver, height: u16) -> bool {
     for y in 0..height {
         if !passes(alloc, producer, consumer, Part::Row(&[y])) {
@@ -168,7 +168,7 @@ fn passes_image(
         && passes(alloc, producer, consumer, Part::StreamEnd)
 }
 
-/// Whether an image of this height that is dealt to so many lanes is gathered as it was, message by message.
+/// Whether an image of this height that is dealt to the lanes is gathered as it was, message by message.
 fn gathers_again<R: Threads + Wait + Abort + Sync>(
     rt: &R,
     alloc: Global,

@@ -13,15 +13,15 @@ use std::thread::Threads;
 /// One image of one row.
 const ONE_ROW: Summary = Summary { images: 1, rows: 1 };
 
-/// The most tools over the most lanes, each in a thread of its own; where so many threads can't be started,
-/// that is answered.
+/// The most tools over the most lanes, each in a thread of its own. If so many threads can't be started, the answer
+/// says that.
 #[test]
 fn inverts_by_the_most_tools_over_lanes(rt: HostRuntime) {
     let tools = tools_with_cut(&rt, rt.alloc(), 64, 64);
     inverts_or_is_not_started(&rt, rt.alloc(), (tools.as_slice(), 1, 8));
 }
 
-/// So does this chain of tools that invert, an even number of them.
+/// This chain of an even number of tools that invert gives the image back, unless it can't be started.
 fn inverts_or_is_not_started<H: Threads + Wait + Abort + Sync>(
     rt: &H,
     alloc: Global,

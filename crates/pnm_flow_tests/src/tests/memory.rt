@@ -43,7 +43,7 @@ const LAST_BITS: Written<'static> = (
     b"P4\n1 3\n\x00\x00\x80",
 );
 
-/// What a run over three tools answers; none where there is no memory for these.
+/// What a run over three tools answers, or `None` if there is no memory for the tools.
 fn run_short_of_memory<H: Threads + Wait + Abort + Sync>(
     rt: &H,
     alloc: Global,
@@ -59,8 +59,8 @@ fn run_short_of_memory<H: Threads + Wait + Abort + Sync>(
 /// The form in which a run writes, its input, and its whole output.
 type Written<'a> = (Form, &'a [u8], &'a [u8]);
 
-/// What a run over these tools answers. Whatever it is, a prefix of the whole output is written, and want of memory
-/// alone can be at fault: for the start of a run over threads too.
+/// What a run over these tools answers. Whatever it is, a prefix of the whole output is written, and only want of
+/// memory can be at fault, also if a run over threads doesn't start.
 fn make_short_of_memory<H: Threads + Wait + Abort + Sync>(
     rt: &H,
     alloc: Global,
@@ -77,7 +77,7 @@ fn make_short_of_memory<H: Threads + Wait + Abort + Sync>(
     answer.ok()
 }
 
-/// What a run over these tools answers that writes into the target, and how much of this is left.
+/// What a run over these tools that writes into the target answers, and how much of the target is left.
 fn run_into<H: Threads + Wait + Abort + Sync>(
     rt: &H,
     alloc: Global,
@@ -93,7 +93,8 @@ fn run_into<H: Threads + Wait + Abort + Sync>(
     (answer, writer.into_inner().len())
 }
 
-/// Whether all is written, or want of memory alone is at fault and a prefix is: nothing where a thread isn't started.
+/// Whether all is written; or only want of memory is at fault, and a prefix is written, which is empty if the run
+/// wasn't started.
 fn is_answer(answer: Result<Summary, RunFault>, way: Way, written: &[u8], whole: &[u8]) -> bool {
     match answer {
         Ok(_) => written == whole,
@@ -104,7 +105,7 @@ fn is_answer(answer: Result<Summary, RunFault>, way: Way, written: &[u8], whole:
     }
 }
 
-/// The run has ended well, and passed so many images and rows.
+/// The run has ended well, and has passed this many images and rows.
 fn has_passed(rt: &impl Abort, summary: Option<Summary>, images: u64, rows: u64) {
     let is_so = summary == Some(Summary { images, rows });
     assert!(rt; is_so);
@@ -128,21 +129,21 @@ fn answers_want_of_memory_over_lanes(rt: HostRuntime) {
     let _ = run_short_of_memory(&rt, rt.alloc(), Way::Threads(1, 2));
 }
 
-/// Where no growth is refused the run ends well.
+/// If no growth is refused, the run ends well.
 #[test]
 fn ends_well_with_memory(rt: HostRuntime) {
     let summary = run_short_of_memory(&rt, rt.alloc(), Way::OneThread);
     has_passed(&rt, summary, 2, 3);
 }
 
-/// Where no growth is refused the run over threads ends well.
+/// If no growth is refused, the run over threads ends well.
 #[test]
 fn ends_well_over_threads_with_memory(rt: HostRuntime) {
     let summary = run_short_of_memory(&rt, rt.alloc(), Way::Threads(1, 1));
     has_passed(&rt, summary, 2, 3);
 }
 
-/// Where no growth is refused the run over two lanes ends well.
+/// If no growth is refused, the run over two lanes ends well.
 #[test]
 fn ends_well_over_lanes_with_memory(rt: HostRuntime) {
     let summary = run_short_of_memory(&rt, rt.alloc(), Way::Threads(1, 2));
@@ -166,7 +167,7 @@ fn doubles_in_one_thread_or_runs_out(rt: HostRuntime) {
     let _ = double_short_of_memory(&rt, rt.alloc(), Way::OneThread, SAMPLE_DOUBLED);
 }
 
-/// Where no growth is refused the run in one thread ends well.
+/// If no growth is refused, the run in one thread ends well.
 #[test]
 fn doubles_in_one_thread_with_memory(rt: HostRuntime) {
     let summary = double_short_of_memory(&rt, rt.alloc(), Way::OneThread, SAMPLE_DOUBLED);
@@ -183,7 +184,7 @@ fn writes_plain_or_runs_out(rt: HostRuntime) {
     }
 }
 
-/// Where no growth is refused the plain image is written.
+/// If no growth is refused, the plain image is written.
 #[test]
 fn writes_plain_with_memory(rt: HostRuntime) {
     for way in WAYS {
@@ -192,7 +193,7 @@ fn writes_plain_with_memory(rt: HostRuntime) {
     }
 }
 
-/// What a run answers whose rows come together.
+/// What a run whose rows come together answers.
 fn pass_rows_short_of_memory<H: Threads + Wait + Abort + Sync>(
     rt: &H,
     alloc: Global,
@@ -210,7 +211,7 @@ fn passes_rows_or_runs_out(rt: HostRuntime) {
     }
 }
 
-/// Where no growth is refused the rows are passed.
+/// If no growth is refused, the rows are passed.
 #[test]
 fn passes_rows_with_memory(rt: HostRuntime) {
     for way in WAYS {
@@ -219,7 +220,8 @@ fn passes_rows_with_memory(rt: HostRuntime) {
     }
 }
 
-/// Whether Stop is the last that the ring holds. Before it there is a prefix of these, and after it nothing.
+/// Whether the ring holds Stop. If it does, there is a prefix of these before it, and nothing after it; otherwise the
+/// ring holds all of these, and nothing more.
 fn ends_by_stop(rt: &impl Abort, input: &mut Receiver, whole: &[Part<'_>]) -> bool {
     for part in whole {
         let Some((is_stop, is_next)) = next_is(input, *part) else {
@@ -240,7 +242,8 @@ fn are_well(ends: &[StageEnd]) -> bool {
     ends.iter().all(|end| *end == StageEnd::Well)
 }
 
-/// Whether the stages of a chain have ended well. If so all of the answer was sent, and else a prefix of it and Stop.
+/// Whether the stages of a chain have ended well. If they have, all of the answer was sent; otherwise a prefix of it
+/// and Stop.
 fn has_run_well(
     rt: &impl Abort,
     done: &ChainDone,
@@ -253,7 +256,7 @@ fn has_run_well(
     is_well
 }
 
-/// The ends of its rings, where a chain that wasn't started gives them back, are as they were.
+/// If a chain that wasn't started gives back the ends of its rings, these are as they were.
 fn is_left(rt: &impl Abort, refused: &mut NoStart, consumer: &mut Receiver, whole: &[Part<'_>]) {
     match &mut refused.ends {
         Some((input, _output)) => {
@@ -266,9 +269,9 @@ fn is_left(rt: &impl Abort, refused: &mut NoStart, consumer: &mut Receiver, whol
     }
 }
 
-/// Whether all of these tools in threads end well with an image; not where memory ran out. Whatever they do, a prefix
-/// of the whole answer is sent, and the chain ends: with Stop at last, unless it was answered in full. One that wasn't
-/// started and gives back the ends of its rings leaves these as they were.
+/// Whether all of these tools, in threads, end well with an image; they don't if memory ran out. Whatever they do, a
+/// prefix of the whole answer is sent, and the chain ends: with Stop at last, unless all of the answer was sent. A
+/// chain that wasn't started and gives back the ends of its rings leaves these as they were.
 fn end_in_threads<R: Threads + Wait + Abort + Sync>(
     rt: &R,
     alloc: Global,
@@ -297,7 +300,7 @@ fn ends_in_threads_short_of_memory(rt: HostRuntime) {
     let _ = end_in_threads(&rt, rt.alloc(), &INVERT, INVERTED);
 }
 
-/// Where no growth is refused each stage ends well.
+/// If no growth is refused, each stage ends well.
 #[test]
 fn ends_well_in_threads_with_memory(rt: HostRuntime) {
     let is_well = end_in_threads(&rt, rt.alloc(), &THREE, IMAGE).unwrap_or(false);
@@ -317,7 +320,7 @@ const OTHERS_INVERTED: &[Part<'static>] = &[
     Part::Stop,
 ];
 
-/// How the stage ends that these rows come to, and the ring that it sends to.
+/// How the stage that takes these rows ends, and the ring that it sends to.
 fn takes_rows_apart<R: Wait + Abort>(rt: &R, alloc: Global) -> Option<(StageEnd, Receiver)> {
     let (_producer, input) = holding_written(alloc, ONE_TOO_MANY)?;
     let (output, consumer) = new_ring(alloc, 8)?;
@@ -325,7 +328,7 @@ fn takes_rows_apart<R: Wait + Abort>(rt: &R, alloc: Global) -> Option<(StageEnd,
     Some((done.end, consumer))
 }
 
-/// The stage of this tool, which has to be lawful.
+/// Runs the stage of this tool, which has to be lawful.
 fn stage<R: Wait + Abort>(
     rt: &R,
     alloc: Global,
@@ -337,7 +340,7 @@ fn stage<R: Wait + Abort>(
     run_stage(rt, alloc, tool, 1, &OpenGate, input, output)
 }
 
-/// Whether it has ended well. If not it has sent Stop, and memory ran out.
+/// Whether it has ended well. If it hasn't, it has sent Stop, and memory ran out.
 fn is_well_or_short(rt: &impl Abort, end: StageEnd, is_stopped: bool) -> bool {
     let is_well = end == StageEnd::Well;
     let is_short = end == StageEnd::Fault(ToolFault::Memory);
@@ -355,7 +358,7 @@ fn takes_rows_apart_or_runs_out(rt: HostRuntime) {
     }
 }
 
-/// Where no growth is refused each of the rows before the one too many is inverted.
+/// If no growth is refused, each of the rows before the one too many is inverted.
 #[test]
 fn takes_rows_apart_with_memory(rt: HostRuntime) {
     let Some((end, mut consumer)) = takes_rows_apart(&rt, rt.alloc()) else {
@@ -388,8 +391,8 @@ const SECOND_LANE: &[Part<'static>] = &[
     Part::StreamEnd,
 ];
 
-/// Whether the dealing ends well. Where it doesn't memory ran out, and each lane is sent a prefix of what is dealt to
-/// it before Stop. All that came is taken.
+/// Whether the dealing ends well. If it doesn't, memory ran out, and each lane is sent Stop after a prefix of what is
+/// dealt to it. All that came is taken.
 fn deals_rows_apart<R: Wait + Abort>(rt: &R, alloc: Global) -> Option<bool> {
     let (_producer, input) = holding_written(alloc, TOGETHER)?;
     let (outputs, mut lanes) = rings(alloc, 2, 8)?;
@@ -399,8 +402,8 @@ fn deals_rows_apart<R: Wait + Abort>(rt: &R, alloc: Global) -> Option<bool> {
     Some(done.end == StageEnd::Well)
 }
 
-/// The dealing has ended so, and each of two lanes holds a prefix of what is dealt to it, before Stop where it is short
-/// of memory.
+/// The dealing has ended with `end`, and each of two lanes holds what is dealt to it, or a prefix of that and then Stop
+/// if memory ran out.
 fn are_dealt(rt: &impl Abort, lanes: &mut [Receiver], end: StageEnd) {
     assert!(rt; lanes.len() == 2);
     for (lane, input) in lanes.iter_mut().enumerate() {
@@ -416,7 +419,7 @@ fn deals_rows_apart_or_runs_out(rt: HostRuntime) {
     let _ = deals_rows_apart(&rt, rt.alloc());
 }
 
-/// Where no growth is refused each lane is dealt its rows.
+/// If no growth is refused, each lane is dealt its rows.
 #[test]
 fn deals_rows_apart_with_memory(rt: HostRuntime) {
     let is_well = deals_rows_apart(&rt, rt.alloc()).unwrap_or(false);

@@ -1,5 +1,5 @@
-//! What no stored command shows of the program: that no words at all are refused, two calls over the same output, lines
-//! for faults that few runs end in, and want of memory.
+//! What no stored command shows about the program: that no words at all are refused, two calls over the same output,
+//! lines for faults that few runs end in, and want of memory.
 
 use pnm_command_line::Runner;
 use pnm_flow::{OpenGate, RunFault, Summary, run};

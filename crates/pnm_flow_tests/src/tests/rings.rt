@@ -12,7 +12,7 @@ use std::thread;
 /// More turns of a wait than any wait of a test takes.
 pub const TURNS: u32 = 10_000_000;
 
-/// Sends this, where it can be made and there is room for it; whether so.
+/// Sends this, if it can be made and there is room for it. Returns whether it was sent.
 fn send_one(alloc: Global, output: &mut Sender, part: Part<'_>) -> bool {
     if !output.has_room() {
         return false;
@@ -24,7 +24,7 @@ fn send_one(alloc: Global, output: &mut Sender, part: Part<'_>) -> bool {
     true
 }
 
-/// Sends these; whether each could be made, and there was room for it.
+/// Sends these. Returns whether each could be made, and there was room for it.
 pub fn send_all(alloc: Global, output: &mut Sender, parts: &[Part<'_>]) -> bool {
     for part in parts {
         if !send_one(alloc, output, *part) {
@@ -34,7 +34,7 @@ pub fn send_all(alloc: Global, output: &mut Sender, parts: &[Part<'_>]) -> bool 
     true
 }
 
-/// Whether the packet is a message that is made of this: rows that came together are none.
+/// Whether the packet is a message that is made of this. Rows that came together are no message.
 pub fn is_one_of(packet: Packet, part: Part<'_>) -> bool {
     match packet.into_message() {
         Ok(message) => is_made_of(&message, part),
@@ -42,7 +42,7 @@ pub fn is_one_of(packet: Packet, part: Part<'_>) -> bool {
     }
 }
 
-/// Receives a message, if there is one; whether it is Stop, and whether it is made of this.
+/// Receives a message, if there is one. Returns whether it is Stop, and whether it is made of this.
 pub fn next_is(input: &mut Receiver, part: Part<'_>) -> Option<(bool, bool)> {
     if !input.has_message() {
         return None;
@@ -53,7 +53,7 @@ pub fn next_is(input: &mut Receiver, part: Part<'_>) -> Option<(bool, bool)> {
     }
 }
 
-/// Receives a message, if there is one; whether there was, and it is made of this.
+/// Receives a message, if there is one. Returns whether there was one, and it is made of this.
 fn has_next(input: &mut Receiver, part: Part<'_>) -> bool {
     match next_is(input, part) {
         Some((_, is_part)) => is_part,
@@ -61,7 +61,7 @@ fn has_next(input: &mut Receiver, part: Part<'_>) -> bool {
     }
 }
 
-/// Receives these from the ring; the index of the first one that isn't there, if any.
+/// Receives these from the ring. Returns the index of the first one that isn't there, if any.
 pub fn first_missing(input: &mut Receiver, parts: &[Part<'_>]) -> Option<usize> {
     for (index, part) in parts.iter().enumerate() {
         if !has_next(input, *part) {
@@ -71,7 +71,8 @@ pub fn first_missing(input: &mut Receiver, parts: &[Part<'_>]) -> Option<usize> 
     None
 }
 
-/// A ring of capacity 8 that holds these, and its sending end, unless no more can come; none where there is no memory.
+/// A ring of capacity 8 that holds these, and its sending end, unless no more can come. Returns `None` if there is no
+/// memory.
 pub fn holding(
     alloc: Global,
     parts: &[Part<'_>],
@@ -83,8 +84,8 @@ pub fn holding(
     are_sent.then_some((sender, receiver))
 }
 
-/// A ring of capacity 8 that holds what is written, together the rows between braces, and its sending end; none where
-/// there is no memory.
+/// A ring of capacity 8 that holds what is written, with the rows between braces together, and its sending end. Returns
+/// `None` if there is no memory.
 pub fn holding_written(alloc: Global, text: &[u8]) -> Option<(Sender, Receiver)> {
     let written = handed_of(alloc, text, true).ok()?;
     let mut ends = new_ring(alloc, 8)?;
@@ -95,7 +96,7 @@ pub fn holding_written(alloc: Global, text: &[u8]) -> Option<(Sender, Receiver)>
     are_sent.then_some(ends)
 }
 
-/// Sends what is handed over; whether there was room for it.
+/// Sends what is handed over. Returns whether there was room for it.
 fn send_handed(output: &mut Sender, handed: Handed) -> bool {
     if !output.has_room() {
         return false;
@@ -128,12 +129,13 @@ pub fn holds(rt: &impl Abort, input: &mut Receiver, parts: &[Part<'_>], what: &s
     is_so(rt, is_empty, &("nothing more", what));
 }
 
-/// A thread at a ring has ended so.
+/// A thread at a ring has ended as `want` says.
 pub fn is_end(rt: &impl Abort, end: StageEnd, want: StageEnd, what: &str) {
     is_so(rt, end == want, &(end, want, what));
 }
 
-/// Sends a message to a thread that takes it, by a counted number of tries; whether it could be made, and was sent.
+/// Sends a message to a thread that takes it, by a counted number of tries. Returns whether it could be made, and was
+/// sent.
 pub fn sends(alloc: Global, output: &mut Sender, part: Part<'_>) -> bool {
     for _ in 0..TURNS {
         if output.has_room() {
@@ -217,7 +219,7 @@ fn is_made_at(message: &Message, parts: &[Part<'_>], at: usize) -> bool {
     }
 }
 
-/// Sends a message to a thread, and takes what comes of it; whether it came as it was sent.
+/// Sends a message to a thread, and takes what comes of it. Returns whether it came as it was sent.
 pub fn passes(alloc: Global, output: &mut Sender, input: &mut Receiver, part: Part<'_>) -> bool {
     sends(alloc, output, part) && comes(input, part)
 }

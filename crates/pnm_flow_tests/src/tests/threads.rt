@@ -37,7 +37,7 @@ const NARROW: &[Part<'static>] = &[
     Part::StreamEnd,
 ];
 
-/// The chain of these tools, which have to be lawful.
+/// Runs the chain of these tools, which have to be lawful.
 pub fn chain<R: Threads + Wait + Abort + Sync>(
     rt: &R,
     alloc: Global,
@@ -53,7 +53,7 @@ pub fn chain<R: Threads + Wait + Abort + Sync>(
     run_chain(rt, alloc, tools, capacity, lanes, gate, input, output)
 }
 
-/// So many tools that invert, but for one that cuts, if there is one in this place.
+/// `count` tools that invert, except the one at `place`, if there is one, which cuts.
 pub fn tools_with_cut(rt: &impl Abort, alloc: Global, count: usize, place: usize) -> Vec<Tool> {
     let mut tools = Vec::new(alloc);
     for index in 0..count {
@@ -67,7 +67,7 @@ pub fn tools_with_cut(rt: &impl Abort, alloc: Global, count: usize, place: usize
     tools
 }
 
-/// So many tools over rings of this capacity, one of which may cut, and the messages that they take.
+/// A number of tools, of which one may cut, the capacity of their rings, and the messages that they take.
 #[derive(Clone, Copy)]
 struct Run<'a> {
     count: usize,
@@ -76,7 +76,8 @@ struct Run<'a> {
     takes: &'a [Part<'a>],
 }
 
-/// What came of a chain, the first end of the ring before it, unless it is gone, and the last one of that behind it.
+/// What came of a chain; the sending end of the ring before it, unless that is gone; and the receiving end of the ring
+/// behind it.
 #[derive(Drop)]
 pub struct Ended {
     pub done: Result<ChainDone, NoStart>,
@@ -84,8 +85,8 @@ pub struct Ended {
     pub consumer: Receiver,
 }
 
-/// The chain of these tools over rings of this capacity takes these messages. Where the input is gone no more can come.
-/// None where there is no memory for its outer rings.
+/// Runs the chain of these tools over rings of this capacity, which takes these messages. If the input's other end is
+/// gone, no more can come. Returns `None` if there is no memory for the chain's outer rings.
 pub fn ran<R: Threads + Wait + Abort + Sync>(
     rt: &R,
     alloc: Global,
@@ -104,7 +105,8 @@ pub fn ran<R: Threads + Wait + Abort + Sync>(
     })
 }
 
-/// The chain runs to its end: its stages have ended so, up to one and after it, and it has sent these.
+/// The chain runs to its end, and has sent these. `ends` says how the stages before the one that cuts have ended, how
+/// that one has, and how those after it have.
 fn ends_so<R: Threads + Wait + Abort + Sync>(
     rt: &R,
     alloc: Global,
@@ -121,7 +123,7 @@ fn ends_so<R: Threads + Wait + Abort + Sync>(
     holds(rt, &mut ran.consumer, sends, "what the chain sent");
 }
 
-/// The chain was started, has taken all, and each of its stages has ended so.
+/// The chain was started, has taken all, and its stages have ended as `ends` says.
 fn have_ended(
     rt: &impl Abort,
     done: &mut Result<ChainDone, NoStart>,
@@ -139,7 +141,7 @@ fn have_ended(
     }
 }
 
-/// Each stage of the run has ended so.
+/// Each stage of the run has ended as `ends` says.
 fn stages_have_ended(
     rt: &impl Abort,
     stages: &[StageEnd],
@@ -157,7 +159,7 @@ fn stages_have_ended(
     }
 }
 
-/// So many tools that invert an image, over rings of this capacity.
+/// `count` tools that invert an image, over rings of this capacity.
 fn inverting(count: usize, capacity: usize) -> Run<'static> {
     Run {
         count,
@@ -203,7 +205,7 @@ const SECOND_COLUMN_INVERTED: &[Part<'static>] = &[
     Part::Stop,
 ];
 
-/// So many tools, of which this one refuses an image of one column, are broken off by it.
+/// The tool at `cut_at` refuses an image of one column, and that breaks off the `count` tools.
 fn breaks_off<R: Threads + Wait + Abort + Sync>(
     rt: &R,
     alloc: Global,
@@ -246,7 +248,7 @@ fn breaks_off_after_a_refusal(rt: HostRuntime) {
     }
 }
 
-/// The chain was started, and its last tool has ended so.
+/// The chain was started, and its last tool has ended as `want` says.
 fn is_last(rt: &impl Abort, done: &Result<ChainDone, NoStart>, want: StageEnd) {
     let end = match done {
         Ok(done) => done.ends.last(),
@@ -258,7 +260,7 @@ fn is_last(rt: &impl Abort, done: &Result<ChainDone, NoStart>, want: StageEnd) {
     }
 }
 
-/// Where no more can come, all stages end, and what came is sent before Stop.
+/// If no more can come, all stages end, and what came is sent before Stop.
 #[test]
 fn ends_where_its_input_is_gone(rt: HostRuntime) {
     let tools = tools_with_cut(&rt, rt.alloc(), 64, 64);
@@ -267,7 +269,7 @@ fn ends_where_its_input_is_gone(rt: HostRuntime) {
     }
 }
 
-/// So do these tools after these messages.
+/// If no more can come after these messages, the last tool is broken off, and what came is sent before Stop.
 fn sends_stop_after<R: Threads + Wait + Abort + Sync>(
     rt: &R,
     alloc: Global,
@@ -294,14 +296,14 @@ fn has_taken_all(rt: &impl Abort, done: &mut Result<ChainDone, NoStart>) {
     }
 }
 
-/// Where nobody takes what is sent, all stages end, and all that came is taken.
+/// If nobody takes what is sent, all stages end, and all that came is taken.
 #[test]
 fn ends_where_its_output_is_gone(rt: HostRuntime) {
     let tools = tools_with_cut(&rt, rt.alloc(), 64, 64);
     goes_unheard(&rt, rt.alloc(), tools.as_slice());
 }
 
-/// So do these tools, and the last one sees that the other end of its ring is gone.
+/// These tools take all that came, and the last one sees that the other end of its ring is gone.
 fn goes_unheard<R: Threads + Wait + Abort + Sync>(rt: &R, alloc: Global, tools: &[Tool]) {
     let (_producer, input) = holding(alloc, IMAGE, false).expect(rt, "a ring");
     let output = unheard(rt, alloc);
@@ -384,7 +386,7 @@ fn gives_each_tool_a_thread(rt: HostRuntime) {
 /// A message, and what comes of it.
 type Step<'a> = (Part<'a>, &'a [Part<'a>]);
 
-/// What comes of an image of two rows in `pnminvert`: of two lanes each gets one.
+/// What comes of an image of two rows in `pnminvert`. If there are two lanes, each gets one row.
 const ROWS_INVERTED: &[Step<'static>] = &[
     (
         Part::Begin(Kind::Gray, 1, 2, 9),
@@ -407,12 +409,12 @@ const SAMPLE_DOUBLED: &[Step<'static>] = &[
     (Part::StreamEnd, &[Part::StreamEnd]),
 ];
 
-/// Sends a message, and takes all that comes of it; whether it all came.
+/// Sends a message, and takes all that comes of it. Returns whether it all came.
 fn gives(alloc: Global, producer: &mut Sender, consumer: &mut Receiver, step: &Step<'_>) -> bool {
     sends(alloc, producer, step.0) && all_come(alloc, consumer, step.1)
 }
 
-/// Sends each message only once all that comes of the one before was taken; whether it all came.
+/// Sends each message only once all that comes of the one before was taken. Returns whether it all came.
 fn one_by_one(
     alloc: Global,
     producer: &mut Sender,
@@ -442,7 +444,7 @@ fn passes_each_message_on_at_once(rt: HostRuntime) {
     }
 }
 
-/// So do these messages through these tools.
+/// What comes of each of these messages passes through these tools before the next one is there.
 fn passes_on<R: Threads + Wait + Abort + Sync>(
     rt: &R,
     alloc: Global,

@@ -14,8 +14,8 @@ use std::sync::Wait;
 use std::thread;
 use std::time::{Duration, Instant};
 
-/// A thread that was woken sleeps for fewer milliseconds, and one that wasn't for more, on a machine that isn't stopped
-/// meanwhile.
+/// A thread that was woken sleeps for fewer milliseconds than this, and one that wasn't sleeps for more, unless the
+/// machine is stopped meanwhile.
 const SHORT: u64 = 200;
 
 /// Whether the time since then is short.
@@ -72,13 +72,13 @@ fn sleeps_shortly(rt: &(impl Clock + Wait + Abort), sender: &Sender) -> bool {
     was_short(rt, start)
 }
 
-/// A thread that has nothing to do for so many milliseconds sleeps by then.
+/// A thread that has nothing to do for this many milliseconds is asleep by then.
 const PAUSE: u64 = 5;
 
 /// Two messages of a lane, and the end of its stream.
 const OF_A_LANE: &[Part<'static>] = &[Part::ImageEnd, Part::ImageEnd, Part::StreamEnd];
 
-/// Sends these, each after a pause and once there is room; whether each could be made and was sent.
+/// Sends these, each after a pause and once there is room. Returns whether each could be made and was sent.
 fn send_slowly(
     rt: &(impl Clock + Wait),
     alloc: Global,
@@ -116,8 +116,8 @@ fn send_from_last(rt: &(impl Clock + Wait), alloc: Global, lanes: Vec<Sender>) -
     true
 }
 
-/// A gatherer that drains takes what comes from any lane: no sleep of it lasts, though the lanes before that one are
-/// silent.
+/// A gatherer that drains takes what comes from any lane: none of its sleeps lasts, though the lanes before that one
+/// are silent.
 #[test]
 fn drains_whichever_lane_has_no_room(rt: HostRuntime) {
     let (output, _consumer) = new_ring(rt.alloc(), 1).expect(&rt, "a ring");
@@ -137,7 +137,7 @@ fn drains_whichever_lane_has_no_room(rt: HostRuntime) {
     is_so(&rt, was_short(&rt, start), &"no sleep lasted");
 }
 
-/// Sends a row that is wide enough for a ring of four to keep two places free beside it, if there is room.
+/// Sends a row, if there is room. It is so wide that a ring of four keeps two places free next to it.
 fn send_wide(rt: &impl Abort, alloc: Global, sender: &mut Sender) {
     let row = Vec::from_elem(alloc, 0, 40_000).expect(rt, "a row");
     if sender.has_room() {
@@ -154,7 +154,8 @@ fn drop_two(receiver: &mut Receiver) {
     }
 }
 
-/// A sender beside wide rows is woken where half of the messages are left, and finds no room, and again where none is.
+/// A sender of wide rows is woken when half of the messages are left, and finds no room; it is woken again when none is
+/// left.
 #[test]
 fn wakes_where_none_is_left(rt: HostRuntime) {
     let (mut sender, mut receiver) = new_ring(rt.alloc(), 4).expect(&rt, "a ring");

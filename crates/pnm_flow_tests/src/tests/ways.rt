@@ -11,14 +11,14 @@ use std::process::Abort;
 use std::sync::Wait;
 use std::thread::Threads;
 
-/// In one thread; or over threads, with rings for so many messages and so many lanes for each row-wise tool.
+/// In one thread; or over threads, with the messages that a ring holds and the lanes of each row-wise tool.
 #[derive(Clone, Copy, Debug)]
 pub enum Way {
     OneThread,
     Threads(usize, usize),
 }
 
-/// The run of these tools that writes in this form, in this way.
+/// Runs these tools in this way, and writes in this form.
 pub fn run_by<H: Threads + Wait + Abort + Sync, R: BytesIn, W: BytesOut>(
     rt: &H,
     alloc: Global,

@@ -78,7 +78,7 @@ fn stage<R: Wait, G: Gate>(
     run_stage(rt, alloc, &Tool::Invert, 1, gate, input, output)
 }
 
-/// A stage takes a stream and sends that of the results. It comes to the gate once, with its number and lane 0.
+/// A stage takes a stream and sends the stream of the results. It comes to the gate once, with its number and lane 0.
 #[test]
 fn stages_end_well(rt: HostRuntime) {
     let counts = Counts {
@@ -113,7 +113,7 @@ fn unless(is_gone: bool, sender: Sender) -> Option<Sender> {
     if is_gone { None } else { Some(sender) }
 }
 
-/// How a stage ends that takes these, and what it sends.
+/// How a stage that takes these ends, and what it sends.
 fn ends_so<R: Wait + Abort>(
     rt: &R,
     alloc: Global,
@@ -129,8 +129,8 @@ fn ends_so<R: Wait + Abort>(
     holds(rt, &mut receiver, sends);
 }
 
-/// Stop is passed on. A refusal sends Stop and drains the input, and where the other end of the input is gone Stop is
-/// sent, too. An open gate returns at once.
+/// Stop is passed on. A refusal sends Stop and drains the input. If the other end of the input is gone, Stop is sent,
+/// too. An open gate returns at once.
 #[test]
 fn stages_end(rt: HostRuntime) {
     OpenGate.arrive(1, 0);
@@ -150,7 +150,7 @@ fn two<T: Drop>(alloc: Global, first: T, second: T) -> Result<Vec<T>, AllocError
     Ok(both)
 }
 
-/// Deals what comes to these outputs, of which there have to be 1 to 8.
+/// Deals what comes to these outputs. There have to be 1 to 8.
 fn dealt<R: Wait + Abort>(
     rt: &R,
     alloc: Global,
@@ -196,7 +196,7 @@ fn deals_disorder(rt: HostRuntime) {
     holds(&rt, &mut of_second, &[Part::Stop]);
 }
 
-/// Gathers from two lanes that give these; how it ends, and what it sends.
+/// Gathers from two lanes that give these. Returns how that ends, and what it sends.
 fn gathers<R: Wait + Abort>(
     rt: &R,
     alloc: Global,
@@ -250,7 +250,7 @@ fn lanes_invert(rt: HostRuntime) {
     holds(&rt, &mut receiver, INVERTED);
 }
 
-/// How it ended, where it was started; the ends come back or don't, where it wasn't.
+/// How the run ended, if it was started. If it wasn't, the ring ends come back or don't.
 fn end_of(done: &Result<StageDone, NoStart>) -> Option<StageEnd> {
     match done {
         Ok(done) => Some(done.end),

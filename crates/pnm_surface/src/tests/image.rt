@@ -14,7 +14,7 @@ fn read<R: BytesIn>(reader: &mut R, buffer: &mut [u8]) -> Result<usize, DeviceFa
     reader.read(buffer)
 }
 
-/// A device gives its reader's bytes, also where it is lent, and 0 at the end.
+/// A device gives its reader's bytes, and 0 at the end, even if it is lent.
 #[test]
 fn devices_read(rt: HostRuntime) {
     let mut reader = Device::new(b"AB".as_slice());
@@ -37,7 +37,7 @@ fn write<W: BytesOut>(
     (writer.write(bytes), writer.flush())
 }
 
-/// A device takes bytes, also where it is lent.
+/// A device takes bytes, even if it is lent.
 #[test]
 fn devices_write(rt: HostRuntime) {
     let mut writer = Device::new(Vec::new(rt.alloc()));
@@ -100,7 +100,7 @@ fn has_fields(rt: &impl Abort, head: &Head, shape: Shape, tuple_type: &[u8]) {
     same(rt, &head.tuple_type(), &tuple_type, &shape);
 }
 
-/// A head has what it was made of, its copy too, and another height changes the height alone.
+/// A head has what it was made of, and so has its copy. Another height changes only the height.
 #[test]
 fn heads_keep_fields(rt: HostRuntime) -> Result<(), Fail> {
     let head = new_head(&rt, rt.alloc(), PAM, b"A B")?;

@@ -53,7 +53,7 @@ fn chains_are_refused(rt: HostRuntime) {
     }
 }
 
-/// A text that is so many times as long.
+/// The text, repeated `count` times.
 fn repeated(rt: &impl Abort, alloc: Global, text: &str, count: usize) -> String {
     text.repeat(alloc, count).expect(rt, "a text")
 }

@@ -11,7 +11,7 @@ pub fn ring(rt: &impl Abort, alloc: Global) -> (Sender, Receiver) {
     new_ring(alloc, 8).expect(rt, "a ring")
 }
 
-/// Sends the message, where there is room; whether there was.
+/// Sends the message, if there is room. Returns whether there was.
 fn send(sender: &mut Sender, message: Message) -> bool {
     if sender.has_room() {
         sender.send_reserved(message);
@@ -30,7 +30,7 @@ pub fn holding(rt: &impl Abort, alloc: Global, parts: &[Part<'_>]) -> (Sender, R
     (sender, receiver)
 }
 
-/// Whether the ring holds a message next that is made of this; it is received.
+/// Receives the next message. Returns whether there was one, and it is made of this.
 fn receives(receiver: &mut Receiver, part: Part<'_>) -> bool {
     if !receiver.has_message() {
         return false;

@@ -29,7 +29,7 @@ pub fn tools_of(rt: &impl Abort, alloc: Global, text: &str) -> Vec<Tool>
 /// What a run answers, and what it writes.
 type Outcome = (Result<Summary, RunFault>, Vec<u8>);
 
-/// The run of these tools over threads that reads this text and writes in this form.
+/// Runs these tools over threads on this text, and writes in this form.
 fn run_over_threads<H: Threads + Wait + Abort + Sync>(
     rt: &H,
     alloc: Global,
@@ -146,8 +146,8 @@ fn runs_answer_failed_writes(rt: HostRuntime) {
     same(&rt, &room, b"P5\n", &"a prefix");
 }
 
-/// The place of a run's fault in the order in which the first is answered, but for that of tools and the caller's ring
-/// ends, which go by their numbers.
+/// The place of a run's fault in the order in which the first is returned. Faults of tools and of the caller's ring
+/// ends go by their numbers instead.
 fn place_of(fault: RunFault) -> usize {
     match fault {
         RunFault::NoStart => 1,

@@ -19,7 +19,7 @@ const PARTS: &[Part<'static>] = &[
     Part::StreamEnd,
 ];
 
-/// Whether the source's next message is made of this; or whether there is none any more.
+/// Whether the source's next message is made of this; without a part, whether there is none any more.
 fn next_is<R: BytesIn>(
     source: &mut Source<R>,
     spares: &mut SpareRows,
@@ -74,7 +74,7 @@ fn sink_of<W: BytesOut + Drop>(rt: &impl Abort, alloc: Global, writer: W, form: 
     Sink::new(alloc, writer, form).expect(rt, "a sink")
 }
 
-/// The sink answers this message so.
+/// The sink answers this message as `want` says.
 fn puts<W: BytesOut>(
     rt: &impl Abort,
     sink: &mut Sink<W>,

@@ -75,7 +75,7 @@ const UNLAWFUL: [Tool; 5] = [
     Tool::Depth(0),
 ];
 
-/// Whether each tool is lawful is this.
+/// Each tool is lawful, or isn't, as `want` says.
 fn are_lawful(rt: &impl Abort, tools: &[Tool], want: bool) {
     for tool in tools {
         same(rt, &tool.is_lawful(), &want, tool);
@@ -117,7 +117,7 @@ const NOT_ROW_WISE: [Tool; 8] = [
     Tool::Tile(1, 1),
 ];
 
-/// Whether each tool is row-wise is this.
+/// Each tool is row-wise, or isn't, as `want` says.
 fn are_row_wise(rt: &impl Abort, tools: &[Tool], want: bool) {
     for tool in tools {
         same(rt, &tool.is_row_wise(), &want, tool);
@@ -183,7 +183,7 @@ fn refuses_head(rt: &impl Abort, alloc: Global, tool: &Tool, height: u32, want: 
     same(rt, &head_by(rt, alloc, tool, height), &Err(want), tool);
 }
 
-/// The faults of heads. That the height is 0 comes first where a tool isn't row-wise.
+/// The faults of heads. If a tool isn't row-wise, a height of 0 is the first fault.
 #[test]
 fn heads_that_are_refused(rt: HostRuntime) -> Result<(), Fail> {
     let alloc = rt.alloc();
@@ -212,7 +212,7 @@ fn start_rows(rt: &impl Abort, alloc: Global, tool: &Tool) -> RowState {
     tool.start_rows(alloc).expect(rt, "a tool in a lane")
 }
 
-/// What the filter answers where it is fed this.
+/// What the filter answers if it is fed this.
 fn feed<F: Filter>(
     rt: &impl Abort,
     alloc: Global,

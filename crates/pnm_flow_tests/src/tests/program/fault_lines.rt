@@ -12,7 +12,7 @@ use std::io;
 use std::io::{ErrorKind, Write};
 use std::process::Abort;
 
-/// A writer that takes a single write, so that it holds the line where that came in one.
+/// A writer that takes a single write, so that it holds the line only if that came in one write.
 #[derive(Drop)]
 struct OneWrite {
     written: Vec<u8>,
@@ -68,7 +68,7 @@ const CHAIN_FAULTS: &[(usize, ChainKind, &str)] = &[
     ),
 ];
 
-/// A fault of a chain's text has the number of its stage, where it has one.
+/// A fault of a chain's text is printed with the number of its stage, if it has one.
 #[test]
 fn names_stages(rt: HostRuntime) {
     for (stage, kind, want) in CHAIN_FAULTS {

@@ -22,8 +22,8 @@ const IN_A_RUN: [&[u8]; 3] = [
     b"pnmpipe: input: Memory\n",
 ];
 
-/// Whether want of memory alone is at fault, and is printed, and what was written is a prefix of the whole output, and
-/// all of it where the status is 0.
+/// Whether only want of memory is at fault, and is printed, and what was written is a prefix of the whole output, or
+/// all of it if the status is 0.
 fn is_answer(status: u8, written: &[u8], printed: &[u8], whole: &[u8]) -> bool {
     match status {
         0 => written == whole && printed.is_empty(),
@@ -32,7 +32,8 @@ fn is_answer(status: u8, written: &[u8], printed: &[u8], whole: &[u8]) -> bool {
     }
 }
 
-/// The program's status, or none where there is no memory for the words. Whatever it is, it is so answered.
+/// The program's status, or `None` if there is no memory for the words. Whatever the status is, `is_answer` has to
+/// hold.
 fn status<H: Abort + AllocGlobal + Threads + Wait + Sync>(
     rt: &H,
     texts: &[&str],
@@ -44,7 +45,7 @@ fn status<H: Abort + AllocGlobal + Threads + Wait + Sync>(
     }
 }
 
-/// The program's status with these words, which is so answered.
+/// The program's status with these words, for which `is_answer` has to hold.
 fn status_of<H: Abort + AllocGlobal + Threads + Wait + Sync>(
     rt: &H,
     words: &[String],
@@ -93,7 +94,7 @@ fn answers_want_of_memory_for_help(rt: HostRuntime) {
     let _ = status(&rt, ASKING_FOR_HELP, HELP.as_bytes());
 }
 
-/// Where no growth is refused the help is printed.
+/// If no growth is refused, the help is printed.
 #[test]
 fn helps_with_memory(rt: HostRuntime) {
     let status = status(&rt, ASKING_FOR_HELP, HELP.as_bytes());
@@ -106,7 +107,7 @@ fn answers_want_of_memory_for_a_run(rt: HostRuntime) {
     let _ = status(&rt, INVERTING, INVERTED);
 }
 
-/// Where no growth is refused the run ends well.
+/// If no growth is refused, the run ends well.
 #[test]
 fn runs_with_memory(rt: HostRuntime) {
     let status = status(&rt, INVERTING, INVERTED);
