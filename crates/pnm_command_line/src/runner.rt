@@ -20,7 +20,7 @@ pub trait Runner {
     ghost has_run: { RunRelation };
 
     /// Reads the images of the reader, passes them through the tools and writes what comes out in the form, over rings
-    /// of `capacity` messages and `lanes` lanes of each row-wise tool.
+    /// of `capacity` packets and `lanes` lanes of each row-wise tool.
     fn run<H: AllocGlobal + Threads + Wait + Sync, R: BytesIn, W: BytesOut>(
         &self,
         rt: &H,

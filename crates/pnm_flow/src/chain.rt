@@ -45,14 +45,15 @@ pub struct ChainDone {
 
 /// Passes what comes on `input` through the tools to `output`, each tool a stage in a thread of its own. If there are
 /// several `lanes`, 8 at most, a row-wise tool works over that many lanes instead: it has a thread for each lane, one
-/// that deals the rows to the lanes, and one that gathers what they make. Each ring holds `capacity` messages, 1 to
+/// that deals the rows to the lanes, and one that gathers what they make. Each ring holds `capacity` packets, 1 to
 /// 1,024. Each stage calls the gate with its tool's number, from 1, and lane 0; each lane calls it with its tool's
 /// number and its own, from 0.
 ///
 /// It returns once all tools have ended. They end when the end of the stream or Stop has come, or the input's other end
 /// is dropped; they see that the output's other end is dropped only when its ring is full. So other threads have to
 /// send and take, or the input has to hold all that is to come, and the output room for what comes of it. Returns
-/// `NoStart` if there is no memory for a ring or a list, or if a thread can't be started.
+/// `NoStart` if there is no memory for a ring or a list, if a ring's wakers have too many owners, or if a thread can't
+/// be started.
 pub fn run_chain<R: Threads + Wait + Sync, G: Gate>(
     rt: &R,
     alloc: Global,

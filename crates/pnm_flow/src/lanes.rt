@@ -23,14 +23,14 @@ use std::thread::Threads;
 
 /// Passes what comes on `input` through a row-wise tool to `output`, over 1 to 8 lanes. One thread deals the rows, row
 /// y to lane y mod the number of lanes; each lane does the tool's work on the images that it sees, in a thread of its
-/// own; and another thread gathers the rows. Each ring to or from a lane holds `capacity` messages, 1 to 1,024. Each
+/// own; and another thread gathers the rows. Each ring to or from a lane holds `capacity` packets, 1 to 1,024. Each
 /// lane calls the gate with the tool's number and its own, from 0, before it takes its first message; the threads that
 /// deal and gather don't.
 ///
 /// It ends as `run_stage` does, with the same messages in the same order; rows that come together are dealt one by one,
 /// as copies. Its end is `PeerGone` if one of its threads ended so; otherwise it is the first fault, in this order: the
 /// thread that deals, the lanes in their order, the thread that gathers. Returns `NoStart` if there is no memory for a
-/// ring or a list, or if a thread can't be started.
+/// ring or a list, if the output's wakers have too many owners, or if a thread can't be started.
 pub fn run_lanes<R: Threads + Wait + Sync, G: Gate>(
     rt: &R,
     alloc: Global,

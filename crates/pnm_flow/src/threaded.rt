@@ -36,10 +36,11 @@ use std::thread::Threads;
 /// answers and the bytes of `run_serial`. This thread reads and writes, and each tool works in a thread of its own,
 /// which passes the gate with its number, from 1, and lane 0. If there are several `lanes`, 8 at most, each row-wise
 /// tool has a thread for each lane, which passes the gate with the tool's number and its lane, from 0, and two more
-/// threads, which deal the rows and gather them. Each ring holds `capacity` messages, 1 to 1,024.
+/// threads, which deal the rows and gather them. Each ring holds `capacity` packets, 1 to 1,024.
 ///
-/// Returns `NoStart` if there is no memory for a ring or a list, or if a thread can't be started. Before the source
-/// waits for its reader, all that has come from the last tool by then is written.
+/// Returns `NoStart` if there is no memory for a ring or a list, if a ring's wakers have too many owners, or if a
+/// thread can't be started; and `Input(Memory)`, with nothing read, if there is no memory for the buffers. Before the
+/// source waits for its reader, all that has come from the last tool by then is written.
 pub fn run<H: Threads + Wait + Sync, R: BytesIn, W: BytesOut, G: Gate>(
     rt: &H,
     alloc: Global,

@@ -135,8 +135,8 @@ impl<'a, R: Wait, T: Task<Output = B> + Drop, B: Drop> Task for Listener<'a, R, 
 }
 
 /// Passes what comes on `input` through the tool to `output`, in threads of its own. Once these are started, this
-/// thread does the work `beside`. Returns `None` if a thread can't be started; then that work isn't done, and the
-/// threads that were started have ended.
+/// thread does the work `beside`. Returns `None` if a thread can't be started, or if the output's wakers have too many
+/// owners; then that work isn't done, and the threads that were started have ended.
 pub fn run_tool<R: Threads + Wait + Sync, G: Gate, T: Task<Output = B> + Drop, B: Drop>(
     rt: &R,
     alloc: Global,

@@ -4,16 +4,16 @@
 //!
 //! Of rows of bits, bytes and words (`samples`):
 //!
-//! - `bits COUNT BYTES`: what a row of COUNT pixels holds (`pixels`), made of BYTES
+//! - `bits COUNT BYTES`: what a row of COUNT pixels holds (`pixels`), made of BYTES, and what an empty row holds
 //! - `new FIRST-LAST`, `invert ..`, `reverse ..`: a sweep over made rows (`made`) of FIRST to LAST pixels, as they are,
 //!   inverted, and reversed
 //! - `take FIRST-LAST`: a sweep over FIRST to LAST pixels of the bytes of 40
 //! - `append HELD-HELD START-START COUNT-COUNT`: a sweep over runs of a made row, each after HELD pixels
 //! - `repeat FIRST-LAST TIMES-TIMES`: a sweep over made rows whose pixels are repeated
 //! - `columns BYTE COUNT-COUNT HEIGHT-HEIGHT`: a sweep over columns of made images, from a byte on
-//! - `words SAMPLES`, `bytes SAMPLES`, `pixels COUNT BYTES`: the greatest sample, and whether the row is within numbers
-//! - `bound NUMBER`: the greatest sample of a row of the samples 3, 9, 0, whose bound is NUMBER, and whether it is
-//!   within numbers
+//! - `words SAMPLES`, `bytes SAMPLES`: the greatest sample, and whether the row is within numbers
+//! - `pixels COUNT BYTES`: whether the row is within numbers
+//! - `bound NUMBER`: whether rows of bytes and of words 3, 9, 0, whose bound is NUMBER, are within numbers
 //! - `left MAXVAL SAMPLE`: the maxval minus the sample, as bytes if both are bytes, and as words
 //! - `samples WIDTH FIRST-LAST`, `parts WIDTH`: a sweep over made rows of bits, bytes or words, and over parts of one
 //!   of 20 samples
@@ -24,14 +24,15 @@
 //!   none
 //! - `long TEXT`: the answers to a long text, whole and 4,097 bytes a read
 //! - `cuts TEXT`: the answers to each prefix of the text, by the length from which on they stay the same
-//! - `fails TEXT`: the answers if one of the reads of a byte each fails, by its number
+//! - `fails TEXT`: the answers if one of the reads of a byte each fails, by the number of reads before it
 //! - `reads MOST FAILING TEXT`: the answers, and what each read asked for and got: at most MOST bytes, and nothing at
 //!   read FAILING
 //! - `joins MOST FAILING TEXT`: the answers where the source is asked for rows together before each message, between
 //!   braces those that come so: a read gives at most MOST bytes, and read FAILING fails, none for 0
 //! - `reads_by SIZE MOST FAILING TEXT`, `joins_by SIZE MOST FAILING TEXT`: the same through a buffer of SIZE bytes
 //! - `ahead COUNT TEXT`: how many reads of a byte each were made before the first answer, and after each
-//! - `held COUNT TEXT`: whether the source tells, for each of COUNT answers, that it will make a read for it
+//! - `held COUNT TEXT`: for each number of bytes a read, for how many of COUNT answers the source rightly tells
+//!   whether it will make a read
 //! - `width TEXT`: how the samples of the first row are held
 //! - `changes SET TEXT`, `inserts SET TEXT`: the number of all texts with a byte of the set in place of another, or
 //!   between two others, and the CRC-32 of the answers to them

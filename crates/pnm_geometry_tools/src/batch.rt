@@ -54,7 +54,7 @@ impl Column for Vec<u16> {
     }
 }
 
-/// Returns the columns as samples, the last column first.
+/// Returns the columns as samples, the last column first. The only fault is `Memory`.
 pub(crate) fn last_first<C: Column>(
     alloc: Global,
     columns: Vec<C>,
@@ -70,7 +70,7 @@ pub(crate) fn last_first<C: Column>(
     Ok(batch)
 }
 
-/// Returns `count` columns of the rows, from column `first` on.
+/// Returns `count` columns of the rows, from column `first` on. The only fault is `Memory`.
 pub(crate) fn columns_of<T: BlockSample>(
     alloc: Global,
     kept: &StripedRows<T>,
@@ -310,7 +310,7 @@ fn put_pixels<T: Copy>(columns: &mut [Vec<T>], at: usize, row: &[T], first: usiz
     }
 }
 
-/// Returns `count` columns of `samples` samples each, which are still to be stored.
+/// Returns `count` columns of `samples` samples each, which are still to be stored. The only fault is `Memory`.
 pub(crate) fn blank_columns<T: Copy + Default>(
     alloc: Global,
     count: usize,

@@ -85,8 +85,8 @@ impl<T: Copy> FlatRows<T> {
     ///
     /// # Errors
     ///
-    /// If there is no memory for the row, if it isn't as long as the others, or if the others are reversed. Then
-    /// nothing has changed.
+    /// If there is no memory for the row, if it isn't as long as the others, if the others are reversed, or if a
+    /// `usize` can't hold the number of rows. Then nothing has changed.
     pub fn push(&mut self, row: &[T]) -> Result<(), AllocError>
         ensures added { OnOk result (self.new ≡ self.old ++ row.now ∷ []) }
         ensures unchanged { OnErr result (self.new ≡ self.old) }
@@ -98,8 +98,8 @@ impl<T: Copy> FlatRows<T> {
     ///
     /// # Errors
     ///
-    /// If there is no memory for the rows, if they aren't as long as the others, or if the others are reversed. Then
-    /// nothing has changed.
+    /// If there is no memory for the rows, if they aren't as long as the others, if the others are reversed, or if a
+    /// `usize` can't hold the number of rows. Then nothing has changed.
     pub fn push_rows(&mut self, samples: &[T], count: usize, each: usize) -> Result<(), AllocError>
         requires { length samples.now ≡ count * each }
         ensures added { OnOk result (self.new ≡ self.old ++ rows_in count each samples.now) }

@@ -15,7 +15,7 @@ const MOST_SAMPLES: usize = 1024;
 /// The most samples of rows that are given together: as words they take 65,536 bytes.
 const MOST_TOGETHER: usize = 32_768;
 
-/// The most rows that are given together.
+/// The most rows that `next_columns` gives together.
 const MOST_ROWS: u32 = 256;
 
 /// Returns how many of `rows` rows of `each` samples are given together: one if the rows are long.

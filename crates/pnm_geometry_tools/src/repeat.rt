@@ -58,7 +58,7 @@ pub(crate) fn repeat_runs<T: Copy + Default>(
     Ok(repeated)
 }
 
-/// Returns the row with each pixel repeated `across` times.
+/// Returns the row with each pixel repeated `across` times. The only fault is `Memory`.
 pub(crate) fn repeat_pixels<T: Copy + Default>(
     alloc: Global,
     across: u32,

@@ -67,7 +67,8 @@ impl SampleRows {
         }
     }
 
-    /// Adds the rows at the end, one by one if some of them become a strip. The only fault is `Memory`.
+    /// Adds the rows at the end, one by one if the rows of the image are put into strips, or if these are held in
+    /// another width. The only fault is `Memory`.
     pub fn add(
         &mut self,
         alloc: Global,
@@ -158,7 +159,7 @@ impl SampleRows {
         }
     }
 
-    /// Adds a row at the end, without a copy if it is held in this width. The only fault is `Memory`.
+    /// Adds a row at the end. Converts it first if it is held in another width. The only fault is `Memory`.
     fn push_samples(&mut self, alloc: Global, row: Samples) -> Result<(), ToolFault>
         requires { FitsWidth (rows_width self.old) row }
         ensures sample_width { rows_width self.new ≡ rows_width self.old }
@@ -270,7 +271,7 @@ impl SampleRows {
 
     /// Returns `count` columns of the rows, from column `first` on, the last column first. In each column, the samples
     /// of the strips come before those of the rows that came after them, or behind those if `rows_first` is true. For
-    /// bits, `first` is the column of the highest bit of a byte. The only fault is `Memory`.
+    /// bits, `first` has to be a multiple of 8, `count` 1 to 256, and `depth` 1. The only fault is `Memory`.
     pub fn batch(
         &self,
         alloc: Global,

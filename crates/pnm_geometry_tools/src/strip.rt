@@ -17,7 +17,8 @@ use crate::row_of::RowOf;
 use pnm_tools::ToolFault;
 use std::alloc::Global;
 
-/// The number of rows in a strip. A line of the processor's cache holds this many samples of a column.
+/// The number of rows in a strip. A line of the processor's cache holds this many bytes of a column, or half as many
+/// words.
 pub(crate) const STRIP_ROWS: usize = 64;
 
 /// How many columns of a strip are made side by side.
@@ -90,7 +91,7 @@ fn order_rows<T>(rows: &mut FlatRows<T>, last_first: bool)
     }
 }
 
-/// Returns the rows with columns and rows exchanged: the columns, one after the other.
+/// Returns the rows with columns and rows exchanged: the columns, one after the other. The only fault is `Memory`.
 fn strip_of<T: BlockSample>(
     alloc: Global,
     rows: &FlatRows<T>,
@@ -116,7 +117,7 @@ fn strip_of<T: BlockSample>(
     Ok(RowOf::new(strip))
 }
 
-/// Adds columns of the rows to the samples of a strip, as many as `columns` has places for.
+/// Adds columns of the rows to the samples of a strip, as many as `columns` has places for. The only fault is `Memory`.
 fn add_columns<T: BlockSample>(
     strip: &mut Vec<T>,
     columns: &mut [Vec<T>],

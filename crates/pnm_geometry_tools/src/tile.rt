@@ -81,7 +81,7 @@ fn tile_rows(
     }
 }
 
-/// Returns `count` rows of the result, from row `y` on, made from `kept` rows.
+/// Returns `count` rows of the result, from row `y` on, made from `kept` rows. The only fault is `Memory`.
 fn tile<T: Copy>(
     alloc: Global,
     width: u32,
@@ -109,7 +109,7 @@ fn tile<T: Copy>(
     Ok(tiled)
 }
 
-/// Adds copies of a row side by side, up to `width` columns.
+/// Adds copies of a row side by side, up to `width` columns. The only fault is `Memory`.
 fn tile_row<T: Copy>(
     tiled: &mut Vec<T>,
     width: u32,
@@ -153,7 +153,8 @@ fn repeat_samples<T: Copy>(tiled: &mut Vec<T>, start: usize, count: usize) -> Re
     Ok(())
 }
 
-/// Returns `count` rows of the result, from row `y` on, made from kept rows of pixels of one bit.
+/// Returns `count` rows of the result, from row `y` on, made from kept rows of pixels of one bit. The only fault is
+/// `Memory`.
 fn tile_bits(
     alloc: Global,
     width: u32,
@@ -177,7 +178,7 @@ fn tile_bits(
 }
 
 /// Does what `tile_bits` does for rows of `each` pixels, repeated up to `filled` pixels, if each copy begins at a byte:
-/// tiles their bytes.
+/// tiles their bytes. The only fault is `Memory`.
 fn tile_bytes(
     alloc: Global,
     each: u32,
@@ -207,7 +208,7 @@ fn tile_bytes(
     Ok(BitRows::new(tiled, count as usize, filled as usize))
 }
 
-/// Does what `tile_bytes` does if copies begin within bytes: tiles a row at a time.
+/// Does what `tile_bytes` does if copies begin within bytes: tiles a row at a time. The only fault is `Memory`.
 fn tile_pixels(
     alloc: Global,
     each: u32,

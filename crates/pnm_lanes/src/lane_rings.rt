@@ -29,7 +29,7 @@ pub struct LaneRings {
 }
 
 impl LaneRings {
-    /// Makes the rings of `lanes` lanes, for `capacity` messages each, and reserves the list for what the lanes give
+    /// Makes the rings of `lanes` lanes, for `capacity` packets each, and reserves the list for what the lanes give
     /// back. Returns `None` if there is no memory.
     pub fn new(alloc: Global, lanes: usize, capacity: usize) -> Option<LaneRings>
         ensures unused { IfSome result (λ rings. AreUnused rings.outputs.items rings.lanes.items rings.inputs.items) }

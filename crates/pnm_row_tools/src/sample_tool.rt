@@ -21,8 +21,8 @@ pub trait SampleTool: Copy {
     /// What it does to the head and to each sample.
     ghost rule: { Self → SampleRule };
 
-    /// Whether computing a sample costs so much that samples are looked up in a table, in an image that has more
-    /// samples than the table.
+    /// Whether computing a sample costs so much that samples are looked up in a table, in an image that has at least as
+    /// many samples as the table.
     const IS_COSTLY: bool;
 
     /// Returns the head of the result of an image with this head, or the refusal.

@@ -100,11 +100,12 @@ impl BitRows {
         (&self.bytes[start..start + size], self.each)
     }
 
-    /// Adds other rows at the end. Returns false, and adds nothing, if they aren't as long as these.
+    /// Adds other rows at the end. Returns false, and adds nothing, if they were made with another row length than
+    /// these, even if there are no rows here or there.
     ///
     /// # Errors
     ///
-    /// If there is no memory for them. Then nothing is changed.
+    /// If there is no memory for them, or if a `usize` can't hold the number of rows. Then nothing is changed.
     pub fn append(&mut self, more: &BitRows) -> Result<bool, AllocError>
         ensures added { IfOk result (λ done. IsTrue done → self.new ≡ self.old ++ more.now) }
         ensures same { IfOk result (λ done. IsFalse done → self.new ≡ self.old) }

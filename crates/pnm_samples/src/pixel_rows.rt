@@ -58,8 +58,8 @@ impl PixelRows {
     ///
     /// # Errors
     ///
-    /// If there is no memory for the row, if it isn't as long as the others, or if the others are reversed. Then
-    /// nothing has changed.
+    /// If there is no memory for the row, if it isn't as long as the others, if the others are reversed, or if a
+    /// `usize` can't hold the number of rows. Then nothing has changed.
     pub fn push(&mut self, row: &Bits) -> Result<(), AllocError>
         ensures added { OnOk result (self.new ≡ self.old ++ row.now ∷ []) }
         ensures unchanged { OnErr result (self.new ≡ self.old) }
@@ -71,8 +71,8 @@ impl PixelRows {
     ///
     /// # Errors
     ///
-    /// If there is no memory for the rows, if they aren't as long as the others, or if the others are reversed. Then
-    /// nothing has changed.
+    /// If there is no memory for the rows, if they aren't as long as the others, if the others are reversed, or if a
+    /// `usize` can't hold the number of rows. Then nothing has changed.
     pub fn push_rows(&mut self, rows: &BitRows) -> Result<(), AllocError>
         ensures added { OnOk result (self.new ≡ self.old ++ rows.now) }
         ensures unchanged { OnErr result (self.new ≡ self.old) }

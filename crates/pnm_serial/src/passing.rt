@@ -71,9 +71,8 @@ fn feed_rows<F: Filter + Drop, W: BytesOut + Drop>(
     }
 }
 
-/// Feeds the first filter a copy of each row by itself, up to the one that is refused, and passes what it gives through
-/// the others. The rows behind a refused one are dropped. If there is no memory for a copy, the filter refuses by
-/// `Memory`.
+/// Feeds the first filter a copy of each row by itself, and passes what it gives through the others. The copies behind
+/// a refused one are dropped. If there is no memory for a copy, the filter refuses by `Memory`.
 #[cycle(through)]
 fn feed_each<F: Filter + Drop, W: BytesOut + Drop>(
     alloc: Global,

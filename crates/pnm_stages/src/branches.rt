@@ -103,11 +103,11 @@ impl Task for Idle {
     fn run(self) {}
 }
 
-/// Work over threads that wasn't started whole: there was no memory for a ring or a list, or a thread couldn't be
-/// started.
+/// Work over threads that wasn't started whole: there was no memory for a ring or a list, a ring's wakers had too many
+/// owners, or a thread couldn't be started.
 #[derive(Drop)]
 pub struct NoStart {
-    /// The ends of the outer rings, if no start of a thread was tried yet; then nothing was sent or received. `None`
-    /// once a start was tried; then all threads that were started have ended.
+    /// The ends of the outer rings, if memory ran out before any start of a thread was tried; then nothing was sent or
+    /// received. Otherwise `None`; then all threads that were started have ended.
     pub ends: Option<(Receiver, Sender)>,
 }

@@ -22,8 +22,8 @@ pub struct Receiver {
     /// The end itself. It is the first field, since it has to be gone before `waker` wakes the other thread.
     pub(crate) ring: Consumer<Packet, Global, AnyMessage>,
     waker: ReceiverWaker,
-    /// Half the number of messages that the last look saw in the ring. It is narrow, since many ends lie on the stack
-    /// of a thread that starts others.
+    /// Half the number of packets that the last look saw in the ring. It is narrow, since many ends lie on the stack of
+    /// a thread that starts others.
     half: u32,
     /// Whether this end has received rows that were sent together.
     has_rows: bool,
@@ -103,9 +103,9 @@ impl Receiver {
         self.ring.is_abandoned()
     }
 
-    /// Receives the next packet, which has to be there. It wakes the thread at the sending end when half of the
-    /// messages that the last look saw are left, and when none is. So that thread is woken soon after it found no room,
-    /// and seldom while it finds some.
+    /// Receives the next packet, which has to be there. It wakes the thread at the sending end when half of the packets
+    /// that the last look saw are left, and when none is. So that thread is woken soon after it found no room, and
+    /// seldom while it finds some.
     #[inline(always)]
     pub fn receive_known(&mut self) -> Packet
         requires { 0 < length (known_packets self.old) }

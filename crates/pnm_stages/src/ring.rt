@@ -1,4 +1,4 @@
-//! The rings between stages: what passes over them, how many messages they hold, and how they are made.
+//! The rings between stages: what passes over them, how many packets they hold, and how they are made.
 
 ghost use Rattle.std.specs.Prelude.{◌≡◌, [], IfSome};
 ghost use Rattle.pnm_stages.specs.Rings.{sent, received, IsPair};

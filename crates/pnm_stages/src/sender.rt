@@ -19,9 +19,9 @@ const MOST_MESSAGES: u16 = 32;
 /// thread takes to wake.
 const SHORT: usize = 1_024;
 
-/// A row of more bytes is wide. The wide rows in a ring have no more bytes at once than this number times the ring's
-/// places. So what passes stays in the processors' own caches, and a slow reader doesn't make a run take memory without
-/// end.
+/// A row of more bytes is wide. Wide rows in a ring, if all are as wide as the last, have no more bytes at once than
+/// this number times the ring's places. So what passes stays in the processors' own caches, and a slow reader doesn't
+/// make a run take memory without end.
 const BYTES_PER_PLACE: usize = 16_384;
 
 /// But this many rows may lie in a ring, however wide they are, so that the threads at both ends have something to do.
@@ -37,7 +37,7 @@ pub struct Sender {
     /// The end itself. It is the first field, since it has to be gone before `waker` wakes the other thread.
     pub(crate) ring: Producer<Packet, Global, AnyMessage>,
     waker: SenderWaker,
-    /// How many messages were sent since this end last woke the receiver, and for how many short ones it wakes it. Both
+    /// How many packets were sent since this end last woke the receiver, and for how many short ones it wakes it. Both
     /// numbers are narrow, since each level of a chain's starts holds a few ends.
     unwoken: u16,
     messages_per_wake: u16,
@@ -74,8 +74,8 @@ impl Sender {
     /// Makes `home`, the sending end of another ring, the home of this ring's receiver. From now on, the thread at the
     /// receiving end is woken there, too, before this end's thread sleeps for want of room, when it ends the stream,
     /// and when this end is dropped. That thread sends on the ring of `home`, so it may sleep there while this ring is
-    /// full, or has all that will come. Returns false, and nobody else is woken, if that ring's wakers have too many
-    /// owners.
+    /// full, or has all that will come. Returns false if that ring's wakers have too many owners; then the receiver has
+    /// no home, not even an earlier one.
     pub fn set_home(&mut self, home: &Sender) -> bool
         ensures ring { SameSender self.old self.new }
         ensures sent { sent self.new ≡ sent self.old }

@@ -58,7 +58,8 @@ pub struct StageDone {
 
 /// Passes what comes on `input` through a tool at work, or one that has refused, to `output`, as `run_stage` does
 /// behind its gate. Rows that come together are fed together. If not all of them may come, each is copied and fed by
-/// itself, up to the one that is refused; if there is no memory for a copy, the tool refuses by `Memory`.
+/// itself; those behind the one that is refused are dropped. If there is no memory for a copy, the tool refuses by
+/// `Memory`.
 pub fn run_filter<R: Wait, F: Filter + Drop>(
     rt: &R,
     alloc: Global,
@@ -192,8 +193,8 @@ fn pass_rows<R: Wait, F: Filter + Drop>(
     }
 }
 
-/// Passes a copy of each row through the tool by itself, up to the one that is refused; the rows behind it are dropped.
-/// If there is no memory for a copy, the tool refuses by `Memory`. Returns false if the output's other end was seen
+/// Passes a copy of each row through the tool by itself. The copies behind the one that is refused are dropped. If
+/// there is no memory for a copy, the tool refuses by `Memory`. Returns false if the output's other end was seen
 /// dropped before all was sent.
 fn pass_each<R: Wait, F: Filter + Drop>(
     rt: &R,

@@ -76,13 +76,14 @@ pub fn new_wakers(alloc: Global) -> Option<(SenderWaker, ReceiverWaker)> {
 impl SenderWaker {
     /// From now on, wakes the thread at the receiving end at `home` as well, before this end's thread sleeps and when
     /// this end is dropped. That thread sends on the ring of `home`. Returns false if as many share that ring's wakers
-    /// as may.
+    /// as may; then that thread has no home, not even an earlier one.
     pub fn set_home(&mut self, home: &SenderWaker) -> bool {
         self.home = Arc::try_clone(&home.wakers).ok();
         self.home.is_some()
     }
 
-    /// Sleeps until the thread at the receiving end wakes this one. Returns at once if it did so since the last sleep.
+    /// Wakes the thread at the receiving end at its home, if it has one, and then sleeps until that thread wakes this
+    /// one. Doesn't sleep if it did so since the last sleep.
     pub fn sleep<R: Wait>(&self, rt: &R) {
         self.wake_home();
         self.wakers.sender.sleep(rt);

@@ -54,8 +54,8 @@ pub fn cut_number(line: &[u8]) -> (usize, &[u8]) {
 
 /// The bytes that a written text stands for. A byte stands for itself, except for a backslash: `\n`, `\t`, `\r` and
 /// `\xHH` are the byte that they are in Rust, and any other byte after it is itself. `\N(PART)` stands for N times
-/// PART, and `\#COUNT,FIRST,STEP,MODULUS,BYTES;` for COUNT numbers, FIRST plus k times STEP modulo MODULUS, of BYTES
-/// bytes each, or in decimal with a blank after each if BYTES is 0.
+/// PART, and `\#COUNT,FIRST,STEP,MODULUS,BYTES;` for COUNT numbers, FIRST plus k times STEP modulo MODULUS: in decimal
+/// with a blank after each if BYTES is 0, in a byte each if it is 1, and otherwise in two.
 pub fn text_of(alloc: Global, written: &[u8]) -> Result<Vec<u8>, AllocError> {
     let mut text = Vec::new(alloc);
     let mut rest = written;
@@ -174,7 +174,7 @@ fn add_numbers<'a>(text: &mut Vec<u8>, written: &'a [u8]) -> Result<&'a [u8], Al
     Ok(rest)
 }
 
-/// Adds a number in `bytes` bytes; 0 stands for decimal digits and a blank.
+/// Adds a number: in decimal digits and a blank if `bytes` is 0, in one byte if it is 1, and otherwise in two.
 fn add_number(text: &mut Vec<u8>, number: usize, bytes: usize) -> Result<(), AllocError> {
     match bytes {
         0 => {

@@ -9,7 +9,7 @@ use thiserror::Error;
 /// Why a tool refused a message or an image. The text of each variant is its name.
 #[derive(Clone, Copy, Debug, PartialEq, Eq, Error)]
 pub enum ToolFault {
-    /// The part to keep lies outside the image.
+    /// The part to keep doesn't lie wholly inside the image, or its first column or row lies behind its last.
     #[error("CutOutside")]
     CutOutside,
     /// The image lacks one of the planes to pick.
@@ -18,7 +18,9 @@ pub enum ToolFault {
     /// The result is beyond the limits.
     #[error("TooLarge")]
     TooLarge,
-    /// The message can't come at this place in the stream.
+    /// The message can't come at this place in the stream; or neither `Filter::next` has returned `None` nor
+    /// `Filter::gave_all` true since the message before it; or an image of height 0 begins, and the tool isn't
+    /// row-wise.
     #[error("OutOfOrder")]
     OutOfOrder,
     /// Memory ran out.

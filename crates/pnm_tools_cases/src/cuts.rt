@@ -19,7 +19,7 @@ pub struct Axis {
     size: Option<u32>,
 }
 
-/// Of one, which is kept.
+/// Three columns or rows, which are all kept.
 const ONE: Axis = Axis {
     length: 3,
     start: None,

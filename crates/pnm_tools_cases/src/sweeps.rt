@@ -73,7 +73,7 @@ fn row_of(alloc: Global, shape: Shape, y: u32) -> Result<Vec<u16>, AllocError> {
     Ok(samples)
 }
 
-/// Adds all that a tool at work gives for a made image, or that the image lies outside of what it cuts.
+/// Adds all that a tool at work gives for a made image, or that what it cuts lies outside the image.
 pub fn feed_image<F: Filter>(
     alloc: Global,
     state: &mut F,

@@ -70,7 +70,8 @@ fn cut_of(text: &[u8]) -> CutBox {
     }
 }
 
-/// Returns the number that a line begins with, which may be negative, or `None` for a `_`; and the text after it.
+/// Returns the number that a line begins with, which may be negative, or `None` for a `_` and for a number that an
+/// `i32` can't hold; and the text after it.
 pub fn cut_offset(line: &[u8]) -> (Option<i32>, &[u8]) {
     let (word, rest) = cut_word(line);
     match word.split_first() {

@@ -100,8 +100,8 @@ fn tell_calls(calls: &[(usize, usize)], told: &mut String) -> Result<(), AllocEr
     Ok(())
 }
 
-/// Adds the answers where read 1, 2 and so on of a byte each fails, by the number from which on they are those, and
-/// each number of a read after which there was another.
+/// Adds the answers if the read of a byte after the first 0, 1, 2 and so on fails, by the number from which on they are
+/// those. Adds `but` and the number if the source made more or fewer reads than these and the failing one.
 pub fn tell_fails(alloc: Global, text: &[u8], told: &mut String) -> Result<(), AllocError> {
     let mut before = String::new(alloc);
     for read in 0..=text.len() {
