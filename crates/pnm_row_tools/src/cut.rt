@@ -16,6 +16,9 @@ use pnm_image::{Head, RowVec, Rows, Shape};
 use pnm_tools::{CutBox, Span, ToolFault, head_within_limits};
 use std::alloc::Global;
 
+/// How many samples are copied at once if they overlap the place that they go to.
+const CHUNK: usize = 512;
+
 /// The samples to keep of rows that follow one another.
 #[derive(Clone, Copy)]
 struct Parts {
@@ -49,11 +52,11 @@ fn keep_columns_of_rows(columns: Span, among: Span, shape: Shape, rows: Rows) ->
             RowVec::Bits(bits)
         }
         RowVec::Bytes(mut bytes) => {
-            keep_of_each(&mut bytes, parts);
+            keep_of_each(&mut bytes, &mut [0; CHUNK], parts);
             RowVec::Bytes(bytes)
         }
         RowVec::Words(mut words) => {
-            keep_of_each(&mut words, parts);
+            keep_of_each(&mut words, &mut [0; CHUNK], parts);
             RowVec::Words(words)
         }
     };
@@ -76,19 +79,21 @@ fn parts_kept(columns: Span, among: Span, depth: usize, row_length: usize) -> Pa
 }
 
 /// Keeps these parts of the rows, that of the first row first, in place.
-fn keep_of_each<T: Copy>(samples: &mut Vec<T>, parts: Parts)
+fn keep_of_each<T: Copy>(samples: &mut Vec<T>, chunk: &mut [T], parts: Parts)
+    requires chunk { 0 < length chunk.old }
     requires rows { parts.top * parts.row_length + parts.count * parts.row_length
         ≤ length samples.old.items }
     requires within { parts.first + parts.kept ≤ parts.row_length }
     ensures { samples.new.items ≡ parts_of parts samples.old.items }
 {
-    move_parts(samples.as_mut_slice(), parts);
+    move_parts(samples.as_mut_slice(), chunk, parts);
     samples.truncate(parts.count * parts.kept);
 }
 
 /// Moves these parts of the rows to the front, that of the first row first.
 #[inline(always)]
-fn move_parts<T: Copy>(samples: &mut [T], parts: Parts)
+fn move_parts<T: Copy>(samples: &mut [T], chunk: &mut [T], parts: Parts)
+    requires chunk { 0 < length chunk.old }
     requires rows { parts.top * parts.row_length + parts.count * parts.row_length ≤ length samples.old }
     requires within { parts.first + parts.kept ≤ parts.row_length }
     ensures { take (parts.count * parts.kept) samples.new ≡ parts_of parts samples.old }
@@ -96,18 +101,15 @@ fn move_parts<T: Copy>(samples: &mut [T], parts: Parts)
     let (skipped, kept) = (parts.top * parts.row_length, parts.kept);
     for i in 0..parts.count {
         let start = skipped + i * parts.row_length + parts.first;
-        copy_down(samples, start, i * kept, kept);
+        copy_down(samples, chunk, start, i * kept, kept);
     }
 }
-
-/// The fewest samples that are copied at once if samples overlap the place that they go to. Copying samples one after
-/// another takes less time than copying fewer at once.
-const LEAST_COPY: usize = 16;
 
 /// Copies `count` samples from `from` to `to`, which isn't behind `from`. Copies nothing if the two places are the
 /// same.
 #[inline]
-fn copy_down<T: Copy>(samples: &mut [T], from: usize, to: usize, count: usize)
+fn copy_down<T: Copy>(samples: &mut [T], chunk: &mut [T], from: usize, to: usize, count: usize)
+    requires chunk { 0 < length chunk.old }
     requires down { to ≤ from }
     requires within { from + count ≤ length samples.old }
     ensures { samples.new ≡ copy_within samples.old from (from + count) to }
@@ -115,31 +117,41 @@ fn copy_down<T: Copy>(samples: &mut [T], from: usize, to: usize, count: usize)
     if from == to {
         return;
     }
-    let gap = from - to;
-    if count <= gap {
+    if count <= from - to {
         copy_apart(samples, from, to, count);
-    } else if gap < LEAST_COPY {
-        samples.copy_within(from..from + count, to);
     } else {
-        copy_by_gaps(samples, from, to, count);
+        copy_by_chunks(samples, chunk, from, to, count);
     }
 }
 
-/// Copies `count` samples to a place before them that they overlap: as many at once as the two places lie apart. This
+/// Copies `count` samples to a place before them that they overlap: as many at a time as the chunk has room for. This
 /// takes a fraction of the time that it takes to copy one sample after another.
-fn copy_by_gaps<T: Copy>(samples: &mut [T], from: usize, to: usize, count: usize)
-    requires down { to < from }
+fn copy_by_chunks<T: Copy>(samples: &mut [T], chunk: &mut [T], from: usize, to: usize, count: usize)
+    requires chunk { 0 < length chunk.old }
+    requires down { to ≤ from }
     requires within { from + count ≤ length samples.old }
     ensures { samples.new ≡ copy_within samples.old from (from + count) to }
 {
-    let gap = from - to;
-    let copies = count / gap;
+    let size = chunk.len();
+    let copies = count / size;
     for i in 0..copies {
-        let done = i * gap;
-        copy_apart(samples, from + done, to + done, gap);
+        let done = i * size;
+        copy_chunk(samples, chunk, from + done, to + done, size);
     }
-    let done = copies * gap;
-    copy_apart(samples, from + done, to + done, count - done);
+    let done = copies * size;
+    let rest = count - done;
+    copy_chunk(samples, &mut chunk[..rest], from + done, to + done, rest);
+}
+
+/// Copies as many samples as the chunk has room for to a place that isn't behind them.
+fn copy_chunk<T: Copy>(samples: &mut [T], chunk: &mut [T], from: usize, to: usize, count: usize)
+    requires chunk { length chunk.old ≡ count }
+    requires down { to ≤ from }
+    requires within { from + count ≤ length samples.old }
+    ensures { samples.new ≡ copy_within samples.old from (from + count) to }
+{
+    chunk.copy_from_slice(&samples[from..from + count]);
+    samples[to..to + count].copy_from_slice(chunk);
 }
 
 /// Copies `count` samples to a place before them that they don't overlap.

@@ -1,0 +1,7 @@
+use Rattle.std.proofs.Common.{◌≡◌, ◌+◌, ◌*◌}
+use Rattle.std.specs.List.{copy_within}
+use Rattle.pnm_row_tools.proofs.cut.copy_by_chunks.Given as goal
+
+-- so many are copied as the chunks that have passed have room for
+abbrev pub invariant-loop-i : goal.invariant-loop-i
+invariant-loop-i g l = l.samples ≡ copy_within l.fn.samples l.from (l.from + l.i * l.size) l.to

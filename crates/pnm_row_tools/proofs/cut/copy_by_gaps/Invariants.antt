@@ -1,7 +1,0 @@
-use Rattle.std.proofs.Common.{◌≡◌, ◌+◌, ◌*◌}
-use Rattle.std.specs.List.{copy_within}
-use Rattle.pnm_row_tools.proofs.cut.copy_by_gaps.Given as goal
-
--- so many are copied as the copies that have passed have samples
-abbrev pub invariant-loop-i : goal.invariant-loop-i
-invariant-loop-i g l = l.samples ≡ copy_within l.fn.samples l.from (l.from + l.i * l.gap) l.to
