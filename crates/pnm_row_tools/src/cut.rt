@@ -78,7 +78,8 @@ fn parts_kept(columns: Span, among: Span, depth: usize, row_length: usize) -> Pa
     }
 }
 
-/// Keeps these parts of the rows, that of the first row first, in place.
+/// Keeps these parts of the rows, that of the first row first, in place. Samples that overlap their new place go there
+/// by way of the chunk.
 fn keep_of_each<T: Copy>(samples: &mut Vec<T>, chunk: &mut [T], parts: Parts)
     requires chunk { 0 < length chunk.old }
     requires rows { parts.top * parts.row_length + parts.count * parts.row_length
@@ -90,7 +91,7 @@ fn keep_of_each<T: Copy>(samples: &mut Vec<T>, chunk: &mut [T], parts: Parts)
     samples.truncate(parts.count * parts.kept);
 }
 
-/// Moves these parts of the rows to the front, that of the first row first.
+/// Moves these parts of the rows to the front, that of the first row first, as `keep_of_each` does.
 #[inline(always)]
 fn move_parts<T: Copy>(samples: &mut [T], chunk: &mut [T], parts: Parts)
     requires chunk { 0 < length chunk.old }
@@ -105,8 +106,8 @@ fn move_parts<T: Copy>(samples: &mut [T], chunk: &mut [T], parts: Parts)
     }
 }
 
-/// Copies `count` samples from `from` to `to`, which isn't behind `from`. Copies nothing if the two places are the
-/// same.
+/// Copies `count` samples from `from` to `to`, which isn't behind `from`: by way of the chunk if the two places
+/// overlap. Copies nothing if they are the same.
 #[inline]
 fn copy_down<T: Copy>(samples: &mut [T], chunk: &mut [T], from: usize, to: usize, count: usize)
     requires chunk { 0 < length chunk.old }
@@ -143,7 +144,7 @@ fn copy_by_chunks<T: Copy>(samples: &mut [T], chunk: &mut [T], from: usize, to: 
     copy_chunk(samples, &mut chunk[..rest], from + done, to + done, rest);
 }
 
-/// Copies as many samples as the chunk has room for to a place that isn't behind them.
+/// Copies `count` samples, which just fill the chunk, by way of it to a place that isn't behind them.
 fn copy_chunk<T: Copy>(samples: &mut [T], chunk: &mut [T], from: usize, to: usize, count: usize)
     requires chunk { length chunk.old ≡ count }
     requires down { to ≤ from }

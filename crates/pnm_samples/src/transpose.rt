@@ -11,8 +11,8 @@ use crate::pixel_rows::PixelRows;
 use std::alloc::{AllocError, Global};
 use std::simd::prelude::*;
 
-/// The bytes of white pixels, for a row that isn't there. From each row 32 bytes are read side by side, so that what
-/// the processor fetches with one of them is used.
+/// The bytes of white pixels, for a row that isn't there. 32 bytes of a row are read side by side, so that all that the
+/// processor fetches with one of them is used.
 static WHITE: [u8; 32] = [0; 32];
 
 /// `count` columns of the rows, at most 256, each as a row of its own. The first column lies in the highest bit of byte
