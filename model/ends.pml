@@ -3,7 +3,7 @@
  * The stream has no bound unless MOST is given; each message may be held back; KEPT is the most places that wide
  * rows keep free. The sending end ends the stream and stays, or goes at any time; between messages it may wait
  * for something else, which comes only once all that it sent was taken: it has to wake the receiver first
- * (Sender::hold_back). The receiving end goes on until the stream has ended or the sending end is gone, or goes
+ * (Sender::coalesce_wakes). The receiving end goes on until the stream has ended or the sending end is gone, or goes
  * at any time.
  */
 #ifndef CAP

@@ -1,4 +1,4 @@
-/* The two ends of a ring and how a thread waits at one: what ends.pml, turns.pml, lanes.pml and starts.pml
+/* The two ends of a ring and how a thread waits at one: what ends.pml, io_loop.pml, lanes.pml and starts.pml
  * include.
  *
  * One step of a thread holds at most one access to a word that threads share: the tail, the head and the flags

@@ -1,5 +1,5 @@
 /* The starts of a chain's threads, of which number REFUSED is refused (none: 0): run_stages of chain.rt,
- * run_tool with Announcer and Listener of tool_run.rt, run_threads of lanes.rt, deal_and_gather of around.rt,
+ * run_tool with Notifier and Waiter of tool_run.rt, run_threads of lanes.rt, deal_and_gather of around.rt,
  * run_both of branches.rt.
  *
  * OVER_LANES: two tools, of which the last one works over two lanes: its own thread starts these, and tells the
@@ -28,7 +28,7 @@
 #define TO(lane) (2 + (lane))
 #define FROM(lane) (4 + (lane))
 #define LAST 6
-#define TOLD 7
+#define STARTED 7
 #define HAS_HOME(r) ((r) >= FROM(0) && (r) < LAST)
 #define HOME SP(LAST)
 #else
@@ -86,12 +86,12 @@ inline drop_gatherer() {
 }
 inline drop_dealer() {
     drop_receiver(INPUT); drop_sender(TO(0)); drop_sender(TO(1));
-#ifndef M_KEEPS_ANNOUNCER
-    drop_sender(TOLD)
+#ifndef M_KEEPS_NOTIFIER
+    drop_sender(STARTED)
 #endif
 }
 
-/* run_threads, deal_and_gather, and Announcer */
+/* run_threads, deal_and_gather, and Notifier */
 proctype Over_lanes() {
     SENDER_LOCALS
     bit ok;
@@ -112,10 +112,10 @@ proctype Over_lanes() {
     :: else -> drop_dealer(); goto done
     fi;
 #ifndef M_NO_ANNOUNCEMENT
-    send(TOLD, SEND, 0, ok);
+    send(STARTED, SEND, 0, ok);
 #endif
-#ifndef M_KEEPS_ANNOUNCER
-    drop_sender(TOLD);
+#ifndef M_KEEPS_NOTIFIER
+    drop_sender(STARTED);
 #endif
 done:
     skip
@@ -130,20 +130,20 @@ active proctype Level() {
     :: STARTS(1) -> run Over_lanes()
     :: else -> drop_lane(0); drop_lane(1); drop_gatherer(); drop_dealer(); goto without
     fi;
-    await_message(TOLD, ok); /* Listener */
+    await_message(STARTED, ok); /* Waiter */
     assert(ok == (STARTS(2) && STARTS(3) && STARTS(4) && STARTS(5)));
     if
-    :: ok -> take(TOLD, m)
+    :: ok -> take(STARTED, m)
     :: else -> goto without
     fi;
     if
     :: STARTS(6) -> run Tool(0, 1)
     :: else -> goto without
     fi;
-    drop_receiver(TOLD);
+    drop_receiver(STARTED);
     goto done;
 without: /* the work beside isn't begun, and goes */
-    drop_receiver(TOLD);
+    drop_receiver(STARTED);
 #ifndef M_KEEPS_ENDS_AT_NO_START
     drop_receiver(0); drop_sender(1);
 #endif

@@ -83,7 +83,7 @@ edit("ends.pml", "CAP=1 M_WAKE_BEFORE_HEAD", "the wake before the place is free"
 edit("ends.pml", "CAP=2 M_NO_WAKE_BEFORE_ROOM", "no wake before the wait for room",
      "sender.rt, Sender::wait: without self.wake_receiver()")
 edit("ends.pml", "CAP=2 M_NO_WAKE_BEFORE_OTHERS", "no wake before a wait for something else",
-     "whoever holds back by Sender::hold_back and waits for anything else: without wake_receiver()")
+     "whoever holds back by Sender::coalesce_wakes and waits for anything else: without wake_receiver()")
 edit("ends.pml", "CAP=1 M_NO_WAKE_AT_SENDER_DROP", "the sending end goes and wakes nobody",
      "wakers.rt, drop of SenderWaker: without self.wake_receiver()")
 edit("ends.pml", "CAP=1 M_NO_WAKE_AT_RECEIVER_DROP", "the receiving end goes and wakes nobody",
@@ -98,55 +98,55 @@ edit("ends.pml", "CAP=1 M_NO_LOOK_AFTER_GONE", "no second look after the end was
 CALLER = "a run: another thread ends each sleep"
 SMALL = "TOOLS=1 CAP=1 COARSE"
 TWO = "TOOLS=2 CAP=1 COARSE HOLDS=0"
-holds("turns.pml", SMALL, CALLER)
-holds("turns.pml", f"{SMALL} MOST=2 MOST_IMAGES=1", "a run: it ends", "cycles", is_big=True)
-holds("turns.pml", "TOOLS=1 CAP=1 MOST_IMAGES=1", f"{CALLER}, step by step", is_big=True)
+holds("io_loop.pml", SMALL, CALLER)
+holds("io_loop.pml", f"{SMALL} MOST=2 MOST_IMAGES=1", "a run: it ends", "cycles", is_big=True)
+holds("io_loop.pml", "TOOLS=1 CAP=1 MOST_IMAGES=1", f"{CALLER}, step by step", is_big=True)
 for size in ("TOOLS=1 CAP=2 COARSE MOST_IMAGES=1", "TOOLS=1 CAP=3 COARSE HOLDS=0 KEPT=1 MOST_IMAGES=0"):
-    holds("turns.pml", size, CALLER, is_big=True)
-holds("turns.pml", f"{SMALL} BLOCKS SLOW", f"{CALLER}; rows in blocks, a slow source", is_big=True)
-holds("turns.pml", "TOOLS=1 CAP=2 COARSE BLOCKS SLOW MOST_IMAGES=0 MOST_ANSWERS=1",
+    holds("io_loop.pml", size, CALLER, is_big=True)
+holds("io_loop.pml", f"{SMALL} BLOCKS SLOW", f"{CALLER}; rows in blocks, a slow source", is_big=True)
+holds("io_loop.pml", "TOOLS=1 CAP=2 COARSE BLOCKS SLOW MOST_IMAGES=0 MOST_ANSWERS=1",
       f"{CALLER}; rows in blocks, a slow source", is_big=True)
-holds("turns.pml", f"{SMALL} SLOW MOST_IMAGES=1 MOST_ANSWERS=1", f"{CALLER}; a slow source")
-holds("turns.pml", f"{SMALL} BLOCKS MOST_IMAGES=0 MOST_ANSWERS=1", f"{CALLER}; rows in blocks", is_big=True)
+holds("io_loop.pml", f"{SMALL} SLOW MOST_IMAGES=1 MOST_ANSWERS=1", f"{CALLER}; a slow source")
+holds("io_loop.pml", f"{SMALL} BLOCKS MOST_IMAGES=0 MOST_ANSWERS=1", f"{CALLER}; rows in blocks", is_big=True)
 for size in ("MOST_IMAGES=0 MOST_ANSWERS=2", "MOST_IMAGES=1 MOST_ANSWERS=1"):
-    holds("turns.pml", f"{TWO} {size}", f"{CALLER}; two tools", is_long=True)
-holds("turns.pml", f"{TWO} SLOW MOST_IMAGES=0 MOST_ANSWERS=1", f"{CALLER}; two tools, a slow source", is_big=True)
+    holds("io_loop.pml", f"{TWO} {size}", f"{CALLER}; two tools", is_long=True)
+holds("io_loop.pml", f"{TWO} SLOW MOST_IMAGES=0 MOST_ANSWERS=1", f"{CALLER}; two tools, a slow source", is_big=True)
 
 BETWEEN = "a chain between two threads, whose ends may go"
-holds("turns.pml", f"{SMALL} OUTER_THREADS MOST_ANSWERS=1", BETWEEN)
-holds("turns.pml", "TOOLS=1 CAP=1 OUTER_THREADS MOST_ANSWERS=1", f"{BETWEEN}, step by step", is_big=True)
-holds("turns.pml", f"{TWO} OUTER_THREADS MOST_ANSWERS=1", BETWEEN, is_big=True)
+holds("io_loop.pml", f"{SMALL} OUTER_THREADS MOST_ANSWERS=1", BETWEEN)
+holds("io_loop.pml", "TOOLS=1 CAP=1 OUTER_THREADS MOST_ANSWERS=1", f"{BETWEEN}, step by step", is_big=True)
+holds("io_loop.pml", f"{TWO} OUTER_THREADS MOST_ANSWERS=1", BETWEEN, is_big=True)
 
-edit("turns.pml", f"{SMALL} M_NO_WAKE_AT_HOME_BEFORE_ROOM", "the caller isn't woken at home",
+edit("io_loop.pml", f"{SMALL} M_NO_WAKE_AT_HOME_BEFORE_ROOM", "the caller isn't woken at home",
      "wakers.rt, SenderWaker::sleep: without self.wake_home()",
      caught="pnm_flow_tests, wakes_its_home_before_it_sleeps")
-edit("turns.pml", f"{SMALL} M_NO_WAKE_BEFORE_TAKING", "no wake before the source may read",
-     "turns.rt, wake_before_taking: without feeder.wake_receiver()")
-edit("turns.pml", f"{SMALL} UNASSERTED M_NO_WAKE_BEFORE_TAKING", "the same, by the sleep that it makes last",
-     "turns.rt, wake_before_taking: without feeder.wake_receiver()", is_big=True)
-edit("turns.pml", f"{SMALL} M_READS_BEFORE_THE_RESULT", "the source may read before a result is taken",
-     "turns.rt, may_feed: !feeder.is_over() alone", is_big=True)
-edit("turns.pml", f"{SMALL} M_WAITS_FOR_ROOM_ALONE", "the caller sleeps at the first ring alone",
-     "turns.rt, wait: feeder.wait(rt) always", is_big=True)
-edit("turns.pml", f"{SMALL} M_WAITS_FOR_RESULTS_ALONE", "the caller sleeps at the last ring alone",
-     "turns.rt, wait: collector.wait(rt) always", is_big=True)
-edit("turns.pml", f"{SMALL} M_NO_WAKE_BEFORE_INPUT", "no wake before a stage waits for input",
+edit("io_loop.pml", f"{SMALL} M_NO_WAKE_BEFORE_TAKING", "no wake before the source may read",
+     "io_loop.rt, wake_before_taking: without ingress.wake_receiver()")
+edit("io_loop.pml", f"{SMALL} UNASSERTED M_NO_WAKE_BEFORE_TAKING", "the same, by the sleep that it makes last",
+     "io_loop.rt, wake_before_taking: without ingress.wake_receiver()", is_big=True)
+edit("io_loop.pml", f"{SMALL} M_READS_BEFORE_THE_RESULT", "the source may read before a result is taken",
+     "io_loop.rt, may_send: !ingress.is_over() alone", is_big=True)
+edit("io_loop.pml", f"{SMALL} M_WAITS_FOR_ROOM_ALONE", "the caller sleeps at the first ring alone",
+     "io_loop.rt, wait: ingress.wait(rt) always", is_big=True)
+edit("io_loop.pml", f"{SMALL} M_WAITS_FOR_RESULTS_ALONE", "the caller sleeps at the last ring alone",
+     "io_loop.rt, wait: egress.wait(rt) always", is_big=True)
+edit("io_loop.pml", f"{SMALL} M_NO_WAKE_BEFORE_INPUT", "no wake before a stage waits for input",
      "stage.rt, wait: without output.wake_receiver()",
      caught="scripts/waits.py, pamflip -tb and a ring of 8")
-edit("turns.pml", f"{SMALL} M_NO_WAKE_AT_PUSH", "no wake after a message, in a run",
+edit("io_loop.pml", f"{SMALL} M_NO_WAKE_AT_PUSH", "no wake after a message, in a run",
      "sender.rt, Sender::send_packet_reserved: without self.wake_receiver()", is_big=True)
-edit("turns.pml", f"{SMALL} M_NO_WAKE_AT_POP", "no wake after a message was taken, in a run",
+edit("io_loop.pml", f"{SMALL} M_NO_WAKE_AT_POP", "no wake after a message was taken, in a run",
      "receiver.rt, Receiver::receive_known: without self.waker.wake_sender()", is_big=True)
-edit("turns.pml", f"{SMALL} M_NO_WAKE_BEFORE_ROOM", "no wake before the wait for room, in a run",
+edit("io_loop.pml", f"{SMALL} M_NO_WAKE_BEFORE_ROOM", "no wake before the wait for room, in a run",
      "sender.rt, Sender::wait: without self.wake_receiver()", is_big=True)
-edit("turns.pml", f"{SMALL} M_NO_STOP_AT_REFUSAL", "a tool that refuses sends no Stop",
+edit("io_loop.pml", f"{SMALL} M_NO_STOP_AT_REFUSAL", "a tool that refuses sends no Stop",
      "stage.rt, break_off: without output.send(Stop)", is_big=True)
-edit("turns.pml", f"{SMALL} M_NO_DRAIN_AT_REFUSAL", "a tool that refuses doesn't drain its input",
+edit("io_loop.pml", f"{SMALL} M_NO_DRAIN_AT_REFUSAL", "a tool that refuses doesn't drain its input",
      "stage.rt, break_off: without input.drain_after(..)", is_big=True)
-edit("turns.pml", f"{SMALL} OUTER_THREADS M_NO_DRAIN_WHERE_OUTPUT_IS_GONE",
+edit("io_loop.pml", f"{SMALL} OUTER_THREADS M_NO_DRAIN_WHERE_OUTPUT_IS_GONE",
      "a stage whose output is gone doesn't drain its input",
      "stage.rt, pass_all: without input.drain_after(..)", is_big=True)
-edit("turns.pml", f"{SMALL} OUTER_THREADS M_NO_STOP_WHERE_INPUT_IS_GONE", "a stage whose input is gone sends no Stop",
+edit("io_loop.pml", f"{SMALL} OUTER_THREADS M_NO_STOP_WHERE_INPUT_IS_GONE", "a stage whose input is gone sends no Stop",
      "stage.rt, pass_all: without output.send(Stop) where has_next is false", is_big=True)
 
 # ---- lanes -----------------------------------------------------------------------------------------------------------
@@ -229,11 +229,11 @@ edit("starts.pml", "COARSE REFUSED=3 M_KEEPS_ENDS_AT_NO_START", "a task that isn
      "branches.rt, run_both: the tasks are kept until the threads are joined")
 edit("starts.pml", "OVER_LANES COARSE REFUSED=4 M_KEEPS_ENDS_AT_NO_START",
      "what isn't begun after a refusal keeps its ends",
-     "tool_run.rt, Listener::run: beside is kept until the threads are joined", is_big=True)
-edit("starts.pml", "OVER_LANES COARSE REFUSED=4 M_KEEPS_ANNOUNCER", "an Announcer that isn't begun keeps its end",
+     "tool_run.rt, Waiter::run: beside is kept until the threads are joined", is_big=True)
+edit("starts.pml", "OVER_LANES COARSE REFUSED=4 M_KEEPS_NOTIFIER", "a Notifier that isn't begun keeps its end",
      "branches.rt, run_both: the second task is kept until the threads are joined")
 edit("starts.pml", "OVER_LANES COARSE M_NO_ANNOUNCEMENT", "nothing is announced",
-     "tool_run.rt, Announcer::run: without tells.send(..)", is_big=True)
+     "tool_run.rt, Notifier::run: without notify.send(..)", is_big=True)
 edit("starts.pml", "COARSE REFUSED=2 M_NO_WAKE_AT_RECEIVER_DROP", "a receiving end that isn't taken wakes nobody",
      "wakers.rt, drop of ReceiverWaker: without self.wake_sender()", is_big=True)
 edit("starts.pml", "COARSE REFUSED=2 M_NO_WAKE_AT_SENDER_DROP", "a sending end that isn't taken wakes nobody",

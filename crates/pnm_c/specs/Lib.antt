@@ -1,2 +1,2 @@
 pub mod HandedOut
-pub mod Told
+pub mod Reports

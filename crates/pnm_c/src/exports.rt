@@ -1,8 +1,8 @@
 //! The functions that C calls.
 
 ghost use Rattle.std.specs.Prelude.{◌≡◌};
-ghost use Rattle.pnm_memory.specs.Answers.{IsTold};
-ghost use Rattle.pnm_c.specs.Told.{IsCodeOf, IsToldNew};
+ghost use Rattle.pnm_memory.specs.CallAnswers.{IsReported};
+ghost use Rattle.pnm_c.specs.Reports.{IsCodeOf, IsReportedNew};
 
 use crate::bytes::{Bytes, hand_out};
 use pnm_memory::{Answer, check, run_into, run_new};
@@ -29,7 +29,7 @@ pub extern "C" fn pnm_c_run(
     answer: &mut Answer,
 ) -> u32
     ensures code { result ≡ answer.new.code }
-    ensures told { IsTold chain.now form input.now room.old room.new answer.new }
+    ensures reported { IsReported chain.now form input.now room.old room.new answer.new }
 {
     *answer = run_into(alloc, chain, form, input, room);
     answer.code
@@ -46,7 +46,7 @@ pub extern "C" fn pnm_c_run_new(
     answer: &mut Answer,
 ) -> u32
     ensures code { result ≡ answer.new.code }
-    ensures told { IsToldNew chain.now form input.now results.new answer.new }
+    ensures reported { IsReportedNew chain.now form input.now results.new answer.new }
 {
     let made = run_new(alloc, chain, form, input);
     *answer = made.answer;

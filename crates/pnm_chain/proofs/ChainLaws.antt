@@ -14,7 +14,7 @@ use Rattle.pnm_chain.specs.declared.chain_text.ChainKind.{ChainKind}
 use Rattle.pnm_chain.specs.declared.chain_text.ChainKind.TheVariants.{Empty, TooLong, TooMany}
 use Rattle.pnm_chain.specs.declared.options.ToolName.{ToolName}
 use Rattle.pnm_chain.specs.Options.{tool_named}
-use Rattle.pnm_chain.specs.Items.{items_of, meant_by}
+use Rattle.pnm_chain.specs.StageWords.{items_of, meant_by}
 use Rattle.pnm_chain.specs.ChainText.{SpellsTool, SpellTools, SpellsChain, stage_texts, named_fault, words_fault, stage_fault, fault_from, whole_fault}
 use Rattle.pnm_chain.specs.ChainText.{chain_fault_of, IsOneChainOrOneFault}
 use Rattle.pnm_chain.proofs.ItemLaws.{items_mean, meaning_has_no_fault}

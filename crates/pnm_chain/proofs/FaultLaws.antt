@@ -11,8 +11,8 @@ use Rattle.pnm_chain.specs.declared.chain_text.ChainKind.TheVariants.{Empty, Too
 use Rattle.pnm_chain.specs.declared.options.ToolName.{ToolName}
 use Rattle.pnm_chain.specs.declared.options.ToolOption.{ToolOption}
 use Rattle.pnm_chain.specs.Options.{tool_named, wants_value, takes_value, most_arguments, takes_argument}
-use Rattle.pnm_chain.specs.Items.{Item, Argument, Given, Unknown, items_of, arguments_of, is_there, value_fault, is_conflict, is_missing, item_fault}
-use Rattle.pnm_chain.specs.Items.{fault_after}
+use Rattle.pnm_chain.specs.StageWords.{Item, Argument, Given, Unknown, items_of, arguments_of, is_there, value_fault, is_conflict, is_missing, item_fault}
+use Rattle.pnm_chain.specs.StageWords.{fault_after}
 use Rattle.pnm_chain.specs.ChainText.{stage_texts, named_fault, words_fault, stage_fault, fault_from, chain_fault_of, is_of_stage, IsPlaced}
 use Rattle.pnm_chain.proofs.ItemLaws.{argument_by, option_by, value_by, missing_by, end_by, after_by, fault_after-cons, fault_after-nil}
 use Rattle.pnm_chain.proofs.ChainLaws.{from_by, fault_from-cons, fault_from-nil, chain_fault_by, chain_fault_is}

@@ -14,8 +14,8 @@ use Rattle.pnm_chain.specs.declared.chain_text.ChainKind.TheVariants.{BadValue, 
 use Rattle.pnm_chain.specs.declared.options.ToolName.{ToolName}
 use Rattle.pnm_chain.specs.declared.options.ToolOption.{ToolOption}
 use Rattle.pnm_chain.specs.Options.{most_arguments, takes_argument, takes_value, wants_value, slot_of, excludes}
-use Rattle.pnm_chain.specs.Items.{Item, Argument, Given, Unknown, arguments_of, is_there, option_value, options_of, value_fault, IsFormed, is_conflict}
-use Rattle.pnm_chain.specs.Items.{is_missing, Means, meant_by, item_fault, end_fault, fault_after}
+use Rattle.pnm_chain.specs.StageWords.{Item, Argument, Given, Unknown, arguments_of, is_there, option_value, options_of, value_fault, IsFormed, is_conflict}
+use Rattle.pnm_chain.specs.StageWords.{is_missing, Means, meant_by, item_fault, end_fault, fault_after}
 
 -- ---- arguments of items that follow others
 

@@ -15,7 +15,7 @@ use Rattle.pnm_image.specs.Texts.{is_blank, is_white, begins_in_word, onto_first
 use Rattle.pnm_image.proofs.Words.{words_by, words-cons, words-nil}
 use Rattle.pnm_tools.specs.declared.tool.Tool.{Tool}
 use Rattle.pnm_tools.specs.Cut.{IsEdge, IsLawfulAxis}
-use Rattle.pnm_tools.specs.Limits.{IsExtent}
+use Rattle.pnm_tools.specs.ToolLimits.{IsExtent}
 use Rattle.pnm_tools.specs.Chains.{AreLawfulTools, IsChain}
 use Rattle.pnm_tools.specs.Tools.{IsLawfulTool}
 use Rattle.pnm_chain.specs.declared.options.ToolName.{ToolName}
@@ -24,8 +24,8 @@ use Rattle.pnm_chain.specs.declared.options.ToolOption.{ToolOption}
 use Rattle.pnm_chain.specs.declared.options.ToolOption.TheVariants.{Left, Right, Top, Bottom, Width, Height, TupleType, XScale, YScale, Way}
 use Rattle.pnm_chain.specs.Options.{option_named, wants_value, takes_value, slot_of, excludes, takes_argument, most_arguments, is_numeral, spells_number}
 use Rattle.pnm_chain.specs.Options.{factor_by, spells_offset, offset_value, begins_with_dash, without_dash}
-use Rattle.pnm_chain.specs.Items.{Item, Argument, Given, Unknown, without_dashes, name_in, value_in, takes_next, given_as, item_of, items_of, arguments_of}
-use Rattle.pnm_chain.specs.Items.{option_value, meant_by, IsFormed, is_conflict, is_missing}
+use Rattle.pnm_chain.specs.StageWords.{Item, Argument, Given, Unknown, without_dashes, name_in, value_in, takes_next, given_as, item_of, items_of, arguments_of}
+use Rattle.pnm_chain.specs.StageWords.{option_value, meant_by, IsFormed, is_conflict, is_missing}
 use Rattle.pnm_chain.specs.ChainText.{SpellsTool, SpellTools, SpellsChain, stage_texts}
 use Rattle.pnm_tools.specs.declared.limits.TheConstants.{MAX_EXTENT, MAX_TOOLS}
 

@@ -10,7 +10,7 @@ use Rattle.pnm_chain.specs.declared.chain_text.ChainKind.TheVariants.{Empty, Too
 use Rattle.pnm_chain.specs.declared.chain_text.ChainKind.TheVariants.{UnknownOption, MissingValue, BadValue, Conflict}
 use Rattle.pnm_chain.specs.declared.chain_text.ChainKind.TheVariants.{MissingArgument, ExtraArgument}
 use Rattle.pnm_chain.specs.declared.options.ToolName.TheVariants.{Cut, Channel, Enlarge, Flip}
-use Rattle.pnm_chain.specs.Items.{items_of, meant_by}
+use Rattle.pnm_chain.specs.StageWords.{items_of, meant_by}
 use Rattle.pnm_chain.specs.ChainText.{chain_fault_of}
 
 abbrev pub at_stage : ℕ → ChainKind → Option ChainFault

@@ -13,7 +13,7 @@ use Rattle.pnm_chain.specs.declared.chain_text.ChainKind.TheVariants.{UnknownOpt
 use Rattle.pnm_chain.specs.declared.chain_text.ChainKind.TheVariants.{MissingArgument, ExtraArgument, Memory}
 use Rattle.pnm_chain.specs.declared.options.ToolName.{ToolName}
 use Rattle.pnm_chain.specs.Options.{tool_named}
-use Rattle.pnm_chain.specs.Items.{items_of, Means, fault_after}
+use Rattle.pnm_chain.specs.StageWords.{items_of, Means, fault_after}
 use Rattle.pnm_tools.specs.Chains.{IsChain}
 
 -- ---- the grammar

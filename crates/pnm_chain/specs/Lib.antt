@@ -1,5 +1,5 @@
 pub mod Options
-pub mod Items
+pub mod StageWords
 pub mod ChainText
 pub mod Settings
 pub mod ChainExamples

@@ -14,7 +14,7 @@ use Rattle.pnm_chain.specs.declared.options.ToolOption.TheVariants.{Left, Right,
 use Rattle.pnm_chain.specs.declared.options.ToolOption.TheVariants.{XScale, YScale, Way}
 use Rattle.pnm_chain.specs.declared.settings.Settings.{Settings}
 use Rattle.pnm_chain.specs.Options.{Said, offset_value, arguments_taken, most_arguments, takes_argument}
-use Rattle.pnm_chain.specs.Items.{Item, Argument, Given, Unknown, said_of, items_of, fault_after}
+use Rattle.pnm_chain.specs.StageWords.{Item, Argument, Given, Unknown, said_of, items_of, fault_after}
 use Rattle.pnm_chain.specs.ChainText.{SpellTools, fault_from}
 
 -- ---- items

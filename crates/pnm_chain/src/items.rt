@@ -2,7 +2,7 @@
 
 ghost use Rattle.std.specs.Prelude.{◌≡◌, ◌<◌, ◌∷◌, [], IfSome, MatchOption, length};
 ghost use Rattle.pnm_image.specs.Texts.{words};
-ghost use Rattle.pnm_chain.specs.Items.{items_of, name_in, value_in};
+ghost use Rattle.pnm_chain.specs.StageWords.{items_of, name_in, value_in};
 ghost use Rattle.pnm_chain.specs.Options.{without_dash};
 ghost use Rattle.pnm_chain.specs.Settings.{item_read, value_read};
 

@@ -9,8 +9,8 @@ ghost use Rattle.pnm_chain.specs.Options.{factor_by, has_scale, has_three, offse
 ghost use Rattle.pnm_chain.specs.Options.{tool_rule};
 ghost use Rattle.pnm_chain.specs.declared.chain_text.ChainKind.TheVariants.{BadValue, Memory};
 ghost use Rattle.pnm_chain.specs.declared.options.ToolName.TheVariants.{Channel};
-ghost use Rattle.pnm_chain.specs.Items.{end_fault, item_fault, meant_by, value_fault};
-ghost use Rattle.pnm_chain.specs.Items.{Item as ItemSaid};
+ghost use Rattle.pnm_chain.specs.StageWords.{end_fault, item_fault, meant_by, value_fault};
+ghost use Rattle.pnm_chain.specs.StageWords.{Item as ItemSaid};
 ghost use Rattle.pnm_chain.specs.ChainText.{IsRefusal};
 ghost use Rattle.pnm_chain.specs.Settings.{AreSettingsOf, AreTaken, NowSay, argument_fault, has_option, item_read};
 ghost use Rattle.pnm_chain.specs.Settings.{said_by, value_read, with_number, with_option};

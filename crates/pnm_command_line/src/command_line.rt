@@ -56,7 +56,7 @@ pnmpipe-explain CHAIN < FILE says what is wrong with a chain or an input.";
 pub struct CommandLine<'a> {
     /// The text of the chain.
     pub chain: &'a str,
-    /// How many messages a ring holds.
+    /// How many packets a ring holds.
     pub ring: u16,
     /// How many threads each row-wise tool works in.
     pub lanes: u8,

@@ -7,8 +7,8 @@ ghost use Rattle.pnm_command_line.specs.CommandLine.{AsksForHelp, AsksForVersion
 ghost use Rattle.pnm_command_line.specs.NamedRuns.{HasRunTools, HasRunWords};
 ghost use Rattle.pnm_serial.specs.Jobs.{job_of};
 ghost use Rattle.pnm_serial.specs.Runs.{change};
-ghost use Rattle.pnm_lanes.specs.Limits.{IsLaneCount};
-ghost use Rattle.pnm_stages.specs.Limits.{IsRingCapacity};
+ghost use Rattle.pnm_lanes.specs.LaneLimits.{IsLaneCount};
+ghost use Rattle.pnm_stages.specs.RingLimits.{IsRingCapacity};
 ghost use Rattle.pnm_tools.specs.Chains.{IsChain};
 
 use crate::command_line::{CommandLineFault, VERSION_LINE, read_words};
@@ -97,7 +97,7 @@ pub fn command<
     }
 }
 
-/// Runs the tools over the input, with rings for `ring` messages between them and each row-wise tool over `lanes`
+/// Runs the tools over the input, with rings for `ring` packets between them and each row-wise tool over `lanes`
 /// lanes, writes the results in the form, and prints the run's fault. It has a stack frame of its own, and so has what
 /// reads the words, so that the latter takes no stack while the tools run.
 #[inline(never)]

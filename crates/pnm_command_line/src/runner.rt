@@ -1,11 +1,11 @@
 //! How the tools of a chain are run.
 
 ghost use Rattle.std.specs.Thread.{IsSync};
-ghost use Rattle.pnm_lanes.specs.Limits.{IsLaneCount};
+ghost use Rattle.pnm_lanes.specs.LaneLimits.{IsLaneCount};
 ghost use Rattle.pnm_command_line.specs.NamedRuns.{RunRelation};
 ghost use Rattle.pnm_serial.specs.Jobs.{job_of};
 ghost use Rattle.pnm_serial.specs.Runs.{change};
-ghost use Rattle.pnm_stages.specs.Limits.{IsRingCapacity};
+ghost use Rattle.pnm_stages.specs.RingLimits.{IsRingCapacity};
 ghost use Rattle.pnm_tools.specs.Chains.{IsChain};
 
 use pnm_image::{BytesIn, BytesOut, Form};

@@ -13,13 +13,13 @@ use Rattle.pnm_image.specs.declared.place.Place.TheVariants.{Between, Inside, Af
 use Rattle.pnm_image.specs.Places.{IsLawfulFrom, place_after, place_of}
 use Rattle.pnm_image.proofs.Places.{place_of-append}
 use Rattle.pnm_tools.specs.declared.fault.ToolFault.{ToolFault}
-use Rattle.pnm_filters.specs.Pendings.{Pending, AllGiven, Waiting, Rows, RowsAndEnd, Nothing, OwesNothing}
+use Rattle.pnm_filters.specs.Pendings.{Pending, AllGiven, Waiting, Rows, RowsAndEnd, Nothing, NothingPending}
 use Rattle.pnm_tools.specs.declared.tool.Tool.{Tool}
 use Rattle.pnm_image.specs.declared.message.Ending.TheVariants.{More, BrokenOff}
 use Rattle.pnm_image.specs.Messages.{EndsBy}
 use Rattle.pnm_tools.specs.Answers.{AnswersInFull}
 use Rattle.pnm_tools.specs.Answering.{answers_from, rows_come}
-use Rattle.pnm_filters.specs.States.{Standing, standing, IsAt, IsReadyFor, KeepsNone, is_all_given, waiting_in}
+use Rattle.pnm_filters.specs.States.{StateValue, state_value, IsAt, IsReadyFor, KeepsNone, is_all_given, waiting_in}
 use Rattle.pnm_tools.specs.Answering.{IsAnswering}
 use Rattle.pnm_filters.specs.Steps.{IsGiven, GivesRows}
 use Rattle.pnm_tools.proofs.AtLaws.{StopsLast, lawful_stops, not_broken, answering_answers}
@@ -46,45 +46,45 @@ pub ended : {W : Type 0} (tool_at : W → Tool) (ready_for : W → Shape → Lis
     → IsGiven tool_at ready_for due kept old before new Nothing (Some EndsImage)
 ended tool_at ready_for due kept old new before ending none same gone = record {
   waits = ap (λ (p : Pending). waiting_in p (due old)) ending ∙ ap (λ (rows : List (List ℕ)). map Row rows ++ ImageEnd ∷ []) none;
-  told = (ap is_all_given ending, refl, omega arith);
+  none_due = (ap is_all_given ending, refl, omega arith);
   tool = same;
   ready = λ place rows keeps r. none_inside ready_for kept old new place rows (subst (KeepsNone kept old place) ending keeps) r;
   none = λ place keeps. none_kept kept old new place gone (subst (KeepsNone kept old place) ending keeps);
 }
 
--- nothing waited, and that is told
-none_told : {W : Type 0} (kept : W → List (List ℕ)) (work : W) (place : Place) (before : Pending) → OwesNothing before → KeepsNone kept work place before
+-- nothing waited, and the caller knows
+none_is_due : {W : Type 0} (kept : W → List (List ℕ)) (work : W) (place : Place) (before : Pending) → NothingPending before → KeepsNone kept work place before
     → KeepsNone kept work place AllGiven
-none_told kept work place AllGiven owes keeps = keeps
-none_told kept work place (Waiting message) owes keeps = absurd owes
-none_told kept work place Rows owes keeps = absurd owes
-none_told kept work place RowsAndEnd owes keeps = absurd owes
-none_told kept work Between Nothing owes keeps = keeps
-none_told kept work (Inside s y) Nothing owes keeps = keeps
-none_told kept work After Nothing owes keeps = keeps
+none_is_due kept work place AllGiven not_done keeps = keeps
+none_is_due kept work place (Waiting message) not_done keeps = absurd not_done
+none_is_due kept work place Rows not_done keeps = absurd not_done
+none_is_due kept work place RowsAndEnd not_done keeps = absurd not_done
+none_is_due kept work Between Nothing not_done keeps = keeps
+none_is_due kept work (Inside s y) Nothing not_done keeps = keeps
+none_is_due kept work After Nothing not_done keeps = keeps
 
-nothing_waits : (before : Pending) (due : List (List ℕ)) → OwesNothing before → waiting_in before due ≡ []
-nothing_waits AllGiven due owes = refl
-nothing_waits (Waiting message) due owes = absurd owes
-nothing_waits Rows due owes = absurd owes
-nothing_waits RowsAndEnd due owes = absurd owes
-nothing_waits Nothing due owes = refl
+nothing_waits : (before : Pending) (due : List (List ℕ)) → NothingPending before → waiting_in before due ≡ []
+nothing_waits AllGiven due not_done = refl
+nothing_waits (Waiting message) due not_done = absurd not_done
+nothing_waits Rows due not_done = absurd not_done
+nothing_waits RowsAndEnd due not_done = absurd not_done
+nothing_waits Nothing due not_done = refl
 
-pub told_given : {W : Type 0} (tool_at : W → Tool) (ready_for : W → Shape → List (List ℕ) → Type 0) (due kept : W → List (List ℕ)) (work : W)
-    (before after : Pending) → OwesNothing before → after ≡ AllGiven → IsGiven tool_at ready_for due kept work before work after None
-told_given tool_at ready_for due kept work before after owes told = record {
-  waits = nothing_waits before (due work) owes ∙ sym (ap (λ (p : Pending). waiting_in p (due work)) told);
-  told = told;
+pub none_due_given : {W : Type 0} (tool_at : W → Tool) (ready_for : W → Shape → List (List ℕ) → Type 0) (due kept : W → List (List ℕ)) (work : W)
+    (before after : Pending) → NothingPending before → after ≡ AllGiven → IsGiven tool_at ready_for due kept work before work after None
+none_due_given tool_at ready_for due kept work before after not_done none_due = record {
+  waits = nothing_waits before (due work) not_done ∙ sym (ap (λ (p : Pending). waiting_in p (due work)) none_due);
+  none_due = none_due;
   tool = refl;
   ready = λ place rows keeps r. r;
-  none = λ place keeps. subst (KeepsNone kept work place) (sym told) (none_told kept work place before owes keeps);
+  none = λ place keeps. subst (KeepsNone kept work place) (sym none_due) (none_is_due kept work place before not_done keeps);
 }
 
 -- the first of the messages that waited are given
-pub gave : {W : Type 0} (tool_at : W → Tool) (ready_for : W → Shape → List (List ℕ) → Type 0) (due kept : W → List (List ℕ)) (old : Standing W) (new : W)
+pub gave : {W : Type 0} (tool_at : W → Tool) (ready_for : W → Shape → List (List ℕ) → Type 0) (due kept : W → List (List ℕ)) (old : StateValue W) (new : W)
     (after : Pending) (fault : Option ToolFault) (p : Packet) (t : Tool) (l g : List Message)
     → IsAt tool_at ready_for due kept old t l g → IsGiven tool_at ready_for due kept old.work old.pending new after (Some p)
-    → IsAt tool_at ready_for due kept (standing new old.place after fault) t l (g ++ messages_in p)
+    → IsAt tool_at ready_for due kept (state_value new old.place after fault) t l (g ++ messages_in p)
 gave tool_at ready_for due kept old new after fault p t l g at gives =
     let rest : List Message = waiting_in after (due new) in
     let waits : IsAnswering t l (g ++ messages_in p) rest = record {
@@ -103,12 +103,12 @@ gave tool_at ready_for due kept old new after fault p t l g at gives =
     }
 
 -- none waited
-pub gave_all : {W : Type 0} (tool_at : W → Tool) (ready_for : W → Shape → List (List ℕ) → Type 0) (due kept : W → List (List ℕ)) (old : Standing W) (new : W)
+pub is_done : {W : Type 0} (tool_at : W → Tool) (ready_for : W → Shape → List (List ℕ) → Type 0) (due kept : W → List (List ℕ)) (old : StateValue W) (new : W)
     (after : Pending) (fault : Option ToolFault) (t : Tool) (l g : List Message)
     → IsAt tool_at ready_for due kept old t l g → IsGiven tool_at ready_for due kept old.work old.pending new after None
-    → IsAt tool_at ready_for due kept (standing new old.place after fault) t l g × AnswersInFull t l g
-gave_all tool_at ready_for due kept old new after fault t l g at gives =
-    let none : waiting_in after (due new) ≡ [] = ap (λ (p : Pending). waiting_in p (due new)) gives.told in
+    → IsAt tool_at ready_for due kept (state_value new old.place after fault) t l g × AnswersInFull t l g
+is_done tool_at ready_for due kept old new after fault t l g at gives =
+    let none : waiting_in after (due new) ≡ [] = ap (λ (p : Pending). waiting_in p (due new)) gives.none_due in
     let all : IsAnswering t l g [] = subst (IsAnswering t l g) (gives.waits ∙ none) at.answering in (
       record {
         tool = gives.tool ∙ at.tool;
@@ -164,27 +164,27 @@ alone RowsAndEnd due first rest some e none = absurd (none tt)
 alone Nothing due [] rest some e none = let no : ⊥ = omega (arith, some) in absurd no
 alone Nothing due (m ∷ first) rest some e none = absurd cc
 
-pub gave_stop : {W : Type 0} (tool_at : W → Tool) (ready_for : W → Shape → List (List ℕ) → Type 0) (due kept : W → List (List ℕ)) (old : Standing W) (new : W)
+pub gave_stop : {W : Type 0} (tool_at : W → Tool) (ready_for : W → Shape → List (List ℕ) → Type 0) (due kept : W → List (List ℕ)) (old : StateValue W) (new : W)
     (after : Pending) (p : Packet) (t : Tool) (l g : List Message)
     → IsAt tool_at ready_for due kept old t l g → IsGiven tool_at ready_for due kept old.work old.pending new after (Some p) → EndsBy BrokenOff l
     → messages_in p ≡ Stop ∷ []
 gave_stop tool_at ready_for due kept old new after p t l g at gives ends =
     let stops = lawful_stops Between l at.answering.lawful in
-    let last = alone old.pending (due old.work) (messages_in p) (waiting_in after (due new)) gives.told.2 gives.waits
+    let last = alone old.pending (due old.work) (messages_in p) (waiting_in after (due new)) gives.none_due.2 gives.waits
     (λ rows. no_rows_after kept old.work old.place old.pending rows at.none (at.place ∙ stopped_after l stops ends)) in
     last.1 ∙ ap (λ (m : Message). m ∷ []) (stop_waits t l g last.0 (subst (IsAnswering t l g) last.2 at.answering) stops ends)
 
 -- ---- whether one waits or none
 
-pub given_by : {W : Type 0} (tool_at : W → Tool) (ready_for : W → Shape → List (List ℕ) → Type 0) (due kept : W → List (List ℕ)) (old : Standing W) (new : W)
+pub given_by : {W : Type 0} (tool_at : W → Tool) (ready_for : W → Shape → List (List ℕ) → Type 0) (due kept : W → List (List ℕ)) (old : StateValue W) (new : W)
     (after : Pending) (fault : Option ToolFault) (given : Option Packet)
     → IsGiven tool_at ready_for due kept old.work old.pending new after given
     → IfSome given (λ p. (t : Tool) (l g : List Message) → IsAt tool_at ready_for due kept old t l g
-    → IsAt tool_at ready_for due kept (standing new old.place after fault) t l (g ++ messages_in p))
+    → IsAt tool_at ready_for due kept (state_value new old.place after fault) t l (g ++ messages_in p))
 given_by tool_at ready_for due kept old new after fault None gives = tt
 given_by tool_at ready_for due kept old new after fault (Some p) gives = λ t l g at. gave tool_at ready_for due kept old new after fault p t l g at gives
 
-pub stop_alone_by : {W : Type 0} (tool_at : W → Tool) (ready_for : W → Shape → List (List ℕ) → Type 0) (due kept : W → List (List ℕ)) (old : Standing W)
+pub stop_alone_by : {W : Type 0} (tool_at : W → Tool) (ready_for : W → Shape → List (List ℕ) → Type 0) (due kept : W → List (List ℕ)) (old : StateValue W)
     (new : W) (after : Pending) (given : Option Packet)
     → IsGiven tool_at ready_for due kept old.work old.pending new after given
     → IfSome given (λ p. (t : Tool) (l g : List Message) → IsAt tool_at ready_for due kept old t l g → EndsBy BrokenOff l → messages_in p ≡ Stop ∷ [])
@@ -192,15 +192,15 @@ stop_alone_by tool_at ready_for due kept old new after None gives = tt
 stop_alone_by tool_at ready_for due kept old new after (Some p) gives = λ t l g at ends. gave_stop tool_at ready_for due kept old new after p t l g at gives
     ends
 
-pub full_by : {W : Type 0} (tool_at : W → Tool) (ready_for : W → Shape → List (List ℕ) → Type 0) (due kept : W → List (List ℕ)) (old : Standing W) (new : W)
+pub full_by : {W : Type 0} (tool_at : W → Tool) (ready_for : W → Shape → List (List ℕ) → Type 0) (due kept : W → List (List ℕ)) (old : StateValue W) (new : W)
     (after : Pending) (fault : Option ToolFault) (given : Option Packet)
     → IsGiven tool_at ready_for due kept old.work old.pending new after given
     → IfNone given
     ((is_all_given after ≡ true)
     × ((t : Tool) (l g : List Message) → IsAt tool_at ready_for due kept old t l g
-    → IsAt tool_at ready_for due kept (standing new old.place after fault) t l g × AnswersInFull t l g))
+    → IsAt tool_at ready_for due kept (state_value new old.place after fault) t l g × AnswersInFull t l g))
 full_by tool_at ready_for due kept old new after fault None gives =
-    (ap is_all_given gives.told, λ t l g at. gave_all tool_at ready_for due kept old new after fault t l g at gives)
+    (ap is_all_given gives.none_due, λ t l g at. is_done tool_at ready_for due kept old new after fault t l g at gives)
 full_by tool_at ready_for due kept old new after fault (Some p) gives = tt
 
 -- ---- want of memory
@@ -226,7 +226,7 @@ more_of_prefix (m ∷ []) [] e = e
 more_of_prefix (m ∷ []) (n ∷ b) e = e.0
 more_of_prefix (m ∷ n ∷ a) b e = (e.0, more_of_prefix (n ∷ a) b e.1)
 
-pub wanted_memory : {W : Type 0} (tool_at : W → Tool) (ready_for : W → Shape → List (List ℕ) → Type 0) (due kept : W → List (List ℕ)) (old : Standing W)
+pub wanted_memory : {W : Type 0} (tool_at : W → Tool) (ready_for : W → Shape → List (List ℕ) → Type 0) (due kept : W → List (List ℕ)) (old : StateValue W)
     (t : Tool) (l g : List Message)
     → IsAt tool_at ready_for due kept old t l g → GivesRows old.pending → EndsBy More g
 wanted_memory tool_at ready_for due kept old t l g at rows =

@@ -14,7 +14,7 @@ use Rattle.pnm_filters.specs.Pendings.{Pending, AllGiven, Waiting, Rows, RowsAnd
 use Rattle.pnm_tools.specs.declared.tool.Tool.{Tool}
 use Rattle.pnm_tools.specs.Answers.{Begins, RefusesHead, Judges}
 use Rattle.pnm_tools.specs.Answering.{answers_at, rows_after, rows_come}
-use Rattle.pnm_filters.specs.States.{Standing, standing, IsAt, IsReadyFor, IsStanding, KeepsNone, is_all_given, waiting_in}
+use Rattle.pnm_filters.specs.States.{StateValue, state_value, IsAt, IsReadyFor, IsSoundState, KeepsNone, is_all_given, waiting_in}
 use Rattle.pnm_tools.specs.Answering.{IsAnswering}
 use Rattle.pnm_filters.specs.Steps.{IsAccepted, IsGiven, IsRefused}
 use Rattle.pnm_tools.proofs.AtLaws.{answering_answers}
@@ -28,12 +28,12 @@ rows_more rows [] m = refl
 rows_more rows (n ∷ l) m = rows_more (rows_after rows n) l m
 
 -- where all was given nothing waits
-told : (pending : Pending) → is_all_given pending ≡ true → pending ≡ AllGiven
-told AllGiven e = refl
-told (Waiting message) e = absurd cc
-told Rows e = absurd cc
-told RowsAndEnd e = absurd cc
-told Nothing e = absurd cc
+none_due : (pending : Pending) → is_all_given pending ≡ true → pending ≡ AllGiven
+none_due AllGiven e = refl
+none_due (Waiting message) e = absurd cc
+none_due Rows e = absurd cc
+none_due RowsAndEnd e = absurd cc
+none_due Nothing e = absurd cc
 
 -- a message more was accepted, and its answer waits
 answering_more : (t : Tool) (l g before after : List Message) (m : Message) → IsAnswering t l g before → before ≡ [] → Accepts (place_of Between l) m
@@ -47,10 +47,10 @@ answering_more t l g before after m a none accepts begins answer =
           ∙ ap (λ (x : List Message). g ++ x) (append-nil last ∙ sym answer);
     }
 
-pub fed : {W : Type 0} (tool_at : W → Tool) (ready_for : W → Shape → List (List ℕ) → Type 0) (due kept : W → List (List ℕ)) (old : Standing W) (new : W)
+pub fed : {W : Type 0} (tool_at : W → Tool) (ready_for : W → Shape → List (List ℕ) → Type 0) (due kept : W → List (List ℕ)) (old : StateValue W) (new : W)
     (to : Place) (m : Message) (pending : Pending) (fault : Option ToolFault) (t : Tool) (l g : List Message)
     → IsAt tool_at ready_for due kept old t l g → IsAccepted tool_at ready_for due kept (is_all_given old.pending) old.work old.place m new to pending
-    → IsAt tool_at ready_for due kept (standing new to pending fault) t (l ++ m ∷ []) g
+    → IsAt tool_at ready_for due kept (state_value new to pending fault) t (l ++ m ∷ []) g
 fed tool_at ready_for due kept old new to m pending fault t l g at taken =
     let come : List (List ℕ) = rows_come [] l in
     let accepts : Accepts (place_of Between l) m = subst (λ (p : Place). Accepts p m) at.place taken.is_due.1 in
@@ -58,36 +58,36 @@ fed tool_at ready_for due kept old new to m pending fault t l g at taken =
     let answer : waiting_in pending (due new) ≡ answers_at t (place_of Between l) come m = taken.answer come at.ready
     ∙ ap (λ (k : Tool). answers_at k old.place come m) at.tool ∙ ap (λ (p : Place). answers_at t p come m) at.place in
     let more = answering_more t l g (waiting_in old.pending (due old.work)) (waiting_in pending (due new)) m at.answering
-    (ap (λ (p : Pending). waiting_in p (due old.work)) (told old.pending taken.is_due.0)) accepts begins answer in
+    (ap (λ (p : Pending). waiting_in p (due old.work)) (none_due old.pending taken.is_due.0)) accepts begins answer in
     record {
       tool = taken.tool ∙ at.tool;
       options = at.options;
       answering = more;
       place = taken.place ∙ ap (λ (p : Place). place_after p m) at.place ∙ sym (place_of-append Between l (m ∷ []));
       ready = subst (IsReadyFor ready_for new to) (sym (rows_more [] l m)) (taken.ready come at.ready);
-      none = taken.none (subst (KeepsNone kept old.work old.place) (told old.pending taken.is_due.0) at.none);
+      none = taken.none (subst (KeepsNone kept old.work old.place) (none_due old.pending taken.is_due.0) at.none);
       answers = answering_answers t (l ++ m ∷ []) g (waiting_in pending (due new)) (tool_answers_images t at.options) more;
     }
 
 -- a state stays sound, as a message is accepted
 pub sound_fed : {W : Type 0} (tool_at : W → Tool) (ready_for : W → Shape → List (List ℕ) → Type 0) (due kept : W → List (List ℕ)) (old new : W)
-    (from to : Place) (m : Message) (before after : Pending) (fault : Option ToolFault) → fault ≡ None → IsStanding ready_for kept old from before fault
-    → IsAccepted tool_at ready_for due kept (is_all_given before) old from m new to after → IsStanding ready_for kept new to after fault
+    (from to : Place) (m : Message) (before after : Pending) (fault : Option ToolFault) → fault ≡ None → IsSoundState ready_for kept old from before fault
+    → IsAccepted tool_at ready_for due kept (is_all_given before) old from m new to after → IsSoundState ready_for kept new to after fault
 sound_fed tool_at ready_for due kept old new from to m before after fault none is taken =
-    let sound : IsStanding ready_for kept old from before None = subst (IsStanding ready_for kept old from before) none is in
-    subst (IsStanding ready_for kept new to after) (sym none) (
+    let sound : IsSoundState ready_for kept old from before None = subst (IsSoundState ready_for kept old from before) none is in
+    subst (IsSoundState ready_for kept new to after) (sym none) (
       (rows_after sound.0.0 m, taken.ready sound.0.0 sound.0.1),
-      taken.none (subst (KeepsNone kept old from) (told before taken.is_due.0) sound.1),
+      taken.none (subst (KeepsNone kept old from) (none_due before taken.is_due.0) sound.1),
     )
 
 -- and as one is given
 pub sound_given : {W : Type 0} (tool_at : W → Tool) (ready_for : W → Shape → List (List ℕ) → Type 0) (due kept : W → List (List ℕ)) (old new : W)
     (place : Place) (given : Option Packet) (before after : Pending) (fault : Option ToolFault) → fault ≡ None
-    → IsStanding ready_for kept old place before fault
-    → IsGiven tool_at ready_for due kept old before new after given → IsStanding ready_for kept new place after fault
+    → IsSoundState ready_for kept old place before fault
+    → IsGiven tool_at ready_for due kept old before new after given → IsSoundState ready_for kept new place after fault
 sound_given tool_at ready_for due kept old new place given before after fault none is gave =
-    let sound : IsStanding ready_for kept old place before None = subst (IsStanding ready_for kept old place before) none is in
-    subst (IsStanding ready_for kept new place after) (sym none)
+    let sound : IsSoundState ready_for kept old place before None = subst (IsSoundState ready_for kept old place before) none is in
+    subst (IsSoundState ready_for kept new place after) (sym none)
     ((sound.0.0, gave.ready place sound.0.0 sound.1 sound.0.1), gave.none place sound.1)
 
 -- ---- a refusal comes where it should
@@ -113,7 +113,8 @@ refused_head all_given t l m TooLarge may (inr r) = absurd cc
 refused_head all_given t l m OutOfOrder may (inr r) = absurd cc
 refused_head all_given t l m Memory may (inr r) = (may, r.1)
 
-pub judged : {W : Type 0} (tool_at : W → Tool) (ready_for : W → Shape → List (List ℕ) → Type 0) (due kept : W → List (List ℕ)) (old : Standing W) (m : Message)
+pub judged : {W : Type 0} (tool_at : W → Tool) (ready_for : W → Shape → List (List ℕ) → Type 0) (due kept : W → List (List ℕ)) (old : StateValue W) (m
+    : Message)
     (fault : ToolFault) (t : Tool) (l g : List Message)
     → IsAt tool_at ready_for due kept old t l g → IsRefused tool_at (is_all_given old.pending) old.work old.place m fault
     → Judges (is_all_given old.pending) t l m (Err fault)

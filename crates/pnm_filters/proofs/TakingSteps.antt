@@ -19,10 +19,10 @@ use Rattle.pnm_tools.specs.Tools.{AreTaken, IsLawfulTool, row_answer}
 use Rattle.pnm_tools.proofs.AnsweringLaws.{answers_from-append}
 use Rattle.pnm_tools.proofs.AtLaws.{answering_answers}
 use Rattle.pnm_tools.proofs.ToolLaws.{tool_answers_images}
-use Rattle.pnm_filters.specs.declared.state.Owed.{Owed}
-use Rattle.pnm_filters.specs.declared.state.Owed.TheVariants.{Told, One, Rest, RestAndEnd, Untold}
-use Rattle.pnm_filters.specs.Pendings.{Pending, AllGiven, Rows, pending_of, is_told}
-use Rattle.pnm_filters.specs.States.{Standing, standing, IsAt, IsReadyFor, IsStanding, KeepsNone, is_all_given, waiting_in}
+use Rattle.pnm_filters.specs.declared.state.Phase.{Phase}
+use Rattle.pnm_filters.specs.declared.state.Phase.TheVariants.{Idle, One, Rest, RestAndEnd, Done}
+use Rattle.pnm_filters.specs.Pendings.{Pending, AllGiven, Rows, pending_of, is_idle}
+use Rattle.pnm_filters.specs.States.{StateValue, state_value, IsAt, IsReadyFor, IsSoundState, KeepsNone, is_all_given, waiting_in}
 use Rattle.pnm_filters.specs.Steps.{AreTakenRows}
 
 -- ---- messages that follow others
@@ -108,16 +108,16 @@ keeps_on tool_at ready_for due kept old new from to rows take =
     subst (λ (p : Place). KeepsNone kept new p Rows) (sym (stands_on tool_at ready_for due old new from to rows take)) tt
 
 -- a state that has given all took rows, and their answers wait
-pub taken_rows : {W : Type 0} (tool_at : W → Tool) (ready_for : W → Shape → List (List ℕ) → Type 0) (due kept : W → List (List ℕ)) (old : Standing W)
+pub taken_rows : {W : Type 0} (tool_at : W → Tool) (ready_for : W → Shape → List (List ℕ) → Type 0) (due kept : W → List (List ℕ)) (old : StateValue W)
     (new : W) (to : Place) (rows : List (List ℕ)) (fault : Option ToolFault) (t : Tool) (l g : List Message)
     → IsAt tool_at ready_for due kept old t l g → old.pending ≡ AllGiven → AreTakenRows tool_at ready_for due old.work old.place rows new to
-    → IsAt tool_at ready_for due kept (standing new to Rows fault) t (l ++ row_messages rows) g
-taken_rows tool_at ready_for due kept old new to rows fault t l g at told take =
+    → IsAt tool_at ready_for due kept (state_value new to Rows fault) t (l ++ row_messages rows) g
+taken_rows tool_at ready_for due kept old new to rows fault t l g at none_due take =
     let s : Shape = take.shape in
     let y : ℕ = take.y in
     let more : List Message = row_messages rows in
     let come : List (List ℕ) = rows_come [] l in
-    let given : IsAnswering t l g [] = subst (λ (p : Pending). IsAnswering t l g (waiting_in p (due old.work))) told at.answering in
+    let given : IsAnswering t l g [] = subst (λ (p : Pending). IsAnswering t l g (waiting_in p (due old.work))) none_due at.answering in
     let inside : place_of Between l ≡ Inside s y = sym at.place ∙ take.inside in
     let lawful : IsLawfulFrom (Inside s y) more = subst (λ (p : Place). IsLawfulFrom p more) take.inside take.lawful in
     let are : due new ≡ rows_answer t s y rows = subst (λ (k : Tool). due new ≡ rows_answer k s y rows) at.tool take.answers in
@@ -136,19 +136,19 @@ taken_rows tool_at ready_for due kept old new to rows fault t l g at told take =
     }
 
 -- they may come, by what was accepted
-pub rows_may_come : {W : Type 0} (tool_at : W → Tool) (ready_for : W → Shape → List (List ℕ) → Type 0) (due kept : W → List (List ℕ)) (old : Standing W)
+pub rows_may_come : {W : Type 0} (tool_at : W → Tool) (ready_for : W → Shape → List (List ℕ) → Type 0) (due kept : W → List (List ℕ)) (old : StateValue W)
     (rows : List (List ℕ)) (t : Tool) (l g : List Message) → IsAt tool_at ready_for due kept old t l g → old.pending ≡ AllGiven → 1 ≤ length rows
     → IsLawfulFrom old.place (row_messages rows) → RowsMayCome (is_all_given old.pending) l rows
-rows_may_come tool_at ready_for due kept old rows t l g at told some lawful =
-    (ap is_all_given told, some, subst (λ (p : Place). IsLawfulFrom p (row_messages rows)) at.place lawful)
+rows_may_come tool_at ready_for due kept old rows t l g at none_due some lawful =
+    (ap is_all_given none_due, some, subst (λ (p : Place). IsLawfulFrom p (row_messages rows)) at.place lawful)
 
--- where nothing is owed all was given
-pub owes_nothing : (owed : Owed) (waiting : Option Message) → is_told owed ≡ true → pending_of owed waiting ≡ AllGiven
-owes_nothing Told waiting e = refl
-owes_nothing One waiting e = absurd cc
-owes_nothing Rest waiting e = absurd cc
-owes_nothing RestAndEnd waiting e = absurd cc
-owes_nothing Untold waiting e = absurd cc
+-- where nothing is due all was given
+pub nothing_pending : (phase : Phase) (waiting : Option Message) → is_idle phase ≡ true → pending_of phase waiting ≡ AllGiven
+nothing_pending Idle waiting e = refl
+nothing_pending One waiting e = absurd cc
+nothing_pending Rest waiting e = absurd cc
+nothing_pending RestAndEnd waiting e = absurd cc
+nothing_pending Done waiting e = absurd cc
 
 pub no_fault_yet : (fault : Option ToolFault) → is_some fault ≡ false → fault ≡ None
 no_fault_yet None e = refl
@@ -157,13 +157,13 @@ no_fault_yet (Some fault) e = absurd cc
 -- a state stays sound
 pub stands_by : {W : Type 0} (tool_at : W → Tool) (ready_for : W → Shape → List (List ℕ) → Type 0) (due kept : W → List (List ℕ)) (old new : W)
     (from to : Place) (rows : List (List ℕ)) (pending : Pending) (fault : Option ToolFault)
-    → fault ≡ None → IsLawfulTool (tool_at old) × IsStanding ready_for kept old from pending fault
+    → fault ≡ None → IsLawfulTool (tool_at old) × IsSoundState ready_for kept old from pending fault
     → AreTakenRows tool_at ready_for due old from rows new to
-    → IsLawfulTool (tool_at new) × IsStanding ready_for kept new to Rows fault
+    → IsLawfulTool (tool_at new) × IsSoundState ready_for kept new to Rows fault
 stands_by {W = W} tool_at ready_for due kept old new from to rows pending fault none sound take =
-    let before : IsStanding ready_for kept old from pending None = subst (IsStanding ready_for kept old from pending) none sound.1 in
+    let before : IsSoundState ready_for kept old from pending None = subst (IsSoundState ready_for kept old from pending) none sound.1 in
     let come : List (List ℕ) = before.0.0 in
     let ready : IsReadyFor ready_for old (Inside take.shape take.y) come = subst (λ (p : Place). IsReadyFor ready_for old p come) take.inside before.0.1 in
-    let after : IsStanding ready_for kept new to Rows None =
+    let after : IsSoundState ready_for kept new to Rows None =
     ((come ++ rows, goes_on_ready tool_at ready_for due old new from to rows come take ready), keeps_on tool_at ready_for due kept old new from to rows take)
-    in (subst IsLawfulTool (sym take.tool) sound.0, subst (IsStanding ready_for kept new to Rows) (sym none) after)
+    in (subst IsLawfulTool (sym take.tool) sound.0, subst (IsSoundState ready_for kept new to Rows) (sym none) after)

@@ -1,11 +1,11 @@
 -- What a tool at work has still to give for the message that it accepted last.
 use Rattle.std.specs.Prelude.{Bool, true, false, Option, Some, None}
 use Rattle.pnm_image.specs.declared.message.Message.{Message}
-use Rattle.pnm_filters.specs.declared.state.Owed.{Owed}
-use Rattle.pnm_filters.specs.declared.state.Owed.TheVariants.{Told, One, Rest, RestAndEnd, Untold}
+use Rattle.pnm_filters.specs.declared.state.Phase.{Phase}
+use Rattle.pnm_filters.specs.declared.state.Phase.TheVariants.{Idle, One, Rest, RestAndEnd, Done}
 
--- nothing, and the caller was told so; a message; the rows that the tool still gives, and maybe the end of
--- the image; nothing, but the caller wasn't told so yet
+-- nothing, and the caller knows; a message; the rows that the tool still gives, and maybe the end of
+-- the image; nothing, but the caller doesn't know yet
 pub data Pending : Type 0 where
   AllGiven : Pending
   Waiting : Message → Pending
@@ -14,30 +14,30 @@ pub data Pending : Type 0 where
   Nothing : Pending
 
 -- no message waits, and no row could
-abbrev pub OwesNothing : Pending → Type 0
-OwesNothing AllGiven = Unit {0}
-OwesNothing (Waiting message) = ⊥
-OwesNothing Rows = ⊥
-OwesNothing RowsAndEnd = ⊥
-OwesNothing Nothing = Unit {0}
+abbrev pub NothingPending : Pending → Type 0
+NothingPending AllGiven = Unit {0}
+NothingPending (Waiting message) = ⊥
+NothingPending Rows = ⊥
+NothingPending RowsAndEnd = ⊥
+NothingPending Nothing = Unit {0}
 
--- what is owed, where this message waits
-abbrev pub pending_of : Owed → Option Message → Pending
-pending_of Told waiting = AllGiven
+-- what is due, where this message waits
+abbrev pub pending_of : Phase → Option Message → Pending
+pending_of Idle waiting = AllGiven
 pending_of One (Some message) = Waiting message
 pending_of One None = Nothing
 pending_of Rest waiting = Rows
 pending_of RestAndEnd waiting = RowsAndEnd
-pending_of Untold waiting = Nothing
+pending_of Done waiting = Nothing
 
--- what is owed once the message that waits was given: if none did, that is told
+-- what is due once the message that waits was given: if none did, the caller knows
 abbrev pub after_one : Option Message → Pending
 after_one None = AllGiven
 after_one (Some message) = Nothing
 
-abbrev pub is_told : Owed → Bool
-is_told Told = true
-is_told One = false
-is_told Rest = false
-is_told RestAndEnd = false
-is_told Untold = false
+abbrev pub is_idle : Phase → Bool
+is_idle Idle = true
+is_idle One = false
+is_idle Rest = false
+is_idle RestAndEnd = false
+is_idle Done = false

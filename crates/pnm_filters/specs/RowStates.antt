@@ -16,7 +16,7 @@ pub record IsRowWiseAt (s : RowState) (t : Tool) (l g : List Message) : Type 0 w
 -- the state of this tool before the first message
 pub record IsFreshLane (s : RowState) (t : Tool) : Type 0 where
   pub state : IsRowWiseAt s t [] []
-  pub told : is_all_given s.state.pending ≡ true
+  pub none_due : is_all_given s.state.pending ≡ true
   pub going : s.state.fault ≡ None
 
 -- the state of a row-wise tool in a lane, which takes nothing more once it has refused

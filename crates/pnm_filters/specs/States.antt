@@ -1,7 +1,6 @@
 -- The state of a tool at work: what it has accepted and given.
 use Rattle.std.specs.Prelude.{◌≡◌, ℕ, Bool, true, false, List, [], ◌∷◌, ◌++◌, map, length, Option, Some, None}
 use Rattle.pnm_image.specs.declared.shape.Shape.{Shape}
-use Rattle.pnm_image.specs.Heads.{IsWithinLimits}
 use Rattle.pnm_image.specs.declared.message.Message.{Message}
 use Rattle.pnm_image.specs.declared.message.Message.TheVariants.{Row, ImageEnd}
 use Rattle.pnm_image.specs.declared.place.Place.{Place}
@@ -18,15 +17,15 @@ use Rattle.pnm_tools.specs.Answers.{Answers}
 use Rattle.pnm_tools.specs.FusedFilters.{FilterAt}
 use Rattle.pnm_tools.specs.declared.fused_filter.FusedFilter.{FusedFilter}
 use Rattle.pnm_tools.specs.Answering.{IsAnswering, rows_come, rows_list}
-use Rattle.pnm_row_tools.specs.Keeping.{IsTable, cut_of, HasSpans, FlipsInRows, IsReversingRows}
+use Rattle.pnm_row_tools.specs.RowKeeping.{IsReadyForRows, HasTable, cut_of, HasSpans, FlipsInRows, IsReversingRows}
 use Rattle.pnm_geometry_tools.specs.Enlarging.{IsEnlarging}
 use Rattle.pnm_geometry_tools.specs.Keeping.{across_of, down_of, kept_rows, IsTransposing}
-use Rattle.pnm_row_tools.specs.Keeping.{reversed_due}
+use Rattle.pnm_row_tools.specs.RowKeeping.{reversed_due}
 use Rattle.pnm_geometry_tools.specs.Keeping.{IsTiling, enlarged_due, transposed_due, tiled_due}
 use Rattle.pnm_tools.specs.Channel.{HasPlanes}
-use Rattle.pnm_tools.specs.Depth.{nearest_sample}
-use Rattle.pnm_tools.specs.Invert.{inverted_sample}
-use Rattle.pnm_row_tools.specs.declared.samplewise.Table.{Table}
+use Rattle.pnm_tools.specs.Depth.{rescaled_by}
+use Rattle.pnm_tools.specs.Invert.{inverting}
+use Rattle.pnm_row_tools.specs.declared.by_row.ByRow.{ByRow}
 use Rattle.pnm_tools.specs.Tools.{IsLawfulTool}
 
 -- ---- whichever tool is at work
@@ -40,19 +39,20 @@ pub record Worker : Type 1 where
   pub ready : Shape → List (List ℕ) → Type 0
 
 -- a tool that makes rows of rows, and still gives those that it has made
-abbrev pub by_row : Tool → Option (List (List ℕ)) → (Shape → Type 0) → Worker
-by_row tool made ready = record { tool = tool; due = rows_list made; kept = rows_list made; ready = λ s rows. ready s }
-
--- a tool that changes each sample by itself is ready for rows of an image of this shape
-abbrev pub changes_samples : (ℕ → ℕ → ℕ) → Table → Shape → Type 0
-changes_samples changed table s = IsWithinLimits s × IsTable (changed s.maxval) s.maxval table
+abbrev pub by_row : {W : Type 0} → Tool → ByRow W → (W → Shape → Type 0) → Worker
+by_row tool w ready =
+    record {
+      tool = tool;
+      due = rows_list w.made;
+      kept = rows_list w.made;
+      ready = λ s rows. IsReadyForRows ready w.tool s rows;
+    }
 
 abbrev pub worker : AnyTool → Worker
-worker (Inverting w) = by_row Invert w.made (changes_samples inverted_sample w.tool.table)
-worker (Cutting w) = by_row (Cut (cut_of w.tool)) w.made (HasSpans w.tool)
-worker (Rescaling w) =
-    by_row (Depth w.tool.tool.maxval) w.made (changes_samples (nearest_sample w.tool.tool.maxval) w.tool.table)
-worker (Picking w) = by_row (Channel w.tool) w.made (HasPlanes w.tool)
+worker (Inverting w) = by_row Invert w (HasTable (λ inverter. inverting))
+worker (Cutting w) = by_row (Cut (cut_of w.tool)) w HasSpans
+worker (Rescaling w) = by_row (Depth w.tool.tool.maxval) w (HasTable (λ rescaler. rescaled_by rescaler.maxval))
+worker (Picking w) = by_row (Channel w.tool) w HasPlanes
 worker (Enlarging w) =
     record {
       tool = Enlarge (across_of w) (down_of w);
@@ -60,7 +60,7 @@ worker (Enlarging w) =
       kept = kept_rows w;
       ready = λ s rows. IsEnlarging (across_of w) s;
     }
-worker (FlippingRows w) = by_row (Flip w.tool) w.made (FlipsInRows w.tool)
+worker (FlippingRows w) = by_row (Flip w.tool) w FlipsInRows
 worker (ReversingRows w) =
     record { tool = Flip w.way; due = reversed_due w; kept = w.rows; ready = λ s rows. IsReversingRows w s rows }
 worker (Transposing w) =
@@ -89,14 +89,14 @@ kept_of work = (worker work).kept
 
 -- the value of a state: the tool at work, the place in what it accepts, what is still to be given, and the fault that
 -- there was
-pub record Standing (W : Type 0) : Type 0 where
+pub record StateValue (W : Type 0) : Type 0 where
   pub work : W
   pub place : Place
   pub pending : Pending
   pub fault : Option ToolFault
 
-abbrev pub standing : {W : Type 0} → W → Place → Pending → Option ToolFault → Standing W
-standing work place pending fault = record { work = work; place = place; pending = pending; fault = fault }
+abbrev pub state_value : {W : Type 0} → W → Place → Pending → Option ToolFault → StateValue W
+state_value work place pending fault = record { work = work; place = place; pending = pending; fault = fault }
 
 -- inside an image it is ready for the next row, where these have come
 abbrev pub IsReadyFor : {W : Type 0} → (W → Shape → List (List ℕ) → Type 0) → W → Place → List (List ℕ) → Type 0
@@ -123,11 +123,12 @@ KeepsNone kept work After RowsAndEnd = ⊥
 KeepsNone kept work After Nothing = kept work ≡ []
 
 -- a state is sound: it keeps no rows after a fault
-abbrev pub IsStanding : {W : Type 0} → (W → Shape → List (List ℕ) → Type 0) → (W → List (List ℕ)) → W → Place → Pending
+abbrev pub IsSoundState : {W : Type 0} → (W → Shape → List (List ℕ) → Type 0) → (W → List (List ℕ)) → W → Place
+    → Pending
     → Option ToolFault → Type 0
-IsStanding ready kept work place pending None = ((rows : List (List ℕ)) × IsReadyFor ready work place rows)
+IsSoundState ready kept work place pending None = ((rows : List (List ℕ)) × IsReadyFor ready work place rows)
     × KeepsNone kept work place pending
-IsStanding ready kept work place pending (Some fault) = kept work ≡ []
+IsSoundState ready kept work place pending (Some fault) = kept work ≡ []
 
 -- the messages that are still to be given, of a tool that still gives these rows
 abbrev pub waiting_in : Pending → List (List ℕ) → List Message
@@ -146,7 +147,7 @@ is_all_given Nothing = false
 
 -- the state of this tool, which has accepted these messages and given those
 pub record IsAt {W : Type 0} (tool_at : W → Tool) (ready_for : W → Shape → List (List ℕ) → Type 0)
-    (due kept : W → List (List ℕ)) (s : Standing W) (t : Tool) (l g : List Message) : Type 0 where
+    (due kept : W → List (List ℕ)) (s : StateValue W) (t : Tool) (l g : List Message) : Type 0 where
   pub tool : tool_at s.work ≡ t
   pub options : IsLawfulTool t
   pub answering : IsAnswering t l g (waiting_in s.pending (due s.work))
@@ -156,16 +157,16 @@ pub record IsAt {W : Type 0} (tool_at : W → Tool) (ready_for : W → Shape →
   pub answers : Answers t l g
 
 -- the state of a chain's tool, which has accepted these messages and given those
-abbrev pub IsToolAt : Standing AnyTool → Tool → List Message → List Message → Type 0
+abbrev pub IsToolAt : StateValue AnyTool → Tool → List Message → List Message → Type 0
 IsToolAt s t l g = IsAt tool_of IsReady due_of kept_of s t l g
 
 -- the state of this tool before the first message
-pub record IsFreshTool (s : Standing AnyTool) (t : Tool) : Type 0 where
+pub record IsFreshTool (s : StateValue AnyTool) (t : Tool) : Type 0 where
   pub state : IsToolAt s t [] []
-  pub told : is_all_given s.pending ≡ true
+  pub none_due : is_all_given s.pending ≡ true
   pub going : s.fault ≡ None
 
 -- the state of a tool of a chain, which takes nothing more once it has refused
-abbrev pub ToolAt : FusedFilter (Standing AnyTool) → Tool → List Message → List Message → Type 0
+abbrev pub ToolAt : FusedFilter (StateValue AnyTool) → Tool → List Message → List Message → Type 0
 ToolAt stage tool received given = FilterAt IsToolAt (λ s. is_all_given s.pending) (λ s. s.fault) stage tool received
     given

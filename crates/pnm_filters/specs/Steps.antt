@@ -33,7 +33,7 @@ pub record IsAccepted {W : Type 0} (tool_at : W → Tool) (ready_for : W → Sha
   pub place : to ≡ place_after from m
   pub ready : (rows : List (List ℕ)) → IsReadyFor ready_for old from rows
       → IsReadyFor ready_for new to (rows_after rows m)
-  pub not_told : is_all_given pending ≡ false
+  pub some_due : is_all_given pending ≡ false
   pub answer : (rows : List (List ℕ)) → IsReadyFor ready_for old from rows
       → waiting_in pending (due new) ≡ answers_at (tool_at old) from rows m
   pub none : KeepsNone kept old from AllGiven → KeepsNone kept new to pending
@@ -71,17 +71,17 @@ abbrev pub message_list : Option Packet → List Message
 message_list None = []
 message_list (Some p) = messages_in p
 
--- where none is given, that is told; else some messages are
-abbrev pub IsTold : Option Packet → Pending → Pending → Type 0
-IsTold None old new = new ≡ AllGiven
-IsTold (Some p) old new = (is_all_given old ≡ false) × (is_all_given new ≡ false) × (1 ≤ length (messages_in p))
+-- where none is given, the caller knows; else some messages are
+abbrev pub IsNoneDue : Option Packet → Pending → Pending → Type 0
+IsNoneDue None old new = new ≡ AllGiven
+IsNoneDue (Some p) old new = (is_all_given old ≡ false) × (is_all_given new ≡ false) × (1 ≤ length (messages_in p))
 
 -- the first of the messages that wait, or rows among them, are given, if some do, and the others wait
 pub record IsGiven {W : Type 0} (tool_at : W → Tool) (ready_for : W → Shape → List (List ℕ) → Type 0)
     (due kept : W → List (List ℕ)) (old : W) (before : Pending) (new : W) (after : Pending)
     (given : Option Packet) : Type 0 where
   pub waits : waiting_in before (due old) ≡ message_list given ++ waiting_in after (due new)
-  pub told : IsTold given before after
+  pub none_due : IsNoneDue given before after
   pub tool : tool_at new ≡ tool_at old
   pub ready : (place : Place) (rows : List (List ℕ)) → KeepsNone kept old place before
       → IsReadyFor ready_for old place rows → IsReadyFor ready_for new place rows

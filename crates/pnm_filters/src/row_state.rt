@@ -46,8 +46,8 @@ impl Filter for RowState {
         self.state.next()
     }
 
-    fn gave_all(&mut self) -> bool {
-        self.state.gave_all()
+    fn is_done(&mut self) -> bool {
+        self.state.is_done()
     }
 
     fn feed_rows(&mut self, rows: Rows) -> Result<Result<(), ToolFault>, Rows> {

@@ -5,7 +5,7 @@ ghost use Rattle.pnm_image.specs.declared.message.Message.{Message as MessageVal
 ghost use Rattle.pnm_image.specs.Places.{IsLawfulFrom};
 ghost use Rattle.pnm_image.specs.Rows.{row_messages};
 ghost use Rattle.pnm_tools.specs.declared.fault.ToolFault.TheVariants.{Memory};
-ghost use Rattle.pnm_filters.specs.Pendings.{AllGiven, OwesNothing, pending_of, after_one, is_told};
+ghost use Rattle.pnm_filters.specs.Pendings.{AllGiven, NothingPending, pending_of, after_one, is_idle};
 ghost use Rattle.pnm_filters.specs.States.{waiting_in, is_all_given, IsReadyFor};
 ghost use Rattle.pnm_tools.specs.Tools.{IsLawfulTool};
 ghost use Rattle.pnm_filters.specs.Steps.{Answered, AreTakenRows, Gave};
@@ -17,17 +17,17 @@ use std::marker::Model;
 
 /// What is still to be given for the message that was accepted last.
 #[derive(Clone, Copy)]
-pub enum Owed {
-    /// Nothing, and the caller was told so.
-    Told,
+pub enum Phase {
+    /// Nothing, and the caller knows.
+    Idle,
     /// The message that waits.
     One,
     /// The rows that the tool still gives.
     Rest,
     /// The rows that the tool still gives, and the end of the image.
     RestAndEnd,
-    /// Nothing, but the caller wasn't told so yet.
-    Untold,
+    /// Nothing, but the caller doesn't know yet.
+    Done,
 }
 
 /// A tool at work on a stream. It drops what it keeps of an image once it has given the image's end, when the stream is
@@ -37,22 +37,22 @@ pub struct State<T: ImageTool> {
     alloc: Global,
     work: T,
     place: Place,
-    owed: Owed,
+    phase: Phase,
     waiting: Option<Message>,
     fault: Option<ToolFault>,
 }
 
 impl<T: ImageTool> Model for State<T> {
     ghost use Rattle.pnm_filters.specs.Pendings.{pending_of};
-    ghost use Rattle.pnm_filters.specs.States.{Standing, standing, IsStanding};
+    ghost use Rattle.pnm_filters.specs.States.{StateValue, state_value, IsSoundState};
     ghost use Rattle.pnm_tools.specs.Tools.{IsLawfulTool};
 
-    ghost Value = { Standing T };
+    ghost Value = { StateValue T };
 
-    ghost view = { λ s. standing s.work s.place (pending_of s.owed s.waiting) s.fault };
+    ghost view = { λ s. state_value s.work s.place (pending_of s.phase s.waiting) s.fault };
 
     ghost invariant = { λ s. IsLawfulTool (T.tool s.work)
-        × IsStanding T.ready T.kept s.work s.place (pending_of s.owed s.waiting) s.fault };
+        × IsSoundState T.ready T.kept s.work s.place (pending_of s.phase s.waiting) s.fault };
 }
 
 impl<T: ImageTool> Filter for State<T> {
@@ -78,7 +78,7 @@ impl<T: ImageTool> Filter for State<T> {
             self.alloc,
             &mut self.work,
             &mut self.place,
-            &mut self.owed,
+            &mut self.phase,
             &mut self.waiting,
             message,
         ) {
@@ -99,7 +99,7 @@ impl<T: ImageTool> Filter for State<T> {
         match give(
             self.alloc,
             &mut self.work,
-            &mut self.owed,
+            &mut self.phase,
             &mut self.waiting,
         ) {
             Ok(given) => Ok(given),
@@ -111,17 +111,17 @@ impl<T: ImageTool> Filter for State<T> {
         }
     }
 
-    fn gave_all(&mut self) -> bool {
-        tell(&mut self.owed)
+    fn is_done(&mut self) -> bool {
+        settle(&mut self.phase)
     }
 
     fn feed_rows(&mut self, rows: Rows) -> Result<Result<(), ToolFault>, Rows> {
-        if self.fault.is_some() || !is_told(self.owed) || !self.place.accepts_rows(&rows) {
+        if self.fault.is_some() || !is_idle(self.phase) || !self.place.accepts_rows(&rows) {
             return Err(rows);
         }
         match take_rows(self.alloc, &mut self.work, &mut self.place, rows) {
             Ok(()) => {
-                self.owed = Owed::Rest;
+                self.phase = Phase::Rest;
                 Ok(Ok(()))
             }
             Err(fault) => {
@@ -147,7 +147,7 @@ impl<T: ImageTool> State<T> {
             alloc,
             work,
             place: Place::new(),
-            owed: Owed::Told,
+            phase: Phase::Idle,
             waiting: None,
             fault: None,
         }
@@ -178,22 +178,22 @@ fn take_rows<T: ImageTool>(
     work.take(alloc, shape, y, rows)
 }
 
-/// Takes a message, if it may come at this place, and sets what is owed for it.
+/// Takes a message, if it may come at this place, and sets what is due for it.
 #[inline(always)]
 fn answer<T: ImageTool>(
     alloc: Global,
     work: &mut T,
     place: &mut Place,
-    owed: &mut Owed,
+    phase: &mut Phase,
     waiting: &mut Option<Message>,
     message: Message,
 ) -> Result<(), ToolFault>
     requires lawful { IsLawfulTool (T.tool work.old) }
     requires ready { (rows : List (List ℕ)) × IsReadyFor T.ready work.old place.old rows }
-    ensures { Answered T.tool T.ready T.due T.kept (is_all_given (pending_of owed.old waiting.old))
-        work.old place.old message work.new place.new (pending_of owed.new waiting.new) result }
+    ensures { Answered T.tool T.ready T.due T.kept (is_all_given (pending_of phase.old waiting.old))
+        work.old place.old message work.new place.new (pending_of phase.new waiting.new) result }
 {
-    if !is_told(*owed) || !place.accepts(&message) {
+    if !is_idle(*phase) || !place.accepts(&message) {
         return Err(ToolFault::OutOfOrder);
     }
     let from = *place;
@@ -201,13 +201,13 @@ fn answer<T: ImageTool>(
     match message {
         Message::Begin(head) => {
             let result = work.begin(alloc, &head)?;
-            owe_one(owed, waiting, Message::Begin(result));
+            set_waiting(phase, waiting, Message::Begin(result));
         }
         Message::Row(row) => {
             let Place::Inside(shape, y) = from else {
                 unreachable!();
             };
-            *owed = Owed::Rest;
+            *phase = Phase::Rest;
             work.take(alloc, shape, y, Rows::one(row))?;
         }
         Message::ImageEnd => {
@@ -215,107 +215,107 @@ fn answer<T: ImageTool>(
                 unreachable!();
             };
             work.end(shape);
-            *owed = Owed::RestAndEnd;
+            *phase = Phase::RestAndEnd;
         }
         Message::StreamEnd => {
-            owe_one(owed, waiting, Message::StreamEnd);
+            set_waiting(phase, waiting, Message::StreamEnd);
         }
         Message::Stop => {
             work.release(alloc);
-            owe_one(owed, waiting, Message::Stop);
+            set_waiting(phase, waiting, Message::Stop);
         }
     }
     Ok(())
 }
 
-/// Sets that this message alone is owed.
+/// Sets that this message alone is due.
 #[inline(always)]
-fn owe_one(owed: &mut Owed, waiting: &mut Option<Message>, message: Message)
-    ensures owed { owed.new ≡ Owed.One }
+fn set_waiting(phase: &mut Phase, waiting: &mut Option<Message>, message: Message)
+    ensures phase { phase.new ≡ Phase.One }
     ensures waiting { waiting.new ≡ Some message }
 {
-    *owed = Owed::One;
+    *phase = Phase::One;
     *waiting = Some(message);
 }
 
-/// The next message that is owed, or rows that follow one another, if some are.
+/// The next message that is due, or rows that follow one another, if some are.
 #[inline(always)]
 fn give<T: ImageTool>(
     alloc: Global,
     work: &mut T,
-    owed: &mut Owed,
+    phase: &mut Phase,
     waiting: &mut Option<Message>,
 ) -> Result<Option<Packet>, ToolFault>
-    ensures { Gave T.tool T.ready T.due T.kept work.old (pending_of owed.old waiting.old) work.new
-        (pending_of owed.new waiting.new) result }
+    ensures { Gave T.tool T.ready T.due T.kept work.old (pending_of phase.old waiting.old) work.new
+        (pending_of phase.new waiting.new) result }
 {
-    match *owed {
-        Owed::Told => Ok(None),
-        Owed::Untold => {
-            *owed = Owed::Told;
+    match *phase {
+        Phase::Idle => Ok(None),
+        Phase::Done => {
+            *phase = Phase::Idle;
             Ok(None)
         }
-        Owed::Rest => match work.give(alloc)? {
+        Phase::Rest => match work.give(alloc)? {
             Some(rows) => {
                 prove!(rows.count() > 0);
                 Ok(Some(Packet::Rows(rows)))
             }
             None => {
-                *owed = Owed::Told;
+                *phase = Phase::Idle;
                 Ok(None)
             }
         },
-        Owed::RestAndEnd => match work.give(alloc)? {
+        Phase::RestAndEnd => match work.give(alloc)? {
             Some(rows) => {
                 prove!(rows.count() > 0);
                 Ok(Some(Packet::Rows(rows)))
             }
             None => {
                 work.release(alloc);
-                *owed = Owed::Untold;
+                *phase = Phase::Done;
                 Ok(Some(Packet::ImageEnd))
             }
         },
-        Owed::One => Ok(give_one(owed, waiting).map(Packet::from)),
+        Phase::One => Ok(give_one(phase, waiting).map(Packet::from)),
     }
 }
 
 /// Takes the message that waits, if one does.
-fn give_one(owed: &mut Owed, waiting: &mut Option<Message>) -> Option<Message>
-    requires { owed.old ≡ Owed.One }
+fn give_one(phase: &mut Phase, waiting: &mut Option<Message>) -> Option<Message>
+    requires { phase.old ≡ Phase.One }
     ensures given { result ≡ waiting.old }
-    ensures owed { pending_of owed.new waiting.new ≡ after_one waiting.old }
+    ensures phase { pending_of phase.new waiting.new ≡ after_one waiting.old }
 {
     let message = waiting.take();
-    *owed = if message.is_some() {
-        Owed::Untold
+    *phase = if message.is_some() {
+        Phase::Done
     } else {
-        Owed::Told
+        Phase::Idle
     };
     message
 }
 
-/// Whether nothing is owed, as far as a look shows; that is told then.
-fn tell(owed: &mut Owed) -> bool
-    ensures told { result ≡ true → (waiting : Option MessageValue)
-        → OwesNothing (pending_of owed.old waiting) × (pending_of owed.new waiting ≡ AllGiven) }
-    ensures unknown { result ≡ false → owed.new ≡ owed.old }
+/// Whether nothing is due, as far as a look shows; the caller knows then.
+fn settle(phase: &mut Phase) -> bool
+    ensures none_due { result ≡ true → (waiting : Option MessageValue)
+        → NothingPending (pending_of phase.old waiting) × (pending_of phase.new waiting ≡ AllGiven) }
+    ensures unknown { result ≡ false → phase.new ≡ phase.old }
 {
-    match *owed {
-        Owed::Told => true,
-        Owed::Untold => {
-            *owed = Owed::Told;
+    match *phase {
+        Phase::Idle => true,
+        Phase::Done => {
+            *phase = Phase::Idle;
             true
         }
-        Owed::One | Owed::Rest | Owed::RestAndEnd => false,
+        Phase::One | Phase::Rest | Phase::RestAndEnd => false,
     }
 }
 
-fn is_told(owed: Owed) -> bool
-    ensures { result ≡ is_told owed }
+fn is_idle(phase: Phase) -> bool
+    ensures { result ≡ is_idle phase }
 {
-    match owed {
-        Owed::Told => true,
-        Owed::One | Owed::Rest | Owed::RestAndEnd | Owed::Untold => false,
+    match phase {
+        Phase::Idle => true,
+        Phase::One | Phase::Rest | Phase::RestAndEnd | Phase::Done => false,
     }
 }

@@ -49,10 +49,10 @@ fn flip(alloc: Global, way: FlipWay) -> AnyTool
     ensures tool { tool_of result ≡ Flip way }
     ensures kept { kept_of result ≡ [] }
 {
-    let turn = way.turn();
-    if turn.exchanged {
+    let transform = way.transform();
+    if transform.exchanged {
         AnyTool::Transposing(Transposer::new(alloc, way))
-    } else if turn.rows_reversed {
+    } else if transform.rows_reversed {
         AnyTool::ReversingRows(RowReverser::new(alloc, way))
     } else {
         AnyTool::FlippingRows(by_row(RowFlipper::new(way)))

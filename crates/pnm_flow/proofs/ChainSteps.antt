@@ -27,8 +27,8 @@ use Rattle.pnm_stages.specs.declared.stage.StageEnd.TheVariants.{Well, PeerGone}
 use Rattle.pnm_stages.specs.Prefixes.{IsPrefixOfDue}
 use Rattle.pnm_stages.specs.Rings.{IsEnded}
 use Rattle.pnm_flow.specs.Links.{IsWhole, IsDrained}
-use Rattle.pnm_flow.specs.Chains.{IsStageOver, HasRunTool, FirstIsThere, AreStages, HasAnsweredStream, HasRunStages, HasRunChain, HasRunBetween}
-use Rattle.pnm_flow.specs.Chains.{IsReserved, IsToolRun}
+use Rattle.pnm_flow.specs.ChainRuns.{IsStageOver, HasRunTool, FirstIsThere, AreStages, HasAnsweredStream, HasRunStages, HasRunChain, HasRunBetween}
+use Rattle.pnm_flow.specs.ChainRuns.{IsReserved, IsToolRun}
 use Rattle.pnm_flow.specs.ThreadedRuns.{HasEndedOver}
 use Rattle.pnm_stages.proofs.EndingLaws.{nothing_follows}
 use Rattle.pnm_stages.proofs.PrefixLaws.{prefix_without_stop}
@@ -225,13 +225,13 @@ stages_after lanes tools ends links tool end link r r' s s' left p p' c c' no_p 
     }
 
 -- the lists that came of it
-pub stages_joined : (lanes : ℕ) (tools all : List Tool) (ends all_ends : List StageEnd) (links all_links : List Link) (tool : Tool) (end : StageEnd)
+pub stages_extended : (lanes : ℕ) (tools all : List Tool) (ends all_ends : List StageEnd) (links all_links : List Link) (tool : Tool) (end : StageEnd)
     (r r' s s' left p p' c c' : List Message)
     → p ≡ [] → c ≡ [] → HasRunStages lanes tools ends links r r' p p' → HasRunTool lanes tool end c c' left s s'
     → all ≡ tools ++ tool ∷ [] → all_ends ≡ ends ++ end ∷ [] → (link : Link) × (all_links ≡ links ++ link ∷ []) × IsWhole link × (sent link.producer ≡ p')
     × (received link.consumer ≡ c')
     → HasRunStages lanes all all_ends all_links r r' s s'
-stages_joined lanes tools all ends all_ends links all_links tool end r r' s s' left p p' c c' no_p no_c run last parts end_last link =
+stages_extended lanes tools all ends all_ends links all_links tool end r r' s s' left p p' c c' no_p no_c run last parts end_last link =
     let joined = stages_after lanes tools ends links tool end link.0 r r' s s' left p p' c c' no_p no_c run last link.2 link.3 link.4 in
     subst (λ (x : List Tool). HasRunStages lanes x all_ends all_links r r' s s') (sym parts)
     (subst (λ (x : List StageEnd). HasRunStages lanes (tools ++ tool ∷ []) x all_links r r' s s') (sym end_last)

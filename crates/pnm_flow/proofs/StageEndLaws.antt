@@ -14,7 +14,7 @@ use Rattle.pnm_serial.specs.declared.fault.RunFault.TheVariants.{Tool as OfTool}
 use Rattle.pnm_flow.specs.declared.chain.Link.{Link}
 use Rattle.pnm_stages.specs.declared.stage.StageEnd.{StageEnd}
 use Rattle.pnm_stages.specs.declared.stage.StageEnd.TheVariants.{Well, Broken, Fault, PeerGone}
-use Rattle.pnm_flow.specs.Chains.{FirstIsThere, AreStages}
+use Rattle.pnm_flow.specs.ChainRuns.{FirstIsThere, AreStages}
 use Rattle.pnm_stages.specs.Stages.{HasEndedWell}
 use Rattle.pnm_flow.specs.ThreadedRuns.{first_fault_from}
 use Rattle.pnm_stages.proofs.EndingLaws.{one_ending, stream_ends_whole}

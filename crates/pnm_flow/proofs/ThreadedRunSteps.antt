@@ -15,7 +15,7 @@ use Rattle.pnm_read.specs.Said.{said_of}
 use Rattle.pnm_read.specs.Sources.{reader_of}
 use Rattle.pnm_read.proofs.StreamLaws.{given_is_prefix}
 use Rattle.pnm_read.proofs.TextLaws.{said_text_is_spelled}
-use Rattle.pnm_read.proofs.Turns.{no_fault}
+use Rattle.pnm_read.proofs.ReadCalls.{no_fault}
 use Rattle.pnm_tools.specs.declared.fault.ToolFault.{ToolFault}
 use Rattle.pnm_tools.specs.declared.tool.Tool.{Tool}
 use Rattle.pnm_image.specs.declared.message.Ending.TheVariants.{Whole}
@@ -25,17 +25,17 @@ use Rattle.pnm_tools.proofs.ChainLaws.{prefix_of_due_is_sound}
 use Rattle.pnm_tools.proofs.FullLaws.{prefix_of_prefix}
 use Rattle.pnm_tools.proofs.SoundLaws.{sound_keeps_all, unbroken_keeps_all}
 use Rattle.pnm_write.specs.declared.fault.SinkFault.{SinkFault}
-use Rattle.pnm_serial.specs.declared.downstream.Downstream.{Downstream}
+use Rattle.pnm_serial.specs.declared.fused_sink.FusedSink.{FusedSink}
 use Rattle.pnm_serial.specs.declared.fault.RunFault.{RunFault}
 use Rattle.pnm_serial.specs.declared.fault.RunFault.TheVariants.{Tool as OfTool, PeerGone as Gone}
 use Rattle.pnm_flow.specs.declared.chain.Link.{Link}
 use Rattle.pnm_stages.specs.declared.stage.StageEnd.{StageEnd}
 use Rattle.pnm_stages.specs.declared.stage.StageEnd.TheVariants.{Well, Broken, Fault, PeerGone}
 use Rattle.pnm_serial.specs.declared.summary.Summary.{Summary}
-use Rattle.pnm_flow.specs.Chains.{IsStageOver, FirstIsThere, AreStages}
-use Rattle.pnm_serial.specs.Collectors.{EndedBy}
-use Rattle.pnm_serial.specs.Downstreams.{output_of, HasTaken, AnswersFlushes}
-use Rattle.pnm_serial.specs.Feeders.{HasAskedAll, HasAskedBy, closing_messages}
+use Rattle.pnm_flow.specs.ChainRuns.{IsStageOver, FirstIsThere, AreStages}
+use Rattle.pnm_serial.specs.Egresses.{EndedBy}
+use Rattle.pnm_serial.specs.FusedSinks.{output_of, HasTaken, AnswersFlushes}
+use Rattle.pnm_serial.specs.Ingresses.{HasAskedAll, HasAskedBy, closing_messages}
 use Rattle.pnm_serial.specs.Feeding.{IsSaidOf, HasMore, MayFollowRead}
 use Rattle.pnm_serial.specs.Jobs.{Job}
 use Rattle.pnm_serial.specs.Runs.{Change, change, MayFollow}
@@ -160,7 +160,7 @@ pub record Over {R W : Type 0} (left : R → Option (List ℕ)) (reader_failures
   pub came : gave ≡ got ++ rest
   pub ended : EndedBy has_ended got
   pub all : (has_ended ≡ true) ⊎ (rest ≡ [])
-  pub sink : Downstream W
+  pub sink : FusedSink W
   pub taken : HasTaken held failures job.form start (without_stop got) sink
   pub kept : Keeps (held (output_of sink)) (held done)
   pub broken : (fault : SinkFault) → sink.output ≡ Err fault → (output ≡ Err fault) × (done ≡ output_of sink)

@@ -18,7 +18,7 @@ use Rattle.pnm_stages.specs.Rings.{IsEnded}
 use Rattle.pnm_stages.specs.Stages.{HasEndedWell, HasBrokenOff}
 use Rattle.pnm_stages.proofs.EndingLaws.{stream_ends_whole}
 use Rattle.pnm_stages.proofs.RingSteps.{ends_with}
-use Rattle.pnm_flow.specs.Chains.{IsStageOver}
+use Rattle.pnm_flow.specs.ChainRuns.{IsStageOver}
 use Rattle.pnm_flow.specs.ThreadedRuns.{HasEndedOver}
 use Rattle.pnm_flow.proofs.LaneRefusals.{refused_in_lanes}
 

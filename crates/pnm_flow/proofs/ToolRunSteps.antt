@@ -6,10 +6,10 @@ use Rattle.pnm_tools.specs.declared.tool.Tool.{Tool}
 use Rattle.pnm_stages.specs.declared.sender.Sender.{Sender}
 use Rattle.pnm_stages.specs.declared.receiver.Receiver.{Receiver}
 use Rattle.pnm_stages.specs.declared.stage.StageDone.{StageDone}
-use Rattle.pnm_flow.specs.declared.tool_run.Across.{Across}
-use Rattle.pnm_flow.specs.declared.tool_run.Across.TheVariants.{Lanes}
+use Rattle.pnm_flow.specs.declared.tool_run.Plan.{Plan}
+use Rattle.pnm_flow.specs.declared.tool_run.Plan.TheVariants.{Lanes}
 use Rattle.pnm_lanes.specs.declared.around.OuterRingEnds.{OuterRingEnds}
-use Rattle.pnm_lanes.specs.declared.joining.LanesDone.{LanesDone}
+use Rattle.pnm_lanes.specs.declared.merging.LanesDone.{LanesDone}
 use Rattle.pnm_lanes.specs.declared.lane_rings.LaneRingEnds.{LaneRingEnds}
 use Rattle.pnm_lanes.specs.declared.lane_rings.LaneRings.{LaneRings}
 use Rattle.pnm_image.specs.declared.message.Message.{Message}
@@ -17,7 +17,7 @@ use Rattle.pnm_stages.specs.Rings.{sent, received, known_items, SameSender}
 use Rattle.pnm_stages.specs.Stages.{HasRunStage}
 use Rattle.pnm_stages.proofs.RingSteps.{same_output}
 use Rattle.pnm_lanes.specs.LaneRuns.{AreLanesRun, HaveDealtAndGathered, HaveRun, IsLaneRun}
-use Rattle.pnm_flow.specs.Chains.{RunsInLanes, IsAcross, IsToolRun, IsLanesRun}
+use Rattle.pnm_flow.specs.ChainRuns.{RunsInLanes, IsPlan, IsToolRun, IsLanesRun}
 
 -- what threads, and what was done beside them, came back with
 pub came_so : {B : Type 0} (P : B → Type 0) (result : Option B) (b : B) → IfSome result P → result ≡ Some b → P b
@@ -40,12 +40,12 @@ lanes_ran lanes tool input output done several run = (
 )
 
 -- its threads came back
-pub lanes_came_back : (lanes : ℕ) (tool : Tool) (across : Across) (rings : LaneRings) (tells : Sender) (hears : Receiver) (input : Receiver) (output : Sender)
+pub lanes_came_back : (lanes : ℕ) (tool : Tool) (plan : Plan) (rings : LaneRings) (notify : Sender) (notified : Receiver) (input : Receiver) (output : Sender)
     (result : Option StageDone) (done : StageDone)
-    → IsAcross lanes tool across → across ≡ Lanes rings tells hears → IfSome result (IsLanesRun tool input output) → result ≡ Some done
+    → IsPlan lanes tool plan → plan ≡ Lanes rings notify notified → IfSome result (IsLanesRun tool input output) → result ≡ Some done
     → IsToolRun lanes tool input output done
-lanes_came_back lanes tool across rings tells hears input output result done over is has came =
-    lanes_ran lanes tool input output done (subst (IsAcross lanes tool) is over).0
+lanes_came_back lanes tool plan rings notify notified input output result done over is has came =
+    lanes_ran lanes tool input output done (subst (IsPlan lanes tool) is over).0
     (came_so (IsLanesRun tool input output) result done has came)
 
 -- a lane whose sending end has its home has run as one whose end hasn't

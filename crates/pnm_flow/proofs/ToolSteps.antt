@@ -3,14 +3,14 @@ use Rattle.std.proofs.Common.{ℕ, zero, suc, ◌<◌, List, [], ◌∷◌, ◌+
 use Rattle.pnm_tools.specs.declared.tool.Tool.{Tool}
 use Rattle.pnm_filters.specs.declared.any_tool.AnyTool.{AnyTool}
 use Rattle.pnm_tools.specs.Chains.{AreLawfulTools}
-use Rattle.pnm_filters.specs.States.{Standing}
+use Rattle.pnm_filters.specs.States.{StateValue}
 use Rattle.pnm_tools.specs.Tools.{IsLawfulTool}
 use Rattle.pnm_tools.specs.declared.fused_filter.FusedFilter.{FusedFilter}
 use Rattle.pnm_flow.specs.SerialTools.{ToolsAt, AreFresh}
 use Rattle.pnm_filters.specs.States.{ToolAt}
 
 -- one tool more
-pub fresh_more : (stages : List (FusedFilter (Standing AnyTool))) (tools : List Tool) (stage : FusedFilter (Standing AnyTool)) (tool : Tool)
+pub fresh_more : (stages : List (FusedFilter (StateValue AnyTool))) (tools : List Tool) (stage : FusedFilter (StateValue AnyTool)) (tool : Tool)
     → AreFresh stages tools → ToolAt stage tool [] [] → AreFresh (stages ++ stage ∷ []) (tools ++ tool ∷ [])
 fresh_more [] [] stage tool at one = (one, tt)
 fresh_more [] (t ∷ tools) stage tool at one = absurd at
@@ -18,7 +18,7 @@ fresh_more (s ∷ stages) [] stage tool at one = absurd at
 fresh_more (s ∷ stages) (t ∷ tools) stage tool at one = (at.0, fresh_more stages tools stage tool at.1 one)
 
 -- together they are a chain that has received nothing
-pub fresh_at : (stages : List (FusedFilter (Standing AnyTool))) (tools : List Tool) → AreFresh stages tools → ToolsAt stages tools [] []
+pub fresh_at : (stages : List (FusedFilter (StateValue AnyTool))) (tools : List Tool) → AreFresh stages tools → ToolsAt stages tools [] []
 fresh_at [] [] at = refl
 fresh_at [] (t ∷ tools) at = absurd at
 fresh_at (s ∷ stages) [] at = absurd at

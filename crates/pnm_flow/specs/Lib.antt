@@ -1,4 +1,4 @@
 pub mod Links
-pub mod Chains
+pub mod ChainRuns
 pub mod ThreadedRuns
 pub mod SerialTools

@@ -4,15 +4,15 @@ use Rattle.pnm_image.specs.declared.message.Message.{Message}
 use Rattle.pnm_tools.specs.declared.tool.Tool.{Tool}
 use Rattle.pnm_tools.specs.declared.fused_filter.FusedFilter.{FusedFilter}
 use Rattle.pnm_filters.specs.declared.any_tool.AnyTool.{AnyTool}
-use Rattle.pnm_filters.specs.States.{Standing, IsToolAt, is_all_given, ToolAt}
+use Rattle.pnm_filters.specs.States.{StateValue, IsToolAt, is_all_given, ToolAt}
 use Rattle.pnm_serial.specs.SerialChains.{FiltersAt}
 
-abbrev pub ToolsAt : List (FusedFilter (Standing AnyTool)) → List Tool → List Message → List Message → Type 0
+abbrev pub ToolsAt : List (FusedFilter (StateValue AnyTool)) → List Tool → List Message → List Message → Type 0
 ToolsAt stages tools received given =
     FiltersAt IsToolAt (λ s. is_all_given s.pending) (λ s. s.fault) stages tools received given
 
 -- each stage is its tool before the first message
-abbrev pub AreFresh : List (FusedFilter (Standing AnyTool)) → List Tool → Type 0
+abbrev pub AreFresh : List (FusedFilter (StateValue AnyTool)) → List Tool → Type 0
 AreFresh [] [] = Unit {0}
 AreFresh [] (tool ∷ tools) = ⊥
 AreFresh (stage ∷ stages) [] = ⊥

@@ -20,7 +20,7 @@ use Rattle.pnm_serial.specs.Jobs.{Job}
 use Rattle.pnm_serial.specs.Runs.{Change, HasRun}
 use Rattle.pnm_stages.specs.Stages.{HasEndedSo}
 use Rattle.pnm_lanes.specs.Lanes.{HaveLanesEndedSo}
-use Rattle.pnm_flow.specs.Chains.{ByLanes}
+use Rattle.pnm_flow.specs.ChainRuns.{ByLanes}
 
 -- ---- the answer
 

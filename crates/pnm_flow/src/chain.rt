@@ -4,14 +4,14 @@ ghost use Rattle.std.specs.Prelude.{◌≡◌, ◌≤◌, ◌<◌, ◌+◌, [], 
 ghost use Rattle.std.specs.Thread.{IsSync};
 ghost use Rattle.pnm_tools.specs.Chains.{AreLawfulTools, IsChain};
 ghost use Rattle.pnm_tools.specs.Tools.{IsLawfulTool};
-ghost use Rattle.pnm_stages.specs.Limits.{IsRingCapacity};
+ghost use Rattle.pnm_stages.specs.RingLimits.{IsRingCapacity};
 ghost use Rattle.pnm_stages.specs.Rings.{sent, received, IsPair, SameSender, SameReceiver};
 ghost use Rattle.pnm_stages.specs.Starts.{IsUntouched};
-ghost use Rattle.pnm_lanes.specs.Limits.{IsLaneCount};
+ghost use Rattle.pnm_lanes.specs.LaneLimits.{IsLaneCount};
 ghost use Rattle.pnm_flow.specs.Links.{IsWhole};
-ghost use Rattle.pnm_flow.specs.Chains.{HasRunBetween, HasRunChain, IsReserved};
+ghost use Rattle.pnm_flow.specs.ChainRuns.{HasRunBetween, HasRunChain, IsReserved};
 
-use crate::tool_run::{Across, run_tool};
+use crate::tool_run::{Plan, run_tool};
 use pnm_stages::{
     Call, Gate, Idle, NoStart, Receiver, Sender, StageDone, StageEnd, Task, new_ring,
 };
@@ -161,12 +161,12 @@ fn run_stages<R: Threads + Wait + Sync, G: Gate, T: Task<Output = B> + Drop, B: 
 {
     let (last, others) = last_and_others(tools);
     let number = tools.len();
-    let Some(across) = Across::new(alloc, last, lanes, capacity) else {
+    let Some(plan) = Plan::new(alloc, last, lanes, capacity) else {
         return Err(not_started(input, output));
     };
     if others.is_empty() {
         let all = run_tool(
-            rt, alloc, last, number, lanes, across, gate, input, output, beside,
+            rt, alloc, last, number, lanes, plan, gate, input, output, beside,
         );
         return match all {
             Some((done, beside)) => Ok((only(done, reserved), beside)),
@@ -195,12 +195,12 @@ fn run_stages<R: Threads + Wait + Sync, G: Gate, T: Task<Output = B> + Drop, B: 
         },
     );
     let Some((done, rest)) = run_tool(
-        rt, alloc, last, number, lanes, across, gate, consumer, output, before,
+        rt, alloc, last, number, lanes, plan, gate, consumer, output, before,
     ) else {
         return Err(NoStart { ends: None });
     };
     match rest {
-        Some((chain, beside)) => Ok((joined(chain, done), beside)),
+        Some((chain, beside)) => Ok((extended(chain, done), beside)),
         None => Err(NoStart { ends: None }),
     }
 }
@@ -249,7 +249,7 @@ fn only(done: StageDone, reserved: Reserved) -> ChainDone
 }
 
 /// A chain and the stage after it.
-fn joined(chain: ChainDone, done: StageDone) -> ChainDone
+fn extended(chain: ChainDone, done: StageDone) -> ChainDone
     requires ring { IsPair chain.output done.input }
     requires reserved { (length chain.links.items < vec_capacity chain.links)
         × (length chain.ends.items < vec_capacity chain.ends) }

@@ -4,15 +4,15 @@
 ghost use Rattle.std.specs.Prelude.{◌≡◌, ◌≤◌, [], true, length, vec_capacity, IfOk, IfErr, IfSome};
 ghost use Rattle.std.specs.Thread.{IsSync};
 ghost use Rattle.pnm_tools.specs.Tools.{IsLawfulTool, is_row_wise};
-ghost use Rattle.pnm_stages.specs.Limits.{IsRingCapacity};
+ghost use Rattle.pnm_stages.specs.RingLimits.{IsRingCapacity};
 ghost use Rattle.pnm_stages.specs.Rings.{sent, received, known_items, SameSender, SameReceiver};
 ghost use Rattle.pnm_stages.specs.Starts.{IsUntouched};
-ghost use Rattle.pnm_lanes.specs.Limits.{IsLaneCount};
+ghost use Rattle.pnm_lanes.specs.LaneLimits.{IsLaneCount};
 ghost use Rattle.pnm_lanes.specs.LaneRuns.{HasRunLanes, HaveRun, IsLaneRun, AreAround};
 ghost use Rattle.pnm_lanes.specs.LaneRings.{AreLaneRings};
 
 use pnm_filters::row_filter_of;
-use pnm_lanes::{LaneRingEnds, LaneRings, LanesDone, OuterRingEnds, deal_and_gather, joined};
+use pnm_lanes::{LaneRingEnds, LaneRings, LanesDone, OuterRingEnds, deal_and_gather, merged};
 use pnm_stages::{
     Call, Gate, Idle, NoStart, Receiver, Sender, StageDone, Task, run_both, run_filter,
 };
@@ -106,7 +106,7 @@ pub fn run_lanes_beside<R: Threads + Wait + Sync, G: Gate, T: Task<Output = B> +
     let (done, beside) = run_threads(
         rt, alloc, tool, number, gate, lanes, outer, reserved, beside,
     )?;
-    Some((joined(done), beside))
+    Some((merged(done), beside))
 }
 
 /// The work of one lane.

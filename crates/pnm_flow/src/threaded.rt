@@ -9,22 +9,22 @@ ghost use Rattle.pnm_tools.specs.declared.limits.TheConstants.{MAX_TOOLS};
 ghost use Rattle.pnm_read.specs.declared.source.Source.{Source as SourceValue};
 ghost use Rattle.pnm_read.specs.Sources.{reader_of};
 ghost use Rattle.pnm_tools.specs.Chains.{AreLawfulTools, IsChain};
-ghost use Rattle.pnm_lanes.specs.Limits.{IsLaneCount};
-ghost use Rattle.pnm_stages.specs.Limits.{IsRingCapacity};
+ghost use Rattle.pnm_lanes.specs.LaneLimits.{IsLaneCount};
+ghost use Rattle.pnm_stages.specs.RingLimits.{IsRingCapacity};
 ghost use Rattle.pnm_serial.specs.declared.fault.RunFault.TheVariants.{NoStart as NotStarted};
-ghost use Rattle.pnm_serial.specs.Collectors.{IsCollecting};
-ghost use Rattle.pnm_serial.specs.Downstreams.{output_of};
-ghost use Rattle.pnm_serial.specs.Feeders.{IsFeeding};
+ghost use Rattle.pnm_serial.specs.Egresses.{IsEgress};
+ghost use Rattle.pnm_serial.specs.FusedSinks.{output_of};
+ghost use Rattle.pnm_serial.specs.Ingresses.{IsIngress};
 ghost use Rattle.pnm_serial.specs.Jobs.{Job, job_of};
 ghost use Rattle.pnm_serial.specs.Runs.{change};
-ghost use Rattle.pnm_serial.specs.Turns.{HaveTurned};
-ghost use Rattle.pnm_flow.specs.Chains.{HasRunChain};
+ghost use Rattle.pnm_serial.specs.IoLoop.{HaveStepped};
+ghost use Rattle.pnm_flow.specs.ChainRuns.{HasRunChain};
 ghost use Rattle.pnm_flow.specs.ThreadedRuns.{answer_over, fault_of_end, first_fault_from, HasRunOverThreads};
 
 use crate::chain::{ChainDone, run_chain_beside};
 use pnm_image::{BytesIn, BytesOut, Form};
 use pnm_read::{InputFault, Source};
-use pnm_serial::{Buffers, Collector, Feeder, RunFault, Summary, Turns};
+use pnm_serial::{Buffers, Egress, Ingress, IoLoop, RunFault, Summary};
 use pnm_stages::{Gate, Receiver, Sender, StageEnd, new_ring};
 use pnm_tools::Tool;
 use pnm_write::SinkFault;
@@ -75,23 +75,23 @@ pub fn run<H: Threads + Wait + Sync, R: BytesIn, W: BytesOut, G: Gate>(
         Err(fault) => return Err(RunFault::Input(fault)),
     };
     let source = Source::with_buffer(read, &mut *reader);
-    // A dealer would have to take joined rows apart again.
-    let feeder = Feeder::new(source, to_chain, lanes == 1);
-    let collector = Collector::new(from_chain, write, &mut *writer, form);
+    // A dealer would have to take rows apart that come together.
+    let ingress = Ingress::new(source, to_chain, lanes == 1);
+    let egress = Egress::new(from_chain, write, &mut *writer, form);
     let both = beside_chain(
-        rt, alloc, tools, capacity, lanes, gate, input, output, feeder, collector,
+        rt, alloc, tools, capacity, lanes, gate, input, output, ingress, egress,
     );
-    let Some((chain, feeder, collector)) = both else {
+    let Some((chain, ingress, egress)) = both else {
         return Err(RunFault::NoStart);
     };
-    let (read, written, answer) = conclude(chain, feeder, collector);
+    let (read, written, answer) = conclude(chain, ingress, egress);
     // No effect at run time. The proof reads from these uses what the two devices hold.
     let _ = &*read;
     let _ = &*written;
     answer
 }
 
-/// Runs the chain, and the caller's turns beside it, once each of its threads is started; none where one can't be.
+/// Runs the chain, and the caller's loop beside it, once each of its threads is started; none where one can't be.
 fn beside_chain<H: Threads + Wait + Sync, R: BytesIn + Drop, W: BytesOut + Drop, G: Gate>(
     rt: &H,
     alloc: Global,
@@ -101,9 +101,9 @@ fn beside_chain<H: Threads + Wait + Sync, R: BytesIn + Drop, W: BytesOut + Drop,
     gate: &G,
     input: Receiver,
     output: Sender,
-    feeder: Feeder<R>,
-    collector: Collector<W>,
-) -> Option<(ChainDone, Feeder<R>, Collector<W>)>
+    ingress: Ingress<R>,
+    egress: Egress<W>,
+) -> Option<(ChainDone, Ingress<R>, Egress<W>)>
     requires shared { IsSync H.row × IsSync G.row }
     requires chain { IsChain tools.now }
     requires capacity { IsRingCapacity capacity }
@@ -112,40 +112,40 @@ fn beside_chain<H: Threads + Wait + Sync, R: BytesIn + Drop, W: BytesOut + Drop,
     ensures output { IfSome result (λ r. SameSender output r.0.output) }
     ensures ran { IfSome result (λ r. HasRunChain lanes tools.now r.0.ends.items r.0.links.items
         (received input) (received r.0.input) (sent output) (sent r.0.output)) }
-    ensures turned { IfSome result
-        (λ r. HaveTurned R.left R.failures R.same W.held W.failures W.same feeder collector r.1 r.2) }
+    ensures stepped { IfSome result
+        (λ r. HaveStepped R.left R.failures R.same W.held W.failures W.same ingress egress r.1 r.2) }
 {
-    let turns = Turns::new(rt, alloc, feeder, collector)?;
+    let io_loop = IoLoop::new(rt, alloc, ingress, egress)?;
     let all = match run_chain_beside(
-        rt, alloc, tools, capacity, lanes, gate, input, output, turns,
+        rt, alloc, tools, capacity, lanes, gate, input, output, io_loop,
     ) {
         Ok(all) => all,
         Err(_) => return None,
     };
-    let (chain, turned) = all;
-    let (feeder, collector) = turned;
-    Some((chain, Box::into_inner(feeder), Box::into_inner(collector)))
+    let (chain, stepped) = all;
+    let (ingress, egress) = stepped;
+    Some((chain, Box::into_inner(ingress), Box::into_inner(egress)))
 }
 
 /// The two devices once all have ended, and the answer of the run.
 #[inline(never)]
 fn conclude<R: BytesIn + Drop, W: BytesOut + Drop>(
     chain: ChainDone,
-    feeder: Feeder<R>,
-    collector: Collector<W>,
+    ingress: Ingress<R>,
+    egress: Egress<W>,
 ) -> (R, W, Result<Summary, RunFault>)
-    requires rings { IsPair feeder.output chain.input × IsPair chain.output collector.input }
+    requires rings { IsPair ingress.output chain.input × IsPair chain.output egress.input }
     requires ends { length chain.ends.items ≤ MAX_TOOLS }
-    requires taken { (form : FormValue) × (start : W) × IsCollecting W.held W.failures form start [] collector }
+    requires taken { (form : FormValue) × (start : W) × IsEgress W.held W.failures form start [] egress }
     ensures ran { (first : SourceValue R) (start : W) (lanes : ℕ) (job : Job) → AreLawfulTools job.tools
-        → IsFeeding R.left R.failures first [] feeder → IsCollecting W.held W.failures job.form start [] collector
+        → IsIngress R.left R.failures first [] ingress → IsEgress W.held W.failures job.form start [] egress
         → HasRunChain lanes job.tools chain.ends.items chain.links.items [] (received chain.input) []
         (sent chain.output)
         → HasRunOverThreads lanes job result.2 (change R.left R.failures (reader_of first) result.0)
         (change W.held W.failures start result.1) }
     ensures started { result.2 ≢ Err NotStarted }
-    ensures reader { result.0 ≡ reader_of feeder.source }
-    ensures same_writer { W.same (output_of collector.downstream) result.1 }
+    ensures reader { result.0 ≡ reader_of ingress.source }
+    ensures same_writer { W.same (output_of egress.fused_sink) result.1 }
 {
     let ChainDone {
         mut input,
@@ -153,13 +153,13 @@ fn conclude<R: BytesIn + Drop, W: BytesOut + Drop>(
         ends,
         ..
     } = chain;
-    let (reader, mut sender, fed) = feeder.into_parts();
+    let (reader, mut sender, fed) = ingress.into_parts();
     // What was sent and not received is known now.
     input.look_beside(&mut sender);
-    let mut collector = collector;
-    collector.receive_rest(&mut output);
-    let (downstream, has_ended) = collector.into_parts();
-    let (writer, written) = downstream.finish();
+    let mut egress = egress;
+    egress.receive_rest(&mut output);
+    let (fused_sink, has_ended) = egress.into_parts();
+    let (writer, written) = fused_sink.finish();
     let answer = answer(fed, ends.as_slice(), has_ended, written);
     (reader, writer, answer)
 }

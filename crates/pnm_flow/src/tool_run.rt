@@ -3,10 +3,10 @@
 ghost use Rattle.std.specs.Prelude.{◌≡◌, ◌↔◌, true, IsTrue, IfSome};
 ghost use Rattle.std.specs.Thread.{IsSync};
 ghost use Rattle.pnm_tools.specs.Tools.{IsLawfulTool, is_row_wise};
-ghost use Rattle.pnm_stages.specs.Limits.{IsRingCapacity};
-ghost use Rattle.pnm_lanes.specs.Limits.{IsLaneCount};
+ghost use Rattle.pnm_stages.specs.RingLimits.{IsRingCapacity};
+ghost use Rattle.pnm_lanes.specs.LaneLimits.{IsLaneCount};
 ghost use Rattle.pnm_lanes.specs.LaneRings.{AreLaneRings};
-ghost use Rattle.pnm_flow.specs.Chains.{RunsInLanes, IsToolRun, IsOneStageRun, IsLanesRun, IsAcross};
+ghost use Rattle.pnm_flow.specs.ChainRuns.{RunsInLanes, IsToolRun, IsOneStageRun, IsLanesRun, IsPlan};
 
 use crate::lanes::run_lanes_beside;
 use pnm_filters::filter_of;
@@ -18,29 +18,29 @@ use std::alloc::Global;
 use std::sync::Wait;
 use std::thread::Threads;
 
-/// What a tool of a chain works over.
+/// How a tool of a chain is run.
 #[derive(Drop)]
-pub enum Across {
+pub enum Plan {
     /// One stage, in one thread.
     Stage,
-    /// Several lanes, with these rings to and from them, and one that tells that their threads are started.
+    /// Several lanes, with these rings to and from them, and one to notify that their threads are started.
     Lanes(LaneRings, Sender, Receiver),
 }
 
-impl Across {
-    /// What this tool works over, where there are so many lanes for the tools that can have them, with rings for so
-    /// many messages each. Returns `None` if there is no memory.
-    pub fn new(alloc: Global, tool: &Tool, lanes: usize, capacity: usize) -> Option<Across>
+impl Plan {
+    /// How this tool is run, if there are so many lanes for the tools that can have them, with rings for so many
+    /// packets each. Returns `None` if there is no memory.
+    pub fn new(alloc: Global, tool: &Tool, lanes: usize, capacity: usize) -> Option<Plan>
         requires lanes { IsLaneCount lanes }
         requires capacity { IsRingCapacity capacity }
-        ensures { IfSome result (IsAcross lanes tool.now) }
+        ensures { IfSome result (IsPlan lanes tool.now) }
     {
         if runs_in_lanes(tool, lanes) {
             let rings = LaneRings::new(alloc, lanes, capacity)?;
-            let (tells, hears) = new_ring(alloc, 1)?;
-            Some(Across::Lanes(rings, tells, hears))
+            let (notify, notified) = new_ring(alloc, 1)?;
+            Some(Plan::Lanes(rings, notify, notified))
         } else {
-            Some(Across::Stage)
+            Some(Plan::Stage)
         }
     }
 }
@@ -87,14 +87,14 @@ impl<'a, R: Wait, G: Gate> Task for Stage<'a, R, G> {
     }
 }
 
-/// Tells that all threads of a tool are started, by a message. Where they aren't, the ring's end goes.
+/// Notifies that all threads of a tool are started, by a message. Where they aren't, the ring's end goes.
 #[derive(Drop)]
-struct Announcer<'a, R> {
+struct Notifier<'a, R> {
     rt: &'a R,
-    tells: Sender,
+    notify: Sender,
 }
 
-impl<'a, R: Wait> Task for Announcer<'a, R> {
+impl<'a, R: Wait> Task for Notifier<'a, R> {
     type Output = ();
 
     ghost can_run = { λ _. Unit {0} };
@@ -102,21 +102,21 @@ impl<'a, R: Wait> Task for Announcer<'a, R> {
     ghost run_gives = { λ _ _. Unit {0} };
 
     fn run(self) {
-        let Announcer { rt, mut tells } = self;
-        tells.send(rt, Message::StreamEnd);
+        let Notifier { rt, mut notify } = self;
+        notify.send(rt, Message::StreamEnd);
     }
 }
 
-/// Work that begins once a message tells that the threads of a tool are started; none where its ring's other end goes
+/// Work that waits for the message that the threads of a tool are started; none if its ring's other end goes
 /// before.
 #[derive(Drop)]
-struct Listener<'a, R, T> {
+struct Waiter<'a, R, T> {
     rt: &'a R,
-    hears: Receiver,
+    notified: Receiver,
     beside: T,
 }
 
-impl<'a, R: Wait, T: Task<Output = B> + Drop, B: Drop> Task for Listener<'a, R, T> {
+impl<'a, R: Wait, T: Task<Output = B> + Drop, B: Drop> Task for Waiter<'a, R, T> {
     type Output = Option<B>;
 
     ghost can_run = { λ h. T.can_run h.beside };
@@ -124,12 +124,12 @@ impl<'a, R: Wait, T: Task<Output = B> + Drop, B: Drop> Task for Listener<'a, R, 
     ghost run_gives = { λ h r. IfSome r (T.run_gives h.beside) };
 
     fn run(self) -> Option<B> {
-        let Listener {
+        let Waiter {
             rt,
-            mut hears,
+            mut notified,
             beside,
         } = self;
-        hears.receive(rt)?;
+        notified.receive(rt)?;
         Some(beside.run())
     }
 }
@@ -143,7 +143,7 @@ pub fn run_tool<R: Threads + Wait + Sync, G: Gate, T: Task<Output = B> + Drop, B
     tool: &Tool,
     number: usize,
     lanes: usize,
-    across: Across,
+    plan: Plan,
     gate: &G,
     input: Receiver,
     output: Sender,
@@ -151,13 +151,13 @@ pub fn run_tool<R: Threads + Wait + Sync, G: Gate, T: Task<Output = B> + Drop, B
 ) -> Option<(StageDone, B)>
     requires shared { IsSync R.row × IsSync G.row }
     requires lawful { IsLawfulTool tool.now }
-    requires across { IsAcross lanes tool.now across }
+    requires plan { IsPlan lanes tool.now plan }
     requires beside { T.can_run beside }
     ensures ran { IfSome result (λ r. IsToolRun lanes tool.now input output r.0) }
     ensures beside { IfSome result (λ r. T.run_gives beside r.1) }
 {
-    match across {
-        Across::Stage => {
+    match plan {
+        Plan::Stage => {
             let stage = Stage {
                 rt,
                 alloc,
@@ -169,7 +169,7 @@ pub fn run_tool<R: Threads + Wait + Sync, G: Gate, T: Task<Output = B> + Drop, B
             };
             run_both(rt, stage, beside)
         }
-        Across::Lanes(rings, tells, hears) => {
+        Plan::Lanes(rings, notify, notified) => {
             // A closure, since a struct that is a task can't hand on that its gate may be shared.
             let over_lanes = Call(
                 move || -> Option<StageDone>
@@ -177,14 +177,22 @@ pub fn run_tool<R: Threads + Wait + Sync, G: Gate, T: Task<Output = B> + Drop, B
                         × IsLawfulTool tool.now × (is_row_wise tool.now ≡ true) × AreLaneRings rings }
                     ensures { IfSome result (IsLanesRun tool.entry.now input output) }
                 {
-                    let told = Announcer { rt, tells };
+                    let notifier = Notifier { rt, notify };
                     let (done, ()) = run_lanes_beside(
-                        rt, alloc, tool, number, rings, gate, input, output, told,
+                        rt, alloc, tool, number, rings, gate, input, output, notifier,
                     )?;
                     Some(done)
                 },
             );
-            let (done, beside) = run_both(rt, over_lanes, Listener { rt, hears, beside })?;
+            let (done, beside) = run_both(
+                rt,
+                over_lanes,
+                Waiter {
+                    rt,
+                    notified,
+                    beside,
+                },
+            )?;
             Some((done?, beside?))
         }
     }

@@ -14,7 +14,7 @@
 //! - `stage ROOM GONE (TOOL) MESSAGES`, `deal LANES GONE MESSAGES`, `gather ROOM GONE MESSAGES|MESSAGES`: how a stage
 //!   over rings ends, the dealing to lanes and the gathering from lanes; what is left of what came, and what is sent
 //!   (`rings`); an end of a ring is gone: `input`, `inputs`, `output`, that of a lane by its number, or none of them.
-//!   Rows between braces lie in a ring together
+//!   Rows between braces lie in a ring together, and so does a whole image
 //! - `chain LANES (CHAIN) MESSAGES`: how each tool of a chain over LANES lanes ends; what is left of what came, and
 //!   what is sent
 //! - `heights LANES HEIGHT`: how many rows of an image each lane gets
@@ -30,7 +30,7 @@ mod ways;
 
 use failing::{Calls, Devices, form_of};
 use pnm_test_support::{Unmade, cut_at, cut_number, cut_word, named, text_of};
-use runs::{Changes, Job, tell_changes, tell_input};
+use runs::{Changes, Job, write_changes, write_input};
 use std::alloc::{AllocError, Global};
 use std::sync::Wait;
 use std::thread::Threads;
@@ -68,78 +68,78 @@ const WORDS: &[(&[u8], How)] = &[
 ];
 
 fn main(rt: HostRuntime) -> Result<(), Unmade> {
-    tell_lines(&rt)
+    write_lines(&rt)
 }
 
 /// Prints what comes of the case of each line of the standard input, and a line that begins with `#` as it is. This is
-/// a function of its own, since a method of `Teller` can't be told that its runtime may be shared between threads.
-fn tell_lines<H: AllocGlobal + Input + Print + Threads + Wait + Sync>(
+/// a function of its own, since a method of `Solver` can't be told that its runtime may be shared between threads.
+fn write_lines<H: AllocGlobal + Input + Print + Threads + Wait + Sync>(
     rt: &H,
 ) -> Result<(), Unmade> {
     let alloc = rt.alloc();
     let text = io::read_to_string(alloc, rt.reader())?;
     for line in text.as_str().lines() {
-        tell_line(rt, alloc, line)?;
+        write_line(rt, alloc, line)?;
     }
     Ok(())
 }
 
 /// Prints what comes of the case of a line.
-fn tell_line<H: Print + Threads + Wait + Sync>(
+fn write_line<H: Print + Threads + Wait + Sync>(
     rt: &H,
     alloc: Global,
     line: &str,
 ) -> Result<(), Unmade> {
-    let mut told = String::new(alloc);
-    tell_case(rt, alloc, line, &mut told)?;
-    println!(rt; "{told}")?;
+    let mut out = String::new(alloc);
+    write_case(rt, alloc, line, &mut out)?;
+    println!(rt; "{out}")?;
     Ok(())
 }
 
 /// Adds what comes of the case of a line, or ` no case` if it isn't one, or can't be made.
-fn tell_case<R: Threads + Wait + Sync>(
+fn write_case<R: Threads + Wait + Sync>(
     rt: &R,
     alloc: Global,
     line: &str,
-    told: &mut String,
+    out: &mut String,
 ) -> Result<(), AllocError> {
     if line.as_bytes().first() == Some(&b'#') {
-        return told.push_str(line);
+        return out.push_str(line);
     }
     let (word, written) = cut_word(line.as_bytes());
     let text = text_of(alloc, written)?;
-    match tell(rt, alloc, word, text.as_slice(), told) {
+    match solve(rt, alloc, word, text.as_slice(), out) {
         Ok(()) => Ok(()),
-        Err(Unmade) => told.push_str(" no case"),
+        Err(Unmade) => out.push_str(" no case"),
     }
 }
 
 /// Adds what comes of a case: of a word, and the text after it.
-fn tell<R: Threads + Wait + Sync>(
+fn solve<R: Threads + Wait + Sync>(
     rt: &R,
     alloc: Global,
     word: &[u8],
     text: &[u8],
-    told: &mut String,
+    out: &mut String,
 ) -> Result<(), Unmade> {
     match named(WORDS, word).unwrap_or(How::Whole) {
-        How::Stage => rings::tell_tools(rt, alloc, false, text, told),
-        How::Deal => rings::tell_dealt(rt, alloc, text, told),
-        How::Gather => rings::tell_gathered(rt, alloc, text, told),
-        How::Chain => rings::tell_tools(rt, alloc, true, text, told),
-        How::Heights => Ok(rings::tell_heights(text, told)?),
-        how => tell_runs(rt, alloc, how, word, text, told),
+        How::Stage => rings::write_tools(rt, alloc, false, text, out),
+        How::Deal => rings::write_dealt(rt, alloc, text, out),
+        How::Gather => rings::write_gathered(rt, alloc, text, out),
+        How::Chain => rings::write_tools(rt, alloc, true, text, out),
+        How::Heights => Ok(rings::write_heights(text, out)?),
+        how => write_runs(rt, alloc, how, word, text, out),
     }
 }
 
 /// Adds what comes of runs of the chain that stands in a text.
-fn tell_runs<R: Threads + Wait + Sync>(
+fn write_runs<R: Threads + Wait + Sync>(
     rt: &R,
     alloc: Global,
     how: How,
     word: &[u8],
     text: &[u8],
-    told: &mut String,
+    out: &mut String,
 ) -> Result<(), Unmade> {
     let (facts, written) = cut_at(text, b'(');
     let (chain, rest) = cut_at(written, b')');
@@ -160,26 +160,26 @@ fn tell_runs<R: Threads + Wait + Sync>(
         devices,
     };
     match how {
-        How::Cuts => tell_changes(rt, alloc, Changes::Input, input.len() + 1, job, told),
-        How::Fails => tell_failing(rt, alloc, word, facts, job, told),
-        How::Buffered => tell_changes(rt, alloc, Changes::Room, size, job, told),
-        _ => tell_input(rt, alloc, job, told),
+        How::Cuts => write_changes(rt, alloc, Changes::Input, input.len() + 1, job, out),
+        How::Fails => write_failing(rt, alloc, word, facts, job, out),
+        How::Buffered => write_changes(rt, alloc, Changes::Room, size, job, out),
+        _ => write_input(rt, alloc, job, out),
     }
 }
 
 /// Adds what runs answer and write if a call of this name fails, and if a later one does, for as many calls as `facts`
 /// says.
-fn tell_failing<R: Threads + Wait + Sync>(
+fn write_failing<R: Threads + Wait + Sync>(
     rt: &R,
     alloc: Global,
     name: &[u8],
     facts: &[u8],
     job: Job<'_>,
-    told: &mut String,
+    out: &mut String,
 ) -> Result<(), Unmade> {
     let (form, rest) = cut_word(facts);
     let form = form_of(form);
     let (count, rest) = cut_number(rest);
     let changes = Changes::Calls(name, Calls::of(rest));
-    tell_changes(rt, alloc, changes, count, Job { form, ..job }, told)
+    write_changes(rt, alloc, changes, count, Job { form, ..job }, out)
 }

@@ -1,28 +1,25 @@
 //! Threads at rings whose messages are there before they begin: a stage, the dealing to lanes, the gathering from them,
-//! and a chain over lanes. Rows between braces lie in a ring together.
+//! and a chain over lanes. Rows between braces lie in a ring together, and so does a whole image.
 
 ghost use Rattle.std.specs.Prelude.{IfOk};
 ghost use Rattle.pnm_tools.specs.Chains.{IsChain};
 
 use pnm_chain::parse_chain;
 use pnm_flow::{
-    MAX_LANES, OpenGate, Packet, Receiver, Sender, StageEnd, deal, gather, new_ring, run_chain,
-    run_stage,
+    MAX_LANES, OpenGate, Receiver, Sender, StageEnd, deal, gather, new_ring, run_chain, run_stage,
 };
 use pnm_lanes::dealt_height;
-use pnm_test_support::{
-    Handed, Unmade, cut_at, cut_number, cut_word, handed_of, number_of, tell_packet,
-};
+use pnm_test_support::{Unmade, cut_at, cut_number, cut_word, number_of, packets_of, write_packet};
 use pnm_tools::Tool;
 use std::alloc::{AllocError, Global};
 use std::str;
 use std::sync::Wait;
 use std::thread::Threads;
 
-/// How many messages a ring has room for.
+/// How many packets a ring has room for.
 const CAPACITY: usize = 8;
 
-/// A ring for `capacity` messages.
+/// A ring for `capacity` packets.
 fn ring(alloc: Global, capacity: usize) -> Result<(Sender, Receiver), Unmade> {
     new_ring(alloc, capacity).ok_or(Unmade)
 }
@@ -35,15 +32,8 @@ fn holding<R: Wait>(
     is_gone: bool,
 ) -> Result<(Option<Sender>, Receiver), Unmade> {
     let (mut sender, receiver) = ring(alloc, CAPACITY)?;
-    for handed in handed_of(alloc, text, true)? {
-        if !sender.has_room() {
-            return Err(Unmade);
-        }
-        let is_sent = match handed {
-            Handed::Message(message) => sender.send(rt, message),
-            Handed::Rows(rows) => sender.send_packet(rt, Packet::Rows(rows)),
-        };
-        if !is_sent {
+    for packet in packets_of(alloc, text, true)? {
+        if !sender.has_room() || !sender.send_packet(rt, packet) {
             return Err(Unmade);
         }
     }
@@ -54,7 +44,7 @@ fn holding<R: Wait>(
     Ok((Some(sender), receiver))
 }
 
-/// A ring for `capacity` messages: its sending end, and its receiving end unless that is gone.
+/// A ring for `capacity` packets: its sending end, and its receiving end unless that is gone.
 fn taking(
     alloc: Global,
     capacity: usize,
@@ -69,26 +59,26 @@ fn taking(
 }
 
 /// Adds the word and all that the ring holds, or nothing if it holds nothing.
-fn tell_ring(
+fn write_ring(
     alloc: Global,
     word: &str,
     input: &mut Receiver,
-    told: &mut String,
+    out: &mut String,
 ) -> Result<(), AllocError> {
     if input.has_message() {
-        told.push_str(word)?;
+        out.push_str(word)?;
     }
     for _ in 0..CAPACITY {
         if input.has_message() {
-            tell_packet(alloc, told, input.receive_known())?;
+            write_packet(alloc, out, input.receive_known())?;
         }
     }
     Ok(())
 }
 
 /// Adds how a thread at rings has ended.
-fn tell_end(end: StageEnd, told: &mut String) -> Result<(), AllocError> {
-    write!(told, " {end:?}")
+fn write_end(end: StageEnd, out: &mut String) -> Result<(), AllocError> {
+    write!(out, " {end:?}")
 }
 
 /// The tools that a text names.
@@ -105,12 +95,12 @@ fn tools_of(alloc: Global, text: &[u8]) -> Result<Vec<Tool>, Unmade>
 }
 
 /// Adds how a stage of a tool ends, or each tool of a chain over lanes; what is left of what came; and what is sent.
-pub fn tell_tools<R: Threads + Wait + Sync>(
+pub fn write_tools<R: Threads + Wait + Sync>(
     rt: &R,
     alloc: Global,
     is_chain: bool,
     text: &[u8],
-    told: &mut String,
+    out: &mut String,
 ) -> Result<(), Unmade> {
     let (number, rest) = cut_number(text);
     let (before, rest) = cut_at(rest, b'(');
@@ -121,57 +111,57 @@ pub fn tell_tools<R: Threads + Wait + Sync>(
     let (_sender, input) = holding(rt, alloc, takes, gone == b"input".as_slice())?;
     let (output, receiver) = taking(alloc, capacity, gone == b"output".as_slice())?;
     if is_chain {
-        tell_chain(rt, alloc, tools.as_slice(), number, input, output, told)?;
+        write_chain(rt, alloc, tools.as_slice(), number, input, output, out)?;
     } else {
-        tell_stage(rt, alloc, tools.as_slice(), input, output, told)?;
+        write_stage(rt, alloc, tools.as_slice(), input, output, out)?;
     }
-    tell_sent(alloc, receiver, told)
+    write_sent(alloc, receiver, out)
 }
 
 /// Adds how a stage of the first of these tools ends, and what it leaves. The tool has to be lawful.
-fn tell_stage<R: Wait>(
+fn write_stage<R: Wait>(
     rt: &R,
     alloc: Global,
     tools: &[Tool],
     input: Receiver,
     output: Sender,
-    told: &mut String,
+    out: &mut String,
 ) -> Result<(), Unmade> {
     match tools.first() {
         Some(tool) if tool.is_lawful() => {
             let done = run_stage(rt, alloc, tool, 1, &OpenGate, input, output);
-            Ok(tell_done(alloc, done.end, done.input, told)?)
+            Ok(write_done(alloc, done.end, done.input, out)?)
         }
         _ => Err(Unmade),
     }
 }
 
 /// Adds how a thread at rings has ended, and what it leaves.
-fn tell_done(
+fn write_done(
     alloc: Global,
     end: StageEnd,
     input: Receiver,
-    told: &mut String,
+    out: &mut String,
 ) -> Result<(), AllocError> {
-    tell_end(end, told)?;
-    tell_left(alloc, input, told)
+    write_end(end, out)?;
+    write_left(alloc, input, out)
 }
 
 /// Adds what is left of what came.
-fn tell_left(alloc: Global, input: Receiver, told: &mut String) -> Result<(), AllocError> {
+fn write_left(alloc: Global, input: Receiver, out: &mut String) -> Result<(), AllocError> {
     let mut input = input;
-    tell_ring(alloc, " left", &mut input, told)
+    write_ring(alloc, " left", &mut input, out)
 }
 
 /// Adds how each tool of a chain over `lanes` lanes ends, and what the first one leaves.
-fn tell_chain<R: Threads + Wait + Sync>(
+fn write_chain<R: Threads + Wait + Sync>(
     rt: &R,
     alloc: Global,
     tools: &[Tool],
     lanes: usize,
     input: Receiver,
     output: Sender,
-    told: &mut String,
+    out: &mut String,
 ) -> Result<(), Unmade>
     requires { IsChain tools.now }
 {
@@ -180,25 +170,25 @@ fn tell_chain<R: Threads + Wait + Sync>(
     }
     match run_chain(rt, alloc, tools, CAPACITY, lanes, &OpenGate, input, output) {
         Ok(done) => {
-            tell_ends(done.ends.as_slice(), told)?;
-            Ok(tell_left(alloc, done.input, told)?)
+            write_ends(done.ends.as_slice(), out)?;
+            Ok(write_left(alloc, done.input, out)?)
         }
         Err(_) => Err(Unmade),
     }
 }
 
 /// Adds how threads at rings have ended.
-fn tell_ends(ends: &[StageEnd], told: &mut String) -> Result<(), AllocError> {
+fn write_ends(ends: &[StageEnd], out: &mut String) -> Result<(), AllocError> {
     for end in ends {
-        tell_end(*end, told)?;
+        write_end(*end, out)?;
     }
     Ok(())
 }
 
 /// Adds what was sent, if there is a receiving end.
-fn tell_sent(alloc: Global, receiver: Option<Receiver>, told: &mut String) -> Result<(), Unmade> {
+fn write_sent(alloc: Global, receiver: Option<Receiver>, out: &mut String) -> Result<(), Unmade> {
     if let Some(mut receiver) = receiver {
-        tell_ring(alloc, " sent", &mut receiver, told)?;
+        write_ring(alloc, " sent", &mut receiver, out)?;
     }
     Ok(())
 }
@@ -234,11 +224,11 @@ fn lane_of(word: &[u8]) -> Option<usize> {
 }
 
 /// Adds how the dealing to lanes ends, what it leaves, and what each lane is sent.
-pub fn tell_dealt<R: Wait>(
+pub fn write_dealt<R: Wait>(
     rt: &R,
     alloc: Global,
     text: &[u8],
-    told: &mut String,
+    out: &mut String,
 ) -> Result<(), Unmade> {
     let (count, rest) = cut_number(text);
     let (gone, takes) = cut_word(rest);
@@ -248,21 +238,21 @@ pub fn tell_dealt<R: Wait>(
         return Err(Unmade);
     }
     let done = deal(rt, alloc, input, outputs);
-    tell_done(alloc, done.end, done.input, told)?;
-    Ok(tell_rings(alloc, (" |", ""), lanes.as_mut_slice(), told)?)
+    write_done(alloc, done.end, done.input, out)?;
+    Ok(write_rings(alloc, (" |", ""), lanes.as_mut_slice(), out)?)
 }
 
 /// Adds all that the rings hold, each after the first of these words, and after the other one too if the ring holds
 /// something.
-fn tell_rings(
+fn write_rings(
     alloc: Global,
     (word, word_of_some): (&str, &str),
     inputs: &mut [Receiver],
-    told: &mut String,
+    out: &mut String,
 ) -> Result<(), AllocError> {
     for input in inputs.iter_mut() {
-        told.push_str(word)?;
-        tell_ring(alloc, word_of_some, input, told)?;
+        out.push_str(word)?;
+        write_ring(alloc, word_of_some, input, out)?;
     }
     Ok(())
 }
@@ -291,11 +281,11 @@ fn giving<R: Wait>(
 }
 
 /// Adds how the gathering from lanes ends, what it leaves, and what is sent.
-pub fn tell_gathered<R: Wait>(
+pub fn write_gathered<R: Wait>(
     rt: &R,
     alloc: Global,
     text: &[u8],
-    told: &mut String,
+    out: &mut String,
 ) -> Result<(), Unmade> {
     let (capacity, rest) = cut_number(text);
     let (gone, gives) = cut_word(rest);
@@ -305,19 +295,19 @@ pub fn tell_gathered<R: Wait>(
         return Err(Unmade);
     }
     let mut done = gather(rt, inputs, output);
-    tell_end(done.end, told)?;
-    tell_rings(alloc, ("", " left"), done.inputs.as_mut_slice(), told)?;
-    tell_sent(alloc, receiver, told)
+    write_end(done.end, out)?;
+    write_rings(alloc, ("", " left"), done.inputs.as_mut_slice(), out)?;
+    write_sent(alloc, receiver, out)
 }
 
 /// Adds how many rows of an image each lane gets, for a number of lanes and a height.
-pub fn tell_heights(text: &[u8], told: &mut String) -> Result<(), AllocError> {
+pub fn write_heights(text: &[u8], out: &mut String) -> Result<(), AllocError> {
     let (lanes, rest) = cut_number(text);
     let (height, _) = cut_number(rest);
     let lanes = number_of(lanes);
     for lane in 0..lanes {
         let rows = dealt_height(number_of(height), lane, lanes);
-        write!(told, " {rows}")?;
+        write!(out, " {rows}")?;
     }
     Ok(())
 }

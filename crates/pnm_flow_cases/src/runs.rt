@@ -7,7 +7,7 @@ use super::ways::{WAYS, Way, run_by};
 use pnm_chain::parse_chain;
 use pnm_flow::{RunFault, Summary};
 use pnm_image::{BytesOut, Device, Form};
-use pnm_test_support::{Drips, FailsOnce, NeverFlushes, Sips, Unmade, tell_change, tell_text};
+use pnm_test_support::{Drips, FailsOnce, NeverFlushes, Sips, Unmade, write_change, write_text};
 use pnm_tools::Tool;
 use std::alloc::{AllocError, Global};
 use std::io::BufWriter;
@@ -24,14 +24,14 @@ pub struct Job<'a> {
 }
 
 /// Adds what runs over this input answer and write.
-pub fn tell_input<R: Threads + Wait + Sync>(
+pub fn write_input<R: Threads + Wait + Sync>(
     rt: &R,
     alloc: Global,
     job: Job<'_>,
-    told: &mut String,
+    out: &mut String,
 ) -> Result<(), Unmade> {
     match parse_chain(alloc, job.chain) {
-        Ok(tools) => tell_ways(rt, alloc, tools.as_slice(), job, told),
+        Ok(tools) => write_ways(rt, alloc, tools.as_slice(), job, out),
         Err(_) => Err(Unmade),
     }
 }
@@ -64,59 +64,59 @@ impl Changes<'_> {
 
 /// Adds what `count` runs that change so answer and write, each answer with the number of the run from which on it
 /// holds.
-pub fn tell_changes<R: Threads + Wait + Sync>(
+pub fn write_changes<R: Threads + Wait + Sync>(
     rt: &R,
     alloc: Global,
     changes: Changes<'_>,
     count: usize,
     job: Job<'_>,
-    told: &mut String,
+    out: &mut String,
 ) -> Result<(), Unmade> {
     let mut before = String::new(alloc);
     for number in 0..count {
         let mut answers = String::new(alloc);
-        tell_input(rt, alloc, changes.job(job, number), &mut answers)?;
-        tell_change(told, number, &mut before, answers)?;
+        write_input(rt, alloc, changes.job(job, number), &mut answers)?;
+        write_change(out, number, &mut before, answers)?;
     }
     Ok(())
 }
 
 /// Adds what a run of these tools answers and writes, and what a run in another way does, if that is something else.
-fn tell_ways<R: Threads + Wait + Sync>(
+fn write_ways<R: Threads + Wait + Sync>(
     rt: &R,
     alloc: Global,
     tools: &[Tool],
     job: Job<'_>,
-    told: &mut String,
+    out: &mut String,
 ) -> Result<(), Unmade>
     requires { IsChain tools.now }
 {
-    tell_run(rt, alloc, Way::OneThread, tools, job, told)?;
+    write_run(rt, alloc, Way::OneThread, tools, job, out)?;
     for way in WAYS {
         let mut again = String::new(alloc);
-        tell_run(rt, alloc, way, tools, job, &mut again)?;
-        tell_other(told, way, again.as_str())?;
+        write_run(rt, alloc, way, tools, job, &mut again)?;
+        write_other(out, way, again.as_str())?;
     }
     Ok(())
 }
 
-/// Adds what a run in another way answers and writes, if that is something else than `told`.
-fn tell_other(told: &mut String, way: Way, again: &str) -> Result<(), AllocError> {
-    if again != told.as_str() {
-        write!(told, " but by {way:?}")?;
-        told.push_str(again)?;
+/// Adds what a run in another way answers and writes, if that is something else than `out`.
+fn write_other(out: &mut String, way: Way, again: &str) -> Result<(), AllocError> {
+    if again != out.as_str() {
+        write!(out, " but by {way:?}")?;
+        out.push_str(again)?;
     }
     Ok(())
 }
 
 /// Adds what a run in this way answers and writes.
-fn tell_run<R: Threads + Wait + Sync>(
+fn write_run<R: Threads + Wait + Sync>(
     rt: &R,
     alloc: Global,
     way: Way,
     tools: &[Tool],
     job: Job<'_>,
-    told: &mut String,
+    out: &mut String,
 ) -> Result<(), Unmade>
     requires { IsChain tools.now }
 {
@@ -124,16 +124,16 @@ fn tell_run<R: Threads + Wait + Sync>(
         Devices::Whole => {
             let mut writer = Device::new(Vec::new(alloc));
             let answer = run_over(rt, alloc, way, tools, job, &mut writer)?;
-            tell_answer(told, answer, writer.into_inner().as_slice())
+            write_answer(out, answer, writer.into_inner().as_slice())
         }
-        Devices::Failing(calls) => tell_failing_run(rt, alloc, way, tools, job, calls, told),
+        Devices::Failing(calls) => write_failing_run(rt, alloc, way, tools, job, calls, out),
         Devices::NeverFlushes => {
             let mut writer = Device::new(NeverFlushes::new(alloc));
             let answer = run_over(rt, alloc, way, tools, job, &mut writer)?;
-            tell_answer(told, answer, writer.into_inner().held())
+            write_answer(out, answer, writer.into_inner().held())
         }
-        Devices::Room(size) => tell_run_in_room(rt, alloc, way, tools, job, size, told),
-        Devices::Buffered(size) => tell_buffered_run(rt, alloc, way, tools, job, size, told),
+        Devices::Room(size) => write_run_in_room(rt, alloc, way, tools, job, size, out),
+        Devices::Buffered(size) => write_buffered_run(rt, alloc, way, tools, job, size, out),
     }
 }
 
@@ -153,33 +153,33 @@ fn run_over<R: Threads + Wait + Sync, W: BytesOut>(
 }
 
 /// Adds what a run in this way answers if its writer has room for `size` bytes, and all of these bytes.
-fn tell_run_in_room<R: Threads + Wait + Sync>(
+fn write_run_in_room<R: Threads + Wait + Sync>(
     rt: &R,
     alloc: Global,
     way: Way,
     tools: &[Tool],
     job: Job<'_>,
     size: usize,
-    told: &mut String,
+    out: &mut String,
 ) -> Result<(), Unmade>
     requires { IsChain tools.now }
 {
     let mut target = Vec::from_elem(alloc, 0, size)?;
     let mut writer = Device::new(target.as_mut_slice());
     let answer = run_over(rt, alloc, way, tools, job, &mut writer)?;
-    tell_answer(told, answer, target.as_slice())
+    write_answer(out, answer, target.as_slice())
 }
 
 /// Adds the same for a writer behind a buffer, which keeps the bytes back until a flush, as before the program's
 /// standard output.
-fn tell_buffered_run<R: Threads + Wait + Sync>(
+fn write_buffered_run<R: Threads + Wait + Sync>(
     rt: &R,
     alloc: Global,
     way: Way,
     tools: &[Tool],
     job: Job<'_>,
     size: usize,
-    told: &mut String,
+    out: &mut String,
 ) -> Result<(), Unmade>
     requires { IsChain tools.now }
 {
@@ -189,18 +189,18 @@ fn tell_buffered_run<R: Threads + Wait + Sync>(
     let answer = run_over(rt, alloc, way, tools, job, &mut writer)?;
     // What is left in the buffer isn't written.
     let _ = writer.into_inner().into_parts();
-    tell_answer(told, answer, target.as_slice())
+    write_answer(out, answer, target.as_slice())
 }
 
 /// Adds what a run in this way answers and writes if its devices make these calls.
-fn tell_failing_run<R: Threads + Wait + Sync>(
+fn write_failing_run<R: Threads + Wait + Sync>(
     rt: &R,
     alloc: Global,
     way: Way,
     tools: &[Tool],
     job: Job<'_>,
     calls: Calls,
-    told: &mut String,
+    out: &mut String,
 ) -> Result<(), Unmade>
     requires { IsChain tools.now }
 {
@@ -212,35 +212,35 @@ fn tell_failing_run<R: Threads + Wait + Sync>(
     let mut reader = Device::new(drips);
     let mut writer = Device::new(Sips::new(alloc, calls.write_size, writes, flushes));
     let answer = run_by(rt, alloc, way, &mut reader, &mut writer, tools, job.form)?;
-    tell_answer(told, answer, writer.into_inner().held())
+    write_answer(out, answer, writer.into_inner().held())
 }
 
 /// Adds what a run answered, and what it wrote.
-fn tell_answer(
-    told: &mut String,
+fn write_answer(
+    out: &mut String,
     answer: Result<Summary, RunFault>,
     written: &[u8],
 ) -> Result<(), Unmade> {
     match answer {
-        Ok(summary) => tell_summary(told, summary)?,
-        Err(fault) => tell_fault(told, fault)?,
+        Ok(summary) => write_summary(out, summary)?,
+        Err(fault) => write_fault(out, fault)?,
     }
-    Ok(tell_text(told, written)?)
+    Ok(write_text(out, written)?)
 }
 
 /// Adds what was written.
-fn tell_summary(told: &mut String, summary: Summary) -> Result<(), AllocError> {
+fn write_summary(out: &mut String, summary: Summary) -> Result<(), AllocError> {
     let (images, rows) = (summary.images, summary.rows);
-    write!(told, " {images} images {rows} rows")
+    write!(out, " {images} images {rows} rows")
 }
 
 /// Adds whose fault it is, and the fault.
-fn tell_fault(told: &mut String, fault: RunFault) -> Result<(), AllocError> {
+fn write_fault(out: &mut String, fault: RunFault) -> Result<(), AllocError> {
     match fault {
-        RunFault::NoStart => told.push_str(" NoStart"),
-        RunFault::Input(fault) => write!(told, " input {fault}"),
-        RunFault::Tool(number, fault) => write!(told, " tool {number} {fault}"),
-        RunFault::Output(fault) => write!(told, " output {fault}"),
-        RunFault::PeerGone(number) => write!(told, " tool {number} PeerGone"),
+        RunFault::NoStart => out.push_str(" NoStart"),
+        RunFault::Input(fault) => write!(out, " input {fault}"),
+        RunFault::Tool(number, fault) => write!(out, " tool {number} {fault}"),
+        RunFault::Output(fault) => write!(out, " output {fault}"),
+        RunFault::PeerGone(number) => write!(out, " tool {number} PeerGone"),
     }
 }

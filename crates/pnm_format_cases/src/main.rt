@@ -27,9 +27,11 @@
 //! - `fails TEXT`: the answers if one of the reads of a byte each fails, by the number of reads before it
 //! - `reads MOST FAILING TEXT`: the answers, and what each read asked for and got: at most MOST bytes, and nothing at
 //!   read FAILING
-//! - `joins MOST FAILING TEXT`: the answers where the source is asked for rows together before each message, between
+//! - `together MOST FAILING TEXT`: the answers where the source is asked for rows together before each message, between
 //!   braces those that come so: a read gives at most MOST bytes, and read FAILING fails, none for 0
-//! - `reads_by SIZE MOST FAILING TEXT`, `joins_by SIZE MOST FAILING TEXT`: the same through a buffer of SIZE bytes
+//! - `whole MOST FAILING TEXT`: the same where it is asked for the rest of an image before each message, whose end
+//!   stands behind the braces
+//! - `reads_by SIZE MOST FAILING TEXT`, `together_by ..`, `whole_by ..`: the same through a buffer of SIZE bytes
 //! - `ahead COUNT TEXT`: how many reads of a byte each were made before the first answer, and after each
 //! - `held COUNT TEXT`: for each number of bytes a read, for how many of COUNT answers the source rightly tells
 //!   whether it will make a read
@@ -56,14 +58,14 @@ mod read;
 mod samples;
 mod write;
 
-use pnm_test_support::{Teller, Unmade, named, tell_all, tell_lines};
+use pnm_test_support::{Solver, Unmade, named, write_all, write_lines};
 use std::alloc::Global;
 
 fn main(rt: HostRuntime) -> Result<(), Unmade> {
     let mut formats = Formats {
         images: Vec::new(rt.alloc()),
     };
-    tell_lines(&rt, &mut formats)
+    write_lines(&rt, &mut formats)
 }
 
 /// Tells what formats are made of.
@@ -73,34 +75,34 @@ struct Formats {
     images: Vec<Vec<u8>>,
 }
 
-impl Teller for Formats {
-    fn tell(
+impl Solver for Formats {
+    fn solve(
         &mut self,
         alloc: Global,
         word: &[u8],
         text: &[u8],
-        told: &mut String,
+        out: &mut String,
     ) -> Result<(), Unmade> {
         if let Some(how) = named(samples::WORDS, word) {
-            return samples::tell(alloc, how, text, told);
+            return samples::solve(alloc, how, text, out);
         }
         if let Some(how) = named(read::WORDS, word) {
-            return Ok(read::tell(alloc, how, text, &mut self.images, told)?);
+            return Ok(read::solve(alloc, how, text, &mut self.images, out)?);
         }
         match named(write::WORDS, word) {
-            Some(how) => write::tell(alloc, how, text, told),
-            None => tell_names(word, text, told),
+            Some(how) => write::solve(alloc, how, text, out),
+            None => write_names(word, text, out),
         }
     }
 }
 
 /// Adds the faults of sources or of sinks as they are printed.
-fn tell_names(word: &[u8], text: &[u8], told: &mut String) -> Result<(), Unmade> {
+fn write_names(word: &[u8], text: &[u8], out: &mut String) -> Result<(), Unmade> {
     if word != b"names".as_slice() {
         return Err(Unmade);
     }
     if text == b"input".as_slice() {
-        return Ok(tell_all(told, read::FAULTS)?);
+        return Ok(write_all(out, read::FAULTS)?);
     }
-    Ok(tell_all(told, write::FAULTS)?)
+    Ok(write_all(out, write::FAULTS)?)
 }

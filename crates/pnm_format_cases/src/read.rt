@@ -17,8 +17,10 @@ pub enum How {
     Fails,
     Reads,
     ReadsBy,
-    Joins,
-    JoinsBy,
+    Together,
+    TogetherBy,
+    Whole,
+    WholeBy,
     Ahead,
     Held,
     Width,
@@ -37,8 +39,10 @@ pub const WORDS: &[(&[u8], How)] = &[
     (b"fails", How::Fails),
     (b"reads", How::Reads),
     (b"reads_by", How::ReadsBy),
-    (b"joins", How::Joins),
-    (b"joins_by", How::JoinsBy),
+    (b"together", How::Together),
+    (b"together_by", How::TogetherBy),
+    (b"whole", How::Whole),
+    (b"whole_by", How::WholeBy),
     (b"ahead", How::Ahead),
     (b"held", How::Held),
     (b"width", How::Width),
@@ -71,28 +75,27 @@ pub const FAULTS: &[InputFault] = &[
 ];
 
 /// Adds what comes of a case. `images` holds the raw images so far.
-pub fn tell(
+pub fn solve(
     alloc: Global,
     how: How,
     text: &[u8],
     images: &mut Vec<Vec<u8>>,
-    told: &mut String,
+    out: &mut String,
 ) -> Result<(), AllocError> {
     match how {
-        How::Text => answers::tell_text(alloc, text, &[1, 2, 3, 4, 5, 6, 7, 8, 4097], told),
-        How::Long => answers::tell_text(alloc, text, &[4097], told),
-        How::Cuts => answers::tell_cuts(alloc, text, told),
-        How::Fails => reads::tell_fails(alloc, text, told),
-        How::Reads | How::ReadsBy | How::Joins | How::JoinsBy => {
-            reads::tell_reads(alloc, how, text, told)
-        }
-        How::Ahead => reads::tell_ahead(alloc, text, told),
-        How::Held => reads::tell_held(alloc, text, told),
-        How::Width => answers::tell_width(alloc, text, told),
-        How::Changes => sweeps::tell_sweep(alloc, text, 1, told),
-        How::Inserts => sweeps::tell_sweep(alloc, text, 0, told),
+        How::Text => answers::write_text(alloc, text, &[1, 2, 3, 4, 5, 6, 7, 8, 4097], out),
+        How::Long => answers::write_text(alloc, text, &[4097], out),
+        How::Cuts => answers::write_cuts(alloc, text, out),
+        How::Fails => reads::write_fails(alloc, text, out),
+        How::Reads | How::ReadsBy | How::Together | How::TogetherBy | How::Whole | How::WholeBy =>
+            reads::write_reads(alloc, how, text, out),
+        How::Ahead => reads::write_ahead(alloc, text, out),
+        How::Held => reads::write_held(alloc, text, out),
+        How::Width => answers::write_width(alloc, text, out),
+        How::Changes => sweeps::write_sweep(alloc, text, 1, out),
+        How::Inserts => sweeps::write_sweep(alloc, text, 0, out),
         How::Image => Ok(images.push(Vec::from_slice(alloc, text)?)?),
-        How::Streams => streams::tell_streams(alloc, images.as_slice(), told),
-        How::After => streams::tell_after(alloc, images.as_slice(), text, told),
+        How::Streams => streams::write_streams(alloc, images.as_slice(), out),
+        How::After => streams::write_after(alloc, images.as_slice(), text, out),
     }
 }

@@ -50,19 +50,19 @@ pub const WORDS: &[(&[u8], How)] = &[
 ];
 
 /// Adds what comes of a case.
-pub fn tell(alloc: Global, how: How, text: &[u8], told: &mut String) -> Result<(), Unmade> {
+pub fn solve(alloc: Global, how: How, text: &[u8], out: &mut String) -> Result<(), Unmade> {
     match how {
-        How::Bits => pixels::tell_bits_of(alloc, text, told),
-        How::Words => bounds::tell_samples(alloc, text, SampleWidth::Words, told),
-        How::Bytes => bounds::tell_samples(alloc, text, SampleWidth::Bytes, told),
-        How::Pixels => bounds::tell_pixels(alloc, text, told),
-        How::Bound => bounds::tell_bound(alloc, text, told),
-        How::Left => bounds::tell_left(text, told),
+        How::Bits => pixels::write_bits_of(alloc, text, out),
+        How::Words => bounds::write_samples(alloc, text, SampleWidth::Words, out),
+        How::Bytes => bounds::write_samples(alloc, text, SampleWidth::Bytes, out),
+        How::Pixels => bounds::write_pixels(alloc, text, out),
+        How::Bound => bounds::write_bound(alloc, text, out),
+        How::Left => bounds::write_left(text, out),
         How::Columns | How::Samples => {
             let (kind, ranges) = cut_word(text);
-            sweeps::tell_sweep(alloc, how, kind, ranges, told)
+            sweeps::write_sweep(alloc, how, kind, ranges, out)
         }
-        How::Parts => sweeps::tell_sweep(alloc, how, text, rows::PARTS, told),
-        _ => sweeps::tell_sweep(alloc, how, b"", text, told),
+        How::Parts => sweeps::write_sweep(alloc, how, text, rows::PARTS, out),
+        _ => sweeps::write_sweep(alloc, how, b"", text, out),
     }
 }

@@ -37,13 +37,13 @@ pub const FAULTS: &[SinkFault] = &[
 ];
 
 /// Adds what comes of a case.
-pub fn tell(alloc: Global, how: How, text: &[u8], told: &mut String) -> Result<(), Unmade> {
+pub fn solve(alloc: Global, how: How, text: &[u8], out: &mut String) -> Result<(), Unmade> {
     match how {
-        How::Raw => sinks::tell_written(alloc, Form::Raw, text, told),
-        How::Plain => sinks::tell_written(alloc, Form::Plain, text, told),
-        How::Sips => sinks::tell_sips(alloc, text, told),
-        How::Numbers => made::tell_numbers(alloc, text, told),
-        How::Bitmaps => made::tell_sweep(alloc, Kind::Bit, text, told),
+        How::Raw => sinks::write_written(alloc, Form::Raw, text, out),
+        How::Plain => sinks::write_written(alloc, Form::Plain, text, out),
+        How::Sips => sinks::write_sips(alloc, text, out),
+        How::Numbers => made::write_numbers(alloc, text, out),
+        How::Bitmaps => made::write_sweep(alloc, Kind::Bit, text, out),
     }
 }
 

@@ -12,7 +12,7 @@ use Rattle.std.proofs.lemmas.Slice.{take-put_mid}
 use Rattle.pnm_image.specs.declared.shape.Shape.{Shape}
 use Rattle.pnm_image.specs.Heads.{row_length}
 use Rattle.pnm_tools.specs.Enlarge.{enlarged_row, copies_of}
-use Rattle.pnm_tools.specs.Pixels.{pixel_of}
+use Rattle.pnm_tools.specs.PixelSamples.{pixel_of}
 use Rattle.pnm_tools.proofs.RangeLaws.{pieces_in_parts, pieces_alike_from}
 
 -- the first columns, each pixel so many times

@@ -9,7 +9,7 @@ use Rattle.pnm_image.specs.Heads.{HeadValue, head_value, is_too_large}
 use Rattle.pnm_tools.specs.declared.fault.ToolFault.TheVariants.{OutOfOrder, TooLarge}
 use Rattle.pnm_tools.specs.declared.tool.Tool.TheVariants.{Enlarge}
 use Rattle.pnm_tools.specs.Enlarge.{enlarged_head, enlarged_head_value}
-use Rattle.pnm_tools.specs.Limits.{within_limits}
+use Rattle.pnm_tools.specs.ToolLimits.{within_limits}
 use Rattle.pnm_tools.specs.Tools.{result_head}
 use Rattle.pnm_tools.proofs.HeadLaws.{large_head}
 use Rattle.pnm_tools.proofs.FlippedHeadLaws.{some_rows}

@@ -12,7 +12,7 @@ use Rattle.pnm_samples.proofs.CutLaws.{length-cut_rows}
 use Rattle.pnm_tools.specs.declared.tool.Tool.TheVariants.{Enlarge}
 use Rattle.pnm_tools.specs.Answering.{rows_answer}
 use Rattle.pnm_tools.specs.Enlarge.{enlarged_row, copies_of}
-use Rattle.pnm_tools.specs.Pixels.{pixel_of}
+use Rattle.pnm_tools.specs.PixelSamples.{pixel_of}
 use Rattle.pnm_tools.proofs.PickLaws.{columns_end}
 use Rattle.pnm_tools.proofs.RangeLaws.{pieces_in_parts, pieces_alike_from, length_of_equals}
 use Rattle.pnm_tools.proofs.RowLaws.{row_of_enlarge}

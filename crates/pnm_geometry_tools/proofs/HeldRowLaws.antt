@@ -11,7 +11,7 @@ use Rattle.pnm_samples.proofs.PixelLaws.{length-all_pixels, take-all_pixels}
 use Rattle.pnm_samples.proofs.PixelRowsLaws.{length_of_rows}
 use Rattle.pnm_image.specs.declared.rows.RowVec.{RowVec}
 use Rattle.pnm_image.proofs.HeldRowLaws.{one_length}
-use Rattle.pnm_geometry_tools.specs.HeldRows.{HoldsRows}
+use Rattle.pnm_geometry_tools.specs.MadeRows.{HoldsRows}
 use Rattle.pnm_geometry_tools.proofs.EnlargeRowLaws.{columns_repeated}
 use Rattle.pnm_geometry_tools.proofs.EnlargedRowsLaws.{repeated_cut}
 

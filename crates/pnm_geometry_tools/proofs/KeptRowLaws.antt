@@ -10,7 +10,7 @@ use Rattle.pnm_image.specs.declared.rows.RowVec.TheVariants.{Bits, Bytes, Words}
 use Rattle.pnm_image.specs.HeldRows.{AreRows, row_lists}
 use Rattle.pnm_image.specs.Images.{cut_rows}
 use Rattle.pnm_image.proofs.HeldRowLaws.{length_of_lists, lengths_of_lists, one_length}
-use Rattle.pnm_geometry_tools.specs.HeldRows.{HoldsRows}
+use Rattle.pnm_geometry_tools.specs.MadeRows.{HoldsRows}
 use Rattle.pnm_geometry_tools.specs.Keeping.{fronts_in}
 use Rattle.pnm_geometry_tools.proofs.HeldRowLaws.{cut_behind}
 use Rattle.pnm_geometry_tools.proofs.TileRowsLaws.{cut_of_more, fronts_cut, fronts_long}

@@ -7,7 +7,7 @@ pub mod BitColumnLaws
 pub mod EnlargeRowLaws
 pub mod CopyLaws
 pub mod CutRowsLaws
-pub mod JoinLaws
+pub mod RowsTogetherLaws
 pub mod TileRowLaws
 pub mod TileRowsLaws
 pub mod KeptRowLaws

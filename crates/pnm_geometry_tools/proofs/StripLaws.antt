@@ -6,9 +6,9 @@ use Rattle.std.proofs.lemmas.Grind.{flat_map-append}
 use Rattle.std.proofs.lemmas.List.{length-append, length-reverse, reverse-append, take_all, take_at, drop_at}
 use Rattle.std.proofs.lemmas.List.Elements.{All-nil, All-head, All-tail, All-weaker, All-append, All-cons}
 use Rattle.pnm_geometry_tools.specs.declared.strip.TheConstants.{STRIP_ROWS}
-use Rattle.pnm_geometry_tools.specs.Columns.{AreAsLong, AreBlank, HavePixels, column_samples}
+use Rattle.pnm_geometry_tools.specs.ColumnBatches.{AreAsLong, AreBlank, HavePixels, column_samples}
 use Rattle.pnm_tools.specs.Flip.{column_of, in_order}
-use Rattle.pnm_tools.specs.Pixels.{pixel_of}
+use Rattle.pnm_tools.specs.PixelSamples.{pixel_of}
 use Rattle.pnm_geometry_tools.specs.Strips.{HaveSizes, KeepColumns, ReachColumns, coming_column, kept_column, kept_count}
 use Rattle.pnm_geometry_tools.proofs.ColumnLaws.{columns_filled, length_of_column, pixels_behind, reach}
 use Rattle.pnm_tools.proofs.PickLaws.{flat_map_one_more}

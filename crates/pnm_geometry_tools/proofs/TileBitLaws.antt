@@ -12,7 +12,7 @@ use Rattle.pnm_samples.proofs.BitRowsMade.{row_of_rows}
 use Rattle.pnm_samples.proofs.PixelLaws.{all_pixels-append, drop-all_pixels, length-all_pixels, take-all_pixels}
 use Rattle.pnm_samples.proofs.PixelRowLaws.{length_of_packed}
 use Rattle.pnm_samples.proofs.PixelRowsLaws.{length_of_rows, rows_behind}
-use Rattle.pnm_tools.specs.Pixels.{pixel_of}
+use Rattle.pnm_tools.specs.PixelSamples.{pixel_of}
 use Rattle.pnm_tools.specs.Tile.{tiled_row}
 use Rattle.pnm_tools.proofs.FormulaLaws.{range_alike}
 use Rattle.pnm_tools.proofs.RangeLaws.{length_of_equals, map_in_parts}

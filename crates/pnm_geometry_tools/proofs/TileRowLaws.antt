@@ -9,7 +9,7 @@ use Rattle.pnm_image.specs.Heads.{HeadValue, head_value, row_length, is_too_larg
 use Rattle.pnm_tools.specs.declared.fault.ToolFault.{ToolFault}
 use Rattle.pnm_tools.specs.declared.fault.ToolFault.TheVariants.{OutOfOrder}
 use Rattle.pnm_tools.specs.declared.tool.Tool.TheVariants.{Tile}
-use Rattle.pnm_tools.specs.Limits.{within_limits}
+use Rattle.pnm_tools.specs.ToolLimits.{within_limits}
 use Rattle.pnm_geometry_tools.specs.Keeping.{Tiled, tiled_due, tiled, HasTiles, AreWithin, IsTiling, row_of_tiles, shown_row}
 use Rattle.pnm_tools.specs.Tile.{tiled_head, tiled_head_value, tiled_row, tiled_at_end}
 use Rattle.pnm_tools.proofs.HeadLaws.{small_row}
@@ -18,7 +18,7 @@ use Rattle.std.proofs.Math.Nat.{mod_self, mod-eq_of_lt, mod-lt, div-add-mod, add
 use Rattle.std.proofs.lemmas.List.{take_at, take_all, get_or-map, length-map, length-append, length-take, length-take-le}
 use Rattle.std.proofs.lemmas.List.{length-drop, drop-append-le, drop-drop, get_or-take, append_assoc, take-take}
 use Rattle.std.proofs.Math.Seq.{take-add}
-use Rattle.pnm_tools.specs.Pixels.{pixel_of}
+use Rattle.pnm_tools.specs.PixelSamples.{pixel_of}
 use Rattle.pnm_tools.proofs.RangeLaws.{pieces_alike_from, pieces_in_parts, length_of_equals}
 use Rattle.std.proofs.lemmas.List.Elements.{All-take, All-map, All-drop, All-append}
 use Rattle.pnm_tools.proofs.FormulaLaws.{range_alike}

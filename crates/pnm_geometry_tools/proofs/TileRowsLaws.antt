@@ -14,7 +14,7 @@ use Rattle.pnm_image.specs.Heads.{row_length}
 use Rattle.pnm_image.specs.Places.{IsRowOf}
 use Rattle.pnm_tools.specs.declared.tool.Tool.TheVariants.{Tile}
 use Rattle.pnm_tools.specs.Answering.{rows_answer}
-use Rattle.pnm_tools.specs.Pixels.{pixel_of}
+use Rattle.pnm_tools.specs.PixelSamples.{pixel_of}
 use Rattle.pnm_tools.specs.Tile.{tiled_row}
 use Rattle.pnm_tools.proofs.RangeLaws.{length_of_equals, map_in_parts, pieces_alike, pieces_in_parts}
 use Rattle.pnm_samples.proofs.CutLaws.{length-cut_rows}

@@ -15,10 +15,10 @@ use Rattle.pnm_image.specs.declared.shape.Shape.{Shape}
 use Rattle.pnm_image.specs.Heads.{HeadValue, IsHead, Suits, row_length}
 use Rattle.pnm_image.specs.SampleWidths.{sample_width_of}
 use Rattle.pnm_tools.specs.declared.flip.FlipWay.{FlipWay}
-use Rattle.pnm_tools.specs.declared.flip.Turn.{Turn}
+use Rattle.pnm_tools.specs.declared.flip.Transform.{Transform}
 use Rattle.pnm_geometry_tools.specs.declared.strip.TheConstants.{STRIP_ROWS}
 use Rattle.pnm_tools.specs.declared.tool.Tool.TheVariants.{Flip}
-use Rattle.pnm_tools.specs.Flip.{turn_of, in_order, column_of, moved_rows, moves_rows, turned_at_end, turned_row, transposed_head_value}
+use Rattle.pnm_tools.specs.Flip.{transform_of, in_order, column_of, moved_rows, moves_rows, transformed_at_end, transformed_row, transposed_head_value}
 use Rattle.pnm_geometry_tools.specs.Keeping.{Transposed, IsTransposing, transposed, transposed_due}
 use Rattle.pnm_geometry_tools.specs.SampleRows.{SuitsShape}
 use Rattle.pnm_geometry_tools.specs.Strips.{KeepColumns, coming_column, kept_column}
@@ -27,19 +27,19 @@ use Rattle.pnm_tools.specs.Tools.{result_head, end_answer}
 use Rattle.pnm_tools.proofs.HeadLaws.{small_row}
 use Rattle.pnm_geometry_tools.proofs.StripLaws.{come_more, coming_more, with_more}
 use Rattle.pnm_tools.proofs.RangeLaws.{alike_from, map_in_parts}
-use Rattle.pnm_tools.proofs.TurnLaws.{in_order_nil, exchanged_moves, row_moved}
-use Rattle.pnm_tools.proofs.WholeHeadLaws.{is_turned}
+use Rattle.pnm_tools.proofs.TransformLaws.{in_order_nil, exchanged_moves, row_moved}
+use Rattle.pnm_tools.proofs.WholeHeadLaws.{is_transformed}
 
 -- ---- the rows that come
 
 -- rows that were added, of which some may have gone into strips
 pub rows_kept : (w : Transposed) (way : FlipWay) (depth : ℕ) (width width' : SampleWidth) (next columns : ℕ)
     (strips strips' rows rows' batch come more : List (List ℕ)) (s : Shape) (b : Bool)
-    → transposed way depth width strips rows batch next columns ≡ w → b ≡ (turn_of way).rows_reversed → width' ≡ width
+    → transposed way depth width strips rows batch next columns ≡ w → b ≡ (transform_of way).rows_reversed → width' ≡ width
     → KeepColumns b s.width s.depth strips (rows ++ more) strips' rows' → IsTransposing w s come
     → IsTransposing (transposed way depth width' strips' rows' batch next columns) s (come ++ more)
 rows_kept w way depth width width' next columns strips strips' rows rows' batch come more s b is order same_width kept ready =
-    let r : Bool = (turn_of way).rows_reversed in
+    let r : Bool = (transform_of way).rows_reversed in
     let h : IsTransposing (transposed way depth width strips rows batch next columns) s come =
     subst (λ (v : Transposed). IsTransposing v s come) (sym is) ready in
     let keeps : KeepColumns r s.width s.depth strips (rows ++ more) strips' rows' =
@@ -60,27 +60,28 @@ rows_kept w way depth width width' next columns strips strips' rows rows' batch 
 -- ---- the rows that a transposer has still to give
 
 -- what answers the end of an image whose columns and rows are exchanged
-end_of_flip : (way : FlipWay) (s : Shape) (rows : List (List ℕ)) → end_answer (Flip way) s rows ≡ turned_at_end (turn_of way) s rows
+end_of_flip : (way : FlipWay) (s : Shape) (rows : List (List ℕ)) → end_answer (Flip way) s rows ≡ transformed_at_end (transform_of way) s rows
 end_of_flip way s rows = refl
 
-columns_answer : (way : FlipWay) (s : Shape) (rows : List (List ℕ)) → (turn_of way).exchanged ≡ true
-    → end_answer (Flip way) s rows ≡ in_order (turn_of way).columns_reversed
-    (map (column_of s.depth (in_order (turn_of way).rows_reversed rows)) (range_with_len 0 s.width))
+columns_answer : (way : FlipWay) (s : Shape) (rows : List (List ℕ)) → (transform_of way).exchanged ≡ true
+    → end_answer (Flip way) s rows ≡ in_order (transform_of way).columns_reversed
+    (map (column_of s.depth (in_order (transform_of way).rows_reversed rows)) (range_with_len 0 s.width))
 columns_answer way s rows exchanged =
-    let t : Turn = turn_of way in
+    let t : Transform = transform_of way in
     let columns : List (List ℕ) = in_order t.columns_reversed (map (column_of s.depth (in_order t.rows_reversed rows)) (range_with_len 0 s.width)) in
     end_of_flip way s rows
     ∙ ap (λ (b : Bool). if b then moved_rows t s rows else []) (exchanged_moves t exchanged)
-    ∙ ap (λ (b : Bool). if b then columns else map (turned_row t s) (reverse rows)) exchanged
+    ∙ ap (λ (b : Bool). if b then columns else map (transformed_row t s) (reverse rows)) exchanged
 
 -- the columns of all rows, once the image has ended
 pub columns_due : (way : FlipWay) (sample_width depth_width : SampleWidth) (depth next columns : ℕ) (strips rows batch come : List (List ℕ)) (s : Shape)
-    → (turn_of way).exchanged ≡ true
+    → (transform_of way).exchanged ≡ true
     → IsTransposing (transposed way depth sample_width strips rows batch next columns) s come
-    → transposed_due (transposed way s.depth depth_width (in_order (turn_of way).rows_reversed strips) (in_order (turn_of way).rows_reversed rows) batch next
+    → transposed_due (transposed way s.depth depth_width (in_order (transform_of way).rows_reversed strips) (in_order (transform_of way).rows_reversed rows)
+    batch next
     s.width) ≡ end_answer (Flip way) s come
 columns_due way sample_width depth_width depth next columns strips rows batch come s exchanged h =
-    let t : Turn = turn_of way in
+    let t : Transform = transform_of way in
     let f : ℕ → List ℕ = kept_column t.rows_reversed s.depth (in_order t.rows_reversed strips) (in_order t.rows_reversed rows) in
     let g : ℕ → List ℕ = column_of s.depth (in_order t.rows_reversed come) in
     let all : s.width - next ≡ s.width = omega (arith, h.none_made.1) in
@@ -94,14 +95,14 @@ columns_due way sample_width depth_width depth next columns strips rows batch co
 
 -- what the code holds at an image's end is the answer to it
 pub end_due : (w : Transposed) (way : FlipWay) (sample_width depth_width : SampleWidth) (depth next columns : ℕ) (b : Bool)
-    (strips strips' rows rows' batch come : List (List ℕ)) (s : Shape) → (turn_of way).exchanged ≡ true
-    → transposed way depth sample_width strips rows batch next columns ≡ w → b ≡ (turn_of way).rows_reversed → strips' ≡ in_order b strips
+    (strips strips' rows rows' batch come : List (List ℕ)) (s : Shape) → (transform_of way).exchanged ≡ true
+    → transposed way depth sample_width strips rows batch next columns ≡ w → b ≡ (transform_of way).rows_reversed → strips' ≡ in_order b strips
     → rows' ≡ in_order b rows → IsTransposing w s come
     → transposed_due (transposed way s.depth depth_width strips' rows' batch next s.width) ≡ end_answer (Flip w.way) s come
 end_due w way sample_width depth_width depth next columns b strips strips' rows rows' batch come s exchanged is order strips_so rows_so h =
     let before : IsTransposing (transposed way depth sample_width strips rows batch next columns) s come =
     subst (λ (v : Transposed). IsTransposing v s come) (sym is) h in
-    let r : Bool = (turn_of way).rows_reversed in
+    let r : Bool = (transform_of way).rows_reversed in
     ap (λ (l : List (List ℕ)). transposed_due (transposed way s.depth depth_width l rows' batch next s.width))
     (strips_so ∙ ap (λ (c : Bool). in_order c strips) order)
     ∙ ap (λ (l : List (List ℕ)). transposed_due (transposed way s.depth depth_width (in_order r strips) l batch next s.width))
@@ -114,35 +115,35 @@ none_made : (way : FlipWay) (depth : ℕ) (sample_width : SampleWidth) (next col
     → transposed_due (transposed way depth sample_width strips rows batch next columns) ≡ []
 none_made way depth sample_width next columns strips rows batch no_batch no_column =
     let none : columns - next ≡ 0 = omega arith in
-    let last_first : Bool = (turn_of way).columns_reversed in
+    let last_first : Bool = (transform_of way).columns_reversed in
     ap (λ (l : List (List ℕ)). transposed_due (transposed way depth sample_width strips rows l next columns)) no_batch
-    ∙ ap (λ (n : ℕ). in_order last_first (map (kept_column (turn_of way).rows_reversed depth strips rows) (range_with_len next n))) none
+    ∙ ap (λ (n : ℕ). in_order last_first (map (kept_column (transform_of way).rows_reversed depth strips rows) (range_with_len next n))) none
     ∙ in_order_nil last_first
 
 -- nor do rows that come answer anything
-pub none_answer : (way : FlipWay) (s : Shape) (y : ℕ) (rows : List (List ℕ)) → moves_rows (turn_of way) ≡ true → rows_answer (Flip way) s y rows ≡ []
+pub none_answer : (way : FlipWay) (s : Shape) (y : ℕ) (rows : List (List ℕ)) → moves_rows (transform_of way) ≡ true → rows_answer (Flip way) s y rows ≡ []
 none_answer way s y [] moves = refl
 none_answer way s y (row ∷ rows) moves =
     ap (λ (l : List (List ℕ)). l ++ rows_answer (Flip way) s (y + 1) rows) (row_moved way s y row moves) ∙ none_answer way s (y + 1) rows moves
 
 pub due_while_rows_come : (w : Transposed) (way : FlipWay) (depth : ℕ) (width width' : SampleWidth) (next columns : ℕ)
-    (strips strips' rows rows' batch come : List (List ℕ)) (s : Shape) (y : ℕ) (more : List (List ℕ)) → (turn_of way).exchanged ≡ true
+    (strips strips' rows rows' batch come : List (List ℕ)) (s : Shape) (y : ℕ) (more : List (List ℕ)) → (transform_of way).exchanged ≡ true
     → transposed way depth width strips rows batch next columns ≡ w → IsTransposing w s come
     → transposed_due (transposed way depth width' strips' rows' batch next columns) ≡ rows_answer (Flip w.way) s y more
 due_while_rows_come w way depth width width' next columns strips strips' rows rows' batch come s y more exchanged is h =
     none_made way depth width' next columns strips' rows' batch (ap (λ (v : Transposed). v.batch) is ∙ h.none_made.0)
     (ap (λ (v : Transposed). v.columns) is ∙ h.none_made.2)
-    ∙ sym (none_answer way s y more (exchanged_moves (turn_of way) exchanged))
+    ∙ sym (none_answer way s y more (exchanged_moves (transform_of way) exchanged))
     ∙ ap (λ (v : Transposed). rows_answer (Flip v.way) s y more) is
 
 -- the batch that is made holds the columns that were the next to be made
 pub first_made : (way : FlipWay) (depth : ℕ) (sample_width : SampleWidth) (next columns count : ℕ) (b : Bool) (strips rows batch : List (List ℕ))
-    → (turn_of way).columns_reversed ≡ false → b ≡ (turn_of way).rows_reversed → next + count ≤ columns
+    → (transform_of way).columns_reversed ≡ false → b ≡ (transform_of way).rows_reversed → next + count ≤ columns
     → batch ≡ reverse (map (kept_column b depth strips rows) (range_with_len next count))
     → transposed_due (transposed way depth sample_width strips rows batch (next + count) columns)
     ≡ transposed_due (transposed way depth sample_width strips rows [] next columns)
 first_made way depth sample_width next columns count b strips rows batch first_first order within is =
-    let f : ℕ → List ℕ = kept_column (turn_of way).rows_reversed depth strips rows in
+    let f : ℕ → List ℕ = kept_column (transform_of way).rows_reversed depth strips rows in
     let made : batch ≡ reverse (map f (range_with_len next count)) = is
     ∙ ap (λ (c : Bool). reverse (map (kept_column c depth strips rows) (range_with_len next count))) order in
     let parts : columns - next ≡ count + (columns - (next + count)) = omega arith in
@@ -160,12 +161,12 @@ batch_some f first count batch is some =
 
 -- where the last columns come first, they were the last ones
 pub last_made : (way : FlipWay) (depth : ℕ) (sample_width : SampleWidth) (next columns first count : ℕ) (b : Bool) (strips rows made batch : List (List ℕ))
-    → (turn_of way).columns_reversed ≡ true → b ≡ (turn_of way).rows_reversed → next ≤ first → first + count ≡ columns
+    → (transform_of way).columns_reversed ≡ true → b ≡ (transform_of way).rows_reversed → next ≤ first → first + count ≡ columns
     → made ≡ reverse (map (kept_column b depth strips rows) (range_with_len first count)) → batch ≡ reverse made
     → transposed_due (transposed way depth sample_width strips rows batch next first)
     ≡ transposed_due (transposed way depth sample_width strips rows [] next columns)
 last_made way depth sample_width next columns first count b strips rows made batch last_first order within ends given turned =
-    let f : ℕ → List ℕ = kept_column (turn_of way).rows_reversed depth strips rows in
+    let f : ℕ → List ℕ = kept_column (transform_of way).rows_reversed depth strips rows in
     let is : made ≡ reverse (map f (range_with_len first count)) = given
     ∙ ap (λ (c : Bool). reverse (map (kept_column c depth strips rows) (range_with_len first count))) order in
     let parts : (first - next) + count ≡ columns - next = omega arith in
@@ -183,9 +184,9 @@ last_made way depth sample_width next columns first count b strips rows made bat
 -- ---- the head
 
 -- a column of an image is within the limits where the head with its sizes exchanged is made
-column_small : (way : FlipWay) (head made : HeadValue) → (turn_of way).exchanged ≡ true → result_head (Flip way) head ≡ Ok made
+column_small : (way : FlipWay) (head made : HeadValue) → (transform_of way).exchanged ≡ true → result_head (Flip way) head ≡ Ok made
     → head.shape.height * head.shape.depth ≤ MAX_ROW_LENGTH
-column_small way head made exchanged e = small_row (transposed_head_value head).shape ((is_turned way head made e).limits exchanged)
+column_small way head made exchanged e = small_row (transposed_head_value head).shape ((is_transformed way head made e).limits exchanged)
 
 -- bytes hold samples up to 255
 narrow_suits : (s : Shape) (b : Bool) → nat_lt s.maxval 256 ≡ b → SuitsShape (if b then Bytes else Words) s
@@ -209,7 +210,7 @@ none_come false depth x = refl
 
 -- a transposer that has begun is ready for the first row
 pub ready_to_transpose : (way : FlipWay) (depth : ℕ) (sample_width : SampleWidth) (strips rows batch : List (List ℕ)) (next columns : ℕ) (head made : HeadValue)
-    → (turn_of way).exchanged ≡ true → IsHead head → result_head (Flip way) head ≡ Ok made
+    → (transform_of way).exchanged ≡ true → IsHead head → result_head (Flip way) head ≡ Ok made
     → sample_width ≡ sample_width_of head.shape.kind head.shape.maxval → strips ≡ [] → rows ≡ [] → batch ≡ [] → next ≡ 0 → columns ≡ 0
     → IsTransposing (transposed way depth sample_width strips rows batch next columns) head.shape []
 ready_to_transpose way depth sample_width strips rows batch next columns head made exchanged sound e is no_strips no_rows no_batch none no_column =
@@ -220,7 +221,7 @@ ready_to_transpose way depth sample_width strips rows batch next columns head ma
       column = column_small way head made exchanged e;
       sample_width = subst (λ (p : SampleWidth). SuitsShape p head.shape) (sym is) (width_suits head.shape head.tuple_type sound.suits);
       count = omega arith;
-      same = λ x below. none_come (turn_of way).rows_reversed head.shape.depth x;
+      same = λ x below. none_come (transform_of way).rows_reversed head.shape.depth x;
       sizes = record {
         each_strip = All-nil (λ strip. length strip ≡ head.shape.width * (STRIP_ROWS * head.shape.depth));
         each_row = All-nil (λ row. length row ≡ row_length head.shape);

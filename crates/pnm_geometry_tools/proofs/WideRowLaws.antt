@@ -17,7 +17,7 @@ use Rattle.pnm_geometry_tools.proofs.EnlargeRowLaws.{enlarged_within, unchanged_
 use Rattle.pnm_geometry_tools.proofs.EnlargedRowsLaws.{AreEach, each_of, enlarged_each, map_many, widened_cut}
 use Rattle.pnm_geometry_tools.proofs.HeldRowLaws.{holds_as}
 use Rattle.pnm_geometry_tools.proofs.RepeatedBitLaws.{one_plane_repeated}
-use Rattle.pnm_geometry_tools.specs.HeldRows.{HoldsRows}
+use Rattle.pnm_geometry_tools.specs.MadeRows.{HoldsRows}
 
 -- the pixels of so many rows are as many as those of one long row
 pub long_row : (s : Shape) (count : ℕ) → count * row_length s ≡ s.width * count * s.depth

@@ -6,7 +6,7 @@ use Rattle.pnm_image.specs.declared.shape.Shape.{Shape}
 use Rattle.pnm_image.specs.Heads.{IsWithinLimits}
 use Rattle.pnm_image.specs.Places.{IsRowOf}
 use Rattle.pnm_tools.specs.Enlarge.{enlarged_row}
-use Rattle.pnm_tools.specs.Limits.{IsExtent}
+use Rattle.pnm_tools.specs.ToolLimits.{IsExtent}
 
 -- for images of a shape that stays within the limits with its pixels repeated
 pub record IsEnlarging (across : ℕ) (s : Shape) : Type 0 where

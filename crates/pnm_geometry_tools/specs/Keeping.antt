@@ -10,13 +10,13 @@ use Rattle.pnm_image.specs.declared.shape.Shape.{Shape}
 use Rattle.pnm_image.specs.Heads.{IsWithinLimits, row_length}
 use Rattle.pnm_geometry_tools.specs.declared.enlarge.Enlarger.{Enlarger}
 use Rattle.pnm_tools.specs.declared.flip.FlipWay.{FlipWay}
-use Rattle.pnm_tools.specs.Flip.{turn_of, in_order, column_of}
+use Rattle.pnm_tools.specs.Flip.{transform_of, in_order, column_of}
 use Rattle.pnm_tools.specs.Answering.{rows_list}
 use Rattle.pnm_geometry_tools.specs.Enlarging.{waiting_due, waiting_rows}
 use Rattle.pnm_geometry_tools.specs.SampleRows.{SuitsShape}
 use Rattle.pnm_geometry_tools.specs.Strips.{HaveSizes, ReachColumns, coming_column, kept_column, kept_count}
 use Rattle.pnm_tools.specs.Tile.{tiled_row}
-use Rattle.pnm_tools.specs.Pixels.{pixel_of}
+use Rattle.pnm_tools.specs.PixelSamples.{pixel_of}
 
 -- ---- pamenlarge: copies of a row, and the rows that wait behind it
 
@@ -63,7 +63,7 @@ transposed way depth sample_width strips rows batch next columns =
 -- each row has a pixel of each column, and each strip a part of each; a row of the result is within the limits; packed
 -- rows have one plane, and the next column is the first of a byte
 pub record HasColumns (w : Transposed) : Type 0 where
-  pub way : (turn_of w.way).exchanged ≡ true
+  pub way : (transform_of w.way).exchanged ≡ true
   pub reach : ReachColumns w.columns w.depth w.strips w.rows
   pub each : 0 < w.columns → kept_count w.strips w.rows * w.depth ≤ MAX_ROW_LENGTH
   pub depth : w.depth ≤ MAX_DEPTH
@@ -76,15 +76,15 @@ pub record IsTransposing (w : Transposed) (s : Shape) (come : List (List ℕ)) :
   pub column : s.height * s.depth ≤ MAX_ROW_LENGTH
   pub sample_width : SuitsShape w.sample_width s
   pub count : kept_count w.strips w.rows ≡ length come
-  pub same : (x : ℕ) → x < s.width → coming_column (turn_of w.way).rows_reversed s.depth w.strips w.rows x
-      ≡ column_of s.depth (in_order (turn_of w.way).rows_reversed come) x
+  pub same : (x : ℕ) → x < s.width → coming_column (transform_of w.way).rows_reversed s.depth w.strips w.rows x
+      ≡ column_of s.depth (in_order (transform_of w.way).rows_reversed come) x
   pub sizes : HaveSizes s.width s.depth w.strips w.rows
   pub none_made : (w.batch ≡ []) × (w.next ≡ 0) × (w.columns ≡ 0)
 
 abbrev pub transposed_due : Transposed → List (List ℕ)
 transposed_due w =
-    reverse w.batch ++ in_order (turn_of w.way).columns_reversed
-    (map (kept_column (turn_of w.way).rows_reversed w.depth w.strips w.rows)
+    reverse w.batch ++ in_order (transform_of w.way).columns_reversed
+    (map (kept_column (transform_of w.way).rows_reversed w.depth w.strips w.rows)
     (range_with_len w.next (w.columns - w.next)))
 
 -- ---- pnmtile: what the result shows of the rows, the next one first

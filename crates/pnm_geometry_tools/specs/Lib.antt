@@ -1,7 +1,7 @@
-pub mod Columns
+pub mod ColumnBatches
 pub mod FlatRows
 pub mod Strips
 pub mod SampleRows
 pub mod Enlarging
 pub mod Keeping
-pub mod HeldRows
+pub mod MadeRows

@@ -5,9 +5,9 @@ ghost use Rattle.std.specs.Prelude.{IfOk, IfErr};
 ghost use Rattle.std.specs.List.{range_with_len};
 ghost use Rattle.pnm_image.specs.declared.limits.TheConstants.{MAX_DEPTH, MAX_ROW_LENGTH};
 ghost use Rattle.pnm_tools.specs.declared.fault.ToolFault.TheVariants.{Memory};
-ghost use Rattle.pnm_geometry_tools.specs.Columns.{AreBlank, AreLongEnough, HavePixels, column_samples};
+ghost use Rattle.pnm_geometry_tools.specs.ColumnBatches.{AreBlank, AreLongEnough, HavePixels, column_samples};
 ghost use Rattle.pnm_tools.specs.Flip.{column_of};
-ghost use Rattle.pnm_tools.specs.Pixels.{pixel_of};
+ghost use Rattle.pnm_tools.specs.PixelSamples.{pixel_of};
 ghost use Rattle.pnm_geometry_tools.specs.Strips.{ReachColumns, kept_column, kept_count};
 
 use crate::blocks::BlockSample;

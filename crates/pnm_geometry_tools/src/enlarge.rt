@@ -5,7 +5,7 @@ ghost use Rattle.pnm_tools.specs.declared.fault.ToolFault.TheVariants.{Memory};
 ghost use Rattle.pnm_tools.specs.declared.tool.Tool.TheVariants.{Enlarge};
 ghost use Rattle.pnm_geometry_tools.specs.Enlarging.{IsEnlarging};
 ghost use Rattle.pnm_geometry_tools.specs.Keeping.{across_of, down_of, enlarged_due, kept_rows};
-ghost use Rattle.pnm_tools.specs.Limits.{IsExtent};
+ghost use Rattle.pnm_tools.specs.ToolLimits.{IsExtent};
 ghost use Rattle.pnm_tools.specs.Tools.{TakesHead, result_head};
 
 use crate::row_copies::RowCopies;

@@ -4,10 +4,10 @@ ghost use Rattle.std.specs.Prelude.{ℕ, ◌≡◌, ◌≤◌, ◌<◌, ◌+◌,
 ghost use Rattle.std.specs.Prelude.{map, take};
 ghost use Rattle.pnm_image.specs.HeldRows.{AreRows, AreSliceRows, row_lists, slice_lists};
 ghost use Rattle.pnm_image.specs.Images.{cut_rows};
-ghost use Rattle.pnm_geometry_tools.specs.HeldRows.{HoldsRows, HoldsSame};
+ghost use Rattle.pnm_geometry_tools.specs.MadeRows.{HoldsRows, HoldsSame};
 ghost use Rattle.pnm_geometry_tools.specs.Keeping.{fronts_in};
 
-use crate::join::append;
+use crate::together::append;
 use pnm_image::{RowSlice, RowVec, Rows};
 use std::alloc::{AllocError, Global};
 use std::marker::Model;

@@ -8,7 +8,7 @@ ghost use Rattle.pnm_image.specs.Places.{IsRowOf};
 ghost use Rattle.pnm_tools.specs.declared.fault.ToolFault.TheVariants.{Memory};
 ghost use Rattle.pnm_tools.specs.Enlarge.{enlarged_row};
 ghost use Rattle.pnm_geometry_tools.specs.Enlarging.{IsEnlarging, larger_rows};
-ghost use Rattle.pnm_geometry_tools.specs.HeldRows.{HoldsRows};
+ghost use Rattle.pnm_geometry_tools.specs.MadeRows.{HoldsRows};
 
 use crate::repeat::{repeat_pixels, repeat_runs};
 use pnm_image::{BitRows, RowSlice, RowVec, Rows, Shape};

@@ -8,7 +8,6 @@ mod buffer;
 mod color;
 mod enlarge;
 mod flat_rows;
-mod join;
 mod kept_rows;
 mod larger;
 mod repeat;
@@ -17,6 +16,7 @@ mod row_of;
 mod sample_rows;
 mod strip;
 mod tile;
+mod together;
 mod transpose;
 mod waiting_rows;
 

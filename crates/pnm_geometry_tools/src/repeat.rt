@@ -5,7 +5,7 @@ ghost use Rattle.std.specs.List.{flat_map, range_with_len};
 ghost use Rattle.pnm_image.specs.Heads.{row_length};
 ghost use Rattle.pnm_tools.specs.declared.fault.ToolFault.TheVariants.{Memory};
 ghost use Rattle.pnm_tools.specs.Enlarge.{enlarged_row, copies_of};
-ghost use Rattle.pnm_tools.specs.Pixels.{pixel_of};
+ghost use Rattle.pnm_tools.specs.PixelSamples.{pixel_of};
 
 use crate::buffer::store;
 use crate::color::color_at;

@@ -6,7 +6,7 @@ ghost use Rattle.std.specs.List.{flat_map, range_with_len};
 ghost use Rattle.pnm_image.specs.declared.limits.TheConstants.{MAX_DEPTH, MAX_ROW_LENGTH, MAX_SIDE};
 ghost use Rattle.pnm_tools.specs.declared.fault.ToolFault.TheVariants.{Memory};
 ghost use Rattle.pnm_geometry_tools.specs.declared.strip.TheConstants.{STRIP_ROWS as rows_in_strip};
-ghost use Rattle.pnm_geometry_tools.specs.Columns.{AreAsLong};
+ghost use Rattle.pnm_geometry_tools.specs.ColumnBatches.{AreAsLong};
 ghost use Rattle.pnm_tools.specs.Flip.{column_of, in_order};
 ghost use Rattle.pnm_geometry_tools.specs.Strips.{HaveSizes, KeepColumns};
 

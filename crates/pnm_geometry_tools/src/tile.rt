@@ -12,11 +12,11 @@ ghost use Rattle.pnm_tools.specs.Tile.{tiled_row};
 ghost use Rattle.pnm_image.specs.Heads.{IsWithinLimits};
 ghost use Rattle.pnm_geometry_tools.specs.Keeping.{HasTiles, IsTiling, row_of_samples, row_of_tiles};
 ghost use Rattle.pnm_geometry_tools.specs.Keeping.{tiled, tiled_due};
-ghost use Rattle.pnm_tools.specs.Limits.{IsExtent};
+ghost use Rattle.pnm_tools.specs.ToolLimits.{IsExtent};
 ghost use Rattle.pnm_tools.specs.Tools.{TakesHead, result_head};
 
-use crate::join::count_together;
 use crate::kept_rows::KeptRows;
+use crate::together::count_together;
 use pnm_image::{BitRows, Bits, Head, Kind, RowSlice, RowVec, Rows, Shape};
 use pnm_tools::{ImageTool, ToolFault, head_within_limits};
 use std::alloc::{AllocError, Global};

@@ -3,11 +3,11 @@
 ghost use Rattle.std.specs.Prelude.{◌≡◌, ◌<◌, ◌++◌, [], true, false, length, OnOk, IfErr};
 ghost use Rattle.pnm_tools.specs.declared.fault.ToolFault.TheVariants.{Memory};
 ghost use Rattle.pnm_tools.specs.declared.tool.Tool.TheVariants.{Flip};
-ghost use Rattle.pnm_tools.specs.Flip.{turn_of};
+ghost use Rattle.pnm_tools.specs.Flip.{transform_of};
 ghost use Rattle.pnm_geometry_tools.specs.Keeping.{IsTransposing, transposed_due};
 
-use crate::join::next_columns;
 use crate::sample_rows::SampleRows;
+use crate::together::next_columns;
 use pnm_image::{Head, Rows, SampleWidth, Samples, Shape};
 use pnm_tools::{FlipWay, ImageTool, ToolFault, flipped_head};
 use std::alloc::Global;
@@ -63,12 +63,12 @@ impl ImageTool for Transposer {
 
     /// Keeps the rows, and makes none of the result yet.
     fn take(&mut self, alloc: Global, shape: Shape, _y: u32, rows: Rows) -> Result<(), ToolFault> {
-        let last_first = self.way.turn().rows_reversed;
+        let last_first = self.way.transform().rows_reversed;
         self.rows.add(alloc, last_first, shape, &rows)
     }
 
     fn end(&mut self, shape: Shape) {
-        let last_first = self.way.turn().rows_reversed;
+        let last_first = self.way.transform().rows_reversed;
         self.rows.put_in_order(last_first);
         self.depth = shape.depth;
         self.columns = shape.width;
@@ -78,7 +78,7 @@ impl ImageTool for Transposer {
     #[inline(never)]
     fn give(&mut self, alloc: Global) -> Result<Option<Rows>, ToolFault> {
         if self.batch.is_empty() && self.next < self.columns {
-            if self.way.turn().columns_reversed {
+            if self.way.transform().columns_reversed {
                 self.make_last(alloc)?;
             } else {
                 self.make_first(alloc)?;
@@ -95,7 +95,7 @@ impl ImageTool for Transposer {
 impl Transposer {
     /// The tool before the first row.
     pub fn new(alloc: Global, way: FlipWay) -> Transposer
-        requires { (turn_of way).exchanged ≡ true }
+        requires { (transform_of way).exchanged ≡ true }
         ensures way { result.way ≡ way }
         ensures rows { (result.strips ≡ []) × (result.rows ≡ []) }
         ensures batch { result.batch ≡ [] }
@@ -124,7 +124,7 @@ impl Transposer {
 
     /// Makes a batch of the first columns that are left. The only fault is `Memory`.
     fn make_first(&mut self, alloc: Global) -> Result<(), ToolFault>
-        requires order { (turn_of self.old.way).columns_reversed ≡ false }
+        requires order { (transform_of self.old.way).columns_reversed ≡ false }
         requires left { (self.old.batch ≡ []) × (self.old.next < self.old.columns) }
         ensures way { self.new.way ≡ self.old.way }
         ensures due { OnOk result (transposed_due self.new ≡ transposed_due self.old) }
@@ -133,7 +133,7 @@ impl Transposer {
     {
         let count = (self.columns - self.next).min(self.rows.batch_length());
         let (first, depth) = (self.next as usize, self.depth as usize);
-        let rows_first = self.way.turn().rows_reversed;
+        let rows_first = self.way.transform().rows_reversed;
         self.batch = self
             .rows
             .batch(alloc, rows_first, first, count as usize, depth)?;
@@ -144,7 +144,7 @@ impl Transposer {
     /// Makes a batch of the last columns that are left. The first of them is at a multiple of a batch's length. The
     /// only fault is `Memory`.
     fn make_last(&mut self, alloc: Global) -> Result<(), ToolFault>
-        requires order { (turn_of self.old.way).columns_reversed ≡ true }
+        requires order { (transform_of self.old.way).columns_reversed ≡ true }
         requires left { (self.old.batch ≡ []) × (self.old.next < self.old.columns) }
         ensures way { self.new.way ≡ self.old.way }
         ensures due { OnOk result (transposed_due self.new ≡ transposed_due self.old) }
@@ -153,7 +153,7 @@ impl Transposer {
     {
         let count = (self.columns - self.next - 1) % self.rows.batch_length() + 1;
         let (first, depth) = (self.columns - count, self.depth as usize);
-        let rows_first = self.way.turn().rows_reversed;
+        let rows_first = self.way.transform().rows_reversed;
         let mut batch = self
             .rows
             .batch(alloc, rows_first, first as usize, count as usize, depth)?;

@@ -22,7 +22,7 @@ pub use device::{BytesIn, BytesOut, Device, DeviceFailed, write_all};
 pub use format::{Form, Format};
 pub use head::{Head, HeadFault};
 pub use message::{Ending, Message};
-pub use packet::Packet;
+pub use packet::{Packet, Several};
 pub use place::Place;
 pub use pnm_samples::{BitRows, Bits, SampleSlice, SampleVec, Samples};
 pub use rows::{RowSlice, RowVec, Rows};

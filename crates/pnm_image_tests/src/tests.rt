@@ -14,6 +14,7 @@ mod memory;
 mod messages;
 mod places;
 mod rows_memory;
+mod source_memory;
 mod texts;
 mod tools;
 

@@ -31,7 +31,7 @@ use Rattle.pnm_lanes.specs.DealParts.{part_at, IsSentPart, HasBrokenOffDealing, 
 use Rattle.pnm_lanes.proofs.EachLaws.{each-map, each-then}
 use Rattle.pnm_lanes.proofs.MessageSteps.{all_then, dealt_then}
 use Rattle.pnm_lanes.proofs.DealSteps.{HasAll, IsDealing, packet_ends_so, parts_of, HasPrefix, all_is_prefix, part_is_prefix, IsAccepted, all_accepted}
-use Rattle.pnm_lanes.proofs.DealSteps.{accepted_more, whole_lane, told_lane, lost_lane}
+use Rattle.pnm_lanes.proofs.DealSteps.{accepted_more, whole_lane, sent_lane, lost_lane}
 
 -- ---- why it was broken off
 
@@ -149,12 +149,12 @@ is_drained BrokenOff drained took received_now received_new left ends same =
 
 -- ---- and how it ends then
 
--- all were told, and the input was drained
-ends_so : (end answer : StageEnd) (ending : Ending) (untold : Option StageEnd) (drained : Bool) (received_old received_now received_new left : List Message)
+-- Stop was sent to all, and the input was drained
+ends_so : (end answer : StageEnd) (ending : Ending) (unstopped : Option StageEnd) (drained : Bool) (received_old received_now received_new left : List Message)
     (olds nows news : List Sender) (cut : IsCut end ending received_old received_now olds nows)
-    → AtEach (IsSentPart (λ lane. Stop ∷ []) untold) nows news → IsDrained drained cut.took received_now received_new left
-    → ((untold ≡ None) × (drained ≡ true) × (answer ≡ end)) ⊎ (answer ≡ PeerGone) → HasDealt answer received_old received_new left olds news
-ends_so end answer ending untold drained received_old received_now received_new left olds nows news cut told rest (inl (none, all, same)) =
+    → AtEach (IsSentPart (λ lane. Stop ∷ []) unstopped) nows news → IsDrained drained cut.took received_now received_new left
+    → ((unstopped ≡ None) × (drained ≡ true) × (answer ≡ end)) ⊎ (answer ≡ PeerGone) → HasDealt answer received_old received_new left olds news
+ends_so end answer ending unstopped drained received_old received_now received_new left olds nows news cut is_sent rest (inl (none, all, same)) =
     let took = cut.took ++ rest.more in
     subst (λ (e : StageEnd). HasDealt e received_old received_new left olds news) (sym same) (record {
       took = took;
@@ -163,11 +163,12 @@ ends_so end answer ending untold drained received_old received_now received_new 
       messages = both_all IsMessage cut.took rest.more cut.messages rest.messages;
       once = rest.once;
       ended = cut.may.input rest.more (rest.ended all);
-      lanes = each-then (HasPrefix cut.all (length olds) cut.accepted) (IsSentPart (λ lane. Stop ∷ []) untold) (HasLane end (length olds) took) 0 olds nows news
-          (told_lane end cut.all (length olds) cut.accepted took untold none (accepted_more cut.accepted cut.took rest.more cut.is)
-          (λ lane g goes_on full. cut.may.output lane rest.more g goes_on full)) cut.lanes told;
+      lanes = each-then (HasPrefix cut.all (length olds) cut.accepted) (IsSentPart (λ lane. Stop ∷ []) unstopped) (HasLane end (length olds) took) 0 olds nows
+          news
+          (sent_lane end cut.all (length olds) cut.accepted took unstopped none (accepted_more cut.accepted cut.took rest.more cut.is)
+          (λ lane g goes_on full. cut.may.output lane rest.more g goes_on full)) cut.lanes is_sent;
     })
-ends_so end answer ending untold drained received_old received_now received_new left olds nows news cut told rest (inr same) =
+ends_so end answer ending unstopped drained received_old received_now received_new left olds nows news cut is_sent rest (inr same) =
     let took = cut.took ++ rest.more in
     subst (λ (e : StageEnd). HasDealt e received_old received_new left olds news) (sym same) (record {
       took = took;
@@ -176,9 +177,10 @@ ends_so end answer ending untold drained received_old received_now received_new 
       messages = both_all IsMessage cut.took rest.more cut.messages rest.messages;
       once = rest.once;
       ended = tt;
-      lanes = each-then (HasPrefix cut.all (length olds) cut.accepted) (IsSentPart (λ lane. Stop ∷ []) untold) (HasLane PeerGone (length olds) took) 0 olds nows
+      lanes = each-then (HasPrefix cut.all (length olds) cut.accepted) (IsSentPart (λ lane. Stop ∷ []) unstopped) (HasLane PeerGone (length olds) took) 0 olds
+          nows
           news
-          (lost_lane cut.all (length olds) cut.accepted took untold (accepted_more cut.accepted cut.took rest.more cut.is)) cut.lanes told;
+          (lost_lane cut.all (length olds) cut.accepted took unstopped (accepted_more cut.accepted cut.took rest.more cut.is)) cut.lanes is_sent;
     })
 
 pub breaks_off : (end answer : StageEnd) (ending : Ending) (e : Ending) (received_old received_now received_new left : List Message)
@@ -187,7 +189,7 @@ pub breaks_off : (end answer : StageEnd) (ending : Ending) (e : Ending) (receive
     → HasDealt answer received_old received_new left olds news
 breaks_off end answer ending e received_old received_now received_new left olds nows news cut says broken =
     let same : EndsBy ending cut.took = subst (λ (x : Ending). EndsBy x cut.took) (sym says) cut.ends in
-    ends_so end answer ending broken.untold broken.drained received_old received_now received_new left olds nows news
+    ends_so end answer ending broken.unstopped broken.drained received_old received_now received_new left olds nows news
     (record {
       took = cut.took;
       accepted = cut.accepted;

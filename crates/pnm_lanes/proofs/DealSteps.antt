@@ -234,21 +234,21 @@ stopped_lane end all lanes accepted l is so lane old now new (same_now, (g, outp
       (subst (λ (x : List Message). IsPrefixOf x (dealt lane lanes accepted)) (sym (stop_is_cut g)) prefix);
 }
 
-pub told_lane : (end : StageEnd) (all : Bool) (lanes : ℕ) (accepted l : List Message) (untold : Option StageEnd) → untold ≡ None → IsAccepted accepted l
+pub sent_lane : (end : StageEnd) (all : Bool) (lanes : ℕ) (accepted l : List Message) (unstopped : Option StageEnd) → unstopped ≡ None → IsAccepted accepted l
     → ((lane : ℕ) (g : List Message) → EndsBy More g → (all ≡ true → g ≡ dealt lane lanes accepted) → HasSentSo end lane lanes l (g ++ Stop ∷ []))
     → (lane : ℕ) (old now new : Sender)
-    → HasPrefix all lanes accepted lane old now → IsSentPart (λ n. Stop ∷ []) untold lane now new → HasLane end lanes l lane old new
-told_lane end all lanes accepted l untold none is so lane old now new prefix (same, inl added) =
+    → HasPrefix all lanes accepted lane old now → IsSentPart (λ n. Stop ∷ []) unstopped lane now new → HasLane end lanes l lane old new
+sent_lane end all lanes accepted l unstopped none is so lane old now new prefix (same, inl added) =
     stopped_lane end all lanes accepted l is so lane old now new prefix same added
-told_lane end all lanes accepted l None none is so lane old now new prefix (same, inr lost) = let lost_one = lost.1 in absurd cc
-told_lane end all lanes accepted l (Some e) none is so lane old now new prefix (same, inr lost) = absurd cc
+sent_lane end all lanes accepted l None none is so lane old now new prefix (same, inr lost) = let lost_one = lost.1 in absurd cc
+sent_lane end all lanes accepted l (Some e) none is so lane old now new prefix (same, inr lost) = absurd cc
 
 -- or wasn't, where the other end of a ring was seen dropped
-pub lost_lane : (all : Bool) (lanes : ℕ) (accepted l : List Message) (untold : Option StageEnd) → IsAccepted accepted l → (lane : ℕ) (old now new : Sender)
-    → HasPrefix all lanes accepted lane old now → IsSentPart (λ n. Stop ∷ []) untold lane now new → HasLane PeerGone lanes l lane old new
-lost_lane all lanes accepted l untold is lane old now new prefix (same, inl added) =
+pub lost_lane : (all : Bool) (lanes : ℕ) (accepted l : List Message) (unstopped : Option StageEnd) → IsAccepted accepted l → (lane : ℕ) (old now new : Sender)
+    → HasPrefix all lanes accepted lane old now → IsSentPart (λ n. Stop ∷ []) unstopped lane now new → HasLane PeerGone lanes l lane old new
+lost_lane all lanes accepted l unstopped is lane old now new prefix (same, inl added) =
     stopped_lane PeerGone all lanes accepted l is (λ n g more full. tt) lane old now new prefix same added
-lost_lane all lanes accepted l untold is lane old now new (same_now, (g, output, more, prefix, full)) (same, inr lost) = record {
+lost_lane all lanes accepted l unstopped is lane old now new (same_now, (g, output, more, prefix, full)) (same, inr lost) = record {
   ring = same_output old now new same_now same;
   gave = g;
   output = lost.0 ∙ output;

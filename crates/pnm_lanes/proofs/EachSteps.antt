@@ -24,7 +24,7 @@ use Rattle.pnm_stages.specs.declared.stage.StageEnd.TheVariants.{Well, Broken, F
 use Rattle.pnm_lanes.specs.declared.lane.LaneState.{LaneState}
 use Rattle.pnm_lanes.specs.declared.lane.LaneState.TheVariants.{Open}
 use Rattle.pnm_lanes.specs.GatherParts.{IsOfStream, LaneHasGiven, HasTakenFrom, state_at, AreOpen, AwaitsNoRow, HasTakenParts, HasTakenWhole, HasTakenNone}
-use Rattle.pnm_lanes.specs.GatherParts.{HasTakenNext, BeginsNone, IsTogether, AreNotTogether, AreDealtHeights, AreAlike, height_in}
+use Rattle.pnm_lanes.specs.GatherParts.{HasTakenNext, BeginsNone, IsAgreed, IsNotAgreed, AreDealtHeights, AreAlike, height_in}
 use Rattle.pnm_lanes.specs.GatherParts.{HasTakenLike, HasTakenAlike}
 use Rattle.pnm_lanes.proofs.PartLaws.{begins_so, no_prefix, same_begin}
 use Rattle.pnm_lanes.proofs.TakenParts.{one_more_of, more_here, more_there, one_of_stream, message_of_stream, state_stays, none_taken, taken_more, taken_same}
@@ -372,7 +372,7 @@ dealt_of_prefix lanes height heights reserved dealt lane below =
     sym (get_or-take lanes heights lane 0 below) ∙ all lane below
 
 none_together : (lanes : ℕ) (place : Place) (first : Message) (heights : List ℕ) → 0 < lanes → lanes ≤ length heights → AwaitsNoRow place
-    → AreNotTogether first (take lanes heights) → BeginsNone lanes place (until lanes first heights)
+    → IsNotAgreed first (take lanes heights) → BeginsNone lanes place (until lanes first heights)
 none_together lanes place (Begin head) heights some reserved none not rest lawful are prefixes =
     let prefix_of : (lane : ℕ) → lane < lanes → IsPrefixOf (Begin (with_height head (get_or heights lane 0)) ∷ []) (dealt_from lane lanes place rest) =
     λ lane below.
@@ -388,7 +388,7 @@ none_together lanes place StreamEnd heights some reserved none not rest lawful a
 none_together lanes place Stop heights some reserved none not rest lawful are prefixes = absurd not
 
 pub each_not_together : (lanes : ℕ) (place : Place) (first : Message) (heights : List ℕ) (states : List LaneState) (start now : ℕ → List Message)
-    → IsTakingEach lanes place first heights lanes states start now → lanes ≤ length heights → AwaitsNoRow place → AreNotTogether first (take lanes heights)
+    → IsTakingEach lanes place first heights lanes states start now → lanes ≤ length heights → AwaitsNoRow place → IsNotAgreed first (take lanes heights)
     → HasTakenNone lanes place (Fault OutOfOrder) states start now
 each_not_together lanes place first heights states start now taking reserved none not =
     let some = taking.some in
@@ -403,33 +403,33 @@ each_not_together lanes place first heights states start now taking reserved non
     }
 
 -- the message of the whole stream
-is_together : (lanes : ℕ) (place : Place) (first m : Message) (heights : List ℕ) → lanes ≤ length heights → Accepts place first → IsOfStream first
-    → IsTogether first (take lanes heights) m
+is_agreed : (lanes : ℕ) (place : Place) (first m : Message) (heights : List ℕ) → lanes ≤ length heights → Accepts place first → IsOfStream first
+    → IsAgreed first (take lanes heights) m
     → Accepts place m × IsOfStream m × ((lane : ℕ) → lane < lanes → like first (get_or heights lane 0) ≡ part_for lane lanes m)
-is_together lanes place (Begin head) m heights reserved may is together =
-    let whole : HeadValue = with_height head together.0 in
+is_agreed lanes place (Begin head) m heights reserved may is agreed =
+    let whole : HeadValue = with_height head agreed.0 in
     subst (λ (x : Message). Accepts place x × IsOfStream x
-    × ((lane : ℕ) → lane < lanes → Begin (with_height head (get_or heights lane 0)) ≡ part_for lane lanes x)) (sym together.3) (
+    × ((lane : ℕ) → lane < lanes → Begin (with_height head (get_or heights lane 0)) ≡ part_for lane lanes x)) (sym agreed.3) (
       accepts_begin place head whole may,
-      head_of_height head together.0 is together.1,
-      λ lane below. ap (λ (h : ℕ). Begin (with_height head h)) (dealt_of_prefix lanes together.0 heights reserved together.2 lane below),
+      head_of_height head agreed.0 is agreed.1,
+      λ lane below. ap (λ (h : ℕ). Begin (with_height head h)) (dealt_of_prefix lanes agreed.0 heights reserved agreed.2 lane below),
     )
-is_together lanes place (Row row) m heights reserved may is together =
-    subst (λ (x : Message). Accepts place x × IsOfStream x × ((lane : ℕ) → lane < lanes → Row row ≡ part_for lane lanes x)) (sym together)
+is_agreed lanes place (Row row) m heights reserved may is agreed =
+    subst (λ (x : Message). Accepts place x × IsOfStream x × ((lane : ℕ) → lane < lanes → Row row ≡ part_for lane lanes x)) (sym agreed)
     (may, tt, λ lane below. refl)
-is_together lanes place ImageEnd m heights reserved may is together =
-    subst (λ (x : Message). Accepts place x × IsOfStream x × ((lane : ℕ) → lane < lanes → ImageEnd ≡ part_for lane lanes x)) (sym together)
+is_agreed lanes place ImageEnd m heights reserved may is agreed =
+    subst (λ (x : Message). Accepts place x × IsOfStream x × ((lane : ℕ) → lane < lanes → ImageEnd ≡ part_for lane lanes x)) (sym agreed)
     (may, tt, λ lane below. refl)
-is_together lanes place StreamEnd m heights reserved may is together =
-    subst (λ (x : Message). Accepts place x × IsOfStream x × ((lane : ℕ) → lane < lanes → StreamEnd ≡ part_for lane lanes x)) (sym together)
+is_agreed lanes place StreamEnd m heights reserved may is agreed =
+    subst (λ (x : Message). Accepts place x × IsOfStream x × ((lane : ℕ) → lane < lanes → StreamEnd ≡ part_for lane lanes x)) (sym agreed)
     (may, tt, λ lane below. refl)
-is_together lanes place Stop m heights reserved may is together = absurd is
+is_agreed lanes place Stop m heights reserved may is agreed = absurd is
 
-pub each_together : (lanes : ℕ) (place : Place) (first m : Message) (heights : List ℕ) (states : List LaneState) (start now : ℕ → List Message)
-    → IsTakingEach lanes place first heights lanes states start now → lanes ≤ length heights → AwaitsNoRow place → IsTogether first (take lanes heights) m
+pub each_agreed : (lanes : ℕ) (place : Place) (first m : Message) (heights : List ℕ) (states : List LaneState) (start now : ℕ → List Message)
+    → IsTakingEach lanes place first heights lanes states start now → lanes ≤ length heights → AwaitsNoRow place → IsAgreed first (take lanes heights) m
     → HasTakenWhole lanes place m states start now
-each_together lanes place first m heights states start now taking reserved none together =
-    let all = is_together lanes place first m heights reserved taking.may taking.is together in
+each_agreed lanes place first m heights states start now taking reserved none agreed =
+    let all = is_agreed lanes place first m heights reserved taking.may taking.is agreed in
     record {
       may = all.0;
       is = all.1;
@@ -440,20 +440,20 @@ each_together lanes place first m heights states start now taking reserved none 
 
 ends_so : (lanes : ℕ) (place : Place) (first : Message) (heights : List ℕ) (states : List LaneState) (start now : ℕ → List Message) (found : Option Message)
     → IsTakingEach lanes place first heights lanes states start now → lanes ≤ length heights → AwaitsNoRow place
-    → IfSome found (λ m. IsTogether first (take lanes heights) m) → IfNone found (AreNotTogether first (take lanes heights))
+    → IfSome found (λ m. IsAgreed first (take lanes heights) m) → IfNone found (IsNotAgreed first (take lanes heights))
     → HasTakenNext lanes place (ok_or found (Fault OutOfOrder)) states start now
 ends_so lanes place first heights states start now (Some m) taking reserved none there missing =
-    each_together lanes place first m heights states start now taking reserved none there
+    each_agreed lanes place first m heights states start now taking reserved none there
 ends_so lanes place first heights states start now None taking reserved none there missing =
     each_not_together lanes place first heights states start now taking reserved none missing
 
 pub each_ends : (lanes lane count : ℕ) (place : Place) (first : Message) (heights : List ℕ) (states : List LaneState) (start now : ℕ → List Message)
     (found : Option Message)
     → IsTakingEach lanes place first heights lane states start now → lane ≡ lanes → count ≡ lanes → lanes ≤ length heights → AwaitsNoRow place
-    → IfSome found (λ m. IsTogether first (take count heights) m) → IfNone found (AreNotTogether first (take count heights))
+    → IfSome found (λ m. IsAgreed first (take count heights) m) → IfNone found (IsNotAgreed first (take count heights))
     → HasTakenNext lanes place (ok_or found (Fault OutOfOrder)) states start now
 each_ends lanes lane count place first heights states start now found taking at_end all reserved none there missing =
     ends_so lanes place first heights states start now found (subst (λ (l : ℕ). IsTakingEach lanes place first heights l states start now) at_end taking)
     reserved none
-    (subst (λ (n : ℕ). IfSome found (λ m. IsTogether first (take n heights) m)) all there)
-    (subst (λ (n : ℕ). IfNone found (AreNotTogether first (take n heights))) all missing)
+    (subst (λ (n : ℕ). IfSome found (λ m. IsAgreed first (take n heights) m)) all there)
+    (subst (λ (n : ℕ). IfNone found (IsNotAgreed first (take n heights))) all missing)

@@ -255,18 +255,18 @@ broken_off_so : (lanes : ℕ) (place : Place) (cause end : StageEnd) (stopped : 
     → CarriesOn lanes states done new final left_new left → HasStopped cause end stopped lanes done sent_now sent_new
     → HasGatheredBy end stopped lanes start final left sent_start sent_new
 unfolding ends_so
-broken_off_so lanes place cause end stopped states done start now new final left_new left sent_start sent_now sent_new going some none carried (inl told) =
+broken_off_so lanes place cause end stopped states done start now new final left_new left sent_start sent_now sent_new going some none carried (inl is_sent) =
     let took : ℕ → List Message = took_of start final in
     let left_so = has_left lanes place start now new final none.taken sent_start sent_now going none.parts.added carried.prefixes in
     let are = carried.lanes_are start (lanes_after lanes place states start now new left_new none.taken sent_start sent_now going none.parts) in
     let ended : (lane : ℕ) → lane < lanes → IsEnded (took lane) =
-    λ lane below. (lane_ended true (state_at done lane) (start lane) (final lane) (left lane) (told.2 lane below) (are lane below)).has_ended refl in
+    λ lane below. (lane_ended true (state_at done lane) (start lane) (final lane) (left lane) (is_sent.2 lane below) (are lane below)).has_ended refl in
     let so = stopped_so cause lanes place going.gave none.taken took some going.lawful going.stream going.more going.at_place left_so ended none.cause in
-    subst (λ (e : StageEnd). HasGatheredBy e stopped lanes start final left sent_start sent_new) (sym told.0)
+    subst (λ (e : StageEnd). HasGatheredBy e stopped lanes start final left sent_start sent_new) (sym is_sent.0)
     (record {
       gathered = ends_so lanes place cause true done start now new final left none.taken sent_start sent_now sent_new (going.gave ++ Stop ∷ []) going some
-          left_so are told.2
-          (sent_with_one sent_start sent_now sent_new going.gave Stop going.output told.1) (with_stop lanes place start now sent_start sent_now going)
+          left_so are is_sent.2
+          (sent_with_one sent_start sent_now sent_new going.gave Stop going.output is_sent.1) (with_stop lanes place start now sent_start sent_now going)
           so.0 so.1;
       ended = λ yes. ended;
       stop_sent = λ yes. (going.gave, refl, going.more);
@@ -299,12 +299,12 @@ broken_off lanes count place cause end stopped states done start now new final l
 
 -- ---- the message couldn't be sent
 
-pub not_told : (lanes count : ℕ) (place : Place) (m : Message) (ended : Bool) (states done : List LaneState) (start now new final left_new left : ℕ
+pub not_sent : (lanes count : ℕ) (place : Place) (m : Message) (ended : Bool) (states done : List LaneState) (start now new final left_new left : ℕ
     → List Message) (sent_start sent_now sent_new : List Message)
     → IsGoing lanes place start now sent_start sent_now → 0 < lanes → count ≡ lanes → HasTakenWhole count place m states now new → sent_new ≡ sent_now
     → HasDrainedAll count ended states done new final left_new left
     → HasGatheredBy PeerGone false lanes start final left sent_start sent_new
-not_told lanes count place m ended states done start now new final left_new left sent_start sent_now sent_new going some same whole sent drained =
+not_sent lanes count place m ended states done start now new final left_new left sent_start sent_now sent_new going some same whole sent drained =
     let taken = subst (λ (n : ℕ). HasTakenWhole n place m states now new) same whole in
     let all = subst (λ (n : ℕ). HasDrainedAll n ended states done new final left_new left) same drained in
     let part : ℕ → List Message = λ lane. dealt_message lane lanes place m in

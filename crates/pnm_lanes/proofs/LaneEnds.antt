@@ -11,7 +11,7 @@ use Rattle.pnm_image.proofs.Streams.{is_stream_of}
 use Rattle.pnm_tools.specs.declared.tool.Tool.{Tool}
 use Rattle.pnm_image.specs.declared.message.Ending.{Ending}
 use Rattle.pnm_image.specs.declared.message.Ending.TheVariants.{Whole, BrokenOff}
-use Rattle.pnm_tools.specs.Answers.{AnswersInFull, AreResults, images_ended, begun_of, begun_in, answers_owed}
+use Rattle.pnm_tools.specs.Answers.{AnswersInFull, AreResults, images_ended, begun_of, begun_in, due_so_far}
 use Rattle.pnm_tools.specs.Dealing.{dealt}
 use Rattle.pnm_tools.specs.Tools.{IsLawfulTool, is_row_wise}
 use Rattle.pnm_tools.proofs.SoundLaws.{unbroken_keeps_all}
@@ -24,14 +24,14 @@ use Rattle.pnm_stages.proofs.PrefixLaws.{stop_is_cut}
 use Rattle.pnm_lanes.specs.Deals.{HasReceivedSo, HasSentSo}
 use Rattle.pnm_lanes.specs.Gathers.{HasSentAll}
 use Rattle.pnm_lanes.specs.LaneLaws.{results_before, dealt_images}
-use Rattle.pnm_lanes.specs.Lanes.{IsFine, HaveRunTogether}
+use Rattle.pnm_lanes.specs.Lanes.{IsFine, HaveThreadsRun}
 use Rattle.pnm_lanes.proofs.DealtLaws.{dealt_from-append, dealt_prefix}
 use Rattle.pnm_lanes.proofs.LaneDue.{dealt_ends}
 use Rattle.pnm_lanes.proofs.LaneHeads.{whole_is_taken}
 use Rattle.pnm_lanes.proofs.LaneLaws.{dealt_are_images, stream_is_dealt, results_are_dealt}
-use Rattle.pnm_lanes.proofs.LaneOwed.{dealt_ended, dealt_begun, owed_is_dealt}
-use Rattle.pnm_lanes.proofs.LanesTogether.{before_stop}
-use Rattle.pnm_lanes.proofs.LaneStream.{EndsAtImage, all_results, answered_in_full, owed_of_results}
+use Rattle.pnm_lanes.proofs.LaneSoFar.{dealt_ended, dealt_begun, due_so_far_is_dealt}
+use Rattle.pnm_lanes.proofs.LanePrefixes.{before_stop}
+use Rattle.pnm_lanes.proofs.LaneStream.{EndsAtImage, all_results, answered_in_full, due_of_results}
 use Rattle.pnm_lanes.proofs.LaneStages.{all_of_ended, not_both, stopped_is_broken, completes_prefix, whole_lane, fine_is_there, together, results_dealt}
 use Rattle.pnm_lanes.proofs.LaneStages.{together_due}
 
@@ -74,7 +74,7 @@ broken_deal PeerGone lane lanes l d i fine input sent prefix broken = absurd fin
 -- ---- well
 
 pub together_well : {tool : Tool} {lanes : ℕ} {dealer : StageEnd} {e : ℕ → StageEnd} {l g : List Message} {d i o r : ℕ → List Message}
-    → HaveRunTogether tool lanes dealer e Well l d i o r g
+    → HaveThreadsRun tool lanes dealer e Well l d i o r g
     → 0 < lanes → IsLawfulTool tool → is_row_wise tool ≡ true → IsFine dealer → ((lane : ℕ) → lane < lanes → IsFine (e lane)) → HasEndedWell tool l g
 together_well {tool = tool} {lanes = lanes} {dealer = dealer} {e = e} {l = l} {g = g} {d = d} {i = i} {o = o} {r = r} run some lawful row_wise fine fines =
     let whole : EndsBy Whole (r 0) = subst (EndsBy Whole) (sym (run.gathered.ended.1 0 some)) (dealt_ends Whole 0 lanes g run.gathered.ended.0) in
@@ -142,11 +142,11 @@ broken_lane tool Broken lane lanes l d i o r broken sent received ended fine tak
 broken_lane tool (Fault fault) lane lanes l d i o r broken sent received ended fine taken gathered = absurd fine
 broken_lane tool PeerGone lane lanes l d i o r broken sent received ended fine taken gathered = absurd fine
 
--- what a lane owes for images that complete what was broken off
-lane_owes : (tool : Tool) (lane lanes : ℕ) (l f o : List Message) (is : List Image) → IsLawfulTool tool → is_row_wise tool ≡ true → lane < lanes
+-- what is due from a lane for images that complete what was broken off
+lane_due : (tool : Tool) (lane lanes : ℕ) (l f o : List Message) (is : List Image) → IsLawfulTool tool → is_row_wise tool ≡ true → lane < lanes
     → l ≡ f ++ Stop ∷ [] → Completes is l → AnswersInFull tool (dealt lane lanes l) o
-    → IsPrefixOf (dealt lane lanes (answers_owed tool (images_ended l) (begun_in l) is)) o
-lane_owes tool lane lanes l f o is lawful row_wise below parts completes full =
+    → IsPrefixOf (dealt lane lanes (due_so_far tool (images_ended l) (begun_in l) is)) o
+lane_due tool lane lanes l f o is lawful row_wise below parts completes full =
     let part : List Message = dealt lane lanes l in
     let cut : without_stop l ≡ f = ap without_stop parts ∙ stop_is_cut f in
     let split : part ≡ dealt lane lanes f ++ Stop ∷ [] = ap (dealt lane lanes) parts ∙ dealt_from-append lane lanes Between f (Stop ∷ []) in
@@ -161,11 +161,11 @@ lane_owes tool lane lanes l f o is lawful row_wise below parts completes full =
     } in
     let begun : begun_in part ≡ begun_in l = ap (λ (x : List Message). begun_of (place_of Between x)) cut_part ∙ dealt_begun lane lanes f
     ∙ ap (λ (x : List Message). begun_of (place_of Between x)) (sym cut) in
-    let same : answers_owed tool (images_ended part) (begun_in part) (dealt_images lane lanes is)
-    ≡ dealt lane lanes (answers_owed tool (images_ended l) (begun_in l) is) =
-    ap (λ (n : ℕ). answers_owed tool n (begun_in part) (dealt_images lane lanes is)) (dealt_ended lane lanes l)
-    ∙ ap (λ (b : _). answers_owed tool (images_ended l) b (dealt_images lane lanes is)) begun
-    ∙ owed_is_dealt tool lane lanes (images_ended l) (begun_in l) is lawful row_wise below completes.images in
+    let same : due_so_far tool (images_ended part) (begun_in part) (dealt_images lane lanes is)
+    ≡ dealt lane lanes (due_so_far tool (images_ended l) (begun_in l) is) =
+    ap (λ (n : ℕ). due_so_far tool n (begun_in part) (dealt_images lane lanes is)) (dealt_ended lane lanes l)
+    ∙ ap (λ (b : _). due_so_far tool (images_ended l) b (dealt_images lane lanes is)) begun
+    ∙ due_so_far_is_dealt tool lane lanes (images_ended l) (begun_in l) is lawful row_wise below completes.images in
     subst (λ (x : List Message). IsPrefixOf x o) same (full.all (dealt_images lane lanes is) also)
 
 -- what ends with the beginning or the end of an image was sent
@@ -178,7 +178,7 @@ sent_all js lanes r x g (inr last) prefix gave all =
     (λ lane below. subst (λ (y : List Message). IsPrefixOf (dealt lane lanes y) (r lane)) last.3 (gave lane below)))
 
 pub together_broken : {tool : Tool} {lanes : ℕ} {dealer : StageEnd} {e : ℕ → StageEnd} {l g : List Message} {d i o r : ℕ → List Message}
-    → HaveRunTogether tool lanes dealer e Broken l d i o r g
+    → HaveThreadsRun tool lanes dealer e Broken l d i o r g
     → 0 < lanes → IsLawfulTool tool → is_row_wise tool ≡ true → IsFine dealer → ((lane : ℕ) → lane < lanes → IsFine (e lane)) → HasBrokenOff tool l g
 together_broken {tool = tool} {lanes = lanes} {dealer = dealer} {e = e} {l = l} {g = g} {d = d} {i = i} {o = o} {r = r} run some lawful row_wise fine fines =
     let stopped = run.gathered.ended.1 in
@@ -206,13 +206,13 @@ together_broken {tool = tool} {lanes = lanes} {dealer = dealer} {e = e} {l = l} 
         };
         taken = whole_is_taken tool 0 lanes l lawful row_wise some run.messages (part 0 some).taken;
         all = λ is completes.
-            let owes = owed_of_results tool (images_ended l) (begun_in l) is in
+            let owes = due_of_results tool (images_ended l) (begun_in l) is in
             let gathered =
             run.gathered.images (results_before tool is)
             (results_dealt run lawful row_wise is (completes_prefix is l common.accepted common.rest common.parts completes)) in
-            sent_all (results_before tool is) lanes r (answers_owed tool (images_ended l) (begun_in l) is) g owes.1 owes.0
-            (λ n below. subst (IsPrefixOf (dealt n lanes (answers_owed tool (images_ended l) (begun_in l) is))) (sym (lane n below).all)
-            (lane_owes tool n lanes l split.0 (o n) is lawful row_wise below split.2 completes (part n below)))
+            sent_all (results_before tool is) lanes r (due_so_far tool (images_ended l) (begun_in l) is) g owes.1 owes.0
+            (λ n below. subst (IsPrefixOf (dealt n lanes (due_so_far tool (images_ended l) (begun_in l) is))) (sym (lane n below).all)
+            (lane_due tool n lanes l split.0 (o n) is lawful row_wise below split.2 completes (part n below)))
             gathered.so;
         ends = λ end is. subst (λ (x : Ending). EndsBy x g) (one_ending BrokenOff end l deal.broken is) ends;
       };

@@ -32,7 +32,7 @@ use Rattle.pnm_stages.proofs.RingSteps.{ends_as}
 use Rattle.pnm_lanes.specs.Deals.{HasReceivedSo, HasSentSo}
 use Rattle.pnm_lanes.specs.Gathers.{HasGatheredSo, IsGathered}
 use Rattle.pnm_lanes.specs.LaneLaws.{results_before, dealt_images}
-use Rattle.pnm_lanes.specs.Lanes.{AreThere, IsFine, IsFirstOfThreads, IsFirstRefusedHead, IsFaultOf, HasFailedInLanes, HaveRunTogether}
+use Rattle.pnm_lanes.specs.Lanes.{AreThere, IsFine, IsFirstOfThreads, IsFirstRefusedHead, IsFaultOf, HasFailedInLanes, HaveThreadsRun}
 use Rattle.pnm_lanes.proofs.LaneDue.{dealt_ends}
 use Rattle.pnm_lanes.proofs.LaneHeads.{refused_head_is_dealt}
 use Rattle.pnm_lanes.proofs.LaneLaws.{dealt_are_images, stream_is_dealt}
@@ -199,7 +199,7 @@ never_failed PeerGone fault js lanes r g same so = absurd cc
 
 -- images that complete what all lanes were dealt
 completed : {tool : Tool} {lanes : ℕ} {dealer : StageEnd} {e : ℕ → StageEnd} {gatherer : StageEnd} {l g : List Message} {d i o r : ℕ → List Message}
-    (run : HaveRunTogether tool lanes dealer e gatherer l d i o r g) → (is : List Image) × Completes is (together run).accepted
+    (run : HaveThreadsRun tool lanes dealer e gatherer l d i o r g) → (is : List Image) × Completes is (together run).accepted
 completed {l = l} run =
     let common = together run in
     let found = completion common.accepted (all_of_prefix IsMessage common.accepted common.rest (subst (AllByRecursion IsMessage) common.parts run.messages))
@@ -208,7 +208,7 @@ completed {l = l} run =
 
 -- what a lane received is lawful without a last Stop
 lane_is_lawful : {tool : Tool} {lanes : ℕ} {dealer : StageEnd} {e : ℕ → StageEnd} {gatherer : StageEnd} {l g : List Message} {d i o r : ℕ → List Message}
-    (run : HaveRunTogether tool lanes dealer e gatherer l d i o r g) (lane : ℕ) → lane < lanes → IsLawful (without_stop (i lane))
+    (run : HaveThreadsRun tool lanes dealer e gatherer l d i o r g) (lane : ℕ) → lane < lanes → IsLawful (without_stop (i lane))
 lane_is_lawful {lanes = lanes} {i = i} run lane below =
     let found = completed run in
     let seen = subst (IsPrefixOf (without_stop (i lane))) (stream_is_dealt lane lanes found.0 found.1.images) (lane_receives run found.0 found.1 lane below) in
@@ -216,7 +216,7 @@ lane_is_lawful {lanes = lanes} {i = i} run lane below =
     (subst IsLawful seen.1 (stream_is_lawful (dealt_images lane lanes found.0) (dealt_are_images lane lanes found.0 found.1.images)))
 
 lane_cause : {tool : Tool} {lanes : ℕ} {dealer : StageEnd} {e : ℕ → StageEnd} {gatherer : StageEnd} {l g : List Message} {d i o r : ℕ → List Message}
-    (run : HaveRunTogether tool lanes dealer e gatherer l d i o r g) (fault : ToolFault) (lane : ℕ)
+    (run : HaveThreadsRun tool lanes dealer e gatherer l d i o r g) (fault : ToolFault) (lane : ℕ)
     → IsLawfulTool tool → is_row_wise tool ≡ true → lane < lanes → IsLawful l → e lane ≡ Fault fault → IsFaultOf tool fault l
 lane_cause {tool = tool} {lanes = lanes} {l = l} {d = d} {i = i} {o = o} run fault lane lawful row_wise below whole is =
     let common = together run in
@@ -228,7 +228,7 @@ lane_cause {tool = tool} {lanes = lanes} {l = l} {d = d} {i = i} {o = o} run fau
 
 -- the cause of a fault
 cause_tells : {tool : Tool} {lanes : ℕ} {dealer : StageEnd} {e : ℕ → StageEnd} {gatherer : StageEnd} {l g : List Message} {d i o r : ℕ → List Message}
-    (run : HaveRunTogether tool lanes dealer e gatherer l d i o r g) (fault : ToolFault)
+    (run : HaveThreadsRun tool lanes dealer e gatherer l d i o r g) (fault : ToolFault)
     → IsLawfulTool tool → is_row_wise tool ≡ true → IsFirstOfThreads lanes dealer e gatherer fault → IsFaultOf tool fault l
 cause_tells {tool = tool} {l = l} run fault lawful row_wise (inl dealer) =
     dealer_failed tool fault l (subst (λ (x : StageEnd). HasReceivedSo x l) dealer run.input)
@@ -245,7 +245,7 @@ whole_part {lanes = lanes} {g = g} gathered lane below =
     subst (EndsBy Whole) (sym (gathered.ended.1 lane below)) (dealt_ends Whole lane lanes g gathered.ended.0)
 
 no_fault_well : {tool : Tool} {lanes : ℕ} {dealer : StageEnd} {e : ℕ → StageEnd} {l g : List Message} {d i o r : ℕ → List Message}
-    (run : HaveRunTogether tool lanes dealer e Well l d i o r g) (fault : ToolFault)
+    (run : HaveThreadsRun tool lanes dealer e Well l d i o r g) (fault : ToolFault)
     → 0 < lanes → ((lane : ℕ) → lane < lanes → e lane ≢ PeerGone) → IsFirstOfThreads lanes dealer e Well fault → ⊥
 no_fault_well {tool = tool} {lanes = lanes} {e = e} {l = l} {d = d} {i = i} {o = o} {r = r} run fault some there (inl dealer) =
     let lane = whole_lane tool (e 0) (i 0) (o 0) (r 0) (run.stages 0 some).ended (there 0 some) (run.taken 0 some) (whole_part run.gathered 0 some) in
@@ -262,7 +262,7 @@ no_fault_well {tool = tool} {lanes = lanes} {e = e} {i = i} {o = o} {r = r} run 
 no_fault_well run fault some there (inr (inr gathered)) = let not = gathered.2 in absurd cc
 
 pub together_failed : {tool : Tool} {lanes : ℕ} {dealer : StageEnd} {e : ℕ → StageEnd} {l g : List Message} {d i o r : ℕ → List Message} (gatherer : StageEnd)
-    → HaveRunTogether tool lanes dealer e gatherer l d i o r g → (fault : ToolFault)
+    → HaveThreadsRun tool lanes dealer e gatherer l d i o r g → (fault : ToolFault)
     → 0 < lanes → IsLawfulTool tool → is_row_wise tool ≡ true → IsFirstOfThreads lanes dealer e gatherer fault → AreThere lanes dealer e gatherer
     → HasFailedInLanes tool fault l g
 together_failed {dealer = dealer} {l = l} Well run fault some lawful row_wise cause there = absurd (no_fault_well run fault some there.1 cause)

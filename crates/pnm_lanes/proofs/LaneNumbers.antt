@@ -13,15 +13,15 @@ use Rattle.pnm_stages.specs.declared.stage.StageEnd.TheVariants.{Well, Broken, F
 use Rattle.pnm_stages.specs.Stages.{IsStage}
 use Rattle.pnm_stages.proofs.RingSteps.{still_pair}
 use Rattle.pnm_stages.specs.declared.stage.StageDone.{StageDone}
-use Rattle.pnm_lanes.specs.declared.joining.LanesDone.{LanesDone}
+use Rattle.pnm_lanes.specs.declared.merging.LanesDone.{LanesDone}
 use Rattle.pnm_lanes.specs.declared.lane_rings.LaneRingEnds.{LaneRingEnds}
 use Rattle.pnm_lanes.specs.declared.around.OuterRingEnds.{OuterRingEnds}
 use Rattle.pnm_lanes.specs.Deals.{AtEachFrom, HasLane, HasSentSo, IsPrefixOfDealt}
 use Rattle.pnm_lanes.specs.Gathers.{at_lane, AreSameInputs, IsGathered}
 use Rattle.pnm_lanes.specs.LaneRings.{AreUnused, ArePairs}
 use Rattle.pnm_lanes.specs.LaneRuns.{end_of_both, end_of_lanes, AreLanesRun, HaveRun, HasRunLanes}
-use Rattle.pnm_lanes.specs.Lanes.{IsFine, IsEndOfAll, HaveRunTogether}
-use Rattle.pnm_lanes.proofs.JoinSteps.{HavePassed}
+use Rattle.pnm_lanes.specs.Lanes.{IsFine, IsEndOfAll, HaveThreadsRun}
+use Rattle.pnm_lanes.proofs.MergeSteps.{HavePassed}
 use Rattle.pnm_lanes.proofs.LaneRuns.{lanes_are_a_stage}
 
 -- ---- the rings
@@ -273,7 +273,7 @@ lanes_have_run tool es outer reserved done end unused run passed end_is some cou
     (dealt_of dealer (length outer.outputs.items) 0 dealt.took outer.outputs.items done.dealt.outputs.items none.to_lanes dealt.lanes lane
     (omega (arith, below, senders)))) in
     let of_rings = passed_of done.dealt.outputs.items ds done.gathered.inputs.items passed in
-    let together : HaveRunTogether tool (length ds) dealer (end_at ds) gatherer dealt.took (at_lane sent done.dealt.outputs.items)
+    let together : HaveThreadsRun tool (length ds) dealer (end_at ds) gatherer dealt.took (at_lane sent done.dealt.outputs.items)
     (at_lane (λ (d : StageDone). received d.input) ds) (at_lane (λ (d : StageDone). sent d.output) ds) gathered.took gathered.gave = record {
       messages = dealt.messages;
       once = dealt.once;

@@ -4,7 +4,7 @@ use Rattle.std.specs.Prelude.{IfSome, vec_capacity}
 use Rattle.std.specs.Global.{Vec}
 use Rattle.pnm_tools.specs.declared.tool.Tool.{Tool}
 use Rattle.pnm_stages.specs.declared.stage.StageDone.{StageDone}
-use Rattle.pnm_lanes.specs.declared.joining.LanesDone.{LanesDone}
+use Rattle.pnm_lanes.specs.declared.merging.LanesDone.{LanesDone}
 use Rattle.pnm_lanes.specs.declared.lane_rings.LaneRingEnds.{LaneRingEnds}
 use Rattle.pnm_lanes.specs.declared.around.OuterRingEnds.{OuterRingEnds}
 use Rattle.pnm_lanes.specs.LaneRuns.{IsLaneRun, AreLanesRun, HaveRun}

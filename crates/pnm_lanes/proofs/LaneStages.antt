@@ -25,10 +25,10 @@ use Rattle.pnm_stages.proofs.PrefixLaws.{prefix_without_stop, stop_is_cut}
 use Rattle.pnm_stages.proofs.RingSteps.{ends_as}
 use Rattle.pnm_lanes.specs.Gathers.{AreDealt, IsStopped}
 use Rattle.pnm_lanes.specs.LaneLaws.{results_before}
-use Rattle.pnm_lanes.specs.Lanes.{IsFine, HaveRunTogether}
+use Rattle.pnm_lanes.specs.Lanes.{IsFine, HaveThreadsRun}
 use Rattle.pnm_lanes.proofs.DealtLaws.{dealt_prefix}
 use Rattle.pnm_lanes.proofs.LaneDue.{lane_gives_due, lane_gives_results, results_before_are_images, gathered_is_due}
-use Rattle.pnm_lanes.proofs.LanesTogether.{lane_gets, IsCommonPrefix, common_prefix}
+use Rattle.pnm_lanes.proofs.LanePrefixes.{lane_gets, IsCommonPrefix, common_prefix}
 
 -- ---- lists that have ended
 
@@ -120,12 +120,12 @@ fine_is_there PeerGone fine = absurd fine
 
 -- what all lanes were dealt
 pub together : {tool : Tool} {lanes : ℕ} {dealer : StageEnd} {e : ℕ → StageEnd} {gatherer : StageEnd} {l g : List Message} {d i o r : ℕ → List Message}
-    → HaveRunTogether tool lanes dealer e gatherer l d i o r g → IsCommonPrefix lanes lanes l d
+    → HaveThreadsRun tool lanes dealer e gatherer l d i o r g → IsCommonPrefix lanes lanes l d
 together {lanes = lanes} {l = l} {d = d} run = common_prefix lanes lanes l d run.prefix
 
 -- what a lane receives of what images complete
 pub lane_receives : {tool : Tool} {lanes : ℕ} {dealer : StageEnd} {e : ℕ → StageEnd} {gatherer : StageEnd} {l g : List Message} {d i o r : ℕ → List Message}
-    (run : HaveRunTogether tool lanes dealer e gatherer l d i o r g)
+    (run : HaveThreadsRun tool lanes dealer e gatherer l d i o r g)
     → (is : List Image) → Completes is (together run).accepted → (lane : ℕ) → lane < lanes
     → IsPrefixOf (without_stop (i lane)) (dealt lane lanes (messages_of_stream is))
 lane_receives {lanes = lanes} {d = d} {i = i} run is completes lane below =
@@ -137,7 +137,7 @@ lane_receives {lanes = lanes} {d = d} {i = i} run is completes lane below =
 
 -- what is gathered from a lane
 lane_is_due : {tool : Tool} {lanes : ℕ} {dealer : StageEnd} {e : ℕ → StageEnd} {gatherer : StageEnd} {l g : List Message} {d i o r : ℕ → List Message}
-    (run : HaveRunTogether tool lanes dealer e gatherer l d i o r g)
+    (run : HaveThreadsRun tool lanes dealer e gatherer l d i o r g)
     → IsLawfulTool tool → is_row_wise tool ≡ true → (is : List Image) → Completes is (together run).accepted → (lane : ℕ) → lane < lanes
     → IsPrefixOf (without_stop (r lane)) (dealt lane lanes (output_due tool is))
 lane_is_due {tool = tool} {lanes = lanes} {i = i} {o = o} {r = r} run lawful row_wise is completes lane below =
@@ -147,7 +147,7 @@ lane_is_due {tool = tool} {lanes = lanes} {i = i} {o = o} {r = r} run lawful row
     (cut_prefix (r lane) (o lane) (run.taken lane below)) gave
 
 pub results_dealt : {tool : Tool} {lanes : ℕ} {dealer : StageEnd} {e : ℕ → StageEnd} {gatherer : StageEnd} {l g : List Message} {d i o r : ℕ → List Message}
-    (run : HaveRunTogether tool lanes dealer e gatherer l d i o r g)
+    (run : HaveThreadsRun tool lanes dealer e gatherer l d i o r g)
     → IsLawfulTool tool → is_row_wise tool ≡ true → (is : List Image) → Completes is (together run).accepted → AreDealt (results_before tool is) lanes r
 results_dealt {tool = tool} {lanes = lanes} {r = r} run lawful row_wise is completes = record {
   images = results_before_are_images tool is lawful completes.images;
@@ -156,7 +156,7 @@ results_dealt {tool = tool} {lanes = lanes} {r = r} run lawful row_wise is compl
 
 -- what was sent is a prefix of what is due for a lawful prefix of what was received
 pub together_due : {tool : Tool} {lanes : ℕ} {dealer : StageEnd} {e : ℕ → StageEnd} {gatherer : StageEnd} {l g : List Message} {d i o r : ℕ → List Message}
-    → HaveRunTogether tool lanes dealer e gatherer l d i o r g
+    → HaveThreadsRun tool lanes dealer e gatherer l d i o r g
     → 0 < lanes → IsLawfulTool tool → is_row_wise tool ≡ true → IsPrefixOfDue (output_due tool) l g
 together_due {tool = tool} {lanes = lanes} {g = g} {r = r} run some lawful row_wise =
     let common = together run in

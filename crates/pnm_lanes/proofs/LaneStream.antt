@@ -11,7 +11,7 @@ use Rattle.pnm_image.proofs.Streams.{stream_is_lawful}
 use Rattle.pnm_tools.specs.declared.fault.ToolFault.{ToolFault}
 use Rattle.pnm_tools.specs.declared.tool.Tool.{Tool}
 use Rattle.pnm_tools.specs.Answering.{answers_from}
-use Rattle.pnm_tools.specs.Answers.{AnswersInFull, AreResults, answers_owed}
+use Rattle.pnm_tools.specs.Answers.{AnswersInFull, AreResults, due_so_far}
 use Rattle.pnm_tools.specs.Formulas.{image_by}
 use Rattle.pnm_tools.specs.Tools.{IsLawfulTool, result_head, result_sample, AreTaken, applied}
 use Rattle.pnm_tools.proofs.AnsweringLaws.{AnswersImages, answered_after_image}
@@ -78,18 +78,18 @@ answered_in_full tool is js l g lawful images are stream answer =
     subst (λ (x : List Message). AnswersInFull tool x g) (sym stream)
     (subst (AnswersInFull tool (messages_of_stream is)) (sym answer) (stream_in_full tool is js lawful images are))
 
--- ---- what is owed
+-- ---- what is due so far
 
 -- nothing, or it ends with the beginning or the end of an image
 abbrev pub EndsAtImage : List Message → Type 0
 EndsAtImage l = (l ≡ []) ⊎ ((prefix : List Message) × (m : Message) × BeginsOrEnds m × (l ≡ prefix ++ m ∷ []))
 
 -- and it is a prefix of the stream of the results
-abbrev pub IsOwedOf : List Message → List Image → Type 0
-IsOwedOf l js = IsPrefixOf l (messages_of_stream js) × EndsAtImage l
+abbrev pub IsSoFarOf : List Message → List Image → Type 0
+IsSoFarOf l js = IsPrefixOf l (messages_of_stream js) × EndsAtImage l
 
-owes_nothing : (js : List Image) → IsOwedOf [] js
-owes_nothing js = ((messages_of_stream js, refl), inl refl)
+nothing_due : (js : List Image) → IsSoFarOf [] js
+nothing_due js = ((messages_of_stream js, refl), inl refl)
 
 image_ends : (j : Image) (more : List Message) → EndsAtImage more → EndsAtImage (messages_of_image j ++ more)
 image_ends j more (inl none) =
@@ -103,7 +103,7 @@ image_ends j more (inr last) =
           ∙ sym (append_assoc (messages_of_image j) last.0 (last.1 ∷ [])),
     )
 
-after_image : (j : Image) (js : List Image) (more : List Message) → IsOwedOf more js → IsOwedOf (messages_of_image j ++ more) (j ∷ js)
+after_image : (j : Image) (js : List Image) (more : List Message) → IsSoFarOf more js → IsSoFarOf (messages_of_image j ++ more) (j ∷ js)
 after_image j js more others = (prefix_after (messages_of_image j) more (messages_of_stream js) others.0, image_ends j more others.1)
 
 abbrev head_by : Result HeadValue ToolFault → List Message
@@ -112,29 +112,29 @@ head_by r = elim r [ Ok head ↦ Begin head ∷ [] | Err fault ↦ [] ]
 abbrev images_by : List Image → Result Image ToolFault → List Image
 images_by others r = elim r [ Ok j ↦ j ∷ others | Err fault ↦ [] ]
 
-head_owed_by : (make : HeadValue → Image) (others : List Image) (r : Result HeadValue ToolFault) → ((head : HeadValue) → (make head).head ≡ head)
-    → IsOwedOf (head_by r) (images_by others (made_by make r))
-head_owed_by make others (Ok head) same = (
+head_so_far_by : (make : HeadValue → Image) (others : List Image) (r : Result HeadValue ToolFault) → ((head : HeadValue) → (make head).head ≡ head)
+    → IsSoFarOf (head_by r) (images_by others (made_by make r))
+head_so_far_by make others (Ok head) same = (
   (
     (map Row (rows_of (make head)) ++ ImageEnd ∷ []) ++ messages_of_stream others,
     ap (λ (h : HeadValue). Begin h ∷ ((map Row (rows_of (make head)) ++ ImageEnd ∷ []) ++ messages_of_stream others)) (same head),
   ),
   inr ([], Begin head, tt, refl),
 )
-head_owed_by make others (Err fault) same = owes_nothing []
+head_so_far_by make others (Err fault) same = nothing_due []
 
-image_owed_by : (tool : Tool) (n : ℕ) (b : Bool) (is : List Image) (r : Result Image ToolFault) → IsOwedOf (answers_owed tool n b is) (results_before tool is)
-    → IsOwedOf (elim r [ Ok j ↦ messages_of_image j ++ answers_owed tool n b is | Err fault ↦ [] ]) (images_by (results_before tool is) r)
-image_owed_by tool n b is (Ok j) others = after_image j (results_before tool is) (answers_owed tool n b is) others
-image_owed_by tool n b is (Err fault) others = owes_nothing []
+image_so_far_by : (tool : Tool) (n : ℕ) (b : Bool) (is : List Image) (r : Result Image ToolFault) → IsSoFarOf (due_so_far tool n b is) (results_before tool is)
+    → IsSoFarOf (elim r [ Ok j ↦ messages_of_image j ++ due_so_far tool n b is | Err fault ↦ [] ]) (images_by (results_before tool is) r)
+image_so_far_by tool n b is (Ok j) others = after_image j (results_before tool is) (due_so_far tool n b is) others
+image_so_far_by tool n b is (Err fault) others = nothing_due []
 
-pub owed_of_results : (tool : Tool) (n : ℕ) (b : Bool) (is : List Image) → IsOwedOf (answers_owed tool n b is) (results_before tool is)
-unfolding answers_owed
-owed_of_results tool zero true [] = owes_nothing []
-owed_of_results tool zero false [] = owes_nothing []
-owed_of_results tool (suc n) true [] = owes_nothing []
-owed_of_results tool (suc n) false [] = owes_nothing []
-owed_of_results tool zero false (i ∷ is) = owes_nothing (results_before tool (i ∷ is))
-owed_of_results tool zero true (i ∷ is) = head_owed_by (λ h. image_by h (result_sample tool i)) (results_before tool is) (result_head tool i.head)
+pub due_of_results : (tool : Tool) (n : ℕ) (b : Bool) (is : List Image) → IsSoFarOf (due_so_far tool n b is) (results_before tool is)
+unfolding due_so_far
+due_of_results tool zero true [] = nothing_due []
+due_of_results tool zero false [] = nothing_due []
+due_of_results tool (suc n) true [] = nothing_due []
+due_of_results tool (suc n) false [] = nothing_due []
+due_of_results tool zero false (i ∷ is) = nothing_due (results_before tool (i ∷ is))
+due_of_results tool zero true (i ∷ is) = head_so_far_by (λ h. image_by h (result_sample tool i)) (results_before tool is) (result_head tool i.head)
     (λ head. refl)
-owed_of_results tool (suc n) b (i ∷ is) = image_owed_by tool n b is (applied tool i) (owed_of_results tool n b is)
+due_of_results tool (suc n) b (i ∷ is) = image_so_far_by tool n b is (applied tool i) (due_of_results tool n b is)

@@ -19,13 +19,13 @@ pub mod GatherEnds
 pub mod LaneLaws
 pub mod LaneDue
 pub mod LaneHeads
-pub mod LaneOwed
-pub mod LanesTogether
+pub mod LaneSoFar
+pub mod LanePrefixes
 pub mod LaneStream
 pub mod LaneStages
 pub mod LaneEnds
 pub mod LaneFaults
 pub mod LaneRuns
-pub mod JoinSteps
+pub mod MergeSteps
 pub mod LaneRunSteps
 pub mod LaneNumbers

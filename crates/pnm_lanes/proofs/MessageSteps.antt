@@ -67,6 +67,25 @@ left_then end place first l rest olds nows news dealt left = record {
   reason = subst (λ (p : Place). IsReason end p left.at left.nows news) (sym (place_of-append place first left.before)) left.reason;
 }
 
+-- ---- in two parts
+
+-- the first was dealt, and then the second, or not all of it
+pub deals_then : (place here new : Place) (first second : List Message) (unsent : Option StageEnd) (olds nows news : List Sender)
+    → HasDealtMessages place here first None olds nows → HasDealtMessages here new second unsent nows news
+    → HasDealtMessages place new (first ++ second) unsent olds news
+deals_then place here new first second None olds nows news before after = (
+  after.0 ∙ ap (λ (p : Place). place_of p second) before.0 ∙ sym (place_of-append place first second),
+  dealt_then place first second olds nows news before.1 (subst (λ (p : Place). HasDealtAll p second nows news) before.0 after.1),
+)
+deals_then place here new first second (Some end) olds nows news before after =
+    subst (λ (x : List Message). HasLeftOff end place (first ++ x) olds news) (append-nil second)
+    (left_then end place first second [] olds nows news before.1 (subst (λ (p : Place). HasLeftOff end p second nows news) before.0 after))
+
+-- not all of the first was dealt
+pub leaves_rest : (end : StageEnd) (place : Place) (first second : List Message) (olds news : List Sender) → HasLeftOff end place first olds news
+    → HasLeftOff end place (first ++ second) olds news
+leaves_rest end place first second olds news left = left_then end place [] first second olds olds news (none_dealt place olds) left
+
 -- ---- a message
 
 all_of_one : (place : Place) (lanes : ℕ) (m : Message) (lane : ℕ) (old new : Sender) → IsSentPart (part_at lanes place m) None lane old new

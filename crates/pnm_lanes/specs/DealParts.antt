@@ -89,8 +89,8 @@ HasDealtMessages place new l (Some end) olds news = HasLeftOff end place l olds 
 -- the other end of a ring was seen dropped
 pub record HasBrokenOffDealing (end : StageEnd) (ending : Ending) (answer : StageEnd)
     (received_old received_new seen : List Message) (olds news : List Sender) : Type 0 where
-  pub untold : Option StageEnd
+  pub unstopped : Option StageEnd
   pub drained : Bool
-  pub lanes : AtEach (IsSentPart (λ lane. Stop ∷ []) untold) olds news
+  pub lanes : AtEach (IsSentPart (λ lane. Stop ∷ []) unstopped) olds news
   pub input : HasDrainedAfter ending drained received_old received_new seen
-  pub answered : ((untold ≡ None) × (drained ≡ true) × (answer ≡ end)) ⊎ (answer ≡ PeerGone)
+  pub answered : ((unstopped ≡ None) × (drained ≡ true) × (answer ≡ end)) ⊎ (answer ≡ PeerGone)

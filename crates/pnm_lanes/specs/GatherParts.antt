@@ -77,21 +77,21 @@ AreDealtHeights heights height = (lane : ℕ) → lane < length heights
     → slice_index heights lane ≡ dealt_height lane (length heights) height
 
 -- the message of the whole stream, where the lanes' images have these heights
-abbrev pub IsTogether : Message → List ℕ → Message → Type 0
-IsTogether (Begin first) heights m = (height : ℕ) × (height ≤ MAX_SIDE) × AreDealtHeights heights height
+abbrev pub IsAgreed : Message → List ℕ → Message → Type 0
+IsAgreed (Begin first) heights m = (height : ℕ) × (height ≤ MAX_SIDE) × AreDealtHeights heights height
     × (m ≡ Begin (with_height first height))
-IsTogether (Row row) heights m = m ≡ Row row
-IsTogether ImageEnd heights m = m ≡ ImageEnd
-IsTogether StreamEnd heights m = m ≡ StreamEnd
-IsTogether Stop heights m = m ≡ Stop
+IsAgreed (Row row) heights m = m ≡ Row row
+IsAgreed ImageEnd heights m = m ≡ ImageEnd
+IsAgreed StreamEnd heights m = m ≡ StreamEnd
+IsAgreed Stop heights m = m ≡ Stop
 
 -- there is no such message
-abbrev pub AreNotTogether : Message → List ℕ → Type 0
-AreNotTogether (Begin first) heights = (height : ℕ) → height ≤ MAX_SIDE → AreDealtHeights heights height → ⊥
-AreNotTogether (Row row) heights = ⊥
-AreNotTogether ImageEnd heights = ⊥
-AreNotTogether StreamEnd heights = ⊥
-AreNotTogether Stop heights = ⊥
+abbrev pub IsNotAgreed : Message → List ℕ → Type 0
+IsNotAgreed (Begin first) heights = (height : ℕ) → height ≤ MAX_SIDE → AreDealtHeights heights height → ⊥
+IsNotAgreed (Row row) heights = ⊥
+IsNotAgreed ImageEnd heights = ⊥
+IsNotAgreed StreamEnd heights = ⊥
+IsNotAgreed Stop heights = ⊥
 
 -- a message like this one was taken of a lane, with this height
 pub record HasTakenLike (lane : ℕ) (first : Message) (height : ℕ) (states_old states_new : List LaneState)

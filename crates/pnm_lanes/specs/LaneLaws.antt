@@ -12,7 +12,7 @@ use Rattle.pnm_tools.specs.declared.fault.ToolFault.{ToolFault}
 use Rattle.pnm_image.specs.Completion.{IsPrefixOf}
 use Rattle.pnm_tools.specs.declared.tool.Tool.{Tool}
 use Rattle.pnm_image.specs.declared.message.Ending.TheVariants.{Whole}
-use Rattle.pnm_tools.specs.Answers.{AreResults, images_ended, begun_of, answers_owed}
+use Rattle.pnm_tools.specs.Answers.{AreResults, images_ended, begun_of, due_so_far}
 use Rattle.pnm_tools.specs.Dealing.{dealt_head, dealt_image, dealt}
 use Rattle.pnm_tools.specs.Tools.{IsLawfulTool, is_row_wise, result_head, AreTaken, applied, output_due}
 
@@ -73,12 +73,12 @@ RefusalsAreDealt = (tool : Tool) (lane lanes : ℕ) (l before : List Message) (p
     → (prefix : List Message) × (head : HeadValue) × (rest : List Message) × (l ≡ prefix ++ Begin head ∷ rest)
     × AreTaken tool prefix × (result_head tool head ≡ Err fault)
 
--- what is owed by a row-wise tool for the images that a lane sees, of which so many have ended, is what the lane gets
--- of what is owed for the images themselves; in what the lane gets as many have ended, and one has begun where it has
-pub record OwedIsDealt : Type 0 where
+-- what is due from a row-wise tool for the images that a lane sees, of which so many have ended, is what the lane gets
+-- of what is due for the images themselves; in what the lane gets as many have ended, and one has begun where it has
+pub record DueSoFarIsDealt : Type 0 where
   pub ended : (lane lanes : ℕ) (l : List Message) → images_ended (dealt lane lanes l) ≡ images_ended l
   pub begun : (lane lanes : ℕ) (l : List Message)
       → begun_of (place_of Between (dealt lane lanes l)) ≡ begun_of (place_of Between l)
   pub owes : (tool : Tool) (lane lanes n : ℕ) (b : Bool) (is : List Image) → IsLawfulTool tool → is_row_wise tool ≡ true
       → lane < lanes → AreImages is
-      → answers_owed tool n b (dealt_images lane lanes is) ≡ dealt lane lanes (answers_owed tool n b is)
+      → due_so_far tool n b (dealt_images lane lanes is) ≡ dealt lane lanes (due_so_far tool n b is)

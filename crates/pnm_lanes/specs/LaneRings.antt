@@ -7,7 +7,7 @@ use Rattle.pnm_stages.specs.Rings.{sent, received, IsPair}
 use Rattle.pnm_stages.specs.declared.stage.StageDone.{StageDone}
 use Rattle.pnm_lanes.specs.declared.lane_rings.LaneRingEnds.{LaneRingEnds}
 use Rattle.pnm_lanes.specs.declared.lane_rings.LaneRings.{LaneRings}
-use Rattle.pnm_lanes.specs.Limits.{IsLaneCount}
+use Rattle.pnm_lanes.specs.LaneLimits.{IsLaneCount}
 
 -- rings to and from each lane, over which nothing has passed
 abbrev pub AreUnused : List Sender → List LaneRingEnds → List Receiver → Type 0

@@ -13,13 +13,13 @@ use Rattle.pnm_stages.specs.Stages.{HasRunStage}
 use Rattle.pnm_stages.specs.declared.stage.StageDone.{StageDone}
 use Rattle.pnm_lanes.specs.declared.dealing.DealDone.{DealDone}
 use Rattle.pnm_lanes.specs.declared.gathering.GatherDone.{GatherDone}
-use Rattle.pnm_lanes.specs.declared.joining.LanesDone.{LanesDone}
+use Rattle.pnm_lanes.specs.declared.merging.LanesDone.{LanesDone}
 use Rattle.pnm_lanes.specs.declared.lane_rings.LaneRingEnds.{LaneRingEnds}
 use Rattle.pnm_lanes.specs.declared.around.OuterRingEnds.{OuterRingEnds}
 use Rattle.pnm_lanes.specs.Deals.{HasDealt}
 use Rattle.pnm_lanes.specs.Gathers.{at_lane, AreSameInputs, HasGathered}
 use Rattle.pnm_lanes.specs.Lanes.{IsStageOfLanes, HaveThreadsEnded}
-use Rattle.pnm_lanes.specs.Limits.{IsLaneCount}
+use Rattle.pnm_lanes.specs.LaneLimits.{IsLaneCount}
 
 -- ---- the end
 

@@ -98,7 +98,7 @@ IsEndOfAll lanes dealer lane_ends gatherer PeerGone = Unit {0}
 
 -- what the dealer received, what it sent to each lane and each lane received and sent, and what the gatherer received
 -- of each and sent, by their ends
-pub record HaveRunTogether (tool : Tool) (lanes : ℕ) (dealer : StageEnd) (lane_ends : ℕ → StageEnd)
+pub record HaveThreadsRun (tool : Tool) (lanes : ℕ) (dealer : StageEnd) (lane_ends : ℕ → StageEnd)
     (gatherer : StageEnd) (l : List Message) (dealt_to received_by sent_by gathered_from : ℕ → List Message)
     (g : List Message) : Type 0 where
   pub messages : AllByRecursion IsMessage l
@@ -122,7 +122,7 @@ pub record HaveThreadsEnded (tool : Tool) (end : StageEnd) (l g : List Message) 
   pub received_by : ℕ → List Message
   pub sent_by : ℕ → List Message
   pub gathered_from : ℕ → List Message
-  pub together : HaveRunTogether tool lanes dealer lane_ends gatherer l dealt_to received_by sent_by gathered_from g
+  pub together : HaveThreadsRun tool lanes dealer lane_ends gatherer l dealt_to received_by sent_by gathered_from g
   pub end_of_all : IsEndOfAll lanes dealer lane_ends gatherer end
 
 -- ---- laws
@@ -131,6 +131,6 @@ pub record HaveThreadsEnded (tool : Tool) (end : StageEnd) (l g : List Message) 
 abbrev pub LanesAreAStage : Type 0
 LanesAreAStage = (tool : Tool) (lanes : ℕ) (dealer : StageEnd) (lane_ends : ℕ → StageEnd) (gatherer end : StageEnd)
     (l g : List Message) (dealt_to received_by sent_by gathered_from : ℕ → List Message)
-    → HaveRunTogether tool lanes dealer lane_ends gatherer l dealt_to received_by sent_by gathered_from g
+    → HaveThreadsRun tool lanes dealer lane_ends gatherer l dealt_to received_by sent_by gathered_from g
     → 0 < lanes → IsLawfulTool tool → is_row_wise tool ≡ true → IsEndOfAll lanes dealer lane_ends gatherer end
     → IsStageOfLanes tool end l g

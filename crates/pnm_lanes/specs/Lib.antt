@@ -1,4 +1,4 @@
-pub mod Limits
+pub mod LaneLimits
 pub mod Deals
 pub mod DealParts
 pub mod Gathers

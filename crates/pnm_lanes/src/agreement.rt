@@ -3,7 +3,7 @@
 ghost use Rattle.std.specs.Prelude.{◌≡◌, ◌↔◌, ℕ, ◌≤◌, ◌<◌, length, IsTrue, IfSome, IfNone, sum};
 ghost use Rattle.pnm_tools.specs.Dealing.{dealt_height};
 ghost use Rattle.pnm_image.specs.Heads.{with_height};
-ghost use Rattle.pnm_lanes.specs.GatherParts.{height_in, AreAlike, IsTogether, AreNotTogether, AreDealtHeights};
+ghost use Rattle.pnm_lanes.specs.GatherParts.{height_in, AreAlike, IsAgreed, IsNotAgreed, AreDealtHeights};
 
 use crate::dealing::dealt_height;
 use crate::lane::MAX_LANES;
@@ -81,11 +81,11 @@ fn sum_of(heights: &[u32]) -> Option<u32>
 
 /// The message of the whole stream for which the lanes have given messages like `first`, with these heights. Returns
 /// `None` if there is no such message.
-pub fn together(first: Message, heights: &[u32]) -> Option<Message>
+pub fn agreed(first: Message, heights: &[u32]) -> Option<Message>
     requires some { 1 ≤ length heights.now }
     requires few { length heights.now ≤ MAX_LANES }
-    ensures found { IfSome result (λ m. IsTogether first heights.now m) }
-    ensures none { IfNone result (AreNotTogether first heights.now) }
+    ensures found { IfSome result (λ m. IsAgreed first heights.now m) }
+    ensures none { IfNone result (IsNotAgreed first heights.now) }
 {
     match first {
         Message::Begin(head) => {

@@ -3,12 +3,12 @@
 
 ghost use Rattle.std.specs.Prelude.{◌≡◌, length, IfSome};
 ghost use Rattle.std.specs.Thread.{IsSync};
-ghost use Rattle.pnm_lanes.specs.Limits.{IsLaneCount};
+ghost use Rattle.pnm_lanes.specs.LaneLimits.{IsLaneCount};
 ghost use Rattle.pnm_lanes.specs.LaneRuns.{HaveDealtAndGathered, IsDealerRun, IsGathererRun, AreAround};
 
 use crate::dealing::{DealDone, deal};
 use crate::gathering::{GatherDone, gather_from_lanes};
-use crate::joining::LanesDone;
+use crate::merging::LanesDone;
 use pnm_stages::{Receiver, Sender, StageDone, Task, run_both};
 use std::alloc::Global;
 use std::sync::Wait;

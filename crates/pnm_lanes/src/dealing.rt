@@ -1,21 +1,22 @@
 //! Dealing: the rows of each image go to lanes in turn, and each lane gets a stream of images of its own.
 
-ghost use Rattle.std.specs.Prelude.{◌≡◌, ◌⊎◌, ◌<◌, ◌≤◌, ◌∷◌, [], length, IfSome, IsTrue, IsFalse};
+ghost use Rattle.std.specs.Prelude.{◌≡◌, ◌⊎◌, ◌<◌, ◌≤◌, ◌∷◌, ◌++◌, [], length, IfSome, IsTrue, IsFalse};
 ghost use Rattle.pnm_image.specs.declared.message.Ending.TheVariants.{More, Whole, BrokenOff};
 ghost use Rattle.pnm_image.specs.Rows.{row_messages};
+ghost use Rattle.pnm_image.specs.declared.message.Message.TheVariants.{Begin, ImageEnd};
 ghost use Rattle.pnm_image.specs.Packets.{messages_in};
 ghost use Rattle.pnm_stages.specs.Rings.{sent, received, known_items, SameReceiver};
 ghost use Rattle.pnm_image.specs.Places.{Accepts};
 ghost use Rattle.pnm_tools.specs.declared.fault.ToolFault.TheVariants.{OutOfOrder};
 ghost use Rattle.pnm_tools.specs.Dealing.{dealt_height};
 ghost use Rattle.pnm_stages.specs.declared.stage.StageEnd.TheVariants.{Fault};
-ghost use Rattle.pnm_lanes.specs.Limits.{IsLaneCount};
+ghost use Rattle.pnm_lanes.specs.LaneLimits.{IsLaneCount};
 ghost use Rattle.pnm_lanes.specs.Deals.{AtEach, HasDealt};
 ghost use Rattle.pnm_lanes.specs.DealParts.{IsRow, IsSameEnd, part_at, row_part, lane_part, HasSentParts};
 ghost use Rattle.pnm_lanes.specs.DealParts.{HasDealtMessages, HasBrokenOffDealing};
 ghost use Rattle.pnm_lanes.specs.declared.lane.TheConstants.{MAX_LANES};
 
-use pnm_image::{Ending, Message, Packet, Place, Rows, Samples};
+use pnm_image::{Ending, Head, Message, Packet, Place, Rows, Samples, Several};
 use pnm_stages::{Receiver, Sender, StageEnd};
 use pnm_tools::ToolFault;
 use std::alloc::Global;
@@ -34,8 +35,8 @@ pub struct DealDone {
 
 /// Deals what comes on `input` to lanes, one for each of the `outputs`, of which there are 1 to 8. Row y of an image
 /// goes to lane y mod the number of lanes, both counted from 0; it is moved, or copied if it comes together with
-/// others. Each lane gets a copy of each head, with the number of the lane's rows as the height, and each end of an
-/// image and of the stream.
+/// others or within a whole image. Each lane gets a copy of each head, with the number of the lane's rows as the
+/// height, and each end of an image and of the stream.
 ///
 /// The faults are `OutOfOrder`, if a message can't come at its place, and `Memory`, if there is no memory for the copy
 /// of a head or a row. After a fault each lane is sent Stop, and the input is taken and dropped through its end or its
@@ -71,7 +72,7 @@ fn deal_all<R: Wait>(
         outputs.old outputs.new }
 {
     let mut place = Place::new();
-    hold_back_each(outputs);
+    coalesce_each(outputs);
     for _ in rt.forever() {
         wake_before_input(input, outputs);
         let Some(packet) = input.receive(rt) else {
@@ -106,8 +107,8 @@ fn is_end_dealt(end: StageEnd, ending: Ending) -> bool
     }
 }
 
-/// Deals a message, or rows that came together, and goes on to the place after them. If not all can be dealt, returns
-/// how the dealing ends; some may have been dealt.
+/// Deals a message, rows that came together, or a whole image, and goes on to the place after them. If not all can be
+/// dealt, returns how the dealing ends; some may have been dealt.
 fn deal_packet<R: Wait>(
     rt: &R,
     alloc: Global,
@@ -120,8 +121,31 @@ fn deal_packet<R: Wait>(
 {
     match packet.into_message() {
         Ok(message) => deal_message(rt, place, message, outputs),
-        Err(rows) => deal_rows(rt, alloc, place, &rows, outputs),
+        Err(Several::Rows(rows)) => deal_rows(rt, alloc, place, &rows, outputs),
+        Err(Several::Image(head, rows)) => deal_image(rt, alloc, place, head, &rows, outputs),
     }
+}
+
+/// Deals the head, each of the rows, and the end of an image, as if each had come by itself.
+fn deal_image<R: Wait>(
+    rt: &R,
+    alloc: Global,
+    place: &mut Place,
+    head: Head,
+    rows: &Rows,
+    outputs: &mut [Sender],
+) -> Option<StageEnd>
+    requires { IsLaneCount (length outputs.old) }
+    ensures { HasDealtMessages place.old place.new (Begin head ∷ row_messages rows.now ++ ImageEnd ∷ []) result
+        outputs.old outputs.new }
+{
+    if let Some(end) = deal_message(rt, place, Message::Begin(head), outputs) {
+        return Some(end);
+    }
+    if let Some(end) = deal_rows(rt, alloc, place, rows, outputs) {
+        return Some(end);
+    }
+    deal_message(rt, place, Message::ImageEnd, outputs)
 }
 
 /// Deals each of the rows by itself, as a copy.
@@ -223,11 +247,11 @@ fn send_each<R: Wait>(rt: &R, message: &Message, outputs: &mut [Sender]) -> Opti
 
 /// From now on, wakes each lane once for several short messages. So the dealer has to wake each before it waits for
 /// anything.
-fn hold_back_each(outputs: &mut [Sender])
+fn coalesce_each(outputs: &mut [Sender])
     ensures { AtEach IsSameEnd outputs.old outputs.new }
 {
     for lane in 0..outputs.len() {
-        outputs[lane].hold_back();
+        outputs[lane].coalesce_wakes();
     }
 }
 

@@ -2,7 +2,7 @@
 
 ghost use Rattle.std.specs.Prelude.{◌≡◌, ◌≤◌, length};
 ghost use Rattle.pnm_stages.specs.Rings.{sent, received, known_items, SameSender};
-ghost use Rattle.pnm_lanes.specs.Limits.{IsLaneCount};
+ghost use Rattle.pnm_lanes.specs.LaneLimits.{IsLaneCount};
 ghost use Rattle.pnm_lanes.specs.Gathers.{at_lane, AreSameInputs, HasGathered, HasGatheredOrRefused};
 ghost use Rattle.pnm_lanes.specs.Gathers.{have_received_rows};
 ghost use Rattle.pnm_lanes.specs.GatherParts.{HasBrokenOffAll, HasGatheredBy};
@@ -37,7 +37,8 @@ struct GatherEnd {
 /// Puts together what comes on `inputs`, one for each lane, and sends it on `output`. Row y comes from lane y mod the
 /// number of lanes, and a head is that of each lane, with the height of the whole image. It ends `Well` with the end of
 /// the stream, once each lane has given that; `Broken` if a lane gives Stop; and by `Fault(OutOfOrder)` if the lanes
-/// don't agree, if a message is out of place, or if rows come together: no lane sends these, and to take them apart
+/// don't agree, if a message is out of place, or if rows or a whole image come together: no lane sends these, and to
+/// take them apart
 /// would take memory. After `Broken` and `Fault` it has sent Stop and drained all lanes; it tries them in turn, and
 /// waits for none alone. If the other end of a ring was seen dropped, it ends by `PeerGone`, and has sent Stop, if
 /// there is someone to take it, and drained the lanes. It takes no memory.
@@ -169,9 +170,9 @@ fn break_off<R: Wait>(
         (sent output.old)
         (sent output.new) }
 {
-    let told = output.send(rt, Message::Stop);
+    let is_sent = output.send(rt, Message::Stop);
     let drained = drain_all(rt, inputs, states, output);
-    if told && drained {
+    if is_sent && drained {
         GatherEnd {
             end,
             is_stopped: true,

@@ -3,7 +3,7 @@
 ghost use Rattle.pnm_lanes.specs.Deals.{LongestPrefixIsDealt};
 ghost use Rattle.pnm_lanes.specs.Lanes.{LanesAreAStage};
 ghost use Rattle.pnm_lanes.specs.LaneLaws.{StreamsAreDealt, DueIsDealt, ResultsAreDealt, GatheredIsDue};
-ghost use Rattle.pnm_lanes.specs.LaneLaws.{RefusalsAreDealt, OwedIsDealt};
+ghost use Rattle.pnm_lanes.specs.LaneLaws.{RefusalsAreDealt, DueSoFarIsDealt};
 ghost use Rattle.pnm_lanes.specs.declared.lane.TheConstants.{MAX_LANES};
 ghost use Rattle.std.specs.Prelude.{◌≡◌};
 
@@ -42,10 +42,10 @@ pub fn refusals_are_dealt()
     ensures { RefusalsAreDealt }
 {}
 
-/// What a row-wise tool owes for the images that a lane sees is what the lane gets of what it owes for the images
+/// What is due so far from a row-wise tool for the images that a lane sees is what the lane gets of that for the images
 /// themselves.
-pub fn owed_is_dealt()
-    ensures { OwedIsDealt }
+pub fn due_so_far_is_dealt()
+    ensures { DueSoFarIsDealt }
 {}
 
 /// A thread that deals rows to lanes, a row-wise tool at work in each lane, and a thread that gathers what they make:

@@ -6,15 +6,15 @@ mod around;
 mod dealing;
 mod drain;
 mod gathering;
-mod joining;
 mod lane;
 mod lane_rings;
 pub mod laws;
+mod merging;
 mod next;
 
 pub use around::{OuterRingEnds, deal_and_gather};
 pub use dealing::{DealDone, deal, dealt_height};
 pub use gathering::{GatherDone, gather};
-pub use joining::{LanesDone, joined};
 pub use lane::MAX_LANES;
 pub use lane_rings::{LaneRingEnds, LaneRings};
+pub use merging::{LanesDone, merged};

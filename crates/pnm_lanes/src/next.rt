@@ -5,7 +5,7 @@ ghost use Rattle.pnm_stages.specs.Rings.{received};
 ghost use Rattle.pnm_lanes.specs.Gathers.{at_lane, AreSameInputs};
 ghost use Rattle.pnm_lanes.specs.GatherParts.{AreOpen, AwaitsNoRow, HasTakenAlike, HasTakenNext};
 
-use crate::agreement::{are_alike, height_of, together};
+use crate::agreement::{agreed, are_alike, height_of};
 use crate::lane::{LaneState, MAX_LANES, receive_from};
 use pnm_image::{Message, Place, Shape};
 use pnm_stages::{Receiver, StageEnd};
@@ -88,7 +88,7 @@ fn receive_of_each<R: Wait>(
     for lane in 1..inputs.len() {
         heights[lane] = receive_alike(rt, inputs, states, lane, &first)?;
     }
-    together(first, &heights[..inputs.len()]).ok_or(OUT_OF_ORDER)
+    agreed(first, &heights[..inputs.len()]).ok_or(OUT_OF_ORDER)
 }
 
 /// Receives the next message of a lane, and returns the height in it if it is like the first lane's message.

@@ -71,13 +71,13 @@ pub converted : (text written : List ℕ) (job : Job) (answer : Result Summary R
     → reader.failures_old ≡ 0 → reader.failures_new ≡ 0 → writer.old ≡ Some [] → writer.new ≡ Some written
     → HasConverted text job answer written
 converted text written job answer reader writer lawful ran is_text is_none is_none_yet is_empty is_written =
-    let told = tells (OutlastsReader reader.old reader.new) job answer reader writer lawful ran.run in
+    let reported = tells (OutlastsReader reader.old reader.new) job answer reader writer lawful ran.run in
     record {
-      well = ends_well text written job answer (rw (← is_empty) (rw (← is_written) (told.well text is_text)));
-      fault = has_fault text job answer reader is_text is_none is_none_yet (told.verdict text is_text) ran.one_thread
-          told.read_failed;
+      well = ends_well text written job answer (rw (← is_empty) (rw (← is_written) (reported.well text is_text)));
+      fault = has_fault text job answer reader is_text is_none is_none_yet (reported.verdict text is_text) ran.one_thread
+          reported.read_failed;
       prefix = subst (λ old. IsPrefixOfBytesDue text job old (Some written)) is_empty
-          (subst (λ new. IsPrefixOfBytesDue text job writer.old new) is_written (told.prefix text is_text));
+          (subst (λ new. IsPrefixOfBytesDue text job writer.old new) is_written (reported.prefix text is_text));
       one_thread = ran.one_thread;
     }
 

@@ -1,3 +1,3 @@
 pub mod Codes
 pub mod Conversions
-pub mod Answers
+pub mod CallAnswers

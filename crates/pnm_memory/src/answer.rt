@@ -2,7 +2,7 @@
 
 ghost use Rattle.std.specs.Prelude.{◌≡◌};
 ghost use Rattle.pnm_serial.specs.SerialRuns.{IsOfOneThread};
-ghost use Rattle.pnm_memory.specs.Answers.{refusal, run_answer, without_room as told_without_room};
+ghost use Rattle.pnm_memory.specs.CallAnswers.{refusal, run_answer, without_room as told_without_room};
 
 use crate::codes::{ROOM, WELL, run_code, run_number};
 use pnm_flow::{RunFault, Summary};

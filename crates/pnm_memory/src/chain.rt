@@ -3,7 +3,7 @@
 ghost use Rattle.std.specs.Prelude.{◌≡◌, IfOk, IfErr};
 ghost use Rattle.pnm_tools.specs.Chains.{IsChain};
 ghost use Rattle.pnm_chain.specs.ChainText.{SpellsChain};
-ghost use Rattle.pnm_memory.specs.Answers.{IsChecked, IsRefusedChain};
+ghost use Rattle.pnm_memory.specs.CallAnswers.{IsChecked, IsRefusedChain};
 
 use crate::answer::{Answer, refused};
 use crate::codes::{BAD_TEXT, WELL, chain_code};
@@ -25,7 +25,7 @@ pub fn check(alloc: Global, chain: &[u8]) -> Answer
 pub(crate) fn read_chain(alloc: Global, chain: &[u8]) -> Result<Vec<Tool>, Answer>
     ensures lawful { IfOk result (λ tools. IsChain tools.items) }
     ensures spelled { IfOk result (λ tools. SpellsChain chain.now tools.items) }
-    ensures refused { IfErr result (λ told. IsRefusedChain chain.now told) }
+    ensures refused { IfErr result (λ reported. IsRefusedChain chain.now reported) }
 {
     let Ok(text) = str::from_utf8(chain) else {
         return Err(refused(BAD_TEXT, 0));

@@ -2,8 +2,8 @@
 
 ghost use Rattle.std.specs.Prelude.{◌≡◌, []};
 ghost use Rattle.pnm_tools.specs.Chains.{IsChain};
-ghost use Rattle.pnm_memory.specs.Answers.{HasRunInto, HasMade, IsPut, IsTold, IsMade};
-ghost use Rattle.pnm_memory.specs.Answers.{form_of as form_numbered};
+ghost use Rattle.pnm_memory.specs.CallAnswers.{HasRunInto, HasMade, IsPut, IsReported, IsMade};
+ghost use Rattle.pnm_memory.specs.CallAnswers.{form_of as form_numbered};
 
 use crate::answer::{Answer, answer_of, refused, without_room};
 use crate::chain::read_chain;
@@ -25,7 +25,7 @@ pub struct Made {
 /// Passes the images of the input through the tools of the chain, and puts the results into the front of the room. If
 /// the room is too small for them, it is left as it was.
 pub fn run_into(alloc: Global, chain: &[u8], form: u32, input: &[u8], room: &mut [u8]) -> Answer
-    ensures { IsTold chain.now form input.now room.old room.new result }
+    ensures { IsReported chain.now form input.now room.old room.new result }
 {
     let Some(form) = form_of(form) else {
         return refused(BAD_FORM, 0);

@@ -21,7 +21,7 @@ use Rattle.pnm_read.specs.Said.{Said, text_said, later_said, format_at, head_at,
 use Rattle.pnm_read.specs.Said.{says_fault}
 use Rattle.pnm_read.specs.BufferedReaders.{ReadCall, Fills, Finds, IsOutsideFault, HoldsEnough, held_of}
 use Rattle.pnm_read.specs.Awaiting.{HasRow, AnswersNext, Steps, StepsAtStart, SeesText, awaited_after, due_at}
-use Rattle.pnm_read.proofs.Turns.{no_fault, turn_ok_so, turn_err_so, turn_seen, nothing_left, some_left}
+use Rattle.pnm_read.proofs.ReadCalls.{no_fault, call_ok_so, call_err_so, call_seen, nothing_left, some_left}
 use Rattle.pnm_read.proofs.ScanSteps.{end_seen, none_of_length}
 use Rattle.pnm_read.proofs.LaterLaws.{later_said-nothing, later_said-next}
 
@@ -140,11 +140,11 @@ unfolding text_said
 first_begins (Ok step) b a s = s
 first_begins (Err k) b a s = s
 
-pub first_turn : {R : Type 0} {left : R → Option (List ℕ)} {failures : R → ℕ} {same : R → R → Type 0} {old new : BufferedReader R}
+pub first_call : {R : Type 0} {left : R → Option (List ℕ)} {failures : R → ℕ} {same : R → R → Type 0} {old new : BufferedReader R}
     (result : Result Step InputFault) → ReadCall left failures same old new result (StepsAtStart true result)
     → ReadCall left failures same old new result (Steps FirstImage result)
-first_turn (Ok step) t = turn_ok_so step (Ok step) (no_fault step ReadFailed) (λ b a o. first_begins (Ok step) b a o) t
-first_turn (Err k) t = turn_err_so k (λ b a o. first_begins (Err k) b a o) t
+first_call (Ok step) t = call_ok_so step (Ok step) (no_fault step ReadFailed) (λ b a o. first_begins (Ok step) b a o) t
+first_call (Err k) t = call_err_so k (λ b a o. first_begins (Err k) b a o) t
 
 -- after a plain image the stream ends
 pub plain_ends : (step : Step) (b a : List ℕ) → step.message ≡ StreamEnd → step.state ≡ Ended → Steps End (Ok step) b a
@@ -173,9 +173,9 @@ pub next_so : {R : Type 0} {left : R → Option (List ℕ)} {failures : R → �
     → ReadCall left failures same old new result (λ b a. (m : List ℕ) × SeesText (Ok false) b m × StepsAtStart false result m a)
     → ReadCall left failures same old new result (Steps ImageOrEnd result)
 next_so (Ok step) t =
-    turn_ok_so step (Ok step) (no_fault step ReadFailed)
+    call_ok_so step (Ok step) (no_fault step ReadFailed)
     (λ b a o. next_begins (Ok step) b a o.1.0 (subst (λ (m : List ℕ). StepsAtStart false (Ok step) m a) o.1.1 o.2)) t
-next_so (Err k) t = turn_err_so k (λ b a o. next_begins (Err k) b a o.1.0 (subst (λ (m : List ℕ). StepsAtStart false (Err k) m a) o.1.1 o.2)) t
+next_so (Err k) t = call_err_so k (λ b a o. next_begins (Err k) b a o.1.0 (subst (λ (m : List ℕ). StepsAtStart false (Err k) m a) o.1.1 o.2)) t
 
 -- the text was seen to end
 pub at_end_so : (ended : Bool) (step : Step) (b a : List ℕ) → ended ≡ true → SeesText (Ok ended) b a → step.message ≡ StreamEnd → step.state ≡ Ended
@@ -188,12 +188,12 @@ seen_on true b m e seen = absurd cc
 seen_on false b m e seen = seen
 
 -- the text was seen to go on, and then an image begins
-pub turn_on : {R : Type 0} {left : R → Option (List ℕ)} {failures : R → ℕ} {same : R → R → Type 0} {old new : BufferedReader R} (ended : Bool)
+pub call_on : {R : Type 0} {left : R → Option (List ℕ)} {failures : R → ℕ} {same : R → R → Type 0} {old new : BufferedReader R} (ended : Bool)
     (result : Result Step InputFault) → ended ≡ false
     → ReadCall left failures same old new result (λ b a. (m : List ℕ) × SeesText (Ok ended) b m × StepsAtStart false result m a)
     → ReadCall left failures same old new result (λ b a. (m : List ℕ) × SeesText (Ok false) b m × StepsAtStart false result m a)
-turn_on ended (Ok step) e t = turn_ok_so step (Ok step) (no_fault step ReadFailed) (λ b a o. (o.0, seen_on ended b o.0 e o.1, o.2)) t
-turn_on ended (Err k) e t = turn_err_so k (λ b a o. (o.0, seen_on ended b o.0 e o.1, o.2)) t
+call_on ended (Ok step) e t = call_ok_so step (Ok step) (no_fault step ReadFailed) (λ b a o. (o.0, seen_on ended b o.0 e o.1, o.2)) t
+call_on ended (Err k) e t = call_err_so k (λ b a o. (o.0, seen_on ended b o.0 e o.1, o.2)) t
 
 -- reading on failed
 pub raw_unread : (k : InputFault) (b a : List ℕ) → IsOutsideFault k → Steps ImageOrEnd (Err k) b a
@@ -211,8 +211,8 @@ pub text_seen : {R : Type 0} {left : R → Option (List ℕ)} {failures : R → 
     → ReadCall {A = Bool} left failures same old input (Ok ended) (SeesText (Ok ended))
 text_seen {input = input} true bytes is held enough t =
     let none = no_bytes bytes (held_of input) held is in
-    turn_ok_so tt (Ok true) (no_fault true ReadFailed)
-    (λ b a o. let nothing = nothing_left input a none (end_seen input enough none) o.1 in (o.0 ∙ nothing, nothing)) (turn_seen t)
+    call_ok_so tt (Ok true) (no_fault true ReadFailed)
+    (λ b a o. let nothing = nothing_left input a none (end_seen input enough none) o.1 in (o.0 ∙ nothing, nothing)) (call_seen t)
 text_seen {input = input} false bytes is held enough t =
-    turn_ok_so tt (Ok false) (no_fault false ReadFailed)
-    (λ b a o. (λ none. some_left input bytes a held (sym is) o.1 (sym o.0 ∙ none), sym o.0)) (turn_seen t)
+    call_ok_so tt (Ok false) (no_fault false ReadFailed)
+    (λ b a o. (λ none. some_left input bytes a held (sym is) o.1 (sym o.0 ∙ none), sym o.0)) (call_seen t)

@@ -1,6 +1,6 @@
 -- Comments, tests of last bytes and digits of a text that is read on.
 use Rattle.std.proofs.Common.{◌≡◌, ℕ, Bool, true, false, ◌==◌, List, [], ◌∷◌, ◌++◌, refl, ap}
-use Rattle.pnm_read.specs.Texts.{commented, commented_after, uncommented_from, ends_in_comment, ends_by}
+use Rattle.pnm_read.specs.HeaderTexts.{commented, commented_after, uncommented_from, ends_in_comment, ends_by}
 
 pub commented_after-append : (inside : Bool) (a b : List ℕ) → commented_after inside (a ++ b) ≡ commented_after (commented_after inside a) b
 unfolding commented_after

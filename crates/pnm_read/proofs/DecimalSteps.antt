@@ -3,10 +3,10 @@ use Rattle.std.proofs.Common.{◌≡◌, inl, ℕ, ◌+◌, ◌-◌, ◌*◌, Bo
 use Rattle.std.proofs.lemmas.Bool.{and_parts, and_right, not-true}
 use Rattle.std.proofs.lemmas.Bool.Decides.{nat_tests}
 use Rattle.std.proofs.lemmas.List.{length-append}
-use Rattle.pnm_read.specs.declared.judgement.Judgement.{Judgement}
-use Rattle.pnm_read.specs.declared.judgement.Judgement.TheVariants.{GoesOn, EndsWith, EndsBefore, Fails}
+use Rattle.pnm_read.specs.declared.scan_status.ScanStatus.{ScanStatus}
+use Rattle.pnm_read.specs.declared.scan_status.ScanStatus.TheVariants.{GoesOn, EndsWith, EndsBefore, Fails}
 use Rattle.pnm_read.specs.declared.decimal.DecimalScanner.{DecimalScanner}
-use Rattle.pnm_read.specs.Texts.{is_line_end, commented, commented_after, ends_in_comment, ends_by, uncommented_from, number_in}
+use Rattle.pnm_read.specs.HeaderTexts.{is_line_end, commented, commented_after, ends_in_comment, ends_by, uncommented_from, number_in}
 use Rattle.pnm_image.specs.Texts.{is_digit}
 use Rattle.pnm_read.specs.Items.{decimal_item}
 use Rattle.pnm_read.specs.Scans.{JudgesByte}
@@ -52,11 +52,11 @@ decimal_after old new b before a p = record {
 decimal_never_with : (before : List ℕ) (b : ℕ) → decimal_item before b ≡ EndsWith → ⊥
 decimal_never_with before b e = subst (DecimalTold before b) e (decimal_told before b)
 
-pub decimal_goes_on : (old new : DecimalScanner) (b : ℕ) (j : Judgement) → j ≡ GoesOn → JudgesDecimal old b j → PushesDecimal old b new
+pub decimal_goes_on : (old new : DecimalScanner) (b : ℕ) (j : ScanStatus) → j ≡ GoesOn → JudgesDecimal old b j → PushesDecimal old b new
     → JudgesByte decimal_item (IsDecimalAfter old) (IsDecimalAfter new) (IsDecimalWhole new) b j
 decimal_goes_on old new b j is h p before a = inl (h before a, rw is (decimal_after old new b before a p))
 
-pub decimal_stops : (s : DecimalScanner) (b : ℕ) (j : Judgement) → (j ≡ GoesOn → ⊥) → JudgesDecimal s b j
+pub decimal_stops : (s : DecimalScanner) (b : ℕ) (j : ScanStatus) → (j ≡ GoesOn → ⊥) → JudgesDecimal s b j
     → JudgesByte decimal_item (IsDecimalAfter s) (IsDecimalAfter s) (IsDecimalWhole s) b j
 decimal_stops s b GoesOn n h before a = absurd (n refl)
 decimal_stops s b EndsWith n h before a = absurd (decimal_never_with before b (sym (h before a)))

@@ -11,17 +11,17 @@ use Rattle.pnm_image.specs.Heads.{HeadValue, row_length}
 use Rattle.pnm_read.specs.declared.fault.InputFault.{InputFault}
 use Rattle.pnm_read.specs.declared.fault.InputFault.TheVariants.{TooLong, RasterCut, SampleAboveMaxval, BadSample, ReadFailed, Memory}
 use Rattle.pnm_image.specs.declared.format.Format.{Format}
-use Rattle.pnm_read.specs.declared.judgement.Judgement.TheVariants.{EndsWith, EndsBefore}
+use Rattle.pnm_read.specs.declared.scan_status.ScanStatus.TheVariants.{EndsWith, EndsBefore}
 use Rattle.pnm_image.specs.declared.sample_width.SampleWidth.{SampleWidth}
 use Rattle.pnm_image.specs.declared.sample_width.SampleWidth.TheVariants.{Bits, Bytes, Words}
-use Rattle.pnm_read.specs.Texts.{is_apart, begins_apart, ends_in_comment, number_in}
+use Rattle.pnm_read.specs.HeaderTexts.{is_apart, begins_apart, ends_in_comment, number_in}
 use Rattle.pnm_image.specs.Texts.{is_digit}
 use Rattle.pnm_image.specs.SampleWidths.{sample_width_of}
 use Rattle.pnm_read.specs.Items.{◌>>=◌, piece_from, raw_item, ends_in_digit, is_complete, decimal_item, decimal_end, is_pixel, pixel_item, pixel_end, pixel_in}
 use Rattle.pnm_read.specs.Items.{plain_pixel, sample_item, plain_decimal, plain_sample, after_last_item}
 use Rattle.pnm_read.specs.Said.{Said, in_turn, units_in_row, units_at, raw_row, plain_row, last_plain_row, row_in_form, row_at, end_said, rows_said, head_said}
 use Rattle.pnm_read.specs.Said.{format_said, image_said, later_said_in, later_said, format_at, head_at, text_said, fault_of}
-use Rattle.pnm_read.proofs.RowTurns.{said_from}
+use Rattle.pnm_read.proofs.RowsInTurn.{said_from}
 use Rattle.pnm_read.proofs.HeaderFaults.{EndsByText, FailsByText, IsJudgedByText, bind_by_text, when_by_text, piece_by_text, three_by_text, format_by_text}
 use Rattle.pnm_read.proofs.HeaderFaults.{head_by_text}
 use Rattle.pnm_read.specs.declared.decimal.TheConstants.{GAP_LIMIT}
@@ -29,13 +29,13 @@ use Rattle.pnm_read.specs.declared.decimal.TheConstants.{GAP_LIMIT}
 -- ---- rows
 
 -- items in turn fail by a fault of the text, where each does
-turns_by_text : {A : Type 0} (item : List ℕ → Result (A × List ℕ) InputFault) (n : ℕ) (text : List ℕ) → ((t : List ℕ) → FailsByText (item t))
+items_by_text : {A : Type 0} (item : List ℕ → Result (A × List ℕ) InputFault) (n : ℕ) (text : List ℕ) → ((t : List ℕ) → FailsByText (item t))
     → FailsByText (in_turn item n text)
 unfolding in_turn
-turns_by_text item zero text each = tt
-turns_by_text item (suc n) text each =
+items_by_text item zero text each = tt
+items_by_text item (suc n) text each =
     bind_by_text (item text) (λ first. in_turn item n first.1 >>= λ more. Ok (first.0 ∷ more.0, more.1)) (each text)
-    (λ first. bind_by_text (in_turn item n first.1) (λ more. Ok (first.0 ∷ more.0, more.1)) (turns_by_text item n first.1 each) (λ more. tt))
+    (λ first. bind_by_text (in_turn item n first.1) (λ more. Ok (first.0 ∷ more.0, more.1)) (items_by_text item n first.1 each) (λ more. tt))
 
 raw_item_by_text : (sample_width : SampleWidth) (maxval : ℕ) (text : List ℕ) → FailsByText (raw_item sample_width maxval text)
 unfolding raw_item
@@ -52,7 +52,7 @@ unfolding raw_row
 raw_row_by_text s text =
     let sample_width : SampleWidth = sample_width_of s.kind s.maxval in
     bind_by_text (units_at s text) (λ units. Ok (take (row_length s) (concat units.0), units.1))
-    (turns_by_text (raw_item sample_width s.maxval) (units_in_row sample_width s) text (raw_item_by_text sample_width s.maxval)) (λ units. tt)
+    (items_by_text (raw_item sample_width s.maxval) (units_in_row sample_width s) text (raw_item_by_text sample_width s.maxval)) (λ units. tt)
 
 decimal_byte_by_text : (before : List ℕ) (b : ℕ) → IsJudgedByText (decimal_item before b)
 unfolding decimal_item
@@ -89,7 +89,7 @@ sample_by_text Pam maxval text = decimal_by_text maxval text
 
 plain_row_by_text : (s : Shape) (text : List ℕ) → FailsByText (plain_row s text)
 unfolding plain_row
-plain_row_by_text s text = turns_by_text (plain_sample s.kind s.maxval) (row_length s) text (sample_by_text s.kind s.maxval)
+plain_row_by_text s text = items_by_text (plain_sample s.kind s.maxval) (row_length s) text (sample_by_text s.kind s.maxval)
 
 after_last_by_text : (text : List ℕ) → FailsByText (after_last_item text)
 unfolding after_last_item

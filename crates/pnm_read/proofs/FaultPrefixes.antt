@@ -21,7 +21,7 @@ use Rattle.pnm_read.proofs.SpelledHeaders.{spelled_header_is_read}
 use Rattle.pnm_read.proofs.PieceLaws.{done, ok_is}
 use Rattle.pnm_read.proofs.LaterLaws.{later_is_raw, later_said-nothing, later_said-next}
 use Rattle.pnm_read.proofs.TextLaws.{RawAndRest, image_of_parts, raw_image_is_said, raw_image_has_bytes}
-use Rattle.pnm_read.proofs.RowTurns.{RowsRead, rows_count, stopped_messages, ended_fault, Stops, AllRead, all_read}
+use Rattle.pnm_read.proofs.RowsInTurn.{RowsRead, rows_count, stopped_messages, ended_fault, Stops, AllRead, all_read}
 use Rattle.pnm_read.proofs.FirstRows.{rows_are_rows, first_of, rows_of-first_of, read_rows_are_spelled, read_rows_begin, no_more_rows}
 
 -- ---- an image

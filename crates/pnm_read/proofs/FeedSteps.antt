@@ -4,14 +4,14 @@ use Rattle.std.proofs.Common.{subst, ◌∙◌, append_assoc, append-nil, arith}
 use Rattle.std.proofs.lemmas.List.{take_more, drop_more, take_all, drop_all}
 use Rattle.pnm_read.specs.declared.fault.InputFault.{InputFault}
 use Rattle.pnm_read.specs.declared.fault.InputFault.TheVariants.{Memory}
-use Rattle.pnm_read.specs.declared.judgement.Judgement.{Judgement}
-use Rattle.pnm_read.specs.declared.judgement.Judgement.TheVariants.{GoesOn, EndsWith, EndsBefore, Fails}
+use Rattle.pnm_read.specs.declared.scan_status.ScanStatus.{ScanStatus}
+use Rattle.pnm_read.specs.declared.scan_status.ScanStatus.TheVariants.{GoesOn, EndsWith, EndsBefore, Fails}
 use Rattle.pnm_read.specs.Items.{piece_from}
 use Rattle.pnm_read.specs.Scans.{TakesJudged, JudgesByte, FeedsAfter}
 use Rattle.pnm_read.proofs.PieceLaws.{piece_step}
 
 -- so many bytes were taken, and the piece goes on
-pub record Feeding {S : Type 0} (item : S → List ℕ → ℕ → Judgement) (at_end : S → List ℕ → Option InputFault) (is_after : S → List ℕ → Type 0)
+pub record Feeding {S : Type 0} (item : S → List ℕ → ℕ → ScanStatus) (at_end : S → List ℕ → Option InputFault) (is_after : S → List ℕ → Type 0)
     (remaining : S → ℕ) (old now : S) (bytes : List ℕ) (n : ℕ) : Type 0 where
   pub same_items : item now ≡ item old
   pub same_end : at_end now ≡ at_end old
@@ -20,7 +20,7 @@ pub record Feeding {S : Type 0} (item : S → List ℕ → ℕ → Judgement) (a
   pub piece : (before rest : List ℕ) → is_after old before → piece_from (item old) (at_end old) before (bytes ++ rest) ≡ piece_from (item old) (at_end old)
       (before ++ take n bytes) (drop n bytes ++ rest)
 
-pub feeding_first : {S : Type 0} (item : S → List ℕ → ℕ → Judgement) (at_end : S → List ℕ → Option InputFault) (is_after : S → List ℕ → Type 0)
+pub feeding_first : {S : Type 0} (item : S → List ℕ → ℕ → ScanStatus) (at_end : S → List ℕ → Option InputFault) (is_after : S → List ℕ → Type 0)
     (remaining : S → ℕ) (s : S) (bytes : List ℕ) → Feeding item at_end is_after remaining s s bytes 0
 feeding_first item at_end is_after remaining s bytes = record {
   same_items = refl;
@@ -31,7 +31,7 @@ feeding_first item at_end is_after remaining s bytes = record {
 }
 
 -- the piece from a place on, where its byte was judged
-step_at : {S : Type 0} (item : S → List ℕ → ℕ → Judgement) (at_end : S → List ℕ → Option InputFault) (is_after : S → List ℕ → Type 0) (remaining : S → ℕ)
+step_at : {S : Type 0} (item : S → List ℕ → ℕ → ScanStatus) (at_end : S → List ℕ → Option InputFault) (is_after : S → List ℕ → Type 0) (remaining : S → ℕ)
     (old now : S) (bytes : List ℕ) (n : ℕ) (before rest : List ℕ)
     → Feeding item at_end is_after remaining old now bytes n → n < length bytes → is_after old before
     → piece_from (item old) (at_end old) before (bytes ++ rest) ≡ piece_from (item old) (at_end old) (before ++ take n bytes)
@@ -44,8 +44,8 @@ before_more : (before bytes : List ℕ) (n : ℕ) → n < length bytes → (befo
 before_more before bytes n lt = append_assoc before (take n bytes) (get_or bytes n 0 ∷ []) ∙ ap (λ (l : List ℕ). before ++ l) (sym (take_more bytes n 0 lt))
 
 -- how the byte at a place was judged, unless memory ran out
-judged_place : {S : Type 0} (item : S → List ℕ → ℕ → Judgement) (at_end : S → List ℕ → Option InputFault) (is_after is_whole : S → List ℕ → Type 0)
-    (remaining : S → ℕ) (old now new : S) (bytes : List ℕ) (n : ℕ) (j k : Judgement) (before : List ℕ)
+judged_place : {S : Type 0} (item : S → List ℕ → ℕ → ScanStatus) (at_end : S → List ℕ → Option InputFault) (is_after is_whole : S → List ℕ → Type 0)
+    (remaining : S → ℕ) (old now new : S) (bytes : List ℕ) (n : ℕ) (j k : ScanStatus) (before : List ℕ)
     → Feeding item at_end is_after remaining old now bytes n → JudgesByte (item now) (is_after now) (is_after new) (is_whole new) (get_or bytes n 0) j → j ≡ k
     → is_after old before
     → ((item old (before ++ take n bytes) (get_or bytes n 0) ≡ k) × TakesJudged (is_after new) (is_whole new) k (before ++ take n bytes) (get_or bytes n 0))
@@ -53,14 +53,14 @@ judged_place : {S : Type 0} (item : S → List ℕ → ℕ → Judgement) (at_en
 judged_place item at_end is_after is_whole remaining old now new bytes n j k before f judged is a =
     elim (judged (before ++ take n bytes) (f.fed before a)) [
       | inl at_place ↦ inl (
-        ap (λ (i : List ℕ → ℕ → Judgement). i (before ++ take n bytes) (get_or bytes n 0)) (sym f.same_items) ∙ sym at_place.0 ∙ is,
-        subst (λ (j : Judgement). TakesJudged (is_after new) (is_whole new) j (before ++ take n bytes) (get_or bytes n 0)) is at_place.1,
+        ap (λ (i : List ℕ → ℕ → ScanStatus). i (before ++ take n bytes) (get_or bytes n 0)) (sym f.same_items) ∙ sym at_place.0 ∙ is,
+        subst (λ (j : ScanStatus). TakesJudged (is_after new) (is_whole new) j (before ++ take n bytes) (get_or bytes n 0)) is at_place.1,
       )
       | inr memory ↦ inr (sym is ∙ memory)
     ]
 
 -- memory ran out in no other judgement
-abbrev IsSound : Judgement → Type 0
+abbrev IsSound : ScanStatus → Type 0
 IsSound k = k ≡ Fails Memory → ⊥
 
 goes_on_sound : IsSound GoesOn
@@ -73,8 +73,8 @@ ends_before_sound : IsSound EndsBefore
 ends_before_sound e = absurd cc
 
 -- how the byte at a place was judged
-judged_at : {S : Type 0} (item : S → List ℕ → ℕ → Judgement) (at_end : S → List ℕ → Option InputFault) (is_after is_whole : S → List ℕ → Type 0)
-    (remaining : S → ℕ) (old now new : S) (bytes : List ℕ) (n : ℕ) (j k : Judgement) (before : List ℕ)
+judged_at : {S : Type 0} (item : S → List ℕ → ℕ → ScanStatus) (at_end : S → List ℕ → Option InputFault) (is_after is_whole : S → List ℕ → Type 0)
+    (remaining : S → ℕ) (old now new : S) (bytes : List ℕ) (n : ℕ) (j k : ScanStatus) (before : List ℕ)
     → IsSound k → Feeding item at_end is_after remaining old now bytes n → JudgesByte (item now) (is_after now) (is_after new) (is_whole new) (get_or bytes n 0)
     j → j ≡ k → is_after old before
     → (item old (before ++ take n bytes) (get_or bytes n 0) ≡ k) × TakesJudged (is_after new) (is_whole new) k (before ++ take n bytes) (get_or bytes n 0)
@@ -84,8 +84,8 @@ judged_at item at_end is_after is_whole remaining old now new bytes n j k before
       | inr memory ↦ absurd (sound memory)
     ]
 
-pub feeding_more : {S : Type 0} (item : S → List ℕ → ℕ → Judgement) (at_end : S → List ℕ → Option InputFault) (is_after is_whole : S → List ℕ → Type 0)
-    (remaining : S → ℕ) (old now new : S) (bytes : List ℕ) (n : ℕ) (j : Judgement)
+pub feeding_more : {S : Type 0} (item : S → List ℕ → ℕ → ScanStatus) (at_end : S → List ℕ → Option InputFault) (is_after is_whole : S → List ℕ → Type 0)
+    (remaining : S → ℕ) (old now new : S) (bytes : List ℕ) (n : ℕ) (j : ScanStatus)
     → Feeding item at_end is_after remaining old now bytes n → n < length bytes → j ≡ GoesOn
     → JudgesByte (item now) (is_after now) (is_after new) (is_whole new) (get_or bytes n 0) j
     → item new ≡ item now → at_end new ≡ at_end now → remaining new < remaining now → Feeding item at_end is_after remaining old new bytes (n + 1)
@@ -103,8 +103,8 @@ feeding_more item at_end is_after is_whole remaining old now new bytes n j f lt 
 }
 
 -- the piece ends with the byte
-pub feeding_ends_with : {S : Type 0} (item : S → List ℕ → ℕ → Judgement) (at_end : S → List ℕ → Option InputFault) (is_after is_whole : S → List ℕ → Type 0)
-    (remaining : S → ℕ) (old now new : S) (bytes : List ℕ) (n : ℕ) (j : Judgement) (before : List ℕ)
+pub feeding_ends_with : {S : Type 0} (item : S → List ℕ → ℕ → ScanStatus) (at_end : S → List ℕ → Option InputFault) (is_after is_whole : S → List ℕ → Type 0)
+    (remaining : S → ℕ) (old now new : S) (bytes : List ℕ) (n : ℕ) (j : ScanStatus) (before : List ℕ)
     → Feeding item at_end is_after remaining old now bytes n → n < length bytes → j ≡ EndsWith
     → JudgesByte (item now) (is_after now) (is_after new) (is_whole new) (get_or bytes n 0) j
     → is_after old before → FeedsAfter (item old) (at_end old) (is_after new) (is_whole new) bytes (Ok (Some (n + 1))) before
@@ -118,8 +118,8 @@ feeding_ends_with item at_end is_after is_whole remaining old now new bytes n j 
     )
 
 -- the piece ended before the byte
-pub feeding_ends_before : {S : Type 0} (item : S → List ℕ → ℕ → Judgement) (at_end : S → List ℕ → Option InputFault) (is_after is_whole : S → List ℕ → Type 0)
-    (remaining : S → ℕ) (old now new : S) (bytes : List ℕ) (n : ℕ) (j : Judgement) (before : List ℕ)
+pub feeding_ends_before : {S : Type 0} (item : S → List ℕ → ℕ → ScanStatus) (at_end : S → List ℕ → Option InputFault) (is_after is_whole : S → List ℕ → Type 0)
+    (remaining : S → ℕ) (old now new : S) (bytes : List ℕ) (n : ℕ) (j : ScanStatus) (before : List ℕ)
     → Feeding item at_end is_after remaining old now bytes n → n < length bytes → j ≡ EndsBefore
     → JudgesByte (item now) (is_after now) (is_after new) (is_whole new) (get_or bytes n 0) j
     → is_after old before → FeedsAfter (item old) (at_end old) (is_after new) (is_whole new) bytes (Ok (Some n)) before
@@ -134,8 +134,8 @@ feeding_ends_before item at_end is_after is_whole remaining old now new bytes n 
     )
 
 -- the byte is at fault, or memory ran out
-pub feeding_fails : {S : Type 0} (item : S → List ℕ → ℕ → Judgement) (at_end : S → List ℕ → Option InputFault) (is_after is_whole : S → List ℕ → Type 0)
-    (remaining : S → ℕ) (old now new : S) (bytes : List ℕ) (n : ℕ) (j : Judgement) (k : InputFault) (before : List ℕ)
+pub feeding_fails : {S : Type 0} (item : S → List ℕ → ℕ → ScanStatus) (at_end : S → List ℕ → Option InputFault) (is_after is_whole : S → List ℕ → Type 0)
+    (remaining : S → ℕ) (old now new : S) (bytes : List ℕ) (n : ℕ) (j : ScanStatus) (k : InputFault) (before : List ℕ)
     → Feeding item at_end is_after remaining old now bytes n → n < length bytes → j ≡ Fails k
     → JudgesByte (item now) (is_after now) (is_after new) (is_whole new) (get_or bytes n 0) j
     → is_after old before → FeedsAfter (item old) (at_end old) (is_after new) (is_whole new) bytes (Err k) before
@@ -148,7 +148,7 @@ feeding_fails item at_end is_after is_whole remaining old now new bytes n j k be
     ]
 
 -- all bytes were taken
-pub feeding_all : {S : Type 0} (item : S → List ℕ → ℕ → Judgement) (at_end : S → List ℕ → Option InputFault) (is_after is_whole : S → List ℕ → Type 0)
+pub feeding_all : {S : Type 0} (item : S → List ℕ → ℕ → ScanStatus) (at_end : S → List ℕ → Option InputFault) (is_after is_whole : S → List ℕ → Type 0)
     (remaining : S → ℕ) (old now : S) (bytes : List ℕ) (n : ℕ) (before : List ℕ)
     → Feeding item at_end is_after remaining old now bytes n → length bytes ≤ n → is_after old before
     → FeedsAfter (item old) (at_end old) (is_after now) (is_whole now) bytes (Ok None) before

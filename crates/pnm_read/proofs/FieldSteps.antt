@@ -5,8 +5,8 @@ use Rattle.std.specs.List.{list_all}
 use Rattle.std.proofs.lemmas.Bool.{ltb-false, ne_eqb}
 use Rattle.pnm_image.specs.declared.limits.TheConstants.{MAX_TUPLE_TYPE_LENGTH}
 use Rattle.pnm_read.specs.declared.fault.InputFault.TheVariants.{BadPamLine, BadNumber, DuplicateField, TooLong, Memory}
-use Rattle.pnm_read.specs.declared.judgement.Judgement.{Judgement}
-use Rattle.pnm_read.specs.declared.judgement.Judgement.TheVariants.{GoesOn, EndsWith, Fails}
+use Rattle.pnm_read.specs.declared.scan_status.ScanStatus.{ScanStatus}
+use Rattle.pnm_read.specs.declared.scan_status.ScanStatus.TheVariants.{GoesOn, EndsWith, Fails}
 use Rattle.pnm_read.specs.declared.fields.Fields.{Fields}
 use Rattle.pnm_read.specs.declared.line.Field.{Field}
 use Rattle.pnm_read.specs.declared.line.Field.TheVariants.{Width, Height, Depth, Maxval}
@@ -53,9 +53,9 @@ end_number Depth = refl
 end_number Maxval = refl
 
 -- a line was judged, and what it says was taken
-judges_so : (s : Fields) (lines : List (List ℕ)) (line : List ℕ) (j k : Judgement) → line_item lines line ≡ k → j ≡ k → TakesLine s k (lines ++ line ∷ [])
+judges_so : (s : Fields) (lines : List (List ℕ)) (line : List ℕ) (j k : ScanStatus) → line_item lines line ≡ k → j ≡ k → TakesLine s k (lines ++ line ∷ [])
     → ((j ≡ line_item lines line) × TakesLine s j (lines ++ line ∷ [])) ⊎ (j ≡ Fails Memory)
-judges_so s lines line j k item is t = inl (is ∙ sym item, subst (λ (k : Judgement). TakesLine s k (lines ++ line ∷ [])) (sym is) t)
+judges_so s lines line j k item is t = inl (is ∙ sym item, subst (λ (k : ScanStatus). TakesLine s k (lines ++ line ∷ [])) (sym is) t)
 
 -- a line that says nothing
 pub line_of_nothing : (s : Fields) (line : List ℕ) → line_kind line ≡ Nothing → JudgesLine s line s GoesOn
@@ -132,7 +132,7 @@ with_field Depth = with_depth
 with_field Maxval = with_maxval
 
 -- how a number is judged and taken, by its token and the numbers of its field before
-abbrev Sets : Bool → Option ℕ → Option ℕ → Field → Fields → Fields → Judgement → Type 0
+abbrev Sets : Bool → Option ℕ → Option ℕ → Field → Fields → Fields → ScanStatus → Type 0
 Sets empty found held field old new j =
     elim empty [
       | true ↦ j ≡ Fails BadPamLine
@@ -146,7 +146,7 @@ Sets empty found held field old new j =
     ]
 
 -- the judgement of a number's line, by whether the token is empty, the token is decimal and the number is new
-abbrev number_as : Bool → Bool → Bool → Judgement
+abbrev number_as : Bool → Bool → Bool → ScanStatus
 number_as empty digits none = if empty then Fails BadPamLine else if not digits then Fails BadNumber else if not none then Fails DuplicateField else GoesOn
 
 -- a list that begins with a number isn't empty
@@ -154,7 +154,7 @@ pub some_values : (v : ℕ) (values : List ℕ) → (length (v ∷ values) == 0)
 some_values v values = ne_eqb (length (v ∷ values)) 0 (λ e. omega arith)
 
 -- a number's line was judged so, and taken
-number_by : (empty digits : Bool) (values : List ℕ) (number : ℕ) (field : Field) (old new : Fields) (j : Judgement) (lines : List (List ℕ))
+number_by : (empty digits : Bool) (values : List ℕ) (number : ℕ) (field : Field) (old new : Fields) (j : ScanStatus) (lines : List (List ℕ))
     → Sets empty (if digits then Some number else None) (held_number values) field old new j
     → (new ≡ with_number field number old → values ≡ [] → IsFields new lines) → (j ≡ number_as empty digits (length values == 0))
     × TakesLine new (number_as empty digits (length values == 0)) lines
@@ -163,10 +163,10 @@ number_by false false values number field old new j lines s f = (s, tt)
 number_by false true [] number field old new j lines s f = (s.0, f s.1 refl)
 number_by false true (v ∷ values) number field old new j lines s f =
     let twice : number_as false true (length (v ∷ values) == 0) ≡ Fails DuplicateField = ap (number_as false true) (some_values v values) in
-    (s ∙ sym twice, subst (λ (k : Judgement). TakesLine new k lines) (sym twice) tt)
+    (s ∙ sym twice, subst (λ (k : ScanStatus). TakesLine new k lines) (sym twice) tt)
 
 -- the line of a number
-pub line_of_number : (field : Field) (old new : Fields) (line rest : List ℕ) (j : Judgement) → line_kind line ≡ Number field → rest ≡ after_first line
+pub line_of_number : (field : Field) (old new : Fields) (line rest : List ℕ) (j : ScanStatus) → line_kind line ≡ Number field → rest ≡ after_first line
     → SetsNumber old field rest new j → JudgesLine old line new j
 line_of_number field old new line rest j e is s lines f =
     let sets : SetsNumber old field (after_first line) new j = subst (λ (l : List ℕ). SetsNumber old field l new j) is s in
@@ -193,14 +193,14 @@ with_type old new lines line e f w short = record {
 }
 
 -- a line of the tuple type was judged so, and taken
-type_by : (long : Bool) (old new : Fields) (tuple_type : List ℕ) (j : Judgement) (lines : List (List ℕ)) → SetsTupleType long old tuple_type new j
+type_by : (long : Bool) (old new : Fields) (tuple_type : List ℕ) (j : ScanStatus) (lines : List (List ℕ)) → SetsTupleType long old tuple_type new j
     → (long ≡ false → IsWithTupleType old new tuple_type → IsFields new lines)
     → (j ≡ (if long then Fails TooLong else GoesOn)) × TakesLine new (if long then Fails TooLong else GoesOn) lines
 type_by true old new tuple_type j lines s f = (s, tt)
 type_by false old new tuple_type j lines s f = (s.0, f refl s.1)
 
 -- the line of a part of the tuple type
-pub line_of_type : (old new : Fields) (line text : List ℕ) (j : Judgement) → line_kind line ≡ TupleType → text ≡ value_of line → AddsTupleType old text new j
+pub line_of_type : (old new : Fields) (line text : List ℕ) (j : ScanStatus) → line_kind line ≡ TupleType → text ≡ value_of line → AddsTupleType old text new j
     → JudgesLine old line new j
 line_of_type old new line text j e is (inr memory) lines f = inr memory
 line_of_type old new line text j e is (inl s) lines f =

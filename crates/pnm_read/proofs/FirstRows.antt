@@ -11,7 +11,7 @@ use Rattle.pnm_image.specs.Heads.{HeadValue, IsHead, row_length, with_height}
 use Rattle.pnm_image.specs.Images.{Image, IsImage, rows_of}
 use Rattle.pnm_image.proofs.RowLaws.{AreRowsOf, image_of, IsImage-image_of, rows_of-image_of, AreRowsOf-rows_of, length-rows_of}
 use Rattle.pnm_image.specs.declared.format.Format.{Format}
-use Rattle.pnm_read.specs.Texts.{begins_apart}
+use Rattle.pnm_read.specs.HeaderTexts.{begins_apart}
 use Rattle.pnm_read.specs.Rasters.{MayFollowSample, SpellsRaw, SpellsPlain}
 use Rattle.pnm_read.specs.Spelling.{SpellsRasterBy, SpellsRaster}
 use Rattle.pnm_read.specs.BeforeFaults.{MayFollowRows, BeginsWithRows}
@@ -19,7 +19,7 @@ use Rattle.pnm_read.specs.Said.{Said, rows_said}
 use Rattle.pnm_read.proofs.PlainLaws.{SpellsOn, apart_follows, plain_rows_in_turn, spelled_prefix, plain_rows_are_read, last_row_ends}
 use Rattle.pnm_read.proofs.RawLaws.{packable, raw_rows_have_bytes, raw_rows_are_read}
 use Rattle.pnm_read.proofs.SaidLaws.{row_is_row}
-use Rattle.pnm_read.proofs.RowTurns.{RowsRead, rows_count, read_rows_come_first}
+use Rattle.pnm_read.proofs.RowsInTurn.{RowsRead, rows_count, read_rows_come_first}
 
 -- ---- images of some rows
 

@@ -12,8 +12,8 @@ use Rattle.pnm_image.specs.Heads.{HeadValue, head_value, shape_fault}
 use Rattle.pnm_read.specs.declared.fault.InputFault.{InputFault}
 use Rattle.pnm_read.specs.declared.fault.InputFault.TheVariants.{ReadFailed}
 use Rattle.pnm_read.specs.declared.header.HeaderScanner.{HeaderScanner}
-use Rattle.pnm_read.specs.Texts.{numbers_in}
-use Rattle.pnm_read.specs.Formats.{number_count, planes, maxval_of, shape_of}
+use Rattle.pnm_read.specs.HeaderTexts.{numbers_in}
+use Rattle.pnm_read.specs.HeaderNumbers.{number_count, planes, maxval_of, shape_of}
 use Rattle.pnm_read.specs.Items.{◌>>=◌, piece_from, header_item, header_end, fault_of_head, numbers_item}
 use Rattle.pnm_read.specs.Said.{pnm_head_at}
 use Rattle.pnm_read.specs.BufferedReaders.{IsOutsideFault, Finds}

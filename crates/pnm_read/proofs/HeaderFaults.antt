@@ -12,15 +12,15 @@ use Rattle.pnm_read.specs.declared.fault.InputFault.{InputFault}
 use Rattle.pnm_read.specs.declared.fault.InputFault.TheVariants.{BadMagic, TooLong, BadNumber, BadPamLine, DuplicateField, MissingField, PlainInStream}
 use Rattle.pnm_read.specs.declared.fault.InputFault.TheVariants.{ReadFailed, Memory}
 use Rattle.pnm_image.specs.declared.format.Format.{Format}
-use Rattle.pnm_read.specs.declared.judgement.Judgement.{Judgement}
-use Rattle.pnm_read.specs.declared.judgement.Judgement.TheVariants.{GoesOn, EndsWith, EndsBefore, Fails}
+use Rattle.pnm_read.specs.declared.scan_status.ScanStatus.{ScanStatus}
+use Rattle.pnm_read.specs.declared.scan_status.ScanStatus.TheVariants.{GoesOn, EndsWith, EndsBefore, Fails}
 use Rattle.pnm_read.specs.declared.line.Field.{Field}
 use Rattle.pnm_read.specs.declared.line.LineKind.{LineKind}
 use Rattle.pnm_read.specs.declared.line.LineKind.TheVariants.{Nothing, Number, TupleType, End, Unknown}
-use Rattle.pnm_read.specs.Texts.{numbers_in}
+use Rattle.pnm_read.specs.HeaderTexts.{numbers_in}
 use Rattle.pnm_image.specs.Texts.{is_digit}
 use Rattle.pnm_image.specs.Formats.{format_of, is_plain_form}
-use Rattle.pnm_read.specs.Formats.{number_count, shape_of}
+use Rattle.pnm_read.specs.HeaderNumbers.{number_count, shape_of}
 use Rattle.pnm_read.specs.PamLines.{ended_lines, last_line, second_token, line_kind, field_values, tuple_type_in}
 use Rattle.pnm_read.specs.Items.{◌>>=◌, piece_from, first_magic_item, second_magic_item, header_limit, is_bad_in_header, is_delimiter, header_item, header_end}
 use Rattle.pnm_read.specs.Items.{fault_of_head, numbers_item, line_feed_item, pam_limit, number_item, is_type_too_long, tuple_type_item, line_item, pam_item}
@@ -48,9 +48,9 @@ FailsByText (Ok x) = Unit {0}
 FailsByText (Err fault) = IsOfText fault
 
 -- a judgement whose fault, if it is one, is one that a text can have
-abbrev pub IsJudgedByText : Judgement → Type 0
+abbrev pub IsJudgedByText : ScanStatus → Type 0
 IsJudgedByText (Fails fault) = IsOfText fault
-IsJudgedByText judgement = Unit {0}
+IsJudgedByText scan_status = Unit {0}
 
 -- one step after another fails by a fault of the text, where each does
 pub bind_by_text : {A B : Type 0} (r : Result A InputFault) (f : A → Result B InputFault) → FailsByText r → ((x : A) → FailsByText (f x))
@@ -66,17 +66,17 @@ when_by_text false x fault h = h
 -- ---- pieces
 
 -- a piece from a byte on, which is judged so
-abbrev pieced : (List ℕ → ℕ → Judgement) → (List ℕ → Option InputFault) → Judgement → List ℕ → ℕ → List ℕ → Result (List ℕ × List ℕ) InputFault
-pieced item at_end judgement before b text = elim judgement [
+abbrev pieced : (List ℕ → ℕ → ScanStatus) → (List ℕ → Option InputFault) → ScanStatus → List ℕ → ℕ → List ℕ → Result (List ℕ × List ℕ) InputFault
+pieced item at_end scan_status before b text = elim scan_status [
   | Fails fault ↦ Err fault
   | EndsWith ↦ Ok (before ++ b ∷ [], text)
   | EndsBefore ↦ Ok (before, b ∷ text)
   | GoesOn ↦ piece_from item at_end (before ++ b ∷ []) text
 ]
 
-pieced_by_text : (item : List ℕ → ℕ → Judgement) (at_end : List ℕ → Option InputFault) (judgement : Judgement) (before : List ℕ) (b : ℕ) (text : List ℕ)
-    → IsJudgedByText judgement → FailsByText (piece_from item at_end (before ++ b ∷ []) text)
-    → FailsByText (pieced item at_end judgement before b text)
+pieced_by_text : (item : List ℕ → ℕ → ScanStatus) (at_end : List ℕ → Option InputFault) (scan_status : ScanStatus) (before : List ℕ) (b : ℕ) (text : List ℕ)
+    → IsJudgedByText scan_status → FailsByText (piece_from item at_end (before ++ b ∷ []) text)
+    → FailsByText (pieced item at_end scan_status before b text)
 pieced_by_text item at_end (Fails fault) before b text h more = h
 pieced_by_text item at_end EndsWith before b text h more = tt
 pieced_by_text item at_end EndsBefore before b text h more = tt
@@ -94,7 +94,7 @@ ended_by_text None before h = tt
 ended_by_text (Some fault) before h = h
 
 -- a piece fails by a fault of the text, where its bytes and its end do
-pub piece_by_text : (item : List ℕ → ℕ → Judgement) (at_end : List ℕ → Option InputFault) (before text : List ℕ)
+pub piece_by_text : (item : List ℕ → ℕ → ScanStatus) (at_end : List ℕ → Option InputFault) (before text : List ℕ)
     → ((prefix : List ℕ) (b : ℕ) → IsJudgedByText (item prefix b)) → ((prefix : List ℕ) → EndsByText (at_end prefix))
     → FailsByText (piece_from item at_end before text)
 unfolding piece_from
@@ -103,7 +103,7 @@ piece_by_text item at_end before (b ∷ text) judged ended = pieced_by_text item
     (piece_by_text item at_end (before ++ b ∷ []) text judged ended)
 
 -- three tests in turn
-pub three_by_text : (a b c : Bool) (fault other : InputFault) (last : Judgement) → IsOfText fault → IsOfText other → IsJudgedByText last
+pub three_by_text : (a b c : Bool) (fault other : InputFault) (last : ScanStatus) → IsOfText fault → IsOfText other → IsJudgedByText last
     → IsJudgedByText (if a then Fails fault else if b then Fails other else if c then last else GoesOn)
 three_by_text true b c fault other last f o l = f
 three_by_text false true c fault other last f o l = o
@@ -217,7 +217,7 @@ line_kind_by_text End lines line = tt
 line_kind_by_text Unknown lines line = tt
 
 -- a byte of a header of PAM: a line feed judges its line
-pam_byte_by : (long feed : Bool) (line : Judgement) → IsJudgedByText line → IsJudgedByText (if long then Fails TooLong else if feed then line else GoesOn)
+pam_byte_by : (long feed : Bool) (line : ScanStatus) → IsJudgedByText line → IsJudgedByText (if long then Fails TooLong else if feed then line else GoesOn)
 pam_byte_by true feed line h = tt
 pam_byte_by false true line h = h
 pam_byte_by false false line h = tt

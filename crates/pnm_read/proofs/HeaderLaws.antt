@@ -13,12 +13,12 @@ use Rattle.pnm_image.specs.declared.shape.Kind.TheVariants.{Bit, Gray, Color, Pa
 use Rattle.pnm_image.specs.Heads.{HeadValue, IsHead, IsTupleType, Suits, head_value, shape_fault}
 use Rattle.pnm_read.specs.declared.fault.InputFault.{InputFault}
 use Rattle.pnm_read.specs.declared.fault.InputFault.TheVariants.{TooLong, BadNumber}
-use Rattle.pnm_read.specs.declared.judgement.Judgement.{Judgement}
-use Rattle.pnm_read.specs.declared.judgement.Judgement.TheVariants.{GoesOn, EndsWith, EndsBefore, Fails}
-use Rattle.pnm_read.specs.Texts.{is_apart, begins_apart, ends_in_comment, uncommented, uncommented_from, ends_in_word, numbers_in}
+use Rattle.pnm_read.specs.declared.scan_status.ScanStatus.{ScanStatus}
+use Rattle.pnm_read.specs.declared.scan_status.ScanStatus.TheVariants.{GoesOn, EndsWith, EndsBefore, Fails}
+use Rattle.pnm_read.specs.HeaderTexts.{is_apart, begins_apart, ends_in_comment, uncommented, uncommented_from, ends_in_word, numbers_in}
 use Rattle.pnm_image.specs.Texts.{is_white, is_digit, words}
 use Rattle.pnm_image.specs.Formats.{plain}
-use Rattle.pnm_read.specs.Formats.{number_count, planes, shape_of, header_numbers}
+use Rattle.pnm_read.specs.HeaderNumbers.{number_count, planes, shape_of, header_numbers}
 use Rattle.pnm_read.specs.Items.{piece_from, header_limit, is_bad_in_header, is_delimiter, header_item, header_end, numbers_item}
 use Rattle.pnm_read.proofs.ShapeLaws.{head_or_fault_ok}
 use Rattle.pnm_read.proofs.PieceLaws.{ok_is}
@@ -27,7 +27,7 @@ use Rattle.pnm_read.proofs.WordLaws.{ends_in_word-digit, white_is_not_sharp, dig
 
 -- ---- how a byte of a header is judged
 
-abbrev pub judged_by : Bool → Bool → Bool → Judgement
+abbrev pub judged_by : Bool → Bool → Bool → ScanStatus
 judged_by long bad last = if long then Fails TooLong else if bad then Fails BadNumber else if last then EndsWith else GoesOn
 
 pub header_item_is : (count : ℕ) (before : List ℕ) (b : ℕ) → header_item count before b ≡ judged_by (nat_le header_limit (length before))
@@ -179,16 +179,17 @@ pub record Body (count : ℕ) (before text piece rest : List ℕ) : Type 0 where
   pub piece_is : piece ≡ body ++ delimiter ∷ []
   pub whole : before ++ text ≡ piece ++ rest
 
-abbrev pub pieced : Judgement → ℕ → List ℕ → ℕ → List ℕ → Result (List ℕ × List ℕ) InputFault
-pieced judgement count before b text = elim judgement [
+abbrev pub pieced : ScanStatus → ℕ → List ℕ → ℕ → List ℕ → Result (List ℕ × List ℕ) InputFault
+pieced scan_status count before b text = elim scan_status [
   | Fails fault ↦ Err fault
   | EndsWith ↦ Ok (before ++ b ∷ [], text)
   | EndsBefore ↦ Ok (before, b ∷ text)
   | GoesOn ↦ piece_from (header_item count) header_end (before ++ b ∷ []) text
 ]
 
-body_by : (judgement : Judgement) (count : ℕ) (before : List ℕ) (b : ℕ) (text piece rest : List ℕ) → header_item count before b ≡ judgement → SoFar count before
-    → pieced judgement count before b text ≡ Ok (piece, rest)
+body_by : (scan_status : ScanStatus) (count : ℕ) (before : List ℕ) (b : ℕ) (text piece rest : List ℕ) → header_item count before b ≡ scan_status
+    → SoFar count before
+    → pieced scan_status count before b text ≡ Ok (piece, rest)
     → (SoFar count (before ++ b ∷ []) → piece_from (header_item count) header_end (before ++ b ∷ []) text ≡ Ok (piece, rest)
     → Body count (before ++ b ∷ []) text piece rest) → Body count before (b ∷ text) piece rest
 body_by (Fails fault) count before b text piece rest j s e more = absurd cc

@@ -1,12 +1,12 @@
 -- A piece of which each byte goes on.
 use Rattle.std.proofs.Common.{◌≡◌, ℕ, List, [], ◌∷◌, ◌++◌, Option, sym, ap, ◌∙◌, append_assoc, append-nil}
 use Rattle.pnm_read.specs.declared.fault.InputFault.{InputFault}
-use Rattle.pnm_read.specs.declared.judgement.Judgement.{Judgement}
-use Rattle.pnm_read.specs.declared.judgement.Judgement.TheVariants.{GoesOn}
+use Rattle.pnm_read.specs.declared.scan_status.ScanStatus.{ScanStatus}
+use Rattle.pnm_read.specs.declared.scan_status.ScanStatus.TheVariants.{GoesOn}
 use Rattle.pnm_read.specs.Items.{piece_from}
 
 -- where each byte of a body goes on, the piece goes on after it
-pub goes_on_through : (item : List ℕ → ℕ → Judgement) (at_end : List ℕ → Option InputFault) (body before back text : List ℕ) → before ++ back ≡ body
+pub goes_on_through : (item : List ℕ → ℕ → ScanStatus) (at_end : List ℕ → Option InputFault) (body before back text : List ℕ) → before ++ back ≡ body
     → ((prefix : List ℕ) (b : ℕ) (others : List ℕ) → prefix ++ b ∷ others ≡ body → item prefix b ≡ GoesOn)
     → piece_from item at_end before (back ++ text) ≡ piece_from item at_end body text
 unfolding piece_from

@@ -7,10 +7,10 @@ use Rattle.std.proofs.lemmas.Bool.{eqb-true, eqb-false, and_right}
 use Rattle.std.proofs.lemmas.Bool.Decides.{nat_tests}
 use Rattle.std.proofs.lemmas.List.{length-append, get_or-drop, drop_all}
 use Rattle.std.proofs.lemmas.List.Elements.{All-nil}
-use Rattle.pnm_read.specs.declared.judgement.Judgement.{Judgement}
-use Rattle.pnm_read.specs.declared.judgement.Judgement.TheVariants.{GoesOn, EndsWith, EndsBefore, Fails}
+use Rattle.pnm_read.specs.declared.scan_status.ScanStatus.{ScanStatus}
+use Rattle.pnm_read.specs.declared.scan_status.ScanStatus.TheVariants.{GoesOn, EndsWith, EndsBefore, Fails}
 use Rattle.pnm_read.specs.declared.header.HeaderScanner.{HeaderScanner}
-use Rattle.pnm_read.specs.Texts.{is_apart, commented, commented_after, ends_in_comment, ends_by, uncommented_from, numbers_in}
+use Rattle.pnm_read.specs.HeaderTexts.{is_apart, commented, commented_after, ends_in_comment, ends_by, uncommented_from, numbers_in}
 use Rattle.pnm_image.specs.Texts.{is_white, is_digit, words}
 use Rattle.pnm_read.specs.Items.{header_limit, is_bad_in_header, is_delimiter, header_item}
 use Rattle.pnm_read.specs.Scans.{JudgesByte}
@@ -227,7 +227,7 @@ header_after old new b before a p e =
     after_by (ends_in_comment before) (b == 35) (is_white b) old new b before refl refl refl a p byte.1 parts.2
 
 -- the header goes on with the byte
-pub header_goes_on : (old new : HeaderScanner) (b : ℕ) (j : Judgement) → j ≡ GoesOn → JudgesHeader old b j → PushesHeader old b new
+pub header_goes_on : (old new : HeaderScanner) (b : ℕ) (j : ScanStatus) → j ≡ GoesOn → JudgesHeader old b j → PushesHeader old b new
     → JudgesByte (header_item old.wanted) (IsHeaderAfter old) (IsHeaderAfter new) (IsHeaderWhole new) b j
 header_goes_on old new b j is h p before a = inl (h before a, rw is (header_after old new b before a p (sym (h before a) ∙ is)))
 
@@ -246,7 +246,7 @@ header_never_before count before b e = never_before_by (nat_le header_limit (len
     (sym (header_item_is count before b) ∙ e)
 
 -- the header does not go on after the byte
-pub header_stops : (s : HeaderScanner) (b : ℕ) (j : Judgement) → (j ≡ GoesOn → ⊥) → JudgesHeader s b j
+pub header_stops : (s : HeaderScanner) (b : ℕ) (j : ScanStatus) → (j ≡ GoesOn → ⊥) → JudgesHeader s b j
     → JudgesByte (header_item s.wanted) (IsHeaderAfter s) (IsHeaderAfter s) (IsHeaderWhole s) b j
 header_stops s b GoesOn n h before a = absurd (n refl)
 header_stops s b EndsWith n h before a = inl (h before a, header_whole s b before a (sym (h before a)))

@@ -14,10 +14,10 @@ use Rattle.pnm_read.specs.declared.raster.Raster.{Raster}
 use Rattle.pnm_read.specs.Items.{◌>>=◌}
 use Rattle.pnm_read.specs.Rasters.{wide_samples}
 use Rattle.pnm_read.specs.Said.{in_turn, units_in_row, raw_row}
-use Rattle.pnm_read.specs.HeldRows.{AreHeldWide, TakesRows}
-use Rattle.pnm_read.proofs.UnitLaws.{turned, words_are_units}
+use Rattle.pnm_read.specs.RasterRows.{AreHeldWide, TakesRows}
+use Rattle.pnm_read.proofs.UnitLaws.{items_of, words_are_units}
 use Rattle.pnm_read.proofs.RawSteps.{units_as}
-use Rattle.pnm_read.proofs.JoinedRows.{row_done, row_before, no_rows}
+use Rattle.pnm_read.proofs.RowsTogether.{row_done, row_before, no_rows}
 
 -- two bytes are a sample
 pub length-wide : (n : ℕ) (bytes : List ℕ) → length bytes ≡ n * 2 → length (wide_samples bytes) ≡ n
@@ -75,8 +75,8 @@ wide_rows_in_turn s (suc count) bytes rest is_width size within =
     ∙ row_before (raw_row s) count (first ++ (later ++ rest)) (later ++ rest) rest row (cut_rows count each others)
     (first_wide_row s first (later ++ rest) is_width size_first within_row)
     (wide_rows_in_turn s count later rest is_width size_later within_others)
-    ∙ ap₂ (λ (row : List ℕ) (l : List ℕ). turned (row ∷ cut_rows count each l) rest) (sym (take_at row others each long)) (sym (drop_at row others each long))
-    ∙ ap (λ (l : List ℕ). turned (cut_rows (suc count) each l) rest) (sym both)
+    ∙ ap₂ (λ (row : List ℕ) (l : List ℕ). items_of (row ∷ cut_rows count each l) rest) (sym (take_at row others each long)) (sym (drop_at row others each long))
+    ∙ ap (λ (l : List ℕ). items_of (cut_rows (suc count) each l) rest) (sym both)
 
 -- the bytes of rows that are held
 abbrev pub wide_held : Raster → ℕ → List ℕ → List ℕ
@@ -105,5 +105,5 @@ wide_rows_taken raster count held after samples rows h is within cut left = λ r
     ∙ append_assoc bytes after rest in
     ap (in_turn (raw_row raster.shape) count) text
     ∙ wide_rows_in_turn raster.shape count bytes (after ++ rest) (sym h.sample_width ∙ raster.samples) size within
-    ∙ ap (λ (l : List (List ℕ)). turned l (after ++ rest))
+    ∙ ap (λ (l : List (List ℕ)). items_of l (after ++ rest))
     (ap₂ (λ (n : ℕ) (l : List ℕ). cut_rows count n l) (sym units) (sym is) ∙ sym cut)

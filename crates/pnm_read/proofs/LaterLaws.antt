@@ -12,7 +12,7 @@ use Rattle.pnm_read.specs.Items.{first_magic_item, second_magic_item}
 use Rattle.pnm_read.specs.Said.{Said, then_said, ends_stream, format_at, head_at, row_in_form, row_at, end_said, rows_said, head_said, format_said, image_said}
 use Rattle.pnm_read.specs.Said.{later_said_in, later_said}
 use Rattle.pnm_read.proofs.ReadHeaderLaws.{header_shorter}
-use Rattle.pnm_read.proofs.RowTurns.{said_from}
+use Rattle.pnm_read.proofs.RowsInTurn.{said_from}
 use Rattle.pnm_read.proofs.RawLaws.{raw_row_shorter}
 use Rattle.pnm_read.proofs.PieceLaws.{bind_ok}
 

@@ -12,13 +12,13 @@ use Rattle.pnm_image.specs.declared.shape.Kind.{Kind}
 use Rattle.pnm_image.specs.declared.shape.Kind.TheVariants.{Bit, Gray, Color, Pam}
 use Rattle.pnm_image.specs.Texts.{is_white, is_digit}
 use Rattle.pnm_read.specs.declared.fault.InputFault.{InputFault}
-use Rattle.pnm_read.specs.Texts.{is_apart, begins_apart, commented_after, ends_in_comment, uncommented_from, uncommented}
+use Rattle.pnm_read.specs.HeaderTexts.{is_apart, begins_apart, commented_after, ends_in_comment, uncommented_from, uncommented}
 use Rattle.pnm_read.specs.Rasters.{IsGap, SpellsDecimal}
 use Rattle.pnm_read.specs.Items.{◌>>=◌, plain_pixel, plain_decimal, plain_sample}
 use Rattle.pnm_read.specs.Said.{in_turn}
 use Rattle.pnm_read.specs.Leading.{IsNumberFirst, IsSampleFirst, TakesSamples}
 use Rattle.pnm_read.proofs.SampleLaws.{spelled_piece_is_read}
-use Rattle.pnm_read.proofs.UnitLaws.{turned, and_turns, in_turn-add}
+use Rattle.pnm_read.proofs.UnitLaws.{items_of, and_items, in_turn-add}
 use Rattle.pnm_read.proofs.PartLaws.{one_is_read}
 use Rattle.pnm_read.proofs.WordLaws.{white_is_not_sharp, digit_value_is}
 use Rattle.pnm_read.specs.declared.decimal.TheConstants.{GAP_LIMIT}
@@ -252,8 +252,8 @@ one_more : (item : List ℕ → Result (ℕ × List ℕ) InputFault) (n sample :
     → item now ≡ Ok (sample, rest)
     → in_turn item (n + 1) text ≡ Ok (samples ++ sample ∷ [], rest)
 one_more item n sample samples text now rest e f =
-    in_turn-add item n 1 text ∙ ap (λ r. r >>= λ items. and_turns item 1 items.0 items.1) e
-    ∙ ap (λ r. r >>= λ more. turned (samples ++ more.0) more.1) (one_is_read item sample now rest f)
+    in_turn-add item n 1 text ∙ ap (λ r. r >>= λ items. and_items item 1 items.0 items.1) e
+    ∙ ap (λ r. r >>= λ more. items_of (samples ++ more.0) more.1) (one_is_read item sample now rest f)
 
 takes_more : (item : List ℕ → Result (ℕ × List ℕ) InputFault) (bytes old now new : List ℕ) (taken sample count : ℕ) → TakesSamples item bytes old now taken
     → IsSampleFirst item (drop taken bytes) sample count → new ≡ now ++ sample ∷ []

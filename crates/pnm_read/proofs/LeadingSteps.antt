@@ -6,9 +6,9 @@ use Rattle.pnm_read.specs.declared.buffered_reader.BufferedReader.{BufferedReade
 use Rattle.pnm_read.specs.Said.{in_turn, plain_row}
 use Rattle.pnm_read.specs.BufferedReaders.{ReadCall, Finds, held_of}
 use Rattle.pnm_read.specs.Leading.{TakesSamples}
-use Rattle.pnm_read.proofs.UnitLaws.{and_turns}
+use Rattle.pnm_read.proofs.UnitLaws.{and_items}
 use Rattle.pnm_read.proofs.PartLaws.{part_is_read}
-use Rattle.pnm_read.proofs.Turns.{no_fault, turn_ok_so, turn_advance}
+use Rattle.pnm_read.proofs.ReadCalls.{no_fault, call_ok_so, call_advance}
 use Rattle.pnm_read.proofs.PlainSteps.{sample_of, ReadingSamples}
 
 -- memory ran out
@@ -16,7 +16,7 @@ pub reading_no_memory : {R : Type 0} {left : R → Option (List ℕ)} {failures 
     {old now : BufferedReader R}
     → ReadingSamples left failures same s all more samples old now
     → ReadCall {A = List ℕ} left failures same old now (Err Memory) (Finds (plain_row s) (Err Memory))
-reading_no_memory r = turn_ok_so {A = Unit {0}} {B = List ℕ} tt (Err Memory) (λ e. absurd cc) (λ b a o. inr (inr refl)) r.turn
+reading_no_memory r = call_ok_so {A = Unit {0}} {B = List ℕ} tt (Err Memory) (λ e. absurd cc) (λ b a o. inr (inr refl)) r.call
 
 -- samples more were taken of the bytes that are held
 pub samples_taken : {R : Type 0} {left : R → Option (List ℕ)} {failures : R → ℕ} {same : R → R → Type 0} {s : Shape} {all more : ℕ} {samples : List ℕ}
@@ -30,8 +30,8 @@ samples_taken {s = s} {all = all} {more = more} {samples = samples} {now = now} 
     let is_fewer : more - length t.samples ≡ fewer = omega arith in
     let read = subst (λ (l : List ℕ). (rest : List ℕ) → in_turn (sample_of s) (length t.samples) (l ++ rest) ≡ Ok (t.samples, drop taken l ++ rest)) is_held
     t.read in record {
-      turn = turn_advance {A = Unit {0}} {B = Unit {0}} tt (Ok tt) taken (no_fault tt ReadFailed) reader ended held (λ b rest c o.
+      call = call_advance {A = Unit {0}} {B = Unit {0}} tt (Ok tt) taken (no_fault tt ReadFailed) reader ended held (λ b rest c o.
           part_is_read (sample_of s) all more (length t.samples) samples t.samples b (held_of now ++ rest) (drop taken (held_of now) ++ rest) most (read rest) o
-          ∙ ap₂ (λ (n : ℕ) (l : List ℕ). and_turns (sample_of s) n l (drop taken (held_of now) ++ rest)) is_fewer (sym t.appended))
-          r.turn;
+          ∙ ap₂ (λ (n : ℕ) (l : List ℕ). and_items (sample_of s) n l (drop taken (held_of now) ++ rest)) is_fewer (sym t.appended))
+          r.call;
     }

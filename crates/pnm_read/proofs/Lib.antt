@@ -2,7 +2,7 @@ pub mod LineNames
 pub mod CommentLaws
 pub mod Consumed
 pub mod PixelSteps
-pub mod Turns
+pub mod ReadCalls
 pub mod EndSteps
 pub mod PieceLaws
 pub mod SampleLaws
@@ -23,7 +23,7 @@ pub mod DecimalSteps
 pub mod HeaderSteps
 pub mod MagicSteps
 pub mod HeldRows
-pub mod JoinedRows
+pub mod RowsTogether
 pub mod HeldWords
 pub mod RowsGiven
 pub mod HeldShapes
@@ -53,6 +53,6 @@ pub mod PlainSteps
 pub mod LeadingSteps
 pub mod SourceSteps
 pub mod GivenLaws
-pub mod RowTurns
+pub mod RowsInTurn
 pub mod FirstRows
 pub mod FaultPrefixes

@@ -17,7 +17,7 @@ use Rattle.pnm_read.specs.Headers.{IsOneLine}
 use Rattle.pnm_read.specs.Items.{is_field_missing, shape_in, lines_item}
 use Rattle.pnm_read.proofs.ShapeLaws.{head_or_fault, head_or_fault_ok, limits_of, no_shape_fault}
 use Rattle.pnm_read.proofs.TupleTypeLaws.{tuple_type_in-is}
-use Rattle.pnm_read.proofs.PamLineLaws.{values-end, tuple_type-end, Judged}
+use Rattle.pnm_read.proofs.PamLineLaws.{values-end, tuple_type-end, StatusValue}
 
 missing_by : (w h d m : Bool) (made : Result HeadValue InputFault) (head : HeadValue) → (if w || h || d || m then Err MissingField else made) ≡ Ok head
     → (w ≡ false) × (h ≡ false) × (d ≡ false) × (m ≡ false) × (made ≡ Ok head)
@@ -44,7 +44,7 @@ pub record MadeOf (lines : List (List ℕ)) (head : HeadValue) : Type 0 where
   pub sound : IsHead head
   pub rows : 0 < head.shape.height
 
-pub lines_make_head : (lines : List (List ℕ)) (head : HeadValue) → Judged lines → AllByRecursion IsOneLine lines → lines_item lines ≡ Ok head
+pub lines_make_head : (lines : List (List ℕ)) (head : HeadValue) → StatusValue lines → AllByRecursion IsOneLine lines → lines_item lines ≡ Ok head
     → MadeOf lines head
 unfolding lines_item
 lines_make_head lines head j one e =

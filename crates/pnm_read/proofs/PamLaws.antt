@@ -9,8 +9,8 @@ use Rattle.pnm_image.specs.declared.shape.Kind.{Kind}
 use Rattle.pnm_image.specs.Heads.{HeadValue, IsTupleType, Suits}
 use Rattle.pnm_read.specs.declared.fault.InputFault.TheVariants.{TooLong, BadPamLine}
 use Rattle.pnm_image.specs.declared.format.Format.{Format}
-use Rattle.pnm_read.specs.declared.judgement.Judgement.{Judgement}
-use Rattle.pnm_read.specs.declared.judgement.Judgement.TheVariants.{GoesOn, EndsWith, EndsBefore, Fails}
+use Rattle.pnm_read.specs.declared.scan_status.ScanStatus.{ScanStatus}
+use Rattle.pnm_read.specs.declared.scan_status.ScanStatus.TheVariants.{GoesOn, EndsWith, EndsBefore, Fails}
 use Rattle.pnm_read.specs.declared.line.Field.{Field}
 use Rattle.pnm_read.specs.declared.line.Field.TheVariants.{Width, Height, Depth, Maxval}
 use Rattle.pnm_read.specs.declared.line.LineKind.TheVariants.{End}
@@ -24,11 +24,11 @@ use Rattle.pnm_read.proofs.PieceLaws.{bind_ok, done, ok_is, piece_step, FoundBy,
 use Rattle.pnm_read.proofs.HeaderPieces.{goes_on_through}
 use Rattle.pnm_read.proofs.LineLaws.{with_feeds, ended_lines-lf, ended_lines-other, ended_lines-are, last_line-is, text_of_lines}
 use Rattle.pnm_read.proofs.PamHeads.{MadeOf, lines_make_head, made_is_found, lines_item-end}
-use Rattle.pnm_read.proofs.PamLineLaws.{line_is_judged, line_ends, line_ends_with, MayStand, Judged, judged-push, judged_none, line_goes_on}
+use Rattle.pnm_read.proofs.PamLineLaws.{line_is_judged, line_ends, line_ends_with, MayStand, StatusValue, judged-push, judged_none, line_goes_on}
 
 -- ---- how a byte is judged
 
-abbrev pub pam_by : Bool → Bool → Judgement → Judgement
+abbrev pub pam_by : Bool → Bool → ScanStatus → ScanStatus
 pam_by long feed line = if long then Fails TooLong else if feed then line else GoesOn
 
 pub pam_item_is : (before : List ℕ) (b : ℕ) → pam_item before b ≡ pam_by (nat_le pam_limit (length before)) (b == 10)
@@ -36,17 +36,17 @@ pub pam_item_is : (before : List ℕ) (b : ℕ) → pam_item before b ≡ pam_by
 unfolding pam_item
 pam_item_is before b = refl
 
-goes_on_by : (long feed : Bool) (line : Judgement) → pam_by long feed line ≡ GoesOn → feed ≡ true → line ≡ GoesOn
+goes_on_by : (long feed : Bool) (line : ScanStatus) → pam_by long feed line ≡ GoesOn → feed ≡ true → line ≡ GoesOn
 goes_on_by true feed line e h = absurd cc
 goes_on_by false true line e h = e
 goes_on_by false false line e h = absurd cc
 
-ends_with_by : (long feed : Bool) (line : Judgement) → pam_by long feed line ≡ EndsWith → (long ≡ false) × (feed ≡ true) × (line ≡ EndsWith)
+ends_with_by : (long feed : Bool) (line : ScanStatus) → pam_by long feed line ≡ EndsWith → (long ≡ false) × (feed ≡ true) × (line ≡ EndsWith)
 ends_with_by true feed line e = absurd cc
 ends_with_by false true line e = (refl, refl, e)
 ends_with_by false false line e = absurd cc
 
-ends_before_by : (long feed : Bool) (line : Judgement) → pam_by long feed line ≡ EndsBefore → line ≡ EndsBefore
+ends_before_by : (long feed : Bool) (line : ScanStatus) → pam_by long feed line ≡ EndsBefore → line ≡ EndsBefore
 ends_before_by true feed line e = absurd cc
 ends_before_by false true line e = e
 ends_before_by false false line e = absurd cc
@@ -54,15 +54,15 @@ ends_before_by false false line e = absurd cc
 -- ---- what is read is spelled
 
 -- a byte more that went on
-judged_by : (feed : Bool) (before : List ℕ) (b : ℕ) → (b == 10) ≡ feed → Judged (ended_lines before)
-    → (feed ≡ true → line_item (ended_lines before) (last_line before) ≡ GoesOn) → Judged (ended_lines (before ++ b ∷ []))
+judged_by : (feed : Bool) (before : List ℕ) (b : ℕ) → (b == 10) ≡ feed → StatusValue (ended_lines before)
+    → (feed ≡ true → line_item (ended_lines before) (last_line before) ≡ GoesOn) → StatusValue (ended_lines (before ++ b ∷ []))
 judged_by true before b e j line =
     let lines : ended_lines (before ++ b ∷ []) ≡ ended_lines before ++ last_line before ∷ [] = ap (λ (x : ℕ). ended_lines (before ++ x ∷ [])) (eqb-true b 10 e)
     ∙ ended_lines-lf before in
-    subst Judged (sym lines) (judged-push (ended_lines before) (last_line before) j (line refl))
-judged_by false before b e j line = subst Judged (sym (ended_lines-other before b e)) j
+    subst StatusValue (sym lines) (judged-push (ended_lines before) (last_line before) j (line refl))
+judged_by false before b e j line = subst StatusValue (sym (ended_lines-other before b e)) j
 
-judged-byte : (before : List ℕ) (b : ℕ) → Judged (ended_lines before) → pam_item before b ≡ GoesOn → Judged (ended_lines (before ++ b ∷ []))
+judged-byte : (before : List ℕ) (b : ℕ) → StatusValue (ended_lines before) → pam_item before b ≡ GoesOn → StatusValue (ended_lines (before ++ b ∷ []))
 judged-byte before b j e =
     judged_by (b == 10) before b refl j (goes_on_by (nat_le pam_limit (length before)) (b == 10) (line_item (ended_lines before) (last_line before))
     (sym (pam_item_is before b) ∙ e))
@@ -70,14 +70,14 @@ judged-byte before b j e =
 -- the bytes of a header that was read, but for the last LF
 record PamBody (piece : List ℕ) : Type 0 where
   pub body : List ℕ
-  pub judged : Judged (ended_lines body)
+  pub judged : StatusValue (ended_lines body)
   pub ends : line_kind (last_line body) ≡ End
   pub short : length body < pam_limit
   pub piece_is : piece ≡ body ++ 10 ∷ []
 
-body_by : (judgement : Judgement) (before : List ℕ) (b : ℕ) (text : List ℕ) (found : List ℕ × List ℕ) → pam_item before b ≡ judgement
-    → Judged (ended_lines before) → FoundBy pam_item header_end before b text found judgement
-    → (Judged (ended_lines (before ++ b ∷ [])) → piece_from pam_item header_end (before ++ b ∷ []) text ≡ Ok found → PamBody found.0) → PamBody found.0
+body_by : (scan_status : ScanStatus) (before : List ℕ) (b : ℕ) (text : List ℕ) (found : List ℕ × List ℕ) → pam_item before b ≡ scan_status
+    → StatusValue (ended_lines before) → FoundBy pam_item header_end before b text found scan_status
+    → (StatusValue (ended_lines (before ++ b ∷ [])) → piece_from pam_item header_end (before ++ b ∷ []) text ≡ Ok found → PamBody found.0) → PamBody found.0
 body_by (Fails fault) before b text found e j h more = absurd h
 body_by EndsWith before b text found e j h more =
     let parts = ends_with_by (nat_le pam_limit (length before)) (b == 10) (line_item (ended_lines before) (last_line before))
@@ -94,7 +94,7 @@ body_by EndsBefore before b text found e j h more =
     (ends_before_by (nat_le pam_limit (length before)) (b == 10) (line_item (ended_lines before) (last_line before)) (sym (pam_item_is before b) ∙ e)))
 body_by GoesOn before b text found e j h more = more (judged-byte before b j e) h
 
-body_is_read : (text before : List ℕ) (found : List ℕ × List ℕ) → Judged (ended_lines before) → piece_from pam_item header_end before text ≡ Ok found
+body_is_read : (text before : List ℕ) (found : List ℕ × List ℕ) → StatusValue (ended_lines before) → piece_from pam_item header_end before text ≡ Ok found
     → PamBody found.0
 body_is_read [] before found j e = let none = (found_at_end pam_item header_end before found e).0 in absurd cc
 body_is_read (b ∷ text) before found j e =
@@ -119,7 +119,7 @@ record PamRead (text : List ℕ) (head : HeadValue) (rest : List ℕ) : Type 0 w
   pub body : List ℕ
   pub ends : line_kind (last_line body) ≡ End
   pub short : length body < pam_limit
-  pub judged : Judged (ended_lines body)
+  pub judged : StatusValue (ended_lines body)
   pub whole : text ≡ 10 ∷ ((body ++ 10 ∷ []) ++ rest)
   pub made : MadeOf (ended_lines body) head
 
@@ -148,7 +148,7 @@ pam_parts text head rest e =
     (head, rest) feed.2 in
     let made = bind_ok (lines_item (ended_lines piece.0.0)) (λ found. Ok (found, piece.0.1)) (head, rest) piece.2 in
     let parts = both_are made.0 head piece.0.1 rest made.2 in
-    let read = body_is_read feed.0 [] piece.0 (subst Judged (sym no_lines) judged_none) piece.1 in
+    let read = body_is_read feed.0 [] piece.0 (subst StatusValue (sym no_lines) judged_none) piece.1 in
     let lines : lines_item (ended_lines piece.0.0) ≡ lines_item (ended_lines read.body) = lines_of_piece piece.0.0 read.body read.piece_is read.ends in
     let whole : feed.0 ≡ (read.body ++ 10 ∷ []) ++ rest =
     whole_after feed.0 piece.0 read.body rest (found_is_whole pam_item header_end feed.0 [] piece.0 piece.1) read.piece_is parts.1 in
@@ -223,13 +223,13 @@ ended_lines-feed : (prefix others : List ℕ) → ended_lines (prefix ++ 10 ∷ 
 ended_lines-feed prefix others = ended_after-feed [] prefix others
 
 -- a byte of such a body goes on
-byte_goes_on : (feed : Bool) (prefix : List ℕ) (b : ℕ) (others : List ℕ) → (b == 10) ≡ feed → Judged (ended_lines (prefix ++ b ∷ others))
+byte_goes_on : (feed : Bool) (prefix : List ℕ) (b : ℕ) (others : List ℕ) → (b == 10) ≡ feed → StatusValue (ended_lines (prefix ++ b ∷ others))
     → length (prefix ++ b ∷ others) < pam_limit → pam_item prefix b ≡ GoesOn
 byte_goes_on true prefix b others e j short =
     let long : nat_le pam_limit (length prefix) ≡ false = lt-leb pam_limit (length prefix) (omega (arith, length-append prefix (b ∷ others))) in
     let lines : ended_lines (prefix ++ b ∷ others) ≡ ended_lines prefix ++ last_line prefix ∷ ended_lines others =
     ap (λ (x : ℕ). ended_lines (prefix ++ x ∷ others)) (eqb-true b 10 e) ∙ ended_lines-feed prefix others in
-    pam_item_is prefix b ∙ rw (long, e) (line_goes_on (ended_lines prefix) (last_line prefix) (ended_lines others) (subst Judged lines j))
+    pam_item_is prefix b ∙ rw (long, e) (line_goes_on (ended_lines prefix) (last_line prefix) (ended_lines others) (subst StatusValue lines j))
 byte_goes_on false prefix b others e j short =
     let long : nat_le pam_limit (length prefix) ≡ false = lt-leb pam_limit (length prefix) (omega (arith, length-append prefix (b ∷ others))) in
     pam_item_is prefix b ∙ rw (long, e) refl
@@ -241,11 +241,11 @@ last_feed_ends body short ends =
     pam_item_is body 10 ∙ rw long (line_is_judged End (ended_lines body) (last_line body) ends)
 
 -- the body and its LF are read as the header's piece
-body_is_piece : (body rest : List ℕ) → Judged (ended_lines body) → length body < pam_limit → line_kind (last_line body) ≡ End
+body_is_piece : (body rest : List ℕ) → StatusValue (ended_lines body) → length body < pam_limit → line_kind (last_line body) ≡ End
     → piece_from pam_item header_end [] (body ++ 10 ∷ rest) ≡ Ok (body ++ 10 ∷ [], rest)
 body_is_piece body rest j short ends =
     goes_on_through pam_item header_end body [] body (10 ∷ rest) refl
-    (λ prefix b others e. byte_goes_on (b == 10) prefix b others refl (subst (λ (t : List ℕ). Judged (ended_lines t)) (sym e) j)
+    (λ prefix b others e. byte_goes_on (b == 10) prefix b others refl (subst (λ (t : List ℕ). StatusValue (ended_lines t)) (sym e) j)
     (subst (λ (t : List ℕ). length t < pam_limit) (sym e) short))
     ∙ piece_step pam_item header_end body 10 rest EndsWith (last_feed_ends body short ends)
 
@@ -301,7 +301,7 @@ single_values text format head s Depth = one_of (field_values Depth s.lines) hea
 single_values text format head s Maxval = one_of (field_values Maxval s.lines) head.shape.maxval s.maxval
 
 -- the lines of a header go on
-judged_lines : (text : List ℕ) (format : Format) (head : HeadValue) (s : SpellsPamHeader text format head) → Judged s.lines
+judged_lines : (text : List ℕ) (format : Format) (head : HeadValue) (s : SpellsPamHeader text format head) → StatusValue s.lines
 judged_lines text format head s =
     let suits : IsTupleType head.tuple_type = subst (λ (k : Kind). Suits k head.shape.depth head.shape.maxval head.tuple_type) s.kind s.sound.suits in
     let lengths : length (tuple_type_in s.lines) ≡ length head.tuple_type = ap (λ (l : List ℕ). length l) s.tuple_type in
@@ -315,12 +315,13 @@ short_body text body whole short =
     omega (arith, length-append body (10 ∷ []))
 
 -- the head is read of the body, its LF and what follows
-head_is_read : (body rest : List ℕ) (lines : List (List ℕ)) (last : List ℕ) (head : HeadValue) → ended_lines body ≡ lines → last_line body ≡ last → Judged lines
+head_is_read : (body rest : List ℕ) (lines : List (List ℕ)) (last : List ℕ) (head : HeadValue) → ended_lines body ≡ lines → last_line body ≡ last
+    → StatusValue lines
     → line_kind last ≡ End → length body < pam_limit → MadeOf lines head
     → pam_head_at (10 ∷ (body ++ 10 ∷ rest)) ≡ Ok (head, rest)
 unfolding pam_head_at line_feed_item
 head_is_read body rest lines last head e l judged ends short made =
-    let piece = body_is_piece body rest (subst Judged (sym e) judged) short (ap line_kind l ∙ ends) in
+    let piece = body_is_piece body rest (subst StatusValue (sym e) judged) short (ap line_kind l ∙ ends) in
     let found : lines_item (ended_lines (body ++ 10 ∷ [])) ≡ Ok head =
     lines_of_piece (body ++ 10 ∷ []) body refl (ap line_kind l ∙ ends) ∙ ap lines_item e ∙ made_is_found lines head made in
     rw (piece, found) refl

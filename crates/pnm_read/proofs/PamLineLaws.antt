@@ -8,8 +8,8 @@ use Rattle.std.proofs.lemmas.List.Sums.{AllPass-from_list_all, list_all-from_All
 use Rattle.std.proofs.lemmas.Slice.Eq.{bytes_eq-Decides}
 use Rattle.std.proofs.lemmas.Bool.{false_from_ne_true, not-false, ltb-false, le-ltb, eqb-false}
 use Rattle.pnm_read.specs.declared.fault.InputFault.TheVariants.{TooLong, BadNumber, BadPamLine, DuplicateField}
-use Rattle.pnm_read.specs.declared.judgement.Judgement.{Judgement}
-use Rattle.pnm_read.specs.declared.judgement.Judgement.TheVariants.{GoesOn, EndsWith, EndsBefore, Fails}
+use Rattle.pnm_read.specs.declared.scan_status.ScanStatus.{ScanStatus}
+use Rattle.pnm_read.specs.declared.scan_status.ScanStatus.TheVariants.{GoesOn, EndsWith, EndsBefore, Fails}
 use Rattle.pnm_read.specs.declared.line.Field.{Field}
 use Rattle.pnm_read.specs.declared.line.Field.TheVariants.{Width, Height, Depth, Maxval}
 use Rattle.pnm_read.specs.declared.line.LineKind.{LineKind}
@@ -135,7 +135,7 @@ tuple_type-end lines line k =
 
 -- ---- how a line is judged
 
-abbrev pub line_by : LineKind → List (List ℕ) → List ℕ → Judgement
+abbrev pub line_by : LineKind → List (List ℕ) → List ℕ → ScanStatus
 line_by kind lines line = elim kind [
   | Nothing ↦ GoesOn
   | Number field ↦ number_item lines field line
@@ -148,7 +148,7 @@ line_by kind lines line = elim kind [
 pub line_is_judged : (kind : LineKind) (lines : List (List ℕ)) (line : List ℕ) → line_kind line ≡ kind → line_item lines line ≡ line_by kind lines line
 line_is_judged kind lines line k = ap (λ (x : LineKind). line_by x lines line) k
 
-abbrev number_by : Bool → Bool → Bool → Judgement
+abbrev number_by : Bool → Bool → Bool → ScanStatus
 number_by none bad twice = if none then Fails BadPamLine else if bad then Fails BadNumber else if twice then Fails DuplicateField else GoesOn
 
 number_goes_on : (none bad twice : Bool) → number_by none bad twice ≡ GoesOn → (none ≡ false) × (bad ≡ false) × (twice ≡ false)
@@ -157,7 +157,7 @@ number_goes_on false true twice e = absurd cc
 number_goes_on false false true e = absurd cc
 number_goes_on false false false e = (refl, refl, refl)
 
-number_never_ends : (none bad twice : Bool) (j : Judgement) → number_by none bad twice ≡ j → (j ≡ EndsWith → ⊥) × (j ≡ EndsBefore → ⊥)
+number_never_ends : (none bad twice : Bool) (j : ScanStatus) → number_by none bad twice ≡ j → (j ≡ EndsWith → ⊥) × (j ≡ EndsBefore → ⊥)
 number_never_ends true bad twice j e = (λ h. cc, λ h. cc)
 number_never_ends false true twice j e = (λ h. cc, λ h. cc)
 number_never_ends false false true j e = (λ h. cc, λ h. cc)
@@ -167,7 +167,7 @@ type_goes_on : (long : Bool) → (if long then Fails TooLong else GoesOn) ≡ Go
 type_goes_on true e = absurd cc
 type_goes_on false e = refl
 
-type_never_ends : (long : Bool) (j : Judgement) → (if long then Fails TooLong else GoesOn) ≡ j → (j ≡ EndsWith → ⊥) × (j ≡ EndsBefore → ⊥)
+type_never_ends : (long : Bool) (j : ScanStatus) → (if long then Fails TooLong else GoesOn) ≡ j → (j ≡ EndsWith → ⊥) × (j ≡ EndsBefore → ⊥)
 type_never_ends true j e = (λ h. cc, λ h. cc)
 type_never_ends false j e = (λ h. cc, λ h. cc)
 
@@ -229,7 +229,7 @@ line_ends_with lines line e = never_before (line_kind line) lines line e
 abbrev pub MayStand : List ℕ → Type 0
 MayStand line = MaySay (line_kind line) line
 
-pub record Judged (lines : List (List ℕ)) : Type 0 where
+pub record StatusValue (lines : List (List ℕ)) : Type 0 where
   pub say : AllByRecursion MayStand lines
   pub single : (field : Field) → length (field_values field lines) ≤ 1
   pub short : length (tuple_type_in lines) ≤ MAX_TUPLE_TYPE_LENGTH
@@ -257,14 +257,14 @@ short_by true lines line b e short =
 short_by false lines line b e short = let lengths = ap (λ (l : List ℕ). length l) (tuple_type-other lines line b) in omega arith
 
 -- with one line more that goes on
-pub judged-push : (lines : List (List ℕ)) (line : List ℕ) → Judged lines → line_item lines line ≡ GoesOn → Judged (lines ++ line ∷ [])
+pub judged-push : (lines : List (List ℕ)) (line : List ℕ) → StatusValue lines → line_item lines line ≡ GoesOn → StatusValue (lines ++ line ∷ [])
 judged-push lines line j e = record {
   say = each-push MayStand lines line j.say (says_by (line_kind line) lines line e);
   single = λ field. single_by (begins_with (name_of field) line) field lines line refl e (j.single field);
   short = short_by (begins_with (codes "TUPLTYPE") line) lines line refl e j.short;
 }
 
-pub judged_none : Judged []
+pub judged_none : StatusValue []
 judged_none = record {
   say = tt;
   single = λ field. let lengths = ap (λ (l : List ℕ). length l) (no_values field) in omega arith;
@@ -303,7 +303,7 @@ tuple_type_so_far earlier line later short =
     omega arith
 
 goes_on_by : (kind : LineKind) (earlier : List (List ℕ)) (line : List ℕ) (later : List (List ℕ)) → line_kind line ≡ kind → MaySay kind line
-    → Judged (earlier ++ line ∷ later) → line_by kind earlier line ≡ GoesOn
+    → StatusValue (earlier ++ line ∷ later) → line_by kind earlier line ≡ GoesOn
 goes_on_by Nothing earlier line later k says j = refl
 goes_on_by (Number field) earlier line later k says j =
     let first = first_of_field field earlier line later (begins_with_name field line k) (j.single field) in
@@ -313,5 +313,5 @@ goes_on_by TupleType earlier line later k says j =
 goes_on_by End earlier line later k says j = absurd says
 goes_on_by Unknown earlier line later k says j = absurd says
 
-pub line_goes_on : (earlier : List (List ℕ)) (line : List ℕ) (later : List (List ℕ)) → Judged (earlier ++ line ∷ later) → line_item earlier line ≡ GoesOn
+pub line_goes_on : (earlier : List (List ℕ)) (line : List ℕ) (later : List (List ℕ)) → StatusValue (earlier ++ line ∷ later) → line_item earlier line ≡ GoesOn
 line_goes_on earlier line later j = goes_on_by (line_kind line) earlier line later refl (each-middle MayStand earlier line later j.say) j

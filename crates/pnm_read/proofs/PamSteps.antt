@@ -7,8 +7,8 @@ use Rattle.std.proofs.lemmas.List.{length-append}
 use Rattle.pnm_image.specs.Heads.{HeadValue, IsTupleType}
 use Rattle.pnm_read.specs.declared.fault.InputFault.{InputFault}
 use Rattle.pnm_read.specs.declared.fault.InputFault.TheVariants.{ReadFailed}
-use Rattle.pnm_read.specs.declared.judgement.Judgement.{Judgement}
-use Rattle.pnm_read.specs.declared.judgement.Judgement.TheVariants.{GoesOn, EndsWith, EndsBefore, Fails}
+use Rattle.pnm_read.specs.declared.scan_status.ScanStatus.{ScanStatus}
+use Rattle.pnm_read.specs.declared.scan_status.ScanStatus.TheVariants.{GoesOn, EndsWith, EndsBefore, Fails}
 use Rattle.pnm_read.specs.declared.fields.Fields.{Fields}
 use Rattle.pnm_read.specs.declared.pam.PamScanner.{PamScanner}
 use Rattle.pnm_read.specs.PamLines.{ended_after, ended_lines, last_after, last_line}
@@ -53,7 +53,7 @@ pam_goes_on old new b lt other l line fields before a =
     )
 
 -- what is taken with a LF
-feed_taken : (new : PamScanner) (j : Judgement) (before : List ℕ) → new.length ≡ length before + 1 → new.line.items ≡ []
+feed_taken : (new : PamScanner) (j : ScanStatus) (before : List ℕ) → new.length ≡ length before + 1 → new.line.items ≡ []
     → TakesLine new.fields j (ended_lines before ++ last_line before ∷ []) → TakesJudged (IsPamAfter new) (IsPamWhole new) j before 10
 feed_taken new GoesOn before l line t = record {
   length_is = l ∙ sym (length-append before (10 ∷ []));
@@ -65,14 +65,14 @@ feed_taken new EndsBefore before l line t = absurd t
 feed_taken new (Fails k) before l line t = tt
 
 -- the judgement of a LF is that of its line
-feed_judged : (old : PamScanner) (line : List ℕ) (j : Judgement) (before : List ℕ) → old.length < pam_limit → line ≡ old.line.items → IsPamAfter old before
+feed_judged : (old : PamScanner) (line : List ℕ) (j : ScanStatus) (before : List ℕ) → old.length < pam_limit → line ≡ old.line.items → IsPamAfter old before
     → j ≡ line_item (ended_lines before) line → j ≡ pam_item before 10
 feed_judged old line j before lt is a judged =
     judged ∙ ap (line_item (ended_lines before)) (is ∙ a.line)
     ∙ sym (pam_item_is before 10 ∙ ap (λ (long : Bool). pam_by long (10 == 10) (line_item (ended_lines before) (last_line before))) (is_short old before a lt))
 
 -- a LF was judged and taken
-feed : (old new : PamScanner) (line : List ℕ) (j : Judgement) → old.length < pam_limit → new.length ≡ old.length + 1 → line ≡ old.line.items
+feed : (old new : PamScanner) (line : List ℕ) (j : ScanStatus) → old.length < pam_limit → new.length ≡ old.length + 1 → line ≡ old.line.items
     → new.line.items ≡ [] → JudgesLine old.fields line new.fields j
     → JudgesByte pam_item (IsPamAfter old) (IsPamAfter new) (IsPamWhole new) 10 j
 feed old new line j lt l is none judges before a =
@@ -86,7 +86,7 @@ feed old new line j lt l is none judges before a =
     ]
 
 -- a LF, after which the line is judged
-pub pam_feed : (old new : PamScanner) (b : ℕ) (line : List ℕ) (j : Judgement) → old.length < pam_limit → b ≡ 10 → new.length ≡ old.length + 1
+pub pam_feed : (old new : PamScanner) (b : ℕ) (line : List ℕ) (j : ScanStatus) → old.length < pam_limit → b ≡ 10 → new.length ≡ old.length + 1
     → line ≡ old.line.items → new.line.items ≡ [] → JudgesLine old.fields line new.fields j
     → JudgesByte pam_item (IsPamAfter old) (IsPamAfter new) (IsPamWhole new) b j
 pam_feed old new b line j lt e l is none judges = subst (λ (b : ℕ). JudgesByte pam_item (IsPamAfter old) (IsPamAfter new) (IsPamWhole new) b j) (sym e)

@@ -4,48 +4,48 @@ use Rattle.std.proofs.lemmas.List.{append-nil}
 use Rattle.pnm_read.specs.declared.fault.InputFault.{InputFault}
 use Rattle.pnm_read.specs.Items.{◌>>=◌}
 use Rattle.pnm_read.specs.Said.{in_turn}
-use Rattle.pnm_read.proofs.UnitLaws.{turned, and_turns, in_turn-add, none_before, after_both}
+use Rattle.pnm_read.proofs.UnitLaws.{items_of, and_items, in_turn-add, none_before, after_both}
 
-pub all_are_left : {A : Type 0} (item : List ℕ → Result (A × List ℕ) InputFault) (n : ℕ) (text : List ℕ) → in_turn item n text ≡ and_turns item n [] text
+pub all_are_left : {A : Type 0} (item : List ℕ → Result (A × List ℕ) InputFault) (n : ℕ) (text : List ℕ) → in_turn item n text ≡ and_items item n [] text
 all_are_left item n text = none_before (in_turn item n text)
 
 -- so many more were found
 some_are_read : {A : Type 0} (item : List ℕ → Result (A × List ℕ) InputFault) (n more : ℕ) (items found : List A) (text rest : List ℕ)
     → in_turn item n text ≡ Ok (found, rest)
-    → and_turns item (n + more) items text ≡ and_turns item more (items ++ found) rest
+    → and_items item (n + more) items text ≡ and_items item more (items ++ found) rest
 some_are_read item n more items found text rest e =
-    ap (λ r. r >>= λ others. turned (items ++ others.0) others.1)
-    (in_turn-add item n more text ∙ ap (λ r. r >>= λ first. and_turns item more first.0 first.1) e)
+    ap (λ r. r >>= λ others. items_of (items ++ others.0) others.1)
+    (in_turn-add item n more text ∙ ap (λ r. r >>= λ first. and_items item more first.0 first.1) e)
     ∙ after_both items found (in_turn item more rest)
 
 -- one of them is at fault
 some_fail : {A : Type 0} (item : List ℕ → Result (A × List ℕ) InputFault) (n more : ℕ) (items : List A) (text : List ℕ) (k : InputFault)
-    → in_turn item n text ≡ Err k → and_turns item (n + more) items text ≡ Err k
+    → in_turn item n text ≡ Err k → and_items item (n + more) items text ≡ Err k
 some_fail item n more items text k e =
-    ap (λ r. r >>= λ others. turned (items ++ others.0) others.1)
-    (in_turn-add item n more text ∙ ap (λ r. r >>= λ first. and_turns item more first.0 first.1) e)
+    ap (λ r. r >>= λ others. items_of (items ++ others.0) others.1)
+    (in_turn-add item n more text ∙ ap (λ r. r >>= λ first. and_items item more first.0 first.1) e)
 
 -- all were read
 pub none_are_left : {A : Type 0} (item : List ℕ → Result (A × List ℕ) InputFault) (items : List A) (text : List ℕ)
-    → and_turns item zero items text ≡ Ok (items, text)
+    → and_items item zero items text ≡ Ok (items, text)
 unfolding in_turn
-none_are_left item items text = ap (λ l. turned l text) (append-nil items)
+none_are_left item items text = ap (λ l. items_of l text) (append-nil items)
 
 -- ---- a part of the items that are left
 
 pub part_fails : {A : Type 0} (item : List ℕ → Result (A × List ℕ) InputFault) (all more n : ℕ) (items : List A) (text now : List ℕ) (k : InputFault) → n ≤ more
     → in_turn item n now ≡ Err k
-    → in_turn item all text ≡ and_turns item more items now → in_turn item all text ≡ Err k
+    → in_turn item all text ≡ and_items item more items now → in_turn item all text ≡ Err k
 part_fails item all more n items text now k most e known =
     let split : more ≡ n + (more - n) = omega arith in
-    known ∙ ap (λ (m : ℕ). and_turns item m items now) split ∙ some_fail item n (more - n) items now k e
+    known ∙ ap (λ (m : ℕ). and_items item m items now) split ∙ some_fail item n (more - n) items now k e
 
 pub part_is_read : {A : Type 0} (item : List ℕ → Result (A × List ℕ) InputFault) (all more n : ℕ) (items found : List A) (text now rest : List ℕ) → n ≤ more
     → in_turn item n now ≡ Ok (found, rest)
-    → in_turn item all text ≡ and_turns item more items now → in_turn item all text ≡ and_turns item (more - n) (items ++ found) rest
+    → in_turn item all text ≡ and_items item more items now → in_turn item all text ≡ and_items item (more - n) (items ++ found) rest
 part_is_read item all more n items found text now rest most e known =
     let split : more ≡ n + (more - n) = omega arith in
-    known ∙ ap (λ (m : ℕ). and_turns item m items now) split ∙ some_are_read item n (more - n) items found now rest e
+    known ∙ ap (λ (m : ℕ). and_items item m items now) split ∙ some_are_read item n (more - n) items found now rest e
 
 -- ---- one item
 

@@ -18,7 +18,7 @@ use Rattle.pnm_read.specs.RawParts.{AppendsWide, FindsPart}
 use Rattle.pnm_read.specs.Units.{samples_of_bytes, AreBytesWithin}
 use Rattle.pnm_read.proofs.UnitLaws.{unit_bytes, bytes_are_units, bytes_are_at_fault, words_are_units, words_are_at_fault}
 use Rattle.pnm_read.proofs.RawSteps.{cut_at_first}
-use Rattle.pnm_read.proofs.Turns.{no_fault, IsLeft, turn_ok_so, turn_seen, turn_advance}
+use Rattle.pnm_read.proofs.ReadCalls.{no_fault, IsLeft, call_ok_so, call_seen, call_advance}
 
 -- ---- bytes that are units
 
@@ -64,7 +64,7 @@ pub bytes_cut : {R : Type 0} {left : R → Option (List ℕ)} {failures : R → 
     → ReadCall {A = ℕ} left failures same old new (Ok count) (Reads target (Ok count)) → count ≡ 0 → 0 < most
     → ReadCall {A = ℕ} left failures same old new (Err RasterCut) (FindsPart p maxval most part samples (Err RasterCut))
 bytes_cut p maxval most count target part samples t none some =
-    turn_ok_so {A = ℕ} {B = ℕ} count (Err RasterCut) (λ e. absurd cc) (λ b a o.
+    call_ok_so {A = ℕ} {B = ℕ} count (Err RasterCut) (λ e. absurd cc) (λ b a o.
     let prefix : take count target ≡ [] = ap (λ (n : ℕ). take n target) none in
     let empty : b ≡ [] = o.0 ∙ ap₂ (λ (x y : List ℕ). x ++ y) prefix (o.2 none) in
     inl (1, omega arith, cut_at_first p maxval b (omega (arith, some_bytes p, ap (λ (l : List ℕ). length l) empty))))
@@ -76,7 +76,7 @@ pub bytes_above : {R : Type 0} {left : R → Option (List ℕ)} {failures : R �
     → (AreBytesWithin p maxval (take count target) → ⊥)
     → ReadCall {A = ℕ} left failures same old new (Err SampleAboveMaxval) (FindsPart p maxval most part samples (Err SampleAboveMaxval))
 bytes_above p maxval most count target part samples t size n above =
-    turn_ok_so {A = ℕ} {B = ℕ} count (Err SampleAboveMaxval) (λ e. absurd cc) (λ b a o.
+    call_ok_so {A = ℕ} {B = ℕ} count (Err SampleAboveMaxval) (λ e. absurd cc) (λ b a o.
     let fits : count ≤ most = omega (arith, o.1) in
     let prefix : length (take count target) ≡ count = length-take-le count target o.1 in
     inl (
@@ -93,7 +93,7 @@ pub bytes_read : {R : Type 0} {left : R → Option (List ℕ)} {failures : R →
     → AreBytesWithin p maxval (take count target) → samples count ≡ samples_of_bytes p (take count target)
     → ReadCall {A = ℕ} left failures same old new (Ok count) (FindsPart p maxval most [] samples (Ok count))
 bytes_read p maxval most count target samples t size n within are =
-    turn_ok_so {A = ℕ} {B = ℕ} count (Ok count) (no_fault count ReadFailed) (λ b a o.
+    call_ok_so {A = ℕ} {B = ℕ} count (Ok count) (no_fault count ReadFailed) (λ b a o.
     let prefix : length (take count target) ≡ count = length-take-le count target o.1 in
     let units = bytes_are_units p maxval (take count target) a n within in (
       units.0,
@@ -118,8 +118,8 @@ pub words_cut : {R : Type 0} {left : R → Option (List ℕ)} {failures : R → 
     → ReadCall {A = ℕ} left failures same old mid (Err RasterCut) (FindsPart Words maxval most part samples (Err RasterCut))
 words_cut {mid = mid} maxval most bytes part samples t enough is_held none some =
     let lt : length (held_of mid) < 2 = omega (arith, ap (λ (l : List ℕ). length l) is_held) in
-    turn_ok_so {A = Unit {0}} {B = ℕ} tt (Err RasterCut) (λ e. absurd cc)
-    (λ b a o. inl (1, omega arith, cut_at_first Words maxval b (subst (λ (l : List ℕ). length l < 2) (sym o.0) (short_left mid a enough lt o.1)))) (turn_seen t)
+    call_ok_so {A = Unit {0}} {B = ℕ} tt (Err RasterCut) (λ e. absurd cc)
+    (λ b a o. inl (1, omega arith, cut_at_first Words maxval b (subst (λ (l : List ℕ). length l < 2) (sym o.0) (short_left mid a enough lt o.1)))) (call_seen t)
 
 -- the first bytes of what is left
 parts_left : {R : Type 0} (count : ℕ) (input : BufferedReader R) (text rest : List ℕ) → text ≡ held_of input ++ rest
@@ -133,10 +133,10 @@ pub words_fail : {R : Type 0} {left : R → Option (List ℕ)} {failures : R →
     → AppendsWide maxval (take (n * 2) (held_of mid)) row grown (Err k)
     → ReadCall {A = ℕ} left failures same old mid (Err k) (FindsPart Words maxval most part samples (Err k))
 words_fail maxval most n k row grown part samples t le fits (inl memory) =
-    turn_ok_so {A = Unit {0}} {B = ℕ} tt (Err k) (λ e. absurd (let read : k ≡ ReadFailed = cc in let other : ReadFailed ≡ Memory = sym read ∙ memory in cc))
+    call_ok_so {A = Unit {0}} {B = ℕ} tt (Err k) (λ e. absurd (let read : k ≡ ReadFailed = cc in let other : ReadFailed ≡ Memory = sym read ∙ memory in cc))
     (λ b a o. inr (inr memory)) t
 words_fail {mid = mid} maxval most n k row grown part samples t le fits (inr above) =
-    turn_ok_so {A = Unit {0}} {B = ℕ} tt (Err k)
+    call_ok_so {A = Unit {0}} {B = ℕ} tt (Err k)
     (λ e. absurd (let read : k ≡ ReadFailed = cc in let other : ReadFailed ≡ SampleAboveMaxval = sym read ∙ above.0 in cc)) (λ b a o.
     let count : length (take (n * 2) (held_of mid)) ≡ n * 2 = length-take-le (n * 2) (held_of mid) fits in
     inl (
@@ -146,7 +146,7 @@ words_fail {mid = mid} maxval most n k row grown part samples t le fits (inr abo
           ∙ words_are_at_fault maxval n (take (n * 2) (held_of mid)) (drop (n * 2) (held_of mid) ++ o.1.0) count above.1
           ∙ ap (λ (f : InputFault). Err f) (sym above.0),
     ))
-    (turn_seen t)
+    (call_seen t)
 
 pub words_read : {R : Type 0} {left : R → Option (List ℕ)} {failures : R → ℕ} {same : R → R → Type 0} {old mid new : BufferedReader R} (maxval most n : ℕ)
     (row grown : List ℕ)
@@ -156,7 +156,7 @@ pub words_read : {R : Type 0} {left : R → Option (List ℕ)} {failures : R →
     → ReadCall {A = ℕ} left failures same old new (Ok n) (FindsPart Words maxval most row (λ _. grown) (Ok n))
 words_read {mid = mid} maxval most n row grown t le fits appends reader ended held =
     let count : length (take (n * 2) (held_of mid)) ≡ n * 2 = length-take-le (n * 2) (held_of mid) fits in
-    turn_advance {A = Unit {0}} {B = ℕ} tt (Ok n) (n * 2) (no_fault n ReadFailed) reader ended held (λ b rest c o.
+    call_advance {A = Unit {0}} {B = ℕ} tt (Ok n) (n * 2) (no_fault n ReadFailed) reader ended held (λ b rest c o.
     let units = words_are_units maxval n (take (n * 2) (held_of mid)) row grown (drop (n * 2) (held_of mid) ++ rest) count appends in (
       units.0,
       units.1,

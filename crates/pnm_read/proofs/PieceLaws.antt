@@ -9,9 +9,9 @@ use Rattle.std.proofs.lemmas.Int.Digits.{digits_value_push}
 use Rattle.std.proofs.lemmas.List.Elements.{filter-append, All-head, All-tail, All-push}
 use Rattle.pnm_read.specs.declared.fault.InputFault.{InputFault}
 use Rattle.pnm_read.specs.declared.fault.InputFault.TheVariants.{TooLong, BadSample}
-use Rattle.pnm_read.specs.declared.judgement.Judgement.{Judgement}
-use Rattle.pnm_read.specs.declared.judgement.Judgement.TheVariants.{GoesOn, EndsWith, EndsBefore, Fails}
-use Rattle.pnm_read.specs.Texts.{is_line_end, is_apart, ends_by, commented, commented_after, ends_in_comment, uncommented_from, uncommented, number_in}
+use Rattle.pnm_read.specs.declared.scan_status.ScanStatus.{ScanStatus}
+use Rattle.pnm_read.specs.declared.scan_status.ScanStatus.TheVariants.{GoesOn, EndsWith, EndsBefore, Fails}
+use Rattle.pnm_read.specs.HeaderTexts.{is_line_end, is_apart, ends_by, commented, commented_after, ends_in_comment, uncommented_from, uncommented, number_in}
 use Rattle.pnm_image.specs.Texts.{is_white, is_digit, decimal_value}
 use Rattle.pnm_read.specs.Rasters.{IsGap}
 use Rattle.pnm_read.specs.Items.{◌>>=◌, piece_from, ends_in_digit, is_complete, decimal_item, is_pixel, pixel_item}
@@ -70,7 +70,7 @@ if_ok true x y fault e = (refl, ok_is x y e)
 if_ok false x y fault e = absurd cc
 
 -- the piece that goes on, or ends, as a byte is judged
-abbrev pub piece_by : (List ℕ → ℕ → Judgement) → (List ℕ → Option InputFault) → List ℕ → ℕ → List ℕ → Judgement → Result (List ℕ × List ℕ) InputFault
+abbrev pub piece_by : (List ℕ → ℕ → ScanStatus) → (List ℕ → Option InputFault) → List ℕ → ℕ → List ℕ → ScanStatus → Result (List ℕ × List ℕ) InputFault
 piece_by item at_end before b text j = elim j [
   | Fails fault ↦ Err fault
   | EndsWith ↦ Ok (before ++ b ∷ [], text)
@@ -79,21 +79,21 @@ piece_by item at_end before b text j = elim j [
 ]
 
 -- a piece from a byte on is as the byte is judged
-pub piece_step : (item : List ℕ → ℕ → Judgement) (at_end : List ℕ → Option InputFault) (before : List ℕ) (b : ℕ) (text : List ℕ) (j : Judgement)
+pub piece_step : (item : List ℕ → ℕ → ScanStatus) (at_end : List ℕ → Option InputFault) (before : List ℕ) (b : ℕ) (text : List ℕ) (j : ScanStatus)
     → item before b ≡ j
     → piece_from item at_end before (b ∷ text) ≡ piece_by item at_end before b text j
 unfolding piece_from
 piece_step item at_end before b text j e = ap (piece_by item at_end before b text) e
 
 -- what was found of a byte and what follows it: how the byte was judged, and what was found then
-abbrev pub FoundBy : (List ℕ → ℕ → Judgement) → (List ℕ → Option InputFault) → List ℕ → ℕ → List ℕ → List ℕ × List ℕ → Judgement → Type 0
+abbrev pub FoundBy : (List ℕ → ℕ → ScanStatus) → (List ℕ → Option InputFault) → List ℕ → ℕ → List ℕ → List ℕ × List ℕ → ScanStatus → Type 0
 FoundBy item at_end before b text found (Fails fault) = ⊥
 FoundBy item at_end before b text found EndsWith = (before ++ b ∷ [], text) ≡ found
 FoundBy item at_end before b text found EndsBefore = (before, b ∷ text) ≡ found
 FoundBy item at_end before b text found GoesOn = piece_from item at_end (before ++ b ∷ []) text ≡ Ok found
 
-found_by : (item : List ℕ → ℕ → Judgement) (at_end : List ℕ → Option InputFault) (before : List ℕ) (b : ℕ) (text : List ℕ) (found : List ℕ × List ℕ)
-    (j : Judgement)
+found_by : (item : List ℕ → ℕ → ScanStatus) (at_end : List ℕ → Option InputFault) (before : List ℕ) (b : ℕ) (text : List ℕ) (found : List ℕ × List ℕ)
+    (j : ScanStatus)
     → piece_by item at_end before b text j ≡ Ok found → FoundBy item at_end before b text found j
 found_by item at_end before b text found (Fails fault) e = cc
 found_by item at_end before b text found EndsWith e = ok_is (before ++ b ∷ [], text) found e
@@ -101,7 +101,7 @@ found_by item at_end before b text found EndsBefore e = ok_is (before, b ∷ tex
 found_by item at_end before b text found GoesOn e = e
 
 -- what a step found
-pub found_from : (item : List ℕ → ℕ → Judgement) (at_end : List ℕ → Option InputFault) (before : List ℕ) (b : ℕ) (text : List ℕ) (found : List ℕ × List ℕ)
+pub found_from : (item : List ℕ → ℕ → ScanStatus) (at_end : List ℕ → Option InputFault) (before : List ℕ) (b : ℕ) (text : List ℕ) (found : List ℕ × List ℕ)
     → piece_from item at_end before (b ∷ text) ≡ Ok found → FoundBy item at_end before b text found (item before b)
 unfolding piece_from
 found_from item at_end before b text found e = found_by item at_end before b text found (item before b) e
@@ -116,20 +116,20 @@ ended_with : (at_end : Option InputFault) (before : List ℕ) (found : List ℕ 
 ended_with (Some fault) before found e = absurd cc
 ended_with None before found e = (refl, ok_is (before, []) found e)
 
-pub found_at_end : (item : List ℕ → ℕ → Judgement) (at_end : List ℕ → Option InputFault) (before : List ℕ) (found : List ℕ × List ℕ)
+pub found_at_end : (item : List ℕ → ℕ → ScanStatus) (at_end : List ℕ → Option InputFault) (before : List ℕ) (found : List ℕ × List ℕ)
     → piece_from item at_end before [] ≡ Ok found → (at_end before ≡ None) × ((before, []) ≡ found)
 unfolding piece_from
 found_at_end item at_end before found e = ended_with (at_end before) before found e
 
 -- a piece ends where the text does, if that is no fault
-pub piece_ends : (item : List ℕ → ℕ → Judgement) (at_end : List ℕ → Option InputFault) (before : List ℕ) → at_end before ≡ None
+pub piece_ends : (item : List ℕ → ℕ → ScanStatus) (at_end : List ℕ → Option InputFault) (before : List ℕ) → at_end before ≡ None
     → piece_from item at_end before [] ≡ Ok (before, [])
 unfolding piece_from
 piece_ends item at_end before e = ap (piece_at_end before) e
 
 -- a piece and its rest are the whole text
-whole_by : (item : List ℕ → ℕ → Judgement) (at_end : List ℕ → Option InputFault) (before : List ℕ) (b : ℕ) (text : List ℕ) (found : List ℕ × List ℕ)
-    (j : Judgement)
+whole_by : (item : List ℕ → ℕ → ScanStatus) (at_end : List ℕ → Option InputFault) (before : List ℕ) (b : ℕ) (text : List ℕ) (found : List ℕ × List ℕ)
+    (j : ScanStatus)
     → (piece_from item at_end (before ++ b ∷ []) text ≡ Ok found → (before ++ b ∷ []) ++ text ≡ found.0 ++ found.1) → FoundBy item at_end before b text found j
     → before ++ b ∷ text ≡ found.0 ++ found.1
 whole_by item at_end before b text found (Fails fault) on h = absurd h
@@ -137,7 +137,7 @@ whole_by item at_end before b text found EndsWith on h = sym (append_assoc befor
 whole_by item at_end before b text found EndsBefore on h = ap (λ (f : List ℕ × List ℕ). f.0 ++ f.1) h
 whole_by item at_end before b text found GoesOn on h = sym (append_assoc before (b ∷ []) text) ∙ on h
 
-pub found_is_whole : (item : List ℕ → ℕ → Judgement) (at_end : List ℕ → Option InputFault) (text before : List ℕ) (found : List ℕ × List ℕ)
+pub found_is_whole : (item : List ℕ → ℕ → ScanStatus) (at_end : List ℕ → Option InputFault) (text before : List ℕ) (found : List ℕ × List ℕ)
     → piece_from item at_end before text ≡ Ok found → before ++ text ≡ found.0 ++ found.1
 found_is_whole item at_end [] before found e = ap (λ (f : List ℕ × List ℕ). f.0 ++ f.1) (found_at_end item at_end before found e).1
 found_is_whole item at_end (b ∷ text) before found e =
@@ -206,16 +206,16 @@ gap-push before b h all = white_by (ends_in_comment before) before b refl h all
 -- ---- over a gap
 
 -- a byte of a gap lets the piece go on
-abbrev pub GoesOverGaps : (List ℕ → ℕ → Judgement) → Type 0
+abbrev pub GoesOverGaps : (List ℕ → ℕ → ScanStatus) → Type 0
 GoesOverGaps item = (before : List ℕ) (b : ℕ) → length before < GAP_LIMIT → ends_in_digit before ≡ false → in_gap (ends_in_comment before) b ≡ true
     → item before b ≡ GoesOn
 
 -- what holds after a gap: the piece goes on, and doesn't end in a digit
-abbrev pub AfterGap : (List ℕ → ℕ → Judgement) → (List ℕ → Option InputFault) → List ℕ → List ℕ → List ℕ → Type 0
+abbrev pub AfterGap : (List ℕ → ℕ → ScanStatus) → (List ℕ → Option InputFault) → List ℕ → List ℕ → List ℕ → Type 0
 AfterGap item at_end before gap rest = (piece_from item at_end before (gap ++ rest) ≡ piece_from item at_end (before ++ gap) rest)
     × (ends_in_digit (before ++ gap) ≡ false)
 
-pub over_gap : (item : List ℕ → ℕ → Judgement) (at_end : List ℕ → Option InputFault) → GoesOverGaps item → (gap before rest : List ℕ)
+pub over_gap : (item : List ℕ → ℕ → ScanStatus) (at_end : List ℕ → Option InputFault) → GoesOverGaps item → (gap before rest : List ℕ)
     → ends_in_digit before ≡ false
     → AllPass is_white (uncommented_from (ends_in_comment before) gap) → length before + length gap ≤ GAP_LIMIT → AfterGap item at_end before gap rest
 over_gap item at_end on [] before rest out white short =
@@ -240,7 +240,7 @@ unfolding commented_after ends_by
 nothing_ends = refl
 
 -- a whole gap is gone over
-pub over_whole_gap : (item : List ℕ → ℕ → Judgement) (at_end : List ℕ → Option InputFault) → GoesOverGaps item → (gap rest : List ℕ) → IsGap gap
+pub over_whole_gap : (item : List ℕ → ℕ → ScanStatus) (at_end : List ℕ → Option InputFault) → GoesOverGaps item → (gap rest : List ℕ) → IsGap gap
     → length gap ≤ GAP_LIMIT → AfterGap item at_end [] gap rest
 unfolding commented_after
 over_whole_gap item at_end on gap rest g short = over_gap item at_end on gap [] rest nothing_ends g.white (omega arith)
@@ -248,7 +248,7 @@ over_whole_gap item at_end on gap rest g short = over_gap item at_end on gap [] 
 -- ---- bytes of a number
 
 -- how a byte of a number, or of the gap before it, is judged by three tests
-abbrev pub decimal_by : Bool → Bool → Bool → Judgement
+abbrev pub decimal_by : Bool → Bool → Bool → ScanStatus
 decimal_by long bad complete = if long && not complete then Fails TooLong else if bad then Fails BadSample else if complete then EndsBefore else GoesOn
 
 -- a byte that cannot stand in a plain raster of numbers
@@ -275,7 +275,7 @@ decimal_ends_before before b good end =
     decimal_item_is before b ∙ ends_before_by (nat_le GAP_LIMIT (length before)) (is_bad_in_decimal (ends_in_comment before) b) (is_complete before b) good end
 
 -- the tests, from each judgement
-abbrev DecimalTests : Bool → Bool → Bool → Judgement → Type 0
+abbrev DecimalTests : Bool → Bool → Bool → ScanStatus → Type 0
 DecimalTests long bad complete (Fails fault) = Unit {0}
 DecimalTests long bad complete EndsWith = ⊥
 DecimalTests long bad complete EndsBefore = (bad ≡ false) × (complete ≡ true)
@@ -291,7 +291,7 @@ decimal_tests false false true = (refl, refl)
 decimal_tests false false false = (refl, refl, refl)
 
 -- what a judgement of a byte of a number tells
-abbrev pub DecimalTold : List ℕ → ℕ → Judgement → Type 0
+abbrev pub DecimalTold : List ℕ → ℕ → ScanStatus → Type 0
 DecimalTold before b j = DecimalTests (nat_le GAP_LIMIT (length before)) (is_bad_in_decimal (ends_in_comment before) b) (is_complete before b) j
 
 pub decimal_told : (before : List ℕ) (b : ℕ) → DecimalTold before b (decimal_item before b)
@@ -301,7 +301,7 @@ decimal_told before b =
 
 -- ---- bytes of a pixel
 
-abbrev pub pixel_by : Bool → Bool → Bool → Judgement
+abbrev pub pixel_by : Bool → Bool → Bool → ScanStatus
 pixel_by long bad pixel = if long then Fails TooLong else if bad then Fails BadSample else if pixel then EndsWith else GoesOn
 
 -- a byte that cannot stand in a plain raster of pixels
@@ -321,7 +321,7 @@ pub pixel_ends_with : (before : List ℕ) (b : ℕ) → length before < GAP_LIMI
     → (not (ends_in_comment before) && is_pixel b) ≡ true → pixel_item before b ≡ EndsWith
 pixel_ends_with before b short good end = pixel_item_is before b ∙ rw (lt-leb GAP_LIMIT (length before) short, good, end) refl
 
-abbrev PixelTests : Bool → Bool → Bool → Judgement → Type 0
+abbrev PixelTests : Bool → Bool → Bool → ScanStatus → Type 0
 PixelTests long bad pixel (Fails fault) = Unit {0}
 PixelTests long bad pixel EndsWith = (long ≡ false) × (bad ≡ false) × (pixel ≡ true)
 PixelTests long bad pixel EndsBefore = ⊥
@@ -334,7 +334,7 @@ pixel_tests false false true = (refl, refl, refl)
 pixel_tests false false false = (refl, refl, refl)
 
 -- what a judgement of a byte of a pixel's piece tells
-abbrev pub PixelTold : List ℕ → ℕ → Judgement → Type 0
+abbrev pub PixelTold : List ℕ → ℕ → ScanStatus → Type 0
 PixelTold before b j = PixelTests (nat_le GAP_LIMIT (length before)) (is_bad_in_pixels (ends_in_comment before) b) (not (ends_in_comment before) && is_pixel b)
     j
 

@@ -3,10 +3,10 @@ use Rattle.std.proofs.Common.{◌≡◌, inl, ℕ, ◌+◌, Bool, true, false, �
 use Rattle.std.proofs.lemmas.Bool.{and_parts}
 use Rattle.std.proofs.lemmas.Bool.Decides.{nat_tests}
 use Rattle.std.proofs.lemmas.List.{length-append}
-use Rattle.pnm_read.specs.declared.judgement.Judgement.{Judgement}
-use Rattle.pnm_read.specs.declared.judgement.Judgement.TheVariants.{GoesOn, EndsWith, EndsBefore}
+use Rattle.pnm_read.specs.declared.scan_status.ScanStatus.{ScanStatus}
+use Rattle.pnm_read.specs.declared.scan_status.ScanStatus.TheVariants.{GoesOn, EndsWith, EndsBefore}
 use Rattle.pnm_read.specs.declared.pixel.PixelScanner.{PixelScanner}
-use Rattle.pnm_read.specs.Texts.{commented, commented_after}
+use Rattle.pnm_read.specs.HeaderTexts.{commented, commented_after}
 use Rattle.pnm_read.specs.Items.{pixel_item, is_pixel}
 use Rattle.pnm_read.specs.Scans.{JudgesByte}
 use Rattle.pnm_read.specs.Scanners.{IsPixelAfter, IsPixelWhole, JudgesPixel}
@@ -34,7 +34,7 @@ white_or_black false false e n = absurd cc
 not_both : (b : ℕ) → (b == 48) ≡ true → (b == 49) ≡ false
 not_both b e = grind (arith, nat_tests)
 
-pub pixel_goes_on : (old new : PixelScanner) (b : ℕ) (j : Judgement) → j ≡ GoesOn → JudgesPixel old b j → new.length ≡ old.length + 1
+pub pixel_goes_on : (old new : PixelScanner) (b : ℕ) (j : ScanStatus) → j ≡ GoesOn → JudgesPixel old b j → new.length ≡ old.length + 1
     → new.in_comment ≡ commented old.in_comment b
     → JudgesByte pixel_item (IsPixelAfter old) (IsPixelAfter new) (IsPixelWhole new) b j
 pixel_goes_on old new b j is h l c before a =
@@ -44,7 +44,7 @@ pixel_goes_on old new b j is h l c before a =
     } in
     inl (h before a, rw is after)
 
-pub pixel_ends_with : (old new : PixelScanner) (b : ℕ) (j : Judgement) → j ≡ EndsWith → JudgesPixel old b j → new.pixel ≡ (if b == 48 then 1 else 0)
+pub pixel_ends_with : (old new : PixelScanner) (b : ℕ) (j : ScanStatus) → j ≡ EndsWith → JudgesPixel old b j → new.pixel ≡ (if b == 48 then 1 else 0)
     → JudgesByte pixel_item (IsPixelAfter old) (IsPixelAfter new) (IsPixelWhole new) b j
 pixel_ends_with old new b j is h p before a =
     let character = pixel_ends before b (sym (h before a) ∙ is) in
@@ -52,6 +52,6 @@ pixel_ends_with old new b j is h p before a =
     ∙ ap (λ (t : Bool). if t then 0 else 1) (sym (ends_by-push (λ b. b == 49) before b)) in
     inl (h before a, rw is whole)
 
-pub pixel_not_before : (old new : PixelScanner) (b : ℕ) (j : Judgement) → j ≡ EndsBefore → JudgesPixel old b j
+pub pixel_not_before : (old new : PixelScanner) (b : ℕ) (j : ScanStatus) → j ≡ EndsBefore → JudgesPixel old b j
     → JudgesByte pixel_item (IsPixelAfter old) (IsPixelAfter new) (IsPixelWhole new) b j
 pixel_not_before old new b j is h before a = absurd (pixel_never_before before b (sym (h before a) ∙ is))

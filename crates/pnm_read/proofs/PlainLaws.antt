@@ -16,12 +16,12 @@ use Rattle.pnm_image.specs.Places.{IsRowOf}
 use Rattle.pnm_read.specs.declared.fault.InputFault.{InputFault}
 use Rattle.pnm_read.specs.declared.fault.InputFault.TheVariants.{BadSample}
 use Rattle.pnm_image.specs.declared.format.Format.{Format}
-use Rattle.pnm_read.specs.Texts.{begins_apart}
+use Rattle.pnm_read.specs.HeaderTexts.{begins_apart}
 use Rattle.pnm_read.specs.Rasters.{SpellsPiece, MayFollowSample, SpellsPlainSamples, SpellsPlain}
 use Rattle.pnm_read.specs.Items.{◌>>=◌, plain_sample, after_last_item}
 use Rattle.pnm_read.specs.Said.{Said, then_said, end_said, in_turn, plain_row, last_plain_row, row_in_form, row_at, rows_said}
 use Rattle.pnm_read.specs.Sources.{after_messages}
-use Rattle.pnm_read.proofs.RowTurns.{RowsRead, rows_count, read_rows_are_said, all_read, no_more_to_come}
+use Rattle.pnm_read.proofs.RowsInTurn.{RowsRead, rows_count, read_rows_are_said, all_read, no_more_to_come}
 use Rattle.pnm_read.proofs.PieceLaws.{bind_ok, done, ok_is, if_ok}
 use Rattle.pnm_read.proofs.SampleLaws.{IsInRange, spelled_piece_is_read, read_piece_is_spelled}
 

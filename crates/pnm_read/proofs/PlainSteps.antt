@@ -12,7 +12,7 @@ use Rattle.pnm_read.specs.declared.fault.InputFault.TheVariants.{ReadFailed, Mem
 use Rattle.pnm_read.specs.declared.buffered_reader.BufferedReader.{BufferedReader}
 use Rattle.pnm_read.specs.declared.decimal.DecimalScanner.{DecimalScanner}
 use Rattle.pnm_read.specs.declared.pixel.PixelScanner.{PixelScanner}
-use Rattle.pnm_read.specs.Texts.{is_apart, begins_apart, number_in}
+use Rattle.pnm_read.specs.HeaderTexts.{is_apart, begins_apart, number_in}
 use Rattle.pnm_read.specs.Saturation.{saturate_u32}
 use Rattle.pnm_read.specs.Items.{◌>>=◌, pixel_item, pixel_end, pixel_in, plain_pixel, decimal_item, decimal_end, sample_item, plain_decimal, plain_sample}
 use Rattle.pnm_read.specs.Items.{after_last_item}
@@ -20,9 +20,9 @@ use Rattle.pnm_read.specs.Said.{in_turn, plain_row, last_plain_row, row_in_form}
 use Rattle.pnm_read.specs.Scans.{Scans, ScansAfter}
 use Rattle.pnm_read.specs.Scanners.{IsPixelAfter, IsPixelWhole, IsDecimalAfter, IsDecimalWhole}
 use Rattle.pnm_read.specs.BufferedReaders.{ReadCall, Finds, Fills, Passes, held_of, HoldsEnough}
-use Rattle.pnm_read.proofs.UnitLaws.{and_turns}
+use Rattle.pnm_read.proofs.UnitLaws.{and_items}
 use Rattle.pnm_read.proofs.PartLaws.{all_are_left, part_is_read, part_fails, none_are_left, one_is_read, one_fails}
-use Rattle.pnm_read.proofs.Turns.{no_fault, turn_then, turn_ok_so, turn_err_so, turn_taken, turn_seen, nothing_left}
+use Rattle.pnm_read.proofs.ReadCalls.{no_fault, call_then, call_ok_so, call_err_so, call_taken, call_seen, nothing_left}
 use Rattle.pnm_read.proofs.EndSteps.{none_held, end_seen}
 
 -- a sample, and what is left of the text
@@ -44,7 +44,7 @@ pub pixel_found : {R : Type 0} {left : R → Option (List ℕ)} {failures : R �
     → ReadCall {A = ℕ} left failures same old new (Ok sample) (Finds plain_pixel (Ok sample))
 unfolding plain_pixel
 pixel_found fresh now sample is_fresh is_pixel t =
-    turn_ok_so {A = Unit {0}} {B = ℕ} tt (Ok sample) (no_fault sample ReadFailed)
+    call_ok_so {A = Unit {0}} {B = ℕ} tt (Ok sample) (no_fault sample ReadFailed)
     (λ b a o. let piece = o [] is_fresh in ap pixel_of piece.2 ∙ ap (λ (n : ℕ). sample_done n a) (sym (is_pixel ∙ piece.1))) t
 
 no_pixel : (k : InputFault) (is_whole : List ℕ → Type 0) (b a : List ℕ) → ScansAfter pixel_item pixel_end is_whole (Err k) [] b a
@@ -57,7 +57,7 @@ pub pixel_fault : {R : Type 0} {left : R → Option (List ℕ)} {failures : R �
     (is_whole : List ℕ → Type 0) (k : InputFault) → IsPixelAfter fresh []
     → ReadCall {A = Unit {0}} left failures same old new (Err k) (Scans pixel_item pixel_end (IsPixelAfter fresh) is_whole (Err k))
     → ReadCall {A = ℕ} left failures same old new (Err k) (Finds plain_pixel (Err k))
-pixel_fault fresh is_whole k is_fresh t = turn_err_so {A = Unit {0}} {B = ℕ} k (λ b a o. no_pixel k is_whole b a (o [] is_fresh)) t
+pixel_fault fresh is_whole k is_fresh t = call_err_so {A = Unit {0}} {B = ℕ} k (λ b a o. no_pixel k is_whole b a (o [] is_fresh)) t
 
 -- ---- numbers
 
@@ -82,7 +82,7 @@ pub number_found : {R : Type 0} {left : R → Option (List ℕ)} {failures : R �
     → ReadCall {A = ℕ} left failures same old new (Ok sample) (Finds (plain_decimal maxval) (Ok sample))
 unfolding plain_decimal
 number_found fresh now maxval sample is_fresh is_value most le t =
-    turn_ok_so {A = Unit {0}} {B = ℕ} tt (Ok sample) (no_fault sample ReadFailed)
+    call_ok_so {A = Unit {0}} {B = ℕ} tt (Ok sample) (no_fault sample ReadFailed)
     (λ b a o.
     let piece = o [] is_fresh in
     ap (number_of maxval) piece.2
@@ -94,7 +94,7 @@ pub number_too_great : {R : Type 0} {left : R → Option (List ℕ)} {failures :
     → ReadCall {A = ℕ} left failures same old new (Err SampleAboveMaxval) (Finds (plain_decimal maxval) (Err SampleAboveMaxval))
 unfolding plain_decimal
 number_too_great fresh now maxval value is_fresh is_value above t =
-    turn_ok_so {A = Unit {0}} {B = ℕ} tt (Err SampleAboveMaxval) (λ e. absurd cc)
+    call_ok_so {A = Unit {0}} {B = ℕ} tt (Err SampleAboveMaxval) (λ e. absurd cc)
     (λ b a o.
     let piece = o [] is_fresh in
     inl (ap (number_of maxval) piece.2
@@ -110,7 +110,7 @@ pub number_fault : {R : Type 0} {left : R → Option (List ℕ)} {failures : R �
     (is_whole : List ℕ → Type 0) (maxval : ℕ) (k : InputFault) → IsDecimalAfter fresh []
     → ReadCall {A = Unit {0}} left failures same old new (Err k) (Scans decimal_item decimal_end (IsDecimalAfter fresh) is_whole (Err k))
     → ReadCall {A = ℕ} left failures same old new (Err k) (Finds (plain_decimal maxval) (Err k))
-number_fault fresh is_whole maxval k is_fresh t = turn_err_so {A = Unit {0}} {B = ℕ} k (λ b a o. no_number maxval k is_whole b a (o [] is_fresh)) t
+number_fault fresh is_whole maxval k is_fresh t = call_err_so {A = Unit {0}} {B = ℕ} k (λ b a o. no_number maxval k is_whole b a (o [] is_fresh)) t
 
 -- ---- the end
 
@@ -129,10 +129,10 @@ pub end_goes_on : {R : Type 0} {left : R → Option (List ℕ)} {failures : R �
     → ReadCall {A = Unit {0}} left failures same old mid (Ok tt) (Passes after_last_item (Ok tt))
 unfolding after_last_item
 end_goes_on {mid = mid} byte bytes held first apart t =
-    turn_ok_so {A = Unit {0}} {B = Unit {0}} tt (Ok tt) (no_fault tt ReadFailed) (λ b a o.
+    call_ok_so {A = Unit {0}} {B = Unit {0}} tt (Ok tt) (no_fault tt ReadFailed) (λ b a o.
     let whole : b ≡ bytes ++ o.1.0 = o.0 ∙ o.1.2 ∙ ap (λ (l : List ℕ). l ++ o.1.0) (sym held) in
     ap (λ (t : Bool). end_if t b) (ap begins_apart whole ∙ begins_by byte bytes o.1.0 first ∙ apart) ∙ ap (λ (l : List ℕ). Ok l) o.0)
-    (turn_seen t)
+    (call_seen t)
 
 pub end_is_bad : {R : Type 0} {left : R → Option (List ℕ)} {failures : R → ℕ} {same : R → R → Type 0} {old mid : BufferedReader R} (byte : ℕ) (bytes : List ℕ)
     → bytes ≡ held_of mid → Some byte ≡ slice_get bytes 0 → is_apart byte ≡ false
@@ -140,10 +140,10 @@ pub end_is_bad : {R : Type 0} {left : R → Option (List ℕ)} {failures : R →
     → ReadCall {A = Unit {0}} left failures same old mid (Err BadSample) (Passes after_last_item (Err BadSample))
 unfolding after_last_item
 end_is_bad {mid = mid} byte bytes held first apart t =
-    turn_ok_so {A = Unit {0}} {B = Unit {0}} tt (Err BadSample) (λ e. absurd cc) (λ b a o.
+    call_ok_so {A = Unit {0}} {B = Unit {0}} tt (Err BadSample) (λ e. absurd cc) (λ b a o.
     let whole : b ≡ bytes ++ o.1.0 = o.0 ∙ o.1.2 ∙ ap (λ (l : List ℕ). l ++ o.1.0) (sym held) in
     inl (ap (λ (t : Bool). end_if t b) (ap begins_apart whole ∙ begins_by byte bytes o.1.0 first ∙ apart)))
-    (turn_seen t)
+    (call_seen t)
 
 -- no byte comes after the last sample
 pub end_is_there : {R : Type 0} {left : R → Option (List ℕ)} {failures : R → ℕ} {same : R → R → Type 0} {old mid : BufferedReader R} (bytes : List ℕ)
@@ -153,10 +153,10 @@ pub end_is_there : {R : Type 0} {left : R → Option (List ℕ)} {failures : R �
 unfolding after_last_item
 end_is_there {mid = mid} bytes held none enough t =
     let empty = none_held bytes (held_of mid) held none in
-    turn_ok_so {A = Unit {0}} {B = Unit {0}} tt (Ok tt) (no_fault tt ReadFailed) (λ b a o.
+    call_ok_so {A = Unit {0}} {B = Unit {0}} tt (Ok tt) (no_fault tt ReadFailed) (λ b a o.
     let last = nothing_left mid a empty (end_seen mid enough empty) o.1 in
     ap after_last_item (o.0 ∙ last) ∙ ap (λ (l : List ℕ). Ok l) (sym last))
-    (turn_seen t)
+    (call_seen t)
 
 -- ---- the samples of a row
 
@@ -166,20 +166,20 @@ sample_of s = plain_sample s.kind s.maxval
 
 -- These samples were read, and so many are left.
 abbrev SamplesFrom : Shape → ℕ → ℕ → List ℕ → List ℕ → List ℕ → Type 0
-SamplesFrom s all more samples text left = in_turn (sample_of s) all text ≡ and_turns (sample_of s) more samples left
+SamplesFrom s all more samples text left = in_turn (sample_of s) all text ≡ and_items (sample_of s) more samples left
 
 pub record ReadingSamples {R : Type 0} (left : R → Option (List ℕ)) (failures : R → ℕ) (same : R → R → Type 0) (s : Shape) (all more : ℕ) (samples : List ℕ)
     (old now : BufferedReader R) : Type 0 where
-  pub turn : ReadCall {A = Unit {0}} left failures same old now (Ok tt) (SamplesFrom s all more samples)
+  pub call : ReadCall {A = Unit {0}} left failures same old now (Ok tt) (SamplesFrom s all more samples)
 
 pub samples_begin : {R : Type 0} {left : R → Option (List ℕ)} {failures : R → ℕ} {same : R → R → Type 0} (s : Shape) (all more : ℕ) (samples : List ℕ)
     (input : BufferedReader R) → ((a : R) → same a a) → more ≡ all → samples ≡ []
     → ReadingSamples left failures same s all more samples input input
 samples_begin s all more samples input at_once is_all none = record {
-  turn = turn_ok_so {A = Unit {0}} {B = Unit {0}} tt (Ok tt) (no_fault tt ReadFailed)
-      (λ b a e. ap (in_turn (sample_of s) all) e ∙ all_are_left (sample_of s) all a ∙ ap₂ (λ (n : ℕ) (l : List ℕ). and_turns (sample_of s) n l a) (sym is_all)
+  call = call_ok_so {A = Unit {0}} {B = Unit {0}} tt (Ok tt) (no_fault tt ReadFailed)
+      (λ b a e. ap (in_turn (sample_of s) all) e ∙ all_are_left (sample_of s) all a ∙ ap₂ (λ (n : ℕ) (l : List ℕ). and_items (sample_of s) n l a) (sym is_all)
       (sym none))
-      (turn_taken {A = Unit {0}} {result = Ok tt} [] at_once (no_fault tt ReadFailed) refl refl refl);
+      (call_taken {A = Unit {0}} {result = Ok tt} [] at_once (no_fault tt ReadFailed) refl refl refl);
 }
 
 no_sample : (s : Shape) (more : ℕ) (samples : List ℕ) (k : InputFault) (b m a : List ℕ) → 0 < more → SamplesFrom s (row_length s) more samples b m
@@ -198,9 +198,9 @@ pub samples_fault : {R : Type 0} {left : R → Option (List ℕ)} {failures : R 
     → ReadCall {A = ℕ} left failures same now new (Err k) (Finds (sample_of s) (Err k))
     → ReadCall {A = List ℕ} left failures same old new (Err k) (Finds (plain_row s) (Err k))
 samples_fault {s = s} {more = more} {samples = samples} k later r is_all some t =
-    turn_err_so {A = ℕ} {B = List ℕ} k
+    call_err_so {A = ℕ} {B = List ℕ} k
     (λ b a o. no_sample s more samples k b o.0 a some (subst (λ (n : ℕ). SamplesFrom s n more samples b o.0) is_all o.1) o.2)
-    (turn_then {A = Unit {0}} {B = ℕ} tt later r.turn t)
+    (call_then {A = Unit {0}} {B = ℕ} tt later r.call t)
 
 -- memory ran out
 pub samples_no_memory : {R : Type 0} {left : R → Option (List ℕ)} {failures : R → ℕ} {same : R → R → Type 0} {s : Shape} {all more : ℕ} {samples : List ℕ}
@@ -208,8 +208,8 @@ pub samples_no_memory : {R : Type 0} {left : R → Option (List ℕ)} {failures 
     (sample : ℕ) → ((a b c : R) → same a b → same b c → same a c) → ReadingSamples left failures same s all more samples old now
     → ReadCall {A = ℕ} left failures same now new (Ok sample) (Finds (sample_of s) (Ok sample))
     → ReadCall {A = List ℕ} left failures same old new (Err Memory) (Finds (plain_row s) (Err Memory))
-samples_no_memory sample later r t = turn_ok_so {A = ℕ} {B = List ℕ} sample (Err Memory) (λ e. absurd cc) (λ b a o. inr (inr refl))
-    (turn_then {A = Unit {0}} {B = ℕ} tt later r.turn t)
+samples_no_memory sample later r t = call_ok_so {A = ℕ} {B = List ℕ} sample (Err Memory) (λ e. absurd cc) (λ b a o. inr (inr refl))
+    (call_then {A = Unit {0}} {B = ℕ} tt later r.call t)
 
 -- a sample more was read
 pub samples_more : {R : Type 0} {left : R → Option (List ℕ)} {failures : R → ℕ} {same : R → R → Type 0} {s : Shape} {all more : ℕ} {samples : List ℕ}
@@ -219,10 +219,10 @@ pub samples_more : {R : Type 0} {left : R → Option (List ℕ)} {failures : R �
     → ReadCall {A = ℕ} left failures same now new (Ok sample) (Finds (sample_of s) (Ok sample))
     → ReadingSamples left failures same s all fewer others old new
 samples_more {s = s} {all = all} {more = more} {samples = samples} sample fewer others later r some is_fewer are_others t = record {
-  turn = turn_ok_so {A = ℕ} {B = Unit {0}} sample (Ok tt) (no_fault tt ReadFailed) (λ b a o.
+  call = call_ok_so {A = ℕ} {B = Unit {0}} sample (Ok tt) (no_fault tt ReadFailed) (λ b a o.
       part_is_read (sample_of s) all more 1 samples (sample ∷ []) b o.0 a some (one_is_read (sample_of s) sample o.0 a o.2) o.1
-      ∙ ap₂ (λ (n : ℕ) (l : List ℕ). and_turns (sample_of s) n l a) (sym is_fewer) (sym are_others))
-      (turn_then {A = Unit {0}} {B = ℕ} tt later r.turn t);
+      ∙ ap₂ (λ (n : ℕ) (l : List ℕ). and_items (sample_of s) n l a) (sym is_fewer) (sym are_others))
+      (call_then {A = Unit {0}} {B = ℕ} tt later r.call t);
 }
 
 -- all samples were read
@@ -232,11 +232,11 @@ pub samples_read : {R : Type 0} {left : R → Option (List ℕ)} {failures : R �
     → ReadCall {A = List ℕ} left failures same old now (Ok row) (Finds (plain_row s) (Ok row))
 unfolding plain_row
 samples_read {s = s} row r is_all none is_row =
-    turn_ok_so {A = Unit {0}} {B = List ℕ} tt (Ok row) (no_fault row ReadFailed)
+    call_ok_so {A = Unit {0}} {B = List ℕ} tt (Ok row) (no_fault row ReadFailed)
     (λ b a o.
-    ap (λ (n : ℕ). in_turn (sample_of s) n b) (sym is_all) ∙ o ∙ ap₂ (λ (n : ℕ) (l : List ℕ). and_turns (sample_of s) n l a) none (sym is_row)
+    ap (λ (n : ℕ). in_turn (sample_of s) n b) (sym is_all) ∙ o ∙ ap₂ (λ (n : ℕ) (l : List ℕ). and_items (sample_of s) n l a) none (sym is_row)
     ∙ none_are_left (sample_of s) row a)
-    r.turn
+    r.call
 
 -- ---- a row, and the end after the last one
 
@@ -274,7 +274,7 @@ pub row_fault : {R : Type 0} {left : R → Option (List ℕ)} {failures : R → 
     (k : InputFault)
     → ReadCall {A = List ℕ} left failures same old new (Err k) (Finds (plain_row s) (Err k))
     → ReadCall {A = List ℕ} left failures same old new (Err k) (Finds (row_in_form true s more) (Err k))
-row_fault s more k t = turn_err_so {A = List ℕ} {B = List ℕ} k (no_row s more k) t
+row_fault s more k t = call_err_so {A = List ℕ} {B = List ℕ} k (no_row s more k) t
 
 no_end : (s : Shape) (more : ℕ) (row : List ℕ) (k : InputFault) (b m a : List ℕ) → more ≡ 0 → plain_row s b ≡ row_done row m
     → Passes after_last_item (Err k) m a → Finds (row_in_form true s more) (Err k) b a
@@ -288,7 +288,7 @@ pub end_fault : {R : Type 0} {left : R → Option (List ℕ)} {failures : R → 
     → ReadCall {A = Unit {0}} left failures same mid new (Err k) (Passes after_last_item (Err k))
     → ReadCall {A = List ℕ} left failures same old new (Err k) (Finds (row_in_form true s more) (Err k))
 end_fault s more row k later none r t =
-    turn_err_so {A = Unit {0}} {B = List ℕ} k (λ b a o. no_end s more row k b o.0 a none o.1 o.2) (turn_then {A = List ℕ} {B = Unit {0}} row later r t)
+    call_err_so {A = Unit {0}} {B = List ℕ} k (λ b a o. no_end s more row k b o.0 a none o.1 o.2) (call_then {A = List ℕ} {B = Unit {0}} row later r t)
 
 pub last_row_found : {R : Type 0} {left : R → Option (List ℕ)} {failures : R → ℕ} {same : R → R → Type 0} {old mid new : BufferedReader R} (s : Shape)
     (more : ℕ) (row : List ℕ) → ((a b c : R) → same a b → same b c → same a c) → more ≡ 0
@@ -296,11 +296,11 @@ pub last_row_found : {R : Type 0} {left : R → Option (List ℕ)} {failures : R
     → ReadCall {A = Unit {0}} left failures same mid new (Ok tt) (Passes after_last_item (Ok tt))
     → ReadCall {A = List ℕ} left failures same old new (Ok row) (Finds (row_in_form true s more) (Ok row))
 last_row_found s more row later none r t =
-    turn_ok_so {A = Unit {0}} {B = List ℕ} tt (Ok row) (no_fault row ReadFailed) (λ b a o. last_row s more b none ∙ ap last_of o.1 ∙ ap (row_then row) o.2)
-    (turn_then {A = List ℕ} {B = Unit {0}} row later r t)
+    call_ok_so {A = Unit {0}} {B = List ℕ} tt (Ok row) (no_fault row ReadFailed) (λ b a o. last_row s more b none ∙ ap last_of o.1 ∙ ap (row_then row) o.2)
+    (call_then {A = List ℕ} {B = Unit {0}} row later r t)
 
 pub earlier_row_found : {R : Type 0} {left : R → Option (List ℕ)} {failures : R → ℕ} {same : R → R → Type 0} {old new : BufferedReader R} (s : Shape) (more : ℕ)
     (row : List ℕ) → 0 < more
     → ReadCall {A = List ℕ} left failures same old new (Ok row) (Finds (plain_row s) (Ok row))
     → ReadCall {A = List ℕ} left failures same old new (Ok row) (Finds (row_in_form true s more) (Ok row))
-earlier_row_found s more row some t = turn_ok_so {A = List ℕ} {B = List ℕ} row (Ok row) (no_fault row ReadFailed) (λ b a o. earlier_row s more b some ∙ o) t
+earlier_row_found s more row some t = call_ok_so {A = List ℕ} {B = List ℕ} row (Ok row) (no_fault row ReadFailed) (λ b a o. earlier_row s more b some ∙ o) t

@@ -23,10 +23,11 @@ use Rattle.pnm_image.specs.SampleWidths.{sample_width_of}
 use Rattle.pnm_read.specs.Items.{◌>>=◌, raw_item}
 use Rattle.pnm_read.specs.Said.{in_turn, units_in_row, units_at, raw_row, row_in_form, row_at, Said, then_said, end_said, rows_said}
 use Rattle.pnm_read.proofs.PieceLaws.{bind_ok}
-use Rattle.pnm_read.proofs.UnitLaws.{unit_bytes, Turns, single, concat_singles, concat_pixels, are_within, are_within_all, all_are_within, unit_if, units_if}
+use Rattle.pnm_read.proofs.UnitLaws.{unit_bytes, ItemsRead, single, concat_singles, concat_pixels, are_within, are_within_all, all_are_within, unit_if}
+use Rattle.pnm_read.proofs.UnitLaws.{units_if}
 use Rattle.pnm_read.proofs.UnitLaws.{packed_units, narrow_units, wide_units}
 use Rattle.pnm_read.specs.Sources.{after_messages}
-use Rattle.pnm_read.proofs.RowTurns.{RowsRead, rows_count, read_rows_are_said, ended_fault, all_read, no_more_to_come}
+use Rattle.pnm_read.proofs.RowsInTurn.{RowsRead, rows_count, read_rows_are_said, ended_fault, all_read, no_more_to_come}
 
 -- ---- the bytes of a row
 
@@ -57,8 +58,8 @@ row_in p s text = in_turn (raw_item p s.maxval) (units_in_row p s) text >>= λ u
 abbrev row_done : List ℕ → List ℕ → Read
 row_done row rest = Ok (row, rest)
 
-abbrev turns_done : List (List ℕ) → List ℕ → Turns
-turns_done units rest = Ok (units, rest)
+abbrev items_done : List (List ℕ) → List ℕ → ItemsRead
+items_done units rest = Ok (units, rest)
 
 -- a row has one sample a pixel where eight pixels are packed in a byte, and its maxval isn't 0
 pub record IsPackable (p : SampleWidth) (s : Shape) : Type 0 where
@@ -104,7 +105,7 @@ length-samples_by Bytes s bytes h e = e
 length-samples_by Words s bytes h e = length-wide_samples (row_length s) bytes e
 
 -- what units in turn give as a row
-after_units : (n : ℕ) (within : Bool) (units : List (List ℕ)) (rest : List ℕ) (r : Turns) → r ≡ units_if within units rest
+after_units : (n : ℕ) (within : Bool) (units : List (List ℕ)) (rest : List ℕ) (r : ItemsRead) → r ≡ units_if within units rest
     → (r >>= λ found. row_done (take n (concat found.0)) found.1) ≡ unit_if within (take n (concat units)) rest
 after_units n true units rest r e = rw e refl
 after_units n false units rest r e = rw e refl
@@ -159,8 +160,8 @@ units_length : (p : SampleWidth) (maxval n : ℕ) (text : List ℕ) (found : Lis
 unfolding in_turn
 units_length p maxval zero text found e = let left : text ≡ found.1 = cc in omega (arith, ap length left, zero-mul (unit_bytes p))
 units_length p maxval (suc n) text found e =
-    let first = bind_ok (raw_item p maxval text) (λ one. in_turn (raw_item p maxval) n one.1 >>= λ more. turns_done (one.0 ∷ more.0) more.1) found e in
-    let others = bind_ok (in_turn (raw_item p maxval) n first.0.1) (λ more. turns_done (first.0.0 ∷ more.0) more.1) found first.2 in
+    let first = bind_ok (raw_item p maxval text) (λ one. in_turn (raw_item p maxval) n one.1 >>= λ more. items_done (one.0 ∷ more.0) more.1) found e in
+    let others = bind_ok (in_turn (raw_item p maxval) n first.0.1) (λ more. items_done (first.0.0 ∷ more.0) more.1) found first.2 in
     let left : others.0.1 ≡ found.1 = cc in
     omega (arith, unit_length p maxval text first.0 first.1, units_length p maxval n first.0.1 others.0 others.1, ap length left, suc-mul n (unit_bytes p))
 

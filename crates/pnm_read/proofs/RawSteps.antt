@@ -15,9 +15,9 @@ use Rattle.pnm_read.specs.Items.{◌>>=◌, raw_item}
 use Rattle.pnm_read.specs.Said.{in_turn, units_in_row, units_at, raw_row}
 use Rattle.pnm_read.specs.RawParts.{FindsUnits, FindsPart}
 use Rattle.pnm_read.specs.BufferedReaders.{ReadCall, Finds, IsOutsideFault}
-use Rattle.pnm_read.proofs.UnitLaws.{unit_bytes, unit_if, turned, and_turns}
+use Rattle.pnm_read.proofs.UnitLaws.{unit_bytes, unit_if, items_of, and_items}
 use Rattle.pnm_read.proofs.PartLaws.{all_are_left, part_fails, part_is_read, none_are_left, one_fails}
-use Rattle.pnm_read.proofs.Turns.{no_fault, turn_then, turn_ok_so, turn_err_so, turn_taken}
+use Rattle.pnm_read.proofs.ReadCalls.{no_fault, call_then, call_ok_so, call_err_so, call_taken}
 
 -- ---- units of a text
 
@@ -51,13 +51,13 @@ unit_found Words maxval (b ∷ []) e = cc
 unit_found Words maxval (b ∷ c ∷ text) e = unit_if_found (leb (256 * b + c) maxval) ((256 * b + c) ∷ []) text e
 
 others_found : (first : List ℕ) (r : Result (List (List ℕ) × List ℕ) InputFault) → (r ≡ Err ReadFailed → ⊥)
-    → (r >>= λ more. turned (first ∷ more.0) more.1) ≡ Err ReadFailed → ⊥
+    → (r >>= λ more. items_of (first ∷ more.0) more.1) ≡ Err ReadFailed → ⊥
 others_found first (Ok x) h e = cc
 others_found first (Err k) h e = h cc
 
 first_found : (item : List ℕ → Result (List ℕ × List ℕ) InputFault) (n : ℕ) (r : Result (List ℕ × List ℕ) InputFault) → (r ≡ Err ReadFailed → ⊥)
     → ((text : List ℕ) → in_turn item n text ≡ Err ReadFailed → ⊥)
-    → (r >>= λ first. in_turn item n first.1 >>= λ more. turned (first.0 ∷ more.0) more.1) ≡ Err ReadFailed → ⊥
+    → (r >>= λ first. in_turn item n first.1 >>= λ more. items_of (first.0 ∷ more.0) more.1) ≡ Err ReadFailed → ⊥
 first_found item n (Ok x) h others e = others_found x.0 (in_turn item n x.1) (others x.1) e
 first_found item n (Err k) h others e = h cc
 
@@ -77,19 +77,19 @@ units_as s p all text is_width is_all =
 -- These are the samples of the units that were read, and so many units are left.
 abbrev pub UnitsFrom : SampleWidth → ℕ → ℕ → ℕ → List ℕ → List ℕ → List ℕ → Type 0
 UnitsFrom p maxval all more samples text left =
-    (units : List (List ℕ)) × (samples ≡ concat units) × (in_turn (raw_item p maxval) all text ≡ and_turns (raw_item p maxval) more units left)
+    (units : List (List ℕ)) × (samples ≡ concat units) × (in_turn (raw_item p maxval) all text ≡ and_items (raw_item p maxval) more units left)
 
 pub record ReadingUnits {R : Type 0} (left : R → Option (List ℕ)) (failures : R → ℕ) (same : R → R → Type 0) (p : SampleWidth) (maxval all more : ℕ)
     (samples : List ℕ) (old now : BufferedReader R) : Type 0 where
-  pub turn : ReadCall {A = Unit {0}} left failures same old now (Ok tt) (UnitsFrom p maxval all more samples)
+  pub call : ReadCall {A = Unit {0}} left failures same old now (Ok tt) (UnitsFrom p maxval all more samples)
 
 pub units_begin : {R : Type 0} {left : R → Option (List ℕ)} {failures : R → ℕ} {same : R → R → Type 0} (p : SampleWidth) (maxval all : ℕ) (samples : List ℕ)
     (input : BufferedReader R) → ((a : R) → same a a) → samples ≡ []
     → ReadingUnits left failures same p maxval all all samples input input
 units_begin {left = left} {failures = failures} {same = same} p maxval all samples input at_once none = record {
-  turn = turn_ok_so {A = Unit {0}} {B = Unit {0}} tt (Ok tt) (no_fault tt ReadFailed)
+  call = call_ok_so {A = Unit {0}} {B = Unit {0}} tt (Ok tt) (no_fault tt ReadFailed)
       (λ b a e. ([], none, ap (in_turn (raw_item p maxval) all) e ∙ all_are_left (raw_item p maxval) all a))
-      (turn_taken {A = Unit {0}} {result = Ok tt} [] at_once (no_fault tt ReadFailed) refl refl refl);
+      (call_taken {A = Unit {0}} {result = Ok tt} [] at_once (no_fault tt ReadFailed) refl refl refl);
 }
 
 -- a part of the units that are left was read
@@ -101,13 +101,13 @@ pub part_read : {R : Type 0} {left : R → Option (List ℕ)} {failures : R → 
     → most ≤ more → ((units : List (List ℕ)) → new count ≡ part ++ concat units → others ≡ samples ++ concat units)
     → ReadingUnits left failures same p maxval all (more - count) others old mid
 part_read {p = p} {maxval = maxval} {all = all} {more = more} {samples = samples} most part new count others later r t le f = record {
-  turn = turn_ok_so {A = ℕ} {B = Unit {0}} count (Ok tt) (no_fault tt ReadFailed) (λ b a o.
+  call = call_ok_so {A = ℕ} {B = Unit {0}} count (Ok tt) (no_fault tt ReadFailed) (λ b a o.
       let fits : count ≤ more = omega (arith, o.2.2, le) in (
         o.1.0 ++ o.2.0,
         f o.2.0 o.2.1 ∙ ap (λ (l : List ℕ). l ++ concat o.2.0) o.1.1 ∙ sym (concat-append o.1.0 o.2.0),
         part_is_read (raw_item p maxval) all more count o.1.0 o.2.0 b o.0 a fits o.2.3 o.1.2,
       ))
-      (turn_then {A = Unit {0}} {B = ℕ} tt later r.turn t);
+      (call_then {A = Unit {0}} {B = ℕ} tt later r.call t);
 }
 
 -- no unit's fault in a part is that of a reader
@@ -128,8 +128,8 @@ pub part_fault : {R B : Type 0} {left : R → Option (List ℕ)} {failures : R �
     → p ≡ sample_width_of s.kind s.maxval → all ≡ units_in_row p s → most ≤ more
     → ReadCall {A = B} left failures same old mid (Err k) (FindsUnits view s (Err k))
 part_fault {B = B} {p = p} {all = all} {more = more} {samples = samples} most part new view s k later r t is_width is_all le =
-    turn_err_so {A = ℕ} {B = B} k (λ b a o. part_fault_so p s.maxval all more most samples part new s k is_width is_all refl le b o.0 a o.1 o.2)
-    (turn_then {A = Unit {0}} {B = ℕ} tt later r.turn t)
+    call_err_so {A = ℕ} {B = B} k (λ b a o. part_fault_so p s.maxval all more most samples part new s k is_width is_all refl le b o.0 a o.1 o.2)
+    (call_then {A = Unit {0}} {B = ℕ} tt later r.call t)
 
 -- all units were read
 pub units_read : {R B : Type 0} {left : R → Option (List ℕ)} {failures : R → ℕ} {same : R → R → Type 0} {p : SampleWidth} {all more : ℕ} {samples : List ℕ}
@@ -138,13 +138,13 @@ pub units_read : {R B : Type 0} {left : R → Option (List ℕ)} {failures : R �
     → all ≡ units_in_row p s → more ≤ 0 → view row ≡ samples
     → ReadCall {A = B} left failures same old now (Ok row) (FindsUnits view s (Ok row))
 units_read {B = B} {p = p} {all = all} {more = more} view s row r is_width is_all done is_row =
-    turn_ok_so {A = Unit {0}} {B = B} tt (Ok row) (no_fault row ReadFailed) (λ b a o.
+    call_ok_so {A = Unit {0}} {B = B} tt (Ok row) (no_fault row ReadFailed) (λ b a o.
     let none : more ≡ 0 = omega arith in (
       o.0,
-      units_as s p all b is_width is_all ∙ o.2 ∙ ap (λ (m : ℕ). and_turns (raw_item p s.maxval) m o.0 a) none ∙ none_are_left (raw_item p s.maxval) o.0 a,
+      units_as s p all b is_width is_all ∙ o.2 ∙ ap (λ (m : ℕ). and_items (raw_item p s.maxval) m o.0 a) none ∙ none_are_left (raw_item p s.maxval) o.0 a,
       is_row ∙ o.1,
     ))
-    r.turn
+    r.call
 
 -- ---- a row of units
 
@@ -162,7 +162,7 @@ pub row_found : {R A : Type 0} {left : R → Option (List ℕ)} {failures : R �
     → ReadCall {A = List ℕ} left failures same old new (Ok row) (Finds (raw_row s) (Ok row))
 unfolding raw_row
 row_found {A = A} view s units row is_row t =
-    turn_ok_so {A = A} {B = List ℕ} units (Ok row) (no_fault row ReadFailed)
+    call_ok_so {A = A} {B = List ℕ} units (Ok row) (no_fault row ReadFailed)
     (λ b a o. ap (row_of_units s) o.1 ∙ ap (λ (l : List ℕ). row_done l a) (ap (take (row_length s)) (sym o.2) ∙ sym is_row)) t
 
 fault_of_units : {A : Type 0} (view : A → List ℕ) (s : Shape) (k : InputFault) (b a : List ℕ) → FindsUnits view s (Err k) b a → Finds (raw_row s) (Err k) b a
@@ -174,4 +174,4 @@ pub row_fault : {R A : Type 0} {left : R → Option (List ℕ)} {failures : R �
     (s : Shape) (k : InputFault)
     → ReadCall {A = A} left failures same old new (Err k) (FindsUnits view s (Err k))
     → ReadCall {A = List ℕ} left failures same old new (Err k) (Finds (raw_row s) (Err k))
-row_fault {A = A} view s k t = turn_err_so {A = A} {B = List ℕ} k (fault_of_units view s k) t
+row_fault {A = A} view s k t = call_err_so {A = A} {B = List ℕ} k (fault_of_units view s k) t

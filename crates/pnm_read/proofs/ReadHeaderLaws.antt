@@ -10,9 +10,9 @@ use Rattle.pnm_image.specs.Heads.{HeadValue, IsHead}
 use Rattle.pnm_read.specs.declared.fault.InputFault.{InputFault}
 use Rattle.pnm_read.specs.declared.fault.InputFault.TheVariants.{BadMagic, PlainInStream}
 use Rattle.pnm_image.specs.declared.format.Format.{Format}
-use Rattle.pnm_read.specs.Texts.{uncommented, ends_in_word, numbers_in}
+use Rattle.pnm_read.specs.HeaderTexts.{uncommented, ends_in_word, numbers_in}
 use Rattle.pnm_image.specs.Formats.{plain, raw, format_of, is_plain_form}
-use Rattle.pnm_read.specs.Formats.{number_count, shape_of, header_numbers}
+use Rattle.pnm_read.specs.HeaderNumbers.{number_count, shape_of, header_numbers}
 use Rattle.pnm_read.specs.Headers.{SpellsPnmHeader, SpellsHeaderBy, SpellsHeader}
 use Rattle.pnm_read.specs.declared.header.TheConstants.{MAX_HEADER_LENGTH}
 use Rattle.pnm_read.specs.Items.{◌>>=◌, piece_from, first_magic_item, second_magic_item, header_limit, header_item, header_end, numbers_item}

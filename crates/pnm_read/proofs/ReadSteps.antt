@@ -12,16 +12,16 @@ use Rattle.pnm_read.specs.declared.buffered_reader.BufferedReader.{BufferedReade
 use Rattle.pnm_read.specs.Reads.{HasRead}
 use Rattle.pnm_read.specs.BufferedReaders.{ReadCall, Fills, Reads, held_of, CanCome, HoldsEnough}
 use Rattle.pnm_read.proofs.Consumed.{consumes_nothing}
-use Rattle.pnm_read.proofs.Turns.{no_fault, turn_then, turn_ok_so, turn_err_so, turn_advance}
+use Rattle.pnm_read.proofs.ReadCalls.{no_fault, call_then, call_ok_so, call_err_so, call_advance}
 
 -- these bytes came behind those that were held; none came only at the end
-pub turn_read : {R A : Type 0} {left : R → Option (List ℕ)} {failures : R → ℕ} {same : R → R → Type 0} {old new : BufferedReader R}
+pub call_read : {R A : Type 0} {left : R → Option (List ℕ)} {failures : R → ℕ} {same : R → R → Type 0} {old new : BufferedReader R}
     {o : List ℕ → List ℕ → Type 0}
     (x : A) (count : ℕ) (target : List ℕ) → HasRead left failures same old.reader new.reader target (Ok count) → old.ended ≡ false
     → (new.ended ≡ true → count ≡ 0)
     → ((rest : List ℕ) → (new.ended ≡ true → rest ≡ []) → o (held_of old ++ (take count target ++ rest)) (held_of new ++ rest))
     → ReadCall left failures same old new (Ok x) o
-turn_read x count target r goes_on at_end f = record {
+call_read x count target r goes_on at_end f = record {
   read = take count target;
   consumed = r.0;
   comes = λ rest c e. absurd (let never : true ≡ false = sym e ∙ goes_on in cc);
@@ -33,12 +33,12 @@ turn_read x count target r goes_on at_end f = record {
 }
 
 -- no byte came, and nothing changed of what is held
-pub turn_failed : {R A : Type 0} {left : R → Option (List ℕ)} {failures : R → ℕ} {same : R → R → Type 0} {old new : BufferedReader R}
+pub call_failed : {R A : Type 0} {left : R → Option (List ℕ)} {failures : R → ℕ} {same : R → R → Type 0} {old new : BufferedReader R}
     {o : List ℕ → List ℕ → Type 0}
     (k : InputFault) (target : List ℕ) (reader : R) → HasRead left failures same reader new.reader target (Err k) → reader ≡ old.reader → old.ended ≡ false
     → new.ended ≡ false
     → ((b a : List ℕ) → o b a) → ReadCall {A = A} left failures same old new (Err k) o
-turn_failed {left = left} {failures = failures} {same = same} {old = old} {new = new} k target reader from is_reader goes_on still f =
+call_failed {left = left} {failures = failures} {same = same} {old = old} {new = new} k target reader from is_reader goes_on still f =
     let r : HasRead left failures same old.reader new.reader target (Err k) =
     subst (λ x. HasRead left failures same x new.reader target (Err k)) is_reader from in
     record {
@@ -79,10 +79,10 @@ range_grown bytes target post at end count order within few =
     ∙ ap₂ (λ (a b : List ℕ). a ++ b) held (take-append-le count target post few)
 
 -- where no byte can come any more, and none is held
-pub turn_at_end : {R : Type 0} {left : R → Option (List ℕ)} {failures : R → ℕ} {same : R → R → Type 0} (input : BufferedReader R) (target : List ℕ)
+pub call_at_end : {R : Type 0} {left : R → Option (List ℕ)} {failures : R → ℕ} {same : R → R → Type 0} (input : BufferedReader R) (target : List ℕ)
     → ((a : R) → same a a) → input.ended ≡ true → held_of input ≡ []
     → ReadCall {A = ℕ} left failures same input input (Ok 0) (Reads target (Ok 0))
-turn_at_end {left = left} input target at_once ended held = record {
+call_at_end {left = left} input target at_once ended held = record {
   read = [];
   consumed = consumes_nothing (left input.reader);
   comes = λ rest c e. c e;
@@ -94,26 +94,26 @@ turn_at_end {left = left} input target at_once ended held = record {
 }
 
 -- bytes came into a target, past the buffer
-pub turn_past : {R : Type 0} {left : R → Option (List ℕ)} {failures : R → ℕ} {same : R → R → Type 0} {old new : BufferedReader R} (count : ℕ) (target : List ℕ)
+pub call_past : {R : Type 0} {left : R → Option (List ℕ)} {failures : R → ℕ} {same : R → R → Type 0} {old new : BufferedReader R} (count : ℕ) (target : List ℕ)
     → HasRead left failures same old.reader new.reader target (Ok count) → old.ended ≡ false → new.ended ≡ (count == 0) → held_of old ≡ [] → held_of new ≡ []
     → ReadCall {A = ℕ} left failures same old new (Ok count) (Reads target (Ok count))
-turn_past {old = old} {new = new} count target r goes_on ended was_empty is_empty =
-    turn_read count count target r goes_on (λ e. eqb-true count 0 (sym ended ∙ e)) (λ rest c. (
+call_past {old = old} {new = new} count target r goes_on ended was_empty is_empty =
+    call_read count count target r goes_on (λ e. eqb-true count 0 (sym ended ∙ e)) (λ rest c. (
       ap₂ (λ (a b : List ℕ). a ++ (take count target ++ (b ++ rest))) was_empty (sym is_empty),
       r.1,
       λ none. ap₂ (λ (a b : List ℕ). a ++ b) is_empty (c (ended ∙ ap (λ (n : ℕ). n == 0) none)),
     ))
 
 -- what was read stands behind what is held
-pub turn_grown : {R : Type 0} {left : R → Option (List ℕ)} {failures : R → ℕ} {same : R → R → Type 0} {old new : BufferedReader R} (count : ℕ) (target : List ℕ)
+pub call_grown : {R : Type 0} {left : R → Option (List ℕ)} {failures : R → ℕ} {same : R → R → Type 0} {old new : BufferedReader R} (count : ℕ) (target : List ℕ)
     (reader : R)
     → HasRead left failures same reader new.reader target (Ok count) → reader ≡ old.reader → old.ended ≡ false → (new.ended ≡ true → count ≡ 0)
     → held_of new ≡ held_of old ++ take count target
     → ReadCall {A = Unit {0}} left failures same old new (Ok tt) (Fills (Ok tt))
-turn_grown {left = left} {failures = failures} {same = same} {old = old} {new = new} count target reader r is_reader goes_on at_end held =
+call_grown {left = left} {failures = failures} {same = same} {old = old} {new = new} count target reader r is_reader goes_on at_end held =
     let r_old : HasRead left failures same old.reader new.reader target (Ok count) =
     subst (λ x. HasRead left failures same x new.reader target (Ok count)) is_reader r in
-    turn_read tt count target r_old goes_on at_end (λ rest c. sym (append_assoc (held_of old) (take count target) rest)
+    call_read tt count target r_old goes_on at_end (λ rest c. sym (append_assoc (held_of old) (take count target) rest)
     ∙ ap (λ (l : List ℕ). l ++ rest) (sym held))
 
 -- reads that follow one another, while nothing is taken
@@ -121,23 +121,23 @@ pub fills_then : {R : Type 0} {left : R → Option (List ℕ)} {failures : R →
     → ((a b c : R) → same a b → same b c → same a c)
     → ReadCall {A = Unit {0}} left failures same old mid (Ok tt) (Fills (Ok tt)) → ReadCall {A = Unit {0}} left failures same mid new (Ok tt) (Fills (Ok tt))
     → ReadCall {A = Unit {0}} left failures same old new (Ok tt) (Fills (Ok tt))
-fills_then later s t = turn_ok_so {A = Unit {0}} {B = Unit {0}} tt (Ok tt) (no_fault tt ReadFailed) (λ b a o. o.1 ∙ o.2)
-    (turn_then {A = Unit {0}} {B = Unit {0}} tt later s t)
+fills_then later s t = call_ok_so {A = Unit {0}} {B = Unit {0}} tt (Ok tt) (no_fault tt ReadFailed) (λ b a o. o.1 ∙ o.2)
+    (call_then {A = Unit {0}} {B = Unit {0}} tt later s t)
 
 pub fills_not : {R : Type 0} {left : R → Option (List ℕ)} {failures : R → ℕ} {same : R → R → Type 0} {old mid new : BufferedReader R} (k : InputFault)
     → ((a b c : R) → same a b → same b c → same a c)
     → ReadCall {A = Unit {0}} left failures same old mid (Ok tt) (Fills (Ok tt)) → ReadCall {A = Unit {0}} left failures same mid new (Err k) (Fills (Err k))
     → ReadCall {A = Unit {0}} left failures same old new (Err k) (Fills (Err k))
-fills_not k later s t = turn_err_so {A = Unit {0}} {B = Unit {0}} k (λ b a o. o.2) (turn_then {A = Unit {0}} {B = Unit {0}} tt later s t)
+fills_not k later s t = call_err_so {A = Unit {0}} {B = Unit {0}} k (λ b a o. o.2) (call_then {A = Unit {0}} {B = Unit {0}} tt later s t)
 
 -- a read into a target, past the buffer, or the fault
-pub turn_past_by : {R : Type 0} {left : R → Option (List ℕ)} {failures : R → ℕ} {same : R → R → Type 0} {old new : BufferedReader R} (target : List ℕ)
+pub call_past_by : {R : Type 0} {left : R → Option (List ℕ)} {failures : R → ℕ} {same : R → R → Type 0} {old new : BufferedReader R} (target : List ℕ)
     (result : Result ℕ InputFault)
     → HasRead left failures same old.reader new.reader target result → old.ended ≡ false
     → MatchResult result (λ count. new.ended ≡ (count == 0)) (λ _. new.ended ≡ false) → held_of old ≡ [] → held_of new ≡ []
     → ReadCall {A = ℕ} left failures same old new result (Reads target result)
-turn_past_by target (Ok count) r goes_on ended was_empty is_empty = turn_past count target r goes_on ended was_empty is_empty
-turn_past_by {old = old} target (Err k) r goes_on ended was_empty is_empty = turn_failed k target old.reader r refl goes_on ended (λ b a. inl r.1)
+call_past_by target (Ok count) r goes_on ended was_empty is_empty = call_past count target r goes_on ended was_empty is_empty
+call_past_by {old = old} target (Err k) r goes_on ended was_empty is_empty = call_failed k target old.reader r refl goes_on ended (λ b a. inl r.1)
 
 -- an input that holds enough isn't read on
 pub not_enough : {R : Type 0} (wanted : ℕ) (old now : BufferedReader R) → now ≡ old → HoldsEnough wanted old → now.ended ≡ false → length (held_of now) < wanted
@@ -169,16 +169,16 @@ nothing_comes mid rest count bytes size c (inr ended) some is_held is_count none
     ap₂ (λ (n : ℕ) (l : List ℕ). drop n l ++ rest) none (sym is_held ∙ empty) ∙ c ended
 
 -- bytes that are held were copied into the front of a target
-pub turn_copied : {R : Type 0} {left : R → Option (List ℕ)} {failures : R → ℕ} {same : R → R → Type 0} {old mid new : BufferedReader R} (bytes post : List ℕ)
+pub call_copied : {R : Type 0} {left : R → Option (List ℕ)} {failures : R → ℕ} {same : R → R → Type 0} {old mid new : BufferedReader R} (bytes post : List ℕ)
     (count size : ℕ)
     → ReadCall {A = Unit {0}} left failures same old mid (Ok tt) (Fills (Ok tt)) → HoldsEnough 1 mid → 0 < size → bytes ≡ held_of mid
     → count ≡ min (length bytes) size
     → new.reader ≡ mid.reader → new.ended ≡ mid.ended → held_of new ≡ drop count (held_of mid)
     → ReadCall {A = ℕ} left failures same old new (Ok count) (Reads (take count bytes ++ post) (Ok count))
-turn_copied {mid = mid} bytes post count size t enough some is_held is_count reader ended held =
+call_copied {mid = mid} bytes post count size t enough some is_held is_count reader ended held =
     let few : count ≤ length bytes = omega arith in
     let prefix : length (take count bytes) ≡ count = length-take-le count bytes few in
-    turn_advance {A = Unit {0}} {B = ℕ} tt (Ok count) count (no_fault count ReadFailed) reader ended held (λ b rest c o. (
+    call_advance {A = Unit {0}} {B = ℕ} tt (Ok count) count (no_fault count ReadFailed) reader ended held (λ b rest c o. (
       o ∙ ap (λ (l : List ℕ). l ++ rest) (sym (take-append-drop count (held_of mid))
           ∙ ap (λ (l : List ℕ). l ++ drop count (held_of mid)) (ap (take count) (sym is_held) ∙ sym (take_at_length count (take count bytes) post prefix)))
           ∙ append_assoc (take count (take count bytes ++ post)) (drop count (held_of mid)) rest,

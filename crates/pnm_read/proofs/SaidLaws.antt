@@ -13,7 +13,7 @@ use Rattle.pnm_read.specs.Said.{Said, row_in_form, row_at, end_said, format_at, 
 use Rattle.pnm_read.specs.Said.{later_said, text_said, said_of, fault_of}
 use Rattle.pnm_read.proofs.ReadHeaderLaws.{read_header_is_spelled, spelled_head}
 use Rattle.pnm_read.proofs.PlainLaws.{plain_row_is_row, last_plain_row_is_row}
-use Rattle.pnm_read.proofs.RowTurns.{said_from}
+use Rattle.pnm_read.proofs.RowsInTurn.{said_from}
 use Rattle.pnm_read.proofs.RawLaws.{raw_row_is_row}
 use Rattle.pnm_read.proofs.TextLaws.{said_text_is_spelled}
 

@@ -8,11 +8,11 @@ use Rattle.std.proofs.lemmas.Bool.Decides.{nat_tests}
 use Rattle.std.proofs.lemmas.List.Elements.{filter-append, All-nil, All-cons, All-head, All-tail, All-push}
 use Rattle.pnm_read.specs.declared.fault.InputFault.{InputFault}
 use Rattle.pnm_read.specs.declared.fault.InputFault.TheVariants.{RasterCut, SampleAboveMaxval}
-use Rattle.pnm_read.specs.declared.judgement.Judgement.{Judgement}
-use Rattle.pnm_read.specs.declared.judgement.Judgement.TheVariants.{GoesOn, EndsWith, EndsBefore, Fails}
+use Rattle.pnm_read.specs.declared.scan_status.ScanStatus.{ScanStatus}
+use Rattle.pnm_read.specs.declared.scan_status.ScanStatus.TheVariants.{GoesOn, EndsWith, EndsBefore, Fails}
 use Rattle.pnm_image.specs.declared.shape.Kind.{Kind}
 use Rattle.pnm_image.specs.declared.shape.Kind.TheVariants.{Bit, Gray, Color, Pam}
-use Rattle.pnm_read.specs.Texts.{is_apart, begins_apart, ends_by, commented, ends_in_comment, uncommented_from, uncommented, number_in}
+use Rattle.pnm_read.specs.HeaderTexts.{is_apart, begins_apart, ends_by, commented, ends_in_comment, uncommented_from, uncommented, number_in}
 use Rattle.pnm_image.specs.Texts.{is_white, is_digit, decimal_value}
 use Rattle.pnm_image.proofs.BoolLaws.{not_and_parts}
 use Rattle.pnm_read.specs.Rasters.{IsGap, SpellsDecimal, SpellsSample, SpellsPiece, MayFollowSample}
@@ -238,7 +238,7 @@ ends_apart_by false true true apart e h c = absurd cc
 ends_apart_by false true false true e h c = refl
 ends_apart_by false true false false e h c = absurd cc
 
-in_digits_by : (before : List ℕ) (b : ℕ) (text : List ℕ) (found : List ℕ × List ℕ) (j : Judgement) → InDigits before → DecimalTold before b j
+in_digits_by : (before : List ℕ) (b : ℕ) (text : List ℕ) (found : List ℕ × List ℕ) (j : ScanStatus) → InDigits before → DecimalTold before b j
     → FoundBy decimal_item decimal_end before b text found j
     → (InDigits (before ++ b ∷ []) → piece_from decimal_item decimal_end (before ++ b ∷ []) text ≡ Ok found → IsDecimal found) → IsDecimal found
 in_digits_by before b text found (Fails fault) s told f on = absurd f
@@ -302,7 +302,7 @@ not_at_end : (ends : Bool) → ends ≡ false → (if ends then None else Some R
 not_at_end true e h = cc
 not_at_end false e h = cc
 
-in_decimal_gap_by : (before : List ℕ) (b : ℕ) (text : List ℕ) (found : List ℕ × List ℕ) (j : Judgement) → InGap before → DecimalTold before b j
+in_decimal_gap_by : (before : List ℕ) (b : ℕ) (text : List ℕ) (found : List ℕ × List ℕ) (j : ScanStatus) → InGap before → DecimalTold before b j
     → FoundBy decimal_item decimal_end before b text found j
     → (InGap (before ++ b ∷ []) → piece_from decimal_item decimal_end (before ++ b ∷ []) text ≡ Ok found → IsDecimal found) → IsDecimal found
 in_decimal_gap_by before b text found (Fails fault) s told f on = absurd f
@@ -372,7 +372,7 @@ record IsPixelPiece (found : List ℕ × List ℕ) : Type 0 where
   pub pixel : is_pixel character ≡ true
   pub short : length found.0 ≤ GAP_LIMIT
 
-in_pixel_gap_by : (before : List ℕ) (b : ℕ) (text : List ℕ) (found : List ℕ × List ℕ) (j : Judgement) → AllPass is_white (uncommented before)
+in_pixel_gap_by : (before : List ℕ) (b : ℕ) (text : List ℕ) (found : List ℕ × List ℕ) (j : ScanStatus) → AllPass is_white (uncommented before)
     → PixelTold before b j → FoundBy pixel_item pixel_end before b text found j
     → (AllPass is_white (uncommented (before ++ b ∷ [])) → piece_from pixel_item pixel_end (before ++ b ∷ []) text ≡ Ok found → IsPixelPiece found)
     → IsPixelPiece found

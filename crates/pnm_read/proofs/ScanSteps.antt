@@ -3,57 +3,58 @@ use Rattle.std.proofs.Common.{◌≡◌, ℕ, true, List, [], ◌∷◌, ◌++�
 use Rattle.std.proofs.lemmas.List.{drop_all}
 use Rattle.pnm_read.specs.declared.fault.InputFault.{InputFault}
 use Rattle.pnm_read.specs.declared.fault.InputFault.TheVariants.{ReadFailed}
-use Rattle.pnm_read.specs.declared.judgement.Judgement.{Judgement}
+use Rattle.pnm_read.specs.declared.scan_status.ScanStatus.{ScanStatus}
 use Rattle.pnm_read.specs.declared.buffered_reader.BufferedReader.{BufferedReader}
 use Rattle.pnm_read.specs.Items.{piece_from}
 use Rattle.pnm_read.specs.Scans.{FeedsAfter, Feeds, ScansAfter, Scans, JudgesEnd, IfEnds}
 use Rattle.pnm_read.specs.BufferedReaders.{ReadCall, Fills, held_of, HoldsEnough}
-use Rattle.pnm_read.proofs.Turns.{IsLeft, no_fault, turn_then, turn_ok_so, turn_err_so, turn_taken, turn_seen, turn_advance, nothing_left}
+use Rattle.pnm_read.proofs.ReadCalls.{IsLeft, no_fault, call_then, call_ok_so, call_err_so, call_taken, call_seen, call_advance, nothing_left}
 
 -- the piece of a text goes on as that of what is left of it
-abbrev pub GoesOnAs : {S : Type 0} → (S → List ℕ → ℕ → Judgement) → (S → List ℕ → Option InputFault) → (S → List ℕ → Type 0) → S → S → List ℕ → List ℕ → Type 0
+abbrev pub GoesOnAs : {S : Type 0} → (S → List ℕ → ℕ → ScanStatus) → (S → List ℕ → Option InputFault) → (S → List ℕ → Type 0) → S → S → List ℕ → List ℕ → Type 0
 GoesOnAs item at_end is_after old now text left =
     (before : List ℕ) → is_after old before → (more : List ℕ) × is_after now more
     × (piece_from (item old) (at_end old) before text ≡ piece_from (item old) (at_end old) more left)
 
-pub record Scanning {R S : Type 0} (left : R → Option (List ℕ)) (failures : R → ℕ) (same : R → R → Type 0) (item : S → List ℕ → ℕ → Judgement)
+pub record Scanning {R S : Type 0} (left : R → Option (List ℕ)) (failures : R → ℕ) (same : R → R → Type 0) (item : S → List ℕ → ℕ → ScanStatus)
     (at_end : S → List ℕ → Option InputFault) (is_after : S → List ℕ → Type 0) (input_old input : BufferedReader R) (old now : S) : Type 0 where
   pub same_items : item now ≡ item old
   pub same_end : at_end now ≡ at_end old
-  pub turn : ReadCall {A = Unit {0}} left failures same input_old input (Ok tt) (GoesOnAs item at_end is_after old now)
+  pub call : ReadCall {A = Unit {0}} left failures same input_old input (Ok tt) (GoesOnAs item at_end is_after old now)
 
 -- nothing was taken yet
-pub scan_begins : {R S : Type 0} {left : R → Option (List ℕ)} {failures : R → ℕ} {same : R → R → Type 0} {item : S → List ℕ → ℕ → Judgement}
+pub scan_begins : {R S : Type 0} {left : R → Option (List ℕ)} {failures : R → ℕ} {same : R → R → Type 0} {item : S → List ℕ → ℕ → ScanStatus}
     {at_end : S → List ℕ → Option InputFault} {is_after : S → List ℕ → Type 0}
     (input : BufferedReader R) (s : S) → ((a : R) → same a a) → Scanning left failures same item at_end is_after input input s s
 scan_begins {item = item} {at_end = at_end} input s at_once = record {
   same_items = refl;
   same_end = refl;
-  turn = turn_ok_so {A = Unit {0}} {B = Unit {0}} tt (Ok tt) (no_fault tt ReadFailed)
+  call = call_ok_so {A = Unit {0}} {B = Unit {0}} tt (Ok tt) (no_fault tt ReadFailed)
       (λ b a e before f. (before, f, ap (piece_from (item s) (at_end s) before) e))
-      (turn_taken {A = Unit {0}} {result = Ok tt} [] at_once (no_fault tt ReadFailed) refl refl refl);
+      (call_taken {A = Unit {0}} {result = Ok tt} [] at_once (no_fault tt ReadFailed) refl refl refl);
 }
 
 -- reading on failed
-pub scan_unread : {R S : Type 0} {left : R → Option (List ℕ)} {failures : R → ℕ} {same : R → R → Type 0} {item : S → List ℕ → ℕ → Judgement}
+pub scan_unread : {R S : Type 0} {left : R → Option (List ℕ)} {failures : R → ℕ} {same : R → R → Type 0} {item : S → List ℕ → ℕ → ScanStatus}
     {at_end : S → List ℕ → Option InputFault} {is_after : S → List ℕ → Type 0} {input_old input mid : BufferedReader R} {old now : S}
     (is_whole : List ℕ → Type 0) (k : InputFault) → ((a b c : R) → same a b → same b c → same a c)
     → Scanning left failures same item at_end is_after input_old input old now → ReadCall {A = Unit {0}} left failures same input mid (Err k) (Fills (Err k))
     → ReadCall {A = Unit {0}} left failures same input_old mid (Err k) (Scans (item old) (at_end old) (is_after old) is_whole (Err k))
-scan_unread is_whole k later s t = turn_err_so {A = Unit {0}} {B = Unit {0}} k (λ b a o before f. inr o.2)
-    (turn_then {A = Unit {0}} {B = Unit {0}} tt later s.turn t)
+scan_unread is_whole k later s t = call_err_so {A = Unit {0}} {B = Unit {0}} k (λ b a o before f. inr o.2)
+    (call_then {A = Unit {0}} {B = Unit {0}} tt later s.call t)
 
 -- what is left after reading on, and what came before it
-abbrev pub ReadOn : {R S : Type 0} → (S → List ℕ → ℕ → Judgement) → (S → List ℕ → Option InputFault) → (S → List ℕ → Type 0) → BufferedReader R → S → S → List ℕ
+abbrev pub ReadOn : {R S : Type 0} → (S → List ℕ → ℕ → ScanStatus) → (S → List ℕ → Option InputFault) → (S → List ℕ → Type 0) → BufferedReader R → S → S
+    → List ℕ
     → List ℕ → Type 0
 ReadOn item at_end is_after input old now text left = ((m : List ℕ) × GoesOnAs item at_end is_after old now text m × (m ≡ left)) × IsLeft input left
 
-pub read_on : {R S : Type 0} {left : R → Option (List ℕ)} {failures : R → ℕ} {same : R → R → Type 0} {item : S → List ℕ → ℕ → Judgement}
+pub read_on : {R S : Type 0} {left : R → Option (List ℕ)} {failures : R → ℕ} {same : R → R → Type 0} {item : S → List ℕ → ℕ → ScanStatus}
     {at_end : S → List ℕ → Option InputFault} {is_after : S → List ℕ → Type 0} {input_old input mid : BufferedReader R} {old now : S}
     → ((a b c : R) → same a b → same b c → same a c) → Scanning left failures same item at_end is_after input_old input old now
     → ReadCall {A = Unit {0}} left failures same input mid (Ok tt) (Fills (Ok tt))
     → ReadCall {A = Unit {0}} left failures same input_old mid (Ok tt) (ReadOn item at_end is_after mid old now)
-read_on later s t = turn_seen (turn_then tt later s.turn t)
+read_on later s t = call_seen (call_then tt later s.call t)
 
 -- the answer at the end of the text
 abbrev pub ended_as : Option InputFault → Result (Unit {0}) InputFault
@@ -70,7 +71,7 @@ end_as before (Some fault) = Err fault
 end_as before None = Ok (before, [])
 
 -- how the end of the text is judged
-end_found : (item : List ℕ → ℕ → Judgement) (at_end : List ℕ → Option InputFault) (is_whole : List ℕ → Type 0) (more text : List ℕ) (before : List ℕ)
+end_found : (item : List ℕ → ℕ → ScanStatus) (at_end : List ℕ → Option InputFault) (is_whole : List ℕ → Type 0) (more text : List ℕ) (before : List ℕ)
     (fault : Option InputFault) → fault ≡ at_end more → IfEnds is_whole more fault
     → piece_from item at_end before text ≡ piece_from item at_end more [] → ScansAfter item at_end is_whole (ended_as fault) before text []
 unfolding piece_from
@@ -78,14 +79,14 @@ end_found item at_end is_whole more text before (Some k) e w p = inl (p ∙ ap (
 end_found item at_end is_whole more text before None e w p = (more, w, p ∙ ap (end_as more) (sym e))
 
 -- the text has ended
-pub scan_ends : {R S : Type 0} {left : R → Option (List ℕ)} {failures : R → ℕ} {same : R → R → Type 0} {item : S → List ℕ → ℕ → Judgement}
+pub scan_ends : {R S : Type 0} {left : R → Option (List ℕ)} {failures : R → ℕ} {same : R → R → Type 0} {item : S → List ℕ → ℕ → ScanStatus}
     {at_end : S → List ℕ → Option InputFault} {is_after : S → List ℕ → Type 0} {input_old input mid : BufferedReader R} {old now : S}
     (is_whole : S → List ℕ → Type 0) (fault : Option InputFault) → ((a b c : R) → same a b → same b c → same a c)
     → Scanning left failures same item at_end is_after input_old input old now → ReadCall {A = Unit {0}} left failures same input mid (Ok tt) (Fills (Ok tt))
     → held_of mid ≡ [] → mid.ended ≡ true → (fault ≡ Some ReadFailed → ⊥) → JudgesEnd (at_end now) (is_after now) (is_whole now) fault
     → ReadCall left failures same input_old mid (ended_as fault) (Scans (item old) (at_end old) (is_after old) (is_whole now) (ended_as fault))
 scan_ends {item = item} {at_end = at_end} {is_after = is_after} {mid = mid} {old = old} {now = now} is_whole fault later s t held ended of_text judged =
-    turn_ok_so tt (ended_as fault) (ended_of_text fault of_text) (λ b a o before f.
+    call_ok_so tt (ended_as fault) (ended_of_text fault of_text) (λ b a o before f.
     let on = o.0.1 before f in
     let none = nothing_left mid a held ended o.1 in
     let end = judged on.0 on.1 in
@@ -95,24 +96,24 @@ scan_ends {item = item} {at_end = at_end} {is_after = is_after} {mid = mid} {old
     (read_on later s t)
 
 -- what is left after some bytes were taken
-fed_as : {S : Type 0} (item : S → List ℕ → ℕ → Judgement) (at_end : S → List ℕ → Option InputFault) (is_after : S → List ℕ → Type 0)
+fed_as : {S : Type 0} (item : S → List ℕ → ℕ → ScanStatus) (at_end : S → List ℕ → Option InputFault) (is_after : S → List ℕ → Type 0)
     (is_after_new is_whole : List ℕ → Type 0) (old now : S) (bytes : List ℕ) (result : Result (Option ℕ) InputFault) (more : List ℕ) → item now ≡ item old
     → at_end now ≡ at_end old
     → Feeds (item now) (at_end now) (is_after now) is_after_new is_whole bytes result → is_after now more
     → FeedsAfter (item old) (at_end old) is_after_new is_whole bytes result more
 fed_as item at_end is_after is_after_new is_whole old now bytes result more items ends f a =
-    subst (λ (i : List ℕ → ℕ → Judgement). FeedsAfter i (at_end old) is_after_new is_whole bytes result more) items
+    subst (λ (i : List ℕ → ℕ → ScanStatus). FeedsAfter i (at_end old) is_after_new is_whole bytes result more) items
     (subst (λ (e : List ℕ → Option InputFault). FeedsAfter (item now) e is_after_new is_whole bytes result more) ends (f more a))
 
 -- a byte is at fault, or memory ran out
-pub scan_fails : {R S : Type 0} {left : R → Option (List ℕ)} {failures : R → ℕ} {same : R → R → Type 0} {item : S → List ℕ → ℕ → Judgement}
+pub scan_fails : {R S : Type 0} {left : R → Option (List ℕ)} {failures : R → ℕ} {same : R → R → Type 0} {item : S → List ℕ → ℕ → ScanStatus}
     {at_end : S → List ℕ → Option InputFault} {is_after : S → List ℕ → Type 0} {input_old input mid : BufferedReader R} {old now : S}
     (is_after_new is_whole : List ℕ → Type 0) (k : InputFault) → ((a b c : R) → same a b → same b c → same a c)
     → Scanning left failures same item at_end is_after input_old input old now → ReadCall {A = Unit {0}} left failures same input mid (Ok tt) (Fills (Ok tt))
     → (k ≡ ReadFailed → ⊥) → Feeds (item now) (at_end now) (is_after now) is_after_new is_whole (held_of mid) (Err k)
     → ReadCall {A = Unit {0}} left failures same input_old mid (Err k) (Scans (item old) (at_end old) (is_after old) is_whole (Err k))
 scan_fails {item = item} {at_end = at_end} {is_after = is_after} {mid = mid} {old = old} {now = now} is_after_new is_whole k later s t of_text f =
-    turn_ok_so tt (Err k) (λ e. of_text cc) (λ b a o before g.
+    call_ok_so tt (Err k) (λ e. of_text cc) (λ b a o before g.
     let on = o.0.1 before g in
     elim (fed_as item at_end is_after is_after_new is_whole old now (held_of mid) (Err k) on.0 s.same_items s.same_end f on.1) [
       | inl at_fault ↦ inl (on.2 ∙ ap (piece_from (item old) (at_end old) on.0) (o.0.2 ∙ o.1.2) ∙ at_fault o.1.0)
@@ -121,7 +122,7 @@ scan_fails {item = item} {at_end = at_end} {is_after = is_after} {mid = mid} {ol
     (read_on later s t)
 
 -- the piece has ended
-pub scan_found : {R S : Type 0} {left : R → Option (List ℕ)} {failures : R → ℕ} {same : R → R → Type 0} {item : S → List ℕ → ℕ → Judgement}
+pub scan_found : {R S : Type 0} {left : R → Option (List ℕ)} {failures : R → ℕ} {same : R → R → Type 0} {item : S → List ℕ → ℕ → ScanStatus}
     {at_end : S → List ℕ → Option InputFault} {is_after : S → List ℕ → Type 0} {input_old input mid new : BufferedReader R} {old now : S}
     (is_after_new is_whole : List ℕ → Type 0) (n : ℕ) → ((a b c : R) → same a b → same b c → same a c)
     → Scanning left failures same item at_end is_after input_old input old now → ReadCall {A = Unit {0}} left failures same input mid (Ok tt) (Fills (Ok tt))
@@ -129,14 +130,14 @@ pub scan_found : {R S : Type 0} {left : R → Option (List ℕ)} {failures : R �
     → held_of new ≡ drop n (held_of mid)
     → ReadCall {A = Unit {0}} left failures same input_old new (Ok tt) (Scans (item old) (at_end old) (is_after old) is_whole (Ok tt))
 scan_found {item = item} {at_end = at_end} {is_after = is_after} {mid = mid} {old = old} {now = now} is_after_new is_whole n later s t f reader ended held =
-    turn_advance tt (Ok tt) n (no_fault tt ReadFailed) reader ended held (λ b rest c o before g.
+    call_advance tt (Ok tt) n (no_fault tt ReadFailed) reader ended held (λ b rest c o before g.
     let on = o.0.1 before g in
     let fed = fed_as item at_end is_after is_after_new is_whole old now (held_of mid) (Ok (Some n)) on.0 s.same_items s.same_end f on.1 in
     (fed.0, fed.1, on.2 ∙ ap (piece_from (item old) (at_end old) on.0) o.0.2 ∙ fed.2 rest))
     (read_on later s t)
 
 -- the piece goes on after all bytes that are held
-pub scan_goes_on : {R S : Type 0} {left : R → Option (List ℕ)} {failures : R → ℕ} {same : R → R → Type 0} {item : S → List ℕ → ℕ → Judgement}
+pub scan_goes_on : {R S : Type 0} {left : R → Option (List ℕ)} {failures : R → ℕ} {same : R → R → Type 0} {item : S → List ℕ → ℕ → ScanStatus}
     {at_end : S → List ℕ → Option InputFault} {is_after : S → List ℕ → Type 0} {input_old input mid new : BufferedReader R} {old now later_on : S}
     (is_whole : List ℕ → Type 0) (n : ℕ) → ((a b c : R) → same a b → same b c → same a c)
     → Scanning left failures same item at_end is_after input_old input old now → ReadCall {A = Unit {0}} left failures same input mid (Ok tt) (Fills (Ok tt))
@@ -148,7 +149,7 @@ scan_goes_on {item = item} {at_end = at_end} {is_after = is_after} {mid = mid} {
     all reader ended held = record {
       same_items = items ∙ s.same_items;
       same_end = ends ∙ s.same_end;
-      turn = turn_advance tt (Ok tt) n (no_fault tt ReadFailed) reader ended held (λ b rest c o before g.
+      call = call_advance tt (Ok tt) n (no_fault tt ReadFailed) reader ended held (λ b rest c o before g.
           let on = o.0.1 before g in
           let fed = fed_as item at_end is_after (is_after later_on) is_whole old now (held_of mid) (Ok None) on.0 s.same_items s.same_end f on.1 in
           let none : drop n (held_of mid) ≡ [] = drop_all n (held_of mid) (omega arith) in (

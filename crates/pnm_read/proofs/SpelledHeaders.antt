@@ -12,12 +12,12 @@ use Rattle.pnm_image.specs.declared.head.HeadFault.{HeadFault}
 use Rattle.pnm_image.specs.Heads.{HeadValue, IsHead, Suits, head_value, shape_fault}
 use Rattle.pnm_read.specs.declared.fault.InputFault.TheVariants.{PlainInStream}
 use Rattle.pnm_image.specs.declared.format.Format.{Format}
-use Rattle.pnm_read.specs.declared.judgement.Judgement.{Judgement}
-use Rattle.pnm_read.specs.declared.judgement.Judgement.TheVariants.{GoesOn, EndsWith}
-use Rattle.pnm_read.specs.Texts.{is_apart, begins_apart, ends_in_comment, uncommented, ends_in_word, numbers_in}
+use Rattle.pnm_read.specs.declared.scan_status.ScanStatus.{ScanStatus}
+use Rattle.pnm_read.specs.declared.scan_status.ScanStatus.TheVariants.{GoesOn, EndsWith}
+use Rattle.pnm_read.specs.HeaderTexts.{is_apart, begins_apart, ends_in_comment, uncommented, ends_in_word, numbers_in}
 use Rattle.pnm_image.specs.Texts.{is_white, is_digit}
 use Rattle.pnm_image.specs.Formats.{format_of, is_plain_form}
-use Rattle.pnm_read.specs.Formats.{number_count, shape_of, header_numbers}
+use Rattle.pnm_read.specs.HeaderNumbers.{number_count, shape_of, header_numbers}
 use Rattle.pnm_read.specs.Headers.{SpellsPnmHeader, SpellsPamHeader, SpellsHeaderBy, SpellsHeader}
 use Rattle.pnm_read.specs.declared.header.TheConstants.{MAX_HEADER_LENGTH}
 use Rattle.pnm_read.specs.Items.{piece_from, first_magic_item, second_magic_item, header_limit, is_bad_in_header, is_delimiter, header_item, header_end}
@@ -89,9 +89,9 @@ ends_with count body b d w =
     let last : is_delimiter count body b ≡ true = rw (d.outside, w, eq-eqb (length (numbers_in body)) count d.all) refl in
     header_item_is count body b ∙ rw (long, bad, last) refl
 
-piece_ends : (judgement : Judgement) (count : ℕ) (body : List ℕ) (b : ℕ) (text : List ℕ) → judgement ≡ EndsWith
-    → pieced judgement count body b text ≡ Ok (body ++ b ∷ [], text)
-piece_ends judgement count body b text e = rw e refl
+piece_ends : (scan_status : ScanStatus) (count : ℕ) (body : List ℕ) (b : ℕ) (text : List ℕ) → scan_status ≡ EndsWith
+    → pieced scan_status count body b text ≡ Ok (body ++ b ∷ [], text)
+piece_ends scan_status count body b text e = rw e refl
 
 -- the body and the delimiter are read as the header's piece
 body_is_piece : (count : ℕ) (body : List ℕ) (delimiter : ℕ) (rest : List ℕ) → Decimal count body → is_white delimiter ≡ true

@@ -23,7 +23,7 @@ use Rattle.pnm_read.specs.Said.{said_of, fault_of}
 use Rattle.pnm_read.specs.Sources.{reader_of, stopped_by, due, MayGive, SeesEnd, MayGiveMore, HasGiven}
 use Rattle.pnm_read.proofs.FaultLaws.{fault_is_of_text}
 use Rattle.pnm_read.proofs.ReadHeaderLaws.{read_header_is_spelled, spelled_head}
-use Rattle.pnm_read.proofs.RowTurns.{said_from}
+use Rattle.pnm_read.proofs.RowsInTurn.{said_from}
 use Rattle.pnm_read.proofs.SaidLaws.{read_head_is_header}
 use Rattle.pnm_read.proofs.GivenLaws.{messages_after, fault_after}
 

@@ -9,7 +9,7 @@ use Rattle.std.proofs.lemmas.List.Folds.{list_all-append}
 use Rattle.pnm_image.specs.declared.limits.TheConstants.{MAX_TUPLE_TYPE_LENGTH}
 use Rattle.pnm_image.specs.Heads.{IsTupleType}
 use Rattle.pnm_image.specs.Texts.{is_blank}
-use Rattle.pnm_read.specs.Texts.{ends_by}
+use Rattle.pnm_read.specs.HeaderTexts.{ends_by}
 use Rattle.pnm_read.specs.PamLines.{trimmed_start, onto_trimmed, trimmed_end, after_token, value_of, begins_with, joined_with, tuple_type_in}
 use Rattle.pnm_read.specs.Headers.{IsOneLine}
 use Rattle.pnm_read.proofs.LineLaws.{if_both}

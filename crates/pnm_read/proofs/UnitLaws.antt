@@ -16,10 +16,10 @@ use Rattle.pnm_read.specs.RawParts.{AppendsWide}
 use Rattle.pnm_read.specs.Units.{samples_of_bytes, AreBytesWithin}
 
 -- items in turn, and what is left
-abbrev pub Turns : Type 0
-Turns = Result (List (List ℕ) × List ℕ) InputFault
+abbrev pub ItemsRead : Type 0
+ItemsRead = Result (List (List ℕ) × List ℕ) InputFault
 
-abbrev pub fails : InputFault → Turns
+abbrev pub fails : InputFault → ItemsRead
 fails fault = Err fault
 
 -- the bytes of a unit
@@ -45,41 +45,42 @@ concat_pixels (b ∷ bytes) = ap (λ (l : List ℕ). pixels b ++ l) (concat_pixe
 -- ---- items in two parts
 
 -- items that were read, and what is left
-abbrev pub turned : {A : Type 0} → List A → List ℕ → Result (List A × List ℕ) InputFault
-turned items rest = Ok (items, rest)
+abbrev pub items_of : {A : Type 0} → List A → List ℕ → Result (List A × List ℕ) InputFault
+items_of items rest = Ok (items, rest)
 
 -- more items after these
-abbrev pub and_turns : {A : Type 0} → (List ℕ → Result (A × List ℕ) InputFault) → ℕ → List A → List ℕ → Result (List A × List ℕ) InputFault
-and_turns item n items text = in_turn item n text >>= λ more. turned (items ++ more.0) more.1
+abbrev pub and_items : {A : Type 0} → (List ℕ → Result (A × List ℕ) InputFault) → ℕ → List A → List ℕ → Result (List A × List ℕ) InputFault
+and_items item n items text = in_turn item n text >>= λ more. items_of (items ++ more.0) more.1
 
 -- no items before others
-pub none_before : {A : Type 0} (r : Result (List A × List ℕ) InputFault) → r ≡ (r >>= λ more. turned more.0 more.1)
+pub none_before : {A : Type 0} (r : Result (List A × List ℕ) InputFault) → r ≡ (r >>= λ more. items_of more.0 more.1)
 none_before (Ok x) = refl
 none_before (Err fault) = refl
 
 -- an item before items that others follow
 pub after_both : {A : Type 0} (items found : List A) (r : Result (List A × List ℕ) InputFault)
-    → ((r >>= λ more. turned (found ++ more.0) more.1) >>= λ more. turned (items ++ more.0) more.1) ≡ (r >>= λ more. turned ((items ++ found) ++ more.0) more.1)
-after_both items found (Ok x) = ap (λ l. turned l x.1) (sym (append_assoc items found x.0))
+    → ((r >>= λ more. items_of (found ++ more.0) more.1) >>= λ more. items_of (items ++ more.0) more.1) ≡ (r >>= λ more. items_of ((items ++ found) ++ more.0)
+    more.1)
+after_both items found (Ok x) = ap (λ l. items_of l x.1) (sym (append_assoc items found x.0))
 after_both items found (Err fault) = refl
 
 -- an item before items in two parts
 one_before : {A : Type 0} (item : List ℕ → Result (A × List ℕ) InputFault) (b : ℕ) (first : A) (r : Result (List A × List ℕ) InputFault)
-    → ((r >>= λ items. and_turns item b items.0 items.1) >>= λ all. turned (first ∷ all.0) all.1)
-    ≡ ((r >>= λ items. turned (first ∷ items.0) items.1) >>= λ items. and_turns item b items.0 items.1)
+    → ((r >>= λ items. and_items item b items.0 items.1) >>= λ all. items_of (first ∷ all.0) all.1)
+    ≡ ((r >>= λ items. items_of (first ∷ items.0) items.1) >>= λ items. and_items item b items.0 items.1)
 one_before item b first (Ok x) = after_both (first ∷ []) x.0 (in_turn item b x.1)
 one_before item b first (Err fault) = refl
 
 -- items in turn are so many, and then the others
 first_before : {A : Type 0} (item : List ℕ → Result (A × List ℕ) InputFault) (a b : ℕ) (r : Result (A × List ℕ) InputFault)
-    → ((text : List ℕ) → in_turn item (a + b) text ≡ (in_turn item a text >>= λ items. and_turns item b items.0 items.1))
-    → (r >>= λ first. in_turn item (a + b) first.1 >>= λ more. turned (first.0 ∷ more.0) more.1)
-    ≡ ((r >>= λ first. in_turn item a first.1 >>= λ more. turned (first.0 ∷ more.0) more.1) >>= λ items. and_turns item b items.0 items.1)
+    → ((text : List ℕ) → in_turn item (a + b) text ≡ (in_turn item a text >>= λ items. and_items item b items.0 items.1))
+    → (r >>= λ first. in_turn item (a + b) first.1 >>= λ more. items_of (first.0 ∷ more.0) more.1)
+    ≡ ((r >>= λ first. in_turn item a first.1 >>= λ more. items_of (first.0 ∷ more.0) more.1) >>= λ items. and_items item b items.0 items.1)
 first_before item a b (Ok x) known = rw (known x.1) (one_before item b x.0 (in_turn item a x.1))
 first_before item a b (Err fault) known = refl
 
 pub in_turn-add : {A : Type 0} (item : List ℕ → Result (A × List ℕ) InputFault) (a b : ℕ) (text : List ℕ)
-    → in_turn item (a + b) text ≡ (in_turn item a text >>= λ items. and_turns item b items.0 items.1)
+    → in_turn item (a + b) text ≡ (in_turn item a text >>= λ items. and_items item b items.0 items.1)
 unfolding in_turn
 in_turn-add item zero b text = ap (λ (n : ℕ). in_turn item n text) (zero-add b) ∙ none_before (in_turn item b text)
 in_turn-add item (suc a) b text = ap (λ (n : ℕ). in_turn item n text) (suc-add a b) ∙ first_before item a b (item text) (in_turn-add item a b)
@@ -100,7 +101,7 @@ all_are_within maxval samples e = All-weaker (λ sample. leb sample maxval ≡ t
     (AllPass-from_list_all (λ sample. leb sample maxval) samples e)
 
 -- these units, or the fault of a sample above the maxval
-abbrev pub units_if : Bool → List (List ℕ) → List ℕ → Turns
+abbrev pub units_if : Bool → List (List ℕ) → List ℕ → ItemsRead
 units_if within units rest = if within then Ok (units, rest) else Err SampleAboveMaxval
 
 -- this unit, or the fault of a sample above the maxval

@@ -5,7 +5,7 @@ use Rattle.std.specs.Char.{digit_value}
 use Rattle.std.proofs.lemmas.Bool.Decides.{nat_tests}
 use Rattle.std.proofs.lemmas.List.{append-nil, map-append, length-append, length-map}
 use Rattle.std.proofs.lemmas.Int.Digits.{digits_value_push}
-use Rattle.pnm_read.specs.Texts.{ends_by, ends_in_comment, uncommented_from, uncommented, ends_in_word, numbers_in}
+use Rattle.pnm_read.specs.HeaderTexts.{ends_by, ends_in_comment, uncommented_from, uncommented, ends_in_word, numbers_in}
 use Rattle.pnm_image.specs.Texts.{is_white, is_digit, begins_in_word, onto_first, words, decimal_value}
 use Rattle.pnm_image.proofs.Words.{words_by, words-cons}
 use Rattle.pnm_read.proofs.CommentLaws.{uncommented_from-append, ends_by-push}

@@ -38,6 +38,15 @@ HasRow (Awaits End) = ⊥
 HasRow Ended = ⊥
 HasRow (Failed fault) = ⊥
 
+-- a row or the end of an image is awaited, and no row of the image has passed
+abbrev pub AwaitsFirstRow : State → Type 0
+AwaitsFirstRow (Awaits FirstImage) = ⊥
+AwaitsFirstRow (Awaits (RowOrEnd raster)) = raster.y ≡ 0
+AwaitsFirstRow (Awaits ImageOrEnd) = ⊥
+AwaitsFirstRow (Awaits End) = ⊥
+AwaitsFirstRow Ended = ⊥
+AwaitsFirstRow (Failed fault) = ⊥
+
 -- what is still to be said in a state
 abbrev pub state_due : State → List ℕ → Said
 state_due (Awaits awaited) text = due_at awaited text

@@ -10,7 +10,7 @@ use Rattle.pnm_image.specs.declared.message.Message.TheVariants.{Begin, Row}
 use Rattle.pnm_image.specs.Heads.{HeadValue, with_height}
 use Rattle.pnm_image.specs.Images.{Image, rows_of, messages_of_image}
 use Rattle.pnm_image.specs.declared.format.Format.{Format}
-use Rattle.pnm_read.specs.Texts.{begins_apart}
+use Rattle.pnm_read.specs.HeaderTexts.{begins_apart}
 use Rattle.pnm_read.specs.Headers.{SpellsHeader}
 use Rattle.pnm_read.specs.Rasters.{MayFollowSample}
 use Rattle.pnm_read.specs.Spelling.{SpellsRaster, SpellsRawImages}

@@ -10,10 +10,10 @@ use Rattle.pnm_image.specs.declared.format.Format.{Format}
 use Rattle.pnm_read.specs.declared.line.Field.TheVariants.{Width, Height, Depth, Maxval}
 use Rattle.pnm_read.specs.declared.line.LineKind.{LineKind}
 use Rattle.pnm_read.specs.declared.line.LineKind.TheVariants.{Nothing, Number, TupleType, End, Unknown}
-use Rattle.pnm_read.specs.Texts.{begins_apart, ends_in_comment, uncommented, ends_in_word, numbers_in}
+use Rattle.pnm_read.specs.HeaderTexts.{begins_apart, ends_in_comment, uncommented, ends_in_word, numbers_in}
 use Rattle.pnm_image.specs.Texts.{is_white, is_digit}
 use Rattle.pnm_image.specs.Formats.{format_of}
-use Rattle.pnm_read.specs.Formats.{header_numbers}
+use Rattle.pnm_read.specs.HeaderNumbers.{header_numbers}
 use Rattle.pnm_read.specs.PamLines.{second_token, line_kind, field_values, tuple_type_in}
 use Rattle.pnm_read.specs.declared.header.TheConstants.{MAX_HEADER_LENGTH}
 

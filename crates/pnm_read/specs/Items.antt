@@ -22,12 +22,12 @@ use Rattle.pnm_read.specs.declared.line.Field.TheVariants.{Width, Height, Depth,
 use Rattle.pnm_read.specs.declared.line.LineKind.TheVariants.{Nothing, Number, TupleType, End, Unknown}
 use Rattle.pnm_image.specs.declared.sample_width.SampleWidth.{SampleWidth}
 use Rattle.pnm_image.specs.declared.sample_width.SampleWidth.TheVariants.{Bits, Bytes, Words}
-use Rattle.pnm_read.specs.declared.judgement.Judgement.{Judgement}
-use Rattle.pnm_read.specs.declared.judgement.Judgement.TheVariants.{GoesOn, EndsWith, EndsBefore, Fails}
-use Rattle.pnm_read.specs.Texts.{is_apart, begins_apart, ends_by, ends_in_comment, number_in, numbers_in}
+use Rattle.pnm_read.specs.declared.scan_status.ScanStatus.{ScanStatus}
+use Rattle.pnm_read.specs.declared.scan_status.ScanStatus.TheVariants.{GoesOn, EndsWith, EndsBefore, Fails}
+use Rattle.pnm_read.specs.HeaderTexts.{is_apart, begins_apart, ends_by, ends_in_comment, number_in, numbers_in}
 use Rattle.pnm_image.specs.Texts.{is_white, is_digit}
 use Rattle.pnm_image.specs.Formats.{format_of, is_plain_form}
-use Rattle.pnm_read.specs.Formats.{shape_of}
+use Rattle.pnm_read.specs.HeaderNumbers.{shape_of}
 use Rattle.pnm_read.specs.PamLines.{ended_lines, last_line, second_token, line_kind, field_values, tuple_type_in}
 use Rattle.pnm_read.specs.Rasters.{pixels}
 use Rattle.pnm_image.specs.declared.limits.TheConstants.{MAX_TUPLE_TYPE_LENGTH}
@@ -43,7 +43,7 @@ abbrev pub ◌>>=◌ : {A B : Type 0} → Result A InputFault → (A → Result 
 
 -- the piece that a text begins with, and the rest: its bytes are judged in turn, each by those before it;
 -- where the text ends first, at_end tells the fault, if that is one
-unfoldable pub piece_from : (List ℕ → ℕ → Judgement) → (List ℕ → Option InputFault) → List ℕ → List ℕ
+unfoldable pub piece_from : (List ℕ → ℕ → ScanStatus) → (List ℕ → Option InputFault) → List ℕ → List ℕ
     → Result (List ℕ × List ℕ) InputFault
 piece_from item at_end before [] = elim (at_end before) [
   | Some fault ↦ Err fault
@@ -88,7 +88,7 @@ abbrev pub is_delimiter : ℕ → List ℕ → ℕ → Bool
 is_delimiter count before b = not (ends_in_comment before) && is_white b && (length (numbers_in before) == count)
 
 -- a byte of a header of so many numbers
-unfoldable pub header_item : ℕ → List ℕ → ℕ → Judgement
+unfoldable pub header_item : ℕ → List ℕ → ℕ → ScanStatus
 header_item count before b =
     if nat_le header_limit (length before) then Fails TooLong
     else if is_bad_in_header before b then Fails BadNumber
@@ -123,7 +123,7 @@ abbrev pub pam_limit : ℕ
 pam_limit = MAX_HEADER_LENGTH - 3
 
 -- the line of a number, after these lines
-abbrev pub number_item : List (List ℕ) → Field → List ℕ → Judgement
+abbrev pub number_item : List (List ℕ) → Field → List ℕ → ScanStatus
 number_item lines field line =
     if length (second_token line) == 0 then Fails BadPamLine
     else if not (list_all is_digit (second_token line)) then Fails BadNumber
@@ -135,11 +135,11 @@ abbrev pub is_type_too_long : List ℕ → Bool
 is_type_too_long tuple_type = nat_lt MAX_TUPLE_TYPE_LENGTH (length tuple_type)
 
 -- a line of the tuple type
-abbrev pub tuple_type_item : List (List ℕ) → List ℕ → Judgement
+abbrev pub tuple_type_item : List (List ℕ) → List ℕ → ScanStatus
 tuple_type_item lines line = if is_type_too_long (tuple_type_in (lines ++ line ∷ [])) then Fails TooLong else GoesOn
 
 -- a line, after its LF; ENDHDR is the last
-abbrev pub line_item : List (List ℕ) → List ℕ → Judgement
+abbrev pub line_item : List (List ℕ) → List ℕ → ScanStatus
 line_item lines line = elim (line_kind line) [
   | Nothing ↦ GoesOn
   | Number field ↦ number_item lines field line
@@ -149,7 +149,7 @@ line_item lines line = elim (line_kind line) [
 ]
 
 -- a byte of a header of PAM
-unfoldable pub pam_item : List ℕ → ℕ → Judgement
+unfoldable pub pam_item : List ℕ → ℕ → ScanStatus
 pam_item before b =
     if nat_le pam_limit (length before) then Fails TooLong
     else if b == line_feed then line_item (ended_lines before) (last_line before)
@@ -207,7 +207,7 @@ abbrev pub is_complete : List ℕ → ℕ → Bool
 is_complete before b = not (ends_in_comment before) && ends_by is_digit before && not (is_digit b)
 
 -- a byte of a number, or of the gap before it
-unfoldable pub decimal_item : List ℕ → ℕ → Judgement
+unfoldable pub decimal_item : List ℕ → ℕ → ScanStatus
 decimal_item before b =
     if nat_le GAP_LIMIT (length before) && not (is_complete before b) then Fails TooLong
     else if not (ends_in_comment before) && not (is_digit b || is_apart b) then Fails BadSample
@@ -221,7 +221,7 @@ abbrev pub is_pixel : ℕ → Bool
 is_pixel b = (b == digit_zero) || (b == digit_one)
 
 -- a pixel, or a byte of the gap before it
-unfoldable pub pixel_item : List ℕ → ℕ → Judgement
+unfoldable pub pixel_item : List ℕ → ℕ → ScanStatus
 pixel_item before b =
     if nat_le GAP_LIMIT (length before) then Fails TooLong
     else if not (ends_in_comment before) && not (is_pixel b || is_apart b) then Fails BadSample

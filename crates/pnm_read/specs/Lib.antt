@@ -1,5 +1,5 @@
-pub mod Texts
-pub mod Formats
+pub mod HeaderTexts
+pub mod HeaderNumbers
 pub mod Magics
 pub mod PamLines
 pub mod Headers
@@ -21,4 +21,4 @@ pub mod Awaiting
 pub mod Sources
 pub mod Examples
 pub mod Units
-pub mod HeldRows
+pub mod RasterRows

@@ -3,8 +3,8 @@ use Rattle.std.specs.Prelude.{◌≡◌, ◌⊎◌, ℕ, ◌≤◌, ◌==◌, Bo
 use Rattle.std.specs.Prelude.{if◌then◌else◌, Option, Some, None}
 use Rattle.std.specs.List.{list_all}
 use Rattle.pnm_read.specs.declared.fault.InputFault.TheVariants.{BadPamLine, BadNumber, DuplicateField, TooLong, Memory}
-use Rattle.pnm_read.specs.declared.judgement.Judgement.{Judgement}
-use Rattle.pnm_read.specs.declared.judgement.Judgement.TheVariants.{GoesOn, EndsWith, EndsBefore, Fails}
+use Rattle.pnm_read.specs.declared.scan_status.ScanStatus.{ScanStatus}
+use Rattle.pnm_read.specs.declared.scan_status.ScanStatus.TheVariants.{GoesOn, EndsWith, EndsBefore, Fails}
 use Rattle.pnm_image.specs.declared.limits.TheConstants.{MAX_TUPLE_TYPE_LENGTH}
 use Rattle.pnm_image.specs.declared.shape.Shape.{Shape}
 use Rattle.pnm_image.specs.declared.shape.Kind.TheVariants.{Pam}
@@ -36,18 +36,18 @@ pub record IsFields (fields : Fields) (lines : List (List ℕ)) : Type 0 where
   pub short : length (tuple_type_in lines) ≤ MAX_TUPLE_TYPE_LENGTH
 
 -- the fields after a line that was judged so
-abbrev pub TakesLine : Fields → Judgement → List (List ℕ) → Type 0
+abbrev pub TakesLine : Fields → ScanStatus → List (List ℕ) → Type 0
 TakesLine new GoesOn lines = IsFields new lines
 TakesLine new EndsWith lines = IsFields new lines
 TakesLine new EndsBefore lines = ⊥
 TakesLine new (Fails fault) lines = Unit {0}
 
 -- a line was judged by those before it, and taken, unless memory ran out
-abbrev pub JudgesLine : Fields → List ℕ → Fields → Judgement → Type 0
-JudgesLine old line new judgement =
+abbrev pub JudgesLine : Fields → List ℕ → Fields → ScanStatus → Type 0
+JudgesLine old line new scan_status =
     (lines : List (List ℕ)) → IsFields old lines
-    → ((judgement ≡ line_item lines line) × TakesLine new judgement (lines ++ line ∷ []))
-    ⊎ (judgement ≡ Fails Memory)
+    → ((scan_status ≡ line_item lines line) × TakesLine new scan_status (lines ++ line ∷ []))
+    ⊎ (scan_status ≡ Fails Memory)
 
 -- the shape of the fields; none where a number is missing
 abbrev pub shape_held : Fields → Option Shape
@@ -80,20 +80,20 @@ with_number Depth number fields = record fields { depth = Some number }
 with_number Maxval number fields = record fields { maxval = Some number }
 
 -- a number was put where none was yet
-abbrev pub SetsOnce : Option ℕ → ℕ → Option ℕ → Judgement → Type 0
-SetsOnce (Some other) number new judgement = judgement ≡ Fails DuplicateField
-SetsOnce None number new judgement = (judgement ≡ GoesOn) × (new ≡ Some number)
+abbrev pub SetsOnce : Option ℕ → ℕ → Option ℕ → ScanStatus → Type 0
+SetsOnce (Some other) number new scan_status = scan_status ≡ Fails DuplicateField
+SetsOnce None number new scan_status = (scan_status ≡ GoesOn) × (new ≡ Some number)
 
 -- how a number in the rest of a line is judged, and the fields after it
-abbrev pub SetsNumber : Fields → Field → List ℕ → Fields → Judgement → Type 0
-SetsNumber old field text new judgement =
+abbrev pub SetsNumber : Fields → Field → List ℕ → Fields → ScanStatus → Type 0
+SetsNumber old field text new scan_status =
     elim (length (first_token text) == 0) [
-      | true ↦ judgement ≡ Fails BadPamLine
+      | true ↦ scan_status ≡ Fails BadPamLine
       | false ↦ elim (number_of (first_token text)) [
-        | None ↦ judgement ≡ Fails BadNumber
+        | None ↦ scan_status ≡ Fails BadNumber
         | Some number ↦ elim (field_number field old) [
-          | Some other ↦ judgement ≡ Fails DuplicateField
-          | None ↦ (judgement ≡ GoesOn) × (new ≡ with_number field number old)
+          | Some other ↦ scan_status ≡ Fails DuplicateField
+          | None ↦ (scan_status ≡ GoesOn) × (new ≡ with_number field number old)
         ]
       ]
     ]
@@ -107,15 +107,15 @@ pub record IsWithTupleType (old new : Fields) (tuple_type : List ℕ) : Type 0 w
   pub tuple_type_is : new.tuple_type.items ≡ tuple_type
 
 -- the tuple type was replaced, or is too long, as the test tells
-abbrev pub SetsTupleType : Bool → Fields → List ℕ → Fields → Judgement → Type 0
-SetsTupleType true old tuple_type new judgement = judgement ≡ Fails TooLong
-SetsTupleType false old tuple_type new judgement = (judgement ≡ GoesOn) × IsWithTupleType old new tuple_type
+abbrev pub SetsTupleType : Bool → Fields → List ℕ → Fields → ScanStatus → Type 0
+SetsTupleType true old tuple_type new scan_status = scan_status ≡ Fails TooLong
+SetsTupleType false old tuple_type new scan_status = (scan_status ≡ GoesOn) × IsWithTupleType old new tuple_type
 
 -- a text was joined to the tuple type, unless it is too long or memory ran out
-abbrev pub AddsTupleType : Fields → List ℕ → Fields → Judgement → Type 0
-AddsTupleType old text new judgement =
+abbrev pub AddsTupleType : Fields → List ℕ → Fields → ScanStatus → Type 0
+AddsTupleType old text new scan_status =
     SetsTupleType (is_type_too_long (joined_with old.tuple_type.items text)) old (joined_with old.tuple_type.items text)
-    new judgement ⊎ (judgement ≡ Fails Memory)
+    new scan_status ⊎ (scan_status ≡ Fails Memory)
 
 -- these bytes have come after the magic and its LF, and the header goes on
 pub record IsPamAfter (s : PamScanner) (before : List ℕ) : Type 0 where

@@ -13,7 +13,7 @@ use Rattle.pnm_image.specs.Heads.{row_length}
 use Rattle.pnm_image.specs.SampleWidths.{sample_width_of}
 use Rattle.pnm_image.specs.Images.{Image, IsImage, cut_rows, rows_of}
 use Rattle.pnm_image.specs.declared.sample_width.SampleWidth.TheVariants.{Bits, Bytes, Words}
-use Rattle.pnm_read.specs.Texts.{begins_apart, ends_in_comment, uncommented}
+use Rattle.pnm_read.specs.HeaderTexts.{begins_apart, ends_in_comment, uncommented}
 use Rattle.pnm_image.specs.Texts.{is_white, is_digit, decimal_value}
 use Rattle.pnm_read.specs.declared.decimal.TheConstants.{GAP_LIMIT}
 

@@ -16,8 +16,8 @@ use Rattle.pnm_read.specs.declared.fault.InputFault.TheVariants.{HeaderCut}
 use Rattle.pnm_image.specs.declared.format.Format.{Format}
 use Rattle.pnm_image.specs.declared.sample_width.SampleWidth.{SampleWidth}
 use Rattle.pnm_image.specs.declared.sample_width.SampleWidth.TheVariants.{Bits, Bytes, Words}
-use Rattle.pnm_read.specs.Texts.{numbers_in}
-use Rattle.pnm_read.specs.Formats.{number_count}
+use Rattle.pnm_read.specs.HeaderTexts.{numbers_in}
+use Rattle.pnm_read.specs.HeaderNumbers.{number_count}
 use Rattle.pnm_image.specs.SampleWidths.{sample_width_of}
 use Rattle.pnm_read.specs.PamLines.{ended_lines}
 use Rattle.pnm_read.specs.Items.{◌>>=◌, piece_from, first_magic_item, second_magic_item, header_item}

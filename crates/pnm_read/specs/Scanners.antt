@@ -3,11 +3,12 @@ use Rattle.std.specs.Prelude.{◌≡◌, ℕ, ◌+◌, ◌-◌, ◌<◌, ◌≤�
 use Rattle.std.specs.Prelude.{[], ◌∷◌, length, map, drop, slice_index}
 use Rattle.std.specs.List.{AllPass}
 use Rattle.pnm_image.specs.Characters.{digit_zero}
-use Rattle.pnm_read.specs.declared.judgement.Judgement.{Judgement}
+use Rattle.pnm_read.specs.declared.scan_status.ScanStatus.{ScanStatus}
 use Rattle.pnm_read.specs.declared.header.HeaderScanner.{HeaderScanner}
 use Rattle.pnm_read.specs.declared.decimal.DecimalScanner.{DecimalScanner}
 use Rattle.pnm_read.specs.declared.pixel.PixelScanner.{PixelScanner}
-use Rattle.pnm_read.specs.Texts.{is_apart, commented, ends_in_comment, uncommented, ends_in_word, numbers_in, number_in}
+use Rattle.pnm_read.specs.HeaderTexts.{is_apart, commented, ends_in_comment, uncommented, ends_in_word}
+use Rattle.pnm_read.specs.HeaderTexts.{numbers_in, number_in}
 use Rattle.pnm_image.specs.Texts.{is_white, is_digit}
 use Rattle.pnm_read.specs.Saturation.{saturate_u32, with_digit, IsNumbers}
 use Rattle.pnm_read.specs.Items.{header_item, decimal_item, pixel_item, ends_in_digit, pixel_in}
@@ -37,9 +38,9 @@ pub record IsHeaderAfter (s : HeaderScanner) (before : List ℕ) : Type 0 where
 abbrev pub IsHeaderWhole : HeaderScanner → List ℕ → Type 0
 IsHeaderWhole s piece = IsNumbers s.wanted (numbers_in piece) s.numbers
 
-abbrev pub JudgesHeader : HeaderScanner → ℕ → Judgement → Type 0
-JudgesHeader s byte judgement = (before : List ℕ) → IsHeaderAfter s before
-    → judgement ≡ header_item s.wanted before byte
+abbrev pub JudgesHeader : HeaderScanner → ℕ → ScanStatus → Type 0
+JudgesHeader s byte scan_status = (before : List ℕ) → IsHeaderAfter s before
+    → scan_status ≡ header_item s.wanted before byte
 
 -- this byte can't stand after them
 abbrev pub is_bad_after : HeaderScanner → ℕ → Bool
@@ -90,8 +91,8 @@ pub record IsDecimalAfter (s : DecimalScanner) (before : List ℕ) : Type 0 wher
 abbrev pub IsDecimalWhole : DecimalScanner → List ℕ → Type 0
 IsDecimalWhole s piece = s.value ≡ saturate_u32 (number_in piece)
 
-abbrev pub JudgesDecimal : DecimalScanner → ℕ → Judgement → Type 0
-JudgesDecimal s byte judgement = (before : List ℕ) → IsDecimalAfter s before → judgement ≡ decimal_item before byte
+abbrev pub JudgesDecimal : DecimalScanner → ℕ → ScanStatus → Type 0
+JudgesDecimal s byte scan_status = (before : List ℕ) → IsDecimalAfter s before → scan_status ≡ decimal_item before byte
 
 pub record PushesDecimal (old : DecimalScanner) (byte : ℕ) (new : DecimalScanner) : Type 0 where
   pub length_is : new.length ≡ old.length + 1
@@ -109,5 +110,5 @@ pub record IsPixelAfter (s : PixelScanner) (before : List ℕ) : Type 0 where
 abbrev pub IsPixelWhole : PixelScanner → List ℕ → Type 0
 IsPixelWhole s piece = s.pixel ≡ pixel_in piece
 
-abbrev pub JudgesPixel : PixelScanner → ℕ → Judgement → Type 0
-JudgesPixel s byte judgement = (before : List ℕ) → IsPixelAfter s before → judgement ≡ pixel_item before byte
+abbrev pub JudgesPixel : PixelScanner → ℕ → ScanStatus → Type 0
+JudgesPixel s byte scan_status = (before : List ℕ) → IsPixelAfter s before → scan_status ≡ pixel_item before byte

@@ -2,13 +2,14 @@
 use Rattle.std.specs.Prelude.{◌≡◌, ℕ, ◌⊎◌, Bool, List, [], ◌∷◌, ◌++◌, Option, Some, None, Result, Ok, Err}
 use Rattle.std.specs.Io.KnownBytes.{Consumes}
 use Rattle.pnm_image.specs.declared.message.Message.{Message}
+use Rattle.pnm_image.specs.declared.message.Message.TheVariants.{ImageEnd}
 use Rattle.pnm_image.specs.Completion.{IsPrefixOf}
 use Rattle.pnm_image.specs.Rows.{row_messages}
 use Rattle.pnm_read.specs.declared.fault.InputFault.{InputFault}
 use Rattle.pnm_read.specs.declared.source.Source.{Source}
 use Rattle.pnm_read.specs.Said.{Said, text_said, said_of, fault_of, then_said}
 use Rattle.pnm_read.specs.BufferedReaders.{IsOutsideFault, held_of, CanCome, EndsRightly}
-use Rattle.pnm_read.specs.Awaiting.{state_due, state_fault, is_ended}
+use Rattle.pnm_read.specs.Awaiting.{state_due, state_fault, is_ended, AwaitsFirstRow}
 
 abbrev pub reader_of : {R : Type 0} → Source R → R
 reader_of s = s.input.reader
@@ -20,6 +21,10 @@ stopped_by s = state_fault s.state
 -- the end of the stream was given
 abbrev pub has_ended : {R : Type 0} → Source R → Bool
 has_ended s = is_ended s.state
+
+-- an image has just begun: no row of it was given
+abbrev pub HasJustBegun : {R : Type 0} → Source R → Type 0
+HasJustBegun s = AwaitsFirstRow s.state
 
 -- what a source has still to say, where its reader still gives these bytes
 unfoldable pub due : {R : Type 0} → Source R → List ℕ → Said
@@ -80,3 +85,8 @@ pub record Tells {R : Type 0} (left : R → Option (List ℕ)) (old : Source R)
 abbrev pub TellsRows : {R : Type 0} → Source R → Source R → List (List ℕ) → Type 0
 TellsRows old new rows = (read : List ℕ) (given : List Message) → HasGiven old read given
     → HasGiven new read (given ++ row_messages rows)
+
+-- Rows were given that came next of what was to be said, and then the end of their image; nothing was read for them.
+abbrev pub TellsImage : {R : Type 0} → Source R → Source R → List (List ℕ) → Type 0
+TellsImage old new rows = (read : List ℕ) (given : List Message) → HasGiven old read given
+    → HasGiven new read (given ++ (row_messages rows ++ ImageEnd ∷ []))

@@ -3,7 +3,7 @@ use Rattle.pnm_image.specs.Formats.{is_plain_form}
 use Rattle.std.specs.Prelude.{◌≡◌, ◌⊎◌, ℕ, ◌<◌, Bool, true, false, List, [], ◌∷◌, ◌++◌, length}
 use Rattle.pnm_image.specs.Images.{Image}
 use Rattle.pnm_image.specs.declared.format.Format.{Format}
-use Rattle.pnm_read.specs.Texts.{begins_apart}
+use Rattle.pnm_read.specs.HeaderTexts.{begins_apart}
 use Rattle.pnm_read.specs.Headers.{SpellsHeader}
 use Rattle.pnm_read.specs.Rasters.{SpellsRaw, SpellsPlain}
 

@@ -1,7 +1,7 @@
 //! Comments in a header or a plain raster, from pbm(5), 'The layout'.
 
 ghost use Rattle.std.specs.Prelude.{◌≡◌};
-ghost use Rattle.pnm_read.specs.Texts.{is_apart, commented};
+ghost use Rattle.pnm_read.specs.HeaderTexts.{is_apart, commented};
 
 use pnm_image::characters::is_white;
 

@@ -1,15 +1,15 @@
 //! A sample of a plain PGM or PPM raster, from pgm(5) and ppm(5), 'Plain PGM' and 'Plain PPM'.
 
 ghost use Rattle.std.specs.Prelude.{◌≡◌, ◌<◌, ◌≤◌, ◌-◌, [], ◌&&◌};
-ghost use Rattle.pnm_read.specs.declared.judgement.Judgement.TheVariants.{GoesOn, Fails};
+ghost use Rattle.pnm_read.specs.declared.scan_status.ScanStatus.TheVariants.{GoesOn, Fails};
 ghost use Rattle.pnm_read.specs.declared.fault.InputFault.TheVariants.{ReadFailed, Memory};
 ghost use Rattle.pnm_image.specs.Texts.{is_digit};
 ghost use Rattle.pnm_read.specs.declared.decimal.TheConstants.{GAP_LIMIT};
 
 use crate::comments::{commented, is_apart};
 use crate::fault::InputFault;
-use crate::judgement::Judgement;
 use crate::scan::Scanner;
+use crate::scan_status::ScanStatus;
 use pnm_image::characters::is_digit;
 
 /// The most bytes from after a sample's last digit, or after the header, through the last digit of the next sample.
@@ -52,7 +52,7 @@ impl DecimalScanner {
 
     /// The judgement of the next byte.
     #[tactic(auto, unfolding(crate::specs::Items::decimal_item))]
-    fn judge(&self, byte: u8) -> Judgement
+    fn judge(&self, byte: u8) -> ScanStatus
         ensures judged { JudgesDecimal self.now byte result }
         ensures short { result ≡ GoesOn → self.now.length < GAP_LIMIT }
         ensures of_text { result ≡ Fails ReadFailed → ⊥ }
@@ -60,13 +60,13 @@ impl DecimalScanner {
     {
         let is_complete = self.in_number && !is_digit(byte);
         if self.length >= GAP_LIMIT && !is_complete {
-            Judgement::Fails(InputFault::TooLong)
+            ScanStatus::Fails(InputFault::TooLong)
         } else if !self.in_comment && !(is_digit(byte) || is_apart(byte)) {
-            Judgement::Fails(InputFault::BadSample)
+            ScanStatus::Fails(InputFault::BadSample)
         } else if is_complete {
-            Judgement::EndsBefore
+            ScanStatus::EndsBefore
         } else {
-            Judgement::GoesOn
+            ScanStatus::GoesOn
         }
     }
 
@@ -104,12 +104,12 @@ impl Scanner for DecimalScanner {
 
     ghost keeps_bytes = { false };
 
-    fn take(&mut self, byte: u8) -> Judgement {
-        let judgement = self.judge(byte);
-        if judgement == Judgement::GoesOn {
+    fn take(&mut self, byte: u8) -> ScanStatus {
+        let scan_status = self.judge(byte);
+        if scan_status == ScanStatus::GoesOn {
             self.push(byte);
         }
-        judgement
+        scan_status
     }
 
     fn end(&self) -> Option<InputFault> {

@@ -2,7 +2,7 @@
 
 ghost use Rattle.std.specs.Prelude.{◌≡◌, [], List, ℕ};
 ghost use Rattle.pnm_image.specs.Heads.{IsTupleType};
-ghost use Rattle.pnm_read.specs.declared.judgement.Judgement.TheVariants.{Fails};
+ghost use Rattle.pnm_read.specs.declared.scan_status.ScanStatus.TheVariants.{Fails};
 ghost use Rattle.pnm_read.specs.declared.fault.InputFault.TheVariants.{ReadFailed};
 ghost use Rattle.pnm_read.specs.Items.{lines_item};
 ghost use Rattle.pnm_read.specs.Saturation.{GivesInMemory};
@@ -10,8 +10,8 @@ ghost use Rattle.pnm_read.specs.PamScanners.{IsFields, JudgesLine, SetsOnce, Set
 
 use crate::fault::InputFault;
 use crate::header::fault_of_head;
-use crate::judgement::Judgement;
 use crate::line::{Field, LineKind, number_of, split_token, trim};
+use crate::scan_status::ScanStatus;
 use pnm_image::limits::MAX_TUPLE_TYPE_LENGTH;
 use pnm_image::{Head, Kind, Shape};
 use std::alloc::Global;
@@ -54,30 +54,30 @@ impl Fields {
     }
 
     /// Judges a line, without its LF, and takes what it says.
-    pub fn take(&mut self, line: &[u8]) -> Judgement
+    pub fn take(&mut self, line: &[u8]) -> ScanStatus
         ensures judged { JudgesLine self.old line.now self.new result }
         ensures of_text { result ≡ Fails ReadFailed → ⊥ }
     {
         let (token, rest) = split_token(line);
         match LineKind::of(token) {
-            LineKind::Nothing => Judgement::GoesOn,
+            LineKind::Nothing => ScanStatus::GoesOn,
             LineKind::Number(field) => self.set_number(field, rest),
             LineKind::TupleType => self.add_tuple_type(trim(rest)),
-            LineKind::End => Judgement::EndsWith,
-            LineKind::Unknown => Judgement::Fails(InputFault::BadPamLine),
+            LineKind::End => ScanStatus::EndsWith,
+            LineKind::Unknown => ScanStatus::Fails(InputFault::BadPamLine),
         }
     }
 
     /// Takes the number of a field: the first token of the text.
-    fn set_number(&mut self, field: Field, text: &[u8]) -> Judgement
+    fn set_number(&mut self, field: Field, text: &[u8]) -> ScanStatus
         ensures { SetsNumber self.old field text.now self.new result }
     {
         let (token, _) = split_token(text);
         if token.is_empty() {
-            return Judgement::Fails(InputFault::BadPamLine);
+            return ScanStatus::Fails(InputFault::BadPamLine);
         }
         let Some(number) = number_of(token) else {
-            return Judgement::Fails(InputFault::BadNumber);
+            return ScanStatus::Fails(InputFault::BadNumber);
         };
         match field {
             Field::Width => set_once(&mut self.width, number),
@@ -88,7 +88,7 @@ impl Fields {
     }
 
     /// Joins the text to the tuple type with a blank; an empty text is left out.
-    fn add_tuple_type(&mut self, text: &[u8]) -> Judgement
+    fn add_tuple_type(&mut self, text: &[u8]) -> ScanStatus
         ensures { AddsTupleType self.old text.now self.new result }
     {
         let blank: &[u8] = if self.tuple_type.is_empty() || text.is_empty() {
@@ -99,26 +99,26 @@ impl Fields {
         if text.len() > MAX_TUPLE_TYPE_LENGTH
             || self.tuple_type.len() + blank.len() + text.len() > MAX_TUPLE_TYPE_LENGTH
         {
-            return Judgement::Fails(InputFault::TooLong);
+            return ScanStatus::Fails(InputFault::TooLong);
         }
         if self.tuple_type.extend_from_slice(blank).is_err()
             || self.tuple_type.extend_from_slice(text).is_err()
         {
-            return Judgement::Fails(InputFault::Memory);
+            return ScanStatus::Fails(InputFault::Memory);
         }
-        Judgement::GoesOn
+        ScanStatus::GoesOn
     }
 }
 
 /// Sets the number, or fails if it is set already.
-fn set_once(place: &mut Option<u32>, number: u32) -> Judgement
+fn set_once(place: &mut Option<u32>, number: u32) -> ScanStatus
     ensures { SetsOnce place.old number place.new result }
 {
     if place.is_some() {
-        return Judgement::Fails(InputFault::DuplicateField);
+        return ScanStatus::Fails(InputFault::DuplicateField);
     }
     *place = Some(number);
-    Judgement::GoesOn
+    ScanStatus::GoesOn
 }
 
 /// The head of these fields, or what is wrong with them.

@@ -1,12 +1,12 @@
 //! The magic and the header of an image, from pbm(5), pgm(5) and ppm(5); PAM's is in a file of its own.
 
 ghost use Rattle.std.specs.Prelude.{◌≡◌, ◌≤◌, ◌<◌, ◌==◌, ◌-◌, [], List, ℕ, Some, ◌&&◌, ◌||◌};
-ghost use Rattle.pnm_read.specs.declared.judgement.Judgement.TheVariants.{GoesOn, Fails};
+ghost use Rattle.pnm_read.specs.declared.scan_status.ScanStatus.TheVariants.{GoesOn, Fails};
 ghost use Rattle.pnm_read.specs.declared.fault.InputFault.TheVariants.{ReadFailed, Memory};
 ghost use Rattle.pnm_read.specs.declared.header.TheConstants.{HEADER_LIMIT};
-ghost use Rattle.pnm_read.specs.Texts.{is_apart};
+ghost use Rattle.pnm_read.specs.HeaderTexts.{is_apart};
 ghost use Rattle.pnm_image.specs.Texts.{is_digit};
-ghost use Rattle.pnm_read.specs.Formats.{number_count, planes};
+ghost use Rattle.pnm_read.specs.HeaderNumbers.{number_count, planes};
 ghost use Rattle.pnm_read.specs.Items.{fault_of_head, numbers_item};
 ghost use Rattle.pnm_read.specs.Said.{format_at, pnm_head_at, head_at};
 ghost use Rattle.pnm_read.specs.BufferedReaders.{ReadCall, Finds};
@@ -16,9 +16,9 @@ ghost use Rattle.pnm_read.specs.Saturation.{IsNumbers, GivesInMemory};
 use crate::buffered_reader::BufferedReader;
 use crate::comments::{commented, is_apart};
 use crate::fault::InputFault;
-use crate::judgement::Judgement;
 use crate::pam;
 use crate::scan::{Scanner, feed, scan};
+use crate::scan_status::ScanStatus;
 use pnm_image::characters::{is_digit, is_white};
 use pnm_image::{BytesIn, Format, Head, HeadFault, Kind, Shape};
 use std::alloc::Global;
@@ -76,7 +76,7 @@ pub fn read_head<R: BytesIn>(
 }
 
 /// Whether these bytes, with which the image begins, determine its header, or the fault there, without any more bytes.
-pub fn is_told(bytes: &[u8], is_first: bool) -> bool {
+pub fn is_complete(bytes: &[u8], is_first: bool) -> bool {
     match bytes {
         [] | [b'P'] => false,
         [b'P', byte, rest @ ..] => match format_named(*byte, is_first) {
@@ -197,20 +197,20 @@ impl HeaderScanner {
 
     /// The judgement of the next byte.
     #[tactic(auto, unfolding(crate::specs::Items::header_item))]
-    fn judge(&self, byte: u8) -> Judgement
+    fn judge(&self, byte: u8) -> ScanStatus
         ensures judged { JudgesHeader self.now byte result }
         ensures short { result ≡ GoesOn → self.now.length < HEADER_LIMIT }
         ensures of_text { result ≡ Fails ReadFailed → ⊥ }
         ensures no_memory { result ≡ Fails Memory → ⊥ }
     {
         if self.length >= HEADER_LIMIT {
-            Judgement::Fails(InputFault::TooLong)
+            ScanStatus::Fails(InputFault::TooLong)
         } else if self.is_bad(byte) {
-            Judgement::Fails(InputFault::BadNumber)
+            ScanStatus::Fails(InputFault::BadNumber)
         } else if !self.in_comment && is_white(byte) && self.found == self.wanted {
-            Judgement::EndsWith
+            ScanStatus::EndsWith
         } else {
-            Judgement::GoesOn
+            ScanStatus::GoesOn
         }
     }
 
@@ -271,12 +271,12 @@ impl Scanner for HeaderScanner {
 
     ghost keeps_bytes = { false };
 
-    fn take(&mut self, byte: u8) -> Judgement {
-        let judgement = self.judge(byte);
-        if judgement == Judgement::GoesOn {
+    fn take(&mut self, byte: u8) -> ScanStatus {
+        let scan_status = self.judge(byte);
+        if scan_status == ScanStatus::GoesOn {
             self.push(byte);
         }
-        judgement
+        scan_status
     }
 
     fn end(&self) -> Option<InputFault> {

@@ -3,7 +3,7 @@
 ghost use Rattle.std.specs.Prelude.{◌≡◌, ◌≤◌, ◌<◌, ◌*◌, ◌-◌, ◌↔◌, IfOk, OnOk, IfErr, IsTrue, [], length};
 ghost use Rattle.pnm_read.specs.declared.fault.InputFault.TheVariants.{Memory};
 ghost use Rattle.pnm_read.specs.BufferedReaders.{held_of};
-ghost use Rattle.pnm_read.specs.HeldRows.{FitsBytes, AreHeld, TakesRows, rows_held};
+ghost use Rattle.pnm_read.specs.RasterRows.{FitsBytes, AreHeld, TakesRows, rows_held};
 ghost use Rattle.pnm_read.specs.Units.{AreBytesWithin};
 
 use crate::buffered_reader::BufferedReader;
@@ -23,16 +23,18 @@ const MOST_BYTES: usize = 65_536;
 const GREATEST_PIXEL: u32 = 1;
 
 /// How many of the next rows can be handed over together: all rows left in the image that are held whole, up to
-/// `MOST_BYTES`. 0 if these are fewer than two, if one of them has a sample above the maxval, or if they are too long
-/// or have samples of two bytes.
-pub fn count_held<R: BytesIn>(input: &BufferedReader<R>, raster: &Raster) -> u32
+/// `MOST_BYTES`. 0 if these are fewer than `least`, if one of them has a sample above the maxval, or if they are too
+/// long or have samples of two bytes.
+pub fn count_held<R: BytesIn>(input: &BufferedReader<R>, raster: &Raster, least: u32) -> u32
     ensures left { result ≤ raster.now.shape.height - raster.now.y }
+    ensures least { 1 ≤ result → least ≤ result }
     ensures held { 1 ≤ result → AreHeld raster.now result (held_of input.now) }
 {
     if !fits_bytes(raster) {
         return 0;
     }
-    let count = count_whole(input, raster.units, raster.shape.height - raster.y);
+    let most = raster.shape.height - raster.y;
+    let count = count_whole(input, raster.units, least, most);
     let size = count as usize * raster.units;
     let bytes = &input.bytes()[..size];
     if are_units_within(bytes, raster.sample_width, raster.shape.maxval) {
@@ -54,10 +56,16 @@ fn fits_bytes(raster: &Raster) -> bool
     }
 }
 
-/// How many rows of `row_bytes` bytes are held whole and can be handed over together, at most `most`. 0 if there is
-/// only one, or if the rows are too long.
-pub fn count_whole<R: BytesIn>(input: &BufferedReader<R>, row_bytes: usize, most: u32) -> u32
+/// How many rows of `row_bytes` bytes are held whole and can be handed over together, at most `most`. 0 if there are
+/// fewer than `least`, or if the rows are too long.
+pub fn count_whole<R: BytesIn>(
+    input: &BufferedReader<R>,
+    row_bytes: usize,
+    least: u32,
+    most: u32,
+) -> u32
     ensures most { result ≤ most }
+    ensures least { 1 ≤ result → least ≤ result }
     ensures held { result * row_bytes ≤ length (held_of input.now) }
     ensures size { result * row_bytes ≤ MOST_BYTES }
 {
@@ -65,7 +73,7 @@ pub fn count_whole<R: BytesIn>(input: &BufferedReader<R>, row_bytes: usize, most
         return 0;
     }
     let count = (input.bytes().len().min(MOST_BYTES) / row_bytes).min(most as usize) as u32;
-    if count > 1 { count } else { 0 }
+    if count >= least { count } else { 0 }
 }
 
 /// The next `count` rows, which are held: in the memory of a spare row, if they fit in it.

@@ -3,7 +3,7 @@
 ghost use Rattle.std.specs.Prelude.{◌≡◌, ◌≤◌, ◌-◌, IfOk, IfErr, IfSome, Ok, None};
 ghost use Rattle.pnm_read.specs.declared.fault.InputFault.TheVariants.{Memory};
 ghost use Rattle.pnm_read.specs.BufferedReaders.{held_of};
-ghost use Rattle.pnm_read.specs.HeldRows.{AreHeldWide, TakesRows};
+ghost use Rattle.pnm_read.specs.RasterRows.{AreHeldWide, TakesRows};
 
 use crate::buffered_reader::BufferedReader;
 use crate::fault::InputFault;
@@ -14,8 +14,9 @@ use pnm_image::{BytesIn, RowVec, Rows, SampleWidth};
 
 /// How many of the next rows can be handed over together, as `held_rows::count_held` counts them, if the raster has
 /// samples of two bytes; 0 for any other raster. It doesn't look whether a sample is above the maxval.
-pub fn count_held<R: BytesIn>(input: &BufferedReader<R>, raster: &Raster) -> u32
+pub fn count_held<R: BytesIn>(input: &BufferedReader<R>, raster: &Raster, least: u32) -> u32
     ensures left { result ≤ raster.now.shape.height - raster.now.y }
+    ensures least { 1 ≤ result → least ≤ result }
     ensures held { 1 ≤ result → AreHeldWide raster.now result (held_of input.now) }
 {
     if raster.sample_width != SampleWidth::Words {
@@ -24,6 +25,7 @@ pub fn count_held<R: BytesIn>(input: &BufferedReader<R>, raster: &Raster) -> u32
     count_whole(
         input,
         raster.units.saturating_mul(2),
+        least,
         raster.shape.height - raster.y,
     )
 }

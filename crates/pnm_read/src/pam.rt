@@ -10,8 +10,8 @@ use crate::buffered_reader::BufferedReader;
 use crate::fault::InputFault;
 use crate::fields::{Fields, head_of};
 use crate::header::MAX_HEADER_LENGTH;
-use crate::judgement::Judgement;
 use crate::scan::{Scanner, scan};
+use crate::scan_status::ScanStatus;
 use pnm_image::{BytesIn, Head};
 use std::alloc::Global;
 
@@ -94,19 +94,19 @@ impl Scanner for PamScanner {
     ghost keeps_bytes = { true };
 
     #[tactic(auto, unfolding(crate::specs::Items::pam_item))]
-    fn take(&mut self, byte: u8) -> Judgement {
+    fn take(&mut self, byte: u8) -> ScanStatus {
         if self.length >= PAM_LIMIT {
-            return Judgement::Fails(InputFault::TooLong);
+            return ScanStatus::Fails(InputFault::TooLong);
         }
         self.length += 1;
         if byte == b'\n' {
-            let judgement = self.fields.take(&self.line);
+            let scan_status = self.fields.take(&self.line);
             self.line.clear();
-            judgement
+            scan_status
         } else if self.line.push(byte).is_err() {
-            Judgement::Fails(InputFault::Memory)
+            ScanStatus::Fails(InputFault::Memory)
         } else {
-            Judgement::GoesOn
+            ScanStatus::GoesOn
         }
     }
 

@@ -1,15 +1,15 @@
 //! A pixel of a plain PBM raster, from pbm(5), 'Plain PBM'.
 
 ghost use Rattle.std.specs.Prelude.{◌≡◌, ◌<◌, ◌≤◌, ◌-◌, []};
-ghost use Rattle.pnm_read.specs.declared.judgement.Judgement.TheVariants.{GoesOn, Fails};
+ghost use Rattle.pnm_read.specs.declared.scan_status.ScanStatus.TheVariants.{GoesOn, Fails};
 ghost use Rattle.pnm_read.specs.declared.fault.InputFault.TheVariants.{ReadFailed, Memory};
 ghost use Rattle.pnm_read.specs.declared.decimal.TheConstants.{GAP_LIMIT};
 
 use crate::comments::{commented, is_apart};
 use crate::decimal::GAP_LIMIT;
 use crate::fault::InputFault;
-use crate::judgement::Judgement;
 use crate::scan::Scanner;
+use crate::scan_status::ScanStatus;
 
 /// Takes a pixel and the gap before it, byte by byte.
 #[derive(Drop)]
@@ -45,7 +45,7 @@ impl PixelScanner {
 
     /// The judgement of the next byte.
     #[tactic(auto, unfolding(crate::specs::Items::pixel_item))]
-    fn judge(&self, byte: u8) -> Judgement
+    fn judge(&self, byte: u8) -> ScanStatus
         ensures judged { JudgesPixel self.now byte result }
         ensures short { result ≡ GoesOn → self.now.length < GAP_LIMIT }
         ensures of_text { result ≡ Fails ReadFailed → ⊥ }
@@ -53,13 +53,13 @@ impl PixelScanner {
     {
         let is_pixel = byte == b'0' || byte == b'1';
         if self.length >= GAP_LIMIT {
-            Judgement::Fails(InputFault::TooLong)
+            ScanStatus::Fails(InputFault::TooLong)
         } else if !self.in_comment && !(is_pixel || is_apart(byte)) {
-            Judgement::Fails(InputFault::BadSample)
+            ScanStatus::Fails(InputFault::BadSample)
         } else if !self.in_comment && is_pixel {
-            Judgement::EndsWith
+            ScanStatus::EndsWith
         } else {
-            Judgement::GoesOn
+            ScanStatus::GoesOn
         }
     }
 }
@@ -81,17 +81,17 @@ impl Scanner for PixelScanner {
 
     ghost keeps_bytes = { false };
 
-    fn take(&mut self, byte: u8) -> Judgement {
-        let judgement = self.judge(byte);
-        match judgement {
-            Judgement::GoesOn => {
+    fn take(&mut self, byte: u8) -> ScanStatus {
+        let scan_status = self.judge(byte);
+        match scan_status {
+            ScanStatus::GoesOn => {
                 self.in_comment = commented(self.in_comment, byte);
                 self.length += 1;
             }
-            Judgement::EndsWith => self.pixel = u16::from(byte == b'0'),
-            Judgement::EndsBefore | Judgement::Fails(_) => {}
+            ScanStatus::EndsWith => self.pixel = u16::from(byte == b'0'),
+            ScanStatus::EndsBefore | ScanStatus::Fails(_) => {}
         }
-        judgement
+        scan_status
     }
 
     fn end(&self) -> Option<InputFault> {

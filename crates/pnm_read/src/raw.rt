@@ -179,7 +179,7 @@ fn read_words<R: BytesIn>(
 }
 
 /// Appends the next samples of two bytes, at most `most` of them, and returns how many. Safe code can't
-/// lend words as bytes to be read into, so these are joined out of the input's buffer.
+/// lend words as bytes to be read into, so these are made out of the input's buffer.
 fn append_part<R: BytesIn>(
     input: &mut BufferedReader<R>,
     most: usize,

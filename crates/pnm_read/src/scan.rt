@@ -3,21 +3,21 @@
 ghost use Rattle.std.specs.Prelude.{◌≡◌, ◌<◌, ◌≤◌, ◌+◌, ℕ, Bool, true, List, Option, IfOk, IfSome, IfNone, Some, Err};
 ghost use Rattle.std.specs.Prelude.{length};
 ghost use Rattle.pnm_read.specs.declared.fault.InputFault.{InputFault as Fault};
-ghost use Rattle.pnm_read.specs.declared.judgement.Judgement.{Judgement as Judged};
-ghost use Rattle.pnm_read.specs.declared.judgement.Judgement.TheVariants.{GoesOn, Fails};
+ghost use Rattle.pnm_read.specs.declared.scan_status.ScanStatus.{ScanStatus as StatusValue};
+ghost use Rattle.pnm_read.specs.declared.scan_status.ScanStatus.TheVariants.{GoesOn, Fails};
 ghost use Rattle.pnm_read.specs.declared.fault.InputFault.TheVariants.{ReadFailed, Memory};
 ghost use Rattle.pnm_read.specs.Scans.{JudgesByte, JudgesEnd, Feeds, Scans};
 ghost use Rattle.pnm_read.specs.BufferedReaders.{ReadCall};
 
 use crate::buffered_reader::BufferedReader;
 use crate::fault::InputFault;
-use crate::judgement::Judgement;
+use crate::scan_status::ScanStatus;
 use pnm_image::BytesIn;
 
 /// Takes the bytes of a piece one by one.
 pub trait Scanner {
     /// The judgement of a byte, by the bytes of the piece before it.
-    ghost item: { Self → List ℕ → ℕ → Judged };
+    ghost item: { Self → List ℕ → ℕ → StatusValue };
 
     /// The fault, if any, of a text that ends after these bytes of the piece.
     ghost at_end: { Self → List ℕ → Option Fault };
@@ -35,7 +35,7 @@ pub trait Scanner {
     ghost keeps_bytes: { Bool };
 
     /// Judges the next byte, and takes it if it belongs to the piece.
-    fn take(&mut self, byte: u8) -> Judgement
+    fn take(&mut self, byte: u8) -> ScanStatus
         ensures judged { JudgesByte (item self.old) (is_after self.old) (is_after self.new) (is_whole self.new) byte
             result }
         ensures same_items { item self.new ≡ item self.old }
@@ -92,10 +92,10 @@ pub fn feed<S: Scanner>(scanner: &mut S, bytes: &[u8]) -> Result<Option<usize>, 
 {
     for (taken, byte) in bytes.iter().enumerate() {
         match scanner.take(*byte) {
-            Judgement::GoesOn => {}
-            Judgement::EndsWith => return Ok(Some(taken + 1)),
-            Judgement::EndsBefore => return Ok(Some(taken)),
-            Judgement::Fails(fault) => return Err(fault),
+            ScanStatus::GoesOn => {}
+            ScanStatus::EndsWith => return Ok(Some(taken + 1)),
+            ScanStatus::EndsBefore => return Ok(Some(taken)),
+            ScanStatus::Fails(fault) => return Err(fault),
         }
     }
     Ok(None)

@@ -10,17 +10,20 @@ ghost use Rattle.pnm_read.specs.declared.fault.InputFault.{InputFault as Fault};
 ghost use Rattle.pnm_read.specs.declared.fault.InputFault.TheVariants.{ReadFailed, Memory};
 ghost use Rattle.pnm_read.specs.declared.source.Awaited.{Awaited as AwaitedValue};
 ghost use Rattle.pnm_read.specs.BufferedReaders.{ReadCall, Finds, held_of};
-ghost use Rattle.pnm_read.specs.HeldRows.{TakesRows};
+ghost use Rattle.pnm_read.specs.RasterRows.{TakesRows};
 ghost use Rattle.pnm_read.specs.Awaiting.{awaited_after, row_of, HasRow, AnswersNext, Steps, StepsAtStart, SeesText};
 
 use crate::buffered_reader::{BufferedReader, ReadBuffer};
 use crate::fault::InputFault;
-use crate::header::{is_told, read_format, read_head};
+use crate::header::{is_complete, read_format, read_head};
 use crate::raster::Raster;
 use crate::spare_rows::SpareRows;
 use crate::{held_rows, held_words, plain, raw};
 use pnm_image::{BytesIn, Format, Message, Rows, Samples};
 use std::alloc::Global;
+
+/// The fewest rows that `next_rows` gives.
+const LEAST_TOGETHER: u32 = 2;
 
 /// What a source awaits of its input.
 #[derive(Clone, Copy)]
@@ -66,7 +69,7 @@ pub struct Source<R> {
 
 impl<R: BytesIn> Source<R> {
     ghost use Rattle.pnm_read.specs.Sources.{IsFreshSource, Tells, MayGive, SeesEnd, MayGiveMore, stopped_by};
-    ghost use Rattle.pnm_read.specs.Sources.{TellsRows, has_ended, reader_of};
+    ghost use Rattle.pnm_read.specs.Sources.{TellsRows, TellsImage, HasJustBegun, has_ended, reader_of};
 
     /// A source over the reader, with a buffer of its own. It reads nothing. The only fault is
     /// `Memory`, and then the reader is gone: `with_buffer` keeps it.
@@ -158,7 +161,7 @@ impl<R: BytesIn> Source<R> {
         let Some(raster) = raw_raster(&self.state) else {
             return Ok(None);
         };
-        match take_held(&mut self.input, spares, &raster) {
+        match take_held(&mut self.input, spares, &raster, LEAST_TOGETHER) {
             Ok(Some((count, rows))) => {
                 self.state = State::Awaits(Awaited::RowOrEnd(raster.after_rows(count)));
                 Ok(Some(rows))
@@ -169,6 +172,42 @@ impl<R: BytesIn> Source<R> {
                 Err(found)
             }
         }
+    }
+
+    /// The rows of the image that has just begun, all together, and its end: as if `next` had given each row and then
+    /// `ImageEnd`. It makes no read. Rows of bits or bytes take the memory of the spare that was kept the longest, if
+    /// they fit.
+    ///
+    /// Returns `None`, and leaves the source as it was, if no image has just begun (its first row comes next), if its
+    /// form is plain, if its rows aren't all held, if a row has more than 16,384 bytes or all have more than 65,536, if
+    /// a sample is above the maxval, or if there is no memory for the rows. Then `next` or `next_rows` says what comes.
+    pub fn rest_of_image(&mut self, spares: &mut SpareRows) -> Option<Rows>
+        // All rows come in turn, and then the end of their image; without any nothing has changed.
+        ensures begun { IfSome result (λ _. HasJustBegun self.old) }
+        ensures told { IfSome result (TellsImage self.old self.new) }
+        ensures none { result ≡ None → self.new ≡ self.old }
+        ensures going { IfSome result (λ _.
+            (stopped_by self.new ≡ None) × (has_ended self.new ≡ false)) }
+
+        // The end and a fault stay.
+        ensures for_good { has_ended self.old ≡ true → (result ≡ None) × (self.new ≡ self.old) }
+        ensures stays { (fault : Fault) → stopped_by self.old ≡ Some fault
+            → (result ≡ None) × (self.new ≡ self.old) }
+
+        // The reader, which is as it was.
+        ensures reader { reader_of self.new ≡ reader_of self.old }
+        ensures end { SeesEnd R.left self.old → SeesEnd R.left self.new }
+        ensures comes { (rest : List ℕ) → MayGive self.old rest → MayGive self.new rest }
+        ensures came { (rest : List ℕ) → MayGive self.new rest → MayGive self.old rest }
+    {
+        let raster = raw_raster(&self.state)?;
+        // So many rows are left only if none has passed.
+        let least = raster.shape.height;
+        let Ok(Some((_, rows))) = take_held(&mut self.input, spares, &raster, least) else {
+            return None;
+        };
+        self.state = State::Awaits(after_image(raster.format));
+        Some(rows)
     }
 
     /// Whether the held bytes determine the next message, so that `next` makes no read. They determine a header if it
@@ -276,8 +315,8 @@ fn raw_raster(state: &State) -> Option<Raster>
     }
 }
 
-/// The next rows of the raster together, and how many there are, if two or more are held whole and none has a sample
-/// above the maxval.
+/// The next rows of the raster together, and how many there are, if at least `least` and at least one are held whole
+/// and none has a sample above the maxval.
 ///
 /// # Errors
 ///
@@ -286,7 +325,9 @@ fn take_held<R: BytesIn>(
     input: &mut BufferedReader<R>,
     spares: &mut SpareRows,
     raster: &Raster,
+    least: u32,
 ) -> Result<Option<(u32, Rows)>, InputFault>
+    ensures least { IfOk result (λ r. IfSome r (λ p. (1 ≤ p.0) × (least ≤ p.0))) }
     ensures left { IfOk result (λ r. IfSome r (λ p. p.0 ≤ raster.now.shape.height - raster.now.y)) }
     ensures rows { IfOk result (λ r. IfSome r (λ p. TakesRows raster.now.shape p.0 p.1
         (held_of input.old) (held_of input.new))) }
@@ -295,12 +336,12 @@ fn take_held<R: BytesIn>(
     ensures ended { input.new.ended ≡ input.old.ended }
     ensures refused { IfErr result (λ fault. (fault ≡ Memory) × (input.new ≡ input.old)) }
 {
-    let count = held_rows::count_held(input, raster);
+    let count = held_rows::count_held(input, raster, least);
     if count > 0 {
         let rows = held_rows::take_rows(input, spares, raster, count)?;
         return Ok(Some((count, rows)));
     }
-    let count = held_words::count_held(input, raster);
+    let count = held_words::count_held(input, raster, least);
     if count == 0 {
         return Ok(None);
     }
@@ -326,9 +367,9 @@ fn step_at<R: BytesIn>(input: &mut BufferedReader<R>, awaited: Awaited) -> Resul
 /// Whether the held bytes determine the message that is awaited.
 fn holds_at<R: BytesIn>(input: &BufferedReader<R>, awaited: &Awaited) -> bool {
     match awaited {
-        Awaited::FirstImage => input.holds(usize::MAX) || is_told(input.bytes(), true),
+        Awaited::FirstImage => input.holds(usize::MAX) || is_complete(input.bytes(), true),
         Awaited::RowOrEnd(raster) => holds_row(input, raster),
-        Awaited::ImageOrEnd => input.holds(usize::MAX) || is_told(input.bytes(), false),
+        Awaited::ImageOrEnd => input.holds(usize::MAX) || is_complete(input.bytes(), false),
         Awaited::End => true,
     }
 }

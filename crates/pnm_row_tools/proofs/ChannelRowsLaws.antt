@@ -16,7 +16,7 @@ use Rattle.pnm_tools.proofs.PickLaws.{picked_within, plane_there}
 use Rattle.pnm_tools.proofs.RangeLaws.{length_of_equals, pieces_alike, pieces_alike_from, pieces_in_parts}
 use Rattle.pnm_tools.proofs.RowLaws.{row_of_channel}
 use Rattle.pnm_row_tools.specs.EachRow.{changed}
-use Rattle.pnm_row_tools.specs.Keeping.{as_wide}
+use Rattle.pnm_row_tools.specs.RowKeeping.{as_wide}
 use Rattle.pnm_row_tools.proofs.EachRowLaws.{cut_again, each_answered}
 
 -- ---- one plane by itself

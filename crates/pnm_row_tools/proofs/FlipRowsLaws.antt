@@ -17,18 +17,18 @@ use Rattle.pnm_image.specs.declared.rows.RowVec.TheVariants.{Bits}
 use Rattle.pnm_image.specs.Images.{cut_rows}
 use Rattle.pnm_image.specs.Places.{IsRowOf}
 use Rattle.pnm_tools.specs.Answering.{rows_answer}
-use Rattle.pnm_tools.specs.Flip.{mirrored_row, moves_rows, turn_of, turned_row}
-use Rattle.pnm_tools.specs.Pixels.{pixel_of}
+use Rattle.pnm_tools.specs.Flip.{mirrored_row, moves_rows, transform_of, transformed_row}
+use Rattle.pnm_tools.specs.PixelSamples.{pixel_of}
 use Rattle.pnm_tools.specs.declared.flip.FlipWay.{FlipWay}
-use Rattle.pnm_tools.specs.declared.flip.Turn.{Turn}
+use Rattle.pnm_tools.specs.declared.flip.Transform.{Transform}
 use Rattle.pnm_tools.specs.declared.tool.Tool.TheVariants.{Flip}
 use Rattle.pnm_tools.proofs.PickLaws.{columns_end}
 use Rattle.pnm_tools.proofs.RangeLaws.{length_of_equals, pieces_alike, pieces_alike_from, pieces_in_parts}
-use Rattle.pnm_tools.proofs.TurnLaws.{row_moved, row_stays}
+use Rattle.pnm_tools.proofs.TransformLaws.{row_moved, row_stays}
 use Rattle.pnm_samples.specs.Cuts.{last_first}
 use Rattle.pnm_samples.proofs.RowOrderLaws.{last_first_long}
 use Rattle.pnm_row_tools.specs.EachRow.{HoldsRows, changed, held_samples}
-use Rattle.pnm_row_tools.specs.Keeping.{AreRowsOf, IsReversingRows, Reversed, joined, reversed, reversed_due}
+use Rattle.pnm_row_tools.specs.RowKeeping.{AreRowsOf, IsReversingRows, Reversed, flattened, reversed, reversed_due}
 use Rattle.pnm_row_tools.proofs.EachRowLaws.{cut_again, each_answered, length-changed, one_row_more}
 use Rattle.pnm_row_tools.proofs.HeldRowsLaws.{held_cut, held_long, reversed_all}
 use Rattle.pnm_row_tools.proofs.FlipRowLaws.{mirrored_within, one_plane}
@@ -115,7 +115,8 @@ rows_cut_again s count each samples some is long =
     cut_again (mirrored_row s) each each (λ row whole. mirrored_long s some row (whole ∙ is) ∙ sym is) count samples (omega (arith, long))
 
 -- each row is answered by what the way makes of it
-pub rows_turned : (way : FlipWay) (s : Shape) (y : ℕ) (rows made : List (List ℕ)) → moves_rows (turn_of way) ≡ false → (turn_of way).columns_reversed ≡ true
+pub rows_turned : (way : FlipWay) (s : Shape) (y : ℕ) (rows made : List (List ℕ)) → moves_rows (transform_of way) ≡ false → (transform_of way).columns_reversed
+    ≡ true
     → made ≡ map (mirrored_row s) rows → rows_answer (Flip way) s y rows ≡ made
 rows_turned way s y rows made stays reversed is =
     each_answered (Flip way) s (mirrored_row s) y rows (λ k row from to.
@@ -322,7 +323,7 @@ items_reversed count each old new is whole =
     )
 
 -- rows that answer nothing yet
-pub none_answer : (way : FlipWay) (s : Shape) (y : ℕ) (rows : List (List ℕ)) → moves_rows (turn_of way) ≡ true → rows_answer (Flip way) s y rows ≡ []
+pub none_answer : (way : FlipWay) (s : Shape) (y : ℕ) (rows : List (List ℕ)) → moves_rows (transform_of way) ≡ true → rows_answer (Flip way) s y rows ≡ []
 none_answer way s y [] moves = refl
 none_answer way s y (row ∷ rows) moves =
     ap (λ (l : List (List ℕ)). l ++ rows_answer (Flip way) s (y + 1) rows) (row_moved way s y row moves) ∙ none_answer way s (y + 1) rows moves
@@ -330,14 +331,14 @@ none_answer way s y (row ∷ rows) moves =
 -- ---- the rows that a reverser keeps
 
 -- rows that come together come behind the others
-pub rows_joined : (blocks : List (List (List ℕ))) (rows : List (List ℕ)) → joined (blocks ++ rows ∷ []) ≡ joined blocks ++ rows
-rows_joined blocks rows =
-    flat_map-append (λ (l : List (List ℕ)). l) blocks (rows ∷ []) ∙ ap (λ (l : List (List ℕ)). joined blocks ++ l) (append-nil rows)
+pub rows_flattened : (blocks : List (List (List ℕ))) (rows : List (List ℕ)) → flattened (blocks ++ rows ∷ []) ≡ flattened blocks ++ rows
+rows_flattened blocks rows =
+    flat_map-append (λ (l : List (List ℕ)). l) blocks (rows ∷ []) ∙ ap (λ (l : List (List ℕ)). flattened blocks ++ l) (append-nil rows)
 
 -- more rows are kept
 pub more_kept : (w : Reversed) (way : FlipWay) (kept now : List (List (List ℕ))) (more come : List (List ℕ)) (ended : Option Shape) (s : Shape)
-    → reversed way (joined kept) ended ≡ w → joined now ≡ joined kept ++ more → All (IsRowOf s) more → IsReversingRows w s come
-    → IsReversingRows (reversed way (joined now) ended) s (come ++ more)
+    → reversed way (flattened kept) ended ≡ w → flattened now ≡ flattened kept ++ more → All (IsRowOf s) more → IsReversingRows w s come
+    → IsReversingRows (reversed way (flattened now) ended) s (come ++ more)
 more_kept w way kept now more come ended s view is all ready = record {
   limits = ready.limits;
   rows = is ∙ ap (λ (l : List (List ℕ)). l ++ more) (ap (λ (v : Reversed). v.rows) view ∙ ready.rows);
@@ -347,27 +348,27 @@ more_kept w way kept now more come ended s view is all ready = record {
 
 -- the rows of the block that is given, and those that stay
 pub rows_parted : (ended : Option Shape) (s : Shape) (kept rest : List (List (List ℕ))) (block : List (List ℕ)) → ended ≡ Some s
-    → AreRowsOf ended (joined kept) → kept ≡ rest ++ block ∷ [] → All (IsRowOf s) block × AreRowsOf ended (joined rest)
+    → AreRowsOf ended (flattened kept) → kept ≡ rest ++ block ∷ [] → All (IsRowOf s) block × AreRowsOf ended (flattened rest)
 rows_parted ended s kept rest block is are parts =
     let P : List ℕ → Type 0 = IsRowOf s in
-    let before : List (List ℕ) = joined rest in
-    let rows : joined kept ≡ before ++ block = ap joined parts ∙ rows_joined rest block in
-    let known = subst (λ (e : Option Shape). AreRowsOf e (joined kept)) is are in
+    let before : List (List ℕ) = flattened rest in
+    let rows : flattened kept ≡ before ++ block = ap flattened parts ∙ rows_flattened rest block in
+    let known = subst (λ (e : Option Shape). AreRowsOf e (flattened kept)) is are in
     let all : All P (before ++ block) = subst (All P) rows known.1 in
     let behind : All P block = subst (All P) (drop_at before block (length before) refl) (All-drop P (length before) (before ++ block) all) in
     let ahead : All P before = subst (All P) (take_at before block (length before) refl) (All-take P (length before) (before ++ block) all) in
     (behind, subst (λ (e : Option Shape). AreRowsOf e before) (sym is) (known.0, ahead))
 
 -- the rows that are given, and those that are still due
-pub block_given : (w : Reversed) (way : FlipWay) (ended : Option Shape) (t : Turn) (s : Shape) (kept rest : List (List (List ℕ)))
-    (block made : List (List ℕ)) → reversed way (joined kept) ended ≡ w → ended ≡ Some s → t ≡ turn_of way → kept ≡ rest ++ block ∷ []
-    → made ≡ map (turned_row t s) (reverse block) → reversed_due w ≡ made ++ reversed_due (reversed way (joined rest) ended)
-block_given w way ended t s kept rest block made view is turn parts made_is =
-    let f : List ℕ → List ℕ = turned_row (turn_of way) s in
-    let later : List (List ℕ) = map f (reverse (joined rest)) in
-    sym (ap reversed_due view) ∙ ap (λ (e : Option Shape). reversed_due (reversed way (joined kept) e)) is
-    ∙ ap (λ (l : List (List ℕ)). map f (reverse l)) (ap joined parts ∙ rows_joined rest block)
-    ∙ ap (map f) (reverse-append (joined rest) block) ∙ map-append f (reverse block) (reverse (joined rest))
-    ∙ ap (λ (u : Turn). map (turned_row u s) (reverse block) ++ later) (sym turn)
+pub block_given : (w : Reversed) (way : FlipWay) (ended : Option Shape) (t : Transform) (s : Shape) (kept rest : List (List (List ℕ)))
+    (block made : List (List ℕ)) → reversed way (flattened kept) ended ≡ w → ended ≡ Some s → t ≡ transform_of way → kept ≡ rest ++ block ∷ []
+    → made ≡ map (transformed_row t s) (reverse block) → reversed_due w ≡ made ++ reversed_due (reversed way (flattened rest) ended)
+block_given w way ended t s kept rest block made view is transform parts made_is =
+    let f : List ℕ → List ℕ = transformed_row (transform_of way) s in
+    let later : List (List ℕ) = map f (reverse (flattened rest)) in
+    sym (ap reversed_due view) ∙ ap (λ (e : Option Shape). reversed_due (reversed way (flattened kept) e)) is
+    ∙ ap (λ (l : List (List ℕ)). map f (reverse l)) (ap flattened parts ∙ rows_flattened rest block)
+    ∙ ap (map f) (reverse-append (flattened rest) block) ∙ map-append f (reverse block) (reverse (flattened rest))
+    ∙ ap (λ (u : Transform). map (transformed_row u s) (reverse block) ++ later) (sym transform)
     ∙ ap (λ (l : List (List ℕ)). l ++ later) (sym made_is)
-    ∙ ap (λ (e : Option Shape). made ++ reversed_due (reversed way (joined rest) e)) (sym is)
+    ∙ ap (λ (e : Option Shape). made ++ reversed_due (reversed way (flattened rest) e)) (sym is)

@@ -15,7 +15,7 @@ use Rattle.pnm_image.proofs.HeldRowLaws.{length_of_lists, lengths_of_lists, word
 use Rattle.pnm_image.proofs.RowLaws.{concat-cut_rows, rows_need}
 use Rattle.pnm_row_tools.specs.EachRow.{IsEachChanged, held_samples}
 
--- ---- rows that are joined
+-- ---- rows in one list
 
 -- they have so many samples
 pub concat_long : (count each : ℕ) (rows : List (List ℕ)) → (length rows ≡ count) × All (λ row. length row ≡ each) rows → length (concat rows) ≡ count * each

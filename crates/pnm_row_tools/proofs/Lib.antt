@@ -1,5 +1,4 @@
 pub mod FlipRowLaws
-pub mod SampleToolLaws
 pub mod ValueLaws
 pub mod EachRowLaws
 pub mod CutRowsLaws

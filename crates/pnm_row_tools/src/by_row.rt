@@ -1,6 +1,7 @@
 //! A row tool at work: at most one row of the result for each row.
 
 ghost use Rattle.pnm_tools.specs.Answering.{rows_list};
+ghost use Rattle.pnm_row_tools.specs.RowKeeping.{IsReadyForRows};
 
 use crate::row_tool::RowTool;
 use pnm_image::{Head, Rows, Shape};
@@ -20,21 +21,24 @@ pub struct ByRow<T: RowTool> {
 impl<T: RowTool> ImageTool for ByRow<T> {
     ghost tool = { λ w. T.tool w.tool };
 
-    ghost ready = { λ w shape rows. T.ready w.tool shape };
+    ghost ready = { λ w shape rows. IsReadyForRows T.ready w.tool shape rows };
 
     ghost due = { λ w. rows_list w.made };
 
     ghost kept = { λ w. rows_list w.made };
 
+    #[tactic(auto, unfolding(crate::specs::RowKeeping::IsReadyForRows))]
     fn begin(&mut self, alloc: Global, head: &Head) -> Result<Head, ToolFault> {
         self.tool.begin(alloc, head)
     }
 
+    #[tactic(auto, unfolding(crate::specs::RowKeeping::IsReadyForRows))]
     fn take(&mut self, alloc: Global, shape: Shape, y: u32, rows: Rows) -> Result<(), ToolFault> {
         self.made = self.tool.rows(alloc, shape, y, rows)?;
         Ok(())
     }
 
+    #[tactic(auto, unfolding(crate::specs::RowKeeping::IsReadyForRows))]
     fn end(&mut self, _shape: Shape) {
         self.made = None;
     }

@@ -8,7 +8,7 @@ ghost use Rattle.pnm_tools.specs.declared.fault.ToolFault.TheVariants.{Memory};
 ghost use Rattle.pnm_tools.specs.declared.tool.Tool.TheVariants.{Channel};
 ghost use Rattle.pnm_tools.specs.Channel.{picked_or, picked_row, IsLawfulPick, HasPlanes};
 ghost use Rattle.pnm_tools.specs.Tools.{TakesHead, result_head};
-ghost use Rattle.pnm_row_tools.specs.Keeping.{as_wide};
+ghost use Rattle.pnm_row_tools.specs.RowKeeping.{as_wide};
 
 use crate::row_tool::RowTool;
 use pnm_image::{Head, Kind, RowSlice, RowVec, Rows, Shape};

@@ -8,7 +8,7 @@ ghost use Rattle.pnm_image.specs.declared.limits.TheConstants.{MAX_SIDE};
 ghost use Rattle.pnm_tools.specs.Cut.{IsLawfulAxis, columns_of_row, span_of, first_kept, last_kept};
 ghost use Rattle.pnm_tools.specs.Cut.{edge_of, IsLawfulBox, columns_kept, rows_kept, span_count};
 ghost use Rattle.pnm_tools.specs.declared.tool.Tool.TheVariants.{Cut};
-ghost use Rattle.pnm_row_tools.specs.Keeping.{parts_kept};
+ghost use Rattle.pnm_row_tools.specs.RowKeeping.{parts_kept};
 ghost use Rattle.pnm_row_tools.specs.EachRow.{parts_of};
 
 use crate::row_tool::RowTool;
@@ -176,7 +176,7 @@ pub struct Cutter {
 }
 
 impl RowTool for Cutter {
-    ghost use Rattle.pnm_row_tools.specs.Keeping.{HasSpans};
+    ghost use Rattle.pnm_row_tools.specs.RowKeeping.{HasSpans};
 
     ghost tool = { λ w. Cut w.cut };
 
@@ -222,7 +222,7 @@ impl RowTool for Cutter {
 }
 
 impl Cutter {
-    ghost use Rattle.pnm_row_tools.specs.Keeping.{cut_of};
+    ghost use Rattle.pnm_row_tools.specs.RowKeeping.{cut_of};
 
     /// Returns the tool that keeps this rectangle, before the first image.
     pub fn new(cut: CutBox) -> Cutter

@@ -9,16 +9,17 @@ ghost use Rattle.pnm_image.specs.HeldRows.{AreRows, row_lists};
 ghost use Rattle.pnm_image.specs.Places.{IsRowOf};
 ghost use Rattle.pnm_tools.specs.declared.fault.ToolFault.TheVariants.{Memory};
 ghost use Rattle.pnm_tools.specs.declared.tool.Tool.TheVariants.{Flip};
-ghost use Rattle.pnm_tools.specs.Flip.{mirrored_row, moved_rows, moves_rows, turn_of, turned_row, ReversesRows};
+ghost use Rattle.pnm_tools.specs.Flip.{mirrored_row, moved_rows, moves_rows, transform_of, transformed_row};
+ghost use Rattle.pnm_tools.specs.Flip.{ReversesRows};
 ghost use Rattle.pnm_samples.specs.Cuts.{last_first};
 ghost use Rattle.pnm_row_tools.specs.EachRow.{HoldsRows, changed};
-ghost use Rattle.pnm_row_tools.specs.Keeping.{FlipsInRows, IsReversingRows, reversed_due};
+ghost use Rattle.pnm_row_tools.specs.RowKeeping.{FlipsInRows, IsReversingRows, reversed_due};
 ghost use Rattle.pnm_tools.specs.Tools.{TakesHead, result_head};
 
 use crate::row_tool::RowTool;
 use pnm_image::{Head, RowVec, Rows, Shape};
 use pnm_samples::reverse_rows;
-use pnm_tools::{FlipWay, ImageTool, ToolFault, Turn, flipped_head};
+use pnm_tools::{FlipWay, ImageTool, ToolFault, Transform, flipped_head};
 use std::alloc::{AllocError, Global};
 use std::marker::Model;
 
@@ -165,18 +166,24 @@ fn turn_round(alloc: Global, shape: Shape, count: u32, rows: RowVec) -> Result<R
     }
 }
 
-/// Reverses the order of rows of an image of this shape, and the pixels of each row if `turn` reverses the columns.
+/// Reverses the order of rows of an image of this shape, and the pixels of each row if `transform` reverses the
+/// columns.
 ///
 /// # Errors
 ///
 /// If there is no memory for bits that become bytes.
-fn turn_rows(alloc: Global, turn: Turn, shape: Shape, rows: Rows) -> Result<Rows, AllocError>
+fn transform_rows(
+    alloc: Global,
+    transform: Transform,
+    shape: Shape,
+    rows: Rows,
+) -> Result<Rows, AllocError>
     requires limits { IsWithinLimits shape }
     requires rows { AllByRecursion (IsRowOf shape) rows }
-    ensures { IfOk result (λ turned. turned ≡ map (turned_row turn shape) (reverse rows)) }
+    ensures { IfOk result (λ turned. turned ≡ map (transformed_row transform shape) (reverse rows)) }
 {
     let (held, count, row_length) = rows.into_parts();
-    if turn.columns_reversed {
+    if transform.columns_reversed {
         let turned = turn_round(alloc, shape, count, held)?;
         Ok(Rows::new(turned, shape.maxval, count, row_length))
     } else {
@@ -193,7 +200,7 @@ pub struct RowFlipper {
 
 impl Model for RowFlipper {
     ghost use Rattle.pnm_tools.specs.declared.flip.FlipWay.{FlipWay};
-    ghost use Rattle.pnm_row_tools.specs.Keeping.{KeepsRows};
+    ghost use Rattle.pnm_row_tools.specs.RowKeeping.{KeepsRows};
 
     ghost Value = { FlipWay };
 
@@ -205,9 +212,9 @@ impl Model for RowFlipper {
 impl RowTool for RowFlipper {
     ghost tool = { λ way. Flip way };
 
-    ghost ready = { λ way shape. FlipsInRows way shape };
+    ghost ready = { FlipsInRows };
 
-    ghost nothing_at_end = { λ way shape rows ready i. if ready.stays i then moved_rows (turn_of way) shape
+    ghost nothing_at_end = { λ way shape rows ready i. if ready.stays i then moved_rows (transform_of way) shape
         rows else [] };
 
     fn begin(&mut self, alloc: Global, head: &Head) -> Result<Head, ToolFault> {
@@ -222,7 +229,7 @@ impl RowTool for RowFlipper {
         _y: u32,
         rows: Rows,
     ) -> Result<Option<Rows>, ToolFault> {
-        if !self.way.turn().columns_reversed {
+        if !self.way.transform().columns_reversed {
             return Ok(Some(rows));
         }
         let (held, count, row_length) = rows.into_parts();
@@ -234,7 +241,7 @@ impl RowTool for RowFlipper {
 impl RowFlipper {
     /// The tool before the first row.
     pub fn new(way: FlipWay) -> RowFlipper
-        requires { moves_rows (turn_of way) ≡ false }
+        requires { moves_rows (transform_of way) ≡ false }
         ensures { result ≡ way }
     {
         RowFlipper { way }
@@ -252,13 +259,13 @@ pub struct RowReverser {
 }
 
 impl Model for RowReverser {
-    ghost use Rattle.pnm_row_tools.specs.Keeping.{Reversed, reversed, CanReverse, joined};
+    ghost use Rattle.pnm_row_tools.specs.RowKeeping.{Reversed, reversed, CanReverse, flattened};
 
     ghost Value = { Reversed };
 
-    ghost view = { λ w. reversed w.way (joined w.blocks.items) w.ended };
+    ghost view = { λ w. reversed w.way (flattened w.blocks.items) w.ended };
 
-    ghost invariant = { λ w. CanReverse (reversed w.way (joined w.blocks.items) w.ended) };
+    ghost invariant = { λ w. CanReverse (reversed w.way (flattened w.blocks.items) w.ended) };
 }
 
 impl ImageTool for RowReverser {
@@ -301,7 +308,7 @@ impl ImageTool for RowReverser {
         let Some(kept) = self.blocks.pop() else {
             return Ok(None);
         };
-        let turned = turn_rows(alloc, self.way.turn(), shape, kept)?;
+        let turned = transform_rows(alloc, self.way.transform(), shape, kept)?;
         Ok(Some(turned))
     }
 
@@ -313,7 +320,7 @@ impl ImageTool for RowReverser {
 impl RowReverser {
     /// The tool before the first row.
     pub fn new(alloc: Global, way: FlipWay) -> RowReverser
-        requires { ReversesRows (turn_of way) }
+        requires { ReversesRows (transform_of way) }
         ensures way { result.way ≡ way }
         ensures rows { result.rows ≡ [] }
         ensures coming { result.ended ≡ None }

@@ -23,6 +23,7 @@ impl SampleTool for Inverter {
 
     ghost changes = { λ _. changes_samples invert_is_samplewise };
 
+    #[tactic(auto, using(pnm_tools::proofs::InvertLaws::inverted_head_stays))]
     fn head(self, _alloc: Global, head: &Head) -> Result<Head, ToolFault> {
         kept_head(head)
     }

@@ -5,7 +5,7 @@ ghost use Rattle.std.specs.List.{range_with_len};
 ghost use Rattle.pnm_image.specs.declared.limits.TheConstants.{MAX_MAXVAL};
 ghost use Rattle.pnm_image.specs.Heads.{IsWithinLimits};
 ghost use Rattle.pnm_row_tools.specs.EachRow.{IsEachChanged, held_samples};
-ghost use Rattle.pnm_row_tools.specs.Keeping.{IsTable};
+ghost use Rattle.pnm_row_tools.specs.RowKeeping.{HasTable, IsTable};
 ghost use Rattle.pnm_tools.specs.Tools.{IsLawfulTool};
 
 use crate::change::{Computed, LookedUp, change_rows};
@@ -79,7 +79,7 @@ impl<T: SampleTool> Samplewise<T> {
 impl<T: SampleTool> RowTool for Samplewise<T> {
     ghost tool = { λ w. T.tool w.tool };
 
-    ghost ready = { λ w s. IsWithinLimits s × IsTable ((T.rule w.tool).sample s.maxval) s.maxval w.table };
+    ghost ready = { HasTable T.rule };
 
     ghost nothing_at_end = { λ w s rows _. (T.changes w.tool).no_end s rows };
 

@@ -8,7 +8,7 @@ use Rattle.std.proofs.lemmas.Fmt.{decimal_is_IsNumeral}
 use Rattle.std.proofs.lemmas.List.Elements.{All-nil, All-cons, All-head, All-tail}
 use Rattle.std.proofs.lemmas.Str.Parse.{digit_from_value}
 use Rattle.pnm_image.specs.Texts.{is_blank, is_digit, words}
-use Rattle.pnm_read.specs.Texts.{commented_after, ends_in_comment, ends_by, ends_in_word}
+use Rattle.pnm_read.specs.HeaderTexts.{commented_after, ends_in_comment, ends_by, ends_in_word}
 use Rattle.pnm_read.specs.PamLines.{trimmed_start, token_of, first_token}
 use Rattle.pnm_read.specs.Rasters.{SpellsDecimal}
 use Rattle.pnm_read.proofs.WordLaws.{digit_is_not_white, digit_is_not_sharp}

@@ -16,7 +16,7 @@ use Rattle.pnm_tools.specs.declared.fault.ToolFault.{ToolFault}
 use Rattle.pnm_tools.specs.declared.fault.ToolFault.TheVariants.{Memory}
 use Rattle.pnm_tools.specs.declared.tool.Tool.{Tool}
 use Rattle.pnm_tools.specs.Chains.{due_in_turn}
-use Rattle.pnm_read.proofs.Turns.{no_fault}
+use Rattle.pnm_read.proofs.ReadCalls.{no_fault}
 use Rattle.pnm_read.proofs.Consumed.{consumes_nothing}
 use Rattle.pnm_read.proofs.StreamLaws.{no_text_fault}
 use Rattle.pnm_tools.specs.Tools.{output_due}
@@ -25,11 +25,11 @@ use Rattle.pnm_write.specs.declared.fault.SinkFault.{SinkFault}
 use Rattle.pnm_write.specs.declared.fault.SinkFault.TheVariants.{WriteFailed}
 use Rattle.pnm_write.specs.Encoding.{written_of}
 use Rattle.pnm_write.specs.Forms.{IsFormFault}
-use Rattle.pnm_serial.specs.declared.downstream.Downstream.{Downstream}
+use Rattle.pnm_serial.specs.declared.fused_sink.FusedSink.{FusedSink}
 use Rattle.pnm_serial.specs.declared.fault.RunFault.{RunFault}
 use Rattle.pnm_serial.specs.declared.fault.RunFault.TheVariants.{Input, Tool as OfTool, Output}
 use Rattle.pnm_serial.specs.declared.summary.Summary.{Summary}
-use Rattle.pnm_serial.specs.Downstreams.{output_of, AnswersFlushes}
+use Rattle.pnm_serial.specs.FusedSinks.{output_of, AnswersFlushes}
 use Rattle.pnm_serial.specs.Feeding.{IsSaidOf, HasMore, MayFollowRead}
 use Rattle.pnm_serial.specs.Jobs.{Job}
 use Rattle.pnm_serial.specs.Runs.{Change, change, MayFollow, EndsOutput, HasWritten, CountsFailures, HasRun}
@@ -56,7 +56,7 @@ pub record Ended {W : Type 0} (Outlasts : Type 0) (reader : Change) (held : W �
   pub faults : List (Option ToolFault)
   pub given : List Message
   pub out : List Message
-  pub sink : Downstream W
+  pub sink : FusedSink W
   pub read : List ℕ
   pub consumed : Consumes reader.old reader.new read
   pub told : (rest : List ℕ) → MayFollow Outlasts (answer_by input refused output) reader rest → IsSaidOf (read ++ rest) given input

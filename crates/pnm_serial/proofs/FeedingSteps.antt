@@ -16,16 +16,16 @@ use Rattle.pnm_read.specs.declared.source.Source.{Source}
 use Rattle.pnm_read.specs.Said.{said_of}
 use Rattle.pnm_read.specs.Sources.{reader_of, stopped_by, MayGive, MayGiveMore, SeesEnd, HasGiven, Tells, TellsRows, IsFreshSource as IsUnread}
 use Rattle.pnm_read.proofs.Consumed.{consumes_nothing, consumes_then}
-use Rattle.pnm_read.proofs.Turns.{no_fault}
+use Rattle.pnm_read.proofs.ReadCalls.{no_fault}
 use Rattle.pnm_read.proofs.SaidLaws.{said_is_lawful}
 use Rattle.pnm_read.proofs.StreamLaws.{holds_of_said, read_head_has_rows, rest_may_come, nothing_may_come, given_is_prefix, not_stopped, said_are_messages}
 use Rattle.pnm_tools.specs.declared.fault.ToolFault.{ToolFault}
 use Rattle.pnm_tools.specs.declared.tool.Tool.{Tool}
 use Rattle.pnm_tools.specs.ChainAnswers.{IsSound, AreSound}
 use Rattle.pnm_tools.proofs.ChainLaws.{sound_prefix}
-use Rattle.pnm_serial.specs.declared.downstream.Downstream.{Downstream}
+use Rattle.pnm_serial.specs.declared.fused_sink.FusedSink.{FusedSink}
 use Rattle.pnm_tools.specs.declared.fused_filter.FusedFilter.{FusedFilter}
-use Rattle.pnm_serial.specs.Downstreams.{HasTaken}
+use Rattle.pnm_serial.specs.FusedSinks.{HasTaken}
 use Rattle.pnm_serial.specs.SerialChains.{FeedsThrough}
 use Rattle.pnm_serial.specs.Runs.{change}
 use Rattle.pnm_serial.specs.SerialRuns.{OutlastsRun}
@@ -86,7 +86,7 @@ given_is_sound s read given h =
 -- so many messages have passed at least, and no fault of the input has come
 pub record Going {R F W : Type 0} (left : R → Option (List ℕ)) (reader_failures : R → ℕ) (at : F → Tool → List Message → List Message → Type 0)
     (all_given : F → Bool) (stopped : F → Option ToolFault) (held : W → Option (List ℕ)) (writer_failures : W → ℕ) (first source : Source R)
-    (old new : List (FusedFilter F)) (start now : Downstream W) (count : ℕ) : Type 0 where
+    (old new : List (FusedFilter F)) (start now : FusedSink W) (count : ℕ) : Type 0 where
   pub read : List ℕ
   pub given : List Message
   pub consumed : Consumes (left (reader_of first)) (left (reader_of source)) read
@@ -100,7 +100,7 @@ pub record Going {R F W : Type 0} (left : R → Option (List ℕ)) (reader_failu
 -- before the first message
 pub going_none : {R F W : Type 0} (left : R → Option (List ℕ)) (reader_failures : R → ℕ) (at : F → Tool → List Message → List Message → Type 0)
     (all_given : F → Bool) (stopped : F → Option ToolFault) (held : W → Option (List ℕ)) (writer_failures : W → ℕ) (source : Source R)
-    (stages : List (FusedFilter F)) (d : Downstream W) → IsUnread (reader_of source) source
+    (stages : List (FusedFilter F)) (d : FusedSink W) → IsUnread (reader_of source) source
     → Going left reader_failures at all_given stopped held writer_failures source source stages stages d d 0
 going_none left reader_failures at all_given stopped held writer_failures source stages d unread = record {
   read = [];
@@ -116,7 +116,7 @@ going_none left reader_failures at all_given stopped held writer_failures source
 
 -- more has passed
 have_taken_more : {F W : Type 0} (at : F → Tool → List Message → List Message → Type 0) (all_given : F → Bool) (stopped : F → Option ToolFault)
-    (held : W → Option (List ℕ)) (failures : W → ℕ) (given passed : List Message) (old now next : List (FusedFilter F)) (before d after : Downstream W)
+    (held : W → Option (List ℕ)) (failures : W → ℕ) (given passed : List Message) (old now next : List (FusedFilter F)) (before d after : FusedSink W)
     → AreSound (given ++ passed) → HaveTaken at all_given stopped held failures given old now before d
     → FeedsThrough at all_given stopped held failures now passed next d after
     → HaveTaken at all_given stopped held failures (given ++ passed) old next before after
@@ -129,7 +129,7 @@ have_taken_more at all_given stopped held failures given passed old now next bef
 -- one message more has passed
 pub going_more : {R F W : Type 0} (left : R → Option (List ℕ)) (reader_failures : R → ℕ) (at : F → Tool → List Message → List Message → Type 0)
     (all_given : F → Bool) (stopped : F → Option ToolFault) (held : W → Option (List ℕ)) (writer_failures : W → ℕ) (first source next : Source R)
-    (old now after : List (FusedFilter F)) (start d new : Downstream W) (count : ℕ) (m : Message)
+    (old now after : List (FusedFilter F)) (start d new : FusedSink W) (count : ℕ) (m : Message)
     → (going : Going left reader_failures at all_given stopped held writer_failures first source old now start d count)
     → Tells left source (Ok (Some m)) next
     → (SeesEnd left source → SeesEnd left next)
@@ -154,7 +154,7 @@ going_more left reader_failures at all_given stopped held writer_failures first 
 -- rows have passed together, for which nothing was read
 pub going_rows : {R F W : Type 0} (left : R → Option (List ℕ)) (reader_failures : R → ℕ) (at : F → Tool → List Message → List Message → Type 0)
     (all_given : F → Bool) (stopped : F → Option ToolFault) (held : W → Option (List ℕ)) (writer_failures : W → ℕ) (first source next : Source R)
-    (old now after : List (FusedFilter F)) (start d new : Downstream W) (count : ℕ) (rows : List (List ℕ))
+    (old now after : List (FusedFilter F)) (start d new : FusedSink W) (count : ℕ) (rows : List (List ℕ))
     → (going : Going left reader_failures at all_given stopped held writer_failures first source old now start d count)
     → 1 ≤ length rows
     → TellsRows source next rows → reader_of next ≡ reader_of source
@@ -178,7 +178,7 @@ going_rows left reader_failures at all_given stopped held writer_failures first 
 -- what has passed stays so where the sink has taken what it had, and the source is the same
 pub going_flushed : {R F W : Type 0} (left : R → Option (List ℕ)) (reader_failures : R → ℕ) (at : F → Tool → List Message → List Message → Type 0)
     (all_given : F → Bool) (stopped : F → Option ToolFault) (held : W → Option (List ℕ)) (writer_failures : W → ℕ) (first source source_now : Source R)
-    (old now : List (FusedFilter F)) (start d new : Downstream W) (count : ℕ)
+    (old now : List (FusedFilter F)) (start d new : FusedSink W) (count : ℕ)
     → source_now ≡ source
     → Going left reader_failures at all_given stopped held writer_failures first source old now start d count
     → ((form : Form) (begun : W) (messages : List Message) → HasTaken held writer_failures form begun messages d
@@ -205,7 +205,7 @@ going_flushed left reader_failures at all_given stopped held writer_failures fir
 -- the end of the stream
 pub fed_all : {R F W : Type 0} (left : R → Option (List ℕ)) (reader_failures : R → ℕ) (at : F → Tool → List Message → List Message → Type 0)
     (all_given : F → Bool) (stopped : F → Option ToolFault) (held : W → Option (List ℕ)) (writer_failures : W → ℕ) (first source next : Source R)
-    (old new : List (FusedFilter F)) (start now : Downstream W) (count : ℕ)
+    (old new : List (FusedFilter F)) (start now : FusedSink W) (count : ℕ)
     → Going left reader_failures at all_given stopped held writer_failures first source old new start now count
     → Tells left source (Ok None) next
     → (SeesEnd left source → SeesEnd left next)
@@ -241,7 +241,7 @@ failed_in_call s read given old new first h e (inr failed) = subst (λ (k : ℕ)
 -- a fault of the input
 pub fed_until : {R F W : Type 0} (left : R → Option (List ℕ)) (reader_failures : R → ℕ) (at : F → Tool → List Message → List Message → Type 0)
     (all_given : F → Bool) (stopped : F → Option ToolFault) (held : W → Option (List ℕ)) (writer_failures : W → ℕ) (first source next : Source R)
-    (old new : List (FusedFilter F)) (start now : Downstream W) (messages : ℕ) (fault : InputFault)
+    (old new : List (FusedFilter F)) (start now : FusedSink W) (messages : ℕ) (fault : InputFault)
     → Going left reader_failures at all_given stopped held writer_failures first source old new start now messages
     → Tells left source (Err fault) next
     → (SeesEnd left source → SeesEnd left next)
@@ -270,7 +270,7 @@ fed_until left reader_failures at all_given stopped held writer_failures first s
 -- there was no memory for rows
 pub fed_until_rows : {R F W : Type 0} (left : R → Option (List ℕ)) (reader_failures : R → ℕ) (at : F → Tool → List Message → List Message → Type 0)
     (all_given : F → Bool) (stopped : F → Option ToolFault) (held : W → Option (List ℕ)) (writer_failures : W → ℕ) (first source next : Source R)
-    (old new : List (FusedFilter F)) (start now : Downstream W) (messages : ℕ) (fault : InputFault)
+    (old new : List (FusedFilter F)) (start now : FusedSink W) (messages : ℕ) (fault : InputFault)
     → Going left reader_failures at all_given stopped held writer_failures first source old new start now messages
     → fault ≡ Memory → Tells left source (Err fault) next → reader_of next ≡ reader_of source
     → (SeesEnd left source → SeesEnd left next) → ((rest : List ℕ) → MayGive source rest → MayGive next rest)
@@ -293,7 +293,7 @@ not_failed same outlasts (inr fewer) = fewer outlasts
 -- as many messages as a run takes
 pub fed_too_many : {R F W : Type 0} (left : R → Option (List ℕ)) (reader_failures : R → ℕ) (at : F → Tool → List Message → List Message → Type 0)
     (all_given : F → Bool) (stopped : F → Option ToolFault) (held : W → Option (List ℕ)) (writer_failures : W → ℕ) (first source : Source R)
-    (old new : List (FusedFilter F)) (start now : Downstream W) (count : ℕ)
+    (old new : List (FusedFilter F)) (start now : FusedSink W) (count : ℕ)
     → Going left reader_failures at all_given stopped held writer_failures first source old new start now count → 2 ^ 64 - 1 ≤ count
     → HasFed left reader_failures at all_given stopped held writer_failures first source (Err ReadFailed) old new start now
 fed_too_many left reader_failures at all_given stopped held writer_failures first source old new start now count going enough =

@@ -9,10 +9,10 @@ use Rattle.pnm_image.specs.Heads.{HeadValue, IsHead, IsWithinLimits}
 use Rattle.pnm_image.specs.declared.format.Format.{Format}
 use Rattle.pnm_image.specs.declared.format.Form.{Form}
 use Rattle.pnm_image.specs.declared.format.Form.TheVariants.{Raw, Plain}
-use Rattle.pnm_read.specs.Texts.{begins_apart, ends_in_word}
+use Rattle.pnm_read.specs.HeaderTexts.{begins_apart, ends_in_word}
 use Rattle.pnm_image.specs.Texts.{is_white, is_digit}
 use Rattle.pnm_image.specs.Formats.{format_of}
-use Rattle.pnm_read.specs.Formats.{header_numbers}
+use Rattle.pnm_read.specs.HeaderNumbers.{header_numbers}
 use Rattle.pnm_read.specs.Headers.{SpellsPnmHeader, SpellsHeaderBy, SpellsHeader}
 use Rattle.pnm_read.specs.Rasters.{SpellsDecimal}
 use Rattle.pnm_write.specs.Encoding.{kind_text, header_text}

@@ -1,6 +1,6 @@
 pub mod MessageSteps
 pub mod FormSteps
-pub mod DownstreamSteps
+pub mod FusedSinkSteps
 pub mod RowSteps
 pub mod SoundSteps
 pub mod PassingSteps
@@ -14,9 +14,9 @@ pub mod RunSteps
 pub mod EndSteps
 pub mod RunFactSteps
 pub mod RefusalExample
-pub mod FeederSteps
-pub mod CollectorSteps
-pub mod TurnSteps
+pub mod IngressSteps
+pub mod EgressSteps
+pub mod IoLoopSteps
 pub mod DecimalText
 pub mod NumberText
 pub mod PamText

@@ -10,7 +10,7 @@ use Rattle.pnm_write.specs.Encoding.{bytes_from, bytes_of}
 use Rattle.pnm_write.specs.Sinks.{HasRows, IsInOrder}
 use Rattle.pnm_write.proofs.MessageLaws.{bytes_from-append}
 use Rattle.pnm_serial.specs.Counts.{image_count_after, row_count_after, images_in, rows_in}
-use Rattle.pnm_serial.specs.Downstreams.{AreInOrder}
+use Rattle.pnm_serial.specs.FusedSinks.{AreInOrder}
 
 pub images_in-push : (images : ℕ) (ms : List Message) (m : Message) → images_in images (ms ++ m ∷ []) ≡ image_count_after (images_in images ms) m
 images_in-push images [] m = refl

@@ -4,7 +4,7 @@ use Rattle.std.specs.List.{AllPass}
 use Rattle.std.proofs.lemmas.List.{map-append}
 use Rattle.std.proofs.lemmas.List.Elements.{All-nil, All-cons, All-append, All-weaker}
 use Rattle.std.proofs.lemmas.Bool.{or_left, or_right}
-use Rattle.pnm_read.specs.Texts.{commented, commented_after, uncommented_from, uncommented, ends_in_comment, ends_in_word, numbers_in}
+use Rattle.pnm_read.specs.HeaderTexts.{commented, commented_after, uncommented_from, uncommented, ends_in_comment, ends_in_word, numbers_in}
 use Rattle.pnm_image.specs.Texts.{is_white, is_digit, words, decimal_value}
 use Rattle.pnm_read.specs.Rasters.{SpellsDecimal}
 use Rattle.pnm_read.proofs.CommentLaws.{commented_after-append}

@@ -20,8 +20,8 @@ use Rattle.pnm_tools.specs.FusedFilters.{FilterAt, FilterBusy, waiting_at}
 use Rattle.pnm_tools.proofs.ChainLaws.{sound_prefix}
 use Rattle.pnm_stages.proofs.PassingSteps.{one_row_more, rows_from}
 use Rattle.pnm_stages.proofs.SendingSteps.{GivesAnswers}
-use Rattle.pnm_serial.specs.declared.downstream.Downstream.{Downstream}
-use Rattle.pnm_serial.specs.Downstreams.{HasTaken}
+use Rattle.pnm_serial.specs.declared.fused_sink.FusedSink.{FusedSink}
+use Rattle.pnm_serial.specs.FusedSinks.{HasTaken}
 use Rattle.pnm_serial.specs.SerialChains.{FiltersAt, FiltersBusy, FeedsThrough, GivesThrough}
 use Rattle.pnm_serial.proofs.SoundSteps.{busy_is_sound, goes_on_by_rows}
 
@@ -51,12 +51,12 @@ same_stages at all_given stopped stages tools l g is = subst (λ (x : List Messa
     (sym (append-nil l))
     (subst (FiltersAt at all_given stopped stages tools l) (sym (append-nil g)) is)
 
-same_taken : {W : Type 0} (held : W → Option (List ℕ)) (failures : W → ℕ) (form : Form) (start : W) (messages : List Message) (d : Downstream W)
+same_taken : {W : Type 0} (held : W → Option (List ℕ)) (failures : W → ℕ) (form : Form) (start : W) (messages : List Message) (d : FusedSink W)
     → HasTaken held failures form start messages d → HasTaken held failures form start (messages ++ []) d
 same_taken held failures form start messages d is = subst (λ (x : List Message). HasTaken held failures form start x d) (sym (append-nil messages)) is
 
 pub feeds_nothing : {F W : Type 0} (at : F → Tool → List Message → List Message → Type 0) (all_given : F → Bool) (stopped : F → Option ToolFault)
-    (held : W → Option (List ℕ)) (failures : W → ℕ) (stages : List (FusedFilter F)) (d : Downstream W)
+    (held : W → Option (List ℕ)) (failures : W → ℕ) (stages : List (FusedFilter F)) (d : FusedSink W)
     → FeedsThrough at all_given stopped held failures stages [] stages d d
 feeds_nothing at all_given stopped held failures stages d = record {
   more = [];
@@ -66,7 +66,7 @@ feeds_nothing at all_given stopped held failures stages d = record {
 
 -- and then more
 pub feeds_more : {F W : Type 0} (at : F → Tool → List Message → List Message → Type 0) (all_given : F → Bool) (stopped : F → Option ToolFault)
-    (held : W → Option (List ℕ)) (failures : W → ℕ) (old now new : List (FusedFilter F)) (first second : List Message) (before d after : Downstream W)
+    (held : W → Option (List ℕ)) (failures : W → ℕ) (old now new : List (FusedFilter F)) (first second : List Message) (before d after : FusedSink W)
     → FeedsThrough at all_given stopped held failures old first now before d → FeedsThrough at all_given stopped held failures now second new d after
     → FeedsThrough at all_given stopped held failures old (first ++ second) new before after
 feeds_more at all_given stopped held failures old now new first second before d after was then = record {
@@ -88,7 +88,7 @@ no_stages at all_given stopped (tool ∷ tools) l g passed is = absurd is
 
 -- without a stage the messages are what is given
 pub passes_on : {F W : Type 0} (at : F → Tool → List Message → List Message → Type 0) (all_given : F → Bool) (stopped : F → Option ToolFault)
-    (held : W → Option (List ℕ)) (failures : W → ℕ) (stages : List (FusedFilter F)) (passed : List Message) (before after : Downstream W)
+    (held : W → Option (List ℕ)) (failures : W → ℕ) (stages : List (FusedFilter F)) (passed : List Message) (before after : FusedSink W)
     → (length stages == 0) ≡ true → ((form : Form) (start : W) (messages : List Message) → HasTaken held failures form start messages before
     → HasTaken held failures form start (messages ++ passed) after)
     → FeedsThrough at all_given stopped held failures stages passed stages before after
@@ -112,7 +112,7 @@ fed_first at all_given stopped (s ∷ ss) was other fed (tool ∷ tools) l g pas
 -- and what it gave for them has passed through the others
 pub feeds_first : {F W : Type 0} (at : F → Tool → List Message → List Message → Type 0) (all_given : F → Bool) (stopped : F → Option ToolFault)
     (held : W → Option (List ℕ)) (failures : W → ℕ) (stages new : List (FusedFilter F)) (was other fed : FusedFilter F) (passed : List Message)
-    (before after : Downstream W)
+    (before after : FusedSink W)
     → was ≡ get_or stages 0 other → 0 < length stages
     → ((tool : Tool) (l g : List Message) → FilterAt at all_given stopped was tool l g → FilterBusy at stopped fed tool (l ++ passed) g)
     → GivesThrough held failures (FiltersBusy at all_given stopped (slice_set stages 0 fed)) (FiltersAt at all_given stopped new) before after
@@ -127,7 +127,7 @@ feeds_first at all_given stopped held failures stages new was other fed passed b
 -- ---- what the first stage gives
 
 -- nothing yet
-pub gives_nothing : {W : Type 0} (held : W → Option (List ℕ)) (failures : W → ℕ) (At : List Tool → List Message → List Message → Type 0) (d : Downstream W)
+pub gives_nothing : {W : Type 0} (held : W → Option (List ℕ)) (failures : W → ℕ) (At : List Tool → List Message → List Message → Type 0) (d : FusedSink W)
     → GivesThrough held failures At At d d
 gives_nothing held failures At d = record {
   more = [];
@@ -137,7 +137,7 @@ gives_nothing held failures At d = record {
 
 -- and then more
 gives_more : {W : Type 0} (held : W → Option (List ℕ)) (failures : W → ℕ) (Old Now New : List Tool → List Message → List Message → Type 0)
-    (before d after : Downstream W) → GivesThrough held failures Old Now before d → GivesThrough held failures Now New d after
+    (before d after : FusedSink W) → GivesThrough held failures Old Now before d → GivesThrough held failures Now New d after
     → GivesThrough held failures Old New before after
 gives_more held failures Old Now New before d after was then = record {
   more = was.more ++ then.more;
@@ -150,7 +150,7 @@ gives_more held failures Old Now New before d after was then = record {
 -- it gave something, which has passed through the others
 gives_next : {F W : Type 0} (at : F → Tool → List Message → List Message → Type 0) (all_given : F → Bool) (stopped : F → Option ToolFault) → GivesAnswers at
     → (held : W → Option (List ℕ)) (failures : W → ℕ) (s next : FusedFilter F) (ss ys : List (FusedFilter F)) (given : List Message)
-    (before after : Downstream W)
+    (before after : FusedSink W)
     → ((tool : Tool) (l g : List Message) → FilterBusy at stopped s tool l g → FilterBusy at stopped next tool l (g ++ given))
     → (passes : FeedsThrough at all_given stopped held failures ss given ys before after) → (tools : List Tool) (l g : List Message)
     → AreLawfulTools tools → AreSound l → FiltersBusy at all_given stopped (s ∷ ss) tools l g
@@ -165,7 +165,7 @@ gives_next at all_given stopped law held failures s next ss ys given before afte
 
 pub gives_on : {F W : Type 0} (at : F → Tool → List Message → List Message → Type 0) (all_given : F → Bool) (stopped : F → Option ToolFault) → GivesAnswers at
     → (held : W → Option (List ℕ)) (failures : W → ℕ) (old now ys : List (FusedFilter F)) (was other next : FusedFilter F) (given : List Message)
-    (before d after : Downstream W)
+    (before d after : FusedSink W)
     → GivesThrough held failures (FiltersBusy at all_given stopped old) (FiltersBusy at all_given stopped now) before d
     → was ≡ get_or now 0 other → 0 < length now
     → ((tool : Tool) (l g : List Message) → FilterBusy at stopped was tool l g → FilterBusy at stopped next tool l (g ++ given))
@@ -187,24 +187,24 @@ gives_on at all_given stopped law held failures old (s ∷ ss) ys was other next
     }))
 
 -- it has given all
-gave_all : {F : Type 0} (at : F → Tool → List Message → List Message → Type 0) (all_given : F → Bool) (stopped : F → Option ToolFault)
+is_done : {F : Type 0} (at : F → Tool → List Message → List Message → Type 0) (all_given : F → Bool) (stopped : F → Option ToolFault)
     (now : List (FusedFilter F)) (was other next : FusedFilter F) (tools : List Tool) (l g : List Message) → was ≡ get_or now 0 other
     → ((tool : Tool) (l g : List Message) → FilterBusy at stopped was tool l g → FilterAt at all_given stopped next tool l g)
     → FiltersBusy at all_given stopped now tools l g → FiltersAt at all_given stopped (slice_set now 0 next) tools l g
-gave_all at all_given stopped [] was other next tools l g first full is = absurd is
-gave_all at all_given stopped (s ∷ ss) was other next [] l g first full is = absurd is
-gave_all at all_given stopped (s ∷ ss) was other next (tool ∷ tools) l g first full is =
+is_done at all_given stopped [] was other next tools l g first full is = absurd is
+is_done at all_given stopped (s ∷ ss) was other next [] l g first full is = absurd is
+is_done at all_given stopped (s ∷ ss) was other next (tool ∷ tools) l g first full is =
     (is.0, full tool l is.0 (subst (λ (x : FusedFilter _). FilterBusy at stopped x tool l is.0) (sym first) is.1), is.2)
 
 pub gives_all : {F W : Type 0} (at : F → Tool → List Message → List Message → Type 0) (all_given : F → Bool) (stopped : F → Option ToolFault)
-    (held : W → Option (List ℕ)) (failures : W → ℕ) (old now : List (FusedFilter F)) (was other next : FusedFilter F) (before after : Downstream W)
+    (held : W → Option (List ℕ)) (failures : W → ℕ) (old now : List (FusedFilter F)) (was other next : FusedFilter F) (before after : FusedSink W)
     → GivesThrough held failures (FiltersBusy at all_given stopped old) (FiltersBusy at all_given stopped now) before after → was ≡ get_or now 0 other
     → ((tool : Tool) (l g : List Message) → FilterBusy at stopped was tool l g → FilterAt at all_given stopped next tool l g)
     → GivesThrough held failures (FiltersBusy at all_given stopped old) (FiltersAt at all_given stopped (slice_set now 0 next)) before after
 gives_all at all_given stopped held failures old now was other next before after so_far first full = record {
   more = so_far.more;
   stages = λ tools l g lawful sound is.
-      gave_all at all_given stopped now was other next tools l (g ++ so_far.more) first full (so_far.stages tools l g lawful sound is);
+      is_done at all_given stopped now was other next tools l (g ++ so_far.more) first full (so_far.stages tools l g lawful sound is);
   taken = so_far.taken;
 }
 
@@ -213,7 +213,7 @@ gives_all at all_given stopped held failures old now was other next before after
 -- a row was passed after those before it
 pub feeds_row : {F W : Type 0} (at : F → Tool → List Message → List Message → Type 0) (all_given : F → Bool) (stopped : F → Option ToolFault)
     (held : W → Option (List ℕ)) (failures : W → ℕ) (old now new : List (FusedFilter F)) (index : ℕ) (rows : List (List ℕ)) (row : List ℕ)
-    (before d after : Downstream W) → index < length rows → rows ≡ take index rows ++ row ∷ drop (index + 1) rows
+    (before d after : FusedSink W) → index < length rows → rows ≡ take index rows ++ row ∷ drop (index + 1) rows
     → FeedsThrough at all_given stopped held failures old (row_messages (take index rows)) now before d
     → FeedsThrough at all_given stopped held failures now (Row row ∷ []) new d after
     → FeedsThrough at all_given stopped held failures old (row_messages (take (index + 1) rows)) new before after
@@ -242,7 +242,7 @@ drops_first at all_given stopped (s ∷ ss) was other next (tool ∷ tools) l g 
 -- the rows behind were dropped, since the first stage refused
 pub drops_rows : {F W : Type 0} (at : F → Tool → List Message → List Message → Type 0) (all_given : F → Bool) (stopped : F → Option ToolFault)
     (held : W → Option (List ℕ)) (failures : W → ℕ) (old now : List (FusedFilter F)) (was other next : FusedFilter F) (index : ℕ) (rows : List (List ℕ))
-    (before after : Downstream W) → was ≡ get_or now 0 other → 0 < length now → index < length rows
+    (before after : FusedSink W) → was ≡ get_or now 0 other → 0 < length now → index < length rows
     → FeedsThrough at all_given stopped held failures old (row_messages (take index rows)) now before after
     → Drops at all_given stopped was next
     → FeedsThrough at all_given stopped held failures old (row_messages rows) (slice_set now 0 next) before after

@@ -12,7 +12,7 @@ use Rattle.pnm_image.specs.Images.{Image, IsImage, rows_of}
 use Rattle.pnm_image.specs.Places.{IsRowOf}
 use Rattle.pnm_image.specs.Texts.{is_white}
 use Rattle.pnm_image.proofs.RowLaws.{AreRowsOf, AreRowsOf-rows_of, length-rows_of, concat-cut_rows}
-use Rattle.pnm_read.specs.Texts.{commented_after, uncommented_from, begins_apart}
+use Rattle.pnm_read.specs.HeaderTexts.{commented_after, uncommented_from, begins_apart}
 use Rattle.pnm_read.specs.Rasters.{IsGap, SpellsSample, SpellsPiece, MayFollowSample, SpellsPlainSamples}
 use Rattle.pnm_read.proofs.PlainLaws.{apart_follows}
 use Rattle.pnm_write.specs.Encoding.{row_bytes}

@@ -15,10 +15,10 @@ use Rattle.pnm_tools.specs.declared.fault.ToolFault.TheVariants.{CutOutside, Mem
 use Rattle.pnm_tools.specs.declared.tool.Tool.{Tool}
 use Rattle.pnm_tools.specs.declared.tool.Tool.TheVariants.{Cut}
 use Rattle.pnm_tools.specs.Tools.{result_head, result_sample, AreTaken}
-use Rattle.pnm_tools.specs.Answers.{AnswersInFull, RefusesHead, answers_owed}
+use Rattle.pnm_tools.specs.Answers.{AnswersInFull, RefusesHead, due_so_far}
 use Rattle.pnm_tools.specs.ChainAnswers.{HasRefused, HaveAnswered, IsFirstFault, IsRefusedNext}
 use Rattle.pnm_write.specs.Encoding.{bytes_of}
-use Rattle.pnm_serial.specs.Examples.{image_of_samples, from_second, wide_then_narrow, ResultBeforeRefusalIsWritten}
+use Rattle.pnm_serial.specs.RunExamples.{image_of_samples, from_second, wide_then_narrow, ResultBeforeRefusalIsWritten}
 use Rattle.pnm_serial.proofs.MessageSteps.{bytes_of-append}
 
 abbrev wide : Image
@@ -48,10 +48,10 @@ no_fault head fault e = absurd cc
 taken_or_refused : (answer : Result HeadValue ToolFault) (head : HeadValue) (fault : ToolFault) → answer ≡ Ok head → answer ≡ Err fault → ⊥
 taken_or_refused answer head fault taken refused = absurd (no_fault head fault (sym taken ∙ refused))
 
--- what is owed for the first
-owed_first : answers_owed tool 1 false (wide ∷ []) ≡ messages_of_image result
-unfolding answers_owed result_head result_sample
-owed_first = refl
+-- what is due for the first
+due_first : due_so_far tool 1 false (wide ∷ []) ≡ messages_of_image result
+unfolding due_so_far result_head result_sample
+due_first = refl
 
 small : (k d : ℕ) → k < 2 → get_or (1 ∷ 2 ∷ []) k d ≤ 9
 small zero d within = omega arith
@@ -107,7 +107,7 @@ accepted_is (a ∷ b ∷ c ∷ d ∷ more) (m ∷ rest) e taken refused =
 given_first : (given : List Message) → AnswersInFull tool (messages_of_image wide) given → IsPrefixOf (messages_of_image result) given
 given_first given full =
     let completes : Completes (wide ∷ []) (messages_of_image wide) = record { images = (wide_is_image, tt); prefix = (StreamEnd ∷ [], refl) } in
-    subst (λ (l : List Message). IsPrefixOf l given) owed_first (full.all (wide ∷ []) completes)
+    subst (λ (l : List Message). IsPrefixOf l given) due_first (full.all (wide ∷ []) completes)
 
 no_memory : CutOutside ≡ Memory → ⊥
 no_memory e = absurd cc

@@ -20,10 +20,10 @@ use Rattle.pnm_write.specs.Forms.{form_fault_of}
 use Rattle.pnm_write.specs.Sinks.{form_of, next_place, has_failed, HasWritten, RefusesRows}
 use Rattle.pnm_write.proofs.MessageLaws.{bytes_from-append, written_all, written_prefix}
 use Rattle.pnm_write.proofs.RowMessages.{form_fault_of-rows}
-use Rattle.pnm_serial.specs.declared.downstream.Downstream.{Downstream}
+use Rattle.pnm_serial.specs.declared.fused_sink.FusedSink.{FusedSink}
 use Rattle.pnm_serial.specs.Counts.{saturate_u64, image_count_after, row_count_after, images_in, rows_in}
-use Rattle.pnm_serial.specs.Downstreams.{output_of, CountsFlushes, AreWritten, CutsOff, HasTakenWith}
-use Rattle.pnm_serial.proofs.DownstreamSteps.{failed_since, stands, written_in_form}
+use Rattle.pnm_serial.specs.FusedSinks.{output_of, CountsFlushes, AreWritten, CutsOff, HasTakenWith}
+use Rattle.pnm_serial.proofs.FusedSinkSteps.{failed_since, stands, written_in_form}
 use Rattle.pnm_serial.proofs.FormSteps.{refused_before}
 use Rattle.pnm_serial.proofs.MessageSteps.{prefix_is_writable}
 
@@ -49,7 +49,7 @@ rows_in-rows n (m ∷ ms) rows some = rows_in-rows (row_count_after n m) ms rows
 -- ---- rows that were written
 
 pub rows_written : {W : Type 0} (held : W → Option (List ℕ)) (failures : W → ℕ) (form : Form) (start : W) (messages : List Message) (rows : List (List ℕ))
-    (old new : Downstream W) (o r : Result (Unit {0}) SinkFault) → 1 ≤ length rows → is_ok o ≡ true → is_ok r ≡ true
+    (old new : FusedSink W) (o r : Result (Unit {0}) SinkFault) → 1 ≤ length rows → is_ok o ≡ true → is_ok r ≡ true
     → HasTakenWith held failures form start messages old o
     → OnOk r ((s : Option (List ℕ)) (ms : List Message) → HasWritten held s old.sink ms → HasWritten held s new.sink (ms ++ row_messages rows))
     → OnOk r (IsLawfulFrom (next_place old.sink) (row_messages rows) × (failures (output_of new) ≡ failures (output_of old)))
@@ -73,7 +73,7 @@ rows_written held failures form start messages rows old new (Ok x) (Ok y) some o
 
 -- the writer failed in them
 fails_in_rows : {W : Type 0} (held : W → Option (List ℕ)) (failures : W → ℕ) (form : Form) (start : W) (messages : List Message) (rows : List (List ℕ))
-    (old new : Downstream W) → AreWritten held failures form start messages old
+    (old new : FusedSink W) → AreWritten held failures form start messages old
     → FailsIn (bytes_from (form_of old.sink) (next_place old.sink) (row_messages rows)) (held (output_of old)) (held (output_of new))
     (failures (output_of old)) (failures (output_of new))
     → FailsIn (written_of form (messages ++ row_messages rows)) (held start) (held (output_of new)) (failures start) (failures (output_of new))
@@ -98,7 +98,7 @@ lawful_behind place [] ns lawful = lawful
 lawful_behind place (m ∷ ms) ns lawful = lawful_behind (place_after place m) ms ns lawful.1
 
 pub rows_refused : {W : Type 0} (held : W → Option (List ℕ)) (failures : W → ℕ) (form : Form) (start : W) (messages : List Message) (rows : List (List ℕ))
-    (old new : Downstream W) (o r : Result (Unit {0}) SinkFault) → is_ok o ≡ true → is_ok r ≡ false
+    (old new : FusedSink W) (o r : Result (Unit {0}) SinkFault) → is_ok o ≡ true → is_ok r ≡ false
     → HasTakenWith held failures form start messages old o
     → (has_failed old.sink ≡ false
     → IfErr r (λ fault. RefusesRows (form_of old.sink) (next_place old.sink) rows fault (held (output_of old)) (held (output_of new))
@@ -145,7 +145,7 @@ cut_before PlainPam form messages rows old new failures_old failures_new cut =
     (form_fault_of-rows form messages rows ∙ cut.0, subst (Appends old new) (sym (none_written form messages rows PlainPam cut.0)) cut.1)
 
 pub rows_dropped : {W : Type 0} (held : W → Option (List ℕ)) (failures : W → ℕ) (form : Form) (start : W) (messages : List Message) (rows : List (List ℕ))
-    (d : Downstream W) (o : Result (Unit {0}) SinkFault) → is_ok o ≡ false → HasTakenWith held failures form start messages d o
+    (d : FusedSink W) (o : Result (Unit {0}) SinkFault) → is_ok o ≡ false → HasTakenWith held failures form start messages d o
     → HasTakenWith held failures form start (messages ++ row_messages rows) d o
 rows_dropped held failures form start messages rows d (Ok x) o-is was = absurd cc
 rows_dropped held failures form start messages rows d (Err fault) o-is was = record {

@@ -33,13 +33,13 @@ use Rattle.pnm_write.specs.Sinks.{HasRows, has_failed}
 use Rattle.pnm_write.proofs.FormLaws.{stream_fault}
 use Rattle.pnm_write.proofs.MessageLaws.{written_all}
 use Rattle.pnm_image.proofs.Written.{prefix-more}
-use Rattle.pnm_serial.specs.declared.downstream.Downstream.{Downstream}
+use Rattle.pnm_serial.specs.declared.fused_sink.FusedSink.{FusedSink}
 use Rattle.pnm_tools.specs.declared.fused_filter.FusedFilter.{FusedFilter}
 use Rattle.pnm_tools.specs.declared.fused_filter.FusedFilter.TheVariants.{AtWork, Refused}
 use Rattle.pnm_serial.specs.declared.fault.RunFault.{RunFault}
 use Rattle.pnm_serial.specs.declared.summary.Summary.{Summary}
 use Rattle.pnm_serial.specs.Counts.{saturate_u64, images_in, rows_in}
-use Rattle.pnm_serial.specs.Downstreams.{output_of, AreInOrder, AreWritten, CutsOff, AreCutOff, HasTakenWith, AnswersFlushes}
+use Rattle.pnm_serial.specs.FusedSinks.{output_of, AreInOrder, AreWritten, CutsOff, AreCutOff, HasTakenWith, AnswersFlushes}
 use Rattle.pnm_serial.specs.Feeding.{IsSaidOf, HasFed}
 use Rattle.pnm_serial.specs.Jobs.{Job}
 use Rattle.pnm_serial.specs.RunFacts.{IsStoppedBy}
@@ -126,15 +126,15 @@ nothing_prefix None bytes = (0, tt)
 nothing_prefix (Some xs) bytes = (0, sym (append-nil xs))
 
 -- the messages that were written are all that the form takes of them
-takes_written : {W : Type 0} (held : W → Option (List ℕ)) (failures : W → ℕ) (form : Form) (start : W) (out : List Message) (d : Downstream W)
+takes_written : {W : Type 0} (held : W → Option (List ℕ)) (failures : W → ℕ) (form : Form) (start : W) (out : List Message) (d : FusedSink W)
     → AreWritten held failures form start out d → form_fault_of form out ≡ None
 takes_written held failures form start out d is = subst (λ (f : Form). form_fault_of f out ≡ None) is.in_form is.written.put.form
 
-bytes_written : {W : Type 0} (held : W → Option (List ℕ)) (failures : W → ℕ) (form : Form) (start : W) (out : List Message) (d : Downstream W)
+bytes_written : {W : Type 0} (held : W → Option (List ℕ)) (failures : W → ℕ) (form : Form) (start : W) (out : List Message) (d : FusedSink W)
     → AreWritten held failures form start out d → Appends (held start) (held (output_of d)) (bytes_of form out)
 bytes_written held failures form start out d is = subst (λ (f : Form). Appends (held start) (held (output_of d)) (bytes_of f out)) is.in_form is.written.bytes
 
-all_taken_written : {W : Type 0} (held : W → Option (List ℕ)) (failures : W → ℕ) (form : Form) (start : W) (out : List Message) (d : Downstream W)
+all_taken_written : {W : Type 0} (held : W → Option (List ℕ)) (failures : W → ℕ) (form : Form) (start : W) (out : List Message) (d : FusedSink W)
     → AreWritten held failures form start out d → Appends (held start) (held (output_of d)) (written_of form out)
 all_taken_written held failures form start out d is =
     subst (Appends (held start) (held (output_of d))) (sym (written_all form out (takes_written held failures form start out d is)))
@@ -149,7 +149,7 @@ cut_prefix Broken form out more old new failures_old failures_new cut = absurd c
 cut_prefix SecondPlain form out more old new failures_old failures_new cut = prefix_of_more old new (written_of form out) more cut.1
 cut_prefix PlainPam form out more old new failures_old failures_new cut = prefix_of_more old new (written_of form out) more cut.1
 
-output_prefix : {W : Type 0} (held : W → Option (List ℕ)) (failures : W → ℕ) (form : Form) (start : W) (out : List Message) (more : List ℕ) (d : Downstream W)
+output_prefix : {W : Type 0} (held : W → Option (List ℕ)) (failures : W → ℕ) (form : Form) (start : W) (out : List Message) (more : List ℕ) (d : FusedSink W)
     (o : Result (Unit {0}) SinkFault) → AreInOrder out → HasTakenWith held failures form start out d o
     → AppendsPrefix (held start) (held (output_of d)) (written_of form out ++ more)
 output_prefix held failures form start out more d (Ok x) writable is = prefix_of_more (held start) (held (output_of d)) (written_of form out) more
@@ -169,7 +169,7 @@ cut_all SecondPlain form out old now done failures_old failures_now failures_don
     Appends-kept old now done (written_of form out) cut.1 kept
 cut_all PlainPam form out old now done failures_old failures_now failures_done cut same kept sound = Appends-kept old now done (written_of form out) cut.1 kept
 
-pub output_all : {W : Type 0} (held : W → Option (List ℕ)) (failures : W → ℕ) (form : Form) (start done : W) (out : List Message) (d : Downstream W)
+pub output_all : {W : Type 0} (held : W → Option (List ℕ)) (failures : W → ℕ) (form : Form) (start done : W) (out : List Message) (d : FusedSink W)
     (o : Result (Unit {0}) SinkFault) → AreInOrder out → HasTakenWith held failures form start out d o
     → ((fault : SinkFault) → o ≡ Err fault → done ≡ output_of d) → Keeps (held (output_of d)) (held done) → ¬ Failed (failures start) (failures done)
     → Appends (held start) (held done) (written_of form out)
@@ -180,7 +180,7 @@ output_all held failures form start done out d (Err fault) writable is broken ke
     (ap failures (broken fault refl)) kept sound
 
 -- the sink has failed where its output is at fault
-pub failed_so : {W : Type 0} (held : W → Option (List ℕ)) (failures : W → ℕ) (form : Form) (start : W) (out : List Message) (d : Downstream W)
+pub failed_so : {W : Type 0} (held : W → Option (List ℕ)) (failures : W → ℕ) (form : Form) (start : W) (out : List Message) (d : FusedSink W)
     (o : Result (Unit {0}) SinkFault) → HasTakenWith held failures form start out d o → has_failed d.sink ≡ is_err o
 failed_so held failures form start out d (Ok x) is = is.sound
 failed_so held failures form start out d (Err fault) is = is.failed
@@ -188,7 +188,7 @@ failed_so held failures form start out d (Err fault) is = is.failed
 -- ---- the run
 
 -- What a run knows at its end: what the source gave, and what the sink took, a prefix of what is due.
-pub record Ran {W : Type 0} (held : W → Option (List ℕ)) (failures : W → ℕ) (start : W) (job : Job) (given out : List Message) (d : Downstream W) : Type 0 where
+pub record Ran {W : Type 0} (held : W → Option (List ℕ)) (failures : W → ℕ) (start : W) (job : Job) (given out : List Message) (d : FusedSink W) : Type 0 where
   pub lawful : AreLawfulTools job.tools
   pub sound : AreSound given
   pub writable : AreInOrder out
@@ -207,14 +207,14 @@ completes_prefix l given is sound given_sound prefix c = record {
 }
 
 -- however it ends, what came out is a prefix of what is due
-pub run_due : {W : Type 0} (held : W → Option (List ℕ)) (failures : W → ℕ) (start : W) (job : Job) (given out : List Message) (d : Downstream W)
+pub run_due : {W : Type 0} (held : W → Option (List ℕ)) (failures : W → ℕ) (start : W) (job : Job) (given out : List Message) (d : FusedSink W)
     (text : List ℕ) → Ran held failures start job given out d → IsPrefixOf given (said_of text) → (images : List Image) → Completes images (said_of text)
     → IsPrefixOf out (due_in_turn job.tools images)
 run_due held failures start job given out d text ran said images completes =
     ran.due images (completes_prefix (said_of text) given images (said_are_sound text) ran.sound said completes)
 
 -- and a prefix of it was written
-pub run_begun : {W : Type 0} (held : W → Option (List ℕ)) (failures : W → ℕ) (start done : W) (job : Job) (given out : List Message) (d : Downstream W)
+pub run_begun : {W : Type 0} (held : W → Option (List ℕ)) (failures : W → ℕ) (start done : W) (job : Job) (given out : List Message) (d : FusedSink W)
     → Ran held failures start job given out d → Keeps (held (output_of d)) (held done) → AppendsPrefix (held start) (held done) (written_of job.form out)
 run_begun held failures start done job given out d ran kept =
     prefix-kept (held start) (held (output_of d)) (held done) (written_of job.form out)
@@ -223,7 +223,7 @@ run_begun held failures start done job given out d ran kept =
     kept
 
 -- all that came out was written where the output ended well
-pub run_ended : {W : Type 0} (held : W → Option (List ℕ)) (failures : W → ℕ) (start done : W) (job : Job) (out : List Message) (d : Downstream W)
+pub run_ended : {W : Type 0} (held : W → Option (List ℕ)) (failures : W → ℕ) (start done : W) (job : Job) (out : List Message) (d : FusedSink W)
     → AreWritten held failures job.form start out d → Keeps (held (output_of d)) (held done) → Appends (held start) (held done) (written_of job.form out)
 run_ended held failures start done job out d written kept =
     Appends-kept (held start) (held (output_of d)) (held done) (written_of job.form out) (all_taken_written held failures job.form start out d written) kept
@@ -239,7 +239,7 @@ run_whole tools faults given out text lawful have said well images are =
 
 -- where the whole text was read, all that the tools answered was written, unless the writer failed
 pub run_all : {W : Type 0} (held : W → Option (List ℕ)) (failures : W → ℕ) (start done : W) (job : Job) (faults : List (Option ToolFault))
-    (given out : List Message) (d : Downstream W) (text : List ℕ)
+    (given out : List Message) (d : FusedSink W) (text : List ℕ)
     → Ran held failures start job given out d → HaveAnswered job.tools faults given out → said_of text ≡ given
     → ((f : SinkFault) → d.output ≡ Err f → done ≡ output_of d) → Keeps (held (output_of d)) (held done) → ¬ Failed (failures start) (failures done)
     → (answer : Result Summary RunFault) → FitAnswer answer faults → IsAllWritten text job answer (held start) (held done)
@@ -315,7 +315,7 @@ cut_fault Broken form out old new failures_old failures_new cut = absurd cut
 cut_fault SecondPlain form out old new failures_old failures_new cut = inr (refused_by_form form out SecondPlain cut.0 tt, cut.0)
 cut_fault PlainPam form out old new failures_old failures_new cut = inr (refused_by_form form out PlainPam cut.0 tt, cut.0)
 
-pub run_output : {W : Type 0} (held : W → Option (List ℕ)) (failures : W → ℕ) (start done : W) (job : Job) (given out : List Message) (d : Downstream W)
+pub run_output : {W : Type 0} (held : W → Option (List ℕ)) (failures : W → ℕ) (start done : W) (job : Job) (given out : List Message) (d : FusedSink W)
     (o : Result (Unit {0}) SinkFault) (answer : Result Summary SinkFault) (fault : SinkFault)
     → Ran held failures start job given out d → d.output ≡ o
     → ((f : SinkFault) → d.output ≡ Err f → (answer ≡ Err f) × (done ≡ output_of d))
@@ -341,7 +341,7 @@ cut_written Broken form out old new failures_old failures_new cut of_form = absu
 cut_written SecondPlain form out old new failures_old failures_new cut of_form = cut.1
 cut_written PlainPam form out old new failures_old failures_new cut of_form = cut.1
 
-pub run_written : {W : Type 0} (held : W → Option (List ℕ)) (failures : W → ℕ) (start done : W) (job : Job) (given out : List Message) (d : Downstream W)
+pub run_written : {W : Type 0} (held : W → Option (List ℕ)) (failures : W → ℕ) (start done : W) (job : Job) (given out : List Message) (d : FusedSink W)
     (o : Result (Unit {0}) SinkFault) (answer : Result Summary SinkFault) (fault : SinkFault)
     → Ran held failures start job given out d → d.output ≡ o
     → ((f : SinkFault) → d.output ≡ Err f → (answer ≡ Err f) × (done ≡ output_of d))
@@ -360,7 +360,7 @@ run_written held failures start done job given out d (Err other) answer fault ra
     (subst (IsFormFault job.form) (sym same) of_form))
 
 -- the writer didn't fail
-pub run_sound : {W : Type 0} (held : W → Option (List ℕ)) (failures : W → ℕ) (start done : W) (job : Job) (given out : List Message) (d : Downstream W)
+pub run_sound : {W : Type 0} (held : W → Option (List ℕ)) (failures : W → ℕ) (start done : W) (job : Job) (given out : List Message) (d : FusedSink W)
     (o : Result (Unit {0}) SinkFault) (answer : Result Summary SinkFault) (summary : Summary)
     → Ran held failures start job given out d → d.output ≡ o
     → ((f : SinkFault) → d.output ≡ Err f → (answer ≡ Err f) × (done ≡ output_of d))
@@ -374,7 +374,7 @@ run_sound held failures start done job given out d (Err other) answer summary ra
 
 -- a run that ended well
 pub run_well : {W : Type 0} (held : W → Option (List ℕ)) (failures : W → ℕ) (start done : W) (job : Job) (faults : List (Option ToolFault))
-    (given out : List Message) (d : Downstream W) (summary : Summary) (text : List ℕ)
+    (given out : List Message) (d : FusedSink W) (summary : Summary) (text : List ℕ)
     → AreLawfulTools job.tools → HaveAnswered job.tools faults given out → (said_of text ≡ given) × (fault_of text ≡ None) → AreWell faults
     → AreWritten held failures job.form start out d → summary ≡ d.summary → IsAnswer text job (Ok summary)
 run_well held failures start done job faults given out d summary text lawful have said well written same =
@@ -401,7 +401,7 @@ run_well held failures start done job faults given out d summary text lawful hav
 -- the stages have answered what the source gave
 pub stages_answered : {R F W : Type 0} (left : R → Option (List ℕ)) (reader_failures : R → ℕ)
     (at : F → Tool → List Message → List Message → Type 0) (all_given : F → Bool) (stopped : F → Option ToolFault) (held : W → Option (List ℕ))
-    (failures : W → ℕ) (source source_new : Source R) (result : Result (Unit {0}) InputFault) (old new : List (FusedFilter F)) (before after : Downstream W)
+    (failures : W → ℕ) (source source_new : Source R) (result : Result (Unit {0}) InputFault) (old new : List (FusedFilter F)) (before after : FusedSink W)
     (tools : List Tool)
     → AreLawfulTools tools → FiltersAt at all_given stopped old tools [] []
     → (fed : HasFed left reader_failures at all_given stopped held failures source source_new result old new before after)
@@ -412,7 +412,7 @@ stages_answered left reader_failures at all_given stopped held failures source s
 -- the end of the source's messages
 pub ran_of : {R F W : Type 0} (left : R → Option (List ℕ)) (reader_failures : R → ℕ)
     (at : F → Tool → List Message → List Message → Type 0) (all_given : F → Bool) (stopped : F → Option ToolFault) (held : W → Option (List ℕ))
-    (failures : W → ℕ) (source source_new : Source R) (result : Result (Unit {0}) InputFault) (old new : List (FusedFilter F)) (before after : Downstream W)
+    (failures : W → ℕ) (source source_new : Source R) (result : Result (Unit {0}) InputFault) (old new : List (FusedFilter F)) (before after : FusedSink W)
     (job : Job)
     → AreLawfulTools job.tools → FiltersAt at all_given stopped old job.tools [] []
     → HasTakenWith held failures job.form (output_of before) [] before before.output

@@ -15,9 +15,9 @@ use Rattle.pnm_tools.specs.Chains.{AreLawfulTools}
 use Rattle.pnm_tools.specs.ChainAnswers.{AreSound}
 use Rattle.pnm_tools.specs.declared.fault.ToolFault.{ToolFault}
 use Rattle.pnm_tools.specs.declared.tool.Tool.{Tool}
-use Rattle.pnm_serial.specs.declared.downstream.Downstream.{Downstream}
+use Rattle.pnm_serial.specs.declared.fused_sink.FusedSink.{FusedSink}
 use Rattle.pnm_tools.specs.declared.fused_filter.FusedFilter.{FusedFilter}
-use Rattle.pnm_serial.specs.Downstreams.{HasTaken}
+use Rattle.pnm_serial.specs.FusedSinks.{HasTaken}
 use Rattle.pnm_serial.specs.Runs.{Change, change}
 use Rattle.pnm_serial.specs.SerialRuns.{OutlastsRun}
 use Rattle.pnm_serial.specs.SerialChains.{FiltersAt}
@@ -47,7 +47,7 @@ IsSaidOf text given (Err fault) = ((said_of text ≡ given) × (fault_of text �
 -- what the source gave has passed through the stages, and the sink has taken what came of it
 pub record HaveTaken {F W : Type 0} (at : F → Tool → List Message → List Message → Type 0) (all_given : F → Bool)
     (stopped : F → Option ToolFault) (held : W → Option (List ℕ)) (failures : W → ℕ)
-    (given : List Message) (old new : List (FusedFilter F)) (before after : Downstream W) : Type 0 where
+    (given : List Message) (old new : List (FusedFilter F)) (before after : FusedSink W) : Type 0 where
   pub out : List Message
   pub stages : (tools : List Tool) → AreLawfulTools tools → FiltersAt at all_given stopped old tools [] []
       → FiltersAt at all_given stopped new tools given out
@@ -59,7 +59,7 @@ pub record HasFed {R F W : Type 0} (left : R → Option (List ℕ)) (reader_fail
     (at : F → Tool → List Message → List Message → Type 0) (all_given : F → Bool) (stopped : F → Option ToolFault)
     (held : W → Option (List ℕ)) (writer_failures : W → ℕ)
     (source source_new : Source R) (result : Result (Unit {0}) InputFault) (old new : List (FusedFilter F))
-    (before after : Downstream W) : Type 0 where
+    (before after : FusedSink W) : Type 0 where
   pub read : List ℕ
   pub consumed : Consumes (left (reader_of source)) (left (reader_of source_new)) read
   pub given : List Message

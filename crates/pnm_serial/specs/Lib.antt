@@ -1,5 +1,5 @@
 pub mod Counts
-pub mod Downstreams
+pub mod FusedSinks
 pub mod SerialChains
 pub mod Jobs
 pub mod Verdicts
@@ -8,8 +8,8 @@ pub mod SerialRuns
 pub mod RunFacts
 pub mod RunLaws
 pub mod Feeding
-pub mod Examples
-pub mod Feeders
-pub mod Collectors
-pub mod Turns
+pub mod RunExamples
+pub mod Ingresses
+pub mod Egresses
+pub mod IoLoop
 pub mod ReadAgain

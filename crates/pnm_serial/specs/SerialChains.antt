@@ -8,8 +8,8 @@ use Rattle.pnm_tools.specs.declared.fused_filter.FusedFilter.{FusedFilter}
 use Rattle.pnm_tools.specs.Chains.{AreLawfulTools}
 use Rattle.pnm_tools.specs.ChainAnswers.{AreSound}
 use Rattle.pnm_tools.specs.FusedFilters.{FilterAt, FilterBusy, refusal_in}
-use Rattle.pnm_serial.specs.declared.downstream.Downstream.{Downstream}
-use Rattle.pnm_serial.specs.Downstreams.{HasTaken}
+use Rattle.pnm_serial.specs.declared.fused_sink.FusedSink.{FusedSink}
+use Rattle.pnm_serial.specs.FusedSinks.{HasTaken}
 
 -- what the first of the stages has received and the last has given
 abbrev pub FiltersAt : {F : Type 0} → (F → Tool → List Message → List Message → Type 0) → (F → Bool)
@@ -33,7 +33,7 @@ FiltersBusy at all_given stopped (stage ∷ stages) (tool ∷ tools) received gi
 -- the last of the stages has given more for what the first has received, where that may come, and the sink has taken
 -- it; what the stages had received and given before, and what they have now
 pub record GivesThrough {W : Type 0} (held : W → Option (List ℕ)) (failures : W → ℕ)
-    (Old New : List Tool → List Message → List Message → Type 0) (before after : Downstream W) : Type 0 where
+    (Old New : List Tool → List Message → List Message → Type 0) (before after : FusedSink W) : Type 0 where
   pub more : List Message
   pub stages : (tools : List Tool) (l g : List Message) → AreLawfulTools tools → AreSound l → Old tools l g
       → New tools l (g ++ more)
@@ -43,7 +43,7 @@ pub record GivesThrough {W : Type 0} (held : W → Option (List ℕ)) (failures 
 -- messages have passed through the stages, where they may come, and the sink has taken what came of them
 pub record FeedsThrough {F W : Type 0} (at : F → Tool → List Message → List Message → Type 0) (all_given : F → Bool)
     (stopped : F → Option ToolFault) (held : W → Option (List ℕ)) (failures : W → ℕ)
-    (old : List (FusedFilter F)) (passed : List Message) (new : List (FusedFilter F)) (before after : Downstream W)
+    (old : List (FusedFilter F)) (passed : List Message) (new : List (FusedFilter F)) (before after : FusedSink W)
     : Type 0 where
   pub more : List Message
   pub stages : (tools : List Tool) (l g : List Message) → AreLawfulTools tools → AreSound (l ++ passed)

@@ -1,7 +1,7 @@
 //! Laws of what is written and read again, of what is answered and of what is due for a text. Each
 //! stands over the definitions alone, as the contract of a function that does nothing.
 
-ghost use Rattle.pnm_serial.specs.Examples.{RunExamplesHold, ResultBeforeRefusalIsWritten};
+ghost use Rattle.pnm_serial.specs.RunExamples.{RunExamplesHold, ResultBeforeRefusalIsWritten};
 ghost use Rattle.pnm_serial.specs.ReadAgain.{WrittenIsReadAgain};
 ghost use Rattle.pnm_serial.specs.RunFacts.{WhatARunTells, WhatARunInOneThreadTells, WhatARunWithoutListTells};
 ghost use Rattle.pnm_serial.specs.RunLaws.{OneAnswerForEachText};

@@ -4,21 +4,21 @@
 #![tactic(auto)]
 
 mod buffers;
-mod collector;
-mod downstream;
+mod egress;
 mod fault;
-mod feeder;
+mod fused_sink;
+mod ingress;
+mod io_loop;
 pub mod laws;
 mod passing;
 mod serial;
 mod summary;
-mod turns;
 
 pub use buffers::Buffers;
-pub use collector::Collector;
-pub use downstream::Downstream;
+pub use egress::Egress;
 pub use fault::RunFault;
-pub use feeder::Feeder;
+pub use fused_sink::FusedSink;
+pub use ingress::Ingress;
+pub use io_loop::IoLoop;
 pub use serial::run_filters;
 pub use summary::Summary;
-pub use turns::Turns;

@@ -1,13 +1,14 @@
 //! Packets, passed through the tools of a chain in one thread.
 
-ghost use Rattle.std.specs.Prelude.{◌∷◌, [], ◌<◌, length};
+ghost use Rattle.std.specs.Prelude.{◌∷◌, ◌++◌, [], ◌<◌, length};
 ghost use Rattle.pnm_image.specs.Packets.{messages_in};
 ghost use Rattle.pnm_image.specs.Rows.{row_messages};
-ghost use Rattle.pnm_serial.specs.Downstreams.{output_of};
+ghost use Rattle.pnm_image.specs.declared.message.Message.TheVariants.{Begin, ImageEnd};
+ghost use Rattle.pnm_serial.specs.FusedSinks.{output_of};
 ghost use Rattle.pnm_serial.specs.SerialChains.{FeedsThrough, FiltersAt, FiltersBusy, GivesThrough};
 
-use crate::downstream::Downstream;
-use pnm_image::{BytesOut, Message, Packet, Rows};
+use crate::fused_sink::FusedSink;
+use pnm_image::{BytesOut, Head, Message, Packet, Rows, Several};
 use pnm_tools::{Filter, FusedFilter};
 use std::alloc::Global;
 
@@ -17,20 +18,41 @@ pub fn feed_through<F: Filter + Drop, W: BytesOut + Drop>(
     alloc: Global,
     stages: &mut [FusedFilter<F>],
     packet: Packet,
-    downstream: &mut Downstream<W>,
+    fused_sink: &mut FusedSink<W>,
 )
     ensures fed { FeedsThrough F.at F.all_given F.stopped W.held W.failures
-        stages.old (messages_in packet) stages.new downstream.old downstream.new }
-    ensures same_device { W.same (output_of downstream.old) (output_of downstream.new) }
+        stages.old (messages_in packet) stages.new fused_sink.old fused_sink.new }
+    ensures same_device { W.same (output_of fused_sink.old) (output_of fused_sink.new) }
 {
     if stages.is_empty() {
-        downstream.put_packet(packet);
+        fused_sink.put_packet(packet);
         return;
     }
     match packet.into_message() {
-        Ok(message) => feed(alloc, stages, message, downstream),
-        Err(rows) => feed_rows(alloc, stages, rows, downstream),
+        Ok(message) => feed(alloc, stages, message, fused_sink),
+        Err(Several::Rows(rows)) => feed_rows(alloc, stages, rows, fused_sink),
+        Err(Several::Image(head, rows)) => feed_image(alloc, stages, head, rows, fused_sink),
     }
+}
+
+/// Feeds the first filter the head, the rows and the end of an image, and passes what it gives through the others.
+#[inline(never)]
+#[cycle(through)]
+fn feed_image<F: Filter + Drop, W: BytesOut + Drop>(
+    alloc: Global,
+    stages: &mut [FusedFilter<F>],
+    head: Head,
+    rows: Rows,
+    fused_sink: &mut FusedSink<W>,
+)
+    requires some { 0 < length stages.old }
+    ensures fed { FeedsThrough F.at F.all_given F.stopped W.held W.failures
+        stages.old (Begin head ∷ row_messages rows ++ ImageEnd ∷ []) stages.new fused_sink.old fused_sink.new }
+    ensures same_device { W.same (output_of fused_sink.old) (output_of fused_sink.new) }
+{
+    feed(alloc, stages, Message::Begin(head), fused_sink);
+    feed_rows(alloc, stages, rows, fused_sink);
+    feed(alloc, stages, Message::ImageEnd, fused_sink);
 }
 
 /// Feeds the first filter a message, and passes what it gives through the others.
@@ -39,15 +61,15 @@ fn feed<F: Filter + Drop, W: BytesOut + Drop>(
     alloc: Global,
     stages: &mut [FusedFilter<F>],
     message: Message,
-    downstream: &mut Downstream<W>,
+    fused_sink: &mut FusedSink<W>,
 )
     requires some { 0 < length stages.old }
     ensures fed { FeedsThrough F.at F.all_given F.stopped W.held W.failures
-        stages.old (message ∷ []) stages.new downstream.old downstream.new }
-    ensures same_device { W.same (output_of downstream.old) (output_of downstream.new) }
+        stages.old (message ∷ []) stages.new fused_sink.old fused_sink.new }
+    ensures same_device { W.same (output_of fused_sink.old) (output_of fused_sink.new) }
 {
     stages[0].feed(message);
-    pass_answers(alloc, stages, downstream);
+    pass_answers(alloc, stages, fused_sink);
 }
 
 /// Feeds the first filter rows, all at once, and passes what it gives through the others. If not all of them may come,
@@ -58,16 +80,16 @@ fn feed_rows<F: Filter + Drop, W: BytesOut + Drop>(
     alloc: Global,
     stages: &mut [FusedFilter<F>],
     rows: Rows,
-    downstream: &mut Downstream<W>,
+    fused_sink: &mut FusedSink<W>,
 )
     requires some { 0 < length stages.old }
     ensures fed { FeedsThrough F.at F.all_given F.stopped W.held W.failures
-        stages.old (row_messages rows) stages.new downstream.old downstream.new }
-    ensures same_device { W.same (output_of downstream.old) (output_of downstream.new) }
+        stages.old (row_messages rows) stages.new fused_sink.old fused_sink.new }
+    ensures same_device { W.same (output_of fused_sink.old) (output_of fused_sink.new) }
 {
     match stages[0].feed_rows(rows) {
-        Ok(()) => pass_answers(alloc, stages, downstream),
-        Err(rows) => feed_each(alloc, stages, &rows, downstream),
+        Ok(()) => pass_answers(alloc, stages, fused_sink),
+        Err(rows) => feed_each(alloc, stages, &rows, fused_sink),
     }
 }
 
@@ -78,19 +100,19 @@ fn feed_each<F: Filter + Drop, W: BytesOut + Drop>(
     alloc: Global,
     stages: &mut [FusedFilter<F>],
     rows: &Rows,
-    downstream: &mut Downstream<W>,
+    fused_sink: &mut FusedSink<W>,
 )
     requires some { 0 < length stages.old }
     ensures fed { FeedsThrough F.at F.all_given F.stopped W.held W.failures
-        stages.old (row_messages rows.now) stages.new downstream.old downstream.new }
-    ensures same_device { W.same (output_of downstream.old) (output_of downstream.new) }
+        stages.old (row_messages rows.now) stages.new fused_sink.old fused_sink.new }
+    ensures same_device { W.same (output_of fused_sink.old) (output_of fused_sink.new) }
 {
     for at in 0..rows.count() {
         let Ok(row) = rows.row(alloc, at) else {
             stages[0].refuse_for_memory();
             return;
         };
-        feed(alloc, stages, Message::Row(row), downstream);
+        feed(alloc, stages, Message::Row(row), fused_sink);
     }
 }
 
@@ -100,14 +122,14 @@ fn feed_each<F: Filter + Drop, W: BytesOut + Drop>(
 fn pass_answers<F: Filter + Drop, W: BytesOut + Drop>(
     alloc: Global,
     stages: &mut [FusedFilter<F>],
-    downstream: &mut Downstream<W>,
+    fused_sink: &mut FusedSink<W>,
 )
     requires some { 0 < length stages.old }
     ensures given { GivesThrough W.held W.failures (FiltersBusy F.at F.all_given F.stopped stages.old)
-        (FiltersAt F.at F.all_given F.stopped stages.new) downstream.old downstream.new }
-    ensures same_device { W.same (output_of downstream.old) (output_of downstream.new) }
+        (FiltersAt F.at F.all_given F.stopped stages.new) fused_sink.old fused_sink.new }
+    ensures same_device { W.same (output_of fused_sink.old) (output_of fused_sink.new) }
 {
     while let Some(answer) = stages[0].next() {
-        feed_through(alloc, &mut stages[1..], answer, downstream);
+        feed_through(alloc, &mut stages[1..], answer, fused_sink);
     }
 }

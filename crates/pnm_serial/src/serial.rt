@@ -6,7 +6,7 @@ ghost use Rattle.pnm_image.specs.declared.message.Message.{Message as MessageVal
 ghost use Rattle.pnm_read.specs.Sources.{reader_of, IsFreshSource as IsUnread};
 ghost use Rattle.pnm_tools.specs.declared.tool.Tool.{Tool as ToolValue};
 ghost use Rattle.pnm_tools.specs.Chains.{AreLawfulTools};
-ghost use Rattle.pnm_serial.specs.Downstreams.{output_of, HasTaken};
+ghost use Rattle.pnm_serial.specs.FusedSinks.{output_of, HasTaken};
 ghost use Rattle.pnm_serial.specs.Jobs.{job_of};
 ghost use Rattle.pnm_serial.specs.Runs.{change};
 ghost use Rattle.pnm_serial.specs.SerialRuns.{answer_by, HasRunInOneThread, IsFirstRefusal};
@@ -14,9 +14,9 @@ ghost use Rattle.pnm_serial.specs.SerialChains.{refusals_in, FiltersAt};
 ghost use Rattle.pnm_serial.specs.Feeding.{HasFed};
 
 use crate::buffers::Buffers;
-use crate::downstream::Downstream;
 use crate::fault::RunFault;
-use crate::feeder::joins_next;
+use crate::fused_sink::FusedSink;
+use crate::ingress::go_together;
 use crate::passing::feed_through;
 use crate::summary::Summary;
 use pnm_image::{BytesIn, BytesOut, Form, Packet};
@@ -49,10 +49,10 @@ pub fn run_filters<R: BytesIn, F: Filter + Drop, W: BytesOut>(
         Err(fault) => return Err(RunFault::Input(fault)),
     };
     let mut source = Source::with_buffer(read, &mut *reader);
-    let mut downstream = Downstream::new(write, &mut *writer, form);
-    let input = feed_all(alloc, &mut source, stages, &mut downstream);
+    let mut fused_sink = FusedSink::new(write, &mut *writer, form);
+    let input = feed_all(alloc, &mut source, stages, &mut fused_sink);
     let read = source.into_reader();
-    let (written, output) = downstream.finish();
+    let (written, output) = fused_sink.finish();
     // No effect at run time. The proof reads from these uses what the two devices hold.
     let _ = &*read;
     let _ = &*written;
@@ -93,30 +93,30 @@ fn feed_all<R: BytesIn, F: Filter + Drop, W: BytesOut + Drop>(
     alloc: Global,
     source: &mut Source<R>,
     stages: &mut [FusedFilter<F>],
-    downstream: &mut Downstream<W>,
+    fused_sink: &mut FusedSink<W>,
 ) -> Result<(), InputFault>
     requires unread { IsUnread (reader_of source.old) source.old }
     ensures fed { HasFed R.left R.failures F.at F.all_given F.stopped W.held W.failures
-        source.old source.new result stages.old stages.new downstream.old downstream.new }
+        source.old source.new result stages.old stages.new fused_sink.old fused_sink.new }
     ensures same_reader { R.same (reader_of source.old) (reader_of source.new) }
-    ensures same_writer { W.same (output_of downstream.old) (output_of downstream.new) }
+    ensures same_writer { W.same (output_of fused_sink.old) (output_of fused_sink.new) }
 {
     let mut spares = SpareRows::none(alloc);
-    let mut may_join = false;
+    let mut may_be_together = false;
     for _ in 0..u64::MAX {
-        flush_before_read(source, downstream);
-        if may_join {
+        flush_before_read(source, fused_sink);
+        if may_be_together {
             if let Some(rows) = source.next_rows(&mut spares)? {
-                // Each turn passes something on.
+                // Each iteration passes something on.
                 prove!(rows.count() > 0);
-                feed_through(alloc, stages, Packet::Rows(rows), downstream);
+                feed_through(alloc, stages, Packet::Rows(rows), fused_sink);
                 continue;
             }
         }
         match source.next(&mut spares)? {
             Some(message) => {
-                may_join = joins_next(may_join, &message);
-                feed_through(alloc, stages, Packet::from(message), downstream);
+                may_be_together = go_together(may_be_together, &message);
+                feed_through(alloc, stages, Packet::from(message), fused_sink);
             }
             None => return Ok(()),
         }
@@ -127,14 +127,14 @@ fn feed_all<R: BytesIn, F: Filter + Drop, W: BytesOut + Drop>(
 /// Flushes the images that have ended, if the source may have to wait for its reader.
 fn flush_before_read<R: BytesIn, W: BytesOut + Drop>(
     source: &Source<R>,
-    downstream: &mut Downstream<W>,
+    fused_sink: &mut FusedSink<W>,
 )
     ensures taken { (form : FormValue) (start : W) (messages : List MessageValue)
-        → HasTaken W.held W.failures form start messages downstream.old
-        → HasTaken W.held W.failures form start messages downstream.new }
-    ensures same_device { W.same (output_of downstream.old) (output_of downstream.new) }
+        → HasTaken W.held W.failures form start messages fused_sink.old
+        → HasTaken W.held W.failures form start messages fused_sink.new }
+    ensures same_device { W.same (output_of fused_sink.old) (output_of fused_sink.new) }
 {
     if !source.holds_next() {
-        downstream.flush_images();
+        fused_sink.flush_images();
     }
 }

@@ -6,3 +6,4 @@ mod LongestPrefixes
 pub mod SendingSteps
 pub mod StagedSteps
 pub mod PassingSteps
+pub mod HoldingSteps

@@ -11,14 +11,16 @@ use Rattle.pnm_image.specs.declared.message.Message.TheVariants.{Begin, ImageEnd
 use Rattle.pnm_image.specs.declared.message.Ending.TheVariants.{More, Whole, BrokenOff}
 use Rattle.pnm_image.specs.declared.message.Ending.{Ending}
 use Rattle.pnm_image.specs.Messages.{IsMessage, EndsBy}
+use Rattle.pnm_image.specs.Heads.{HeadValue}
+use Rattle.pnm_image.proofs.Lists.{each-push}
 use Rattle.pnm_image.specs.Rows.{row_messages}
 use Rattle.pnm_tools.proofs.InFullLaws.{ends_after}
 use Rattle.pnm_image.specs.declared.packet.Packet.{Packet}
-use Rattle.pnm_image.specs.declared.packet.Packet.TheVariants.{Begin as Begins, Rows, ImageEnd as EndsImage, StreamEnd as EndsStream, Stop as Stops}
+use Rattle.pnm_image.specs.declared.packet.Packet.TheVariants.{Begin as Begins, Rows, Image, ImageEnd as EndsImage, StreamEnd as EndsStream, Stop as Stops}
 use Rattle.pnm_tools.proofs.SoundLaws.{both_all}
 use Rattle.pnm_stages.specs.Rings.{Extends, IsEnded}
 use Rattle.pnm_image.specs.Packets.{messages_in, ending_of_packet}
-use Rattle.pnm_stages.specs.Packets.{messages_of, is_rows_together, has_rows_together}
+use Rattle.pnm_stages.specs.RingPackets.{messages_of, is_rows_together, has_rows_together}
 use Rattle.pnm_stages.proofs.RingSteps.{ends_nothing, ends_with}
 
 -- no packets
@@ -52,6 +54,21 @@ rows_end_nothing [] = refl
 rows_end_nothing (row ∷ []) = refl
 rows_end_nothing (row ∷ next ∷ rows) = (refl, rows_end_nothing (next ∷ rows))
 
+-- nor does a whole image
+pub image_is_messages : (head : HeadValue) (rows : List (List ℕ)) → IsMessage (Begin head)
+    → AllByRecursion IsMessage (Begin head ∷ row_messages rows ++ ImageEnd ∷ [])
+image_is_messages head rows is = (is, each-push IsMessage (row_messages rows) ImageEnd (rows_are_messages rows) tt)
+
+pub rest_ends_nothing : (rows : List (List ℕ)) → EndsBy More (row_messages rows ++ ImageEnd ∷ [])
+rest_ends_nothing rows = ends_with (row_messages rows) ImageEnd (rows_end_nothing rows)
+
+head_and_rows_end_nothing : (head : HeadValue) (rows : List (List ℕ)) → EndsBy More (Begin head ∷ row_messages rows)
+head_and_rows_end_nothing head [] = refl
+head_and_rows_end_nothing head (row ∷ rows) = (refl, rows_end_nothing (row ∷ rows))
+
+pub image_ends_nothing : (head : HeadValue) (rows : List (List ℕ)) → EndsBy More (Begin head ∷ row_messages rows ++ ImageEnd ∷ [])
+image_ends_nothing head rows = ends_with (Begin head ∷ row_messages rows) ImageEnd (head_and_rows_end_nothing head rows)
+
 -- a packet ends a list as its last message does
 pub ends_with_packet : (l : List Message) (packet : Packet) → EndsBy More l → EndsBy (ending_of_packet packet) (l ++ messages_in packet)
 ends_with_packet l (Begins head) more = ends_with l (Begin head) more
@@ -59,6 +76,8 @@ ends_with_packet l EndsImage more = ends_with l ImageEnd more
 ends_with_packet l EndsStream more = ends_with l StreamEnd more
 ends_with_packet l Stops more = ends_with l Stop more
 ends_with_packet l (Rows rows) more = ends_after More l (row_messages rows) (ends_nothing l more) (rows_end_nothing rows)
+ends_with_packet l (Image head rows) more =
+    ends_after More l (Begin head ∷ row_messages rows ++ ImageEnd ∷ []) (ends_nothing l more) (image_ends_nothing head rows)
 
 -- a list was extended by a packet
 extends_by_packet : (P : List Message → Type 0) (l now new : List Message) (packet : Packet) (extends : Extends l now (EndsBy More))

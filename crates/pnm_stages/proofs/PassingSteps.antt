@@ -18,7 +18,7 @@ use Rattle.pnm_stages.proofs.RingSteps.{ends_nothing}
 use Rattle.pnm_stages.proofs.StagedSteps.{part_at}
 
 -- a part that was answered, where more was passed
-part_of_more : (tool : Tool) (l g more : List Message) → HasAnsweredPart tool l g → HasAnsweredPart tool (l ++ more) g
+pub part_of_more : (tool : Tool) (l g more : List Message) → HasAnsweredPart tool l g → HasAnsweredPart tool (l ++ more) g
 part_of_more tool l g more part = record {
   accepted = part.accepted;
   rest = part.rest ++ more;

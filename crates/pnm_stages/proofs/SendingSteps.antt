@@ -20,7 +20,7 @@ pub record IsSending {F : Type 0} (at : F → Tool → List Message → List Mes
 abbrev pub GivesAnswers : {F : Type 0} → (F → Tool → List Message → List Message → Type 0) → Type 0
 GivesAnswers at = (s : _) (tool : Tool) (l g : List Message) → at s tool l g → Answers tool l g
 
-part_of : {F : Type 0} (at : F → Tool → List Message → List Message → Type 0) (stopped : F → Option ToolFault) → GivesAnswers at
+pub part_of : {F : Type 0} (at : F → Tool → List Message → List Message → Type 0) (stopped : F → Option ToolFault) → GivesAnswers at
     → (stage : FusedFilter F) (tool : Tool) (l g : List Message) → FilterBusy at stopped stage tool l g → HasAnsweredPart tool l g
 part_of at stopped law (AtWork filter) tool l g busy = record { accepted = l; rest = []; parts = sym (append-nil l); answers = law filter tool l g busy.state }
 part_of at stopped law (Refused fault) tool l g busy = record { accepted = busy.accepted; rest = busy.rest; parts = busy.parts; answers = busy.answers }

@@ -100,11 +100,11 @@ part_at at all_given stopped (Refused fault) tool l g has = record { accepted = 
 
 -- the input is gone, and Stop was sent if the output wasn't
 pub input_gone : {F : Type 0} (at : F → Tool → List Message → List Message → Type 0) (all_given : F → Bool) (stopped : F → Option ToolFault)
-    (first now : FusedFilter F) (told : Bool) (r r1 r2 left s s1 s2 : List Message) (tool : Tool)
-    → IsPassing at all_given stopped More first now r r1 s s1 → (r2 ≡ r1) × (left ≡ []) → (IsTrue told → s2 ≡ s1 ++ Stop ∷ []) → (IsFalse told → s2 ≡ s1)
+    (first now : FusedFilter F) (is_sent : Bool) (r r1 r2 left s s1 s2 : List Message) (tool : Tool)
+    → IsPassing at all_given stopped More first now r r1 s s1 → (r2 ≡ r1) × (left ≡ []) → (IsTrue is_sent → s2 ≡ s1 ++ Stop ∷ []) → (IsFalse is_sent → s2 ≡ s1)
     → refusal_in now ≡ None
     → FilterAt at all_given stopped first tool [] [] → HasRunStage tool PeerGone r r2 left s s2
-input_gone at all_given stopped first (Refused fault) told r r1 r2 left s s1 s2 tool passing same given gone none fresh = absurd cc
+input_gone at all_given stopped first (Refused fault) is_sent r r1 r2 left s s1 s2 tool passing same given gone none fresh = absurd cc
 input_gone at all_given stopped first (AtWork filter) true r r1 r2 left s s1 s2 tool passing same given gone none fresh =
     let idle = passing.stage tool fresh in
     let due = due_by_part tool passing.took passing.gave (part_at at all_given stopped (AtWork filter) tool passing.took passing.gave idle) in

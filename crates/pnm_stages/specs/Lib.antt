@@ -1,7 +1,8 @@
-pub mod Packets
+pub mod RingPackets
 pub mod Rings
-pub mod Limits
+pub mod RingLimits
 pub mod Prefixes
 pub mod Stages
 pub mod StageParts
+pub mod HeldImages
 pub mod Starts

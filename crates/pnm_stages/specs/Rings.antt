@@ -11,7 +11,7 @@ use Rattle.rtrb.specs.Ring.{SameConsumer as IsSameReceivingEnd}
 use Rattle.pnm_image.specs.declared.packet.Packet.{Packet}
 use Rattle.pnm_stages.specs.declared.sender.Sender.{Sender}
 use Rattle.pnm_stages.specs.declared.receiver.Receiver.{Receiver}
-use Rattle.pnm_stages.specs.Packets.{messages_of, has_rows_together}
+use Rattle.pnm_stages.specs.RingPackets.{messages_of, has_rows_together}
 
 -- ---- the two ends of a ring
 

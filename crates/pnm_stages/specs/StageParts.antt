@@ -21,7 +21,7 @@ pub record HasAnsweredPart (tool : Tool) (received given : List Message) : Type 
   pub parts : received ≡ accepted ++ rest
   pub answers : Answers tool accepted given
 
--- a tool has sent answers: all that it owed, or until the other end was seen dropped
+-- a tool has sent answers: all that was due, or until the other end was seen dropped
 pub record HasSentAnswers {F : Type 0} (at : F → Tool → List Message → List Message → Type 0) (all_given : F → Bool)
     (stopped : F → Option ToolFault) (all : Bool) (old new : FusedFilter F)
     (sent_old sent_new : List Message) : Type 0 where

@@ -3,6 +3,7 @@
 #![tactic(auto)]
 
 mod branches;
+mod held_image;
 pub mod laws;
 mod receiver;
 mod ring;

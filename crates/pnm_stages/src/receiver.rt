@@ -5,7 +5,7 @@ ghost use Rattle.std.specs.List.{AllByRecursion};
 ghost use Rattle.rtrb.specs.Ring.{received as received_on};
 ghost use Rattle.pnm_image.specs.Messages.{IsMessage};
 ghost use Rattle.pnm_image.specs.Packets.{messages_in};
-ghost use Rattle.pnm_stages.specs.Packets.{is_rows_together, has_rows_together};
+ghost use Rattle.pnm_stages.specs.RingPackets.{is_rows_together, has_rows_together};
 
 use crate::ring::AnyMessage;
 use crate::sender::Sender;
@@ -25,7 +25,7 @@ pub struct Receiver {
     /// Half the number of packets that the last look saw in the ring. It is narrow, since many ends lie on the stack of
     /// a thread that starts others.
     half: u32,
-    /// Whether this end has received rows that were sent together.
+    /// Whether this end has received rows that were sent together, or a whole image.
     has_rows: bool,
     ghost rows: { has_rows ≡ has_rows_together (received_on ring) },
 }
@@ -37,7 +37,7 @@ impl Receiver {
     ghost use Rattle.pnm_image.specs.Messages.{IsMessage};
     ghost use Rattle.pnm_image.specs.Packets.{messages_in};
     ghost use Rattle.pnm_image.specs.declared.packet.Packet.{Packet as PacketValue};
-    ghost use Rattle.pnm_stages.specs.Packets.{BeginsByNoMessage};
+    ghost use Rattle.pnm_stages.specs.RingPackets.{BeginsByNoMessage};
     ghost use Rattle.pnm_stages.specs.Rings.{sent, received, known_items, IsPair, SameSender, SameReceiver, HasDrained};
     ghost use Rattle.pnm_stages.specs.Rings.{known_packets, has_received_rows, HasDrainedAfter};
 
@@ -125,7 +125,7 @@ impl Receiver {
         packet
     }
 
-    /// Whether this end has received rows that were sent together.
+    /// Whether this end has received rows that were sent together, or a whole image at once.
     pub fn has_received_rows(&self) -> bool
         ensures { result ≡ has_received_rows self.now }
     {
@@ -159,8 +159,8 @@ impl Receiver {
         None
     }
 
-    /// Receives the next message, once there is one. Returns `None` if rows that were sent together come next, which
-    /// stay in the ring, and once the ring is empty and its other end was seen dropped.
+    /// Receives the next message, once there is one. Returns `None` if rows that were sent together or a whole image
+    /// come next, which stay in the ring, and once the ring is empty and its other end was seen dropped.
     pub fn receive_message<R: Wait>(&mut self, rt: &R) -> Option<Message>
         ensures ring { SameReceiver self.old self.new }
         ensures taken { IfSome result (λ m. received self.new ≡ received self.old ++ m ∷ []) }
@@ -235,14 +235,14 @@ impl Receiver {
         }
     }
 
-    /// One turn of waiting for a message. It looks again after each.
+    /// Waits once for a message. The caller looks again after each.
     pub fn wait<R: Wait>(&self, rt: &R) {
         self.waker.sleep(rt);
     }
 }
 
-/// Whether a packet is rows that were sent together. A proof learns that it is a message at least, and that the head
-/// of an image keeps the rules of heads.
+/// Whether a packet is rows that were sent together, or a whole image. A proof learns that it is a message at least,
+/// and that the head of an image keeps the rules of heads.
 fn recognise(packet: &Packet) -> bool
     ensures rows { result ≡ is_rows_together packet.now }
     ensures some { 0 < length (messages_in packet.now) }
@@ -254,6 +254,11 @@ fn recognise(packet: &Packet) -> bool
             false
         }
         Packet::Rows(rows) => rows.count() > 1,
+        Packet::Image(head, rows) => {
+            let _ = head.shape();
+            let _ = rows.count();
+            true
+        }
         Packet::ImageEnd | Packet::StreamEnd | Packet::Stop => false,
     }
 }

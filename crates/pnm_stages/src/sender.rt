@@ -27,7 +27,8 @@ const BYTES_PER_PLACE: usize = 16_384;
 /// But this many rows may lie in a ring, however wide they are, so that the threads at both ends have something to do.
 const LEAST_ROWS: usize = 2;
 
-/// Rows together of no more bytes are short as well: they are soon made, since their bytes are only copied.
+/// Rows together of no more bytes are short as well, as is an image of such rows: they are soon made, since their bytes
+/// are only copied.
 const FEW_TOGETHER: usize = 4_096;
 
 /// The sending end of a ring of messages. When it is dropped, it wakes the thread at the receiving end, which then sees
@@ -63,7 +64,7 @@ impl Sender {
     /// From now on, wakes the thread at the receiving end once for several short messages, for half of the ring at
     /// most, and at the end of the stream. So this end's thread has to wake it for the rest (`wake_receiver`) before it
     /// waits for anything but room in this ring.
-    pub fn hold_back(&mut self)
+    pub fn coalesce_wakes(&mut self)
         ensures ring { SameSender self.old self.new }
         ensures sent { sent self.new ≡ sent self.old }
     {
@@ -117,7 +118,7 @@ impl Sender {
     }
 
     /// Sends the message, for which there has to be room, and wakes the thread at the receiving end, unless that wake
-    /// is held back (`hold_back`).
+    /// is held back (`coalesce_wakes`).
     #[inline(always)]
     pub fn send_reserved(&mut self, message: Message)
         requires { 0 < known_free self.old }
@@ -128,7 +129,7 @@ impl Sender {
     }
 
     /// Sends the packet, for which there has to be room, and wakes the thread at the receiving end, unless that wake is
-    /// held back (`hold_back`).
+    /// held back (`coalesce_wakes`).
     #[inline(always)]
     pub fn send_packet_reserved(&mut self, packet: Packet)
         requires { 0 < known_free self.old }
@@ -195,7 +196,7 @@ impl Sender {
         unreachable!()
     }
 
-    /// One turn of waiting for room. It looks again after each.
+    /// Waits once for room. The caller looks again after each.
     pub fn wait<R: Wait>(&mut self, rt: &R)
         ensures ring { SameSender self.old self.new }
         ensures sent { sent self.new ≡ sent self.old }
@@ -204,21 +205,25 @@ impl Sender {
         self.sleep(rt);
     }
 
-    /// One turn of waiting at this end for something else than room, as for the senders that have it as their home. It
-    /// wakes nobody for messages that were held back.
+    /// Waits once at this end for something else than room, as for the senders that have it as their home. It
+    /// wakes nobody for messages whose wake-up was put off.
     pub fn sleep<R: Wait>(&self, rt: &R) {
         self.waker.sleep(rt);
     }
 }
 
-/// How many bytes a packet's samples take, or 0 for short rows together (`FEW_TOGETHER`). Returns `None` for a message
-/// that ends the stream, since that is waited for.
+/// How many bytes a packet's samples take, or 0 for short rows together and small images (`FEW_TOGETHER`). Returns
+/// `None` for a message that ends the stream, since that is waited for.
 fn bytes_of(packet: &Packet) -> Option<usize> {
     match packet {
         Packet::Rows(rows) => {
             let bytes = rows_bytes(rows);
             let are_few = rows.count() > 1 && bytes <= FEW_TOGETHER;
             Some(if are_few { 0 } else { bytes })
+        }
+        Packet::Image(_, rows) => {
+            let bytes = rows_bytes(rows);
+            Some(if bytes <= FEW_TOGETHER { 0 } else { bytes })
         }
         Packet::Begin(_) | Packet::ImageEnd => Some(0),
         Packet::StreamEnd | Packet::Stop => None,

@@ -1,17 +1,20 @@
 //! A stage of a chain: a tool in a thread of its own, between two rings.
 
-ghost use Rattle.std.specs.Prelude.{◌≡◌, ◌<◌, [], length, IsTrue, IsFalse};
+ghost use Rattle.std.specs.Prelude.{◌≡◌, ◌<◌, [], ◌∷◌, ◌++◌, length, IsTrue, IsFalse};
 ghost use Rattle.pnm_image.specs.Rows.{row_messages};
+ghost use Rattle.pnm_image.specs.declared.message.Message.TheVariants.{Begin, ImageEnd};
 ghost use Rattle.pnm_tools.specs.declared.tool.Tool.{Tool as ToolValue};
 ghost use Rattle.pnm_image.specs.Packets.{messages_in};
 ghost use Rattle.pnm_stages.specs.Rings.{sent, received, known_items, known_packets, SameSender, SameReceiver};
 ghost use Rattle.pnm_tools.specs.FusedFilters.{FilterAt};
 ghost use Rattle.pnm_stages.specs.Stages.{HasRunStage};
 ghost use Rattle.pnm_stages.specs.StageParts.{HasPassed, HasSentAnswers, HasBrokenOffAfter};
+ghost use Rattle.pnm_stages.specs.HeldImages.{held_messages, HasHeldAnswers, HasPassedOrHeld};
 
+use crate::held_image::HeldImage;
 use crate::receiver::Receiver;
 use crate::sender::Sender;
-use pnm_image::{Ending, Message, Packet, Rows};
+use pnm_image::{Ending, Head, Message, Packet, Rows, Several};
 use pnm_tools::{Filter, FusedFilter, ToolFault};
 use std::alloc::Global;
 use std::sync::Wait;
@@ -59,7 +62,8 @@ pub struct StageDone {
 /// Passes what comes on `input` through a tool at work, or one that has refused, to `output`, as `run_stage` does
 /// behind its gate. Rows that come together are fed together. If not all of them may come, each is copied and fed by
 /// itself; those behind the one that is refused are dropped. If there is no memory for a copy, the tool refuses by
-/// `Memory`.
+/// `Memory`. What the tool makes of an image that comes whole, in one packet, is sent in one packet, too, if it is a
+/// whole image, all rows of which the tool gives together.
 pub fn run_filter<R: Wait, F: Filter + Drop>(
     rt: &R,
     alloc: Global,
@@ -76,7 +80,7 @@ pub fn run_filter<R: Wait, F: Filter + Drop>(
     let mut stage = stage;
     let mut input = input;
     let mut output = output;
-    output.hold_back();
+    output.coalesce_wakes();
     let end = pass_all(rt, alloc, &mut stage, &mut input, &mut output);
     StageDone { input, output, end }
 }
@@ -134,7 +138,7 @@ fn has_next<R: Wait>(rt: &R, input: &mut Receiver, output: &mut Sender) -> bool
     input.has_seen_message() || wait(rt, input, output)
 }
 
-/// Waits until a message is there, once the thread behind is told of all that was sent, since the stage may have to
+/// Waits until a message is there, once the thread behind is woken for all that was sent, since the stage may have to
 /// wait. Returns false once the ring is empty and its other end was seen dropped. It is a function of its own, since
 /// `has_next` mostly finds a message at once.
 #[inline(never)]
@@ -169,8 +173,123 @@ fn pass<R: Wait, F: Filter + Drop>(
             stage.feed(message);
             send_answers(rt, stage, output)
         }
-        Err(rows) => pass_rows(rt, alloc, stage, rows, output),
+        Err(Several::Rows(rows)) => pass_rows(rt, alloc, stage, rows, output),
+        Err(Several::Image(head, rows)) => pass_image(rt, alloc, stage, head, rows, output),
     }
+}
+
+/// Passes a whole image through the tool, and sends what the tool makes of it, as one packet if that is a whole image
+/// again (`HeldImage`). Returns false if the output's other end was seen dropped before all was sent.
+#[inline(never)]
+fn pass_image<R: Wait, F: Filter + Drop>(
+    rt: &R,
+    alloc: Global,
+    stage: &mut FusedFilter<F>,
+    head: Head,
+    rows: Rows,
+    output: &mut Sender,
+) -> bool
+    ensures output { SameSender output.old output.new }
+    ensures passed { HasPassed F.at F.all_given F.stopped result stage.old stage.new
+        (Begin head ∷ row_messages rows ++ ImageEnd ∷ []) (sent output.old) (sent output.new) }
+{
+    let mut held = HeldImage::Nothing;
+    if !hold_image(rt, alloc, stage, head, rows, &mut held, output) {
+        return false;
+    }
+    held.send_held(rt, output)
+}
+
+/// Passes a whole image through the tool, all rows at once, and sends or holds what the tool makes of it. If not all
+/// rows may come, passes each by itself. Returns false if the output's other end was seen dropped before all was sent
+/// or held.
+fn hold_image<R: Wait, F: Filter + Drop>(
+    rt: &R,
+    alloc: Global,
+    stage: &mut FusedFilter<F>,
+    head: Head,
+    rows: Rows,
+    held: &mut HeldImage,
+    output: &mut Sender,
+) -> bool
+    ensures output { SameSender output.old output.new }
+    ensures passed { HasPassedOrHeld F.at F.all_given F.stopped result stage.old stage.new
+        (Begin head ∷ row_messages rows ++ ImageEnd ∷ []) (held_messages held.old) (held_messages held.new)
+        (sent output.old) (sent output.new) }
+{
+    if !hold_message(rt, stage, Message::Begin(head), held, output) {
+        return false;
+    }
+    if !hold_rows(rt, alloc, stage, rows, held, output) {
+        return false;
+    }
+    hold_message(rt, stage, Message::ImageEnd, held, output)
+}
+
+/// Passes a message through the tool, and sends or holds what the tool makes of it. Returns false if the output's other
+/// end was seen dropped before all was sent or held.
+fn hold_message<R: Wait, F: Filter + Drop>(
+    rt: &R,
+    stage: &mut FusedFilter<F>,
+    message: Message,
+    held: &mut HeldImage,
+    output: &mut Sender,
+) -> bool
+    ensures output { SameSender output.old output.new }
+    ensures passed { HasPassedOrHeld F.at F.all_given F.stopped result stage.old stage.new (message ∷ [])
+        (held_messages held.old) (held_messages held.new) (sent output.old) (sent output.new) }
+{
+    stage.feed(message);
+    hold_answers(rt, stage, held, output)
+}
+
+/// Passes rows through the tool, all at once, and sends or holds what the tool makes of them. If not all of them may
+/// come, sends what is held, and passes each by itself. Returns false if the output's other end was seen dropped before
+/// all was sent or held.
+fn hold_rows<R: Wait, F: Filter + Drop>(
+    rt: &R,
+    alloc: Global,
+    stage: &mut FusedFilter<F>,
+    rows: Rows,
+    held: &mut HeldImage,
+    output: &mut Sender,
+) -> bool
+    ensures output { SameSender output.old output.new }
+    ensures passed { HasPassedOrHeld F.at F.all_given F.stopped result stage.old stage.new (row_messages rows)
+        (held_messages held.old) (held_messages held.new) (sent output.old) (sent output.new) }
+{
+    match stage.feed_rows(rows) {
+        Ok(()) => hold_answers(rt, stage, held, output),
+        Err(rows) => {
+            if !held.send_held(rt, output) {
+                return false;
+            }
+            pass_each(rt, alloc, stage, &rows, output)
+        }
+    }
+}
+
+/// Sends or holds what the tool gives, until it has given all, or refused. Returns false if the output's other end was
+/// seen dropped before that.
+fn hold_answers<R: Wait, F: Filter + Drop>(
+    rt: &R,
+    stage: &mut FusedFilter<F>,
+    held: &mut HeldImage,
+    output: &mut Sender,
+) -> bool
+    ensures output { SameSender output.old output.new }
+    ensures held { HasHeldAnswers F.at F.all_given F.stopped result stage.old stage.new
+        (held_messages held.old) (held_messages held.new) (sent output.old) (sent output.new) }
+{
+    while let Some(answer) = stage.next() {
+        if !held.send(rt, answer, output) {
+            return false;
+        }
+        if stage.is_done() {
+            return true;
+        }
+    }
+    true
 }
 
 /// Passes rows that came together through the tool, all at once, and sends what the tool makes of them. If not all of
@@ -236,7 +355,7 @@ fn send_answers<R: Wait, F: Filter + Drop>(
         if !output.send_packet(rt, answer) {
             return false;
         }
-        if stage.gave_all() {
+        if stage.is_done() {
             return true;
         }
     }
@@ -258,9 +377,9 @@ fn break_off<R: Wait>(
         (known_items input.new)
         (sent output.old) (sent output.new) }
 {
-    let told = output.send(rt, Message::Stop);
+    let is_sent = output.send(rt, Message::Stop);
     let drained = input.drain_after(rt, ending);
-    if told && drained {
+    if is_sent && drained {
         StageEnd::Fault(fault)
     } else {
         StageEnd::PeerGone

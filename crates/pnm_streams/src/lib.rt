@@ -2,8 +2,8 @@
 //! writes go past a buffer.
 #![tactic(auto)]
 
-mod straight;
-mod uninterrupted;
+mod bypass_writer;
+mod retry;
 
-pub use straight::Straight;
-pub use uninterrupted::Uninterrupted;
+pub use bypass_writer::BypassWriter;
+pub use retry::Retry;

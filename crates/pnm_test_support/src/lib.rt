@@ -12,13 +12,17 @@ mod telling;
 mod together;
 mod writing;
 
-pub use cases::{Teller, tell_lines};
+pub use cases::{Solver, write_lines};
 pub use devices::{Drips, FailsOnce, NeverFlushes, Recorded, Sips};
 pub use messages::{
     Unmade, cut_head, cut_messages, head_of, held, messages_of, number_of, samples_of,
 };
 pub use parts::{Part, is_made_of, message};
 pub use sweep::Sweep;
-pub use telling::{tell_all, tell_change, tell_head, tell_message, tell_row, tell_text, width_of};
-pub use together::{Handed, cut_into, handed_of, rows_of, tell_each_row, tell_packet, tell_rows};
+pub use telling::{
+    width_of, write_all, write_change, write_head, write_message, write_row, write_text,
+};
+pub use together::{
+    Handed, cut_into, handed_of, packets_of, rows_of, write_each_row, write_packet, write_rows,
+};
 pub use writing::{cut_at, cut_number, cut_pair, cut_word, named, text_of};

@@ -26,8 +26,8 @@ impl Sweep {
     }
 
     /// Adds how many cases there were, and the CRC-32 of their answers.
-    pub fn tell(&self, told: &mut String) -> Result<(), AllocError> {
+    pub fn solve(&self, out: &mut String) -> Result<(), AllocError> {
         let (cases, number) = (self.cases, self.crc.number());
-        write!(told, " {cases} cases {number:08x}")
+        write!(out, " {cases} cases {number:08x}")
     }
 }

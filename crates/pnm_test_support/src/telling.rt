@@ -9,45 +9,45 @@ use std::fmt;
 const MOST_SAMPLES: usize = 64;
 
 /// Adds what a message is.
-pub fn tell_message(told: &mut String, message: &Message) -> Result<(), AllocError> {
+pub fn write_message(out: &mut String, message: &Message) -> Result<(), AllocError> {
     match message {
-        Message::Begin(head) => tell_head(told, head),
-        Message::Row(row) => tell_row(told, row),
-        Message::ImageEnd => told.push_str(" ImageEnd"),
-        Message::StreamEnd => told.push_str(" StreamEnd"),
-        Message::Stop => told.push_str(" Stop"),
+        Message::Begin(head) => write_head(out, head),
+        Message::Row(row) => write_row(out, row),
+        Message::ImageEnd => out.push_str(" ImageEnd"),
+        Message::StreamEnd => out.push_str(" StreamEnd"),
+        Message::Stop => out.push_str(" Stop"),
     }
 }
 
 /// Adds the kind of an image, its width, height, depth and maxval, and its tuple type, unless it is empty.
-pub fn tell_head(told: &mut String, head: &Head) -> Result<(), AllocError> {
+pub fn write_head(out: &mut String, head: &Head) -> Result<(), AllocError> {
     let shape = head.shape();
     let (kind, width, height) = (shape.kind, shape.width, shape.height);
     let (depth, maxval) = (shape.depth, shape.maxval);
-    write!(told, " {kind:?} {width} {height} {depth} {maxval}")?;
+    write!(out, " {kind:?} {width} {height} {depth} {maxval}")?;
     if !head.tuple_type().is_empty() {
-        told.push_str(" (")?;
-        tell_bytes(told, head.tuple_type())?;
-        told.push(')')?;
+        out.push_str(" (")?;
+        write_bytes(out, head.tuple_type())?;
+        out.push(')')?;
     }
     Ok(())
 }
 
 /// Adds bytes as they are written: a backslash, a line feed, and what isn't printed, with escapes.
-fn tell_bytes(told: &mut String, bytes: &[u8]) -> Result<(), AllocError> {
+fn write_bytes(out: &mut String, bytes: &[u8]) -> Result<(), AllocError> {
     for byte in bytes {
-        tell_byte(told, *byte)?;
+        write_byte(out, *byte)?;
     }
     Ok(())
 }
 
 /// Adds a byte as it is written.
-fn tell_byte(told: &mut String, byte: u8) -> Result<(), AllocError> {
+fn write_byte(out: &mut String, byte: u8) -> Result<(), AllocError> {
     match byte {
-        b'\\' => told.push_str("\\\\"),
-        b' '..=b'~' => told.push(char::from(byte)),
-        b'\n' => told.push_str("\\n"),
-        _ => write!(told, "\\x{byte:02x}"),
+        b'\\' => out.push_str("\\\\"),
+        b' '..=b'~' => out.push(char::from(byte)),
+        b'\n' => out.push_str("\\n"),
+        _ => write!(out, "\\x{byte:02x}"),
     }
 }
 
@@ -55,50 +55,50 @@ fn tell_byte(told: &mut String, byte: u8) -> Result<(), AllocError> {
 const MOST_BYTES: usize = 200;
 
 /// Adds a text as it is written, or how many bytes it has and their CRC-32.
-pub fn tell_text(told: &mut String, text: &[u8]) -> Result<(), AllocError> {
+pub fn write_text(out: &mut String, text: &[u8]) -> Result<(), AllocError> {
     if text.is_empty() {
-        return told.push_str(" no bytes");
+        return out.push_str(" no bytes");
     }
     if text.len() <= MOST_BYTES {
-        told.push(' ')?;
-        return tell_bytes(told, text);
+        out.push(' ')?;
+        return write_bytes(out, text);
     }
     let mut crc = Crc32::new();
     crc.add(text);
     let (count, number) = (text.len(), crc.number());
-    write!(told, " {count} bytes {number:08x}")
+    write!(out, " {count} bytes {number:08x}")
 }
 
 /// Adds the samples of a row, or how many there are and their CRC-32.
-pub fn tell_row(told: &mut String, row: &Samples) -> Result<(), AllocError> {
+pub fn write_row(out: &mut String, row: &Samples) -> Result<(), AllocError> {
     if row.len() > MOST_SAMPLES {
-        return tell_long_row(told, row);
+        return write_long_row(out, row);
     }
-    told.push_str(" [")?;
+    out.push_str(" [")?;
     for at in 0..row.len() {
         if at > 0 {
-            told.push(' ')?;
+            out.push(' ')?;
         }
         let sample = row.sample(at);
-        write!(told, "{sample}")?;
+        write!(out, "{sample}")?;
     }
-    told.push(']')
+    out.push(']')
 }
 
 /// Adds how many samples a row has, and the CRC-32 of them, each of two bytes.
-fn tell_long_row(told: &mut String, row: &Samples) -> Result<(), AllocError> {
+fn write_long_row(out: &mut String, row: &Samples) -> Result<(), AllocError> {
     let mut crc = Crc32::new();
     for at in 0..row.len() {
         crc.add(&row.sample(at).to_be_bytes());
     }
     let (count, number) = (row.len(), crc.number());
-    write!(told, " [{count} samples {number:08x}]")
+    write!(out, " [{count} samples {number:08x}]")
 }
 
 /// Adds each of these as it is printed.
-pub fn tell_all<T: fmt::Display>(told: &mut String, all: &[T]) -> Result<(), AllocError> {
+pub fn write_all<T: fmt::Display>(out: &mut String, all: &[T]) -> Result<(), AllocError> {
     for one in all {
-        write!(told, " {one}")?;
+        write!(out, " {one}")?;
     }
     Ok(())
 }
@@ -113,15 +113,15 @@ pub fn width_of(row: SampleSlice<'_>) -> &'static str {
 }
 
 /// Adds a number and the answers, unless the answers are the same as before.
-pub fn tell_change(
-    told: &mut String,
+pub fn write_change(
+    out: &mut String,
     number: usize,
     before: &mut String,
     answers: String,
 ) -> Result<(), AllocError> {
     if answers.as_str() != before.as_str() {
-        write!(told, " | {number}:")?;
-        told.push_str(answers.as_str())?;
+        write!(out, " | {number}:")?;
+        out.push_str(answers.as_str())?;
         *before = answers;
     }
     Ok(())

@@ -4,9 +4,9 @@ ghost use Rattle.std.specs.Prelude.{◌≡◌, ◌*◌, All, IfOk, length};
 ghost use Rattle.pnm_image.specs.HeldRows.{AreRowsWithin};
 
 use super::messages::{Unmade, held_by, messages_of};
-use super::telling::{tell_message, tell_row};
+use super::telling::{write_head, write_message, write_row};
 use super::writing::cut_at;
-use pnm_image::{BitRows, Bits, Message, Packet, RowVec, Rows, SampleVec, Samples};
+use pnm_image::{BitRows, Bits, Message, Packet, RowVec, Rows, SampleVec, Samples, Several};
 use std::alloc::{AllocError, Global};
 
 /// What is handed over at once.
@@ -40,9 +40,48 @@ pub fn handed_of(alloc: Global, text: &[u8], is_narrow: bool) -> Result<Vec<Hand
     Ok(handed)
 }
 
+/// The packets of messages that are written one after another. Rows between braces are one packet, and so is a whole
+/// image between braces. Rows are held as `handed_of` says.
+pub fn packets_of(alloc: Global, text: &[u8], is_narrow: bool) -> Result<Vec<Packet>, Unmade> {
+    let mut packets = Vec::new(alloc);
+    let mut rest = text;
+    for _ in 0..text.len() {
+        if rest.is_empty() {
+            break;
+        }
+        let (alone, after) = cut_at(rest, b'{');
+        for message in messages_of(alloc, alone, is_narrow)? {
+            packets.push(Packet::from(message))?;
+        }
+        let (together, after) = cut_at(after, b'}');
+        if !together.is_empty() {
+            packets.push(packet_of(alloc, together, is_narrow)?)?;
+        }
+        rest = after;
+    }
+    Ok(packets)
+}
+
+/// The packet of what is written between braces: a whole image, or rows.
+fn packet_of(alloc: Global, text: &[u8], is_narrow: bool) -> Result<Packet, Unmade> {
+    let messages = messages_of(alloc, text, is_narrow)?;
+    match messages.as_slice() {
+        [Message::Begin(head), rows @ .., Message::ImageEnd] => {
+            let rows = rows_among(alloc, rows, is_narrow)?;
+            Ok(Packet::Image(head.copy()?, rows))
+        }
+        rows => Ok(Packet::Rows(rows_among(alloc, rows, is_narrow)?)),
+    }
+}
+
 /// The rows that are written one after another, to be handed over together: at least one, each as long as the others.
 pub fn rows_of(alloc: Global, text: &[u8], is_narrow: bool) -> Result<Rows, Unmade> {
     let messages = messages_of(alloc, text, is_narrow)?;
+    rows_among(alloc, messages.as_slice(), is_narrow)
+}
+
+/// The rows that these messages are, at least one, each as long as the others.
+fn rows_among(alloc: Global, messages: &[Message], is_narrow: bool) -> Result<Rows, Unmade> {
     let row_length = length_of(messages.first());
     let mut samples = Vec::new(alloc);
     for message in messages.iter() {
@@ -123,25 +162,31 @@ fn rows_of_bits(
 }
 
 /// Adds the rows, between braces.
-pub fn tell_rows(alloc: Global, told: &mut String, rows: &Rows) -> Result<(), AllocError> {
-    told.push_str(" {")?;
-    tell_each_row(alloc, told, rows)?;
-    told.push_str(" }")
+pub fn write_rows(alloc: Global, out: &mut String, rows: &Rows) -> Result<(), AllocError> {
+    out.push_str(" {")?;
+    write_each_row(alloc, out, rows)?;
+    out.push_str(" }")
 }
 
 /// Adds the rows, each as a single row is told.
-pub fn tell_each_row(alloc: Global, told: &mut String, rows: &Rows) -> Result<(), AllocError> {
+pub fn write_each_row(alloc: Global, out: &mut String, rows: &Rows) -> Result<(), AllocError> {
     for at in 0..rows.count() {
         let row = rows.row(alloc, at)?;
-        tell_row(told, &row)?;
+        write_row(out, &row)?;
     }
     Ok(())
 }
 
-/// Adds what is handed over at once, rows that are handed over together between braces.
-pub fn tell_packet(alloc: Global, told: &mut String, packet: Packet) -> Result<(), AllocError> {
+/// Adds what is handed over at once, rows that are handed over together, or a whole image, between braces.
+pub fn write_packet(alloc: Global, out: &mut String, packet: Packet) -> Result<(), AllocError> {
     match packet.into_message() {
-        Ok(message) => tell_message(told, &message),
-        Err(rows) => tell_rows(alloc, told, &rows),
+        Ok(message) => write_message(out, &message),
+        Err(Several::Rows(rows)) => write_rows(alloc, out, &rows),
+        Err(Several::Image(head, rows)) => {
+            out.push_str(" {")?;
+            write_head(out, &head)?;
+            write_each_row(alloc, out, &rows)?;
+            out.push_str(" ImageEnd }")
+        }
     }
 }

@@ -14,7 +14,7 @@ use Rattle.pnm_image.specs.Images.{Image, rows_of}
 use Rattle.pnm_tools.specs.declared.fault.ToolFault.TheVariants.{ChannelOutside}
 use Rattle.pnm_tools.specs.declared.tool.Tool.TheVariants.{Channel}
 use Rattle.pnm_tools.specs.Formulas.{image_by}
-use Rattle.pnm_tools.specs.Limits.{within_limits}
+use Rattle.pnm_tools.specs.ToolLimits.{within_limits}
 use Rattle.pnm_tools.specs.Channel.{Picks, IsLawfulPick, HasPlanes, picked_head_value, picked_sample, picked_row}
 use Rattle.pnm_tools.specs.Tools.{result_head, result_sample}
 use Rattle.pnm_tools.proofs.FormulaLaws.{columns, row_at, rows_are, rows_of-image_by, range_alike}

@@ -16,7 +16,7 @@ use Rattle.pnm_tools.specs.declared.fault.ToolFault.TheVariants.{OutOfOrder}
 use Rattle.pnm_tools.specs.declared.tool.Tool.TheVariants.{Cut}
 use Rattle.pnm_tools.specs.Cut.{KeepsWithin, columns_of_row, first_kept, last_kept, span_within, columns_kept, rows_kept, rows_of_spans, head_of_spans}
 use Rattle.pnm_tools.specs.Cut.{span_count}
-use Rattle.pnm_tools.specs.Limits.{within_limits}
+use Rattle.pnm_tools.specs.ToolLimits.{within_limits}
 use Rattle.pnm_tools.specs.Tools.{result_head, row_answer}
 use Rattle.pnm_tools.proofs.HeadLaws.{head_of_cut, small_sizes, small_head}
 use Rattle.pnm_tools.proofs.RowLaws.{row_of_cut}

@@ -8,7 +8,7 @@ use Rattle.pnm_image.specs.Heads.{HeadValue}
 use Rattle.pnm_image.specs.Images.{Image, IsImage, rows_of}
 use Rattle.pnm_tools.specs.declared.tool.Tool.TheVariants.{Enlarge}
 use Rattle.pnm_tools.specs.Formulas.{image_by}
-use Rattle.pnm_tools.specs.Pixels.{pixel_of}
+use Rattle.pnm_tools.specs.PixelSamples.{pixel_of}
 use Rattle.pnm_tools.specs.Enlarge.{enlarged_head_value, enlarged_sample, enlarged_row, enlarged_rows}
 use Rattle.pnm_tools.specs.Tools.{result_head, result_sample, row_answer}
 use Rattle.pnm_tools.proofs.FormulaLaws.{row_at, rows_are, range_alike}

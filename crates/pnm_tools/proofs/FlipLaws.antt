@@ -9,11 +9,12 @@ use Rattle.pnm_image.specs.declared.shape.Shape.{Shape}
 use Rattle.pnm_image.specs.Heads.{HeadValue}
 use Rattle.pnm_image.specs.Images.{Image, IsImage, sample_at, rows_of}
 use Rattle.pnm_tools.specs.declared.flip.FlipWay.{FlipWay}
-use Rattle.pnm_tools.specs.declared.flip.Turn.{Turn}
+use Rattle.pnm_tools.specs.declared.flip.Transform.{Transform}
 use Rattle.pnm_tools.specs.declared.tool.Tool.TheVariants.{Flip}
 use Rattle.pnm_tools.specs.Formulas.{image_by}
-use Rattle.pnm_tools.specs.Pixels.{pixel_of}
-use Rattle.pnm_tools.specs.Flip.{turn, turn_of, turned_sample, turned_head_value, turned_row, turned_at_end, moves_rows, in_order, place_in, mirrored_row}
+use Rattle.pnm_tools.specs.PixelSamples.{pixel_of}
+use Rattle.pnm_tools.specs.Flip.{transform, transform_of, transformed_sample, transformed_head_value, transformed_row, transformed_at_end, moves_rows, in_order}
+use Rattle.pnm_tools.specs.Flip.{place_in, mirrored_row}
 use Rattle.pnm_tools.specs.Flip.{column_of, transposed_head_value}
 use Rattle.pnm_tools.specs.Tools.{result_head, result_sample, end_answer}
 use Rattle.pnm_tools.proofs.FormulaLaws.{columns as side_by_side, row_at, rows_are, rows_of-image_by, range_alike}
@@ -21,18 +22,18 @@ use Rattle.pnm_tools.proofs.ImageLaws.{result_by_head, answered_by_rows, answers
 use Rattle.pnm_tools.proofs.AnsweringLaws.{AnswersImages}
 use Rattle.pnm_tools.proofs.PixelLaws.{pixel_at, rows_by_pixels, rows_by_rows}
 use Rattle.pnm_tools.proofs.RangeLaws.{pieces_alike}
-use Rattle.pnm_tools.proofs.TurnLaws.{flipped_is_turned, place_within, in_order_by_places, row_moved, row_stays}
-use Rattle.pnm_tools.proofs.WholeHeadLaws.{is_turned}
+use Rattle.pnm_tools.proofs.TransformLaws.{flipped_is_transformed, place_within, in_order_by_places, row_moved, row_stays}
+use Rattle.pnm_tools.proofs.WholeHeadLaws.{is_transformed}
 
 -- ---- the answers to rows
 
 -- where rows don't stay in their places no row is answered before the end, and else each by itself, mirrored or not
-answers_by : (b : Bool) (way : FlipWay) (s : Shape) (y : ℕ) (rows : List (List ℕ)) → moves_rows (turn_of way) ≡ b
-    → answers_to_rows (Flip way) s y rows ≡ (if b then [] else map (turned_row (turn_of way) s) rows)
+answers_by : (b : Bool) (way : FlipWay) (s : Shape) (y : ℕ) (rows : List (List ℕ)) → moves_rows (transform_of way) ≡ b
+    → answers_to_rows (Flip way) s y rows ≡ (if b then [] else map (transformed_row (transform_of way) s) rows)
 answers_by true way s y [] e = refl
 answers_by true way s y (row ∷ rows) e =
     ap (λ (l : List (List ℕ)). l ++ answers_to_rows (Flip way) s (y + 1) rows) (row_moved way s y row e) ∙ answers_by true way s (y + 1) rows e
-answers_by false way s y rows e = each_row_answered (Flip way) s (turned_row (turn_of way) s) (λ z row. row_stays way s z row e) y rows
+answers_by false way s y rows e = each_row_answered (Flip way) s (transformed_row (transform_of way) s) (λ z row. row_stays way s z row e) y rows
 
 -- ---- the rows of the results
 
@@ -41,16 +42,16 @@ ordered_rows : (b : Bool) (i : Image) → in_order b (rows_of i) ≡ map (λ y. 
 ordered_rows b i = ap (in_order b) (rows_are i) ∙ in_order_by_places b (row_at i) i.head.shape.height
 
 -- the rows of the image, where they stay rows
-rows_turned : (columns rows : Bool) (i : Image) → IsImage i
-    → map (turned_row (turn columns rows false) i.head.shape) (in_order rows (rows_of i))
-    ≡ rows_of (image_by i.head (turned_sample (turn columns rows false) i))
-rows_turned true rows i is =
+rows_transformed : (columns rows : Bool) (i : Image) → IsImage i
+    → map (transformed_row (transform columns rows false) i.head.shape) (in_order rows (rows_of i))
+    ≡ rows_of (image_by i.head (transformed_sample (transform columns rows false) i))
+rows_transformed true rows i is =
     let s : Shape = i.head.shape in
     let line : ℕ → ℕ = place_in rows s.height in
     ap (map (mirrored_row s)) (ordered_rows rows i)
     ∙ map-map (mirrored_row s) (λ y. row_at i (line y)) (range_with_len 0 s.height)
     ∙ sym (rows_by_pixels i s.width s.height (λ x. s.width - 1 - x) line is (λ x lt. omega arith) (λ y lt. place_within rows s.height y lt))
-rows_turned false rows i is =
+rows_transformed false rows i is =
     let s : Shape = i.head.shape in
     let line : ℕ → ℕ = place_in rows s.height in
     map-id (in_order rows (rows_of i))
@@ -58,10 +59,10 @@ rows_turned false rows i is =
     ∙ sym (rows_by_rows i s.height line is (λ y lt. place_within rows s.height y lt))
 
 -- the columns of the image, where they become rows
-columns_turned : (columns rows : Bool) (i : Image) → IsImage i
+columns_transformed : (columns rows : Bool) (i : Image) → IsImage i
     → in_order columns (map (column_of i.head.shape.depth (in_order rows (rows_of i))) (range_with_len 0 i.head.shape.width))
-    ≡ rows_of (image_by (transposed_head_value i.head) (turned_sample (turn columns rows true) i))
-columns_turned columns rows i is =
+    ≡ rows_of (image_by (transposed_head_value i.head) (transformed_sample (transform columns rows true) i))
+columns_transformed columns rows i is =
     let s : Shape = i.head.shape in
     let d : ℕ = s.depth in
     let column : ℕ → ℕ = place_in columns s.width in
@@ -74,29 +75,31 @@ columns_turned columns rows i is =
     ∙ sym (pieces_alike (λ x. map (λ p. sample_at i (column y) (line x) p) (range_with_len 0 d)) (λ x. pixel_of d (row_at i (line x)) (column y)) 0 s.height
     (λ x row.
     pixel_at i (column y) (line x) is (place_within columns s.width y (omega arith)) (place_within rows s.height x (omega arith)))))
-    ∙ sym (rows_of-image_by (transposed_head_value i.head) (turned_sample (turn columns rows true) i))
+    ∙ sym (rows_of-image_by (transposed_head_value i.head) (transformed_sample (transform columns rows true) i))
 
 -- ---- the whole image
 
 -- what answers the rows and the end of an image is the rows of the result
-answers_turned : (columns rows exchanged : Bool) (i : Image) → IsImage i
-    → (if moves_rows (turn columns rows exchanged) then [] else map (turned_row (turn columns rows exchanged) i.head.shape) (rows_of i)) ++ turned_at_end
-    (turn columns rows exchanged) i.head.shape (rows_of i)
-    ≡ rows_of (image_by (turned_head_value (turn columns rows exchanged) i.head) (turned_sample (turn columns rows exchanged) i))
-answers_turned columns rows true i is = columns_turned columns rows i is
-answers_turned columns true false i is = rows_turned columns true i is
-answers_turned columns false false i is = append-nil (map (turned_row (turn columns false false) i.head.shape) (rows_of i)) ∙ rows_turned columns false i is
+answers_transformed : (columns rows exchanged : Bool) (i : Image) → IsImage i
+    → (if moves_rows (transform columns rows exchanged) then [] else map (transformed_row (transform columns rows exchanged) i.head.shape) (rows_of i))
+    ++ transformed_at_end
+    (transform columns rows exchanged) i.head.shape (rows_of i)
+    ≡ rows_of (image_by (transformed_head_value (transform columns rows exchanged) i.head) (transformed_sample (transform columns rows exchanged) i))
+answers_transformed columns rows true i is = columns_transformed columns rows i is
+answers_transformed columns true false i is = rows_transformed columns true i is
+answers_transformed columns false false i is = append-nil (map (transformed_row (transform columns false false) i.head.shape) (rows_of i))
+    ∙ rows_transformed columns false i is
 
 answer_is : (way : FlipWay) (i : Image) (result : HeadValue) → IsImage i → result_head (Flip way) i.head ≡ Ok result
     → answers_to_rows (Flip way) i.head.shape 0 (rows_of i) ++ end_answer (Flip way) i.head.shape (rows_of i)
     ≡ rows_of (image_by result (result_sample (Flip way) i))
 unfolding result_sample
 answer_is way i result is e =
-    let t : Turn = turn_of way in
-    ap (λ (l : List (List ℕ)). l ++ turned_at_end t i.head.shape (rows_of i)) (answers_by (moves_rows t) way i.head.shape 0 (rows_of i) refl)
-    ∙ answers_turned t.columns_reversed t.rows_reversed t.exchanged i is
-    ∙ ap (λ (h : HeadValue). rows_of (image_by h (turned_sample t i))) (is_turned way i.head result e).result_is
-    ∙ ap (λ (sample : ℕ → ℕ → ℕ → ℕ). rows_of (image_by result sample)) (sym (flipped_is_turned way i))
+    let t : Transform = transform_of way in
+    ap (λ (l : List (List ℕ)). l ++ transformed_at_end t i.head.shape (rows_of i)) (answers_by (moves_rows t) way i.head.shape 0 (rows_of i) refl)
+    ∙ answers_transformed t.columns_reversed t.rows_reversed t.exchanged i is
+    ∙ ap (λ (h : HeadValue). rows_of (image_by h (transformed_sample t i))) (is_transformed way i.head result e).result_is
+    ∙ ap (λ (sample : ℕ → ℕ → ℕ → ℕ). rows_of (image_by result sample)) (sym (flipped_is_transformed way i))
 
 -- a whole image that isn't refused is answered by the flipped image
 pub flip_answers_images : (way : FlipWay) → AnswersImages (Flip way)

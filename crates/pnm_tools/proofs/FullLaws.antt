@@ -8,13 +8,13 @@ use Rattle.pnm_image.specs.Messages.{without_stop, EndsBy}
 use Rattle.pnm_image.specs.Places.{place_of}
 use Rattle.pnm_image.specs.Completion.{IsPrefixOf, Completes}
 use Rattle.pnm_tools.specs.declared.tool.Tool.{Tool}
-use Rattle.pnm_tools.specs.Answers.{images_ended, begun_of, begun_in, answers_owed, AnswersInFull}
+use Rattle.pnm_tools.specs.Answers.{images_ended, begun_of, begun_in, due_so_far, AnswersInFull}
 use Rattle.pnm_tools.specs.Answering.{answers_from, rows_come}
 use Rattle.pnm_tools.specs.Answering.{IsAnswering}
 use Rattle.pnm_tools.proofs.AnsweringLaws.{AnswersImages, answers_from-append}
 use Rattle.pnm_tools.proofs.AtLaws.{StopsLast, keeps_all, cuts_stop, lawful_stops, answering_answers}
 use Rattle.pnm_tools.proofs.InFullLaws.{answers_end_so}
-use Rattle.pnm_tools.proofs.OwedLaws.{owed_is_answered}
+use Rattle.pnm_tools.proofs.DueSoFarLaws.{due_so_far_is_answered}
 
 -- a last Stop ends no image
 ended_before_stop : (l : List Message) → images_ended (without_stop l) ≡ images_ended l
@@ -41,16 +41,16 @@ before_stop tool l (inr h) =
 pub prefix_of_prefix : (a b c : List Message) → IsPrefixOf a b → IsPrefixOf b c → IsPrefixOf a c
 prefix_of_prefix a b c f g = (f.0 ++ g.0, g.1 ∙ ap (λ (x : List Message). x ++ g.0) f.1 ∙ append_assoc a f.0 g.0)
 
-all_owed : (tool : Tool) (l g : List Message) (is : List Image) → AnswersImages tool → IsAnswering tool l g [] → Completes is l
-    → IsPrefixOf (answers_owed tool (images_ended l) (begun_in l) is) g
-all_owed tool l g is answers at c =
+all_due : (tool : Tool) (l g : List Message) (is : List Image) → AnswersImages tool → IsAnswering tool l g [] → Completes is l
+    → IsPrefixOf (due_so_far tool (images_ended l) (begun_in l) is) g
+all_due tool l g is answers at c =
     let cut : List Message = without_stop l in
-    let part = owed_is_answered tool is cut c.prefix.0 answers c.images c.prefix.1 in
-    let same : answers_owed tool (images_ended cut) (begun_of (place_of Between cut)) is ≡ answers_owed tool (images_ended l) (begun_in l) is =
-    ap (λ (n : ℕ). answers_owed tool n (begun_in l) is) (ended_before_stop l) in
+    let part = due_so_far_is_answered tool is cut c.prefix.0 answers c.images c.prefix.1 in
+    let same : due_so_far tool (images_ended cut) (begun_of (place_of Between cut)) is ≡ due_so_far tool (images_ended l) (begun_in l) is =
+    ap (λ (n : ℕ). due_so_far tool n (begun_in l) is) (ended_before_stop l) in
     subst (λ (x : List Message). IsPrefixOf x g) same
-    (subst (IsPrefixOf (answers_owed tool (images_ended cut) (begun_of (place_of Between cut)) is)) (at.given ∙ append-nil g)
-    (prefix_of_prefix (answers_owed tool (images_ended cut) (begun_of (place_of Between cut)) is) (answers_from tool Between [] cut)
+    (subst (IsPrefixOf (due_so_far tool (images_ended cut) (begun_of (place_of Between cut)) is)) (at.given ∙ append-nil g)
+    (prefix_of_prefix (due_so_far tool (images_ended cut) (begun_of (place_of Between cut)) is) (answers_from tool Between [] cut)
     (answers_from tool Between [] l) part (before_stop tool l (lawful_stops Between l at.lawful))))
 
 -- a tool that answers each message at once has answered in full where nothing waits
@@ -58,6 +58,6 @@ pub answering_in_full : (tool : Tool) (l g : List Message) → AnswersImages too
 answering_in_full tool l g answers at = record {
   answers = answering_answers tool l g [] answers at;
   taken = at.taken;
-  all = λ is c. all_owed tool l g is answers at c;
+  all = λ is c. all_due tool l g is answers at c;
   ends = λ e ends. subst (EndsBy e) (at.given ∙ append-nil g) (answers_end_so tool Between [] l e ends);
 }

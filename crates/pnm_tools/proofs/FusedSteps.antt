@@ -30,7 +30,7 @@ refuses at all_given stopped old m fault tool l g idle judged = record {
   parts = refl;
   taken = idle.full.taken;
   answers = idle.full.answers;
-  refused = inr (idle.full, subst (λ (b : Bool). Judges b tool l m (Err fault)) idle.told judged);
+  refused = inr (idle.full, subst (λ (b : Bool). Judges b tool l m (Err fault)) idle.none_due judged);
 }
 
 -- ---- rows are fed together
@@ -65,7 +65,7 @@ refuses_rows at all_given stopped old rows fault tool l g idle is come = record 
   parts = refl;
   taken = idle.full.taken;
   answers = idle.full.answers;
-  refused = inr (idle.full, refused_rows tool fault l rows is (subst (λ (b : Bool). RowsMayCome b l rows) idle.told come));
+  refused = inr (idle.full, refused_rows tool fault l rows is (subst (λ (b : Bool). RowsMayCome b l rows) idle.none_due come));
 }
 
 -- ---- a stage that refused

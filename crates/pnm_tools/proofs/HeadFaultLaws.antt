@@ -9,15 +9,15 @@ use Rattle.pnm_tools.specs.declared.cut.Span.{Span}
 use Rattle.pnm_tools.specs.declared.fault.ToolFault.{ToolFault}
 use Rattle.pnm_tools.specs.declared.fault.ToolFault.TheVariants.{TooLarge, ChannelOutside, OutOfOrder}
 use Rattle.pnm_tools.specs.declared.flip.FlipWay.{FlipWay}
-use Rattle.pnm_tools.specs.declared.flip.Turn.{Turn}
+use Rattle.pnm_tools.specs.declared.flip.Transform.{Transform}
 use Rattle.pnm_tools.specs.declared.tool.Tool.{Tool}
 use Rattle.pnm_tools.specs.declared.tool.Tool.TheVariants.{Invert, Cut, Depth, Channel, Enlarge, Flip, Tile}
 use Rattle.pnm_tools.specs.Channel.{picked_head_value}
 use Rattle.pnm_tools.specs.Cut.{head_of_spans, columns_kept, rows_kept}
 use Rattle.pnm_tools.specs.Enlarge.{enlarged_head_value}
-use Rattle.pnm_tools.specs.Flip.{turn_of, moves_rows, turned_head, transposed_head_value}
+use Rattle.pnm_tools.specs.Flip.{transform_of, moves_rows, transformed_head, transposed_head_value}
 use Rattle.pnm_tools.specs.Laws.{IsFaultOfHead}
-use Rattle.pnm_tools.specs.Limits.{within_limits}
+use Rattle.pnm_tools.specs.ToolLimits.{within_limits}
 use Rattle.pnm_tools.specs.Tile.{tiled_head_value}
 use Rattle.pnm_tools.specs.Tools.{is_row_wise, result_head}
 
@@ -47,9 +47,9 @@ spans_by_name box head (Some columns) (Some rows) = tt
 spans_by_name box head (Some columns) None = (box, refl)
 spans_by_name box head None rows = (box, refl)
 
-flip_by_name : (way : FlipWay) (head : HeadValue) → RefusesByName (Flip way) head (turned_head (turn_of way) head)
+flip_by_name : (way : FlipWay) (head : HeadValue) → RefusesByName (Flip way) head (transformed_head (transform_of way) head)
 flip_by_name way head =
-    let t : Turn = turn_of way in
+    let t : Transform = transform_of way in
     let x : HeadValue = transposed_head_value head in
     either_by_name (Flip way) head (moves_rows t && (head.shape.height == 0)) (Err OutOfOrder) (if t.exchanged then within_limits x else Ok head) (λ none.
     let parts = and_parts (moves_rows t) (head.shape.height == 0) none in
@@ -98,7 +98,7 @@ no_rows_refused (Enlarge across down) head whole none =
     refused_first (not (down == 1) && (head.shape.height == 0)) (within_limits (enlarged_head_value across down head))
     (and_from (not (down == 1)) (head.shape.height == 0) (not_from_false (down == 1) whole) (eq-eqb head.shape.height 0 none))
 no_rows_refused (Flip way) head whole none =
-    let t : Turn = turn_of way in
+    let t : Transform = transform_of way in
     refused_first (moves_rows t && (head.shape.height == 0)) (if t.exchanged then within_limits (transposed_head_value head) else Ok head)
     (and_from (moves_rows t) (head.shape.height == 0) (not-false (moves_rows t) whole) (eq-eqb head.shape.height 0 none))
 no_rows_refused (Tile across down) head whole none = refused_first (head.shape.height == 0) (within_limits (tiled_head_value across down head))

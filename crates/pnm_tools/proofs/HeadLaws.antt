@@ -14,7 +14,7 @@ use Rattle.pnm_tools.specs.declared.tool.Tool.{Tool}
 use Rattle.pnm_tools.specs.declared.tool.Tool.TheVariants.{Cut, Channel}
 use Rattle.pnm_tools.specs.Channel.{Picks, picked_head, picked_head_value}
 use Rattle.pnm_tools.specs.Cut.{cut_head}
-use Rattle.pnm_tools.specs.Limits.{within_limits}
+use Rattle.pnm_tools.specs.ToolLimits.{within_limits}
 use Rattle.pnm_tools.specs.Samplewise.{SampleRule, changed_head}
 use Rattle.pnm_tools.specs.Tools.{TakesHead, result_head}
 use Rattle.pnm_tools.proofs.SamplewiseLaws.{IsSamplewise, head_of_rule}

@@ -1,8 +1,13 @@
 -- The inverted image: each sample is changed by itself.
-use Rattle.std.proofs.Common.{refl, arith}
+use Rattle.std.proofs.Common.{◌≡◌, Ok, refl, arith}
+use Rattle.pnm_image.specs.Heads.{HeadValue}
 use Rattle.pnm_tools.specs.declared.tool.Tool.TheVariants.{Invert}
 use Rattle.pnm_tools.specs.Invert.{inverting}
-use Rattle.pnm_tools.proofs.SamplewiseLaws.{IsSamplewise}
+use Rattle.pnm_tools.specs.Tools.{result_head}
+use Rattle.pnm_tools.proofs.SamplewiseLaws.{IsSamplewise, head_of_rule}
 
 pub invert_is_samplewise : IsSamplewise Invert inverting
 invert_is_samplewise = record { means = refl; rows = refl; head = λ h lawful is. is; within = λ maxval sample lawful some le. omega arith }
+
+pub inverted_head_stays : (head : HeadValue) → result_head Invert head ≡ Ok head
+inverted_head_stays head = head_of_rule invert_is_samplewise head

@@ -11,13 +11,13 @@ pub mod SamplewiseLaws
 pub mod InvertLaws
 pub mod AtLaws
 pub mod InFullLaws
-pub mod OwedLaws
+pub mod DueSoFarLaws
 pub mod FullLaws
 pub mod CutLaws
 pub mod DepthLaws
 pub mod ChannelLaws
 pub mod EnlargeLaws
-pub mod TurnLaws
+pub mod TransformLaws
 pub mod FlipLaws
 pub mod TileLaws
 pub mod ToolLaws

@@ -8,7 +8,7 @@ use Rattle.pnm_image.specs.declared.shape.Shape.{Shape}
 use Rattle.pnm_image.specs.Heads.{HeadValue, row_length}
 use Rattle.pnm_image.specs.Images.{Image, IsImage, sample_at, rows_of}
 use Rattle.pnm_tools.specs.Formulas.{image_by}
-use Rattle.pnm_tools.specs.Pixels.{pixel_of}
+use Rattle.pnm_tools.specs.PixelSamples.{pixel_of}
 use Rattle.pnm_tools.proofs.FormulaLaws.{columns, columns_at, row_at, rows_of-image_by, range_alike}
 use Rattle.pnm_tools.proofs.RangeLaws.{pieces_alike}
 

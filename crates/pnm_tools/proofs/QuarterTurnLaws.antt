@@ -11,12 +11,12 @@ use Rattle.pnm_tools.specs.declared.fault.ToolFault.{ToolFault}
 use Rattle.pnm_tools.specs.declared.fault.ToolFault.TheVariants.{OutOfOrder}
 use Rattle.pnm_tools.specs.declared.flip.FlipWay.{FlipWay}
 use Rattle.pnm_tools.specs.declared.flip.FlipWay.TheVariants.{LeftRight, TopBottom, Transpose, Rotate90, Rotate180, Rotate270}
-use Rattle.pnm_tools.specs.declared.flip.Turn.{Turn}
+use Rattle.pnm_tools.specs.declared.flip.Transform.{Transform}
 use Rattle.pnm_tools.specs.declared.tool.Tool.TheVariants.{Flip}
-use Rattle.pnm_tools.specs.Flip.{turn, turn_of, turned_sample, turned_head, turned_head_value, transposed_head_value}
+use Rattle.pnm_tools.specs.Flip.{transform, transform_of, transformed_sample, transformed_head, transformed_head_value, transposed_head_value}
 use Rattle.pnm_tools.specs.Formulas.{row_by, image_by}
 use Rattle.pnm_tools.specs.Laws.{then_flipped, HasQuarterTurns}
-use Rattle.pnm_tools.specs.Limits.{within_limits}
+use Rattle.pnm_tools.specs.ToolLimits.{within_limits}
 use Rattle.pnm_tools.specs.Tools.{applied, result_head, result_sample}
 use Rattle.pnm_tools.proofs.FormulaLaws.{rows_are, range_alike, length-image_by}
 use Rattle.pnm_tools.proofs.HeadLaws.{small_head, not_too_large}
@@ -24,8 +24,8 @@ use Rattle.pnm_tools.proofs.ImageLaws.{made_by}
 use Rattle.pnm_tools.proofs.PixelLaws.{rows_by_rows}
 use Rattle.pnm_tools.proofs.RangeLaws.{pieces_alike}
 use Rattle.pnm_tools.proofs.SampleLaws.{sample_at-image_by}
-use Rattle.pnm_tools.proofs.TurnLaws.{flipped_is_turned}
-use Rattle.pnm_tools.proofs.WholeHeadLaws.{turned_is}
+use Rattle.pnm_tools.proofs.TransformLaws.{flipped_is_transformed}
+use Rattle.pnm_tools.proofs.WholeHeadLaws.{transformed_is}
 
 -- ---- images by formulas
 
@@ -62,146 +62,152 @@ image_is i is =
 -- ---- images by rules
 
 -- what a way makes of an image is what its rule does
-turned_image : (way : FlipWay) (i : Image) → applied (Flip way) i ≡ made_by (turned_sample (turn_of way) i) (turned_head (turn_of way) i.head)
+transformed_image : (way : FlipWay) (i : Image) → applied (Flip way) i ≡ made_by (transformed_sample (transform_of way) i) (transformed_head (transform_of way)
+    i.head)
 unfolding result_head result_sample
-turned_image way i = ap (λ (f : ℕ → ℕ → ℕ → ℕ). made_by f (turned_head (turn_of way) i.head)) (flipped_is_turned way i)
+transformed_image way i = ap (λ (f : ℕ → ℕ → ℕ → ℕ). made_by f (transformed_head (transform_of way) i.head)) (flipped_is_transformed way i)
 
-made_alike : (t : Turn) (i : Image) (f g : ℕ → ℕ → ℕ → ℕ) (r : Result HeadValue ToolFault) → turned_head t i.head ≡ r
-    → AreAlike (turned_head_value t i.head) f g → made_by f r ≡ made_by g r
+made_alike : (t : Transform) (i : Image) (f g : ℕ → ℕ → ℕ → ℕ) (r : Result HeadValue ToolFault) → transformed_head t i.head ≡ r
+    → AreAlike (transformed_head_value t i.head) f g → made_by f r ≡ made_by g r
 made_alike t i f g (Err fault) e same = refl
 made_alike t i f g (Ok head) e same =
-    ap (λ (j : Image). Ok j) (image_alike head f g (subst (λ (h : HeadValue). AreAlike h f g) (turned_is t i.head head e).result_is same))
+    ap (λ (j : Image). Ok j) (image_alike head f g (subst (λ (h : HeadValue). AreAlike h f g) (transformed_is t i.head head e).result_is same))
 
 -- heads of images with rows
-moved_head : (columns : Bool) (head : HeadValue) → (head.shape.height ≡ 0 → ⊥) → turned_head (turn columns true false) head ≡ Ok head
+moved_head : (columns : Bool) (head : HeadValue) → (head.shape.height ≡ 0 → ⊥) → transformed_head (transform columns true false) head ≡ Ok head
 moved_head columns head some = ap (λ (b : Bool). if b then Err OutOfOrder else Ok head) (ne_eqb head.shape.height 0 some)
 
 exchanged_head : (columns rows : Bool) (head : HeadValue) → (head.shape.height ≡ 0 → ⊥) → is_too_large (transposed_head_value head).shape ≡ false
-    → turned_head (turn columns rows true) head ≡ Ok (transposed_head_value head)
+    → transformed_head (transform columns rows true) head ≡ Ok (transposed_head_value head)
 exchanged_head columns rows head some fits =
     ap (λ (b : Bool). if b then Err OutOfOrder else within_limits (transposed_head_value head)) (ne_eqb head.shape.height 0 some)
     ∙ small_head (transposed_head_value head) fits
 
 -- the image of a head and of the rule
-record IsOnce (t : Turn) (i j : Image) : Type 0 where
-  image : image_by (turned_head_value t i.head) (turned_sample t i) ≡ j
-  head : turned_head t i.head ≡ Ok j.head
+record IsOnce (t : Transform) (i j : Image) : Type 0 where
+  image : image_by (transformed_head_value t i.head) (transformed_sample t i) ≡ j
+  head : transformed_head t i.head ≡ Ok j.head
 
-once_by : (t : Turn) (i j : Image) (r : Result HeadValue ToolFault) → turned_head t i.head ≡ r → made_by (turned_sample t i) r ≡ Ok j → IsOnce t i j
+once_by : (t : Transform) (i j : Image) (r : Result HeadValue ToolFault) → transformed_head t i.head ≡ r → made_by (transformed_sample t i) r ≡ Ok j
+    → IsOnce t i j
 once_by t i j (Err fault) e made = absurd cc
 once_by t i j (Ok head) e made =
-    let same : image_by head (turned_sample t i) ≡ j = cc in
+    let same : image_by head (transformed_sample t i) ≡ j = cc in
     record {
-      image = ap (λ (h : HeadValue). image_by h (turned_sample t i)) (turned_is t i.head head e).result_is ∙ same;
+      image = ap (λ (h : HeadValue). image_by h (transformed_sample t i)) (transformed_is t i.head head e).result_is ∙ same;
       head = e ∙ ap (λ (k : Image). Ok k.head) same;
     }
 
-once : (way : FlipWay) (i j : Image) → applied (Flip way) i ≡ Ok j → IsOnce (turn_of way) i j
-once way i j e = once_by (turn_of way) i j (turned_head (turn_of way) i.head) refl (sym (turned_image way i) ∙ e)
+once : (way : FlipWay) (i j : Image) → applied (Flip way) i ≡ Ok j → IsOnce (transform_of way) i j
+once way i j e = once_by (transform_of way) i j (transformed_head (transform_of way) i.head) refl (sym (transformed_image way i) ∙ e)
 
 -- ---- two quarter turns
 
 -- the image after one
-abbrev turned_once : Image → Image
-turned_once i = image_by (transposed_head_value i.head) (turned_sample (turn true false true) i)
+abbrev transformed_once : Image → Image
+transformed_once i = image_by (transposed_head_value i.head) (transformed_sample (transform true false true) i)
 
 -- has rows, and its head with its sizes exchanged is that of the image
 some_columns : (i : Image) → IsImage i → i.head.shape.width ≡ 0 → ⊥
 some_columns i is none = absurd (omega (arith, is.head.limits.width_low))
 
-turned_back : (columns rows : Bool) (i : Image) → IsImage i → turned_head (turn columns rows true) (turned_once i).head ≡ Ok i.head
-turned_back columns rows i is = exchanged_head columns rows (turned_once i).head (some_columns i is) (not_too_large i.head.shape is.head.limits)
+transformed_back : (columns rows : Bool) (i : Image) → IsImage i → transformed_head (transform columns rows true) (transformed_once i).head ≡ Ok i.head
+transformed_back columns rows i is = exchanged_head columns rows (transformed_once i).head (some_columns i is) (not_too_large i.head.shape is.head.limits)
 
 -- two are a half turn
-turned_twice : (i : Image) → IsImage i → (i.head.shape.height ≡ 0 → ⊥) → applied (Flip Rotate90) (turned_once i) ≡ applied (Flip Rotate180) i
-turned_twice i is some =
+transformed_twice : (i : Image) → IsImage i → (i.head.shape.height ≡ 0 → ⊥) → applied (Flip Rotate90) (transformed_once i) ≡ applied (Flip Rotate180) i
+transformed_twice i is some =
     let s : Shape = i.head.shape in
-    let j : Image = turned_once i in
-    turned_image Rotate90 j
-    ∙ ap (made_by (turned_sample (turn true false true) j)) (turned_back true false i is)
-    ∙ ap (λ (k : Image). Ok k) (image_alike i.head (turned_sample (turn true false true) j) (turned_sample (turn true true false) i) (λ x y p column row plane.
+    let j : Image = transformed_once i in
+    transformed_image Rotate90 j
+    ∙ ap (made_by (transformed_sample (transform true false true) j)) (transformed_back true false i is)
+    ∙ ap (λ (k : Image). Ok k) (image_alike i.head (transformed_sample (transform true false true) j) (transformed_sample (transform true true false) i) (λ x y
+    p column row plane.
     let line : s.height - 1 - y < s.height = omega arith in
-    sample_at-image_by j.head (turned_sample (turn true false true) i) (s.height - 1 - y) x p line column plane))
-    ∙ sym (turned_image Rotate180 i ∙ ap (made_by (turned_sample (turn true true false) i)) (moved_head true i.head some))
+    sample_at-image_by j.head (transformed_sample (transform true false true) i) (s.height - 1 - y) x p line column plane))
+    ∙ sym (transformed_image Rotate180 i ∙ ap (made_by (transformed_sample (transform true true false) i)) (moved_head true i.head some))
 
 -- one and the one after it clockwise give the image back
-turned_there_and_back : (i : Image) → IsImage i → applied (Flip Rotate270) (turned_once i) ≡ Ok i
-turned_there_and_back i is =
+transformed_there_and_back : (i : Image) → IsImage i → applied (Flip Rotate270) (transformed_once i) ≡ Ok i
+transformed_there_and_back i is =
     let s : Shape = i.head.shape in
-    let j : Image = turned_once i in
-    turned_image Rotate270 j
-    ∙ ap (made_by (turned_sample (turn false true true) j)) (turned_back false true i is)
-    ∙ ap (λ (k : Image). Ok k) (image_alike i.head (turned_sample (turn false true true) j) (sample_at i) (λ x y p column row plane.
+    let j : Image = transformed_once i in
+    transformed_image Rotate270 j
+    ∙ ap (made_by (transformed_sample (transform false true true) j)) (transformed_back false true i is)
+    ∙ ap (λ (k : Image). Ok k) (image_alike i.head (transformed_sample (transform false true true) j) (sample_at i) (λ x y p column row plane.
     let from : s.width - 1 - x < s.width = omega arith in
     let again : s.width - 1 - (s.width - 1 - x) ≡ x = omega arith in
-    sample_at-image_by j.head (turned_sample (turn true false true) i) y (s.width - 1 - x) p row from plane ∙ ap (λ (k : ℕ). sample_at i k y p) again)
+    sample_at-image_by j.head (transformed_sample (transform true false true) i) y (s.width - 1 - x) p row from plane ∙ ap (λ (k : ℕ). sample_at i k y p) again)
     ∙ image_is i is)
 
 -- ---- a turn is two flips
 
-quarter_by : (i : Image) (r : Result HeadValue ToolFault) → IsImage i → turned_head (turn false false true) i.head ≡ r
-    → made_by (turned_sample (turn true false true) i) r ≡ then_flipped TopBottom (made_by (turned_sample (turn false false true) i) r)
+quarter_by : (i : Image) (r : Result HeadValue ToolFault) → IsImage i → transformed_head (transform false false true) i.head ≡ r
+    → made_by (transformed_sample (transform true false true) i) r ≡ then_flipped TopBottom (made_by (transformed_sample (transform false false true) i) r)
 quarter_by i (Err fault) is e = refl
 quarter_by i (Ok head) is e =
     let s : Shape = i.head.shape in
-    let transposed : ℕ → ℕ → ℕ → ℕ = turned_sample (turn false false true) i in
+    let transposed : ℕ → ℕ → ℕ → ℕ = transformed_sample (transform false false true) i in
     let k : Image = image_by (transposed_head_value i.head) transposed in
-    let flipped : applied (Flip TopBottom) k ≡ Ok (image_by k.head (turned_sample (turn true false true) i)) =
-    turned_image TopBottom k
-    ∙ ap (made_by (turned_sample (turn false true false) k)) (moved_head false k.head (some_columns i is))
-    ∙ ap (λ (j : Image). Ok j) (image_alike k.head (turned_sample (turn false true false) k) (turned_sample (turn true false true) i) (λ x y p column row plane.
+    let flipped : applied (Flip TopBottom) k ≡ Ok (image_by k.head (transformed_sample (transform true false true) i)) =
+    transformed_image TopBottom k
+    ∙ ap (made_by (transformed_sample (transform false true false) k)) (moved_head false k.head (some_columns i is))
+    ∙ ap (λ (j : Image). Ok j) (image_alike k.head (transformed_sample (transform false true false) k) (transformed_sample (transform true false true) i) (λ x y
+    p column row plane.
     let line : s.width - 1 - y < s.width = omega arith in
     sample_at-image_by k.head transposed x (s.width - 1 - y) p column line plane)) in
-    subst (λ (h : HeadValue). Ok (image_by h (turned_sample (turn true false true) i)) ≡ applied (Flip TopBottom) (image_by h transposed))
-    (turned_is (turn false false true) i.head head e).result_is (sym flipped)
+    subst (λ (h : HeadValue). Ok (image_by h (transformed_sample (transform true false true) i)) ≡ applied (Flip TopBottom) (image_by h transposed))
+    (transformed_is (transform false false true) i.head head e).result_is (sym flipped)
 
 quarter_is : (i : Image) → IsImage i → applied (Flip Rotate90) i ≡ then_flipped TopBottom (applied (Flip Transpose) i)
 quarter_is i is =
-    turned_image Rotate90 i
-    ∙ quarter_by i (turned_head (turn false false true) i.head) is refl
-    ∙ ap (then_flipped TopBottom) (sym (turned_image Transpose i))
+    transformed_image Rotate90 i
+    ∙ quarter_by i (transformed_head (transform false false true) i.head) is refl
+    ∙ ap (then_flipped TopBottom) (sym (transformed_image Transpose i))
 
 half_is : (i : Image) → applied (Flip Rotate180) i ≡ then_flipped TopBottom (applied (Flip LeftRight) i)
 half_is i =
     let s : Shape = i.head.shape in
-    let mirrored : ℕ → ℕ → ℕ → ℕ = turned_sample (turn true false false) i in
+    let mirrored : ℕ → ℕ → ℕ → ℕ = transformed_sample (transform true false false) i in
     let k : Image = image_by i.head mirrored in
-    turned_image Rotate180 i
-    ∙ made_alike (turn true true false) i (turned_sample (turn true true false) i) (turned_sample (turn false true false) k)
-    (turned_head (turn true true false) i.head) refl (λ x y p column row plane.
+    transformed_image Rotate180 i
+    ∙ made_alike (transform true true false) i (transformed_sample (transform true true false) i) (transformed_sample (transform false true false) k)
+    (transformed_head (transform true true false) i.head) refl (λ x y p column row plane.
     let line : s.height - 1 - y < s.height = omega arith in
     sym (sample_at-image_by i.head mirrored x (s.height - 1 - y) p column line plane))
-    ∙ sym (turned_image TopBottom k)
-    ∙ ap (then_flipped TopBottom) (sym (turned_image LeftRight i))
+    ∙ sym (transformed_image TopBottom k)
+    ∙ ap (then_flipped TopBottom) (sym (transformed_image LeftRight i))
 
 three_quarters_by : (i : Image) (b : Bool) → (i.head.shape.height == 0) ≡ b
-    → applied (Flip Rotate270) i ≡ then_flipped Transpose (made_by (turned_sample (turn false true false) i) (if b then Err OutOfOrder else Ok i.head))
+    → applied (Flip Rotate270) i ≡ then_flipped Transpose (made_by (transformed_sample (transform false true false) i) (if b then Err OutOfOrder else Ok
+    i.head))
 three_quarters_by i true e =
-    turned_image Rotate270 i
-    ∙ ap (λ (b : Bool). made_by (turned_sample (turn false true true) i) (if b then Err OutOfOrder else within_limits (transposed_head_value i.head))) e
+    transformed_image Rotate270 i
+    ∙ ap (λ (b : Bool). made_by (transformed_sample (transform false true true) i) (if b then Err OutOfOrder else within_limits (transposed_head_value i.head)))
+    e
 three_quarters_by i false e =
-    let turned : ℕ → ℕ → ℕ → ℕ = turned_sample (turn false true false) i in
-    let k : Image = image_by i.head turned in
-    turned_image Rotate270 i
-    ∙ made_alike (turn false true true) i (turned_sample (turn false true true) i) (turned_sample (turn false false true) k)
-    (turned_head (turn false true true) i.head) refl (λ x y p column row plane.
-    sym (sample_at-image_by i.head turned y x p row column plane))
-    ∙ sym (turned_image Transpose k)
+    let transformed : ℕ → ℕ → ℕ → ℕ = transformed_sample (transform false true false) i in
+    let k : Image = image_by i.head transformed in
+    transformed_image Rotate270 i
+    ∙ made_alike (transform false true true) i (transformed_sample (transform false true true) i) (transformed_sample (transform false false true) k)
+    (transformed_head (transform false true true) i.head) refl (λ x y p column row plane.
+    sym (sample_at-image_by i.head transformed y x p row column plane))
+    ∙ sym (transformed_image Transpose k)
 
 three_quarters_is : (i : Image) → applied (Flip Rotate270) i ≡ then_flipped Transpose (applied (Flip TopBottom) i)
-three_quarters_is i = three_quarters_by i (i.head.shape.height == 0) refl ∙ ap (then_flipped Transpose) (sym (turned_image TopBottom i))
+three_quarters_is i = three_quarters_by i (i.head.shape.height == 0) refl ∙ ap (then_flipped Transpose) (sym (transformed_image TopBottom i))
 
 -- ---- all of them
 
-rows_turned : (i j : Image) → IsOnce (turn true false true) i j → i.head.shape.height ≡ 0 → ⊥
-rows_turned i j is none = absurd (omega (arith, (turned_is (turn true false true) i.head j.head is.head).some_rows refl))
+rows_transformed : (i j : Image) → IsOnce (transform true false true) i j → i.head.shape.height ≡ 0 → ⊥
+rows_transformed i j is none = absurd (omega (arith, (transformed_is (transform true false true) i.head j.head is.head).some_rows refl))
 
 pub quarter_turns : (i : Image) → IsImage i → HasQuarterTurns i
 quarter_turns i is = record {
   twice = λ j e.
-      let turned = once Rotate90 i j e in
-      ap (λ (k : Image). applied (Flip Rotate90) k) (sym turned.image) ∙ turned_twice i is (rows_turned i j turned);
-  back = λ j e. ap (λ (k : Image). applied (Flip Rotate270) k) (sym (once Rotate90 i j e).image) ∙ turned_there_and_back i is;
+      let transformed = once Rotate90 i j e in
+      ap (λ (k : Image). applied (Flip Rotate90) k) (sym transformed.image) ∙ transformed_twice i is (rows_transformed i j transformed);
+  back = λ j e. ap (λ (k : Image). applied (Flip Rotate270) k) (sym (once Rotate90 i j e).image) ∙ transformed_there_and_back i is;
   quarter = quarter_is i is;
   half = half_is i;
   three_quarters = three_quarters_is i;

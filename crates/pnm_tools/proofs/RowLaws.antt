@@ -10,7 +10,7 @@ use Rattle.pnm_tools.specs.declared.tool.Tool.TheVariants.{Cut, Channel, Enlarge
 use Rattle.pnm_tools.specs.Channel.{Picks, picked_row}
 use Rattle.pnm_tools.specs.Cut.{cut_rows_of}
 use Rattle.pnm_tools.specs.Enlarge.{enlarged_rows}
-use Rattle.pnm_tools.specs.Flip.{turn_of, turned_rows}
+use Rattle.pnm_tools.specs.Flip.{transform_of, transformed_rows}
 use Rattle.pnm_tools.specs.Tools.{row_answer}
 
 pub row_of_cut : (box : CutBox) (s : Shape) (y : ℕ) (row : List ℕ) → row_answer (Cut box) s y row ≡ cut_rows_of box s y row
@@ -25,7 +25,7 @@ pub row_of_enlarge : (across down : ℕ) (s : Shape) (y : ℕ) (row : List ℕ) 
 unfolding row_answer
 row_of_enlarge across down s y row = refl
 
-pub row_of_flip : (way : FlipWay) (s : Shape) (y : ℕ) (row : List ℕ) → row_answer (Flip way) s y row ≡ turned_rows (turn_of way) s row
+pub row_of_flip : (way : FlipWay) (s : Shape) (y : ℕ) (row : List ℕ) → row_answer (Flip way) s y row ≡ transformed_rows (transform_of way) s row
 unfolding row_answer
 row_of_flip way s y row = refl
 

@@ -17,16 +17,16 @@ use Rattle.pnm_image.proofs.RowLaws.{concat-cut_rows, image_of}
 use Rattle.pnm_tools.specs.declared.fault.ToolFault.{ToolFault}
 use Rattle.pnm_tools.specs.declared.fault.ToolFault.TheVariants.{ChannelOutside, TooLarge, OutOfOrder}
 use Rattle.pnm_tools.specs.declared.flip.FlipWay.{FlipWay}
-use Rattle.pnm_tools.specs.declared.flip.Turn.{Turn}
+use Rattle.pnm_tools.specs.declared.flip.Transform.{Transform}
 use Rattle.pnm_tools.specs.declared.tool.Tool.{Tool}
 use Rattle.pnm_tools.specs.declared.tool.Tool.TheVariants.{Invert, Cut, Depth, Channel, Enlarge, Flip, Tile}
 use Rattle.pnm_tools.specs.Answering.{answers_from}
 use Rattle.pnm_tools.specs.Channel.{Picks, picked_row, picked_head_value}
 use Rattle.pnm_tools.specs.Dealing.{dealt_height, dealt_head, dealt_image, dealt_result, dealt_rows, IsRowWise, column}
 use Rattle.pnm_tools.specs.Enlarge.{enlarged_head_value, enlarged_row}
-use Rattle.pnm_tools.specs.Flip.{turn, turn_of, moves_rows, moved_rows, turned_head, turned_row}
+use Rattle.pnm_tools.specs.Flip.{transform, transform_of, moves_rows, moved_rows, transformed_head, transformed_row}
 use Rattle.pnm_tools.specs.Formulas.{image_by}
-use Rattle.pnm_tools.specs.Limits.{within_limits}
+use Rattle.pnm_tools.specs.ToolLimits.{within_limits}
 use Rattle.pnm_tools.specs.Samplewise.{SampleRule}
 use Rattle.pnm_tools.specs.Tools.{IsLawfulTool, is_row_wise, applied, result_head, result_sample, row_answer, end_answer}
 use Rattle.pnm_tools.proofs.DepthLaws.{depth_is_samplewise}
@@ -38,7 +38,7 @@ use Rattle.pnm_tools.proofs.HeadFaultLaws.{head_is_refused_by_name, no_rows_refu
 use Rattle.pnm_tools.proofs.ImageLaws.{result_by_head, answers_to_rows, each_row_answered, rows_answered}
 use Rattle.pnm_tools.proofs.RowLaws.{row_of_channel, row_of_enlarge}
 use Rattle.pnm_tools.proofs.ToolLaws.{tool_answers_images}
-use Rattle.pnm_tools.proofs.TurnLaws.{row_stays}
+use Rattle.pnm_tools.proofs.TransformLaws.{row_stays}
 
 -- ---- the rows of a result, by the rows that answer
 
@@ -208,26 +208,26 @@ enlarge_by_rows across = record {
 }
 
 -- a head is kept where rows stay in their places
-head_kept : (columns rows exchanged : Bool) (h : HeadValue) → moves_rows (turn columns rows exchanged) ≡ false
-    → turned_head (turn columns rows exchanged) h ≡ Ok h
+head_kept : (columns rows exchanged : Bool) (h : HeadValue) → moves_rows (transform columns rows exchanged) ≡ false
+    → transformed_head (transform columns rows exchanged) h ≡ Ok h
 head_kept columns rows true h e = absurd cc
 head_kept columns true false h e = absurd cc
 head_kept columns false false h e = refl
 
-kept_head_dealt : (t : Turn) (lane lanes : ℕ) (h : HeadValue) → moves_rows t ≡ false
-    → turned_head t (dealt_head lane lanes h) ≡ dealt_head_result lane lanes (turned_head t h)
+kept_head_dealt : (t : Transform) (lane lanes : ℕ) (h : HeadValue) → moves_rows t ≡ false
+    → transformed_head t (dealt_head lane lanes h) ≡ dealt_head_result lane lanes (transformed_head t h)
 kept_head_dealt t lane lanes h stays =
     head_kept t.columns_reversed t.rows_reversed t.exchanged (dealt_head lane lanes h) stays
     ∙ ap (dealt_head_result lane lanes) (sym (head_kept t.columns_reversed t.rows_reversed t.exchanged h stays))
 
-flip_by_rows : (way : FlipWay) → moves_rows (turn_of way) ≡ false → AnswersRowByRow (Flip way)
+flip_by_rows : (way : FlipWay) → moves_rows (transform_of way) ≡ false → AnswersRowByRow (Flip way)
 unfolding result_head
 flip_by_rows way stays = record {
-  row = turned_row (turn_of way);
+  row = transformed_row (transform_of way);
   one = λ s y r. row_stays way s y r stays;
-  none = λ s rows. ap (λ (b : Bool). if b then moved_rows (turn_of way) s rows else []) stays;
+  none = λ s rows. ap (λ (b : Bool). if b then moved_rows (transform_of way) s rows else []) stays;
   any_height = λ s height r. refl;
-  head = λ lane lanes h is. kept_head_dealt (turn_of way) lane lanes h stays;
+  head = λ lane lanes h is. kept_head_dealt (transform_of way) lane lanes h stays;
 }
 
 -- a tool that is called row-wise answers row by row
@@ -237,7 +237,7 @@ by_rows (Cut box) e = absurd cc
 by_rows (Depth maxval) e = samplewise_by_rows (depth_is_samplewise maxval)
 by_rows (Channel planes) e = channel_by_rows planes
 by_rows (Enlarge across down) e = subst (λ (n : ℕ). AnswersRowByRow (Enlarge across n)) (sym (eqb-true down 1 e)) (enlarge_by_rows across)
-by_rows (Flip way) e = flip_by_rows way (not-true (moves_rows (turn_of way)) e)
+by_rows (Flip way) e = flip_by_rows way (not-true (moves_rows (transform_of way)) e)
 by_rows (Tile width height) e = absurd cc
 
 -- ---- no others

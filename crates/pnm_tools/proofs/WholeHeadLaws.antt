@@ -6,11 +6,11 @@ use Rattle.pnm_image.specs.Heads.{HeadValue, is_too_large}
 use Rattle.pnm_tools.specs.declared.fault.ToolFault.{ToolFault}
 use Rattle.pnm_tools.specs.declared.fault.ToolFault.TheVariants.{OutOfOrder, TooLarge}
 use Rattle.pnm_tools.specs.declared.flip.FlipWay.{FlipWay}
-use Rattle.pnm_tools.specs.declared.flip.Turn.{Turn}
+use Rattle.pnm_tools.specs.declared.flip.Transform.{Transform}
 use Rattle.pnm_tools.specs.declared.tool.Tool.TheVariants.{Enlarge, Flip, Tile}
-use Rattle.pnm_tools.specs.Limits.{within_limits}
+use Rattle.pnm_tools.specs.ToolLimits.{within_limits}
 use Rattle.pnm_tools.specs.Enlarge.{enlarged_head_value}
-use Rattle.pnm_tools.specs.Flip.{turn, turn_of, turned_head, turned_head_value, transposed_head_value}
+use Rattle.pnm_tools.specs.Flip.{transform, transform_of, transformed_head, transformed_head_value, transposed_head_value}
 use Rattle.pnm_tools.specs.Tile.{tiled_head_value}
 use Rattle.pnm_tools.specs.Tools.{result_head}
 
@@ -65,14 +65,14 @@ is_tiled across down head result e =
 
 -- the head of a flipped image is what the rule makes of the head; where columns and rows are exchanged the image has rows,
 -- and the result is within the limits
-pub record IsTurned (t : Turn) (head result : HeadValue) : Type 0 where
-  pub result_is : turned_head_value t head ≡ result
+pub record IsTransformed (t : Transform) (head result : HeadValue) : Type 0 where
+  pub result_is : transformed_head_value t head ≡ result
   pub some_rows : t.exchanged ≡ true → 0 < head.shape.height
   pub limits : t.exchanged ≡ true → is_too_large (transposed_head_value head).shape ≡ false
 
-turned_by : (columns rows exchanged : Bool) (head result : HeadValue) → turned_head (turn columns rows exchanged) head ≡ Ok result
-    → IsTurned (turn columns rows exchanged) head result
-turned_by columns rows true head result e =
+transformed_by : (columns rows exchanged : Bool) (head result : HeadValue) → transformed_head (transform columns rows exchanged) head ≡ Ok result
+    → IsTransformed (transform columns rows exchanged) head result
+transformed_by columns rows true head result e =
     let order = in_order (head.shape.height == 0) (within_limits (transposed_head_value head)) result e in
     let within = is_within (transposed_head_value head) result order.same in
     record {
@@ -80,13 +80,13 @@ turned_by columns rows true head result e =
       some_rows = λ _. pos_of_ne-zero (eqb-false head.shape.height 0 order.in_order);
       limits = λ _. within.limits;
     }
-turned_by columns rows false head result e =
+transformed_by columns rows false head result e =
     let same = (in_order (rows && (head.shape.height == 0)) (Ok head) result e).same in
     record { result_is = cc; some_rows = λ exchanged. absurd cc; limits = λ exchanged. absurd cc }
 
-pub turned_is : (t : Turn) (head result : HeadValue) → turned_head t head ≡ Ok result → IsTurned t head result
-turned_is t head result e = turned_by t.columns_reversed t.rows_reversed t.exchanged head result e
+pub transformed_is : (t : Transform) (head result : HeadValue) → transformed_head t head ≡ Ok result → IsTransformed t head result
+transformed_is t head result e = transformed_by t.columns_reversed t.rows_reversed t.exchanged head result e
 
-pub is_turned : (way : FlipWay) (head result : HeadValue) → result_head (Flip way) head ≡ Ok result → IsTurned (turn_of way) head result
+pub is_transformed : (way : FlipWay) (head result : HeadValue) → result_head (Flip way) head ≡ Ok result → IsTransformed (transform_of way) head result
 unfolding result_head
-is_turned way head result e = turned_is (turn_of way) head result e
+is_transformed way head result e = transformed_is (transform_of way) head result e

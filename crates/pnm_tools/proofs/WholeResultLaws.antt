@@ -5,15 +5,15 @@ use Rattle.pnm_image.specs.Heads.{HeadValue, IsHead, is_too_large}
 use Rattle.pnm_image.specs.Images.{Image, IsImage}
 use Rattle.pnm_image.proofs.Heads.{sizes_within}
 use Rattle.pnm_tools.specs.declared.flip.FlipWay.{FlipWay}
-use Rattle.pnm_tools.specs.declared.flip.Turn.{Turn}
+use Rattle.pnm_tools.specs.declared.flip.Transform.{Transform}
 use Rattle.pnm_tools.specs.declared.tool.Tool.TheVariants.{Enlarge, Flip, Tile}
-use Rattle.pnm_tools.specs.Flip.{turn, turn_of}
+use Rattle.pnm_tools.specs.Flip.{transform, transform_of}
 use Rattle.pnm_tools.specs.Tools.{applied, result_head, result_sample}
 use Rattle.pnm_tools.proofs.ImageLaws.{result_by_head}
 use Rattle.pnm_tools.proofs.MadeLaws.{made_is_image, sample_in_range}
 use Rattle.pnm_tools.proofs.PixelLaws.{resized}
-use Rattle.pnm_tools.proofs.WholeHeadLaws.{IsTurned, is_enlarged, is_tiled, is_turned}
-use Rattle.pnm_tools.proofs.TurnLaws.{flipped_is_turned}
+use Rattle.pnm_tools.proofs.WholeHeadLaws.{IsTransformed, is_enlarged, is_tiled, is_transformed}
+use Rattle.pnm_tools.proofs.TransformLaws.{flipped_is_transformed}
 
 -- a head with other sizes is a head, where they are within the limits
 resized_is : (width height : ℕ) (head : HeadValue) → 0 < width → IsHead head → is_too_large (resized width height head).shape ≡ false
@@ -66,7 +66,7 @@ enlarged_has_rows across down i j high rows e =
 -- the samples of a flipped image are those of the image
 flipped_in_range : (way : FlipWay) (i : Image) (x y p : ℕ) → IsImage i → result_sample (Flip way) i x y p ≤ i.head.shape.maxval
 unfolding result_sample
-flipped_in_range way i x y p is = subst (λ (sample : ℕ → ℕ → ℕ → ℕ). sample x y p ≤ i.head.shape.maxval) (sym (flipped_is_turned way i))
+flipped_in_range way i x y p is = subst (λ (sample : ℕ → ℕ → ℕ → ℕ). sample x y p ≤ i.head.shape.maxval) (sym (flipped_is_transformed way i))
     (sample_in_range i _ _ p is)
 
 -- the flipped head: it is a head, the samples' range is kept, and there are rows
@@ -85,7 +85,7 @@ same_head head result sound same =
     }
 
 -- the head of each rule
-flipped_by : (columns rows exchanged : Bool) (head result : HeadValue) → IsHead head → IsTurned (turn columns rows exchanged) head result
+flipped_by : (columns rows exchanged : Bool) (head result : HeadValue) → IsHead head → IsTransformed (transform columns rows exchanged) head result
     → IsFlipped head result
 flipped_by columns rows true head result sound is =
     let s : Shape = head.shape in
@@ -98,8 +98,8 @@ flipped_by columns rows false head result sound is = same_head head result sound
 
 is_flipped : (way : FlipWay) (head result : HeadValue) → IsHead head → result_head (Flip way) head ≡ Ok result → IsFlipped head result
 is_flipped way head result sound e =
-    let t : Turn = turn_of way in
-    flipped_by t.columns_reversed t.rows_reversed t.exchanged head result sound (is_turned way head result e)
+    let t : Transform = transform_of way in
+    flipped_by t.columns_reversed t.rows_reversed t.exchanged head result sound (is_transformed way head result e)
 
 -- a flipped image is an image
 pub flipped_is_image : (way : FlipWay) (i j : Image) → IsImage i → applied (Flip way) i ≡ Ok j → IsImage j

@@ -1,4 +1,4 @@
--- What a filter may have given for the messages that it accepted, and what it owes.
+-- What a filter may have given for the messages that it accepted, and what is due.
 use Rattle.std.specs.Prelude.{◌≡◌, ◌⊎◌, ◌≤◌, ℕ, zero, suc, Bool, true, false, List, [], ◌∷◌, ◌++◌, length}
 use Rattle.std.specs.Prelude.{Result, Ok, Err}
 use Rattle.pnm_image.specs.declared.message.Message.{Message}
@@ -37,16 +37,16 @@ begun_of After = false
 abbrev pub begun_in : List Message → Bool
 begun_in l = begun_of (place_of Between (without_stop l))
 
--- what is owed once so many images have ended: all of their results, and the head of the next one's where it has begun
-unfoldable pub answers_owed : Tool → ℕ → Bool → List Image → List Message
-answers_owed tool ended begun [] = []
-answers_owed tool zero false (i ∷ is) = []
-answers_owed tool zero true (i ∷ is) = elim (result_head tool i.head) [
+-- what is due once so many images have ended: all of their results, and the head of the next one's where it has begun
+unfoldable pub due_so_far : Tool → ℕ → Bool → List Image → List Message
+due_so_far tool ended begun [] = []
+due_so_far tool zero false (i ∷ is) = []
+due_so_far tool zero true (i ∷ is) = elim (result_head tool i.head) [
   | Ok head ↦ Begin head ∷ []
   | Err fault ↦ []
 ]
-answers_owed tool (suc ended) begun (i ∷ is) = elim (applied tool i) [
-  | Ok j ↦ messages_of_image j ++ answers_owed tool ended begun is
+due_so_far tool (suc ended) begun (i ∷ is) = elim (applied tool i) [
+  | Ok j ↦ messages_of_image j ++ due_so_far tool ended begun is
   | Err fault ↦ []
 ]
 
@@ -57,12 +57,12 @@ pub record Answers (tool : Tool) (accepted given : List Message) : Type 0 where
   pub prefix : (is : List Image) → Completes is accepted → IsPrefixOf (without_stop given) (output_due tool is)
   pub stop : (prefix : List Message) → given ≡ prefix ++ Stop ∷ [] → EndsBy BrokenOff accepted
 
--- and no image was refused, and all that is owed was given, with the same end
+-- and no image was refused, and all that is due was given, with the same end
 pub record AnswersInFull (tool : Tool) (accepted given : List Message) : Type 0 where
   pub answers : Answers tool accepted given
   pub taken : AreTaken tool accepted
   pub all : (is : List Image) → Completes is accepted
-      → IsPrefixOf (answers_owed tool (images_ended accepted) (begun_in accepted) is) given
+      → IsPrefixOf (due_so_far tool (images_ended accepted) (begun_in accepted) is) given
   pub ends : (e : Ending) → EndsBy e accepted → EndsBy e given
 
 -- ---- what a message that is fed meets

@@ -10,7 +10,7 @@ use Rattle.pnm_image.specs.Heads.{HeadValue, IsTupleType}
 use Rattle.pnm_image.specs.Images.{Image, sample_at}
 use Rattle.pnm_tools.specs.declared.fault.ToolFault.{ToolFault}
 use Rattle.pnm_tools.specs.declared.fault.ToolFault.TheVariants.{ChannelOutside}
-use Rattle.pnm_tools.specs.Limits.{within_limits}
+use Rattle.pnm_tools.specs.ToolLimits.{within_limits}
 use Rattle.pnm_tools.specs.Meaning.{Meaning, RowRule}
 
 -- the numbers of the planes, from 0, and the tuple type of what is picked

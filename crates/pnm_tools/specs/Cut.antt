@@ -13,7 +13,7 @@ use Rattle.pnm_tools.specs.declared.cut.CutBox.{CutBox}
 use Rattle.pnm_tools.specs.declared.cut.Span.{Span}
 use Rattle.pnm_tools.specs.declared.fault.ToolFault.{ToolFault}
 use Rattle.pnm_tools.specs.declared.fault.ToolFault.TheVariants.{CutOutside, OutOfOrder}
-use Rattle.pnm_tools.specs.Limits.{IsExtent}
+use Rattle.pnm_tools.specs.ToolLimits.{IsExtent}
 use Rattle.pnm_tools.specs.Meaning.{Meaning, RowRule}
 
 -- an edge lies as far as the greatest extent from either end

@@ -6,8 +6,8 @@ use Rattle.pnm_image.specs.Heads.{HeadValue}
 use Rattle.pnm_image.specs.Images.{Image, sample_at}
 use Rattle.pnm_tools.specs.declared.fault.ToolFault.{ToolFault}
 use Rattle.pnm_tools.specs.declared.fault.ToolFault.TheVariants.{OutOfOrder}
-use Rattle.pnm_tools.specs.Limits.{IsExtent, within_limits}
-use Rattle.pnm_tools.specs.Pixels.{pixel_of}
+use Rattle.pnm_tools.specs.ToolLimits.{IsExtent, within_limits}
+use Rattle.pnm_tools.specs.PixelSamples.{pixel_of}
 use Rattle.pnm_tools.specs.Meaning.{Meaning, RowRule}
 
 abbrev pub enlarged_head_value : ℕ → ℕ → HeadValue → HeadValue

@@ -12,9 +12,9 @@ use Rattle.pnm_tools.specs.declared.fault.ToolFault.TheVariants.{OutOfOrder}
 use Rattle.pnm_tools.specs.declared.flip.FlipWay.{FlipWay}
 use Rattle.pnm_tools.specs.declared.flip.FlipWay.TheVariants.{Null, LeftRight, TopBottom, Transpose, Rotate90}
 use Rattle.pnm_tools.specs.declared.flip.FlipWay.TheVariants.{Rotate180, Rotate270}
-use Rattle.pnm_tools.specs.declared.flip.Turn.{Turn}
-use Rattle.pnm_tools.specs.Limits.{within_limits}
-use Rattle.pnm_tools.specs.Pixels.{pixel_of}
+use Rattle.pnm_tools.specs.declared.flip.Transform.{Transform}
+use Rattle.pnm_tools.specs.ToolLimits.{within_limits}
+use Rattle.pnm_tools.specs.PixelSamples.{pixel_of}
 use Rattle.pnm_tools.specs.Meaning.{Meaning, RowRule}
 
 -- ---- the ways
@@ -31,19 +31,19 @@ flipped_sample Rotate270 i x y p = sample_at i y (i.head.shape.height - 1 - x) p
 
 -- a rule: the order of the columns is reversed or not, and that of the rows, and then columns and rows are exchanged or
 -- not
-abbrev pub turn : Bool → Bool → Bool → Turn
-turn columns_reversed rows_reversed exchanged =
+abbrev pub transform : Bool → Bool → Bool → Transform
+transform columns_reversed rows_reversed exchanged =
     record { columns_reversed = columns_reversed; rows_reversed = rows_reversed; exchanged = exchanged }
 
 -- the rule of each way
-abbrev pub turn_of : FlipWay → Turn
-turn_of Null = turn false false false
-turn_of LeftRight = turn true false false
-turn_of TopBottom = turn false true false
-turn_of Transpose = turn false false true
-turn_of Rotate90 = turn true false true
-turn_of Rotate180 = turn true true false
-turn_of Rotate270 = turn false true true
+abbrev pub transform_of : FlipWay → Transform
+transform_of Null = transform false false false
+transform_of LeftRight = transform true false false
+transform_of TopBottom = transform false true false
+transform_of Transpose = transform false false true
+transform_of Rotate90 = transform true false true
+transform_of Rotate180 = transform true true false
+transform_of Rotate270 = transform false true true
 
 -- ---- what a rule makes of an image
 
@@ -52,25 +52,25 @@ abbrev pub place_in : Bool → ℕ → ℕ → ℕ
 place_in reversed n k = if reversed then n - 1 - k else k
 
 -- the sample of the result in a column, a row and a plane
-abbrev pub turned_sample : Turn → Image → ℕ → ℕ → ℕ → ℕ
-turned_sample t i x y p =
+abbrev pub transformed_sample : Transform → Image → ℕ → ℕ → ℕ → ℕ
+transformed_sample t i x y p =
     sample_at i (place_in t.columns_reversed i.head.shape.width (if t.exchanged then y else x))
     (place_in t.rows_reversed i.head.shape.height (if t.exchanged then x else y)) p
 
 -- rows don't stay in their places
-abbrev pub moves_rows : Turn → Bool
+abbrev pub moves_rows : Transform → Bool
 moves_rows t = t.exchanged || t.rows_reversed
 
 abbrev pub transposed_head_value : HeadValue → HeadValue
 transposed_head_value head =
     record head { shape = record head.shape { width = head.shape.height; height = head.shape.width } }
 
-abbrev pub turned_head_value : Turn → HeadValue → HeadValue
-turned_head_value t head = if t.exchanged then transposed_head_value head else head
+abbrev pub transformed_head_value : Transform → HeadValue → HeadValue
+transformed_head_value t head = if t.exchanged then transposed_head_value head else head
 
 -- where rows change places the tool isn't row-wise, so that a height of 0 is out of order
-abbrev pub turned_head : Turn → HeadValue → Result HeadValue ToolFault
-turned_head t head =
+abbrev pub transformed_head : Transform → HeadValue → Result HeadValue ToolFault
+transformed_head t head =
     if moves_rows t && (head.shape.height == 0) then Err OutOfOrder
     else if t.exchanged then within_limits (transposed_head_value head)
     else Ok head
@@ -83,41 +83,45 @@ in_order reversed xs = if reversed then reverse xs else xs
 abbrev pub mirrored_row : {X : Type 0} → Shape → List X → List X
 mirrored_row s row = flat_map (λ x. pixel_of s.depth row (s.width - 1 - x)) (range_with_len 0 s.width)
 
-abbrev pub turned_row : Turn → Shape → List ℕ → List ℕ
-turned_row t s row = if t.columns_reversed then mirrored_row s row else row
+abbrev pub transformed_row : Transform → Shape → List ℕ → List ℕ
+transformed_row t s row = if t.columns_reversed then mirrored_row s row else row
 
 -- a column of the rows of an image of so many planes
 abbrev pub column_of : {X : Type 0} → ℕ → List (List X) → ℕ → List X
 column_of depth rows x = flat_map (λ row. pixel_of depth row x) rows
 
 -- the rows that answer a row
-abbrev pub turned_rows : Turn → Shape → List ℕ → List (List ℕ)
-turned_rows t s row = if moves_rows t then [] else turned_row t s row ∷ []
+abbrev pub transformed_rows : Transform → Shape → List ℕ → List (List ℕ)
+transformed_rows t s row = if moves_rows t then [] else transformed_row t s row ∷ []
 
 -- the rows of the result, where they are others than those of an image of this shape and of these rows
-abbrev pub moved_rows : Turn → Shape → List (List ℕ) → List (List ℕ)
+abbrev pub moved_rows : Transform → Shape → List (List ℕ) → List (List ℕ)
 moved_rows t s rows =
     if t.exchanged then in_order t.columns_reversed
     (map (column_of s.depth (in_order t.rows_reversed rows)) (range_with_len 0 s.width))
-    else map (turned_row t s) (reverse rows)
+    else map (transformed_row t s) (reverse rows)
 
 -- the rows that answer the end of the image
-abbrev pub turned_at_end : Turn → Shape → List (List ℕ) → List (List ℕ)
-turned_at_end t s rows = if moves_rows t then moved_rows t s rows else []
+abbrev pub transformed_at_end : Transform → Shape → List (List ℕ) → List (List ℕ)
+transformed_at_end t s rows = if moves_rows t then moved_rows t s rows else []
 
 -- the order of the rows is reversed, and they stay rows
-pub record ReversesRows (t : Turn) : Type 0 where
+pub record ReversesRows (t : Transform) : Type 0 where
   pub reversed : t.rows_reversed ≡ true
   pub stay_rows : t.exchanged ≡ false
 
 abbrev pub flipping : FlipWay → Meaning
 flipping way = record {
   lawful = Unit {0};
-  row_wise = not (moves_rows (turn_of way));
-  head = turned_head (turn_of way);
+  row_wise = not (moves_rows (transform_of way));
+  head = transformed_head (transform_of way);
   sample = flipped_sample way;
 }
 
 abbrev pub flipped_row_rule : FlipWay → RowRule
 flipped_row_rule way =
-    record { row_answer = λ s y row. turned_rows (turn_of way) s row; end_answer = turned_at_end (turn_of way) }
+    record {
+      row_answer = λ s y row. transformed_rows (transform_of way) s row;
+      end_answer = transformed_at_end
+          (transform_of way);
+    }

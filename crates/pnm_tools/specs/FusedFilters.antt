@@ -13,11 +13,11 @@ abbrev pub refusal_in : {F : Type 0} → FusedFilter F → Option ToolFault
 refusal_in (AtWork filter) = None
 refusal_in (Refused fault) = Some fault
 
--- a tool at work that has given all it owes for what it accepted
+-- a tool at work that has given all that is due for what it accepted
 pub record IsIdle {F : Type 0} (at : F → Tool → List Message → List Message → Type 0) (all_given : F → Bool)
     (stopped : F → Option ToolFault) (filter : F) (tool : Tool) (received given : List Message) : Type 0 where
   pub state : at filter tool received given
-  pub told : all_given filter ≡ true
+  pub none_due : all_given filter ≡ true
   pub going : stopped filter ≡ None
   pub full : AnswersInFull tool received given
 

@@ -1,12 +1,12 @@
 pub mod Formulas
-pub mod Limits
+pub mod ToolLimits
 pub mod Meaning
 pub mod Samplewise
 pub mod Invert
 pub mod Cut
 pub mod Depth
 pub mod Channel
-pub mod Pixels
+pub mod PixelSamples
 pub mod Enlarge
 pub mod Flip
 pub mod Tile

@@ -2,7 +2,7 @@
 
 ghost use Rattle.std.specs.Prelude.{◌↔◌, IsTrue, IfSome};
 ghost use Rattle.pnm_tools.specs.Cut.{IsEdge, IsLawfulAxis};
-ghost use Rattle.pnm_tools.specs.Limits.{IsExtent};
+ghost use Rattle.pnm_tools.specs.ToolLimits.{IsExtent};
 ghost use Rattle.pnm_tools.specs.declared.tool.Tool.TheVariants.{Cut};
 
 use crate::limits::{MAX_EXTENT, is_extent};

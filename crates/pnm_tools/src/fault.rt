@@ -19,7 +19,7 @@ pub enum ToolFault {
     #[error("TooLarge")]
     TooLarge,
     /// The message can't come at this place in the stream; or neither `Filter::next` has returned `None` nor
-    /// `Filter::gave_all` true since the message before it; or an image of height 0 begins, and the tool isn't
+    /// `Filter::is_done` true since the message before it; or an image of height 0 begins, and the tool isn't
     /// row-wise.
     #[error("OutOfOrder")]
     OutOfOrder,

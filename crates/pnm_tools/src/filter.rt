@@ -19,7 +19,7 @@ use pnm_image::{Message, Packet, Rows};
 /// A tool at work: it takes the messages of images, one by one or several rows together, and gives the messages of
 /// their results.
 ///
-/// After each `feed` or `feed_rows`, the caller calls `next` until it returns `None`, or until `gave_all` returns true.
+/// After each `feed` or `feed_rows`, the caller calls `next` until it returns `None`, or until `is_done` returns true.
 /// The tool gives the result's head as soon as an image begins, and all that is left of the result once the image has
 /// ended. How early it gives a row in between is open. For the end of the stream it gives the end of the stream, and
 /// for Stop it gives Stop alone. It gives nothing after either.
@@ -28,7 +28,7 @@ pub trait Filter {
     /// second.
     ghost at: { Self → ToolValue → List MessageValue → List MessageValue → Type 0 };
 
-    /// `next` has returned `None`, or `gave_all` true, since the filter last accepted a message, or it has accepted
+    /// `next` has returned `None`, or `is_done` true, since the filter last accepted a message, or it has accepted
     /// none.
     ghost all_given: { Self → Bool };
 
@@ -45,7 +45,7 @@ pub trait Filter {
     /// The first of these faults. The filter drops the message, and `feed` and `next` return this fault from then on.
     ///
     /// - the earlier fault, if there was one;
-    /// - `OutOfOrder` if neither `next` has returned `None` nor `gave_all` true since the last message that was
+    /// - `OutOfOrder` if neither `next` has returned `None` nor `is_done` true since the last message that was
     ///   accepted, if the message can't come at its place in the stream, or if an image of height 0 begins and the tool
     ///   isn't row-wise;
     /// - `CutOutside` or `ChannelOutside` if the image that begins lacks the part that the tool picks;
@@ -54,14 +54,14 @@ pub trait Filter {
     fn feed(&mut self, message: Message) -> Result<(), ToolFault>
         ensures accepted { OnOk result ((t : ToolValue) (l g : List MessageValue) → at self.old t l g
             → at self.new t (l ++ message ∷ []) g) }
-        ensures owes { OnOk result (all_given self.new ≡ false) }
+        ensures not_done { OnOk result (all_given self.new ≡ false) }
         ensures judged { stopped self.old ≡ None → (t : ToolValue) (l g : List MessageValue) → at self.old t l g
             → Judges (all_given self.old) t l message result }
         ensures stops { IfErr result (λ k. stopped self.new ≡ Some k) }
         ensures goes_on { OnOk result ((stopped self.old ≡ None) × (stopped self.new ≡ None)) }
         ensures stays { (k : Fault) → stopped self.old ≡ Some k → result ≡ Err k };
 
-    /// The next message of the results, or rows of them that follow one another, or `None` where all that is owed was
+    /// The next message of the results, or rows of them that follow one another, or `None` where all that is due was
     /// given. After a fault, it always returns that fault. The only fault that can begin here is `Memory`, and none can
     /// begin once the end of the stream or Stop was given.
     fn next(&mut self) -> Result<Option<Packet>, ToolFault>
@@ -87,9 +87,9 @@ pub trait Filter {
         ensures goes_on { OnOk result ((stopped self.old ≡ None) × (stopped self.new ≡ None)) }
         ensures stays { (k : Fault) → stopped self.old ≡ Some k → result ≡ Err k };
 
-    /// Whether all that is owed was given, as far as a look shows; that is told then, as by a `None`
+    /// Whether all that is due was given, as far as a look shows; the caller knows then, as by a `None`
     /// of `next`. If it returns false, nothing has changed, and the caller has to call `next`.
-    fn gave_all(&mut self) -> bool
+    fn is_done(&mut self) -> bool
         ensures full { result ≡ true → (all_given self.new ≡ true)
             × ((t : ToolValue) (l g : List MessageValue)
             → at self.old t l g → at self.new t l g × AnswersInFull t l g) }
@@ -106,7 +106,7 @@ pub trait Filter {
         ensures accepted { IfOk result (λ fed. OnOk fed
             ((t : ToolValue) (l g : List MessageValue) → at self.old t l g
             → at self.new t (l ++ row_messages rows) g)) }
-        ensures owes { IfOk result (λ fed. OnOk fed (all_given self.new ≡ false)) }
+        ensures not_done { IfOk result (λ fed. OnOk fed (all_given self.new ≡ false)) }
         ensures come { OnOk result ((t : ToolValue) (l g : List MessageValue) → at self.old t l g
             → RowsMayCome (all_given self.old) l rows) }
         ensures failed { IfOk result (λ fed. IfErr fed (λ k. (k ≡ Memory) × (stopped self.new ≡ Some k))) }

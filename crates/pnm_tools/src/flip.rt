@@ -2,7 +2,7 @@
 //! and that of the rows, and then it may exchange columns and rows.
 
 ghost use Rattle.std.specs.Prelude.{◌≡◌, true, false};
-ghost use Rattle.pnm_tools.specs.Flip.{moves_rows, turn_of};
+ghost use Rattle.pnm_tools.specs.Flip.{moves_rows, transform_of};
 
 /// How an image is flipped.
 #[derive(Clone, Copy, Debug, PartialEq, Eq)]
@@ -25,7 +25,7 @@ pub enum FlipWay {
 
 /// A way to flip, as a rule: its steps, in the order in which they apply.
 #[derive(Clone, Copy)]
-pub struct Turn {
+pub struct Transform {
     /// Whether the order of the columns is reversed.
     pub columns_reversed: bool,
     /// Whether the order of the rows is reversed.
@@ -36,8 +36,8 @@ pub struct Turn {
 
 impl FlipWay {
     /// Returns the way as a rule.
-    pub fn turn(self) -> Turn
-        ensures { result ≡ turn_of self }
+    pub fn transform(self) -> Transform
+        ensures { result ≡ transform_of self }
     {
         let (columns_reversed, rows_reversed, exchanged) = match self {
             FlipWay::Null => (false, false, false),
@@ -48,7 +48,7 @@ impl FlipWay {
             FlipWay::Rotate180 => (true, true, false),
             FlipWay::Rotate270 => (false, true, true),
         };
-        Turn {
+        Transform {
             columns_reversed,
             rows_reversed,
             exchanged,
@@ -56,7 +56,7 @@ impl FlipWay {
     }
 }
 
-impl Turn {
+impl Transform {
     /// Returns true if rows don't stay in their places.
     pub(crate) fn moves_rows(self) -> bool
         ensures { result ≡ moves_rows self }

@@ -38,7 +38,7 @@ impl<F: Filter + Drop> FusedFilter<F> {
     }
 
     /// Feeds the tool a message. Drops the message if the tool has refused.
-    // `feed`, `next` and `gave_all` are inlined, so that their values stay in registers in a stage's loop.
+    // `feed`, `next` and `is_done` are inlined, so that their values stay in registers in a stage's loop.
     #[inline(always)]
     pub fn feed(&mut self, message: Message)
         ensures { (tool : ToolValue) (l g : List MessageValue) → FilterAt F.at F.all_given F.stopped self.old tool l g
@@ -87,13 +87,13 @@ impl<F: Filter + Drop> FusedFilter<F> {
     /// Returns true if the tool has given all, or has refused, as far as a look shows. If it returns false, call `next`
     /// to find out.
     #[inline(always)]
-    pub fn gave_all(&mut self) -> bool
+    pub fn is_done(&mut self) -> bool
         ensures full { IsTrue result → (tool : ToolValue) (l g : List MessageValue)
             → FilterBusy F.at F.stopped self.old tool l g → FilterAt F.at F.all_given F.stopped self.new tool l g }
         ensures unknown { IsFalse result → self.new ≡ self.old }
     {
         match self {
-            FusedFilter::AtWork(filter) => filter.gave_all(),
+            FusedFilter::AtWork(filter) => filter.is_done(),
             FusedFilter::Refused(_) => true,
         }
     }

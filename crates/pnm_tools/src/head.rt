@@ -53,11 +53,11 @@ pub fn flipped_head(alloc: Global, way: FlipWay, head: &Head) -> Result<Head, To
     ensures refused { IfErr result (λ fault. (result_head (Flip way) head.now ≡ Err fault)
         ⊎ ((fault ≡ Memory) × TakesHead (Flip way) head.now)) }
 {
-    let (turn, shape) = (way.turn(), head.shape());
+    let (transform, shape) = (way.transform(), head.shape());
     if !Tool::Flip(way).is_row_wise() && shape.height == 0 {
         return Err(ToolFault::OutOfOrder);
     }
-    let turned = if turn.exchanged {
+    let transformed = if transform.exchanged {
         Shape {
             width: shape.height,
             height: shape.width,
@@ -66,5 +66,5 @@ pub fn flipped_head(alloc: Global, way: FlipWay, head: &Head) -> Result<Head, To
     } else {
         shape
     };
-    head_within_limits(alloc, turned, head.tuple_type())
+    head_within_limits(alloc, transformed, head.tuple_type())
 }

@@ -46,8 +46,8 @@ pub trait ImageTool {
         requires rows { (y + length rows ≤ shape.height) × AllByRecursion (IsRowOf shape) rows }
         requires ready { (before : List (List ℕ)) × (length before ≡ y) × ready self.old shape before }
         ensures same { tool self.new ≡ tool self.old }
-        ensures ready { OnOk result ((before : List (List ℕ))
-            → ready self.old shape before → ready self.new shape (before ++ rows)) }
+        ensures ready { (before : List (List ℕ))
+            → ready self.old shape before → OnOk result (ready self.new shape (before ++ rows)) }
         ensures due { OnOk result (due self.new ≡ rows_answer (tool self.old) shape y rows) }
         ensures refused { IfErr result (λ fault. fault ≡ Memory) };
 
@@ -62,8 +62,8 @@ pub trait ImageTool {
     /// Returns the next rows of the result, or `None` if none are due. The only fault is `Memory`.
     fn give(&mut self, alloc: Global) -> Result<Option<Rows>, ToolFault>
         ensures same { tool self.new ≡ tool self.old }
-        ensures ready { OnOk result ((shape : ShapeValue) (rows : List (List ℕ))
-            → ready self.old shape rows → ready self.new shape rows) }
+        ensures ready { (shape : ShapeValue) (rows : List (List ℕ))
+            → ready self.old shape rows → OnOk result (ready self.new shape rows) }
         ensures due { IfOk result (λ rows. due self.old ≡ rows_list rows ++ due self.new) }
         ensures all { IfOk result (λ rows. IfNone rows (due self.new ≡ [])) }
         ensures refused { IfErr result (λ fault. fault ≡ Memory) };

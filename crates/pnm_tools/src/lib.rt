@@ -19,7 +19,7 @@ pub use channel::Planes;
 pub use cut::{CutBox, Span};
 pub use fault::ToolFault;
 pub use filter::Filter;
-pub use flip::{FlipWay, Turn};
+pub use flip::{FlipWay, Transform};
 pub use fused_filter::FusedFilter;
 pub use head::{flipped_head, head_within_limits};
 pub use image_tool::ImageTool;

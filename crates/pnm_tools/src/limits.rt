@@ -1,7 +1,7 @@
 //! The limits of options, of results and of chains.
 
 ghost use Rattle.std.specs.Prelude.{◌↔◌, IsTrue};
-ghost use Rattle.pnm_tools.specs.Limits.{IsExtent};
+ghost use Rattle.pnm_tools.specs.ToolLimits.{IsExtent};
 
 /// The greatest number of columns or rows that an option of a tool can name.
 pub const MAX_EXTENT: u32 = 16_777_216;

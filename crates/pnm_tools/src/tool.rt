@@ -76,7 +76,7 @@ impl Tool {
         match self {
             Tool::Invert | Tool::Depth(_) | Tool::Channel(_) => true,
             Tool::Enlarge(_, down) => *down == 1,
-            Tool::Flip(way) => !way.turn().moves_rows(),
+            Tool::Flip(way) => !way.transform().moves_rows(),
             Tool::Cut(_) | Tool::Tile(_, _) => false,
         }
     }

@@ -22,20 +22,20 @@ pub const KINDS: &[ChainKind] = &[
 ];
 
 /// Adds what a text names.
-pub fn tell_chain(alloc: Global, text: &[u8], told: &mut String) -> Result<(), Unmade> {
+pub fn write_chain(alloc: Global, text: &[u8], out: &mut String) -> Result<(), Unmade> {
     match str::from_utf8(text) {
-        Ok(chain) => Ok(tell_named(alloc, chain, told)?),
+        Ok(chain) => Ok(write_named(alloc, chain, out)?),
         Err(_) => Err(Unmade),
     }
 }
 
 /// Adds the tools that a text names, or the number of the stage at fault and the fault.
-fn tell_named(alloc: Global, text: &str, told: &mut String) -> Result<(), AllocError> {
+fn write_named(alloc: Global, text: &str, out: &mut String) -> Result<(), AllocError> {
     match parse_chain(alloc, text) {
-        Ok(tools) => write!(told, "{:?}", tools.as_slice()),
+        Ok(tools) => write!(out, "{:?}", tools.as_slice()),
         Err(fault) => {
             let (stage, kind) = (fault.stage, fault.kind);
-            write!(told, "{stage} {kind}")
+            write!(out, "{stage} {kind}")
         }
     }
 }

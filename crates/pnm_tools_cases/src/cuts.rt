@@ -1,7 +1,7 @@
 //! Which columns and rows a cut keeps.
 
 use super::tasks::{Task, add_answers};
-use super::tools::{cut_offset, cut_size, tell_made_head};
+use super::tools::{cut_offset, cut_size, write_made_head};
 use pnm_image::{Kind, SampleWidth, Shape};
 use pnm_test_support::{Sweep, Unmade, cut_number, head_of, number_of};
 use pnm_tools::{CutBox, Tool};
@@ -56,10 +56,10 @@ fn cut_by(across: Axis, down: Axis) -> Tool {
 }
 
 /// Adds the head of a cut's result.
-fn tell_cut_head(alloc: Global, across: Axis, down: Axis, told: &mut String) -> Result<(), Unmade> {
+fn write_cut_head(alloc: Global, across: Axis, down: Axis, out: &mut String) -> Result<(), Unmade> {
     let tool = cut_by(across, down);
     if !tool.is_lawful() {
-        return Ok(told.push_str(" unlawful")?);
+        return Ok(out.push_str(" unlawful")?);
     }
     let shape = Shape {
         kind: Kind::Gray,
@@ -69,17 +69,17 @@ fn tell_cut_head(alloc: Global, across: Axis, down: Axis, told: &mut String) -> 
         maxval: 9,
     };
     let head = head_of(alloc, shape, b"")?;
-    tell_made_head(alloc, &tool, &head, told)
+    write_made_head(alloc, &tool, &head, out)
 }
 
 /// Adds the heads of the cut across, of an image of three rows, and down, of three columns.
-pub fn tell_axis(alloc: Global, axis: Axis, told: &mut String) -> Result<(), Unmade> {
-    tell_cut_head(alloc, axis, ONE, told)?;
-    tell_cut_head(alloc, ONE, axis, told)
+pub fn write_axis(alloc: Global, axis: Axis, out: &mut String) -> Result<(), Unmade> {
+    write_cut_head(alloc, axis, ONE, out)?;
+    write_cut_head(alloc, ONE, axis, out)
 }
 
 /// Adds a sweep over the cuts of short images, by each of the axes across and each down.
-pub fn tell_axes(alloc: Global, axes: &[Axis], told: &mut String) -> Result<(), Unmade> {
+pub fn write_axes(alloc: Global, axes: &[Axis], out: &mut String) -> Result<(), Unmade> {
     let mut sweep = Sweep::new();
     for across in axes {
         for down in axes {
@@ -90,7 +90,7 @@ pub fn tell_axes(alloc: Global, axes: &[Axis], told: &mut String) -> Result<(), 
             }
         }
     }
-    Ok(sweep.tell(told)?)
+    Ok(sweep.solve(out)?)
 }
 
 /// Returns the shape of an image of colours of `width` columns and `height` rows.

@@ -28,11 +28,11 @@ mod tasks;
 mod tools;
 
 use cuts::Axis;
-use pnm_test_support::{Teller, Unmade, named, tell_all, tell_change, tell_lines};
+use pnm_test_support::{Solver, Unmade, named, write_all, write_change, write_lines};
 use pnm_tools::{Tool, ToolFault};
 use std::alloc::{AllocError, Global};
 use steps::Step;
-use tasks::{Task, tell_at_work};
+use tasks::{Task, write_at_work};
 use tools::tool_of;
 
 /// What a line is about.
@@ -92,35 +92,35 @@ fn main(rt: HostRuntime) -> Result<(), Unmade> {
         tools: Vec::new(alloc),
         axes: Vec::new(alloc),
     };
-    tell_lines(&rt, &mut named)
+    write_lines(&rt, &mut named)
 }
 
-impl Teller for Named {
-    fn tell(
+impl Solver for Named {
+    fn solve(
         &mut self,
         alloc: Global,
         word: &[u8],
         text: &[u8],
-        told: &mut String,
+        out: &mut String,
     ) -> Result<(), Unmade> {
         match named(WORDS, word) {
-            Some(how) => tell(alloc, how, text, self, told),
+            Some(how) => solve(alloc, how, text, self, out),
             None => Err(Unmade),
         }
     }
 }
 
-fn tell(
+fn solve(
     alloc: Global,
     how: How,
     text: &[u8],
     named: &mut Named,
-    told: &mut String,
+    out: &mut String,
 ) -> Result<(), Unmade> {
     match how {
         How::Judge | How::Copy | How::Tool => {
             let tool = tool_of(alloc, text)?;
-            tell_tool(alloc, how, tool, named, told)
+            write_tool(alloc, how, tool, named, out)
         }
         How::None => {
             named.tools.clear();
@@ -128,28 +128,28 @@ fn tell(
         }
         How::Axis => {
             let axis = Axis::of(text);
-            cuts::tell_axis(alloc, axis, told)?;
+            cuts::write_axis(alloc, axis, out)?;
             Ok(named.axes.push(axis)?)
         }
-        How::Axes => cuts::tell_axes(alloc, named.axes.as_slice(), told),
-        How::Chain => chains::tell_chain(alloc, text, told),
-        How::Names => Ok(tell_names(text, told)?),
-        _ => tell_each(alloc, how, text, named.tools.as_slice(), told),
+        How::Axes => cuts::write_axes(alloc, named.axes.as_slice(), out),
+        How::Chain => chains::write_chain(alloc, text, out),
+        How::Names => Ok(write_names(text, out)?),
+        _ => write_each(alloc, how, text, named.tools.as_slice(), out),
     }
 }
 
 /// Adds whether a tool is lawful and row-wise, or the tool and its copy. Keeps the tool named if `how` is `Tool`.
-fn tell_tool(
+fn write_tool(
     alloc: Global,
     how: How,
     tool: Tool,
     named: &mut Named,
-    told: &mut String,
+    out: &mut String,
 ) -> Result<(), Unmade> {
     if matches!(how, How::Copy) {
-        return tools::tell_copy(alloc, &tool, told);
+        return tools::write_copy(alloc, &tool, out);
     }
-    tools::tell_judged(&tool, told)?;
+    tools::write_judged(&tool, out)?;
     if matches!(how, How::Tool) {
         named.tools.push(tool)?;
     }
@@ -157,51 +157,51 @@ fn tell_tool(
 }
 
 /// Adds what is told of each tool.
-fn tell_each(
+fn write_each(
     alloc: Global,
     how: How,
     text: &[u8],
     tools: &[Tool],
-    told: &mut String,
+    out: &mut String,
 ) -> Result<(), Unmade> {
     let mut before = String::new(alloc);
     for (number, tool) in tools.iter().enumerate() {
         let mut answers = String::new(alloc);
-        tell_of_tool(alloc, how, text, tool, &mut answers)?;
+        write_of_tool(alloc, how, text, tool, &mut answers)?;
         if tools.len() == 1 {
-            told.push_str(answers.as_str())?;
+            out.push_str(answers.as_str())?;
         } else {
-            tell_change(told, number, &mut before, answers)?;
+            write_change(out, number, &mut before, answers)?;
         }
     }
     Ok(())
 }
 
 /// Adds what is told of a tool.
-fn tell_of_tool(
+fn write_of_tool(
     alloc: Global,
     how: How,
     text: &[u8],
     tool: &Tool,
-    told: &mut String,
+    out: &mut String,
 ) -> Result<(), Unmade> {
     if !tool.is_lawful() {
-        return Ok(told.push_str(" unlawful")?);
+        return Ok(out.push_str(" unlawful")?);
     }
     match how {
-        How::Head => tools::tell_head_of(alloc, tool, text, told),
-        How::Lane => steps::tell_lane(alloc, tool, text, told),
-        How::Held => tell_at_work(alloc, tool, Task::Steps(text, Step::Widths, true), told),
-        How::Images => tell_at_work(alloc, tool, Task::Stream(text), told),
-        How::Types => sweeps::tell_types(alloc, tool, text, told),
-        _ => steps::tell_run(alloc, tool, text, told),
+        How::Head => tools::write_head_of(alloc, tool, text, out),
+        How::Lane => steps::write_lane(alloc, tool, text, out),
+        How::Held => write_at_work(alloc, tool, Task::Steps(text, Step::Widths, true), out),
+        How::Images => write_at_work(alloc, tool, Task::Stream(text), out),
+        How::Types => sweeps::write_types(alloc, tool, text, out),
+        _ => steps::write_run(alloc, tool, text, out),
     }
 }
 
 /// Adds the faults of the texts of chains, or of tools, as they are printed.
-fn tell_names(text: &[u8], told: &mut String) -> Result<(), AllocError> {
+fn write_names(text: &[u8], out: &mut String) -> Result<(), AllocError> {
     if text == b"chain".as_slice() {
-        return tell_all(told, chains::KINDS);
+        return write_all(out, chains::KINDS);
     }
-    tell_all(told, FAULTS)
+    write_all(out, FAULTS)
 }

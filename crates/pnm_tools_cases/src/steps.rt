@@ -4,11 +4,11 @@
 //! may come. Rows that a tool gives together are told one by one, except by `?`, which tells them between braces, as
 //! one answer.
 
-use super::tasks::{Task, tell_at_work};
+use super::tasks::{Task, write_at_work};
 use pnm_filters::{RowState, RowWise};
 use pnm_image::{Message, Packet, Rows};
 use pnm_test_support::{
-    Unmade, cut_at, cut_messages, rows_of, tell_each_row, tell_message, tell_packet, width_of,
+    Unmade, cut_at, cut_messages, rows_of, width_of, write_each_row, write_message, write_packet,
 };
 use pnm_tools::{Filter, Tool, ToolFault};
 use std::alloc::{AllocError, Global};
@@ -30,18 +30,18 @@ pub enum Step {
 }
 
 /// Adds what a tool gives by these steps, and what it gives if rows are held in few bits, if that is something else.
-pub fn tell_run(alloc: Global, tool: &Tool, text: &[u8], told: &mut String) -> Result<(), Unmade> {
+pub fn write_run(alloc: Global, tool: &Tool, text: &[u8], out: &mut String) -> Result<(), Unmade> {
     let mut narrow = String::new(alloc);
-    tell_at_work(alloc, tool, Task::Steps(text, Step::Passes, false), told)?;
-    tell_at_work(
+    write_at_work(alloc, tool, Task::Steps(text, Step::Passes, false), out)?;
+    write_at_work(
         alloc,
         tool,
         Task::Steps(text, Step::Passes, true),
         &mut narrow,
     )?;
-    if narrow.as_str() != told.as_str() {
-        told.push_str(" but narrow")?;
-        told.push_str(narrow.as_str())?;
+    if narrow.as_str() != out.as_str() {
+        out.push_str(" but narrow")?;
+        out.push_str(narrow.as_str())?;
     }
     Ok(())
 }
@@ -58,9 +58,9 @@ fn start_rows(alloc: Global, tool: &Tool) -> Result<RowState, Unmade> {
 }
 
 /// Adds what a row-wise tool gives in a lane.
-pub fn tell_lane(alloc: Global, tool: &Tool, text: &[u8], told: &mut String) -> Result<(), Unmade> {
+pub fn write_lane(alloc: Global, tool: &Tool, text: &[u8], out: &mut String) -> Result<(), Unmade> {
     let mut lane = start_rows(alloc, tool)?;
-    go_in_lane(alloc, &mut lane, text, told)
+    go_in_lane(alloc, &mut lane, text, out)
 }
 
 /// Adds what any row-wise filter gives in a lane.
@@ -68,9 +68,9 @@ fn go_in_lane<F: RowWise>(
     alloc: Global,
     lane: &mut F,
     text: &[u8],
-    told: &mut String,
+    out: &mut String,
 ) -> Result<(), Unmade> {
-    go(alloc, lane, text, Step::Passes, false, told)
+    go(alloc, lane, text, Step::Passes, false, out)
 }
 
 /// Adds what a filter gives by these steps. A message without a mark is passed on by `step`.
@@ -80,7 +80,7 @@ pub fn go<F: Filter>(
     text: &[u8],
     step: Step,
     is_narrow: bool,
-    told: &mut String,
+    out: &mut String,
 ) -> Result<(), Unmade> {
     let mut rest = text;
     for _ in 0..text.len() {
@@ -88,17 +88,17 @@ pub fn go<F: Filter>(
             None => break,
             Some((b' ', after)) => after,
             Some((b'?', after)) => {
-                tell_next(alloc, state, told)?;
+                write_next(alloc, state, out)?;
                 after
             }
             Some((b'{', after)) => {
                 let (together, after) = cut_at(after, b'}');
-                pass_together(alloc, state, together, told)?;
+                pass_together(alloc, state, together, out)?;
                 after
             }
             Some(_) => {
                 let (step, written) = cut_mark(rest, step);
-                pass(alloc, state, step, written, is_narrow, told)?
+                pass(alloc, state, step, written, is_narrow, out)?
             }
         };
     }
@@ -121,12 +121,12 @@ fn pass<'a, F: Filter>(
     step: Step,
     text: &'a [u8],
     is_narrow: bool,
-    told: &mut String,
+    out: &mut String,
 ) -> Result<&'a [u8], Unmade> {
     let mut messages = Vec::new(alloc);
     let rest = cut_messages(alloc, text, is_narrow, &mut messages)?;
     for message in messages {
-        pass_one(alloc, state, step, message, told)?;
+        pass_one(alloc, state, step, message, out)?;
     }
     Ok(rest)
 }
@@ -137,13 +137,13 @@ pub fn pass_one<F: Filter>(
     state: &mut F,
     step: Step,
     message: Message,
-    told: &mut String,
+    out: &mut String,
 ) -> Result<(), AllocError> {
     match state.feed(message) {
-        Ok(()) => take_all(alloc, state, step, told),
+        Ok(()) => take_all(alloc, state, step, out),
         Err(fault) => {
-            write!(told, " {fault}")?;
-            tell_stays(state, fault, told)
+            write!(out, " {fault}")?;
+            write_stays(state, fault, out)
         }
     }
 }
@@ -154,27 +154,27 @@ fn pass_together<F: Filter>(
     alloc: Global,
     state: &mut F,
     text: &[u8],
-    told: &mut String,
+    out: &mut String,
 ) -> Result<(), Unmade> {
     let fed = state.feed_rows(rows_of(alloc, text, true)?);
-    Ok(tell_fed(alloc, state, fed, told)?)
+    Ok(write_fed(alloc, state, fed, out)?)
 }
 
 /// Adds what the filter gives for rows that were fed together, or the fault. Passes on one by one the rows that it
 /// returned.
-fn tell_fed<F: Filter>(
+fn write_fed<F: Filter>(
     alloc: Global,
     state: &mut F,
     fed: Result<Result<(), ToolFault>, Rows>,
-    told: &mut String,
+    out: &mut String,
 ) -> Result<(), AllocError> {
     match fed {
-        Ok(Ok(())) => take_all(alloc, state, Step::Passes, told),
+        Ok(Ok(())) => take_all(alloc, state, Step::Passes, out),
         Ok(Err(fault)) => {
-            write!(told, " {fault}")?;
-            tell_stays(state, fault, told)
+            write!(out, " {fault}")?;
+            write_stays(state, fault, out)
         }
-        Err(rows) => pass_each(alloc, state, &rows, told),
+        Err(rows) => pass_each(alloc, state, &rows, out),
     }
 }
 
@@ -183,21 +183,21 @@ fn pass_each<F: Filter>(
     alloc: Global,
     state: &mut F,
     rows: &Rows,
-    told: &mut String,
+    out: &mut String,
 ) -> Result<(), AllocError> {
     for at in 0..rows.count() {
         let row = rows.row(alloc, at)?;
-        pass_one(alloc, state, Step::Passes, Message::Row(row), told)?;
+        pass_one(alloc, state, Step::Passes, Message::Row(row), out)?;
     }
     Ok(())
 }
 
 /// Adds the next answer.
-fn tell_next<F: Filter>(alloc: Global, state: &mut F, told: &mut String) -> Result<(), AllocError> {
+fn write_next<F: Filter>(alloc: Global, state: &mut F, out: &mut String) -> Result<(), AllocError> {
     match state.next() {
-        Ok(Some(packet)) => tell_packet(alloc, told, packet),
-        Ok(None) => told.push_str(" nothing"),
-        Err(fault) => write!(told, " {fault}"),
+        Ok(Some(packet)) => write_packet(alloc, out, packet),
+        Ok(None) => out.push_str(" nothing"),
+        Err(fault) => write!(out, " {fault}"),
     }
 }
 
@@ -206,53 +206,53 @@ fn take_all<F: Filter>(
     alloc: Global,
     state: &mut F,
     step: Step,
-    told: &mut String,
+    out: &mut String,
 ) -> Result<(), AllocError> {
     if matches!(step, Step::Takes) {
         return Ok(());
     }
     for _ in 0..MOST_ANSWERS {
         match state.next() {
-            Ok(Some(packet)) => tell_taken(alloc, step, packet, told)?,
+            Ok(Some(packet)) => write_taken(alloc, step, packet, out)?,
             Ok(None) => return Ok(()),
-            Err(fault) => return write!(told, " {fault}"),
+            Err(fault) => return write!(out, " {fault}"),
         }
     }
-    told.push_str(" and more")
+    out.push_str(" and more")
 }
 
 /// Adds what a step tells of a packet.
-fn tell_taken(
+fn write_taken(
     alloc: Global,
     step: Step,
     packet: Packet,
-    told: &mut String,
+    out: &mut String,
 ) -> Result<(), AllocError> {
     match (step, packet) {
-        (Step::Passes, Packet::Rows(rows)) => tell_each_row(alloc, told, &rows),
-        (Step::Widths, Packet::Rows(rows)) => tell_widths(&rows, told),
-        (Step::Passes, other) => tell_packet(alloc, told, other),
+        (Step::Passes, Packet::Rows(rows)) => write_each_row(alloc, out, &rows),
+        (Step::Widths, Packet::Rows(rows)) => write_widths(&rows, out),
+        (Step::Passes, other) => write_packet(alloc, out, other),
         _ => Ok(()),
     }
 }
 
 /// Adds how wide each of the rows is held.
-fn tell_widths(rows: &Rows, told: &mut String) -> Result<(), AllocError> {
+fn write_widths(rows: &Rows, out: &mut String) -> Result<(), AllocError> {
     for at in 0..rows.count() {
-        told.push_str(width_of(rows.row_slice(at)))?;
+        out.push_str(width_of(rows.row_slice(at)))?;
     }
     Ok(())
 }
 
 /// Adds words if the filter answers with anything but this fault.
-fn tell_stays<F: Filter>(
+fn write_stays<F: Filter>(
     state: &mut F,
     fault: ToolFault,
-    told: &mut String,
+    out: &mut String,
 ) -> Result<(), AllocError> {
     for number in 0..3 {
         if !is_fault(state.next(), fault) || state.feed(end_of(number)) != Err(fault) {
-            told.push_str(" and another answer")?;
+            out.push_str(" and another answer")?;
         }
     }
     Ok(())

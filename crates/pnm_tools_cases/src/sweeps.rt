@@ -79,20 +79,20 @@ pub fn feed_image<F: Filter>(
     state: &mut F,
     shape: Shape,
     sample_width: SampleWidth,
-    told: &mut String,
+    out: &mut String,
 ) -> Result<(), Unmade> {
     let tuple_type: &[u8] = if shape.kind == Kind::Pam { b"A B" } else { b"" };
     let head = head_of(alloc, shape, tuple_type)?;
-    pass_one(alloc, state, Step::Passes, Message::Begin(head), told)?;
-    if told.as_str().starts_with(" CutOutside") {
+    pass_one(alloc, state, Step::Passes, Message::Begin(head), out)?;
+    if out.as_str().starts_with(" CutOutside") {
         return Ok(());
     }
     for y in 0..shape.height {
         let row = row_of(alloc, shape, y)?;
         let row = held(alloc, row.as_slice(), sample_width)?;
-        pass_one(alloc, state, Step::Passes, Message::Row(row), told)?;
+        pass_one(alloc, state, Step::Passes, Message::Row(row), out)?;
     }
-    Ok(pass_one(alloc, state, Step::Passes, Message::ImageEnd, told)?)
+    Ok(pass_one(alloc, state, Step::Passes, Message::ImageEnd, out)?)
 }
 
 /// Adds what a tool at work gives for the end of the stream, if `is_ended` is true.
@@ -100,20 +100,20 @@ pub fn feed_end<F: Filter>(
     alloc: Global,
     state: &mut F,
     is_ended: bool,
-    told: &mut String,
+    out: &mut String,
 ) -> Result<(), Unmade> {
     if is_ended {
-        pass_one(alloc, state, Step::Passes, Message::StreamEnd, told)?;
+        pass_one(alloc, state, Step::Passes, Message::StreamEnd, out)?;
     }
     Ok(())
 }
 
 /// Adds a sweep of a tool at work over PAM images of these columns, rows and planes, one after another.
-pub fn tell_stream<F: Filter>(
+pub fn write_stream<F: Filter>(
     alloc: Global,
     state: &mut F,
     text: &[u8],
-    told: &mut String,
+    out: &mut String,
 ) -> Result<(), Unmade> {
     let mut sweep = Sweep::new();
     let mut rest = text;
@@ -127,8 +127,8 @@ pub fn tell_stream<F: Filter>(
         sweep.add(answers.as_str());
         rest = after;
     }
-    sweep.tell(told)?;
-    feed_end(alloc, state, true, told)
+    sweep.solve(out)?;
+    feed_end(alloc, state, true, out)
 }
 
 /// Returns the shape of an image with the columns, rows and planes that the text begins with, and what follows them.
@@ -147,11 +147,11 @@ fn cut_sizes(text: &[u8]) -> (Shape, &[u8]) {
 }
 
 /// Adds a sweep of a tool over images of these types, widths and heights.
-pub fn tell_types(
+pub fn write_types(
     alloc: Global,
     tool: &Tool,
     text: &[u8],
-    told: &mut String,
+    out: &mut String,
 ) -> Result<(), Unmade> {
     let (first_type, last_type, rest) = cut_pair(text);
     let (first_width, last_width, rest) = cut_pair(rest);
@@ -167,7 +167,7 @@ pub fn tell_types(
             }
         }
     }
-    Ok(sweep.tell(told)?)
+    Ok(sweep.solve(out)?)
 }
 
 /// Returns the task of a made image by itself.

@@ -20,18 +20,18 @@ pub enum Task<'a> {
 }
 
 impl Task<'_> {
-    fn tell<F: Filter>(
+    fn solve<F: Filter>(
         self,
         alloc: Global,
         state: &mut F,
-        told: &mut String,
+        out: &mut String,
     ) -> Result<(), Unmade> {
         match self {
-            Task::Steps(text, step, is_narrow) => go(alloc, state, text, step, is_narrow, told),
-            Task::Stream(text) => sweeps::tell_stream(alloc, state, text, told),
+            Task::Steps(text, step, is_narrow) => go(alloc, state, text, step, is_narrow, out),
+            Task::Stream(text) => sweeps::write_stream(alloc, state, text, out),
             Task::Image(shape, held, is_ended) => {
-                sweeps::feed_image(alloc, state, shape, held, told)?;
-                sweeps::feed_end(alloc, state, is_ended, told)
+                sweeps::feed_image(alloc, state, shape, held, out)?;
+                sweeps::feed_end(alloc, state, is_ended, out)
             }
         }
     }
@@ -49,14 +49,14 @@ fn start(alloc: Global, tool: &Tool) -> Result<ToolState, Unmade> {
 }
 
 /// Adds what a tool gives at its task.
-pub fn tell_at_work(
+pub fn write_at_work(
     alloc: Global,
     tool: &Tool,
     task: Task<'_>,
-    told: &mut String,
+    out: &mut String,
 ) -> Result<(), Unmade> {
     let mut state = start(alloc, tool)?;
-    task.tell(alloc, &mut state, told)
+    task.solve(alloc, &mut state, out)
 }
 
 /// Adds what a tool gives at its task to a sweep.
@@ -66,8 +66,8 @@ pub fn add_answers(
     tool: &Tool,
     task: Task<'_>,
 ) -> Result<(), Unmade> {
-    let mut told = String::new(alloc);
-    tell_at_work(alloc, tool, task, &mut told)?;
-    sweep.add(told.as_str());
+    let mut out = String::new(alloc);
+    write_at_work(alloc, tool, task, &mut out)?;
+    sweep.add(out.as_str());
     Ok(())
 }

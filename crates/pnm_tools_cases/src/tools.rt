@@ -5,7 +5,7 @@ use pnm_filters::result_head;
 use pnm_image::Head;
 use pnm_test_support::{
     Unmade, cut_at, cut_head, cut_number, cut_pair, cut_word, named, number_of, samples_of,
-    tell_head,
+    write_head,
 };
 use pnm_tools::{CutBox, FlipWay, Planes, Tool};
 use std::alloc::{AllocError, Global};
@@ -115,52 +115,52 @@ fn planes_of(alloc: Global, text: &[u8]) -> Result<Tool, Unmade> {
 }
 
 /// Adds whether a tool is lawful, and whether it is row-wise.
-pub fn tell_judged(tool: &Tool, told: &mut String) -> Result<(), AllocError> {
-    told.push_str(if tool.is_lawful() {
+pub fn write_judged(tool: &Tool, out: &mut String) -> Result<(), AllocError> {
+    out.push_str(if tool.is_lawful() {
         " lawful"
     } else {
         " unlawful"
     })?;
     if tool.is_row_wise() {
-        told.push_str(" row-wise")?;
+        out.push_str(" row-wise")?;
     }
     Ok(())
 }
 
 /// Adds a tool, and then its copy.
-pub fn tell_copy(alloc: Global, tool: &Tool, told: &mut String) -> Result<(), Unmade> {
-    write!(told, " {tool:?}")?;
+pub fn write_copy(alloc: Global, tool: &Tool, out: &mut String) -> Result<(), Unmade> {
+    write!(out, " {tool:?}")?;
     match tool.copy(alloc) {
-        Ok(copy) => write!(told, " {copy:?}")?,
-        Err(fault) => write!(told, " {fault}")?,
+        Ok(copy) => write!(out, " {copy:?}")?,
+        Err(fault) => write!(out, " {fault}")?,
     }
     Ok(())
 }
 
 /// Adds the head that a tool makes of a written one.
-pub fn tell_head_of(
+pub fn write_head_of(
     alloc: Global,
     tool: &Tool,
     text: &[u8],
-    told: &mut String,
+    out: &mut String,
 ) -> Result<(), Unmade> {
     let (head, _) = cut_head(alloc, text)?;
-    tell_made_head(alloc, tool, &head, told)
+    write_made_head(alloc, tool, &head, out)
 }
 
 /// Adds the head that a lawful tool makes of one, or its fault.
-pub fn tell_made_head(
+pub fn write_made_head(
     alloc: Global,
     tool: &Tool,
     head: &Head,
-    told: &mut String,
+    out: &mut String,
 ) -> Result<(), Unmade> {
     if !tool.is_lawful() {
         return Err(Unmade);
     }
     match result_head(alloc, tool, head) {
-        Ok(made) => tell_head(told, &made)?,
-        Err(fault) => write!(told, " {fault}")?,
+        Ok(made) => write_head(out, &made)?,
+        Err(fault) => write!(out, " {fault}")?,
     }
     Ok(())
 }

@@ -35,20 +35,20 @@ no_bytes Bytes = refl
 no_bytes Words = refl
 
 -- the bytes of rows of whole bytes are those of their samples in one row
-joined_bytes : (p : SampleWidth) (each : ℕ) (rows : List (List ℕ)) → AllByRecursion (λ row. length row ≡ each) rows → AreWholeBytes p each
+bytes_as_one : (p : SampleWidth) (each : ℕ) (rows : List (List ℕ)) → AllByRecursion (λ row. length row ≡ each) rows → AreWholeBytes p each
     → bytes_in p (concat rows) ≡ flat_map (bytes_in p) rows
-joined_bytes p each [] long whole = no_bytes p
-joined_bytes p each (row ∷ rows) long whole =
+bytes_as_one p each [] long whole = no_bytes p
+bytes_as_one p each (row ∷ rows) long whole =
     bytes_behind p row (concat rows) (subst (AreWholeBytes p) (sym long.0) whole)
-    ∙ ap (λ (l : List ℕ). bytes_in p row ++ l) (joined_bytes p each rows long.1 whole)
+    ∙ ap (λ (l : List ℕ). bytes_in p row ++ l) (bytes_as_one p each rows long.1 whole)
 
 lengths : (s : Shape) (rows : List (List ℕ)) → AllByRecursion (IsRowOf s) rows → AllByRecursion (λ row. length row ≡ row_length s) rows
 lengths s [] are = tt
 lengths s (row ∷ rows) are = (are.0.count, lengths s rows are.1)
 
-pub joined_rows : (s : Shape) (rows : List (List ℕ)) → AllByRecursion (IsRowOf s) rows → AreWholeBytes (sample_width_of s.kind s.maxval) (row_length s)
+pub rows_as_one : (s : Shape) (rows : List (List ℕ)) → AllByRecursion (IsRowOf s) rows → AreWholeBytes (sample_width_of s.kind s.maxval) (row_length s)
     → row_bytes Raw s (concat rows) ≡ rows_bytes Raw s rows
-joined_rows s rows are whole = joined_bytes (sample_width_of s.kind s.maxval) (row_length s) rows (lengths s rows are) whole
+rows_as_one s rows are whole = bytes_as_one (sample_width_of s.kind s.maxval) (row_length s) rows (lengths s rows are) whole
 
 -- the rows of a shape have its row length
 pub long_rows : (s : Shape) (rows : List (List ℕ)) → AllByRecursion (IsRowOf s) rows → All (λ row. length row ≡ row_length s) rows
@@ -60,6 +60,6 @@ range_of_rows s [] are = All-nil (λ sample. sample ≤ s.maxval)
 range_of_rows s (row ∷ rows) are = All-append (λ sample. sample ≤ s.maxval) row (concat rows) are.0.range (range_of_rows s rows are.1)
 
 -- samples that are cut into rows are all of these rows
-pub joined_of_cut : (each : ℕ) (samples : List ℕ) (rows : List (List ℕ)) → cut_rows (length rows) each samples ≡ rows → length samples ≡ length rows * each
+pub as_one_of_cut : (each : ℕ) (samples : List ℕ) (rows : List (List ℕ)) → cut_rows (length rows) each samples ≡ rows → length samples ≡ length rows * each
     → samples ≡ concat rows
-joined_of_cut each samples rows is whole = sym (concat-cut_rows (length rows) each samples whole) ∙ ap concat is
+as_one_of_cut each samples rows is whole = sym (concat-cut_rows (length rows) each samples whole) ∙ ap concat is

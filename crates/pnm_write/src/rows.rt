@@ -35,7 +35,7 @@ pub fn write_rows<W: BytesOut>(
 {
     let sample_width = SampleWidth::of(shape.kind, shape.maxval);
     if form == Form::Raw && has_whole_samples(sample_width) {
-        return write_joined(writer, buffer, shape, rows);
+        return write_as_one(writer, buffer, shape, rows);
     }
     match (form, sample_width, rows.as_slice()) {
         (Form::Raw, SampleWidth::Bits, RowSlice::Bits(bits)) => write_all(writer, bits.parts().0),
@@ -44,7 +44,7 @@ pub fn write_rows<W: BytesOut>(
 }
 
 /// Writes rows of samples of whole bytes in raw form, as one row if they are held so.
-fn write_joined<W: BytesOut>(
+fn write_as_one<W: BytesOut>(
     writer: &mut W,
     buffer: &mut WriteBuffer,
     shape: Shape,

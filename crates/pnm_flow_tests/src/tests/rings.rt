@@ -3,7 +3,7 @@
 
 use super::is_so;
 use pnm_flow::{Packet, Receiver, Sender, StageEnd, new_ring};
-use pnm_image::{Kind, Message, Rows};
+use pnm_image::{Kind, Message, Rows, Several};
 use pnm_test_support::{Handed, Part, handed_of, is_made_of, message};
 use std::alloc::Global;
 use std::process::Abort;
@@ -34,7 +34,7 @@ pub fn send_all(alloc: Global, output: &mut Sender, parts: &[Part<'_>]) -> bool 
     true
 }
 
-/// Whether the packet is a message that is made of this. Rows that came together are no message.
+/// Whether the packet is a message that is made of this. Rows that came together, or a whole image, are no message.
 pub fn is_one_of(packet: Packet, part: Part<'_>) -> bool {
     match packet.into_message() {
         Ok(message) => is_made_of(&message, part),
@@ -188,6 +188,7 @@ pub fn all_come(alloc: Global, input: &mut Receiver, parts: &[Part<'_>]) -> bool
 fn count_in(packet: &Packet) -> usize {
     match packet {
         Packet::Rows(rows) => rows.count() as usize,
+        Packet::Image(_, rows) => rows.count() as usize + 2,
         _ => 1,
     }
 }
@@ -196,19 +197,29 @@ fn count_in(packet: &Packet) -> usize {
 fn is_made_from(alloc: Global, packet: Packet, parts: &[Part<'_>], from: usize) -> bool {
     match packet.into_message() {
         Ok(message) => is_made_at(&message, parts, from),
-        Err(rows) => {
-            for at in 0..rows.count() {
-                let Ok(row) = rows.row(alloc, at) else {
-                    return false;
-                };
-                let place = from.saturating_add(at as usize);
-                if !is_made_at(&Message::Row(row), parts, place) {
-                    return false;
-                }
-            }
-            true
+        Err(Several::Rows(rows)) => are_made_from(alloc, &rows, parts, from),
+        Err(Several::Image(head, rows)) => {
+            let first = from.saturating_add(1);
+            let end = first.saturating_add(rows.count() as usize);
+            is_made_at(&Message::Begin(head), parts, from)
+                && are_made_from(alloc, &rows, parts, first)
+                && is_made_at(&Message::ImageEnd, parts, end)
         }
     }
+}
+
+/// Whether the rows are made of the parts from this one on.
+fn are_made_from(alloc: Global, rows: &Rows, parts: &[Part<'_>], from: usize) -> bool {
+    for at in 0..rows.count() {
+        let Ok(row) = rows.row(alloc, at) else {
+            return false;
+        };
+        let place = from.saturating_add(at as usize);
+        if !is_made_at(&Message::Row(row), parts, place) {
+            return false;
+        }
+    }
+    true
 }
 
 /// Whether the message is made of the part in this place.

@@ -1,13 +1,32 @@
 //! What a source answers to a text, and to each prefix of it.
 
-use super::reads::{Reading, tell_recorded};
+use super::reads::{Reading, write_recorded};
 use pnm_image::{BytesIn, Device, Message, Rows};
 use pnm_read::{InputFault, ReadBuffer, Source, SpareRows};
-use pnm_test_support::{Handed, tell_change, tell_message, tell_rows, width_of};
+use pnm_test_support::{width_of, write_change, write_message, write_rows};
 use std::alloc::{AllocError, Global};
 
 /// More answers than there are to any case.
 const MOST_ANSWERS: usize = 100_000;
+
+/// What a source is asked for before each message.
+#[derive(Clone, Copy)]
+pub enum First {
+    Nothing,
+    /// The next rows together (`next_rows`).
+    Rows,
+    /// The rows and the end of an image (`rest_of_image`).
+    Image,
+}
+
+/// What a source gives at once.
+#[derive(Drop)]
+enum Given {
+    Message(Message),
+    Rows(Rows),
+    /// All rows of an image, and its end.
+    Image(Rows),
+}
 
 /// A source over the reader, through a buffer of `size` bytes, 4,096 at least. If `size` is `None`, it makes its own.
 pub fn source_by<R: BytesIn + Drop>(
@@ -29,91 +48,105 @@ pub fn source_by<R: BytesIn + Drop>(
 }
 
 /// Adds all that a source answers up to its end, and a word if it doesn't stay there. Each row that was told becomes a
-/// spare one. If `are_joined`, the source is asked for rows together before each message; those that come together
-/// stand between braces.
-pub fn tell_answers<R: BytesIn>(
+/// spare one. The source is asked for `first` before each message. Rows that come together stand between braces, and
+/// behind them the end of their image, if it came with them.
+pub fn write_answers<R: BytesIn>(
     alloc: Global,
     source: &mut Source<R>,
-    are_joined: bool,
-    told: &mut String,
+    first: First,
+    out: &mut String,
 ) -> Result<(), AllocError> {
     let mut spares = SpareRows::new(alloc)?;
     for _ in 0..MOST_ANSWERS {
-        match next_of(source, are_joined, &mut spares) {
-            Ok(Some(handed)) => {
-                let is_end = matches!(&handed, Handed::Message(Message::StreamEnd));
-                tell_handed(alloc, handed, told, &mut spares)?;
+        match next_of(source, first, &mut spares) {
+            Ok(Some(given)) => {
+                let is_end = matches!(&given, Given::Message(Message::StreamEnd));
+                write_given(alloc, given, out, &mut spares)?;
                 if is_end {
-                    return tell_stays(source, None, told, &mut spares);
+                    return write_stays(source, None, out, &mut spares);
                 }
             }
-            Ok(None) => return told.push_str(" nothing"),
+            Ok(None) => return out.push_str(" nothing"),
             Err(fault) => {
-                write!(told, " {fault}")?;
-                return tell_stays(source, Some(fault), told, &mut spares);
+                write!(out, " {fault}")?;
+                return write_stays(source, Some(fault), out, &mut spares);
             }
         }
     }
-    told.push_str(" and more")
+    out.push_str(" and more")
 }
 
-/// The next message, or rows that come together, if these are asked for first.
+/// What the source gives next, if it is asked for `first` before the next message.
 fn next_of<R: BytesIn>(
     source: &mut Source<R>,
-    are_joined: bool,
+    first: First,
     spares: &mut SpareRows,
-) -> Result<Option<Handed>, InputFault> {
-    if are_joined {
-        if let Some(rows) = source.next_rows(spares)? {
-            return Ok(Some(Handed::Rows(rows)));
-        }
-    }
-    match source.next(spares)? {
-        Some(message) => Ok(Some(Handed::Message(message))),
-        None => Ok(None),
+) -> Result<Option<Given>, InputFault> {
+    let together = match first {
+        First::Nothing => None,
+        First::Rows => source.next_rows(spares)?.map(Given::Rows),
+        First::Image => source.rest_of_image(spares).map(Given::Image),
+    };
+    match together {
+        Some(given) => Ok(Some(given)),
+        None => Ok(source.next(spares)?.map(Given::Message)),
     }
 }
 
-/// Adds a message, or rows between braces, and drops them; a row becomes a spare one.
-fn tell_handed(
+/// Adds what was given, rows that came together between braces, and drops it; rows become spare ones.
+fn write_given(
     alloc: Global,
-    handed: Handed,
-    told: &mut String,
+    given: Given,
+    out: &mut String,
     spares: &mut SpareRows,
 ) -> Result<(), AllocError> {
-    match handed {
-        Handed::Rows(rows) => {
-            let outcome = tell_rows(alloc, told, &rows);
-            spares.keep_rows(rows);
+    match given {
+        Given::Message(message) => {
+            let outcome = write_message(out, &message);
+            recycle(message, spares);
             outcome
         }
-        Handed::Message(message) => {
-            let outcome = tell_message(told, &message);
-            let_go(message, spares);
-            outcome
+        Given::Rows(rows) => write_together(alloc, rows, out, spares),
+        Given::Image(rows) => {
+            write_together(alloc, rows, out, spares)?;
+            write_message(out, &Message::ImageEnd)
         }
     }
+}
+
+/// Adds rows between braces; they become spare ones.
+fn write_together(
+    alloc: Global,
+    rows: Rows,
+    out: &mut String,
+    spares: &mut SpareRows,
+) -> Result<(), AllocError> {
+    let outcome = write_rows(alloc, out, &rows);
+    spares.keep_rows(rows);
+    outcome
 }
 
 /// Drops the message; a row becomes a spare one.
-fn let_go(message: Message, spares: &mut SpareRows) {
+fn recycle(message: Message, spares: &mut SpareRows) {
     match message {
         Message::Row(row) => spares.keep(row),
         other => drop(other),
     }
 }
 
-/// Adds a word if rows come, or if the source answers anything but the fault, or anything but `None` if there is no
-/// fault.
-fn tell_stays<R: BytesIn>(
+/// Adds a word if rows or an image come, or if the source answers anything but the fault, or anything but `None` if
+/// there is no fault.
+fn write_stays<R: BytesIn>(
     source: &mut Source<R>,
     fault: Option<InputFault>,
-    told: &mut String,
+    out: &mut String,
     spares: &mut SpareRows,
 ) -> Result<(), AllocError> {
     for _ in 0..3 {
-        if have_come(source.next_rows(spares)) || !is_same(source.next(spares), fault) {
-            told.push_str(" and another answer")?;
+        let have_come = have_come(source.next_rows(spares))
+            || source.rest_of_image(spares).is_some();
+        if have_come || !is_same(source.next(spares), fault) {
+            out.push_str(" and another answer")?;
         }
     }
     Ok(())
@@ -133,16 +166,16 @@ fn is_same(answer: Result<Option<Message>, InputFault>, fault: Option<InputFault
 }
 
 /// Adds the answers to a text that comes at once.
-pub fn tell_whole(alloc: Global, text: &[u8], told: &mut String) -> Result<(), AllocError> {
+pub fn write_whole(alloc: Global, text: &[u8], out: &mut String) -> Result<(), AllocError> {
     let mut source = source_by(alloc, None, Device::new(text))?;
-    tell_answers(alloc, &mut source, false, told)
+    write_answers(alloc, &mut source, First::Nothing, out)
 }
 
 /// Whether the answers are `whole` if a read gives up to `most` bytes, and no read follows one that gave none.
 fn are_told_by(alloc: Global, text: &[u8], most: usize, whole: &str) -> Result<bool, AllocError> {
-    let mut told = String::new(alloc);
-    let calls = tell_recorded(alloc, Reading::of(text, most), &mut told)?;
-    Ok(told.as_str() == whole && !is_read_on(calls.as_slice()))
+    let mut out = String::new(alloc);
+    let calls = write_recorded(alloc, Reading::of(text, most), &mut out)?;
+    Ok(out.as_str() == whole && !is_read_on(calls.as_slice()))
 }
 
 /// Whether a read follows one that got no byte.
@@ -159,36 +192,36 @@ fn is_read_on(calls: &[(usize, usize)]) -> bool {
 
 /// Adds the answers to a text. Of the numbers of bytes a read in `few`, adds those at which the answers differ, or at
 /// which the source reads on after the end of the text.
-pub fn tell_text(
+pub fn write_text(
     alloc: Global,
     text: &[u8],
     few: &[usize],
-    told: &mut String,
+    out: &mut String,
 ) -> Result<(), AllocError> {
-    tell_whole(alloc, text, told)?;
+    write_whole(alloc, text, out)?;
     for most in few {
-        if !are_told_by(alloc, text, *most, told.as_str())? {
-            write!(told, " but {most}")?;
+        if !are_told_by(alloc, text, *most, out.as_str())? {
+            write!(out, " but {most}")?;
         }
     }
     Ok(())
 }
 
 /// Adds the answers to each prefix of a text, at a byte a read, too, by the length from which on they stay the same.
-pub fn tell_cuts(alloc: Global, text: &[u8], told: &mut String) -> Result<(), AllocError> {
+pub fn write_cuts(alloc: Global, text: &[u8], out: &mut String) -> Result<(), AllocError> {
     let mut before = String::new(alloc);
     for length in 0..=text.len() {
         let mut answers = String::new(alloc);
-        tell_text(alloc, &text[..length], &[1], &mut answers)?;
-        tell_change(told, length, &mut before, answers)?;
+        write_text(alloc, &text[..length], &[1], &mut answers)?;
+        write_change(out, length, &mut before, answers)?;
     }
     Ok(())
 }
 
 /// Adds how the samples of a text's first row are held.
-pub fn tell_width(alloc: Global, text: &[u8], told: &mut String) -> Result<(), AllocError> {
+pub fn write_width(alloc: Global, text: &[u8], out: &mut String) -> Result<(), AllocError> {
     let mut source = source_by(alloc, None, Device::new(text))?;
-    told.push_str(first_width(alloc, &mut source))
+    out.push_str(first_width(alloc, &mut source))
 }
 
 /// How the samples of the first row are held.

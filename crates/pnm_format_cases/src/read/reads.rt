@@ -1,10 +1,10 @@
 //! When a source reads, how much it asks for, and what it answers if a read fails.
 
 use super::How;
-use super::answers::{source_by, tell_answers};
+use super::answers::{First, source_by, write_answers};
 use pnm_image::Device;
 use pnm_read::SpareRows;
-use pnm_test_support::{Drips, FailsOnce, Recorded, cut_number, cut_pair, tell_change};
+use pnm_test_support::{Drips, FailsOnce, Recorded, cut_number, cut_pair, write_change};
 use std::alloc::{AllocError, Global};
 
 /// How many bytes a read may give when the source tells what it holds.
@@ -20,8 +20,8 @@ pub struct Reading<'a> {
     failing: usize,
     /// How many bytes the buffer has; `None` if the source makes its own.
     size: Option<usize>,
-    /// Whether the source is asked for rows together.
-    are_joined: bool,
+    /// What the source is asked for before each message.
+    first: First,
 }
 
 impl<'a> Reading<'a> {
@@ -32,7 +32,7 @@ impl<'a> Reading<'a> {
             most,
             failing: 0,
             size: None,
-            are_joined: false,
+            first: First::Nothing,
         }
     }
 }
@@ -46,87 +46,91 @@ fn failing_at(number: usize) -> FailsOnce {
 }
 
 /// Adds the answers to a text. Returns what each read asked for and got.
-pub fn tell_recorded(
+pub fn write_recorded(
     alloc: Global,
     reading: Reading<'_>,
-    told: &mut String,
+    out: &mut String,
 ) -> Result<Vec<(usize, usize)>, AllocError> {
     let drips = Drips::new(reading.text, reading.most, failing_at(reading.failing));
     let mut reader = Recorded::new(alloc, drips);
     let mut source = source_by(alloc, reading.size, Device::new(&mut reader))?;
-    tell_answers(alloc, &mut source, reading.are_joined, told)?;
+    write_answers(alloc, &mut source, reading.first, out)?;
     let _ = source.into_reader();
     Vec::from_slice(alloc, reader.calls())
 }
 
-/// Adds the answers to a text, and what each read asked for and got, unless rows are asked for together. The line says
+/// Adds the answers to a text, and what each read asked for and got, unless rows or images are asked for. The line says
 /// how many bytes a read gives at most, and which read fails, counted from 1. If `how` says so, the line begins with
 /// the size of the buffer that the source reads through.
-pub fn tell_reads(
+pub fn write_reads(
     alloc: Global,
     how: How,
     line: &[u8],
-    told: &mut String,
+    out: &mut String,
 ) -> Result<(), AllocError> {
     let (size, rest) = match how {
-        How::ReadsBy | How::JoinsBy => {
+        How::ReadsBy | How::TogetherBy | How::WholeBy => {
             let (size, rest) = cut_number(line);
             (Some(size), rest)
         }
         _ => (None, line),
     };
     let (most, failing, text) = cut_pair(rest);
-    let are_joined = matches!(how, How::Joins | How::JoinsBy);
+    let first = match how {
+        How::Together | How::TogetherBy => First::Rows,
+        How::Whole | How::WholeBy => First::Image,
+        _ => First::Nothing,
+    };
     let reading = Reading {
         text,
         most,
         failing,
         size,
-        are_joined,
+        first,
     };
-    let calls = tell_recorded(alloc, reading, told)?;
-    if are_joined {
-        return Ok(());
+    let calls = write_recorded(alloc, reading, out)?;
+    match first {
+        First::Nothing => write_calls(calls.as_slice(), out),
+        First::Rows | First::Image => Ok(()),
     }
-    tell_calls(calls.as_slice(), told)
 }
 
 /// Adds what each read asked for and got.
-fn tell_calls(calls: &[(usize, usize)], told: &mut String) -> Result<(), AllocError> {
-    told.push_str(" by")?;
+fn write_calls(calls: &[(usize, usize)], out: &mut String) -> Result<(), AllocError> {
+    out.push_str(" by")?;
     for (asked, got) in calls {
-        write!(told, " {asked}:{got}")?;
+        write!(out, " {asked}:{got}")?;
     }
     Ok(())
 }
 
 /// Adds the answers if the read of a byte after the first 0, 1, 2 and so on fails, by the number from which on they are
 /// those. Adds `but` and the number if the source made more or fewer reads than these and the failing one.
-pub fn tell_fails(alloc: Global, text: &[u8], told: &mut String) -> Result<(), AllocError> {
+pub fn write_fails(alloc: Global, text: &[u8], out: &mut String) -> Result<(), AllocError> {
     let mut before = String::new(alloc);
     for read in 0..=text.len() {
         let mut answers = String::new(alloc);
-        let calls = tell_failing(alloc, text, read, &mut answers)?;
+        let calls = write_failing(alloc, text, read, &mut answers)?;
         if calls != read + 1 {
-            write!(told, " but {read}")?;
+            write!(out, " but {read}")?;
         }
-        tell_change(told, read, &mut before, answers)?;
+        write_change(out, read, &mut before, answers)?;
     }
     Ok(())
 }
 
 /// Adds the answers if the read of a byte after the first `before` fails. Returns how many reads there were.
-fn tell_failing(
+fn write_failing(
     alloc: Global,
     text: &[u8],
     before: usize,
-    told: &mut String,
+    out: &mut String,
 ) -> Result<usize, AllocError> {
     let reading = Reading {
         failing: before.saturating_add(1),
         ..Reading::of(text, 1)
     };
-    let calls = tell_recorded(alloc, reading, told)?;
+    let calls = write_recorded(alloc, reading, out)?;
     Ok(calls.len())
 }
 
@@ -150,17 +154,17 @@ fn reads_of(
 }
 
 /// Adds how many reads of a byte each were made at first, and after each answer, up to the number in the line.
-pub fn tell_ahead(alloc: Global, line: &[u8], told: &mut String) -> Result<(), AllocError> {
+pub fn write_ahead(alloc: Global, line: &[u8], out: &mut String) -> Result<(), AllocError> {
     let (count, text) = cut_number(line);
     for asked in 0..=count {
         let (reads, _) = reads_of(alloc, text, 1, asked)?;
-        write!(told, " {reads}")?;
+        write!(out, " {reads}")?;
     }
     Ok(())
 }
 
 /// Adds, for each number of bytes a read, for how many answers the source rightly told whether it would make a read.
-pub fn tell_held(alloc: Global, line: &[u8], told: &mut String) -> Result<(), AllocError> {
+pub fn write_held(alloc: Global, line: &[u8], out: &mut String) -> Result<(), AllocError> {
     let (count, text) = cut_number(line);
     for most in FEW {
         let mut right = 0usize;
@@ -171,7 +175,7 @@ pub fn tell_held(alloc: Global, line: &[u8], told: &mut String) -> Result<(), Al
                 right = right.saturating_add(1);
             }
         }
-        write!(told, " {right}")?;
+        write!(out, " {right}")?;
     }
     Ok(())
 }

@@ -16,7 +16,7 @@ enum Pairs {
 }
 
 /// Adds the texts one after another.
-fn add_joined(alloc: Global, sweep: &mut Sweep, texts: &[&[u8]]) -> Result<(), AllocError> {
+fn add_together(alloc: Global, sweep: &mut Sweep, texts: &[&[u8]]) -> Result<(), AllocError> {
     let mut whole = Vec::new(alloc);
     for text in texts {
         whole.extend_from_slice(text)?;
@@ -26,23 +26,23 @@ fn add_joined(alloc: Global, sweep: &mut Sweep, texts: &[&[u8]]) -> Result<(), A
 
 /// Adds what is answered to two of the images, the second one whole or cut, to two with a byte between them, and to
 /// three.
-pub fn tell_streams(
+pub fn write_streams(
     alloc: Global,
     images: &[Vec<u8>],
-    told: &mut String,
+    out: &mut String,
 ) -> Result<(), AllocError> {
     for pairs in [Pairs::Cut, Pairs::Parted, Pairs::Followed] {
-        tell_pairs(alloc, pairs, images, told)?;
+        write_pairs(alloc, pairs, images, out)?;
     }
     Ok(())
 }
 
 /// Adds what is answered to each two of the images.
-fn tell_pairs(
+fn write_pairs(
     alloc: Global,
     pairs: Pairs,
     images: &[Vec<u8>],
-    told: &mut String,
+    out: &mut String,
 ) -> Result<(), AllocError> {
     let mut sweep = Sweep::new();
     for first in images {
@@ -55,7 +55,7 @@ fn tell_pairs(
             }
         }
     }
-    sweep.tell(told)
+    sweep.solve(out)
 }
 
 /// Adds an image with each prefix of another after it.
@@ -66,7 +66,7 @@ fn add_cuts(
     second: &[u8],
 ) -> Result<(), AllocError> {
     for length in 0..=second.len() {
-        add_joined(alloc, sweep, &[first, &second[..length]])?;
+        add_together(alloc, sweep, &[first, &second[..length]])?;
     }
     Ok(())
 }
@@ -90,23 +90,23 @@ fn add_followed(
     images: &[Vec<u8>],
 ) -> Result<(), AllocError> {
     for third in images {
-        add_joined(alloc, sweep, &[pair[0], pair[1], third.as_slice()])?;
+        add_together(alloc, sweep, &[pair[0], pair[1], third.as_slice()])?;
     }
     Ok(())
 }
 
 /// Adds what is answered to a text after each of the images, and after each twice.
-pub fn tell_after(
+pub fn write_after(
     alloc: Global,
     images: &[Vec<u8>],
     text: &[u8],
-    told: &mut String,
+    out: &mut String,
 ) -> Result<(), AllocError> {
     let mut sweep = Sweep::new();
     for image in images {
         let image = image.as_slice();
-        add_joined(alloc, &mut sweep, &[image, text])?;
-        add_joined(alloc, &mut sweep, &[image, image, text])?;
+        add_together(alloc, &mut sweep, &[image, text])?;
+        add_together(alloc, &mut sweep, &[image, image, text])?;
     }
-    sweep.tell(told)
+    sweep.solve(out)
 }

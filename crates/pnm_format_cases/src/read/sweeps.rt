@@ -1,6 +1,6 @@
 //! What a source answers to many texts that differ a little: how many they are, and the CRC-32 of the answers.
 
-use super::answers::tell_whole;
+use super::answers::write_whole;
 use pnm_test_support::{Sweep, cut_word, named};
 use std::alloc::{AllocError, Global};
 
@@ -16,7 +16,7 @@ const SETS: &[(&[u8], &[u8])] = &[(b"telling", TELLING), (b"plain", PLAIN)];
 /// Adds the answers to a text.
 pub fn add_text(alloc: Global, sweep: &mut Sweep, text: &[u8]) -> Result<(), AllocError> {
     let mut answers = String::new(alloc);
-    tell_whole(alloc, text, &mut answers)?;
+    write_whole(alloc, text, &mut answers)?;
     sweep.add(answers.as_str());
     Ok(())
 }
@@ -31,11 +31,11 @@ pub fn set_of(alloc: Global, word: &[u8]) -> Result<Vec<u8>, AllocError> {
 
 /// Adds the answers to a text with `replaced` of its bytes replaced by each byte of a set, at every place: if
 /// `replaced` is 1, in place of each byte; if it is 0, before each byte and after the last.
-pub fn tell_sweep(
+pub fn write_sweep(
     alloc: Global,
     line: &[u8],
     replaced: usize,
-    told: &mut String,
+    out: &mut String,
 ) -> Result<(), AllocError> {
     let (word, text) = cut_word(line);
     let set = set_of(alloc, word)?;
@@ -45,7 +45,7 @@ pub fn tell_sweep(
         let suffix = rest.get(replaced..).unwrap_or(&[]);
         add_each(alloc, &mut sweep, set.as_slice(), prefix, suffix)?;
     }
-    sweep.tell(told)
+    sweep.solve(out)
 }
 
 /// Adds the prefix and the suffix with each of these bytes between them.

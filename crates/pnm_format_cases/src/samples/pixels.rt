@@ -3,21 +3,21 @@
 use super::How;
 use super::made::{bits_of, packed};
 use pnm_samples::{BitRows, Bits, PixelRows, columns};
-use pnm_test_support::{Unmade, cut_number, tell_text};
+use pnm_test_support::{Unmade, cut_number, write_text};
 use std::alloc::{AllocError, Global};
 
 /// Adds how many pixels a row has, each of them, and its bytes; and a word if the pixels differ when they are widened.
-fn tell_row(alloc: Global, bits: &Bits, told: &mut String) -> Result<(), AllocError> {
+fn write_row(alloc: Global, bits: &Bits, out: &mut String) -> Result<(), AllocError> {
     let count = bits.len();
-    write!(told, " {count} ")?;
+    write!(out, " {count} ")?;
     for at in 0..bits.len() {
         let pixel = bits.pixel(at);
-        write!(told, "{pixel}")?;
+        write!(out, "{pixel}")?;
     }
     if !are_widened(alloc, bits)? {
-        told.push_str(" but widened")?;
+        out.push_str(" but widened")?;
     }
-    tell_text(told, bits.as_bytes())
+    write_text(out, bits.as_bytes())
 }
 
 /// Whether the pixels stay the same when they are widened.
@@ -32,22 +32,22 @@ fn are_widened(alloc: Global, bits: &Bits) -> Result<bool, AllocError> {
 }
 
 /// Adds what the row of COUNT pixels of BYTES holds, and what an empty one holds.
-pub fn tell_bits_of(alloc: Global, text: &[u8], told: &mut String) -> Result<(), Unmade> {
+pub fn write_bits_of(alloc: Global, text: &[u8], out: &mut String) -> Result<(), Unmade> {
     let (count, bytes) = cut_number(text);
     let bits = Bits::new(Vec::from_slice(alloc, bytes)?, count);
-    tell_row(alloc, &bits, told)?;
-    Ok(tell_row(alloc, &Bits::empty(alloc), told)?)
+    write_row(alloc, &bits, out)?;
+    Ok(write_row(alloc, &Bits::empty(alloc), out)?)
 }
 
 /// Adds what the row that is made of these numbers holds.
-pub fn tell_made(
+pub fn write_made(
     alloc: Global,
     how: How,
     numbers: (usize, usize, usize),
-    told: &mut String,
+    out: &mut String,
 ) -> Result<(), AllocError> {
     let bits = row_of(alloc, how, numbers)?;
-    tell_row(alloc, &bits, told)
+    write_row(alloc, &bits, out)
 }
 
 /// The row that is made of these numbers: of `count` pixels unless a comment says otherwise.
@@ -120,23 +120,23 @@ fn columns_of(
 }
 
 /// Adds what `count` columns of an image of this height hold, from byte `byte` on.
-pub fn tell_columns(
+pub fn write_columns(
     alloc: Global,
     byte: usize,
     count: usize,
     height: usize,
-    told: &mut String,
+    out: &mut String,
 ) -> Result<(), Unmade> {
     let columns = columns_of(alloc, byte, count, height)?;
     for column in columns.as_slice() {
-        tell_column(column, told)?;
+        write_column(column, out)?;
     }
     Ok(())
 }
 
 /// Adds how many pixels a column has, and its bytes.
-fn tell_column(column: &Bits, told: &mut String) -> Result<(), AllocError> {
+fn write_column(column: &Bits, out: &mut String) -> Result<(), AllocError> {
     let count = column.len();
-    write!(told, " {count}")?;
-    tell_text(told, column.as_bytes())
+    write!(out, " {count}")?;
+    write_text(out, column.as_bytes())
 }

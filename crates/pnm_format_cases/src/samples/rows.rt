@@ -3,7 +3,7 @@
 use super::made::bits_of;
 use pnm_image::SampleWidth;
 use pnm_samples::{SampleSlice, SampleVec, Samples};
-use pnm_test_support::{Unmade, held, named, tell_all};
+use pnm_test_support::{Unmade, held, named, write_all};
 use std::alloc::{AllocError, Global};
 
 /// How many samples the row has whose parts are copied.
@@ -46,61 +46,61 @@ fn counted(
 }
 
 /// Adds how a row is held, and how many samples it has.
-fn tell_width(row: &Samples, told: &mut String) -> Result<(), AllocError> {
+fn write_width(row: &Samples, out: &mut String) -> Result<(), AllocError> {
     let (name, count) = match row.as_slice() {
         SampleSlice::Bits(_, count) => ("bits", count),
         SampleSlice::Bytes(bytes) => ("bytes", bytes.len()),
         SampleSlice::Words(words) => ("words", words.len()),
     };
-    write!(told, " {name} {count}")
+    write!(out, " {name} {count}")
 }
 
 /// Adds how a row is held, and its samples one by one.
-fn tell_held(row: &Samples, told: &mut String) -> Result<(), AllocError> {
-    tell_width(row, told)?;
+fn write_held(row: &Samples, out: &mut String) -> Result<(), AllocError> {
+    write_width(row, out)?;
     for at in 0..row.len() {
         let sample = row.sample(at);
-        write!(told, " {sample}")?;
+        write!(out, " {sample}")?;
     }
     Ok(())
 }
 
 /// Adds a row: how it is held, its samples one by one, and all at once; the same of its copy; and of what it is made
 /// of.
-pub fn tell_made(
+pub fn write_made(
     alloc: Global,
     word: &[u8],
     count: usize,
-    told: &mut String,
+    out: &mut String,
 ) -> Result<(), Unmade> {
     let row = made(alloc, word, count)?;
-    tell_held(&row, told)?;
-    tell_words(row.to_words(alloc), told)?;
-    tell_copy(alloc, row.copy(alloc)?, told)?;
-    tell_words(Samples::from_vec(row.into_vec()).into_words(alloc), told)
+    write_held(&row, out)?;
+    write_words(row.to_words(alloc), out)?;
+    write_copy(alloc, row.copy(alloc)?, out)?;
+    write_words(Samples::from_vec(row.into_vec()).into_words(alloc), out)
 }
 
 /// Adds how the copy of a row is held, and all its samples at once.
-fn tell_copy(alloc: Global, copy: Samples, told: &mut String) -> Result<(), Unmade> {
-    tell_width(&copy, told)?;
-    tell_words(copy.into_words(alloc), told)
+fn write_copy(alloc: Global, copy: Samples, out: &mut String) -> Result<(), Unmade> {
+    write_width(&copy, out)?;
+    write_words(copy.into_words(alloc), out)
 }
 
 /// Adds samples.
-fn tell_words(words: Result<Vec<u16>, AllocError>, told: &mut String) -> Result<(), Unmade> {
+fn write_words(words: Result<Vec<u16>, AllocError>, out: &mut String) -> Result<(), Unmade> {
     match words {
-        Ok(words) => Ok(tell_all(told, words.as_slice())?),
+        Ok(words) => Ok(write_all(out, words.as_slice())?),
         Err(_) => Err(Unmade),
     }
 }
 
 /// Adds `count` samples of a row of 20, from sample `start` on.
-pub fn tell_part(
+pub fn write_part(
     alloc: Global,
     word: &[u8],
     start: usize,
     count: usize,
-    told: &mut String,
+    out: &mut String,
 ) -> Result<(), Unmade> {
     let row = made(alloc, word, WHOLE)?;
     let mut buffer = [7; WHOLE];
@@ -109,5 +109,5 @@ pub fn tell_part(
     }
     let part = &mut buffer[..count];
     row.as_slice().copy_to(start, &mut *part);
-    Ok(tell_all(told, part)?)
+    Ok(write_all(out, part)?)
 }

@@ -6,12 +6,12 @@ use std::alloc::Global;
 
 /// Adds a sweep over up to three ranges of numbers, of which one that isn't written is 0 alone. Of `new` the second one
 /// tells a row from its copy.
-pub fn tell_sweep(
+pub fn write_sweep(
     alloc: Global,
     how: How,
     kind: &[u8],
     ranges: &[u8],
-    told: &mut String,
+    out: &mut String,
 ) -> Result<(), Unmade> {
     let (first_a, last_a, rest) = cut_pair(ranges);
     let (first_b, last_b, rest) = match how {
@@ -27,7 +27,7 @@ pub fn tell_sweep(
             }
         }
     }
-    Ok(sweep.tell(told)?)
+    Ok(sweep.solve(out)?)
 }
 
 /// Adds what comes of these numbers, if they make a case.
@@ -38,17 +38,17 @@ fn add_case(
     (a, b, c): (usize, usize, usize),
     sweep: &mut Sweep,
 ) -> Result<(), Unmade> {
-    let mut told = String::new(alloc);
+    let mut out = String::new(alloc);
     match how {
         How::Columns => {
             let (byte, _) = cut_number(kind);
-            pixels::tell_columns(alloc, byte, a, b, &mut told)?;
+            pixels::write_columns(alloc, byte, a, b, &mut out)?;
         }
-        How::Samples => rows::tell_made(alloc, kind, a, &mut told)?,
+        How::Samples => rows::write_made(alloc, kind, a, &mut out)?,
         How::Parts if a.saturating_add(b) > rows::WHOLE => return Ok(()),
-        How::Parts => rows::tell_part(alloc, kind, a, b, &mut told)?,
-        _ => pixels::tell_made(alloc, how, (a, b, c), &mut told)?,
+        How::Parts => rows::write_part(alloc, kind, a, b, &mut out)?,
+        _ => pixels::write_made(alloc, how, (a, b, c), &mut out)?,
     }
-    sweep.add(told.as_str());
+    sweep.add(out.as_str());
     Ok(())
 }

@@ -1,9 +1,9 @@
 //! Plain images of one made row, of many widths.
 
-use super::sinks::tell_stream;
+use super::sinks::write_stream;
 use pnm_image::{Device, Kind, Message, SampleWidth, Shape};
 use pnm_test_support::{
-    Handed, Sweep, Unmade, cut_number, cut_pair, cut_word, head_of, held, number_of, tell_text,
+    Handed, Sweep, Unmade, cut_number, cut_pair, cut_word, head_of, held, number_of, write_text,
 };
 use pnm_write::Form;
 use std::alloc::{AllocError, Global};
@@ -43,17 +43,17 @@ fn pixels_of(alloc: Global, width: usize, first: u8) -> Result<Vec<u16>, AllocEr
 }
 
 /// Adds a sweep over rows of numbers of these widths and shifts: of grays, or of colours.
-pub fn tell_numbers(alloc: Global, text: &[u8], told: &mut String) -> Result<(), Unmade> {
+pub fn write_numbers(alloc: Global, text: &[u8], out: &mut String) -> Result<(), Unmade> {
     let (word, rest) = cut_word(text);
     if word == b"Color".as_slice() {
-        return tell_sweep(alloc, Kind::Color, rest, told);
+        return write_sweep(alloc, Kind::Color, rest, out);
     }
-    tell_sweep(alloc, Kind::Gray, rest, told)
+    write_sweep(alloc, Kind::Gray, rest, out)
 }
 
 /// Adds a sweep over rows of these widths: of pixels of bytes from this one on; or of numbers up to this one, and of
 /// these shifts.
-pub fn tell_sweep(alloc: Global, kind: Kind, text: &[u8], told: &mut String) -> Result<(), Unmade> {
+pub fn write_sweep(alloc: Global, kind: Kind, text: &[u8], out: &mut String) -> Result<(), Unmade> {
     let (number, rest) = cut_number(text);
     let (first_width, last_width, rest) = cut_pair(rest);
     let (first_shift, last_shift, _) = cut_pair(rest);
@@ -63,7 +63,7 @@ pub fn tell_sweep(alloc: Global, kind: Kind, text: &[u8], told: &mut String) -> 
             add_images(alloc, &mut sweep, kind, number, width, shift)?;
         }
     }
-    Ok(sweep.tell(told)?)
+    Ok(sweep.solve(out)?)
 }
 
 /// Adds images of a row, however it is held: as bits if it has pixels, as bytes if it fits in bytes, and as words.
@@ -117,11 +117,11 @@ fn add_image(
     sample_width: SampleWidth,
 ) -> Result<(), Unmade> {
     let all = messages_of(alloc, shape, row, sample_width)?;
-    let mut told = String::new(alloc);
+    let mut out = String::new(alloc);
     let writer = Device::new(Vec::new(alloc));
-    let writer = tell_stream(alloc, writer, Form::Plain, all.as_slice(), false, &mut told)?;
-    tell_text(&mut told, writer.into_inner().as_slice())?;
-    sweep.add(told.as_str());
+    let writer = write_stream(alloc, writer, Form::Plain, all.as_slice(), false, &mut out)?;
+    write_text(&mut out, writer.into_inner().as_slice())?;
+    sweep.add(out.as_str());
     Ok(())
 }
 

@@ -3,91 +3,91 @@
 use super::form_of;
 use pnm_image::{BytesOut, Device, Message};
 use pnm_test_support::{
-    FailsOnce, Handed, Sips, Unmade, cut_number, cut_word, handed_of, tell_text,
+    FailsOnce, Handed, Sips, Unmade, cut_number, cut_word, handed_of, write_text,
 };
 use pnm_write::{Form, Sink, SinkFault, WriteBuffer};
 use std::alloc::{AllocError, Global};
 
 /// Adds the faults of a sink over the writer that gets messages and rows, and how the stream ends. If `is_flushed`, the
 /// sink is flushed after each image. Returns the writer.
-pub fn tell_stream<W: BytesOut + Drop>(
+pub fn write_stream<W: BytesOut + Drop>(
     alloc: Global,
     writer: W,
     form: Form,
     all: &[Handed],
     is_flushed: bool,
-    told: &mut String,
+    out: &mut String,
 ) -> Result<W, Unmade> {
     let mut sink = Sink::with_buffer(WriteBuffer::new(alloc)?, writer, form);
     for handed in all {
-        tell_put(&mut sink, handed, is_flushed, told)?;
+        write_put(&mut sink, handed, is_flushed, out)?;
     }
     let (writer, end) = sink.finish();
-    told.push_str(" end")?;
-    tell_fault(told, "", end)?;
+    out.push_str(" end")?;
+    write_fault(out, "", end)?;
     Ok(writer)
 }
 
 /// Adds the fault of a sink that gets a message or rows, and, if `is_flushed`, that of a flush after an image.
-fn tell_put<W: BytesOut>(
+fn write_put<W: BytesOut>(
     sink: &mut Sink<W>,
     handed: &Handed,
     is_flushed: bool,
-    told: &mut String,
+    out: &mut String,
 ) -> Result<(), AllocError> {
     let answer = match handed {
         Handed::Message(message) => sink.put(message),
         Handed::Rows(rows) => sink.put_rows(rows),
     };
-    tell_fault(told, "", answer)?;
+    write_fault(out, "", answer)?;
     if is_flushed && matches!(handed, Handed::Message(Message::ImageEnd)) {
-        return tell_fault(told, " flush", sink.flush());
+        return write_fault(out, " flush", sink.flush());
     }
     Ok(())
 }
 
 /// Adds a fault after a word.
-fn tell_fault(
-    told: &mut String,
+fn write_fault(
+    out: &mut String,
     word: &str,
     answer: Result<(), SinkFault>,
 ) -> Result<(), AllocError> {
     match answer {
         Ok(()) => Ok(()),
-        Err(fault) => write!(told, "{word} {fault}"),
+        Err(fault) => write!(out, "{word} {fault}"),
     }
 }
 
 /// Adds the faults of messages, how their stream ends, and the bytes; and the same for rows that are held in few bits,
 /// if that differs.
-pub fn tell_written(
+pub fn write_written(
     alloc: Global,
     form: Form,
     text: &[u8],
-    told: &mut String,
+    out: &mut String,
 ) -> Result<(), Unmade> {
     let mut narrow = String::new(alloc);
-    tell_held(alloc, form, text, false, told)?;
-    tell_held(alloc, form, text, true, &mut narrow)?;
-    if narrow.as_str() != told.as_str() {
-        told.push_str(" but narrow")?;
-        told.push_str(narrow.as_str())?;
+    write_held(alloc, form, text, false, out)?;
+    write_held(alloc, form, text, true, &mut narrow)?;
+    if narrow.as_str() != out.as_str() {
+        out.push_str(" but narrow")?;
+        out.push_str(narrow.as_str())?;
     }
     Ok(())
 }
 
 /// Adds what comes of messages whose rows are held in as few bits as hold their samples, or in words.
-fn tell_held(
+fn write_held(
     alloc: Global,
     form: Form,
     text: &[u8],
     is_narrow: bool,
-    told: &mut String,
+    out: &mut String,
 ) -> Result<(), Unmade> {
     let all = handed_of(alloc, text, is_narrow)?;
     let writer = Device::new(Vec::new(alloc));
-    let writer = tell_stream(alloc, writer, form, all.as_slice(), false, told)?;
-    Ok(tell_text(told, writer.into_inner().as_slice())?)
+    let writer = write_stream(alloc, writer, form, all.as_slice(), false, out)?;
+    Ok(write_text(out, writer.into_inner().as_slice())?)
 }
 
 /// The call that fails, after as many as the text begins with, or none for `_`; and what follows in the text.
@@ -103,20 +103,20 @@ fn cut_failing(text: &[u8]) -> (FailsOnce, &[u8]) {
 }
 
 /// Adds what is written if writes take few bytes, or fail; then how often the writer was flushed.
-pub fn tell_sips(alloc: Global, text: &[u8], told: &mut String) -> Result<(), Unmade> {
+pub fn write_sips(alloc: Global, text: &[u8], out: &mut String) -> Result<(), Unmade> {
     let (form, rest) = cut_word(text);
     let (most, rest) = cut_number(rest);
     let (writes, rest) = cut_failing(rest);
     let (flushes, rest) = cut_failing(rest);
     let all = handed_of(alloc, rest, true)?;
     let sips = Device::new(Sips::new(alloc, most, writes, flushes));
-    let sips = tell_stream(alloc, sips, form_of(form), all.as_slice(), true, told)?;
-    Ok(tell_sipped(&sips.into_inner(), told)?)
+    let sips = write_stream(alloc, sips, form_of(form), all.as_slice(), true, out)?;
+    Ok(write_sipped(&sips.into_inner(), out)?)
 }
 
 /// Adds the bytes that were taken, and how often the writer was flushed.
-fn tell_sipped(sips: &Sips, told: &mut String) -> Result<(), AllocError> {
-    tell_text(told, sips.held())?;
+fn write_sipped(sips: &Sips, out: &mut String) -> Result<(), AllocError> {
+    write_text(out, sips.held())?;
     let flushed = sips.flushed();
-    write!(told, " flushed {flushed}")
+    write!(out, " flushed {flushed}")
 }

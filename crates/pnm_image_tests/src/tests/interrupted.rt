@@ -3,7 +3,7 @@
 use super::callers::{flush, read_all, write_all};
 use super::same;
 use pnm_image::{BytesIn, BytesOut, Device};
-use pnm_streams::Uninterrupted;
+use pnm_streams::Retry;
 use std::alloc::Global;
 use std::io;
 use std::io::{BufWriter, ErrorKind, Read, Write};
@@ -56,8 +56,8 @@ impl<W: Write> Write for Interrupted<W> {
 const BYTES: &[u8] = b"P5\n2 1\n122\nAB";
 
 /// Returns a device whose every other call is interrupted, and made again.
-fn again<D>(inner: D) -> Uninterrupted<Interrupted<D>> {
-    Uninterrupted::new(Interrupted::new(inner))
+fn again<D>(inner: D) -> Retry<Interrupted<D>> {
+    Retry::new(Interrupted::new(inner))
 }
 
 /// Asserts that the reader gives the bytes, to their end.

@@ -6,7 +6,7 @@ use super::rows_memory::are_wanted;
 use super::tools::{WHOLE, channel, picks, stays};
 use super::{holds, same};
 use pnm_filters::{ToolState, result_head, start_tool};
-use pnm_image::{Head, Kind, Message, Shape};
+use pnm_image::{Head, Kind, Message, Several, Shape};
 use pnm_test_support::{Part, head_of, is_made_of, message};
 use pnm_tools::{CutBox, Filter, FlipWay, Tool, ToolFault};
 use std::alloc::Global;
@@ -219,7 +219,9 @@ fn takes_next<F: Filter>(
                     is_wanted(rt, &message, wants.get(*given));
                     *given = given.wrapping_add(1);
                 }
-                Err(rows) => are_wanted(rt, &rows, wants, given),
+                Err(Several::Rows(rows)) => are_wanted(rt, &rows, wants, given),
+                // A tool gives no whole image at once.
+                Err(Several::Image(head, _rows)) => holds(rt, false, &head, &"rows", given),
             }
             None
         }

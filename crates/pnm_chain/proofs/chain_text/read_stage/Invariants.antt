@@ -1,6 +1,6 @@
 use Rattle.std.proofs.Common.{length}
 use Rattle.pnm_image.specs.Texts.{words}
-use Rattle.pnm_chain.specs.Items.{items_of}
+use Rattle.pnm_chain.specs.StageWords.{items_of}
 use Rattle.pnm_chain.specs.Settings.{IsReading}
 use Rattle.pnm_chain.proofs.chain_text.read_stage.Given as goal
 

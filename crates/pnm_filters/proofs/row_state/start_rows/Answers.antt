@@ -6,6 +6,6 @@ returns-clause-started c =
     let fresh = c.in_ok-start_tool.ensures.started in
     record {
       state = record { state = fresh.state; row_wise = (row_wise_tools_commute c.args.tool.now c.requires.lawful).0 c.requires.row_wise };
-      told = fresh.told;
+      none_due = fresh.none_due;
       going = fresh.going;
     }

@@ -1,5 +1,5 @@
 use Rattle.std.proofs.Common.{ap, ◌∙◌, List, ℕ, ◌++◌, Option}
-use Rattle.pnm_filters.specs.declared.state.Owed.{Owed}
+use Rattle.pnm_filters.specs.declared.state.Phase.{Phase}
 use Rattle.pnm_tools.specs.Answering.{rows_list}
 use Rattle.pnm_filters.specs.Pendings.{pending_of}
 use Rattle.pnm_filters.proofs.GivingSteps.{ended}
@@ -11,6 +11,6 @@ returns-in-None-2 g c =
     let mid = c.give-in-RestAndEnd.new.self in
     let none = rw c.in-None-2.is at given.ensures.all in
     let waits = given.ensures.due ∙ ap (λ (rows : Option (List (List ℕ))). rows_list rows ++ g.T.ImageTool.due mid) c.in-None-2.is ∙ none in
-    let ending = ap (λ (owed : Owed). pending_of owed c.args.waiting.now) c.in-RestAndEnd.is in
+    let ending = ap (λ (phase : Phase). pending_of phase c.args.waiting.now) c.in-RestAndEnd.is in
     ended g.T.ImageTool.tool g.T.ImageTool.ready g.T.ImageTool.due g.T.ImageTool.kept c.args.work.now c.release.new.self
-    (pending_of c.args.owed.now c.args.waiting.now) ending waits (c.release.ensures.same ∙ given.ensures.same) c.release.ensures.kept
+    (pending_of c.args.phase.now c.args.waiting.now) ending waits (c.release.ensures.same ∙ given.ensures.same) c.release.ensures.kept

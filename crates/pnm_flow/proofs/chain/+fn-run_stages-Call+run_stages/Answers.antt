@@ -2,8 +2,8 @@ use Rattle.std.proofs.Common.{List, length, sym, ap, subst, ◌∙◌, arith, ve
 use Rattle.pnm_stages.specs.Rings.{sent, received, known_items, SameSender, SameReceiver}
 use Rattle.pnm_image.specs.declared.message.Message.{Message}
 use Rattle.pnm_stages.proofs.RingSteps.{still_pair}
-use Rattle.pnm_flow.specs.Chains.{HasRunStages}
-use Rattle.pnm_flow.proofs.ChainSteps.{came_back, has_reserved, only_stage, reserved_for_fewer, stages_joined}
+use Rattle.pnm_flow.specs.ChainRuns.{HasRunStages}
+use Rattle.pnm_flow.proofs.ChainSteps.{came_back, has_reserved, only_stage, reserved_for_fewer, stages_extended}
 use Rattle.pnm_flow.proofs.chain.+fn-run_stages-Call+run_stages.Goals as goal
 
 -- a chain of one tool
@@ -21,8 +21,8 @@ returns-in-Some-all-clause-ran g t c =
 pub returns-in-Some-all-clause-beside : goal.returns-in-Some-all-clause-beside
 returns-in-Some-all-clause-beside g t c = c.in-Some-all.ensures.beside
 
-pub joined-requires-clause-ring : goal.joined-requires-clause-ring
-joined-requires-clause-ring g t c =
+pub extended-requires-clause-ring : goal.extended-requires-clause-ring
+extended-requires-clause-ring g t c =
     let chain =
     (came_back c.args.lanes c.last_and_others.result.1.now (vec_capacity c.args.reserved.links) (vec_capacity c.args.reserved.ends) c.args.input
     c.in-Some-new_ring.producer _
@@ -30,8 +30,8 @@ joined-requires-clause-ring g t c =
     still_pair c.in-Some-new_ring.producer c.in-Some-rest.chain.output c.in-Some-new_ring.consumer c.in-Some-run_tool.done.input
     c.in-Some-new_ring.ensures.pair chain.same_output c.in-Some-run_tool.ensures.ran.0
 
-pub joined-requires-clause-reserved : goal.joined-requires-clause-reserved
-joined-requires-clause-reserved g t c =
+pub extended-requires-clause-reserved : goal.extended-requires-clause-reserved
+extended-requires-clause-reserved g t c =
     let chain =
     (came_back c.args.lanes c.last_and_others.result.1.now (vec_capacity c.args.reserved.links) (vec_capacity c.args.reserved.ends) c.args.input
     c.in-Some-new_ring.producer _
@@ -49,21 +49,21 @@ returns-in-Some-rest-clause-ran g t c =
     c.in-Some-run_tool.rest c.in-Some-rest.chain c.in-Some-rest.beside c.in-Some-run_tool.ensures.beside c.in-Some-rest.is).0 in
     let last = c.in-Some-run_tool.ensures.ran in
     record {
-      same_input = subst (SameReceiver c.args.input) (sym c.joined.ensures.input) chain.same_input;
-      same_output = subst (SameSender c.args.output) (sym c.joined.ensures.output) last.1;
-      ran = subst (λ (x : List Message). HasRunStages c.args.lanes c.args.tools.now c.joined.result.ends.items c.joined.result.links.items
-          (received c.args.input) x (sent c.args.output) (sent c.joined.result.output)) (sym (ap received c.joined.ensures.input))
-          (subst (λ (x : List Message). HasRunStages c.args.lanes c.args.tools.now c.joined.result.ends.items c.joined.result.links.items
-          (received c.args.input) (received c.in-Some-rest.chain.input) (sent c.args.output) x) (sym (ap sent c.joined.ensures.output))
-          (stages_joined c.args.lanes c.last_and_others.result.1.now c.args.tools.now c.in-Some-rest.chain.ends.items c.joined.result.ends.items
-          c.in-Some-rest.chain.links.items c.joined.result.links.items c.last_and_others.result.0.now c.in-Some-run_tool.done.end
+      same_input = subst (SameReceiver c.args.input) (sym c.extended.ensures.input) chain.same_input;
+      same_output = subst (SameSender c.args.output) (sym c.extended.ensures.output) last.1;
+      ran = subst (λ (x : List Message). HasRunStages c.args.lanes c.args.tools.now c.extended.result.ends.items c.extended.result.links.items
+          (received c.args.input) x (sent c.args.output) (sent c.extended.result.output)) (sym (ap received c.extended.ensures.input))
+          (subst (λ (x : List Message). HasRunStages c.args.lanes c.args.tools.now c.extended.result.ends.items c.extended.result.links.items
+          (received c.args.input) (received c.in-Some-rest.chain.input) (sent c.args.output) x) (sym (ap sent c.extended.ensures.output))
+          (stages_extended c.args.lanes c.last_and_others.result.1.now c.args.tools.now c.in-Some-rest.chain.ends.items c.extended.result.ends.items
+          c.in-Some-rest.chain.links.items c.extended.result.links.items c.last_and_others.result.0.now c.in-Some-run_tool.done.end
           (received c.args.input) (received c.in-Some-rest.chain.input) (sent c.args.output) (sent c.in-Some-run_tool.done.output)
           (known_items c.in-Some-run_tool.done.input) (sent c.in-Some-new_ring.producer) (sent c.in-Some-rest.chain.output)
           (received c.in-Some-new_ring.consumer) (received c.in-Some-run_tool.done.input)
-          c.in-Some-new_ring.ensures.unused.0 c.in-Some-new_ring.ensures.unused.1 chain.ran last.2 c.last_and_others.ensures.parts c.joined.ensures.end
-          c.joined.ensures.link));
-      for_links = c.joined.ensures.reserved.0 ∙ chain.for_links;
-      for_ends = c.joined.ensures.reserved.1 ∙ chain.for_ends;
+          c.in-Some-new_ring.ensures.unused.0 c.in-Some-new_ring.ensures.unused.1 chain.ran last.2 c.last_and_others.ensures.parts c.extended.ensures.end
+          c.extended.ensures.link));
+      for_links = c.extended.ensures.reserved.0 ∙ chain.for_links;
+      for_ends = c.extended.ensures.reserved.1 ∙ chain.for_ends;
     }
 
 pub returns-in-Some-rest-clause-beside : goal.returns-in-Some-rest-clause-beside
@@ -114,8 +114,8 @@ run_tool-all-requires-clause-shared g t c = λ κs within. c.requires.shared
 pub run_tool-all-requires-clause-lawful : goal.run_tool-all-requires-clause-lawful
 run_tool-all-requires-clause-lawful g t c = λ κs within. c.last_and_others.ensures.lawful.0
 
-pub run_tool-all-requires-clause-across : goal.run_tool-all-requires-clause-across
-run_tool-all-requires-clause-across g t c = λ κs within. c.in-Some.ensures
+pub run_tool-all-requires-clause-plan : goal.run_tool-all-requires-clause-plan
+run_tool-all-requires-clause-plan g t c = λ κs within. c.in-Some.ensures
 
 pub run_tool-all-requires-clause-beside : goal.run_tool-all-requires-clause-beside
 run_tool-all-requires-clause-beside g t c = λ κs within. c.requires.beside
@@ -126,5 +126,5 @@ run_tool-requires-clause-shared g t c = λ κs within. c.requires.shared
 pub run_tool-requires-clause-lawful : goal.run_tool-requires-clause-lawful
 run_tool-requires-clause-lawful g t c = λ κs within. c.last_and_others.ensures.lawful.0
 
-pub run_tool-requires-clause-across : goal.run_tool-requires-clause-across
-run_tool-requires-clause-across g t c = λ κs within. c.in-Some.ensures
+pub run_tool-requires-clause-plan : goal.run_tool-requires-clause-plan
+run_tool-requires-clause-plan g t c = λ κs within. c.in-Some.ensures

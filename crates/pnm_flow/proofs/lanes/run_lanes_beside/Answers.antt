@@ -9,8 +9,8 @@ run_threads-requires-clause-outer g c κs within =
     let few = c.requires.rings.1 in
     ((omega (arith, many.0, few.0), omega (arith, many.0, few.1)), omega (arith, many.0, many.1))
 
-pub joined-requires : goal.joined-requires
-joined-requires g c =
+pub merged-requires : goal.merged-requires
+merged-requires g c =
     let rings = c.args.rings in
     let run = c.in_ok-done.ensures.ran in
     record {
@@ -22,7 +22,7 @@ joined-requires g c =
 pub returns-clause-ran : goal.returns-clause-ran
 returns-clause-ran g c =
     let rings = c.args.rings in
-    c.joined.ensures.ran c.args.tool.now rings.lanes.items _ (vec_capacity rings.reserved) c.requires.lawful c.requires.row_wise
+    c.merged.ensures.ran c.args.tool.now rings.lanes.items _ (vec_capacity rings.reserved) c.requires.lawful c.requires.row_wise
     (omega (arith, c.requires.rings.1.0)) c.requires.rings.0 c.in_ok-done.ensures.ran
 
 pub returns-clause-beside : goal.returns-clause-beside

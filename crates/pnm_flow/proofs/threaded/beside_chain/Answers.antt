@@ -1,9 +1,9 @@
 use Rattle.pnm_flow.proofs.threaded.beside_chain.Goals as goal
 
-pub returns-clause-turned : goal.returns-clause-turned
-returns-clause-turned g c =
-    let turned = rw (c.in_ok-turns.ensures.0, c.in_ok-turns.ensures.1) at c.in-Ok.ensures.beside.0 in
-    rw (c.into_inner.ensures, c.into_inner-2.ensures) turned
+pub returns-clause-stepped : goal.returns-clause-stepped
+returns-clause-stepped g c =
+    let stepped = rw (c.in_ok-io_loop.ensures.0, c.in_ok-io_loop.ensures.1) at c.in-Ok.ensures.beside.0 in
+    rw (c.into_inner.ensures, c.into_inner-2.ensures) stepped
 
 pub returns-clause-input : goal.returns-clause-input
 returns-clause-input g c = c.in-Ok.ensures.input
@@ -15,8 +15,8 @@ pub returns-clause-ran : goal.returns-clause-ran
 returns-clause-ran g c = c.in-Ok.ensures.ran
 
 -- there is no memory, or a thread can't be started
-pub returns-in_err-turns : goal.returns-in_err-turns
-returns-in_err-turns g c = rw c.from_residual.ensures (record { input = tt; output = tt; ran = tt; turned = tt })
+pub returns-in_err-io_loop : goal.returns-in_err-io_loop
+returns-in_err-io_loop g c = rw c.from_residual.ensures (record { input = tt; output = tt; ran = tt; stepped = tt })
 
 pub returns-in-Err : goal.returns-in-Err
-returns-in-Err g c = record { input = tt; output = tt; ran = tt; turned = tt }
+returns-in-Err g c = record { input = tt; output = tt; ran = tt; stepped = tt }

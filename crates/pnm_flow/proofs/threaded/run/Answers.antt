@@ -21,21 +21,21 @@ returns-in-Err-clause-same_writer g c = λ differs. g.met.W.BytesOut.same_at_onc
 
 pub conclude-read-requires-clause-taken : goal.conclude-read-requires-clause-taken
 conclude-read-requires-clause-taken g c =
-    (_, _, c.in-Some.ensures.turned.collecting _ _ [] (rw c.in-Some-Some.ensures'.unused.1 at c.new-collector.ensures.collecting))
+    (_, _, c.in-Some.ensures.stepped.receiving _ _ [] (rw c.in-Some-Some.ensures'.unused.1 at c.new-egress.ensures.receiving))
 
 pub returns-clause-same_writer : goal.returns-clause-same_writer
 returns-clause-same_writer g c =
-    let same = g.met.W.BytesOut.same_later _ _ _ (rw c.new-collector.ensures.parts.1 at c.in-Some.ensures.turned.writer).1
+    let same = g.met.W.BytesOut.same_later _ _ _ (rw c.new-egress.ensures.parts.1 at c.in-Some.ensures.stepped.writer).1
     c.conclude-read.ensures.same_writer.1 in
     search rules
 
 pub returns-clause-ran : goal.returns-clause-ran
 returns-clause-ran g c =
     let job = job_of c.args.tools.now c.args.form in
-    let feeding = c.in-Some.ensures.turned.feeding _ [] (rw c.in-Some-Some.ensures.unused.0 at c.new-feeder.ensures.feeding) in
-    let collecting = c.in-Some.ensures.turned.collecting _ _ [] (rw c.in-Some-Some.ensures'.unused.1 at c.new-collector.ensures.collecting) in
+    let sending = c.in-Some.ensures.stepped.sending _ [] (rw c.in-Some-Some.ensures.unused.0 at c.new-ingress.ensures.sending) in
+    let receiving = c.in-Some.ensures.stepped.receiving _ _ [] (rw c.in-Some-Some.ensures'.unused.1 at c.new-egress.ensures.receiving) in
     let chain = rw (c.in-Some-Some.ensures.unused.1, c.set_home.ensures.sent, c.in-Some-Some.ensures'.unused.0) at c.in-Some.ensures.ran in
-    let ran = c.conclude-read.ensures.ran _ _ c.args.lanes job c.requires.chain.lawful feeding collecting chain in
+    let ran = c.conclude-read.ensures.ran _ _ c.args.lanes job c.requires.chain.lawful sending receiving chain in
     inr (search rules)
 
 -- the chain isn't started

@@ -4,8 +4,8 @@ use Rattle.pnm_flow.proofs.tool_run.run_tool.Goals as goal
 -- over several lanes
 pub returns-in_ok-beside-in-Lanes-clause-ran : goal.returns-in_ok-beside-in-Lanes-clause-ran
 returns-in_ok-beside-in-Lanes-clause-ran g c =
-    lanes_came_back c.args.lanes c.args.tool.now c.args.across c.in-Lanes.rings c.in-Lanes.tells c.in-Lanes.hears c.args.input c.args.output
-    c.in_ok-done-in-Lanes.done c.in_ok-done-in-Lanes-2.field-0 c.requires.across c.in-Lanes.is c.in_ok-done-in-Lanes.ensures.0 c.in_ok-done-in-Lanes-2.was
+    lanes_came_back c.args.lanes c.args.tool.now c.args.plan c.in-Lanes.rings c.in-Lanes.notify c.in-Lanes.notified c.args.input c.args.output
+    c.in_ok-done-in-Lanes.done c.in_ok-done-in-Lanes-2.field-0 c.requires.plan c.in-Lanes.is c.in_ok-done-in-Lanes.ensures.0 c.in_ok-done-in-Lanes-2.was
 
 pub returns-in_ok-beside-in-Lanes-clause-beside : goal.returns-in_ok-beside-in-Lanes-clause-beside
 returns-in_ok-beside-in-Lanes-clause-beside g c =

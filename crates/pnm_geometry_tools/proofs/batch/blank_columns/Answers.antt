@@ -1,5 +1,5 @@
 use Rattle.std.proofs.Common.{◌≡◌, ℕ, subst, arith}
-use Rattle.pnm_geometry_tools.specs.Columns.{AreBlank}
+use Rattle.pnm_geometry_tools.specs.ColumnBatches.{AreBlank}
 use Rattle.pnm_geometry_tools.proofs.ColumnLaws.{blank_more}
 use Rattle.pnm_geometry_tools.proofs.batch.blank_columns.Goals as goal
 

@@ -1,4 +1,4 @@
-use Rattle.pnm_geometry_tools.specs.Columns.{AreBlank}
+use Rattle.pnm_geometry_tools.specs.ColumnBatches.{AreBlank}
 use Rattle.pnm_geometry_tools.proofs.batch.blank_columns.Given as goal
 
 -- so many columns are there

@@ -1,8 +1,8 @@
 use Rattle.std.proofs.Common.{◌≡◌, ◌+◌, ◌-◌, ◌*◌, ℕ, ap, arith, drop, take, length, subst}
-use Rattle.pnm_tools.specs.Pixels.{pixel_of}
+use Rattle.pnm_tools.specs.PixelSamples.{pixel_of}
 use Rattle.pnm_geometry_tools.proofs.ColumnLaws.{column_stored, nothing_stored, room_in, within}
 use borrow.Rule.Slice.PartMut.{mid_len}
-use Rattle.pnm_geometry_tools.specs.Columns.{HavePixels}
+use Rattle.pnm_geometry_tools.specs.ColumnBatches.{HavePixels}
 use Rattle.std.proofs.lemmas.Grind.{common_steps}
 use Rattle.pnm_geometry_tools.proofs.batch.put_pixels.Goals as goal
 

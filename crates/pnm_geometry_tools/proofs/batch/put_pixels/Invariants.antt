@@ -1,6 +1,6 @@
 use Rattle.std.proofs.Common.{◌+◌}
-use Rattle.pnm_geometry_tools.specs.Columns.{HavePixels}
-use Rattle.pnm_tools.specs.Pixels.{pixel_of}
+use Rattle.pnm_geometry_tools.specs.ColumnBatches.{HavePixels}
+use Rattle.pnm_tools.specs.PixelSamples.{pixel_of}
 use Rattle.pnm_geometry_tools.proofs.batch.put_pixels.Given as goal
 
 -- the columns that have passed got their pixels

@@ -1,7 +1,7 @@
 use Rattle.std.proofs.Common.{◌≡◌, ◌⊎◌, inl, inr, ◌*◌, ◌<◌, arith}
 use Rattle.pnm_image.specs.Heads.{head_value}
 use Rattle.pnm_tools.specs.declared.tool.Tool.TheVariants.{Enlarge}
-use Rattle.pnm_tools.specs.Limits.{within_limits}
+use Rattle.pnm_tools.specs.ToolLimits.{within_limits}
 use Rattle.pnm_tools.specs.Tools.{result_head}
 use Rattle.pnm_tools.proofs.HeadLaws.{head_so, fault_so}
 use Rattle.pnm_geometry_tools.proofs.EnlargedHeadLaws.{enlarge_without_rows, enlarged_too_large, enlarged_head_made}

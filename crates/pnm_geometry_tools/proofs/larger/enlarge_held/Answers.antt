@@ -6,7 +6,7 @@ use Rattle.pnm_image.specs.HeldRows.{AreRows, AreSliceRows, slice_lists}
 use Rattle.pnm_image.specs.declared.rows.RowVec.{RowVec}
 use Rattle.pnm_image.proofs.RowLaws.{rows_need}
 use Rattle.pnm_tools.specs.Enlarge.{enlarged_row}
-use Rattle.pnm_geometry_tools.specs.HeldRows.{HoldsRows}
+use Rattle.pnm_geometry_tools.specs.MadeRows.{HoldsRows}
 use Rattle.pnm_geometry_tools.proofs.CutRowsLaws.{lengths_of}
 use Rattle.pnm_geometry_tools.proofs.WideRowLaws.{only_repeated, only_widened, widened_repeated}
 use Rattle.pnm_geometry_tools.proofs.larger.enlarge_held.Goals as goal

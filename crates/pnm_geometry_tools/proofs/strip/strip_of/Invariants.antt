@@ -1,6 +1,6 @@
 use Rattle.std.proofs.Common.{◌≡◌, ◌<◌, ◌≤◌, ◌-◌, ◌*◌, length}
 use Rattle.std.specs.List.{flat_map, range_with_len}
-use Rattle.pnm_geometry_tools.specs.Columns.{AreAsLong}
+use Rattle.pnm_geometry_tools.specs.ColumnBatches.{AreAsLong}
 use Rattle.pnm_tools.specs.Flip.{column_of}
 use Rattle.pnm_geometry_tools.proofs.strip.strip_of.Given as goal
 

@@ -4,7 +4,7 @@ use Rattle.pnm_image.specs.declared.place.Place.{Place}
 use Rattle.pnm_image.specs.declared.message.Ending.TheVariants.{More, Whole, BrokenOff}
 use Rattle.pnm_stages.specs.declared.stage.StageEnd.TheVariants.{PeerGone}
 use Rattle.pnm_stages.proofs.RingSteps.{itself_input, same_input}
-use Rattle.pnm_lanes.specs.Limits.{IsLaneCount}
+use Rattle.pnm_lanes.specs.LaneLimits.{IsLaneCount}
 use Rattle.pnm_lanes.proofs.DealSteps.{IsDealing, deals_nothing, deals_packet, wakes_dealing, ends_whole, ends_broken}
 use Rattle.pnm_lanes.proofs.BreakSteps.{breaks_off, cuts, cut_here, ends_gone, interrupts_packet}
 use Rattle.pnm_lanes.proofs.SendSteps.{woken_count}
@@ -13,11 +13,11 @@ use Rattle.pnm_lanes.proofs.dealing.deal_all.Goals as goal
 pub loop-init : goal.loop-init
 loop-init g c = (
   itself_input c.args.input.now,
-  subst IsLaneCount (sym (woken_count c.args.outputs.now c.hold_back_each.new.outputs c.hold_back_each.ensures)) c.requires,
+  subst IsLaneCount (sym (woken_count c.args.outputs.now c.coalesce_each.new.outputs c.coalesce_each.ensures)) c.requires,
   wakes_dealing _ (received c.args.input.now) (received c.args.input.now) (received c.args.input.now) c.args.outputs.now c.args.outputs.now
-      c.hold_back_each.new.outputs
+      c.coalesce_each.new.outputs
       (subst (λ (place : Place). IsDealing More place (received c.args.input.now) (received c.args.input.now) c.args.outputs.now c.args.outputs.now)
-      (sym c.new-place.ensures) (deals_nothing (received c.args.input.now) c.args.outputs.now)) refl c.hold_back_each.ensures,
+      (sym c.new-place.ensures) (deals_nothing (received c.args.input.now) c.args.outputs.now)) refl c.coalesce_each.ensures,
 )
 
 pub returns-in_default-clause-dealt : goal.returns-in_default-clause-dealt

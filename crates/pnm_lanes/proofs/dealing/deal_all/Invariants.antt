@@ -1,7 +1,7 @@
 use Rattle.std.proofs.Common.{length}
 use Rattle.pnm_stages.specs.Rings.{received, SameReceiver}
 use Rattle.pnm_image.specs.declared.message.Ending.TheVariants.{More}
-use Rattle.pnm_lanes.specs.Limits.{IsLaneCount}
+use Rattle.pnm_lanes.specs.LaneLimits.{IsLaneCount}
 use Rattle.pnm_lanes.proofs.DealSteps.{IsDealing}
 use Rattle.pnm_lanes.proofs.dealing.deal_all.Given as goal
 

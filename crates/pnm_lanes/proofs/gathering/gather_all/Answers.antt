@@ -6,7 +6,7 @@ use Rattle.pnm_lanes.specs.GatherParts.{HasBrokenOffAll, HasDrainedAll}
 use Rattle.pnm_lanes.proofs.LaneLists.{are_themselves, same_inputs, as_many}
 use Rattle.pnm_stages.proofs.RingSteps.{itself_output, same_output}
 use Rattle.pnm_lanes.proofs.GatherSteps.{nothing_yet, goes_further, says_more, first_open, open_at}
-use Rattle.pnm_lanes.proofs.GatherEnds.{broken_off, not_told, ends_well}
+use Rattle.pnm_lanes.proofs.GatherEnds.{broken_off, not_sent, ends_well}
 use Rattle.pnm_lanes.proofs.gathering.gather_all.Goals as goal
 
 pub loop-init : goal.loop-init
@@ -50,7 +50,7 @@ returns-then-not-send-clause-output g c = same_output c.args.output.now c.loop.o
 pub returns-then-not-send-clause-gathered : goal.returns-then-not-send-clause-gathered
 returns-then-not-send-clause-gathered g c =
     let count = as_many c.args.inputs.now c.loop.inputs c.loop.invariant.0 in
-    not_told (length c.args.inputs.now) (length c.loop.inputs) c.loop.place c.in-Ok.message c.drain_all.result c.receive_next.new.states c.drain_all.new.states
+    not_sent (length c.args.inputs.now) (length c.loop.inputs) c.loop.place c.in-Ok.message c.drain_all.result c.receive_next.new.states c.drain_all.new.states
     (at_lane received c.args.inputs.now) (at_lane received c.loop.inputs) (at_lane received c.receive_next.new.inputs) (at_lane received c.drain_all.new.inputs)
     (at_lane known_items c.receive_next.new.inputs) (at_lane known_items c.drain_all.new.inputs)
     (sent c.args.output.now) (sent c.loop.output) (sent c.send.new.self) c.loop.invariant.2 c.requires.some count c.in-Ok.ensures.taken

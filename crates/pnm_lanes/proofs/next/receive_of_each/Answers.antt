@@ -57,9 +57,9 @@ pub returns-clause-taken : goal.returns-clause-taken
 returns-clause-taken g c =
     rw c.ok_or.ensures.value
     (each_ends (length c.args.inputs.now) c.loop-lane.lane (length c.loop-lane.inputs) c.args.place _ c.loop-lane.heights c.loop-lane.states
-    (at_lane received c.args.inputs.now) (at_lane received c.loop-lane.inputs) c.together.result
-    c.loop-lane.invariant.1 (omega arith) (omega arith) (omega (arith, c.requires.few, c.loop-lane.invariant.2)) c.requires.no_row c.together.ensures.found
-    c.together.ensures.none)
+    (at_lane received c.args.inputs.now) (at_lane received c.loop-lane.inputs) c.agreed.result
+    c.loop-lane.invariant.1 (omega arith) (omega arith) (omega (arith, c.requires.few, c.loop-lane.invariant.2)) c.requires.no_row c.agreed.ensures.found
+    c.agreed.ensures.none)
 
 pub receive_from-requires : goal.receive_from-requires
 receive_from-requires g c = record { lane = omega (arith, c.requires.some); states = c.requires.states }
@@ -67,7 +67,7 @@ receive_from-requires g c = record { lane = omega (arith, c.requires.some); stat
 pub receive_alike-requires : goal.receive_alike-requires
 receive_alike-requires g c = record { lane = omega arith; states = omega arith }
 
-pub together-requires : goal.together-requires
-together-requires g c =
+pub agreed-requires : goal.agreed-requires
+agreed-requires g c =
     let taken = length-take-le (length c.loop-lane.inputs) c.loop-lane.heights (omega (arith, c.requires.few, c.loop-lane.invariant.2)) in
     record { some = omega (arith, taken, c.requires.some); few = omega (arith, taken, c.requires.few) }

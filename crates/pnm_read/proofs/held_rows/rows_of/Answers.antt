@@ -5,9 +5,9 @@ use Rattle.pnm_image.specs.declared.sample_width.SampleWidth.{SampleWidth}
 use Rattle.pnm_image.specs.HeldRows.{AreRowsWithin}
 use Rattle.pnm_image.specs.Images.{cut_rows}
 use Rattle.pnm_read.specs.Units.{AreBytesWithin}
-use Rattle.pnm_read.specs.HeldRows.{FitsBytes, rows_held}
+use Rattle.pnm_read.specs.RasterRows.{FitsBytes, rows_held}
 use Rattle.pnm_read.specs.Said.{units_in_row}
-use Rattle.pnm_read.proofs.JoinedRows.{are_bytes, bits_are_rows, bits_within, bytes_are_rows, cut_within, length_of_bits}
+use Rattle.pnm_read.proofs.RowsTogether.{are_bytes, bits_are_rows, bits_within, bytes_are_rows, cut_within, length_of_bits}
 use Rattle.pnm_read.proofs.held_rows.rows_of.Goals as goal
 
 pub new-requires : goal.new-requires

@@ -1,7 +1,7 @@
 use Rattle.std.proofs.Common.{ℕ, ◌*◌, List, take, ap, ◌∙◌}
 use Rattle.pnm_read.specs.BufferedReaders.{held_of}
-use Rattle.pnm_read.specs.HeldRows.{rows_held}
-use Rattle.pnm_read.proofs.JoinedRows.{rows_taken}
+use Rattle.pnm_read.specs.RasterRows.{rows_held}
+use Rattle.pnm_read.proofs.RowsTogether.{rows_taken}
 use Rattle.pnm_read.proofs.held_rows.take_rows.Goals as goal
 
 pub returns-clause-rows : goal.returns-clause-rows

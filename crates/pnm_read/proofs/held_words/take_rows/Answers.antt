@@ -2,7 +2,7 @@ use Rattle.std.proofs.Common.{◌≡◌, ℕ, ◌*◌, ◌≤◌, ◌++◌, All,
 use Rattle.pnm_read.specs.BufferedReaders.{held_of}
 use Rattle.pnm_read.specs.Rasters.{wide_samples}
 use Rattle.pnm_read.proofs.HeldWords.{samples_of_held, wide_rows_taken}
-use Rattle.pnm_read.proofs.JoinedRows.{cut_within}
+use Rattle.pnm_read.proofs.RowsTogether.{cut_within}
 use Rattle.pnm_read.proofs.held_words.take_rows.Goals as goal
 
 pub new-rows-requires-clause-whole : goal.new-rows-requires-clause-whole

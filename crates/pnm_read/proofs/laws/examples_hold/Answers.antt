@@ -1,5 +1,5 @@
 use Rattle.std.proofs.Common.{refl}
-use Rattle.pnm_read.specs.Texts.{ends_by, commented_after, uncommented_from}
+use Rattle.pnm_read.specs.HeaderTexts.{ends_by, commented_after, uncommented_from}
 use Rattle.pnm_image.specs.Texts.{words}
 use Rattle.pnm_read.specs.PamLines.{ended_after, last_after, trimmed_start, trimmed_end, token_of, after_token, kind_of_token, field_values, tuple_type_in}
 use Rattle.pnm_read.specs.Items.{piece_from, second_magic_item, first_magic_item, header_item, numbers_item, line_feed_item, pam_item, lines_item, raw_item}

@@ -4,7 +4,7 @@ use Rattle.std.proofs.lemmas.Result.{err_from_is_err_and}
 use Rattle.pnm_read.specs.declared.fault.InputFault.TheVariants.{BadPamLine, HeaderCut, ReadFailed}
 use Rattle.pnm_read.specs.Items.{line_feed_item}
 use Rattle.pnm_read.specs.BufferedReaders.{IsByte}
-use Rattle.pnm_read.proofs.Turns.{turn_err_so, turn_ok_so, no_fault}
+use Rattle.pnm_read.proofs.ReadCalls.{call_err_so, call_ok_so, no_fault}
 use Rattle.pnm_read.proofs.pam.read_line_feed.Goals as goal
 
 feed_taken : (found : Option ℕ) (byte : ℕ) → found ≡ Some byte → byte ≡ 10 → (b a : List ℕ) → IsByte (Ok found) b a → line_feed_item b ≡ Ok a
@@ -20,17 +20,17 @@ no_feed (Some x) e b a o = absurd cc
 pub returns-in_err-next_byte : goal.returns-in_err-next_byte
 returns-in_err-next_byte g c =
     let p = err_from_is_err_and c.from_residual.result c.from_residual.ensures.1 in
-    rw (p.1, p.2) (turn_err_so c.in_err-next_byte.field-0.0 (λ b a o. inr o) c.in_err-next_byte.ensures)
+    rw (p.1, p.2) (call_err_so c.in_err-next_byte.field-0.0 (λ b a o. inr o) c.in_err-next_byte.ensures)
 
 pub returns-in-Some-eq10 : goal.returns-in-Some-eq10
 returns-in-Some-eq10 g c =
-    turn_ok_so c.in_ok-next_byte.field-0 (Ok tt) (no_fault tt ReadFailed)
+    call_ok_so c.in_ok-next_byte.field-0 (Ok tt) (no_fault tt ReadFailed)
     (feed_taken c.in_ok-next_byte.field-0 c.in-Some-eq10.field-0 c.in-Some-eq10.is c.in-Some-eq10.field-0-test)
     c.in_ok-next_byte.ensures
 
 pub returns-in-None : goal.returns-in-None
 returns-in-None g c =
-    turn_ok_so c.in_ok-next_byte.field-0 (Err HeaderCut) (λ e. absurd cc)
+    call_ok_so c.in_ok-next_byte.field-0 (Err HeaderCut) (λ e. absurd cc)
     (λ b a o. inl (no_feed c.in_ok-next_byte.field-0 c.in-None.is b a o)) c.in_ok-next_byte.ensures
 
 other_byte : (found : Option ℕ) (byte : ℕ) → found ≡ Some byte → (byte ≡ 10 → ⊥) → (b a : List ℕ) → IsByte (Ok found) b a
@@ -43,5 +43,5 @@ other_byte (Some x) byte e other b a o =
 
 pub returns-in-Some : goal.returns-in-Some
 returns-in-Some g c =
-    turn_ok_so c.in_ok-next_byte.field-0 (Err BadPamLine) (λ e. absurd cc)
+    call_ok_so c.in_ok-next_byte.field-0 (Err BadPamLine) (λ e. absurd cc)
     (λ b a o. inl (other_byte c.in_ok-next_byte.field-0 c.in-Some.field-0 c.in-Some.is c.in-Some.field-0-test.1 b a o)) c.in_ok-next_byte.ensures

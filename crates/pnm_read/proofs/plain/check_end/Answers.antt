@@ -2,13 +2,13 @@ use Rattle.std.proofs.Common.{◌≡◌, ℕ, inr, Option, None, Bor, slice_get,
 use Rattle.std.specs.Option.{option_copied}
 use Rattle.std.proofs.lemmas.Result.{err_from_is_err_and}
 use Rattle.pnm_read.proofs.PlainSteps.{end_goes_on, end_is_bad, end_is_there}
-use Rattle.pnm_read.proofs.Turns.{turn_err_so}
+use Rattle.pnm_read.proofs.ReadCalls.{call_err_so}
 use Rattle.pnm_read.proofs.plain.check_end.Goals as goal
 
 pub returns-in_err-fill : goal.returns-in_err-fill
 returns-in_err-fill g c =
     let p = err_from_is_err_and c.from_residual.result c.from_residual.ensures.1 in
-    rw (p.1, p.2) (turn_err_so c.in_err-fill.field-0.0 (λ b a o. inr o) c.in_err-fill.ensures.read_call)
+    rw (p.1, p.2) (call_err_so c.in_err-fill.field-0.0 (λ b a o. inr o) c.in_err-fill.ensures.read_call)
 
 pub returns-in-Some : goal.returns-in-Some
 returns-in-Some g c =

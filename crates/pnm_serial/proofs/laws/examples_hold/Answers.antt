@@ -1,6 +1,6 @@
 use Rattle.std.proofs.Common.{refl}
 use Rattle.std.specs.Fmt.{digits}
-use Rattle.pnm_read.specs.Texts.{ends_by, commented_after, uncommented_from}
+use Rattle.pnm_read.specs.HeaderTexts.{ends_by, commented_after, uncommented_from}
 use Rattle.pnm_image.specs.Texts.{words}
 use Rattle.pnm_read.specs.PamLines.{ended_after, last_after, trimmed_start, trimmed_end, token_of, after_token, kind_of_token, field_values, tuple_type_in}
 use Rattle.pnm_read.specs.Rasters.{pixels}
@@ -10,7 +10,7 @@ use Rattle.pnm_read.specs.Said.{in_turn, format_at, pnm_head_at, pam_head_at, ra
 use Rattle.pnm_read.specs.Said.{later_said_in, later_said, text_said}
 use Rattle.pnm_tools.specs.Tools.{result_head, result_sample}
 use Rattle.pnm_tools.specs.Chains.{due_in_turn}
-use Rattle.pnm_serial.specs.Examples.{RunExamplesHold}
+use Rattle.pnm_serial.specs.RunExamples.{RunExamplesHold}
 use Rattle.pnm_serial.proofs.laws.examples_hold.Goals as goal
 
 computed : RunExamplesHold

@@ -1,6 +1,6 @@
 use Rattle.std.proofs.Common.{rules, refl}
 use Rattle.pnm_read.specs.Sources.{reader_of}
-use Rattle.pnm_serial.specs.Downstreams.{output_of}
+use Rattle.pnm_serial.specs.FusedSinks.{output_of}
 use Rattle.pnm_serial.specs.Jobs.{job_of}
 use Rattle.pnm_serial.specs.Runs.{change}
 use Rattle.pnm_serial.specs.SerialRuns.{OutlastsRun}
@@ -22,24 +22,24 @@ returns-in-Err-clause-ran g c =
 pub finish-written-requires : goal.finish-written-requires
 finish-written-requires g c =
     let taken = c.feed_all-input.ensures.fed.output.taken in
-    let start = rw (← c.new-downstream.ensures.writer) at c.new-downstream.ensures.fresh in
-    failed_so (λ w. g.W.BytesOut.held w.now) (λ w. g.W.BytesOut.failures w.now) c.args.form (output_of c.new-downstream.result)
-    c.feed_all-input.ensures.fed.output.out c.feed_all-input.new.downstream c.feed_all-input.new.downstream.output
-    (taken c.args.form (output_of c.new-downstream.result) start)
+    let start = rw (← c.new-fused_sink.ensures.writer) at c.new-fused_sink.ensures.fresh in
+    failed_so (λ w. g.W.BytesOut.held w.now) (λ w. g.W.BytesOut.failures w.now) c.args.form (output_of c.new-fused_sink.result)
+    c.feed_all-input.ensures.fed.output.out c.feed_all-input.new.fused_sink c.feed_all-input.new.fused_sink.output
+    (taken c.args.form (output_of c.new-fused_sink.result) start)
 
 -- all has passed, through to the end of the input or its fault
 pub returns-clause-ran : goal.returns-clause-ran
 returns-clause-ran g c = λ tools lawful fresh.
     let fed = c.feed_all-input.ensures.fed in
-    let start = rw (← c.new-downstream.ensures.writer) at c.new-downstream.ensures.fresh in
+    let start = rw (← c.new-fused_sink.ensures.writer) at c.new-fused_sink.ensures.fresh in
     let ran = ran_of (λ r. g.R.BytesIn.left r.now) (λ r. g.R.BytesIn.failures r.now) g.F.Filter.at g.F.Filter.all_given g.F.Filter.stopped
     (λ w. g.W.BytesOut.held w.now) (λ w. g.W.BytesOut.failures w.now)
     c.with_buffer-source.result c.feed_all-input.new.source c.feed_all-input.result c.args.stages.now c.feed_all-input.new.stages
-    c.new-downstream.result c.feed_all-input.new.downstream (job_of tools c.args.form) lawful fresh start fed in
+    c.new-fused_sink.result c.feed_all-input.new.fused_sink (job_of tools c.args.form) lawful fresh start fed in
     let answered = stages_answered (λ r. g.R.BytesIn.left r.now) (λ r. g.R.BytesIn.failures r.now) g.F.Filter.at g.F.Filter.all_given g.F.Filter.stopped
     (λ w. g.W.BytesOut.held w.now) (λ w. g.W.BytesOut.failures w.now)
     c.with_buffer-source.result c.feed_all-input.new.source c.feed_all-input.result c.args.stages.now c.feed_all-input.new.stages
-    c.new-downstream.result c.feed_all-input.new.downstream tools lawful fresh fed in
+    c.new-fused_sink.result c.feed_all-input.new.fused_sink tools lawful fresh fed in
     let stages : HaveEnded tools (refusals_in c.feed_all-input.new.stages) fed.given fed.output.out c.first_fault.result = record {
       last = fed.output.out;
       answered = answered;
@@ -49,12 +49,12 @@ returns-clause-ran g c = λ tools lawful fresh.
     let reader = change (λ r. g.R.BytesIn.left r.now) (λ r. g.R.BytesIn.failures r.now) (reader_of c.with_buffer-source.result)
     (reader_of c.feed_all-input.new.source) in
     let ended : Ended (OutlastsRun reader.old reader.new) reader (λ w. g.W.BytesOut.held w.now) (λ w. g.W.BytesOut.failures w.now) (output_of
-    c.new-downstream.result)
+    c.new-fused_sink.result)
     c.finish-written.result.0 (job_of tools c.args.form) c.feed_all-input.result c.first_fault.result c.finish-written.result.1 = record {
       faults = refusals_in c.feed_all-input.new.stages;
       given = fed.given;
       out = fed.output.out;
-      sink = c.feed_all-input.new.downstream;
+      sink = c.feed_all-input.new.fused_sink;
       read = fed.read;
       consumed = fed.consumed;
       told = λ rest may. fed.told rest (may_follow c.feed_all-input.result c.first_fault.result c.finish-written.result.1 reader rest may);
@@ -66,11 +66,11 @@ returns-clause-ran g c = λ tools lawful fresh.
       broken = c.finish-written.ensures.broken;
       well = c.finish-written.ensures.well;
     } in
-    let has = ended_in_one_thread reader (λ w. g.W.BytesOut.held w.now) (λ w. g.W.BytesOut.failures w.now) (output_of c.new-downstream.result)
+    let has = ended_in_one_thread reader (λ w. g.W.BytesOut.held w.now) (λ w. g.W.BytesOut.failures w.now) (output_of c.new-fused_sink.result)
     c.finish-written.result.0 (job_of tools c.args.form)
     c.feed_all-input.result c.first_fault.result c.finish-written.result.1 ended answered
     stages.first in
-    let all = rw (c.new-downstream.ensures.writer, c.with_buffer-source.ensures.reader_is, ← c.answer.ensures) at has in
+    let all = rw (c.new-fused_sink.ensures.writer, c.with_buffer-source.ensures.reader_is, ← c.answer.ensures) at has in
     search rules
 
 pub returns-in-Err-clause-same_reader : goal.returns-in-Err-clause-same_reader
@@ -88,5 +88,5 @@ returns-clause-same_reader g c =
 pub returns-clause-same_writer : goal.returns-clause-same_writer
 returns-clause-same_writer g c =
     let same : g.W.BytesOut.same c.args.writer.now c.finish-written.result.0.now = g.met.W.BytesOut.same_later _ _ _
-    (rw c.new-downstream.ensures.writer at c.feed_all-input.ensures.same_writer).1 c.finish-written.ensures.same_device.1 in
+    (rw c.new-fused_sink.ensures.writer at c.feed_all-input.ensures.same_writer).1 c.finish-written.ensures.same_device.1 in
     search rules

@@ -1,7 +1,7 @@
 use Rattle.std.proofs.Common.{◌≡◌, ◌<◌, length, map, arith}
 use Rattle.std.proofs.lemmas.List.{length-map}
 use Rattle.pnm_image.specs.declared.message.Message.TheVariants.{Row}
-use Rattle.pnm_stages.proofs.PacketLaws.{rows_are_messages}
+use Rattle.pnm_stages.proofs.PacketLaws.{rows_are_messages, image_is_messages}
 use Rattle.pnm_stages.proofs.receiver.recognise.Goals as goal
 
 pub returns-in-Rows-clause-some : goal.returns-in-Rows-clause-some
@@ -12,3 +12,6 @@ returns-in-Rows-clause-some c =
 
 pub returns-in-Rows-clause-messages : goal.returns-in-Rows-clause-messages
 returns-in-Rows-clause-messages c = rw (c.in-Rows.is) (rows_are_messages c.in-Rows.rows)
+
+pub returns-in-Image-clause-messages : goal.returns-in-Image-clause-messages
+returns-in-Image-clause-messages c = rw (c.in-Image.is) (image_is_messages c.in-Image.head c.in-Image.rows c.shape-in-Image.ensures.sound)

@@ -1,6 +1,6 @@
 use Rattle.std.proofs.Common.{ap, ◌∙◌}
 use Rattle.rtrb.specs.Ring.{sent, received}
-use Rattle.pnm_stages.specs.Packets.{messages_of}
+use Rattle.pnm_stages.specs.RingPackets.{messages_of}
 use Rattle.pnm_stages.proofs.PacketLaws.{none_of}
 use Rattle.pnm_stages.proofs.ring.new_ring.Goals as goal
 

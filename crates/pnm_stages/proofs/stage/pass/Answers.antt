@@ -16,10 +16,18 @@ returns-in-Ok g c = record {
       (c.in-Ok.message ∷ []) (sent c.args.output.now) (sent c.send_answers.new.output) c.feed.ensures c.send_answers.ensures.sent);
 }
 
-pub returns-in-Err : goal.returns-in-Err
-returns-in-Err g c = record {
+pub returns-in-Err-Rows : goal.returns-in-Err-Rows
+returns-in-Err-Rows g c = let is = rw c.in-Err-Rows.field-0-is at c.in-Err-Rows.ensures.several.0 in record {
   output = c.pass_rows.ensures.output;
   passed = subst (λ (p : Packet). HasPassed g.F.Filter.at g.F.Filter.all_given g.F.Filter.stopped c.pass_rows.result c.args.stage.now
-      c.pass_rows.new.stage (messages_in p) (sent c.args.output.now) (sent c.pass_rows.new.output)) (sym c.in-Err.ensures.several.0)
+      c.pass_rows.new.stage (messages_in p) (sent c.args.output.now) (sent c.pass_rows.new.output)) (sym is)
       c.pass_rows.ensures.passed;
+}
+
+pub returns-in-Err-Image : goal.returns-in-Err-Image
+returns-in-Err-Image g c = let is = rw c.in-Err-Image.field-0-is at c.in-Err-Image.ensures.several.0 in record {
+  output = c.pass_image.ensures.output;
+  passed = subst (λ (p : Packet). HasPassed g.F.Filter.at g.F.Filter.all_given g.F.Filter.stopped c.pass_image.result c.args.stage.now
+      c.pass_image.new.stage (messages_in p) (sent c.args.output.now) (sent c.pass_image.new.output)) (sym is)
+      c.pass_image.ensures.passed;
 }

@@ -7,7 +7,7 @@ returns-clause-input g c = c.pass_all-end.ensures.input
 
 pub returns-clause-output : goal.returns-clause-output
 returns-clause-output g c =
-    same_output c.args.output c.hold_back.new.self c.pass_all-end.new.output c.hold_back.ensures.ring c.pass_all-end.ensures.output
+    same_output c.args.output c.coalesce_wakes.new.self c.pass_all-end.new.output c.coalesce_wakes.ensures.ring c.pass_all-end.ensures.output
 
 pub returns-clause-ran : goal.returns-clause-ran
 returns-clause-ran g c = search rules

@@ -40,22 +40,22 @@ returns-in-Raw-Bits-Bits-clause-failed g c =
 pub returns-then-has_whole_samples-clause-written : goal.returns-then-has_whole_samples-clause-written
 returns-then-has_whole_samples-clause-written g c =
     let raw : c.args.form ≡ Raw = search rules in
-    subst (λ (form : Form). OnOk c.write_joined.result
-    (Appends (g.W.BytesOut.held c.args.writer.now) (g.W.BytesOut.held c.write_joined.new.writer) (rows_bytes form c.args.shape c.args.rows.now)))
-    (sym raw) c.write_joined.ensures.written
+    subst (λ (form : Form). OnOk c.write_as_one.result
+    (Appends (g.W.BytesOut.held c.args.writer.now) (g.W.BytesOut.held c.write_as_one.new.writer) (rows_bytes form c.args.shape c.args.rows.now)))
+    (sym raw) c.write_as_one.ensures.written
 
 pub returns-then-has_whole_samples-clause-failed : goal.returns-then-has_whole_samples-clause-failed
 returns-then-has_whole_samples-clause-failed g c =
     let raw : c.args.form ≡ Raw = search rules in
-    subst (λ (form : Form). OnErr c.write_joined.result
-    (FailsIn (rows_bytes form c.args.shape c.args.rows.now) (g.W.BytesOut.held c.args.writer.now) (g.W.BytesOut.held c.write_joined.new.writer)
-    (g.W.BytesOut.failures c.args.writer.now) (g.W.BytesOut.failures c.write_joined.new.writer)))
-    (sym raw) c.write_joined.ensures.failed
+    subst (λ (form : Form). OnErr c.write_as_one.result
+    (FailsIn (rows_bytes form c.args.shape c.args.rows.now) (g.W.BytesOut.held c.args.writer.now) (g.W.BytesOut.held c.write_as_one.new.writer)
+    (g.W.BytesOut.failures c.args.writer.now) (g.W.BytesOut.failures c.write_as_one.new.writer)))
+    (sym raw) c.write_as_one.ensures.failed
 
-pub write_joined-requires-clause-rows : goal.write_joined-requires-clause-rows
-write_joined-requires-clause-rows g c = c.requires
+pub write_as_one-requires-clause-rows : goal.write_as_one-requires-clause-rows
+write_as_one-requires-clause-rows g c = c.requires
 
-pub write_joined-requires-clause-whole : goal.write_joined-requires-clause-whole
-write_joined-requires-clause-whole g c =
+pub write_as_one-requires-clause-whole : goal.write_as_one-requires-clause-whole
+write_as_one-requires-clause-whole g c =
     subst (λ (p : SampleWidth). AreWholeBytes p (row_length c.args.shape)) c.of-sample_width.ensures
     (c.if-has_whole_samples.ensures refl (row_length c.args.shape))

@@ -1,38 +1,38 @@
 use Rattle.std.proofs.Common.{sym, subst}
 use Rattle.pnm_tools.specs.Answers.{RowsMayCome}
 use Rattle.pnm_filters.specs.Pendings.{pending_of}
-use Rattle.pnm_filters.specs.States.{Standing, standing, is_all_given}
-use Rattle.pnm_filters.proofs.TakingSteps.{no_fault_yet, owes_nothing, rows_may_come, stands_by, taken_rows}
+use Rattle.pnm_filters.specs.States.{StateValue, state_value, is_all_given}
+use Rattle.pnm_filters.proofs.TakingSteps.{no_fault_yet, nothing_pending, rows_may_come, stands_by, taken_rows}
 use Rattle.pnm_filters.proofs.state.StateFilter.feed_rows.Goals as goal
 
 pub returns-in-Ok-clause-accepted : goal.returns-in-Ok-clause-accepted
 returns-in-Ok-clause-accepted g c = λ t l given at.
     let s = c.self.inside in
     let is_at = rw (← c.self.view_is) at at in
-    taken_rows g.T.ImageTool.tool g.T.ImageTool.ready g.T.ImageTool.due g.T.ImageTool.kept (standing s.work s.place (pending_of s.owed s.waiting) s.fault)
-    c.take_rows.new.work c.take_rows.new.place c.args.rows s.fault t l given is_at (owes_nothing s.owed s.waiting (sym c.if-not-is_told.ensures))
+    taken_rows g.T.ImageTool.tool g.T.ImageTool.ready g.T.ImageTool.due g.T.ImageTool.kept (state_value s.work s.place (pending_of s.phase s.waiting) s.fault)
+    c.take_rows.new.work c.take_rows.new.place c.args.rows s.fault t l given is_at (nothing_pending s.phase s.waiting (sym c.if-not-is_idle.ensures))
     c.in-Ok.ensures.taken
 
 pub returns-in-Ok-clause-come : goal.returns-in-Ok-clause-come
 returns-in-Ok-clause-come g c = λ t l given at.
     let s = c.self.inside in
     let is_at = rw (← c.self.view_is) at at in
-    subst (λ (z : Standing _). RowsMayCome (is_all_given z.pending) l c.args.rows) c.self.view_is
+    subst (λ (z : StateValue _). RowsMayCome (is_all_given z.pending) l c.args.rows) c.self.view_is
     (rows_may_come g.T.ImageTool.tool g.T.ImageTool.ready g.T.ImageTool.due g.T.ImageTool.kept
-    (standing s.work s.place (pending_of s.owed s.waiting) s.fault) c.args.rows t l given is_at
-    (owes_nothing s.owed s.waiting (sym c.if-not-is_told.ensures)) c.in-Ok.ensures.some (c.accepts_rows.ensures.0 c.if-not-accepts_rows.false))
+    (state_value s.work s.place (pending_of s.phase s.waiting) s.fault) c.args.rows t l given is_at
+    (nothing_pending s.phase s.waiting (sym c.if-not-is_idle.ensures)) c.in-Ok.ensures.some (c.accepts_rows.ensures.0 c.if-not-accepts_rows.false))
 
 pub returns-in-Err-clause-come : goal.returns-in-Err-clause-come
 returns-in-Err-clause-come g c = λ t l given at.
     let s = c.self.inside in
     let is_at = rw (← c.self.view_is) at at in
-    subst (λ (z : Standing _). RowsMayCome (is_all_given z.pending) l c.args.rows) c.self.view_is
+    subst (λ (z : StateValue _). RowsMayCome (is_all_given z.pending) l c.args.rows) c.self.view_is
     (rows_may_come g.T.ImageTool.tool g.T.ImageTool.ready g.T.ImageTool.due g.T.ImageTool.kept
-    (standing s.work s.place (pending_of s.owed s.waiting) s.fault) c.args.rows t l given is_at
-    (owes_nothing s.owed s.waiting (sym c.if-not-is_told.ensures)) c.in-Err.ensures.some (c.accepts_rows.ensures.0 c.if-not-accepts_rows.false))
+    (state_value s.work s.place (pending_of s.phase s.waiting) s.fault) c.args.rows t l given is_at
+    (nothing_pending s.phase s.waiting (sym c.if-not-is_idle.ensures)) c.in-Err.ensures.some (c.accepts_rows.ensures.0 c.if-not-accepts_rows.false))
 
 pub invariant_of-self : goal.invariant_of-self
 invariant_of-self g c =
     let s = c.self.inside in
     stands_by g.T.ImageTool.tool g.T.ImageTool.ready g.T.ImageTool.due g.T.ImageTool.kept s.work c.take_rows.new.work s.place c.take_rows.new.place
-    c.args.rows (pending_of s.owed s.waiting) s.fault (no_fault_yet s.fault (sym c.if-is_some.ensures)) c.self.invariant c.in-Ok.ensures.taken
+    c.args.rows (pending_of s.phase s.waiting) s.fault (no_fault_yet s.fault (sym c.if-is_some.ensures)) c.self.invariant c.in-Ok.ensures.taken

@@ -1,6 +1,6 @@
 use Rattle.std.proofs.Common.{◌≡◌, ◌<◌, ◌≤◌, ◌+◌, false, ap, sym, ◌∙◌, arith}
-use Rattle.pnm_tools.specs.declared.flip.Turn.{Turn}
-use Rattle.pnm_tools.specs.Flip.{turn_of}
+use Rattle.pnm_tools.specs.declared.flip.Transform.{Transform}
+use Rattle.pnm_tools.specs.Flip.{transform_of}
 use Rattle.pnm_geometry_tools.specs.SampleRows.{row_lists, strip_lists, rows_width}
 use Rattle.pnm_geometry_tools.specs.Keeping.{Transposed, transposed, transposed_due}
 use Rattle.pnm_geometry_tools.proofs.TransposeLaws.{batch_some, first_made}
@@ -10,8 +10,9 @@ use Rattle.pnm_geometry_tools.proofs.transpose.Transposer.make_first.Goals as go
 pub returns-clause-due : goal.returns-clause-due
 returns-clause-due c =
     let x = c.self.inside in
-    let first_first : (turn_of x.way).columns_reversed ≡ false = ap (λ (w : Transposed). (turn_of w.way).columns_reversed) c.self.view_is ∙ c.requires.order in
-    let order = ap (λ (t : Turn). t.rows_reversed) c.turn-rows_first.ensures in
+    let first_first : (transform_of x.way).columns_reversed ≡ false = ap (λ (w : Transposed). (transform_of w.way).columns_reversed) c.self.view_is
+    ∙ c.requires.order in
+    let order = ap (λ (t : Transform). t.rows_reversed) c.transform-rows_first.ensures in
     let none = ap (λ (w : Transposed). w.batch) c.self.view_is ∙ c.requires.left.0 in
     let within : x.next + c.min-count.result ≤ x.columns = omega arith in
     first_made x.way x.depth (rows_width x.rows) x.next x.columns c.min-count.result _ (strip_lists x.rows) (row_lists x.rows) c.in_ok-self-inside.field-0.items

@@ -1,7 +1,7 @@
 use Rattle.std.proofs.Common.{◌≡◌, ℕ, ◌≤◌, ◌<◌, ◌+◌, ◌-◌, ◌%◌, true, ap, sym, ◌∙◌, arith}
 use Rattle.std.proofs.Math.Nat.{mod-le}
-use Rattle.pnm_tools.specs.declared.flip.Turn.{Turn}
-use Rattle.pnm_tools.specs.Flip.{turn_of}
+use Rattle.pnm_tools.specs.declared.flip.Transform.{Transform}
+use Rattle.pnm_tools.specs.Flip.{transform_of}
 use Rattle.pnm_geometry_tools.specs.SampleRows.{row_lists, strip_lists, rows_width}
 use Rattle.pnm_geometry_tools.specs.Keeping.{Transposed, transposed, transposed_due}
 use Rattle.pnm_geometry_tools.proofs.TransposeLaws.{last_made}
@@ -13,8 +13,9 @@ returns-clause-due c =
     let x = c.self.inside in
     let left : ℕ = x.columns - x.next - 1 in
     let count : ℕ = left % c.batch_length.result + 1 in
-    let last_first : (turn_of x.way).columns_reversed ≡ true = ap (λ (w : Transposed). (turn_of w.way).columns_reversed) c.self.view_is ∙ c.requires.order in
-    let order = ap (λ (t : Turn). t.rows_reversed) c.turn-rows_first.ensures in
+    let last_first : (transform_of x.way).columns_reversed ≡ true = ap (λ (w : Transposed). (transform_of w.way).columns_reversed) c.self.view_is
+    ∙ c.requires.order in
+    let order = ap (λ (t : Transform). t.rows_reversed) c.transform-rows_first.ensures in
     let none = ap (λ (w : Transposed). w.batch) c.self.view_is ∙ c.requires.left.0 in
     let some : x.next < x.columns =
     omega (arith, ap (λ (w : Transposed). w.next) c.self.view_is, ap (λ (w : Transposed). w.columns) c.self.view_is, c.requires.left.1) in

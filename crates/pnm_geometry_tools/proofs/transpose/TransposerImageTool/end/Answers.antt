@@ -1,5 +1,5 @@
 use Rattle.std.proofs.Common.{ap}
-use Rattle.pnm_tools.specs.declared.flip.Turn.{Turn}
+use Rattle.pnm_tools.specs.declared.flip.Transform.{Transform}
 use Rattle.pnm_geometry_tools.specs.SampleRows.{row_lists, strip_lists, rows_width}
 use Rattle.pnm_geometry_tools.proofs.TransposeLaws.{end_due}
 use Rattle.pnm_geometry_tools.specs.Keeping.{Transposed}
@@ -13,7 +13,8 @@ returns-clause-due c =
     let new = c.put_in_order.new.self in
     end_due c.args.self.now x.way (rows_width x.rows) (rows_width new) x.depth x.next x.columns _ (strip_lists x.rows) (strip_lists new) (row_lists x.rows)
     (row_lists new) x.batch.items come c.args.shape
-    c.self.invariant.way c.self.view_is (ap (λ (t : Turn). t.rows_reversed) c.turn-last_first.ensures) c.put_in_order.ensures.strips c.put_in_order.ensures.rows
+    c.self.invariant.way c.self.view_is (ap (λ (t : Transform). t.rows_reversed) c.transform-last_first.ensures) c.put_in_order.ensures.strips
+    c.put_in_order.ensures.rows
     h
 
 pub returns-clause-same : goal.returns-clause-same

@@ -1,5 +1,5 @@
 use Rattle.std.proofs.Common.{ap, length, sym, ◌≡◌, ◌≤◌, [], subst, vec_capacity, ℕ, arith}
-use Rattle.pnm_lanes.proofs.JoinSteps.{made_so, unused_more, counted_more}
+use Rattle.pnm_lanes.proofs.MergeSteps.{made_so, unused_more, counted_more}
 use Rattle.pnm_lanes.proofs.lane_rings.LaneRings.new.Goals as goal
 
 pub loop-preserved : goal.loop-preserved

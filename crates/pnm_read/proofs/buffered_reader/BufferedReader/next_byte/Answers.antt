@@ -2,7 +2,7 @@ use Rattle.std.proofs.Common.{◌≡◌, ℕ, List, [], ◌∷◌, ◌++◌, dro
 use Rattle.std.proofs.lemmas.Result.{err_from_is_err_and}
 use Rattle.pnm_read.specs.declared.fault.InputFault.TheVariants.{ReadFailed}
 use Rattle.pnm_read.proofs.EndSteps.{none_held, end_seen}
-use Rattle.pnm_read.proofs.Turns.{turn_err_so, turn_ok_so, turn_seen, turn_advance, no_fault, nothing_left}
+use Rattle.pnm_read.proofs.ReadCalls.{call_err_so, call_ok_so, call_seen, call_advance, no_fault, nothing_left}
 use Rattle.pnm_read.proofs.buffered_reader.BufferedReader.next_byte.Goals as goal
 
 -- the byte that is held first
@@ -13,11 +13,11 @@ first_byte byte (b ∷ bytes) held rest is first = let same : byte ≡ b = cc in
 pub returns-in_err-fill : goal.returns-in_err-fill
 returns-in_err-fill g c =
     let p = err_from_is_err_and c.from_residual.result c.from_residual.ensures.1 in
-    rw (p.1, p.2) (turn_err_so c.in_err-fill.field-0.0 (λ b a o. o) c.in_err-fill.ensures.read_call)
+    rw (p.1, p.2) (call_err_so c.in_err-fill.field-0.0 (λ b a o. o) c.in_err-fill.ensures.read_call)
 
 pub returns-in-Some : goal.returns-in-Some
 returns-in-Some g c =
-    turn_advance {A = Unit {0}} {B = Option ℕ} tt (Ok (Some c.in-Some.byte.now)) 1 (no_fault (Some c.in-Some.byte.now) ReadFailed) c.advance.ensures.reader
+    call_advance {A = Unit {0}} {B = Option ℕ} tt (Ok (Some c.in-Some.byte.now)) 1 (no_fault (Some c.in-Some.byte.now) ReadFailed) c.advance.ensures.reader
     c.advance.ensures.ended c.advance.ensures.held
     (λ b rest can o. o ∙ first_byte c.in-Some.byte.now c.bytes.result.now _ rest c.bytes.ensures c.in-Some.ensures.value)
     c.in_ok-fill.ensures.read_call
@@ -25,6 +25,6 @@ returns-in-Some g c =
 pub returns-in-None : goal.returns-in-None
 returns-in-None g c =
     let none = none_held c.bytes.result.now _ c.bytes.ensures c.in-None.ensures.value in
-    turn_ok_so {A = Unit {0}} {B = Option ℕ} tt (Ok None) (no_fault {A = Option ℕ} None ReadFailed)
+    call_ok_so {A = Unit {0}} {B = Option ℕ} tt (Ok None) (no_fault {A = Option ℕ} None ReadFailed)
     (λ b a o. let left = nothing_left c.fill.new.self a none (end_seen c.fill.new.self c.in_ok-fill.ensures.enough none) o.1 in (o.0 ∙ left, left))
-    (turn_seen c.in_ok-fill.ensures.read_call)
+    (call_seen c.in_ok-fill.ensures.read_call)

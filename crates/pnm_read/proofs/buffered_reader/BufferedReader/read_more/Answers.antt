@@ -6,7 +6,7 @@ use Rattle.std.proofs.lemmas.Bool.{eqb-true}
 use Rattle.std.proofs.lemmas.Grind.{common_steps}
 use Rattle.std.proofs.lemmas.List.{length-append, length-take}
 use Rattle.std.proofs.lemmas.Result.{err_from_is_err_and}
-use Rattle.pnm_read.proofs.ReadSteps.{turn_grown, turn_failed, range_grown}
+use Rattle.pnm_read.proofs.ReadSteps.{call_grown, call_failed, range_grown}
 use Rattle.pnm_read.proofs.buffered_reader.BufferedReader.read_more.Goals as goal
 
 pub returns-clause-read_call : goal.returns-clause-read_call
@@ -16,7 +16,7 @@ returns-clause-read_call g c =
     let target : List ℕ = c.read_into.new.target in
     let post : List ℕ = post_of mid.end (length bytes - mid.end) bytes in
     let kept : (with_items mid.buffer (take mid.end bytes ++ (target ++ post))).items ≡ take mid.end bytes ++ (target ++ post) = grind (arith, common_steps) in
-    turn_grown c.in_ok-self.field-0 target mid.reader c.in_ok-self.ensures.read c.move_to_front.ensures.reader c.requires.goes_on
+    call_grown c.in_ok-self.field-0 target mid.reader c.in_ok-self.ensures.read c.move_to_front.ensures.reader c.requires.goes_on
     (λ e. eqb-true c.in_ok-self.field-0 0 (sym c.in_ok-self.ensures.end ∙ e))
     (ap (λ (l : List ℕ). slice_range l mid.at (mid.end + c.in_ok-self.field-0)) kept
     ∙ range_grown bytes target post mid.at mid.end c.in_ok-self.field-0 (omega arith) (omega (arith, c.as_mut_slice.ensures.len)) c.in_ok-self.ensures.read.1
@@ -27,7 +27,7 @@ pub returns-in_err-self-clause-read_call : goal.returns-in_err-self-clause-read_
 returns-in_err-self-clause-read_call g c =
     let p = err_from_is_err_and c.from_residual.result c.from_residual.ensures.1 in
     let r = c.in_err-self.ensures.read in
-    rw (p.1, p.2) (turn_failed c.in_err-self.field-0.0 c.read_into.new.target c.move_to_front.new.self.reader r c.move_to_front.ensures.reader
+    rw (p.1, p.2) (call_failed c.in_err-self.field-0.0 c.read_into.new.target c.move_to_front.new.self.reader r c.move_to_front.ensures.reader
     c.requires.goes_on c.in_err-self.ensures.end (λ b a. inl r.1))
 
 -- more is held, or the end was seen

@@ -3,8 +3,8 @@ use Rattle.pnm_read.proofs.DecimalSteps.{decimal_goes_on, decimal_stops}
 use Rattle.pnm_read.proofs.decimal.DecimalScannerScanner.take.Goals as goal
 
 pub returns-then-eq-clause-judged : goal.returns-then-eq-clause-judged
-returns-then-eq-clause-judged c = decimal_goes_on c.args.self.now c.push.new.self c.args.byte c.judge-judgement.result (search rules)
-    c.judge-judgement.ensures.judged c.push.ensures
+returns-then-eq-clause-judged c = decimal_goes_on c.args.self.now c.push.new.self c.args.byte c.judge-scan_status.result (search rules)
+    c.judge-scan_status.ensures.judged c.push.ensures
 
 pub returns-else-eq-clause-judged : goal.returns-else-eq-clause-judged
-returns-else-eq-clause-judged c = decimal_stops c.args.self.now c.args.byte c.judge-judgement.result (search rules) c.judge-judgement.ensures.judged
+returns-else-eq-clause-judged c = decimal_stops c.args.self.now c.args.byte c.judge-scan_status.result (search rules) c.judge-scan_status.ensures.judged

@@ -3,7 +3,7 @@ use Rattle.pnm_image.specs.declared.shape.Shape.{Shape}
 use Rattle.pnm_image.specs.Heads.{IsWithinLimits, head_value}
 use Rattle.pnm_image.specs.declared.head.Head.{Head as HeadValue}
 use Rattle.pnm_tools.specs.declared.tool.Tool.TheVariants.{Cut}
-use Rattle.pnm_tools.specs.Limits.{within_limits}
+use Rattle.pnm_tools.specs.ToolLimits.{within_limits}
 use Rattle.pnm_tools.specs.Tools.{result_head}
 use Rattle.pnm_tools.proofs.HeadLaws.{head_so, fault_so}
 use Rattle.pnm_tools.proofs.CutRowLaws.{columns_lie, rows_lie, counts_within, cut_without_rows, cut_head_by, cut_head_made}

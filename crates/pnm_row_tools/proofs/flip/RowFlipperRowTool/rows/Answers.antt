@@ -4,10 +4,10 @@ use Rattle.std.proofs.lemmas.Bool.{not-false, not-true}
 use Rattle.std.proofs.lemmas.List.Elements.{All-from_recursion}
 use Rattle.pnm_image.specs.HeldRows.{AreRowsWithin}
 use Rattle.pnm_image.specs.Places.{IsRowOf}
-use Rattle.pnm_tools.specs.declared.flip.Turn.{Turn}
+use Rattle.pnm_tools.specs.declared.flip.Transform.{Transform}
 use Rattle.pnm_tools.specs.declared.tool.Tool.TheVariants.{Flip}
-use Rattle.pnm_tools.specs.Flip.{mirrored_row, turn_of, turned_row}
-use Rattle.pnm_tools.proofs.TurnLaws.{row_stays}
+use Rattle.pnm_tools.specs.Flip.{mirrored_row, transform_of, transformed_row}
+use Rattle.pnm_tools.proofs.TransformLaws.{row_stays}
 use Rattle.pnm_row_tools.specs.EachRow.{HoldsRows}
 use Rattle.pnm_row_tools.proofs.FlipRowsLaws.{as_long, mirrored_rows_within, rows_turned}
 use Rattle.pnm_row_tools.proofs.HeldRowsLaws.{length_of_shape, rows_of_shape}
@@ -39,18 +39,19 @@ new-requires-clause-within c =
     let s = c.args.shape in
     subst (AreRowsWithin s.maxval) (sym (mirrored c).1) (mirrored_rows_within s c.args.rows (All-from_recursion (IsRowOf s) c.args.rows c.requires.rows.1))
 
-pub returns-then-not-turn-clause-made : goal.returns-then-not-turn-clause-made
-returns-then-not-turn-clause-made c =
+pub returns-then-not-transform-clause-made : goal.returns-then-not-transform-clause-made
+returns-then-not-transform-clause-made c =
     let way = c.args.self.now in
     let s = c.args.shape in
     each_answered (Flip way) s (λ row. row) c.args._y c.args.rows (λ k row from to.
     row_stays way s k row c.requires.ready.stays
-    ∙ ap (λ (t : Turn). turned_row t s row ∷ []) (sym (c.turn.ensures ∙ ap turn_of c.self.view_is))
-    ∙ ap (λ (reversed : Bool). (if reversed then mirrored_row s row else row) ∷ []) (not-true c.turn.result.columns_reversed c.if-not-turn.true))
+    ∙ ap (λ (t : Transform). transformed_row t s row ∷ []) (sym (c.transform.ensures ∙ ap transform_of c.self.view_is))
+    ∙ ap (λ (reversed : Bool). (if reversed then mirrored_row s row else row) ∷ []) (not-true c.transform.result.columns_reversed c.if-not-transform.true))
     ∙ map-id c.args.rows
 
 pub returns-clause-made : goal.returns-clause-made
 returns-clause-made c =
     rows_turned c.args.self.now c.args.shape c.args._y c.args.rows c.new.result c.requires.ready.stays
-    (ap (λ (t : Turn). t.columns_reversed) (sym (c.turn.ensures ∙ ap turn_of c.self.view_is)) ∙ not-false c.turn.result.columns_reversed c.if-not-turn.false)
+    (ap (λ (t : Transform). t.columns_reversed) (sym (c.transform.ensures ∙ ap transform_of c.self.view_is)) ∙ not-false c.transform.result.columns_reversed
+    c.if-not-transform.false)
     (c.new.ensures ∙ (mirrored c.before).1)

@@ -3,8 +3,8 @@ use Rattle.pnm_image.specs.Places.{IsRowOf}
 use Rattle.pnm_row_tools.proofs.FlipRowsLaws.{block_given, rows_parted}
 use Rattle.pnm_row_tools.proofs.flip.RowReverserImageTool.give.Goals as goal
 
-pub turn_rows-requires-clause-rows : goal.turn_rows-requires-clause-rows
-turn_rows-requires-clause-rows c =
+pub transform_rows-requires-clause-rows : goal.transform_rows-requires-clause-rows
+transform_rows-requires-clause-rows c =
     let x = c.self.inside in
     let parted = rows_parted x.ended c.in-Some.shape x.blocks.items c.pop.new.self.items c.in-Some-pop.kept c.in-Some.is c.self.invariant.rows
     c.in-Some-pop.ensures.items in
@@ -27,5 +27,5 @@ invariant_of-self-2 c =
 pub returns-clause-due : goal.returns-clause-due
 returns-clause-due c =
     let x = c.self.inside in
-    block_given c.args.self.now x.way x.ended c.turn.result c.in-Some.shape x.blocks.items c.pop.new.self.items c.in-Some-pop.kept c.in_ok-turned.turned
-    c.self.view_is c.in-Some.is c.turn.ensures c.in-Some-pop.ensures.items c.in_ok-turned.ensures
+    block_given c.args.self.now x.way x.ended c.transform.result c.in-Some.shape x.blocks.items c.pop.new.self.items c.in-Some-pop.kept c.in_ok-turned.turned
+    c.self.view_is c.in-Some.is c.transform.ensures c.in-Some-pop.ensures.items c.in_ok-turned.ensures

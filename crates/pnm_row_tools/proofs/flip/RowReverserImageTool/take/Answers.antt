@@ -1,10 +1,10 @@
 use Rattle.std.proofs.Common.{Option, ap, sym, ◌∙◌}
 use Rattle.std.proofs.lemmas.List.Elements.{All-from_recursion}
 use Rattle.pnm_image.specs.Places.{IsRowOf}
-use Rattle.pnm_row_tools.specs.Keeping.{Reversed, joined, reversed, reversed_due}
-use Rattle.pnm_tools.specs.Flip.{moves_rows, turn_of}
-use Rattle.pnm_tools.proofs.TurnLaws.{reversed_moves}
-use Rattle.pnm_row_tools.proofs.FlipRowsLaws.{more_kept, none_answer, rows_joined}
+use Rattle.pnm_row_tools.specs.RowKeeping.{Reversed, flattened, reversed, reversed_due}
+use Rattle.pnm_tools.specs.Flip.{moves_rows, transform_of}
+use Rattle.pnm_tools.proofs.TransformLaws.{reversed_moves}
+use Rattle.pnm_row_tools.proofs.FlipRowsLaws.{more_kept, none_answer, rows_flattened}
 use Rattle.pnm_row_tools.proofs.flip.RowReverserImageTool.take.Goals as goal
 
 pub returns-clause-ready : goal.returns-clause-ready
@@ -13,13 +13,13 @@ returns-clause-ready c =
     let x = c.self.inside in
     let s = c.args._shape in
     more_kept c.args.self.now x.way x.blocks.items c.push.new.self.items c.args.rows before x.ended s c.self.view_is
-    (ap joined c.in_ok-push.ensures.items ∙ rows_joined x.blocks.items c.args.rows) (All-from_recursion (IsRowOf s) c.args.rows c.requires.rows.1) ready
+    (ap flattened c.in_ok-push.ensures.items ∙ rows_flattened x.blocks.items c.args.rows) (All-from_recursion (IsRowOf s) c.args.rows c.requires.rows.1) ready
 
 pub returns-clause-due : goal.returns-clause-due
 returns-clause-due c =
     let x = c.self.inside in
     let w = c.args.self.now in
     let none = ap (λ (v : Reversed). v.ended) c.self.view_is ∙ c.requires.ready.2.none_given in
-    let moves = ap (λ (v : Reversed). moves_rows (turn_of v.way)) (sym c.self.view_is) ∙ reversed_moves (turn_of x.way) c.self.invariant.way in
-    ap (λ (ended : Option _). reversed_due (reversed x.way (joined c.push.new.self.items) ended)) none
+    let moves = ap (λ (v : Reversed). moves_rows (transform_of v.way)) (sym c.self.view_is) ∙ reversed_moves (transform_of x.way) c.self.invariant.way in
+    ap (λ (ended : Option _). reversed_due (reversed x.way (flattened c.push.new.self.items) ended)) none
     ∙ sym (none_answer w.way c.args._shape c.args._y c.args.rows moves)

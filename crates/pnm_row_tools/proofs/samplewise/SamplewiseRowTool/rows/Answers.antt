@@ -16,4 +16,4 @@ new-requires-clause-within g c =
     changed_rows_within s f c.maxval-most.result parts.result.1 parts.result.2 parts.result.0 c.in_ok-changed.changed c.args.rows parts.ensures.rows
     parts.ensures.whole c.in_ok-changed.ensures c.requires.rows.1 (λ sample le.
     subst (λ (n : ℕ). f sample ≤ n) (sym c.maxval-most.ensures.value)
-    ((g.met.T.SampleTool.changes tool).within s.maxval sample c.requires.lawful c.requires.ready.0.maxval_low le))
+    ((g.met.T.SampleTool.changes tool).within s.maxval sample c.requires.lawful c.requires.ready.limits.maxval_low le))

@@ -1,5 +1,5 @@
 use Rattle.std.proofs.Common.{ap, sym, ◌∙◌}
-use Rattle.pnm_stages.specs.Packets.{has_rows_together}
+use Rattle.pnm_stages.specs.RingPackets.{has_rows_together}
 use Rattle.pnm_stages.proofs.PacketLaws.{none_together}
 use Rattle.pnm_stages.proofs.receiver.Receiver.new.Goals as goal
 

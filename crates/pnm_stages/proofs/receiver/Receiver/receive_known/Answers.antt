@@ -1,6 +1,6 @@
 use Rattle.std.proofs.Common.{◌≡◌, Bool, ◌||◌, ap, sym, ◌∙◌}
 use Rattle.pnm_stages.proofs.PacketLaws.{one_more, together_with}
-use Rattle.pnm_stages.specs.Packets.{messages_of, is_rows_together, has_rows_together}
+use Rattle.pnm_stages.specs.RingPackets.{messages_of, is_rows_together, has_rows_together}
 use Rattle.rtrb.specs.Ring.{received}
 use Rattle.pnm_stages.proofs.receiver.Receiver.receive_known.Goals as goal
 use Rattle.pnm_stages.proofs.receiver.Receiver.receive_known.Goals.{then-self, else-self}

@@ -1,7 +1,7 @@
 use Rattle.std.proofs.Common.{ap, ◌∙◌, arith}
 use Rattle.std.proofs.lemmas.Grind.{common_steps}
 use Rattle.pnm_stages.proofs.PacketLaws.{one_more}
-use Rattle.pnm_stages.specs.Packets.{messages_of}
+use Rattle.pnm_stages.specs.RingPackets.{messages_of}
 use Rattle.rtrb.specs.Ring.{sent}
 use Rattle.pnm_stages.proofs.sender.Sender.send_packet_reserved.Goals as goal
 

@@ -1,0 +1,22 @@
+-- What a call reports to C.
+use Rattle.std.specs.Prelude.{◌≡◌, ℕ, List}
+use Rattle.pnm_memory.specs.declared.answer.Answer.{Answer}
+use Rattle.pnm_memory.specs.declared.run.Made.{Made}
+use Rattle.pnm_memory.specs.CallAnswers.{IsChecked, IsMade}
+use Rattle.pnm_c.specs.declared.bytes.Bytes.{Bytes}
+use Rattle.pnm_c.specs.HandedOut.{IsHandedOut}
+
+-- the code and the stage are those that are reported of the chain's text
+pub record IsCodeOf (chain : List ℕ) (code stage : ℕ) : Type 0 where
+  pub reported : Answer
+  pub checked : IsChecked chain reported
+  pub code_is : code ≡ reported.code
+  pub stage_is : stage ≡ reported.number
+
+-- the results and the answer are those of a call, and the block of the results was given away
+pub record IsReportedNew (chain : List ℕ) (number : ℕ) (input : List ℕ) (bytes : Bytes) (reported : Answer) : Type 0
+  where
+    pub made : Made
+    pub is_made : IsMade chain number input made
+    pub handed : IsHandedOut made.results bytes
+    pub reported_is : reported ≡ made.answer

@@ -1,0 +1,17 @@
+use Rattle.std.proofs.Common.{◌≡◌, ◌≤◌, ◌++◌, ◌-◌, reverse}
+use Rattle.pnm_image.specs.HeldRows.{row_lists}
+use Rattle.pnm_geometry_tools.specs.MadeRows.{HoldsWithin}
+use Rattle.pnm_geometry_tools.proofs.together.next_columns.Given as goal
+
+-- so many columns are held, and the others wait
+abbrev pub invariant-loop-count : goal.invariant-loop-count
+invariant-loop-count l = record {
+  some : 1 ≤ l.count;
+  most : l.count ≤ 256;
+  short : l.each ≤ 1024;
+  held : HoldsWithin l.count l.each l.bound l.held;
+  all : reverse l.fn.batch.items ≡ row_lists l.count l.each l.held ++ reverse l.batch.items;
+}
+
+abbrev pub decreases-loop-count : goal.decreases-loop-count
+decreases-loop-count l = 256 - l.count

@@ -1,0 +1,5 @@
+use Rattle.std.proofs.Common.{rules}
+use Rattle.pnm_lanes.proofs.agreement.agreed.Goals as goal
+
+pub returns-in_ok-height-in-Begin-clause-found : goal.returns-in_ok-height-in-Begin-clause-found
+returns-in_ok-height-in-Begin-clause-found c = search rules

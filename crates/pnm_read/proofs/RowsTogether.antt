@@ -1,0 +1,198 @@
+-- Rows of a raw raster that are held whole, and are taken together.
+use Rattle.pnm_image.specs.Formats.{is_plain_form}
+use Rattle.std.proofs.Common.{◌≡◌, ℕ, zero, suc, ◌+◌, ◌*◌, ◌≤◌, List, [], ◌∷◌, ◌++◌, length, take, drop, Result, Ok, refl, sym, ap, ap₂, subst, ◌∙◌}
+use Rattle.std.proofs.Common.{false, append_assoc, arith, zero-mul, suc-mul}
+use Rattle.std.specs.List.{concat}
+use Rattle.std.proofs.lemmas.List.{take-append-drop, take-take, length-take-le, length-drop}
+use Rattle.std.proofs.lemmas.List.{nil_from_length}
+use Rattle.std.proofs.Common.{All, ◌⊎◌, inl, inr}
+use Rattle.std.proofs.lemmas.List.Elements.{All-take, All-drop, All-nil, All-cons}
+use Rattle.pnm_samples.specs.PixelRows.{bytes_for, rows_of_bytes}
+use Rattle.pnm_samples.proofs.PixelRowLaws.{byte_pixels_within}
+use Rattle.pnm_image.specs.HeldRows.{AreRowsWithin}
+use Rattle.pnm_samples.specs.Pixels.{all_pixels}
+use Rattle.pnm_samples.proofs.PixelLaws.{length-all_pixels, take-all_pixels}
+use Rattle.pnm_image.specs.declared.shape.Shape.{Shape}
+use Rattle.pnm_image.specs.declared.format.Format.{Format}
+use Rattle.pnm_image.specs.declared.sample_width.SampleWidth.{SampleWidth}
+use Rattle.pnm_image.specs.declared.sample_width.SampleWidth.TheVariants.{Bits, Bytes, Words}
+use Rattle.pnm_image.specs.SampleWidths.{sample_width_of}
+use Rattle.pnm_image.specs.Heads.{row_length}
+use Rattle.pnm_image.specs.Images.{cut_rows}
+use Rattle.pnm_image.specs.Rows.{row_messages}
+use Rattle.pnm_read.specs.declared.fault.InputFault.{InputFault}
+use Rattle.pnm_read.specs.Items.{◌>>=◌}
+use Rattle.pnm_read.specs.Said.{Said, in_turn, units_in_row, raw_row, rows_said}
+use Rattle.pnm_read.specs.Units.{samples_of_bytes, AreBytesWithin}
+use Rattle.pnm_read.specs.declared.raster.Raster.{Raster}
+use Rattle.pnm_read.specs.RasterRows.{FitsBytes, AreHeld, TakesRows, rows_held}
+use Rattle.pnm_read.specs.Sources.{after_messages}
+use Rattle.pnm_read.proofs.PieceLaws.{bind_ok}
+use Rattle.pnm_read.proofs.UnitLaws.{items_of, bytes_are_units}
+use Rattle.pnm_read.proofs.RawSteps.{units_as}
+use Rattle.pnm_read.proofs.RawLaws.{row_at_raw}
+use Rattle.pnm_read.proofs.RowsInTurn.{RowsRead, read_rows_are_said}
+
+-- ---- samples of bytes
+
+within-take : (p : SampleWidth) (maxval n : ℕ) (bytes : List ℕ) → AreBytesWithin p maxval bytes → AreBytesWithin p maxval (take n bytes)
+within-take Bits maxval n bytes h = tt
+within-take Bytes maxval n bytes h = All-take (λ sample. sample ≤ maxval) n bytes h
+within-take Words maxval n bytes h = All-take (λ sample. sample ≤ maxval) n bytes h
+
+within-drop : (p : SampleWidth) (maxval n : ℕ) (bytes : List ℕ) → AreBytesWithin p maxval bytes → AreBytesWithin p maxval (drop n bytes)
+within-drop Bits maxval n bytes h = tt
+within-drop Bytes maxval n bytes h = All-drop (λ sample. sample ≤ maxval) n bytes h
+within-drop Words maxval n bytes h = All-drop (λ sample. sample ≤ maxval) n bytes h
+
+-- no bytes are samples of two
+not_wide : (p : SampleWidth) (s : Shape) → FitsBytes p s → p ≡ Words → ⊥
+not_wide Bits s fits e = cc
+not_wide Bytes s fits e = cc
+not_wide Words s fits e = fits
+
+-- the others that fit are bytes
+pub are_bytes : (p : SampleWidth) (s : Shape) → FitsBytes p s → (p ≡ Bytes) ⊎ (p ≡ Words) → p ≡ Bytes
+are_bytes p s fits which = elim which [ inl bytes ↦ bytes | inr words ↦ absurd (subst (λ (q : SampleWidth). FitsBytes q s) words fits) ]
+
+-- ---- rows in turn
+
+-- a row, and what is left of the text
+abbrev pub row_done : List ℕ → List ℕ → Result (List ℕ × List ℕ) InputFault
+row_done row rest = Ok (row, rest)
+
+-- the row that so many bytes are
+first_row : (p : SampleWidth) (s : Shape) (bytes rest : List ℕ) → p ≡ sample_width_of s.kind s.maxval → FitsBytes p s → length bytes ≡ units_in_row p s
+    → AreBytesWithin p s.maxval bytes → raw_row s (bytes ++ rest) ≡ Ok (take (row_length s) (samples_of_bytes p bytes), rest)
+unfolding raw_row
+first_row p s bytes rest is_width fits count within =
+    let found = bytes_are_units p s.maxval bytes rest (not_wide p s fits) within in
+    ap (λ (r : Result (List (List ℕ) × List ℕ) InputFault). r >>= λ units. row_done (take (row_length s) (concat units.0)) units.1)
+    (units_as s p (length bytes) (bytes ++ rest) is_width count ∙ found.2)
+    ∙ ap (λ (l : List ℕ). row_done l rest) (ap (take (row_length s)) (sym found.1))
+
+-- a row before others
+pub row_before : (item : List ℕ → Result (List ℕ × List ℕ) InputFault) (n : ℕ) (text left rest row : List ℕ) (rows : List (List ℕ)) → item text ≡ Ok (row, left)
+    → in_turn item n left ≡ Ok (rows, rest) → in_turn item (suc n) text ≡ Ok (row ∷ rows, rest)
+unfolding in_turn
+row_before item n text left rest row rows first others =
+    ap (λ (r : Result (List ℕ × List ℕ) InputFault). r >>= λ one. in_turn item n one.1 >>= λ more. items_of (one.0 ∷ more.0) more.1) first
+    ∙ ap (λ (r : Result (List (List ℕ) × List ℕ) InputFault). r >>= λ more. items_of (row ∷ more.0) more.1) others
+
+pub no_rows : (item : List ℕ → Result (List ℕ × List ℕ) InputFault) (bytes rest : List ℕ) → bytes ≡ [] → in_turn item zero (bytes ++ rest) ≡ Ok ([], rest)
+unfolding in_turn
+no_rows item bytes rest none = ap (λ (l : List ℕ). items_of [] (l ++ rest)) none
+
+-- bytes of so many rows are these rows in turn
+pub rows_in_turn : (p : SampleWidth) (s : Shape) (count : ℕ) (bytes rest : List ℕ) → p ≡ sample_width_of s.kind s.maxval → FitsBytes p s
+    → length bytes ≡ count * units_in_row p s → AreBytesWithin p s.maxval bytes
+    → in_turn (raw_row s) count (bytes ++ rest) ≡ Ok (rows_held p s count bytes, rest)
+rows_in_turn p s zero bytes rest is_width fits size within = no_rows (raw_row s) bytes rest (nil_from_length bytes (size ∙ zero-mul (units_in_row p s)))
+rows_in_turn p s (suc count) bytes rest is_width fits size within =
+    let each : ℕ = units_in_row p s in
+    let total : length bytes ≡ count * each + each = size ∙ suc-mul count each in
+    let first : List ℕ = take each bytes in
+    let later : List ℕ = drop each bytes in
+    let size_first : length first ≡ each = length-take-le each bytes (omega (arith, total)) in
+    let size_later : length later ≡ count * each = omega (arith, length-drop each bytes, total) in
+    let row : List ℕ = take (row_length s) (samples_of_bytes p first) in
+    let text : bytes ++ rest ≡ first ++ (later ++ rest) =
+    ap (λ (l : List ℕ). l ++ rest) (sym (take-append-drop each bytes)) ∙ append_assoc first later rest in
+    ap (in_turn (raw_row s) (suc count)) text
+    ∙ row_before (raw_row s) count (first ++ (later ++ rest)) (later ++ rest) rest row (rows_held p s count later)
+    (first_row p s first (later ++ rest) is_width fits size_first (within-take p s.maxval each bytes within))
+    (rows_in_turn p s count later rest is_width fits size_later (within-drop p s.maxval each bytes within))
+
+-- ---- rows of bits, and of bytes
+
+-- rows that lie in bytes each from a byte's start on
+pub bits_are_rows : (s : Shape) (count : ℕ) (bytes : List ℕ) → FitsBytes Bits s → rows_of_bytes count (row_length s) bytes ≡ rows_held Bits s count bytes
+bits_are_rows s zero bytes fits = refl
+bits_are_rows s (suc count) bytes fits =
+    let each : ℕ = row_length s in
+    let units : ℕ = units_in_row Bits s in
+    let row : take each (all_pixels bytes) ≡ take each (all_pixels (take units bytes)) =
+    sym (take-take each (8 * units) (all_pixels bytes) (omega (arith, fits))) ∙ ap (take each) (take-all_pixels units bytes) in
+    ap₂ (λ (r : List ℕ) (l : List (List ℕ)). r ∷ l) row
+    (ap (λ (n : ℕ). rows_of_bytes count each (drop n bytes)) fits ∙ bits_are_rows s count (drop units bytes) fits)
+
+pub length_of_bits : (count each : ℕ) (bytes : List ℕ) → length bytes ≡ count * bytes_for each → All (λ row. length row ≡ each) (rows_of_bytes count each bytes)
+length_of_bits zero each bytes size = All-nil (λ (row : List ℕ). length row ≡ each)
+length_of_bits (suc count) each bytes size =
+    let total : length bytes ≡ count * bytes_for each + bytes_for each = size ∙ suc-mul count (bytes_for each) in
+    All-cons (λ (row : List ℕ). length row ≡ each) (take each (all_pixels bytes)) (rows_of_bytes count each (drop (bytes_for each) bytes))
+    (length-take-le each (all_pixels bytes) (omega (arith, length-all_pixels bytes, total)))
+    (length_of_bits count each (drop (bytes_for each) bytes) (omega (arith, length-drop (bytes_for each) bytes, total)))
+
+pub bits_within : (count each : ℕ) (bytes : List ℕ) → AreRowsWithin 1 (rows_of_bytes count each bytes)
+bits_within zero each bytes = All-nil (λ (row : List ℕ). All (λ sample. sample ≤ 1) row)
+bits_within (suc count) each bytes =
+    All-cons (λ (row : List ℕ). All (λ sample. sample ≤ 1) row) (take each (all_pixels bytes)) (rows_of_bytes count each (drop (bytes_for each) bytes))
+    (byte_pixels_within each 1 bytes (omega arith)) (bits_within count each (drop (bytes_for each) bytes))
+
+pub bytes_are_rows : (s : Shape) (count : ℕ) (bytes : List ℕ) → cut_rows count (row_length s) bytes ≡ rows_held Bytes s count bytes
+bytes_are_rows s zero bytes = refl
+bytes_are_rows s (suc count) bytes =
+    ap₂ (λ (r : List ℕ) (l : List (List ℕ)). r ∷ l) (sym (take-take (row_length s) (row_length s) bytes (omega arith)))
+    (bytes_are_rows s count (drop (row_length s) bytes))
+
+pub cut_within : (count each most : ℕ) (samples : List ℕ) → All (λ sample. sample ≤ most) samples → AreRowsWithin most (cut_rows count each samples)
+cut_within zero each most samples h = All-nil (λ (row : List ℕ). All (λ sample. sample ≤ most) row)
+cut_within (suc count) each most samples h =
+    All-cons (λ (row : List ℕ). All (λ sample. sample ≤ most) row) (take each samples) (cut_rows count each (drop each samples))
+    (All-take (λ sample. sample ≤ most) each samples h) (cut_within count each most (drop each samples) (All-drop (λ sample. sample ≤ most) each samples h))
+
+-- ---- rows that are held
+
+-- the bytes of rows that are held
+abbrev pub bytes_held : Raster → ℕ → List ℕ → List ℕ
+bytes_held raster count held = take (count * raster.units) held
+
+size_held : (raster : Raster) (count : ℕ) (held : List ℕ) → AreHeld raster count held
+    → length (bytes_held raster count held) ≡ count * units_in_row raster.sample_width raster.shape
+size_held raster count held h = length-take-le (count * raster.units) held h.long ∙ ap (λ (n : ℕ). count * n) raster.count
+
+-- they are taken
+pub rows_taken : (raster : Raster) (count : ℕ) (held after : List ℕ) (rows : List (List ℕ)) → AreHeld raster count held
+    → rows ≡ rows_held raster.sample_width raster.shape count (bytes_held raster count held)
+    → after ≡ drop (count * raster.units) held → TakesRows raster.shape count rows held after
+rows_taken raster count held after rows h is left = λ rest.
+    let bytes : List ℕ = bytes_held raster count held in
+    let text : held ++ rest ≡ bytes ++ (after ++ rest) =
+    ap (λ (l : List ℕ). l ++ rest) (sym (take-append-drop (count * raster.units) held) ∙ ap (λ (l : List ℕ). bytes ++ l) (sym left))
+    ∙ append_assoc bytes after rest in
+    ap (in_turn (raw_row raster.shape) count) text
+    ∙ rows_in_turn raster.sample_width raster.shape count bytes (after ++ rest) raster.samples h.fits (size_held raster count held h) h.within
+    ∙ ap (λ (l : List (List ℕ)). items_of l (after ++ rest)) (sym is)
+
+-- ---- what is said of rows in turn
+
+-- rows in turn of a raw raster are read
+rows_read : (format : Format) (s : Shape) (count n more : ℕ) (text : List ℕ) (found : List (List ℕ) × List ℕ) → is_plain_form format.form ≡ false
+    → n ≡ count + more → in_turn (raw_row s) count text ≡ Ok found → RowsRead format s found.0 n text more found.1
+unfolding in_turn
+rows_read format s zero n more text found raw all e =
+    let same : n ≡ more = omega (arith, all) in
+    let rows : [] ≡ found.0 = cc in
+    let rest : text ≡ found.1 = cc in
+    subst (λ (rows : List (List ℕ)). RowsRead format s rows n text more found.1) rows (same, rest)
+rows_read format s (suc count) zero more text found raw all e = absurd (omega (arith, all))
+rows_read format s (suc count) (suc n) more text found raw all e =
+    let first = bind_ok (raw_row s text) (λ one. in_turn (raw_row s) count one.1 >>= λ more. items_of (one.0 ∷ more.0) more.1) found e in
+    let others = bind_ok (in_turn (raw_row s) count first.0.1) (λ more. items_of (first.0.0 ∷ more.0) more.1) found first.2 in
+    let rows : first.0.0 ∷ others.0.0 ≡ found.0 = cc in
+    let rest : others.0.1 ≡ found.1 = cc in
+    let read : RowsRead format s (first.0.0 ∷ others.0.0) (suc n) text more others.0.1 = (
+      first.0.1,
+      row_at_raw format s n text raw ∙ first.1,
+      rows_read format s count n more first.0.1 others.0 raw (omega (arith, all)) others.1,
+    ) in
+    subst (λ (rows : List (List ℕ)). RowsRead format s rows (suc n) text more found.1) rows
+    (subst (λ (rest : List ℕ). RowsRead format s (first.0.0 ∷ others.0.0) (suc n) text more rest) rest read)
+
+-- they are said, and then what is said of the rest
+pub rows_are_said : (later : List ℕ → Said) (format : Format) (s : Shape) (count n more : ℕ) (text rest : List ℕ) (rows : List (List ℕ))
+    → is_plain_form format.form ≡ false → n ≡ count + more → in_turn (raw_row s) count text ≡ Ok (rows, rest)
+    → rows_said later format s n text ≡ after_messages (row_messages rows) (rows_said later format s more rest)
+rows_are_said later format s count n more text rest rows raw all e =
+    read_rows_are_said later format s rows n text more rest (rows_read format s count n more text (rows, rest) raw all e)

@@ -1,0 +1,16 @@
+//! What judging a byte of a header or a plain raster tells.
+
+use crate::fault::InputFault;
+
+/// What judging a byte of a header or a plain raster tells of the piece that it may belong to.
+#[derive(Clone, Copy, PartialEq, Eq)]
+pub enum ScanStatus {
+    /// The byte belongs to the piece, which goes on.
+    GoesOn,
+    /// The piece ends with the byte.
+    EndsWith,
+    /// The piece has ended before the byte.
+    EndsBefore,
+    /// The byte is at fault.
+    Fails(InputFault),
+}

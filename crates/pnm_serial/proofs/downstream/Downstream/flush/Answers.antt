@@ -1,9 +1,0 @@
-use Rattle.std.proofs.Common.{arith, rules}
-use Rattle.std.proofs.lemmas.Grind.{common_steps}
-use Rattle.pnm_serial.proofs.downstream.Downstream.flush.Goals as goal
-
-pub returns-clause-written : goal.returns-clause-written
-returns-clause-written g c = search rules
-
-pub returns-clause-output : goal.returns-clause-output
-returns-clause-output g c = grind (arith, common_steps)

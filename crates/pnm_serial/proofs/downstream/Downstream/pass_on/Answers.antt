@@ -1,8 +1,0 @@
-use Rattle.std.proofs.Common.{refl}
-use Rattle.pnm_serial.proofs.DownstreamSteps.{still_written}
-use Rattle.pnm_serial.proofs.downstream.Downstream.pass_on.Goals as goal
-
-pub returns-then-self-clause-written : goal.returns-then-self-clause-written
-returns-then-self-clause-written g c = λ form start messages was.
-    c.flush.ensures.written form start messages
-    (still_written g.W.BytesOut.held g.W.BytesOut.failures form start messages c.args.self.now _ refl refl refl was)

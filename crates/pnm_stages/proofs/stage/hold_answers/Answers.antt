@@ -1,0 +1,65 @@
+use Rattle.std.proofs.Common.{◌<◌, true, false, sym, subst}
+use Rattle.pnm_tools.specs.FusedFilters.{waiting_at}
+use Rattle.pnm_stages.specs.HeldImages.{held_messages}
+use Rattle.pnm_stages.specs.Rings.{sent}
+use Rattle.pnm_stages.proofs.RingSteps.{itself_output, same_output}
+use Rattle.pnm_stages.proofs.HoldingSteps.{IsHolding, holds_nothing_yet, holds_more, loses_held, holds_all}
+use Rattle.pnm_stages.proofs.stage.hold_answers.Goals as goal
+
+pub loop-answer-init : goal.loop-answer-init
+loop-answer-init g c = (
+  itself_output c.args.output.now,
+  holds_nothing_yet g.F.Filter.at g.F.Filter.stopped c.args.stage.now (held_messages c.args.held.now) (sent c.args.output.now),
+)
+
+pub loop-answer-preserved : goal.loop-answer-preserved
+loop-answer-preserved g c = (
+  same_output c.args.output.now c.loop-answer.output c.send.new.output c.loop-answer.invariant.0 c.send.ensures.output,
+  subst (λ (stage : _). IsHolding g.F.Filter.at g.F.Filter.stopped true c.args.stage.now stage (held_messages c.args.held.now) (held_messages c.send.new.self)
+      (sent c.args.output.now) (sent c.send.new.output))
+      (sym (c.is_done.ensures.unknown c.if-is_done.false))
+      (holds_more g.F.Filter.at g.F.Filter.stopped g.met.F.Filter.at_answers true c.args.stage.now c.loop-answer.stage c.next.new.self c.in-Some.answer
+      (held_messages c.args.held.now) (held_messages c.loop-answer.held) (held_messages c.send.new.self)
+      (sent c.args.output.now) (sent c.loop-answer.output) (sent c.send.new.output) c.loop-answer.invariant.1 c.in-Some.ensures.given
+      c.if-not-send.ensures.sent),
+)
+
+pub loop-answer-smaller : goal.loop-answer-smaller
+loop-answer-smaller g c =
+    subst (λ (stage : _). waiting_at g.F.Filter.waiting stage < waiting_at g.F.Filter.waiting c.loop-answer.stage)
+    (sym (c.is_done.ensures.unknown c.if-is_done.false)) c.in-Some.ensures.fewer
+
+pub returns-then-not-send-clause-output : goal.returns-then-not-send-clause-output
+returns-then-not-send-clause-output g c =
+    same_output c.args.output.now c.loop-answer.output c.send.new.output c.loop-answer.invariant.0 c.send.ensures.output
+
+pub returns-then-not-send-clause-held : goal.returns-then-not-send-clause-held
+returns-then-not-send-clause-held g c =
+    loses_held g.F.Filter.at g.F.Filter.all_given g.F.Filter.stopped g.met.F.Filter.at_answers c.args.stage.now c.next.new.self
+    (held_messages c.args.held.now) (held_messages c.send.new.self) (sent c.args.output.now) (sent c.send.new.output)
+    (holds_more g.F.Filter.at g.F.Filter.stopped g.met.F.Filter.at_answers false c.args.stage.now c.loop-answer.stage c.next.new.self c.in-Some.answer
+    (held_messages c.args.held.now) (held_messages c.loop-answer.held) (held_messages c.send.new.self)
+    (sent c.args.output.now) (sent c.loop-answer.output) (sent c.send.new.output) c.loop-answer.invariant.1 c.in-Some.ensures.given
+    c.if-not-send.ensures.sent)
+
+pub returns-then-is_done-clause-output : goal.returns-then-is_done-clause-output
+returns-then-is_done-clause-output g c =
+    same_output c.args.output.now c.loop-answer.output c.send.new.output c.loop-answer.invariant.0 c.send.ensures.output
+
+pub returns-then-is_done-clause-held : goal.returns-then-is_done-clause-held
+returns-then-is_done-clause-held g c =
+    holds_all g.F.Filter.at g.F.Filter.all_given g.F.Filter.stopped c.args.stage.now c.next.new.self c.is_done.new.self
+    (held_messages c.args.held.now) (held_messages c.send.new.self) (sent c.args.output.now) (sent c.send.new.output)
+    (holds_more g.F.Filter.at g.F.Filter.stopped g.met.F.Filter.at_answers true c.args.stage.now c.loop-answer.stage c.next.new.self c.in-Some.answer
+    (held_messages c.args.held.now) (held_messages c.loop-answer.held) (held_messages c.send.new.self)
+    (sent c.args.output.now) (sent c.loop-answer.output) (sent c.send.new.output) c.loop-answer.invariant.1 c.in-Some.ensures.given
+    c.if-not-send.ensures.sent)
+    (c.is_done.ensures.full c.if-is_done.true)
+
+pub returns-clause-output : goal.returns-clause-output
+returns-clause-output g c = c.loop-answer.invariant.0
+
+pub returns-clause-held : goal.returns-clause-held
+returns-clause-held g c = holds_all g.F.Filter.at g.F.Filter.all_given g.F.Filter.stopped c.args.stage.now c.loop-answer.stage c.next.new.self
+    (held_messages c.args.held.now) (held_messages c.loop-answer.held) (sent c.args.output.now) (sent c.loop-answer.output) c.loop-answer.invariant.1
+    c.in_default.ensures.full
