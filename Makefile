@@ -25,7 +25,7 @@ SHIMDIR = $(LIBEXECDIR)/pnmpipe/netpbm
 HELPERS := pnmpipe-explain pnmpipe-files pnmpipe-split pnmpipe-translate
 MODULES := chain_text.py file_machines.py file_tasks.py file_workers.py image_stream.py input_faults.py netpbm_words.py
 MODULES += shell_reader.py slow_reader.py translation.py
-SHIMS := pnminvert pamcut pamdepth pamchannel pamenlarge pamflip pnmtile pnmcut pnmdepth pnmenlarge pnmflip
+SHIMS = $(shell python3 scripts/tool_table.py) pnmcut pnmdepth pnmenlarge pnmflip
 
 # crates whose tests of want of memory are refused each allocation
 REFUSED := pnm_image_tests pnm_flow_tests

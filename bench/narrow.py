@@ -6,6 +6,7 @@ pipe's."""
 import os
 
 from measure import Beside, add_options_beside, written
+from tool_examples import untried
 
 RUNS = 7
 
@@ -18,8 +19,10 @@ FOUR = "pamcut -left 8 -right -9 | pamflip -lr | pnminvert | pamenlarge 2"
 TURNS = ["pamflip -tb", "pamflip -r180", "pamflip -r90"]
 RGBA = b"P7\nWIDTH 32\nHEIGHT 32\nDEPTH 4\nMAXVAL 255\nTUPLTYPE RGB_ALPHA\nENDHDR\n"
 
-# each tool once, over rows of few samples
+# each tool once, over rows of few samples, by the chains of the stored figures; some images have a cut and a tile of
+# their own
 EACH = ["pnminvert", "pamdepth 100", "pamchannel 0", "pamflip -lr", "pamflip -xy", "pamflip -r180", "pamenlarge 2"]
+EACH += untried([*EACH, "pamcut", "pnmtile"])
 ENLARGED = ["pamenlarge 2", "pamenlarge 8", "pamenlarge 32"]
 
 # the name, the header and the bytes of the raster of an image, how many there are, and the chains

@@ -11,6 +11,7 @@ import os
 import subprocess
 
 from measure import medians_in_turn, print_columns, print_line, same_bytes, status_of, written
+from tool_examples import untried
 
 RUNS = 3
 COLUMNS = ["image", "tool", "pnmpipe", "Netpbm", "over Netpbm"]
@@ -43,7 +44,13 @@ CHANNELS = {"pbm": ["0"], "pgm": ["0", "0 0"], "pgm16": ["0"], "ppm": ["0", "2 1
 
 
 def pairs_of(kind):
-    """Each tool with its options that this kind is tried with, and how many pixels of the result come of one."""
+    """Each tool with its options that this kind is tried with, and how many pixels of the result come of one. A tool
+    that isn't named here makes no image larger."""
+    pairs = list(named_pairs(kind))
+    return pairs + [(stage, 1) for stage in untried(tool for tool, _ in pairs)]
+
+
+def named_pairs(kind):
     yield "pnminvert", 1
     yield from ((f"pamcut {words}".strip(), 1) for words in CUTS)
     # (pamdepth 1 leaves PBM as it is here, and makes it gray there)

@@ -28,7 +28,7 @@ BOOKKEEPING = {
     ("pnm_image", "Places"): (["IsLawfulFrom", "place_of"], "steps along messages"),
     ("pnm_image", "Texts"): (["begins_in_word", "onto_first"], "steps along a text, for `words`"),
     ("pnm_samples", "Pixels"): (["packed_groups", "pixel_bits"], "groups of eight bits"),
-    ("pnm_read", "Texts"): (
+    ("pnm_read", "HeaderTexts"): (
         ["commented", "ends_in_", "uncommented_from"],
         "steps along a text: inside a comment or a word",
     ),
@@ -55,7 +55,7 @@ BOOKKEEPING = {
     ("pnm_serial", "Jobs"): (["job_of"], "puts two arguments into a record"),
     ("pnm_serial", "Runs"): (["Change", "change"], "a device before and after a call"),
     ("pnm_serial", "RunFacts"): (["IfGone", "IfInput", "IfOutput", "IfTool"], "cases of an answer"),
-    ("pnm_flow", "Chains"): ([], "chooses between one lane and several"),
+    ("pnm_flow", "ChainRuns"): ([], "chooses between one lane and several"),
     ("pnm_flow", "ThreadedRuns"): (["fault_of_end", "first_fault_from"], "cases of an answer"),
 }
 

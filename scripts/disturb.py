@@ -26,11 +26,8 @@ import typing
 sys.dont_write_bytecode = True
 
 from places import ROOT  # pylint: disable=wrong-import-position
+from tool_examples import STAGES  # pylint: disable=wrong-import-position
 from waits import counted_in, counter_in, sleeps_told_in  # pylint: disable=wrong-import-position
-
-TOOLS = """pnminvert, pamflip -lr, pamflip -tb, pamflip -xy, pamflip -r90, pamflip -r180, pamflip -null, pamcut -left 1,
-pamcut -top 1, pamcut -left 1 -right -2, pamcut -width 3, pamdepth 200, pamdepth 1000, pamchannel 0, pamenlarge 2,
-pamenlarge -yscale 2, pnmtile 7 5""".replace("\n", " ").split(", ")
 
 # seconds after which a run is taken to hang
 BOUND = 60
@@ -61,7 +58,7 @@ def image(numbers):
 
 def case(numbers):
     """The words of a run, and its input, which is cut at times."""
-    tools = [numbers.choice(TOOLS) for _ in range(numbers.choice([1, 1, 2, 3, 5, 8, 16]))]
+    tools = [numbers.choice(STAGES) for _ in range(numbers.choice([1, 1, 2, 3, 5, 8, 16]))]
     enlarges = [at for at, tool in enumerate(tools) if "enlarge" in tool]
     for at in enlarges[2:]:
         tools[at] = "pnminvert"

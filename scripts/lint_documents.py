@@ -1,8 +1,8 @@
 """What pages, documents and completions say, beside what the sources do. `lint.py` runs this.
 
 The page's SYNOPSIS is the usage line of the program, and the page names each fault that the crates name. Completions
-have each option of the pages; what is said of tools is read by `lint_tools.py`. Where mandoc is installed, it has to
-find nothing in the pages.
+have each option of the pages; what is said of tools is read by `lint_tools.py`. The pages' text has at most 80 columns,
+and where mandoc is installed, it has to find nothing in them.
 
 Lines of documents have at most 100 columns; ARCHITECTURE.md has 25,000 bytes at most, and the README 8,192. Each link
 of the README and of docs leads to a file, and to a heading of it. Each file and folder that a document names is there:
@@ -358,6 +358,14 @@ def faults_of_figures():
     return found if len(tables) > 40 else [f"README.md and docs/PERFORMANCE.md have {len(tables)} rows of figures"]
 
 
+def wide_lines(path, page):
+    """The lines of a page's text that mandoc finds too long, told where it isn't installed too: macros are free."""
+    page = page.replace("\\\n", "\\")
+    for line in page.split("\n"):
+        if len(line) > 80 and not line.startswith("."):
+            yield f"{path} has a line of text of {len(line)} columns, more than 80: {line[:40]}..."
+
+
 def faults_of_mandoc():
     if shutil.which("mandoc") is None:
         print("lint: mandoc isn't installed, so the pages' form isn't looked at")
@@ -371,4 +379,5 @@ def faults():
     """How many pages and documents there are, and what is wrong with them."""
     pages = glob.glob(os.path.join(ROOT, "man/*.[13]"))
     found = [*faults_of_page(), *faults_of_completions(), *faults_of_documents(), *faults_of_figures()]
+    found += [fault for path in sorted(pages) for fault in wide_lines(os.path.relpath(path, ROOT), read(path))]
     return len(pages) + len(DOCUMENTS), found + faults_of_mandoc()

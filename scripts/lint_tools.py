@@ -4,31 +4,29 @@ file and the tool.
 
 The help text, the page, the README, completions and helpers give each tool the options that the table has; those for
 Netpbm's scripts know them among Netpbm's own. The help text has as many arguments, completions offer numbers that are
-such, `chain_text.py` has the same ranges of all values, and the page tells each. The stored help text and that of the
-tests are the program's. A list of tools names all of them, wherever it stands, and so does each file that shows or
-tries each tool.
+such, `chain_text.py` has the same ranges of all values, and the page tells each. The help text of tests is the
+program's. A list of tools names all of them, wherever it stands, and so does each file that shows each tool. Scripts
+that try each tool have it from `tool_examples.py`.
 """
 
 import os
 import re
-import typing
 
 import lint_documents
 from places import ROOT
+from tool_table import TABLE, VALUES, tools_of
 
-TABLE, VALUES = "crates/pnm_chain/src/options.rt", "crates/pnm_chain/src/settings.rt"
-LIMITS = ["crates/pnm_image/src/limits.rt", "crates/pnm_tools/src/limits.rt"]
 PROGRAM = "crates/pnm_command_line/src/command_line.rt"
-HELP, HELP_OF_TESTS = "crates/pnmpipe/commands/help", "crates/pnm_flow_tests/src/tests/program/help.rt"
+HELP = "crates/pnm_flow_tests/src/tests/program/help.rt"
 PAGE, README = "man/pnmpipe.1", "README.md"
 CHAINS, NETPBM, SHIM = "helpers/chain_text.py", "helpers/netpbm_words.py", "helpers/netpbm-shim"
-SLOW = "scripts/judge/slow_tools.py"
 
-# files that show or try each tool
+# tables that scripts have by the tools' names: what the judge works out, and examples
+OF_SCRIPTS = {"scripts/judge/slow_tools.py": "NAMES", "scripts/tool_examples.py": "EXAMPLES"}
+
+# files that show each tool: cases, whose answers are stored beside them, recipes, and pictures, which the README shows
 OF_EACH = ["docs/RECIPES.md", "crates/pnm_flow_cases/stdin", "crates/pnm_tools_cases/stdin"]
-OF_EACH += ["crates/pnmpipe/commands/images", "bench/narrow.py", "bench/sweep.py"]
-OF_EACH += [f"scripts/{name}.py" for name in ("disturb", "pictures", "refused", "soak", "soak_library")]
-OF_EACH += [f"scripts/tests/{name}.py" for name in ("row_cases", "test_explain", "test_helpers", "test_translate")]
+OF_EACH += ["crates/pnmpipe/commands/images", "scripts/pictures.py"]
 
 # at least so many tools one after another are a list of all, by the names of the table or by older ones
 LIST = 6
@@ -36,71 +34,6 @@ OLD = ["pnmcut", "pnmdepth", "pnmenlarge", "pnmflip"]
 BETWEEN = r"(?:\W|\b(?:and|or|Xr|1|pnmpipe-\w+)\b)+"
 # folders of texts in which lists are looked for
 OF_LISTS = re.compile(r"Makefile|README\.md|(?:bench|completions|docs|helpers|library|man|scripts)/.*|crates/.*\.rt")
-
-
-class Arguments(typing.NamedTuple):
-    """How many arguments a tool takes, and which numbers are such."""
-
-    fewest: int
-    most: int
-    least: int
-    greatest: int
-
-
-class Tool(typing.NamedTuple):
-    """A tool's name, what each of its options means, which values that takes, from and to, and its arguments."""
-
-    name: str
-    options: dict
-    values: dict
-    arguments: Arguments
-
-
-def constants(read):
-    found = re.findall(r"^pub const (\w+): \w+ = ([\d_]+);", "".join(map(read, LIMITS)), re.M)
-    return {name: int(number) for name, number in found}
-
-
-def arguments_of(text, limits):
-    """The arguments of each variant, by the arms of `arguments`."""
-
-    def number(written):
-        return eval(written.replace(" as usize", ""), {}, limits)  # pylint: disable=eval-used
-
-    body = text.split("fn arguments(self)")[1].split("\n    }\n")[0]
-    for variants, made in re.findall(r"((?:ToolName::\w+[ |]+)+)=> ((?:(?!ToolName).|\n)*)", body):
-        fields = dict(re.findall(r"(\w+): ([^,:]+),", made))
-        base = re.search(r"numbers\(([^,]+), ([^)]+)\)", made)
-        if base:
-            fields = {"fewest": base[1], "most": base[1], "least": "1", "greatest": base[2], **fields}
-        taken = Arguments(**{name: number(written) for name, written in fields.items()})
-        yield from ((variant, taken) for variant in re.findall(r"ToolName::(\w+)", variants))
-
-
-def values_of(text, limits):
-    """The first and the last number that each option takes, None if it takes no value, by the arms of `set`."""
-    most = limits["MAX_EXTENT"]
-    ranges = {"edge": (-most, most), "extent": (1, most)}
-    values = {option: ranges[kind] for option, kind in re.findall(r"ToolOption::(\w+) => set_(\w+)\(", text)}
-    texts = re.findall(r"ToolOption::(\w+) if word.len\(\) <= \w+ =>", text)
-    return {**values, **dict.fromkeys(texts, "text")}
-
-
-def tools_of(read):
-    """The tools of the table, in its order."""
-    text, limits = read(TABLE), constants(read)
-    spelled = {}
-    for function, body in re.findall(r"\bfn (\w+)\((?:.|\n)*?\n *\{\n((?:.|\n)*?)\n *\}\n", text):
-        pairs = re.findall(r'spelled\(name, b"(\w+)", Tool(?:Name|Option)::(\w+(?:\([\w:]+\))?)', body)
-        spelled[function] = dict(pairs)
-    arms = dict(re.findall(r"^ +ToolName::(\w+) => (.*_option\(name\).*),$", text, re.M))
-    arguments, values = dict(arguments_of(text, limits)), values_of(read(VALUES), limits)
-    for name, variant in spelled["named"].items():
-        options = {}
-        for function in re.findall(r"(\w+)\(name\)", arms.get(variant, "")):
-            options.update(spelled[function])
-        taken = {option: values.get(meaning) for option, meaning in options.items()}
-        yield Tool(name, options, taken, arguments[variant])
 
 
 def listed(names):
@@ -245,7 +178,7 @@ def faults_of_lists(path, names, text):
 
 
 def faults_of_help(tools, read):
-    program, stored = read(PROGRAM), read(HELP)
+    program = read(PROGRAM)
     own = re.search(r'AFTER_HELP: &str = "([^"]*)"', program)[1]
     yield from faults_by(PROGRAM, tools, in_help(own + "\n"))
     for tool in tools:
@@ -254,10 +187,8 @@ def faults_of_help(tools, read):
         most = tool.arguments.most
         if line and (len(words) != most if most <= 2 else [word[-3:] for word in words] != ["..."]):
             yield f"{PROGRAM} gives {tool.name} {len(words)} arguments, and {TABLE} {most}"
-    if not stored.endswith("\n\n" + own + "\n"):
+    if f'\n\n{own}\n";\n' not in read(HELP):
         yield f"{HELP} has another text than {PROGRAM}"
-    if f'"{stored}"' not in read(HELP_OF_TESTS):
-        yield f"{HELP_OF_TESTS} has another text than {HELP}"
 
 
 def faults(read=lint_documents.read):
@@ -271,7 +202,9 @@ def faults(read=lint_documents.read):
         found += faults_by(path, tools, in_completion(read(path), tools))
         found += faults_of_numbers(path, tools, read(path))
     found += [*faults_of_readme(tools, read(README)), *faults_of_helpers(tools, read)]
-    found += [f"{SLOW} lacks {name}, which {TABLE} has" for name in names if name not in names_in(SLOW, read)["NAMES"]]
+    for path, table in OF_SCRIPTS.items():
+        known = names_in(path, read)[table]
+        found += [f"{path} lacks {name}, which {TABLE} has" for name in names if name not in known]
     for path in OF_EACH:
         text = read(path)
         found += [f"{path} has nothing of {name}" for name in names if not re.search(rf"\b{name}\b", text)]

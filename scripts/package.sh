@@ -9,7 +9,7 @@ cd "$(dirname "$0")/.."
 version=$(cat VERSION)
 machine=$(uname -m)
 # as descriptions of packages name them
-tools='pnminvert, pamcut, pamdepth, pamchannel, pamenlarge, pamflip and pnmtile'
+tools=$(python3 scripts/tool_table.py | paste -s -d , | sed 's/,/, /g; s/\(.*\), /\1 and /')
 work=$(mktemp -d)
 trap 'rm -rf "$work"' EXIT
 

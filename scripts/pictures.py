@@ -18,7 +18,8 @@ FOLDER = f"{ROOT}/docs/pictures"
 
 WIDTH, HEIGHT = 96, 64
 
-# the chain that makes each picture of the card; PNG has no PAM, so `channel` is told to be gray
+# the chain that makes each picture of the card, by numbers that show best what it does; PNG has no PAM, so `channel` is
+# told to be gray
 CHAINS = {
     "card": "pamflip -null",
     "invert": "pnminvert",

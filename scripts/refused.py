@@ -1,14 +1,14 @@
 #!/usr/bin/env python3
 """Refuses each allocation, and each start of a thread, of stored commands in turn, until a run meets no refusal.
 
-`scripts/refused.c`, compiled here and loaded before the program, refuses the Nth one that the program itself asks
-for; N goes upward from 1, once with that one alone refused and once with all after it too. A run that met a refusal
-has to say so by the line that fits and to have written a prefix of the whole output: nothing where the status is 2 or
-a thread couldn't be started. It has to end in time, and with no thread left. Some runs do without one allocation that
-is refused alone, since rows that come together are taken one by one then. Where the input is silent (`silent`), each
-refused start has to be answered before the silence ends. Tests of crates are refused each allocation too, since
-they reach what no command does. Where there is no C compiler, the stored run alone is refused, by the toolchain,
-which builds the program anew for each turn, and starts of threads by the room that the process may take.
+`scripts/refused.c`, compiled here and loaded before the program, refuses the Nth one that the program itself asks for;
+N goes upward from 1, once with that one alone refused and once with all after it too. A run that met a refusal has to
+say so by the line that fits and to have written a prefix of the whole output: nothing if the status is 2 or a thread
+couldn't be started. It has to end in time, and with no thread left. Some runs do without one allocation that is refused
+alone, since rows that come together are taken one by one then, and an image goes on in parts. Where the input is silent
+(`silent`), each refused start has to be answered before the silence ends. Tests of crates are refused each allocation
+too, since they reach what no command does. Where there is no C compiler, the stored run alone is refused, by the
+toolchain, which builds the program anew for each turn, and starts of threads by the room that the process may take.
 """
 
 import argparse
@@ -27,11 +27,16 @@ import typing
 
 from places import ROOT, SCRIPTS
 
+from chain_text import read_chain
+from slow_rasters import Image, answer, unpacked
+from slow_tools import is_row_wise, named_tool
+from tool_examples import untried
+
 PROGRAM = os.path.join(ROOT, "crates/pnmpipe")
 
 MEMORY = re.compile(r"pnmpipe: (command line: Memory|chain: Memory|NoStart|input: Memory|tool [0-9]+: Memory)\n")
 
-# crates whose tests are refused, where their names have this word
+# crates whose tests are refused, if their names have this word
 TESTED = ["pnm_image_tests", "pnm_flow_tests"]
 OF_MEMORY = "memory::"
 
@@ -45,7 +50,7 @@ PROMPT = 10.0
 
 
 class Command(typing.NamedTuple):
-    """A call of the program, what it writes and prints where nothing is refused, how many threads it starts at least,
+    """A call of the program, what it writes and prints if nothing is refused, how many threads it starts at least,
     and how many allocations it has at most without any one of which it ends well."""
 
     words: list
@@ -92,74 +97,34 @@ def pam(maxval, depth, tuple_type, *rows):
     return b"P7\nWIDTH %d\nHEIGHT %d\nDEPTH %d\nMAXVAL %d\n" % numbers + typed + b"ENDHDR\n" + raster_of(maxval, rows)
 
 
-# an image of each form in which rows are held: bits, bytes and words
-STREAM = bits("11", "01") + gray(9, [1, 2], [3, 4]) + gray(300, [1, 2], [3, 300])
+# an image of each form in which rows are held: bits, bytes and words; what is due of them the judge works out
+RASTERS = [(("Bit", 2, 2, 1, 1, b""), unpacked(b"\xc0\x40", 2)), (("Gray", 2, 2, 1, 9, b""), bytes([1, 2, 3, 4]))]
+RASTERS += [(("Gray", 2, 2, 1, 300, b""), raster_of(300, [[1, 2], [3, 300]]))]
+IMAGES = [Image(*it) for it in RASTERS]
+STREAM = answer([], IMAGES)[0]
 
-# the tools that are row-wise, with what each makes of the stream
-ROW_WISE = [
-    ("pnminvert", bits("00", "10") + gray(9, [8, 7], [6, 5]) + gray(300, [299, 298], [297, 0])),
-    ("pamdepth 18", gray(18, [0, 0], [18, 0]) + gray(18, [2, 4], [6, 8]) + gray(18, [0, 0], [0, 18])),
-    (
-        "pamchannel 0 0 -tupletype T",
-        pam(1, 2, b"T", [0, 0, 0, 0], [1, 1, 0, 0])
-        + pam(9, 2, b"T", [1, 1, 2, 2], [3, 3, 4, 4])
-        + pam(300, 2, b"T", [1, 1, 2, 2], [3, 3, 300, 300]),
-    ),
-    (
-        "pamenlarge -xscale 2",
-        bits("1111", "0011") + gray(9, [1, 1, 2, 2], [3, 3, 4, 4]) + gray(300, [1, 1, 2, 2], [3, 3, 300, 300]),
-    ),
-    ("pamflip -null", STREAM),
-    ("pamflip -lr", bits("11", "10") + gray(9, [2, 1], [4, 3]) + gray(300, [2, 1], [300, 3])),
-]
-
-# the others
-WHOLE = [
-    ("pamcut -left 1", bits("1", "1") + gray(9, [2], [4]) + gray(300, [2], [300])),
-    ("pamcut -top 1 -height 1", bits("01") + gray(9, [3, 4]) + gray(300, [3, 300])),
-    (
-        "pamenlarge 2",
-        bits("1111", "1111", "0011", "0011")
-        + gray(9, [1, 1, 2, 2], [1, 1, 2, 2], [3, 3, 4, 4], [3, 3, 4, 4])
-        + gray(300, [1, 1, 2, 2], [1, 1, 2, 2], [3, 3, 300, 300], [3, 3, 300, 300]),
-    ),
-    (
-        "pamenlarge -yscale 2",
-        bits("11", "11", "01", "01")
-        + gray(9, [1, 2], [1, 2], [3, 4], [3, 4])
-        + gray(300, [1, 2], [1, 2], [3, 300], [3, 300]),
-    ),
-    ("pamflip -tb", bits("01", "11") + gray(9, [3, 4], [1, 2]) + gray(300, [3, 300], [1, 2])),
-    ("pamflip -xy", bits("10", "11") + gray(9, [1, 3], [2, 4]) + gray(300, [1, 3], [2, 300])),
-    ("pamflip -r90", bits("11", "10") + gray(9, [2, 4], [1, 3]) + gray(300, [2, 300], [1, 3])),
-    ("pamflip -r180", bits("10", "11") + gray(9, [4, 3], [2, 1]) + gray(300, [300, 3], [2, 1])),
-    ("pamflip -r270", bits("01", "11") + gray(9, [3, 1], [4, 2]) + gray(300, [3, 1], [300, 2])),
-    (
-        "pnmtile 3 3",
-        bits("111", "010", "111")
-        + gray(9, [1, 2, 1], [3, 4, 3], [1, 2, 1])
-        + gray(300, [1, 2, 1], [3, 300, 3], [1, 2, 1]),
-    ),
-]
-
-# the tools that copy or keep rows of these images which come together, and how many calls they make for that at most:
-# each row is taken by itself where one of them is refused
-COPYING = {
+# the tools, and how many calls each makes at most to copy or keep rows of these images that come together: each row is
+# taken by itself if one of them is refused. One that isn't named here makes none
+EACH = {
+    "pnminvert": 0,
+    "pamdepth 18": 1,
+    "pamchannel 0 0 -tupletype T": 4,
+    "pamenlarge -xscale 2": 5,
+    "pamflip -null": 0,
+    "pamflip -lr": 0,
+    "pamcut -left 1": 1,
+    "pamcut -top 1 -height 1": 1,
+    "pamenlarge 2": 8,
+    "pamenlarge -yscale 2": 3,
     "pamflip -tb": 3,
-    "pamflip -r180": 3,
     # of each image the list of its rows
     "pamflip -xy": 3,
     "pamflip -r90": 3,
+    "pamflip -r180": 3,
     "pamflip -r270": 3,
     "pnmtile 3 3": 3,
-    "pamcut -left 1": 1,
-    "pamcut -top 1 -height 1": 1,
-    "pamdepth 18": 1,
-    "pamchannel 0 0 -tupletype T": 4,
-    "pamenlarge 2": 8,
-    "pamenlarge -xscale 2": 5,
-    "pamenlarge -yscale 2": 3,
 }
+EACH.update(dict.fromkeys(untried(EACH), 0))
 
 # rows of eight pixels, and what is made of them
 EIGHT = bits("00110101", "11110000", "01000001")
@@ -186,27 +151,31 @@ def commands_over(lanes):
     def plain(*facts, **options):
         return command(*facts, form=["--plain"], **options)
 
-    for facts, tools in ((ROW_WISE, (1, 0)), (WHOLE, (0, 1))):
-        yield from (command(chain, STREAM, whole, *tools, spared=COPYING.get(chain, 0)) for chain, whole in facts)
-    yield command("pamflip -lr", EIGHT, TURNED, 1, 0)
-    yield command("pamcut -left 3 | pamflip -lr", EIGHT, CUT_AND_TURNED, 1, 1, spared=1)
-    yield command("pamenlarge 2 | pnminvert", gray(9, [7]), gray(9, [2, 2], [2, 2]), 1, 1)
-    yield command("pamflip -xy", gray(9, [1, 2], [3, 4], [5, 6]), gray(9, [1, 3, 5], [2, 4, 6]), 0, 1, spared=1)
-    yield command("pamflip -null", TYPED, pam(1, 1, b"A B", [1]), 1, 0)
-    yield command("pnminvert", gray(9, [1], [2]), gray(9, [8], [7]), 1, 0, ring=64)
+    for chain, spared in EACH.items():
+        tool = named_tool(*read_chain(chain))
+        whole, _ = answer([tool], IMAGES)
+        # the rows of an image that goes on whole are one call more
+        spared += len(IMAGES)
+        yield command(chain, STREAM, whole, is_row_wise(tool), not is_row_wise(tool), spared=spared)
+    yield command("pamflip -lr", EIGHT, TURNED, 1, 0, spared=1)
+    yield command("pamcut -left 3 | pamflip -lr", EIGHT, CUT_AND_TURNED, 1, 1, spared=2)
+    yield command("pamenlarge 2 | pnminvert", gray(9, [7]), gray(9, [2, 2], [2, 2]), 1, 1, spared=1)
+    yield command("pamflip -xy", gray(9, [1, 2], [3, 4], [5, 6]), gray(9, [1, 3, 5], [2, 4, 6]), 0, 1, spared=2)
+    yield command("pamflip -null", TYPED, pam(1, 1, b"A B", [1]), 1, 0, spared=1)
+    yield command("pnminvert", gray(9, [1], [2]), gray(9, [8], [7]), 1, 0, ring=64, spared=1)
     pixel, picked = b"P3 1 1 255 10 20 30", pam(255, 2, b"RGB", [30, 10])
     inverted = pam(255, 2, b"RGB", [225, 245])
     yield command("pamchannel 2 0 -tupletype RGB", pixel, picked, 1, 0)
     yield command("pamchannel 2 0 -tupletype RGB | pamflip -tb | pnminvert", pixel, inverted, 2, 1)
     # over lanes the most tools start so many threads that refusing each would take too long
     count = MOST_TOOLS if lanes == 1 else 16
-    yield command(" | ".join(["pnminvert"] * count), STREAM, STREAM, count, 0)
+    yield command(" | ".join(["pnminvert"] * count), STREAM, STREAM, count, 0, spared=len(IMAGES))
     # an input that is cut, after whose fault no tool's want of memory is answered, and one that the second tool refuses
     cut = bits("11", "10") + gray(9, [2, 1], [4, 3]) + gray(300, [2, 1], [0, 0])[:-4]
     yield command("pamflip -lr | pamflip -lr | pamflip -lr", STREAM[:-1], cut, 3, 0, line="pnmpipe: input: RasterCut\n")
     yield command("pnminvert | pamcut -left 2 | pnminvert", STREAM, b"", 2, 1, line="pnmpipe: tool 2: CutOutside\n")
     # plain text, of which a stream's second image is none, nor is PAM
-    yield plain("pnminvert", gray(300, [1, 2], [3, 300]), b"P2\n2 2\n300\n299 298\n297 0\n", 1, 0)
+    yield plain("pnminvert", gray(300, [1, 2], [3, 300]), b"P2\n2 2\n300\n299 298\n297 0\n", 1, 0, spared=1)
     yield plain("pamflip -tb | pnminvert", STREAM, b"P1\n2 2\n1 0\n0 0\n", 1, 1, line="pnmpipe: output: SecondPlain\n")
     yield plain("pamchannel 0", gray(9, [1], [2]), b"", 1, 0, line="pnmpipe: output: PlainPam\n")
 
@@ -214,7 +183,7 @@ def commands_over(lanes):
 def stored_run():
     """The run that is stored beside the program."""
     with open(os.path.join(PROGRAM, "stdin"), "rb") as given, open(os.path.join(PROGRAM, "stdout"), "rb") as whole:
-        return Command(["pnminvert"], given.read(), whole.read(), 1)
+        return Command(["pnminvert"], given.read(), whole.read(), 1, spared=1)
 
 
 def commands(program):
@@ -378,7 +347,7 @@ def shown(answer):
 
 def refuse_test(program, name, seconds, loaded):
     """Refuses each allocation of a test, and each start of a thread, alone, since tests want memory to be there
-    again. One whose name says that there is memory needs to pass only where nothing is refused."""
+    again. One whose name says that there is memory needs to pass only if nothing is refused."""
     needs_memory = name.endswith("_with_memory")
 
     def run_once(variables):
@@ -408,7 +377,7 @@ def tests():
 
 
 def compiled(folder):
-    """The code to be loaded; none where there is no C compiler."""
+    """The code to be loaded; none if there is no C compiler."""
     words = shlex.split(os.environ.get("CC") or "cc")
     if not shutil.which(words[0]):
         return None

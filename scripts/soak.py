@@ -18,6 +18,7 @@ import sys
 import time
 
 from places import ROOT
+from tool_examples import EXAMPLES
 
 # samples that a result may have at most, so that a run is over soon; few are let through beyond it, to ten times as
 # many
@@ -122,12 +123,13 @@ def scale_of(numbers, wide, high):
 
 
 def chain_of(numbers, width, height, depth):
-    """1 to 64 tools, and how large a result may be, so that no chain makes too much."""
+    """1 to 64 tools, and how large a result may be, so that no chain makes too much. A tool without a branch of its own
+    makes no image larger, and stands there by its examples in turn."""
     tools = []
     wide, high = width * depth, height
     count = numbers.choice([1, 1, 2, 2, 3, 4, 5, 8, 16, 17, 64])
     while len(tools) < count:
-        name = numbers.choice(["pnminvert", "pamcut", "pamdepth", "pamchannel", "pamenlarge", "pamflip", "pnmtile"])
+        name = numbers.choice(list(EXAMPLES))
         if name == "pamcut":
             tools.append(cut_of(numbers))
         elif name == "pamdepth":
@@ -151,7 +153,7 @@ def chain_of(numbers, width, height, depth):
             wide, high = max(wide, across * depth), max(high, down)
             tools.append(f"pnmtile {across} {down}")
         else:
-            tools.append(name)
+            tools.append(EXAMPLES[name][len(tools) % len(EXAMPLES[name])])
     return " | ".join(tools)
 
 

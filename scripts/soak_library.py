@@ -12,12 +12,12 @@ import subprocess
 import sys
 
 from places import ROOT
+from tool_examples import STAGES
 
 PROGRAM, SHARED = os.path.join(ROOT, "bin/pnmpipe"), os.path.join(ROOT, "bin/libpnmpipe.so.1")
 
-TOOLS = ["pnminvert", "pamflip -lr", "pamflip -r90", "pamflip -tb", "pamflip -xy", "pamflip -r180", "pamdepth 255"]
-TOOLS += ["pamdepth 3", "pamcut -left 1", "pamcut -width 2 -top 1", "pamchannel 0", "pamchannel 2 0", "pamenlarge 2"]
-TOOLS += ["pamenlarge -xscale 3", "pnmtile 11 5"]
+# (an image of three planes alone has the third one)
+TOOLS = [*STAGES, "pamchannel 2 0"]
 FAULTY = ["pamflop", "pamdepth", "pamdepth 0", "", "pamcut -left 1 -left", "pamflip -lr 3", "pamcut -left 1 -left 2"]
 
 

@@ -113,15 +113,16 @@ class Sweep(list):
         return f" {len(self)} cases {zlib.crc32(''.join(self).encode()):08x}"
 
 
-# around rows that are handed over together, and what may stand between these
+# around rows that are handed over together, or a whole image, and what may stand between these
 BRACES = re.compile(r" [{}]")
-GROUP = re.compile(r" \{((?: \[[^]]*\])+) \}")
+ROWS = r"(?: \[[^]]*\])+"
+GROUP = re.compile(rf" \{{({ROWS}| {HEAD}{ROWS} ImageEnd) \}}")
 
 
 class Apart(str):
-    """What a line tells, but for the braces around rows that are handed over together."""
+    """What a line tells, but for the braces around rows that are handed over together, or a whole image."""
 
-    OPEN = "where braces stand around rows, since rows may go together or one by one"
+    OPEN = "where braces stand around rows or an image, since these may go together or one by one"
 
     def allows(self, told):
         return BRACES.search(GROUP.sub(r"\1", told)) is None and BRACES.sub("", told) == self

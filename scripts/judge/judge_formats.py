@@ -91,16 +91,17 @@ def want_of_source(word, rest):
     if word == "fails":
         text = text_of(rest)
         return changes([said_until(text, count) for count in range(len(text) + 1)])
-    if word in ("reads", "joins", "reads_by", "joins_by"):
+    first, _, by = word.partition("_")
+    if first in ("reads", "together", "whole"):
         size = 4096
-        if word.endswith("_by"):
+        if by:
             number, _, rest = rest.partition(" ")
             size = max(size, int(number))
         most, failing, written = rest.split(" ", 2)
         reading = Reading(text_of(written), size, int(most), int(failing))
-        told = reading.read(word.startswith("joins"))
+        told = reading.read(first)
         calls = "".join(f" {asked}:{got}" for asked, got in reading.calls)
-        return told if word.startswith("joins") else f"{told} by{calls}"
+        return f"{told} by{calls}" if first == "reads" else told
     if word == "width":
         return width_of(text_of(rest))
     if word not in ("ahead", "held"):

@@ -63,9 +63,16 @@ def want_of_stage(tool, handed, room, gone):
     # that nobody takes it is seen where no place is left, and rows that came together may take one place
     if len(sent) <= room:
         return f" {end}{left}"
-    least = sum(not is_row(it) for it in sent) + any(map(is_row, sent))
+    least = least_places(handed, sent)
     is_open = any(isinstance(it, Together) for it in handed) and least <= room
     return OneOf((f" {end}{left}", " PeerGone")) if is_open else " PeerGone"
+
+
+def least_places(handed, sent):
+    """How few places of a ring may take what is sent: one for all rows; or, where images came whole, one for each."""
+    if not any(isinstance(it, Together) and is_head(it[0]) for it in handed):
+        return sum(not is_row(it) for it in sent) + any(map(is_row, sent))
+    return sum(it != "ImageEnd" and not is_row(it) for it in sent)
 
 
 def may_go_together(handed, told):

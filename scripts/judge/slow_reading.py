@@ -49,11 +49,13 @@ class Reading:
         # of a raw image's rows the bytes of each, of a sample in it, and how many are left
         self.row, self.sample, self.rows = 0, 1, 0
 
-    def read(self, are_joined):
-        """Tells all answers, rows together between braces where they are asked for so."""
+    def read(self, first):
+        """Tells all answers, where before each message rows together are asked for, or the rest of an image, or
+        nothing; rows that come so stand between braces."""
+        count_of = {"together": self.together, "whole": self.image_at_once}.get(first, lambda number: 0)
         told, number = "", 0
         while number < len(self.whole):
-            count = self.together(number) if are_joined else 0
+            count = count_of(number)
             if not count and not self.wait(number):
                 return f"{told} ReadFailed"
             given = self.whole[number : number + max(count, 1)]
@@ -70,14 +72,25 @@ class Reading:
         self.row, self.sample = raw_row(head), 2 if head[4] > 255 else 1
         self.rows = head[2] if self.text[start + 1 : start + 2] in b"4567" else 0
 
-    def together(self, number):
-        """How many rows come together, none for a row by itself."""
-        if self.rows < 2 or not isinstance(self.whole[number], list) or self.row > MOST_ROW:
+    def held_whole(self, number):
+        """How many of the next rows of a raw image can come together, none if one of them is at fault."""
+        if not self.rows or not isinstance(self.whole[number], list) or self.row > MOST_ROW:
             return 0
         held = self.come - (self.needs[number] - self.row)
         count = min(self.rows, held // self.row, MOST_ROWS // self.row)
         are_rows = all(isinstance(it, list) for it in self.whole[number : number + count])
-        return count if count > 1 and are_rows else 0
+        return count if are_rows else 0
+
+    def together(self, number):
+        """How many rows come together, none for a row by itself."""
+        count = self.held_whole(number)
+        return count if count > 1 else 0
+
+    def image_at_once(self, number):
+        """How many rows come with the end of their image, none if these aren't all of its rows."""
+        has_begun = number > 0 and isinstance(self.whole[number - 1], tuple)
+        count = self.held_whole(number) if has_begun else 0
+        return count if count == self.rows else 0
 
     def wait(self, number):
         """Reads until an answer is known; whether no read fails."""

@@ -4,6 +4,7 @@
 import random
 
 from netpbm_words import OLD_NAMES, OPTIONS
+from tool_examples import untried
 
 FILES = ["in.pgm", "in.ppm", "in.pbm"]
 
@@ -12,6 +13,8 @@ TOOLS += ["pamcut 1 1 3 0", "pnmcut 0 0 -1 5", "pamdepth 100", "pnmdepth 7", "pa
 TOOLS += ["pamflip -xy", "pamflip -r90", "pamflip -xform=leftright,transpose", "pnmflip -tb -lr", "pnmtile 9 8"]
 TOOLS += ["pamcut -left $n", 'pamcut -top "$n" -width=${three}', "pamenlarge $((n + 1))", "pamcut $n 0 $three 4"]
 TOOLS += ["LC_ALL=C pnminvert", "nice -n 1 pamflip -lr", "command pamcut -height 5", "pamcut -left 99"]
+# (behind pamchannel, which makes PAM, some tools are kept)
+TOOLS += untried([*TOOLS, "pamchannel"])
 
 
 class Writer:

@@ -17,6 +17,7 @@ from slow_reader import MOST_HEADER, Fault
 from slow_reading import MOST_ROW, MOST_ROWS, raw_row
 from slow_tools import named_tool, result_head
 from slow_writer import header
+from tool_examples import untried
 
 # the bytes of rows, and the most of a row that counts as short
 SIZES = [1, 7, 8, 9, 511, 512, 513, 16_384, 16_385, 65_535, 65_536, 65_537]
@@ -188,7 +189,13 @@ def taken(chain, parts):
 
 
 def single_tools(parts):
-    """Each tool, by options for these images."""
+    """Each tool: by options for these images, or else by its example."""
+    chains = list(fitting_tools(parts))
+    return chains + untried(chains)
+
+
+def fitting_tools(parts):
+    """The tools whose options depend on the images, or that have several ways to go."""
     sizes = [it.image.head[1:3] for it in parts]
     least, (wide, high) = min(width for width, _ in sizes), map(max, zip(*sizes))
     depth = min(it.image.head[3] for it in parts)
@@ -290,7 +297,7 @@ class Group:
             start = len(stream_of([good]))
             height, block = bad.image.head[2], bad.block(start)
             rows = {0, 1, height // 2, height - 1, *(it for it in (block - 1, block, block + 1) if 0 <= it < height)}
-            tools = itertools.cycle(self.numbers.sample(list(single_tools([bad])), 12))
+            tools = itertools.cycle(self.numbers.sample(single_tools([bad]), 12))
             for y in sorted(rows):
                 yield from self.bad_at(y, good, bad, tools)
 
@@ -318,7 +325,7 @@ class Group:
     def plain(self):
         """Plain images, and raw ones of which plain results are wanted, one in a stream."""
         parts = parts_of(self.numbers, self.form, self.size, [(5 if self.size <= SHORT else 1, False)])
-        for case in self.each(self.numbers.sample(list(single_tools(parts)), 12), parts):
+        for case in self.each(self.numbers.sample(single_tools(parts), 12), parts):
             yield case._replace(text=plain_text(parts[0], self.numbers))
         if 1 < self.size <= SHORT:
             parts += parts_of(self.numbers, self.form, self.size, [(INSIDE, False)])

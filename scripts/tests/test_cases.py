@@ -122,7 +122,7 @@ WANTED = {
     "pnm_format_cases": {
         "text long": "number row messages fault digest shorter longer",
         "cuts fails": "number row messages fault shorter longer",
-        "joins joins_by": "number row messages shorter longer",
+        "together together_by whole whole_by": "number row messages shorter longer",
         "reads reads_by": "number shorter longer",
         "changes inserts streams after": "number digest shorter longer",
         "ahead held": "number shorter longer",
@@ -216,6 +216,20 @@ class OpenParts(unittest.TestCase):
         for told in (" Well [1] [2] [3]", " Well { [1] [2] } [3]", " Well { [1] } { [2] [3] }"):
             self.assertTrue(allows(want, told), told)
         for told in (" Well { [2] [1] } [3]", " Well { [1] [2] [3]", " { Well [1] } [2] [3]", " Well { } [1] [2] [3]"):
+            self.assertFalse(allows(want, told), told)
+
+    def test_braces_of_an_image(self):
+        want = Apart(" Well Gray 2 1 1 9 [1 2] ImageEnd StreamEnd")
+        for told in (
+            " Well { Gray 2 1 1 9 [1 2] ImageEnd } StreamEnd",
+            " Well Gray 2 1 1 9 { [1 2] } ImageEnd StreamEnd",
+        ):
+            self.assertTrue(allows(want, told), told)
+        for told in (
+            " Well { Gray 2 1 1 9 [1 2] } ImageEnd StreamEnd",
+            " Well Gray 2 1 1 9 { [1 2] ImageEnd } StreamEnd",
+            " Well { Gray 2 1 1 9 [1 2] ImageEnd StreamEnd }",
+        ):
             self.assertFalse(allows(want, told), told)
 
     def test_one_of_two_ends(self):

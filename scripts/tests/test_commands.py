@@ -8,7 +8,7 @@ indented below one for that alone:
 
   given BYTES      its input; none: an empty one
   written BYTES    its whole output; none: nothing
-  helped           its output is the text of the file `help`
+  helped           its output is the help text, as `help.rt` of pnm_flow_tests has it
   versioned        it is the program's name and the version that the file VERSION has, as a line
   printed LINE     its line on standard error; none: nothing
   status N         none: 0
@@ -41,7 +41,7 @@ from support import ROOT
 from case_text import text_of
 
 STORED = f"{ROOT}/crates/pnmpipe/commands"
-HELP = "help"
+HELP = f"{ROOT}/crates/pnm_flow_tests/src/tests/program/help.rt"
 
 # what the help text has to fit, in lines and columns
 SCREEN = (30, 80)
@@ -217,16 +217,15 @@ def faults_of_help(text):
 
 
 def stored_help():
-    with open(f"{STORED}/{HELP}", "rb") as file:
-        return file.read()
+    with open(HELP, "rb") as file:
+        return re.search(rb'HELP: &str =\s+"([^"]*)";', file.read())[1]
 
 
 def stored_commands():
     """The commands of all files."""
     with open(f"{ROOT}/VERSION", "rb") as file:
         texts = {"helped": stored_help(), "versioned": b"pnmpipe " + file.read()}
-    names = sorted(set(os.listdir(STORED)) - {HELP})
-    return [command for name in names for command in read_commands(name, texts)]
+    return [command for name in sorted(os.listdir(STORED)) for command in read_commands(name, texts)]
 
 
 def main():

@@ -23,6 +23,7 @@ from input_faults import Words, in_words
 from judge_formats import SETS
 from soak import chain_of, stream_of
 from test_commands import stored_commands
+from tool_examples import untried
 
 EXPLAIN = f"{HELPERS}/pnmpipe-explain"
 OPTIONS = None
@@ -333,6 +334,7 @@ PLAUSIBLE = {
     "pamflip": ["-lr", "-xy", "--null", "-r90", "-lr=1"],
     "pnmtile": ["3", "4", "16777217"],
 }
+PLAUSIBLE.update((name, words) for name, *words in map(str.split, untried(PLAUSIBLE)))
 
 
 def chain_text(numbers):
@@ -366,6 +368,7 @@ def tools_text(numbers):
     wide = numbers.choice([1, 2, 3, 1_398_101, 1_398_102, 2_796_202, 4_194_304, 8_388_608, 8_388_609, 16_777_216])
     some = [" ".join(["pamcut", *axes]), " ".join(["pamchannel", *planes]), f"pamenlarge -xscale {wide}"]
     some += ["pamflip -xy", "pamflip -r90", "pnmtile 2 3", "pamdepth 7", "pnminvert"]
+    some += untried(some)
     chain = numbers.sample(some, numbers.choice([1, 1, 2, 3]))
     # long rows are made last, since most tools take long over them
     return " | ".join(sorted(chain, key=lambda text: "xscale" in text))

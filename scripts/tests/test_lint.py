@@ -14,6 +14,8 @@ import lint
 import lint_documents
 import lint_sources
 import lint_tools
+import tool_examples
+from chain_text import read_chain
 
 RT, SPEC, PROOF = "crates/a/src/lib.rt", "crates/a/specs/Lib.antt", "crates/a/proofs/Lib.antt"
 
@@ -154,6 +156,12 @@ class Documents(unittest.TestCase):
         self.assertEqual(list(lint_documents.faults_of_help(known)), [])
         self.assertEqual(list(lint_documents.faults_of_help(known | {"more"})), ["make help lacks make more"])
 
+    def test_wide_lines_of_a_page(self):
+        page = f"{'a' * 80}\n.It {'b' * 90} \\\n{'c' * 90}\n"
+        self.assertEqual(list(lint_documents.wide_lines("man/page.1", page)), [])
+        told = list(lint_documents.wide_lines("man/page.1", page + "d" * 81))
+        self.assertEqual(told, [f"man/page.1 has a line of text of 81 columns, more than 80: {'d' * 40}..."])
+
     def test_links(self):
         for link in ("docs/PROOFS.md", "docs/PROOFS.md#answer-a-goal", "#coming-from-netpbm", "https://example.org/#a"):
             with self.subTest(link):
@@ -210,10 +218,11 @@ class Tools(unittest.TestCase):
             (lint_tools.NETPBM, '"scale", "xscale"', '"scale"', f"lacks xscale of pamenlarge, {has}"),
             (lint_tools.SHIM, "'scale xscale", "'scale", f"lacks xscale of pamenlarge, {has}"),
             (lint_tools.SHIM, " | pamdepth", "", f"lacks pamdepth, {has}"),
-            (lint_tools.SLOW, '"pnmtile": "tile"', "", f"lacks pnmtile, {has}"),
+            ("scripts/judge/slow_tools.py", '"pnmtile": "tile"', "", f"lacks pnmtile, {has}"),
+            ("scripts/tool_examples.py", '"pnmtile": ', '"pnmtiles": ', f"lacks pnmtile, {has}"),
             ("scripts/pictures.py", "pnmtile 144", "pnmtiles 144", "has nothing of pnmtile"),
-            ("scripts/package.sh", "pamflip and pnmtile", "pamflip", "lists tools without pnmtile"),
-            ("Makefile", "pamdepth pamchannel", "pamdepth", "lists tools without pamchannel"),
+            ("library/python/README.md", "`pamflip` and `pnmtile`", "`pamflip`", "lists tools without pnmtile"),
+            ("crates/pnm_tools/src/lib.rt", "pamdepth(1), ", "", "lists tools without pamdepth"),
             (lint_tools.PROGRAM, "pamdepth MAXVAL", "pamdeep MAXVAL", f"lacks pamdepth, {has}"),
             (lint_tools.PROGRAM, "[-yscale N]", "", f"lacks yscale of pamenlarge, {has}"),
             (lint_tools.PROGRAM, "pnmtile WIDTH", "pnmtile", f"gives pnmtile 1 arguments, and {table} 2"),
@@ -226,12 +235,21 @@ class Tools(unittest.TestCase):
             (lint_tools.CHAINS, "(1, 65_535)", "(0, 65_535)", f"gives pamdepth other arguments than {table}"),
             (lint_tools.CHAINS, '"top": OFFSET', '"top": EXTENT', f"gives -top of pamcut other values than {values}"),
             (lint_tools.HELP, "WIDTH HEIGHT", "W H", f"has another text than {lint_tools.PROGRAM}"),
-            (lint_tools.HELP_OF_TESTS, "WIDTH HEIGHT", "W H", f"has another text than {lint_tools.HELP}"),
         ):
             with self.subTest(path, new=new):
                 lines = [line for line in self.told(path, (old, new)) if line.endswith(wanted)]
                 self.assertEqual(len(lines), 1)
                 self.assertTrue(lines[0].startswith(path))
+
+    def test_examples(self):
+        """Each is one stage, of the tool that it stands for."""
+        for name, stages in tool_examples.EXAMPLES.items():
+            self.assertEqual([[it.name for it in read_chain(stage)] for stage in stages], [[name]] * len(stages))
+
+    def test_untried(self):
+        stages = ["pamcut -left 1", "pamchannel 0", "pamenlarge 2", "pamflip -lr", "pnmtile 7 5"]
+        self.assertEqual(tool_examples.untried(["pnminvert | pamdepth 9"]), stages)
+        self.assertEqual(tool_examples.untried(tool_examples.STAGES), [])
 
     def test_an_eighth_tool(self):
         """A tool that the table has and nothing else: each file is told once, and lists at each of their lines."""
@@ -241,7 +259,7 @@ class Tools(unittest.TestCase):
         told = self.told(lint_tools.TABLE, named, arms)
         self.assertTrue(all("pamgreater" in line for line in told))
         paths = {line.split()[0].split(":")[0] for line in told}
-        self.assertLess({lint_tools.PAGE, lint_tools.PROGRAM, lint_tools.README, lint_tools.SLOW, "Makefile"}, paths)
+        self.assertLess({lint_tools.PAGE, lint_tools.PROGRAM, lint_tools.README, *lint_tools.OF_SCRIPTS}, paths)
         self.assertLess({*lint_tools.OF_EACH, lint_tools.CHAINS, lint_tools.NETPBM, lint_tools.SHIM}, paths)
         self.assertLess({f"completions/{name}" for name in lint_documents.COMPLETIONS}, paths)
 

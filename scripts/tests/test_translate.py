@@ -20,6 +20,7 @@ from support import GRAY, HELPERS, SHIMS, Folder, Program, parser_of, run, run_t
 import netpbm_words
 import translation
 from random_scripts import random_call, random_script
+from tool_examples import STAGES
 
 COUNT, SEED = 24, 0
 
@@ -213,6 +214,10 @@ class StandIns(Folder):
         chains = [self.translated(words) for words in calls]
         self.assertEqual([(words, self.stood_in(words)) for words in calls], [*zip(calls, chains)])
         return [chain for chain in chains if chain]
+
+    def test_examples(self):
+        """A stage of pnmpipe is a call of Netpbm's tool too, and means the same."""
+        self.assertEqual(self.compare([stage.split() for stage in STAGES]), STAGES)
 
     def test_each_option(self):
         arguments = {"pamchannel": ["1"]}
