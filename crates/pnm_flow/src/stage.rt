@@ -3,9 +3,10 @@
 ghost use Rattle.pnm_tools.specs.Tools.{IsLawfulTool};
 ghost use Rattle.pnm_stages.specs.Rings.{sent, received, known_items, SameSender, SameReceiver};
 ghost use Rattle.pnm_stages.specs.Stages.{HasRunStage};
+ghost use Rattle.pnm_flow.specs.ChainRuns.{IsOneStageRun};
 
 use pnm_filters::filter_of;
-use pnm_stages::{Gate, Receiver, Sender, StageDone, run_filter};
+use pnm_stages::{Gate, Receiver, Sender, StageDone, Task, run_filter};
 use pnm_tools::Tool;
 use std::alloc::Global;
 use std::sync::Wait;
@@ -29,6 +30,48 @@ pub fn run_stage<R: Wait, G: Gate>(
     ensures ran { HasRunStage tool.now result.end (received input) (received result.input) (known_items result.input)
         (sent output) (sent result.output) }
 {
-    gate.arrive(number, 0);
-    run_filter(rt, alloc, filter_of(alloc, tool), input, output)
+    let stage = Stage {
+        rt,
+        alloc,
+        tool,
+        number,
+        gate,
+        input,
+        output,
+    };
+    stage.run()
+}
+
+/// The work of a stage.
+#[derive(Drop)]
+pub struct Stage<'a, R, G> {
+    pub rt: &'a R,
+    pub alloc: Global,
+    pub tool: &'a Tool,
+    pub number: usize,
+    pub gate: &'a G,
+    pub input: Receiver,
+    pub output: Sender,
+}
+
+impl<'a, R: Wait, G: Gate> Task for Stage<'a, R, G> {
+    type Output = StageDone;
+
+    ghost can_run = { λ s. IsLawfulTool s.tool.now };
+
+    ghost run_gives = { λ s done. IsOneStageRun s.tool.now s.input s.output done };
+
+    fn run(self) -> StageDone {
+        let Stage {
+            rt,
+            alloc,
+            tool,
+            number,
+            gate,
+            input,
+            output,
+        } = self;
+        gate.arrive(number, 0);
+        run_filter(rt, alloc, filter_of(alloc, tool), input, output)
+    }
 }

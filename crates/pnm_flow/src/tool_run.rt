@@ -6,13 +6,13 @@ ghost use Rattle.pnm_tools.specs.Tools.{IsLawfulTool, is_row_wise};
 ghost use Rattle.pnm_stages.specs.RingLimits.{IsRingCapacity};
 ghost use Rattle.pnm_lanes.specs.LaneLimits.{IsLaneCount};
 ghost use Rattle.pnm_lanes.specs.LaneRings.{AreLaneRings};
-ghost use Rattle.pnm_flow.specs.ChainRuns.{RunsInLanes, IsToolRun, IsOneStageRun, IsLanesRun, IsPlan};
+ghost use Rattle.pnm_flow.specs.ChainRuns.{RunsInLanes, IsToolRun, IsLanesRun, IsPlan};
 
 use crate::lanes::run_lanes_beside;
-use pnm_filters::filter_of;
+use crate::stage::Stage;
 use pnm_image::Message;
 use pnm_lanes::LaneRings;
-use pnm_stages::{Call, Gate, Receiver, Sender, StageDone, Task, new_ring, run_both, run_filter};
+use pnm_stages::{Call, Gate, Receiver, Sender, StageDone, Task, new_ring, run_both};
 use pnm_tools::Tool;
 use std::alloc::Global;
 use std::sync::Wait;
@@ -51,40 +51,6 @@ pub fn runs_in_lanes(tool: &Tool, lanes: usize) -> bool
     ensures { IsTrue result ↔ RunsInLanes lanes tool.now }
 {
     lanes > 1 && tool.is_row_wise()
-}
-
-/// The work of one stage.
-#[derive(Drop)]
-struct Stage<'a, R, G> {
-    rt: &'a R,
-    alloc: Global,
-    tool: &'a Tool,
-    number: usize,
-    gate: &'a G,
-    input: Receiver,
-    output: Sender,
-}
-
-impl<'a, R: Wait, G: Gate> Task for Stage<'a, R, G> {
-    type Output = StageDone;
-
-    ghost can_run = { λ s. IsLawfulTool s.tool.now };
-
-    ghost run_gives = { λ s done. IsOneStageRun s.tool.now s.input s.output done };
-
-    fn run(self) -> StageDone {
-        let Stage {
-            rt,
-            alloc,
-            tool,
-            number,
-            gate,
-            input,
-            output,
-        } = self;
-        gate.arrive(number, 0);
-        run_filter(rt, alloc, filter_of(alloc, tool), input, output)
-    }
 }
 
 /// Notifies that all threads of a tool are started, by a message. Where they aren't, the ring's end goes.
