@@ -8,14 +8,14 @@ from places import ROOT
 # what a check reads of a crate
 SOURCES = ("src", "specs", "proofs")
 
-# libraries with no tests of their name: those of runs are of rings, stages, lanes, callers and the command line too,
-# and of the latter are the commands that are stored beside the program
+# libraries with no tests of their name: those of runs are of rings, stages, lanes and callers too; those of the command
+# line, and the commands that are stored, stand beside the program
 OF_RUNS = ["pnm_flow_tests", "pnm_flow_cases"]
 TESTED_IN = {
     "pnm_stages": OF_RUNS,
     "pnm_lanes": OF_RUNS,
     "pnm_serial": OF_RUNS,
-    "pnm_command_line": ["pnm_flow_tests", "pnmpipe"],
+    "pnm_command_line": ["pnmpipe"],
 }
 
 # where tests of want of memory stand, of the crates that it names

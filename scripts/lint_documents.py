@@ -36,7 +36,7 @@ def all_sources():
 
 
 def sources():
-    return [path for path in all_sources() if "_tests/" not in path and "_cases/" not in path]
+    return [path for path in all_sources() if not re.search("_tests/|_cases/|/src/tests", path)]
 
 
 def synopsis(page):

@@ -17,7 +17,7 @@ from places import ROOT
 from tool_table import TABLE, VALUES, tools_of
 
 PROGRAM = "crates/pnm_command_line/src/command_line.rt"
-HELP = "crates/pnm_flow_tests/src/tests/program/help.rt"
+HELP = "crates/pnmpipe/src/tests/help.rt"
 PAGE, README = "man/pnmpipe.1", "README.md"
 CHAINS, NETPBM, SHIM = "helpers/chain_text.py", "helpers/netpbm_words.py", "helpers/netpbm-shim"
 

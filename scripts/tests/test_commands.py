@@ -8,7 +8,7 @@ indented below one for that alone:
 
   given BYTES      its input; none: an empty one
   written BYTES    its whole output; none: nothing
-  helped           its output is the help text, as `help.rt` of pnm_flow_tests has it
+  helped           its output is the help text, as `help.rt` of the program's tests has it
   versioned        it is the program's name and the version that the file VERSION has, as a line
   printed LINE     its line on standard error; none: nothing
   status N         none: 0
@@ -41,7 +41,7 @@ from support import ROOT
 from case_text import text_of
 
 STORED = f"{ROOT}/crates/pnmpipe/commands"
-HELP = f"{ROOT}/crates/pnm_flow_tests/src/tests/program/help.rt"
+HELP = f"{ROOT}/crates/pnmpipe/src/tests/help.rt"
 
 # what the help text has to fit, in lines and columns
 SCREEN = (30, 80)

@@ -12,7 +12,6 @@ mod gates;
 mod lanes;
 mod limits;
 mod memory;
-mod program;
 mod rings;
 mod threads;
 mod waits;

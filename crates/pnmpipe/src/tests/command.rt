@@ -1,8 +1,8 @@
 //! Calls of the program that no process makes.
 
-use super::super::IMAGE;
 use super::help::HELP;
-use super::{INVERTED, OverThreads, words_of};
+use super::{IMAGE, INVERTED, words_of};
+use crate::over_threads::OverThreads;
 use pnm_command_line::command;
 use pnm_image::{BytesIn, BytesOut, Device};
 use std::process::Abort;

@@ -1,12 +1,9 @@
 //! The lines that are printed for faults.
 
-use super::super::is_so;
+use super::is_so;
 use pnm_chain::{ChainFault, ChainKind};
 use pnm_command_line::{print_chain_fault, print_run_fault, print_usage, print_want_of_memory};
-use pnm_flow::RunFault;
-use pnm_read::InputFault;
-use pnm_tools::ToolFault;
-use pnm_write::SinkFault;
+use pnm_flow::{InputFault, RunFault, SinkFault, ToolFault};
 use std::alloc::Global;
 use std::io;
 use std::io::{ErrorKind, Write};

@@ -1,9 +1,9 @@
 //! Want of memory in the program. `scripts/refused.py tests` refuses each allocation of these
 //! tests in turn.
 
-use super::super::{IMAGE, is_so};
 use super::help::HELP;
-use super::{INVERTED, OverThreads, words_of};
+use super::{IMAGE, INVERTED, is_so, words_of};
+use crate::over_threads::OverThreads;
 use pnm_command_line::command;
 use pnm_image::Device;
 use std::process::Abort;
