@@ -2,7 +2,7 @@
 
 PROGRAM := crates/pnmpipe
 # where the tests stand: in crates of their own, and those of the program's words beside the program
-TESTED := pnm_image_tests pnm_flow_tests pnm_surface pnmpipe
+TESTED := pnm_unit_tests pnm_flow_tests pnm_surface pnmpipe
 # programs that tell what comes of written cases
 CASES := pnm_format_cases pnm_tools_cases pnm_flow_cases
 
@@ -28,7 +28,7 @@ MODULES += shell_reader.py slow_reader.py translation.py
 SHIMS = $(shell python3 scripts/tool_table.py) pnmcut pnmdepth pnmenlarge pnmflip
 
 # crates whose tests of want of memory are refused each allocation
-REFUSED := pnm_image_tests pnm_flow_tests pnmpipe
+REFUSED := pnm_unit_tests pnm_flow_tests pnmpipe
 
 # how long `make soak` starts runs
 SECONDS ?= 60

@@ -8,18 +8,19 @@ from places import ROOT
 # what a check reads of a crate
 SOURCES = ("src", "specs", "proofs")
 
+# where tests of heads, devices and the like stand, and those of want of memory, of the crates that it names
+OF_UNITS = "pnm_unit_tests"
+
 # libraries with no tests of their name: those of runs are of rings, stages, lanes and callers too; those of the command
 # line, and the commands that are stored, stand beside the program
 OF_RUNS = ["pnm_flow_tests", "pnm_flow_cases"]
 TESTED_IN = {
+    "pnm_image": [OF_UNITS],
     "pnm_stages": OF_RUNS,
     "pnm_lanes": OF_RUNS,
     "pnm_serial": OF_RUNS,
     "pnm_command_line": ["pnmpipe"],
 }
-
-# where tests of want of memory stand, of the crates that it names
-OF_MEMORY = "pnm_image_tests"
 
 SIGNALS = (signal.SIGINT, signal.SIGTERM, signal.SIGHUP)
 
@@ -85,6 +86,6 @@ def tests_of(crates, name):
         return TESTED_IN[name]
     own = [it for it in (f"{name}_tests", f"{name}_cases") if it in crates]
     if own:
-        return own + [it for it in (OF_MEMORY,) if it not in own and name in crates.get(it, ())]
+        return own + [it for it in (OF_UNITS,) if it not in own and name in crates.get(it, ())]
     named = [it for it in crates if it.endswith(("_tests", "_cases")) and name in crates[it]]
     return named or [name]

@@ -37,7 +37,7 @@ PROGRAM = os.path.join(ROOT, "crates/pnmpipe")
 MEMORY = re.compile(r"pnmpipe: (command line: Memory|chain: Memory|NoStart|input: Memory|tool [0-9]+: Memory)\n")
 
 # crates whose tests are refused, if their names have this word
-TESTED = ["pnm_image_tests", "pnm_flow_tests", "pnmpipe"]
+TESTED = ["pnm_unit_tests", "pnm_flow_tests", "pnmpipe"]
 OF_MEMORY = "memory::"
 
 # no command makes more allocations than this, and none has more tools

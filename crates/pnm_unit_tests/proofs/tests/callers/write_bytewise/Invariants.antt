@@ -1,7 +1,7 @@
 -- The part keeps the device that it was lent, which holds more by the bytes that are passed.
 use Rattle.std.proofs.Common.{◌≡◌, take}
 use Rattle.std.specs.Io.KnownBytes.{Appends}
-use Rattle.pnm_image_tests.proofs.tests.callers.write_bytewise.Given as goal
+use Rattle.pnm_unit_tests.proofs.tests.callers.write_bytewise.Given as goal
 
 abbrev pub invariant-loop-byte : goal.invariant-loop-byte
 invariant-loop-byte g l = record {

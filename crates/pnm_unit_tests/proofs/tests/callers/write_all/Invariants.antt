@@ -1,7 +1,7 @@
 -- The device holds more by the bytes that are passed, and has failed no further.
 use Rattle.std.proofs.Common.{◌≡◌, ◌-◌, ◌≤◌, take, length}
 use Rattle.std.specs.Io.KnownBytes.{Appends}
-use Rattle.pnm_image_tests.proofs.tests.callers.write_all.Given as goal
+use Rattle.pnm_unit_tests.proofs.tests.callers.write_all.Given as goal
 
 abbrev pub invariant-loop-at : goal.invariant-loop-at
 invariant-loop-at g l = record {

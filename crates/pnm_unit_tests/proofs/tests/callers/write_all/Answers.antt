@@ -4,7 +4,7 @@ use Rattle.std.proofs.lemmas.List.{length-drop, take_rest}
 use Rattle.std.proofs.KnownBytes.{Appends-trans}
 use Rattle.std.specs.Prelude.{Option}
 use Rattle.std.specs.Io.KnownBytes.{Appends}
-use Rattle.pnm_image_tests.proofs.tests.callers.write_all.Goals as goal
+use Rattle.pnm_unit_tests.proofs.tests.callers.write_all.Goals as goal
 
 -- i bytes of a list, and then n of those that were left, are the first i + n
 Appends-further : (a b c : Option (List ℕ)) (all : List ℕ) (i n : ℕ) → Appends a b (take i all) → Appends b c (take n (take (length all - i) (drop i all)))

@@ -3,7 +3,7 @@ use Rattle.std.proofs.Math.Seq.{take-nil, take-suc}
 use Rattle.std.proofs.KnownBytes.{Appends-trans}
 use Rattle.std.specs.Prelude.{Option}
 use Rattle.std.specs.Io.KnownBytes.{Appends}
-use Rattle.pnm_image_tests.proofs.tests.callers.write_bytewise.Goals as goal
+use Rattle.pnm_unit_tests.proofs.tests.callers.write_bytewise.Goals as goal
 
 -- i bytes of a list, and then the next, are the first i + 1
 Appends-next : (a b c : Option (List ℕ)) (all : List ℕ) (i : ℕ) → i < length all → Appends a b (take i all) → Appends b c (get_or all i 0 ∷ [])

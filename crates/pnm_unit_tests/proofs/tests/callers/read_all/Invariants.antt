@@ -2,7 +2,7 @@
 -- The loop ends since a vector holds less than 2 ^ 63 bytes.
 use Rattle.std.proofs.Common.{◌≡◌, ℕ, ◌^◌, ◌-◌, List, ◌++◌, length}
 use Rattle.std.specs.Io.KnownBytes.{Consumes}
-use Rattle.pnm_image_tests.proofs.tests.callers.read_all.Given as goal
+use Rattle.pnm_unit_tests.proofs.tests.callers.read_all.Given as goal
 
 abbrev pub invariant-loop-count : goal.invariant-loop-count
 invariant-loop-count g l = (bytes : List ℕ)
