@@ -19,6 +19,7 @@ TESTED_IN = {
     "pnm_stages": OF_RUNS,
     "pnm_lanes": OF_RUNS,
     "pnm_serial": OF_RUNS,
+    "pnm_io_loop": OF_RUNS,
     "pnm_command_line": ["pnmpipe"],
 }
 

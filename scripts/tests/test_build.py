@@ -116,7 +116,7 @@ TOOLS = ("cc", "ld", "objcopy", "ar", "strip")
 HUNDREDS = {
     **{"pnm_streams": 1, "pnm_samples": 16, "pnm_image": 10, "pnm_read": 28, "pnm_tools": 9, "pnm_write": 17},
     **{"pnm_row_tools": 18, "pnm_geometry_tools": 24, "pnm_filters": 7, "pnm_chain": 8, "pnm_stages": 11},
-    **{"pnm_lanes": 12, "pnm_serial": 12, "pnm_flow": 11, "pnm_command_line": 5, "pnmpipe": 1},
+    **{"pnm_lanes": 12, "pnm_serial": 6, "pnm_io_loop": 6, "pnm_flow": 11, "pnm_command_line": 5, "pnmpipe": 1},
     **{"pnm_memory": 5, "pnm_c": 1},
 }
 

@@ -33,9 +33,9 @@ use Rattle.pnm_stages.specs.declared.stage.StageEnd.{StageEnd}
 use Rattle.pnm_stages.specs.declared.stage.StageEnd.TheVariants.{Well, Broken, Fault, PeerGone}
 use Rattle.pnm_serial.specs.declared.summary.Summary.{Summary}
 use Rattle.pnm_flow.specs.ChainRuns.{IsStageOver, FirstIsThere, AreStages}
-use Rattle.pnm_serial.specs.Egresses.{EndedBy}
+use Rattle.pnm_io_loop.specs.Egresses.{EndedBy}
 use Rattle.pnm_serial.specs.FusedSinks.{output_of, HasTaken, AnswersFlushes}
-use Rattle.pnm_serial.specs.Ingresses.{HasAskedAll, HasAskedBy, closing_messages}
+use Rattle.pnm_io_loop.specs.Ingresses.{HasAskedAll, HasAskedBy, closing_messages}
 use Rattle.pnm_serial.specs.Feeding.{IsSaidOf, HasMore, MayFollowRead}
 use Rattle.pnm_serial.specs.Jobs.{Job}
 use Rattle.pnm_serial.specs.Runs.{Change, change, MayFollow}

@@ -14,9 +14,6 @@ pub mod RunSteps
 pub mod EndSteps
 pub mod RunFactSteps
 pub mod RefusalExample
-pub mod IngressSteps
-pub mod EgressSteps
-pub mod IoLoopSteps
 pub mod DecimalText
 pub mod NumberText
 pub mod PamText

@@ -9,7 +9,4 @@ pub mod RunFacts
 pub mod RunLaws
 pub mod Feeding
 pub mod RunExamples
-pub mod Ingresses
-pub mod Egresses
-pub mod IoLoop
 pub mod ReadAgain

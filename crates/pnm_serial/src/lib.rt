@@ -1,24 +1,19 @@
-//! A run in one thread, over filters that are given: the images of a reader pass through them, and what comes out is
-//! written. And the caller's side of a run over threads: what it sends to the first tool, and what it takes from the
-//! last one.
+//! What a run answers and writes, and a run in one thread, over filters that are given: the images of a reader pass
+//! through them, and what comes out is written.
 #![tactic(auto)]
 
 mod buffers;
-mod egress;
 mod fault;
 mod fused_sink;
-mod ingress;
-mod io_loop;
 pub mod laws;
 mod passing;
 mod serial;
 mod summary;
+mod together;
 
 pub use buffers::Buffers;
-pub use egress::Egress;
 pub use fault::RunFault;
 pub use fused_sink::FusedSink;
-pub use ingress::Ingress;
-pub use io_loop::IoLoop;
 pub use serial::run_filters;
 pub use summary::Summary;
+pub use together::go_together;

@@ -1,0 +1,3 @@
+pub mod IngressSteps
+pub mod EgressSteps
+pub mod IoLoopSteps

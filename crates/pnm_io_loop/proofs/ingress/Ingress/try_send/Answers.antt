@@ -1,0 +1,15 @@
+use Rattle.std.proofs.Common.{arith}
+use Rattle.std.proofs.lemmas.Grind.{common_steps}
+use Rattle.pnm_io_loop.proofs.ingress.Ingress.try_send.Goals as goal
+
+pub returns-then-not-has_room-clause-sending : goal.returns-then-not-has_room-clause-sending
+returns-then-not-has_room-clause-sending g c = grind (arith, common_steps)
+
+pub returns-clause-same_device : goal.returns-clause-same_device
+returns-clause-same_device g c = grind (arith, common_steps)
+
+pub returns-then-not-has_room-clause-same_device : goal.returns-then-not-has_room-clause-same_device
+returns-then-not-has_room-clause-same_device g c = grind (arith, common_steps)
+
+pub send_next-requires-clause-room : goal.send_next-requires-clause-room
+send_next-requires-clause-room g c = grind (arith, common_steps)

@@ -1,0 +1,37 @@
+use Rattle.std.proofs.Common.{rules}
+use Rattle.pnm_io_loop.proofs.IoLoopSteps.{stepped_on}
+use Rattle.pnm_io_loop.specs.IoLoop.{HaveStepped}
+use Rattle.pnm_io_loop.proofs.io_loop.run_once.Goals as goal
+use Rattle.pnm_io_loop.proofs.io_loop.run_once.Goals.{then-takes_first+else-take, else-takes_first}
+
+pub returns-then-take : goal.returns-then-take
+returns-then-take g c = record {
+  stepped = record {
+    sending = λ first before is. is;
+    receiving = c.take.ensures.receiving;
+    sends = search rules;
+    takes = c.take.ensures.ring;
+    reader = g.met.R.BytesIn.same_at_once _;
+    writer = c.take.ensures.same_device;
+  };
+}
+
+pub returns : goal.returns
+returns g c = elim c.if-takes_first.branch [
+  | then-takes_first+else-take w ↦
+      let taken : HaveStepped g.R.BytesIn.left g.R.BytesIn.failures g.R.BytesIn.same g.W.BytesOut.held g.W.BytesOut.failures g.W.BytesOut.same
+      c.args.ingress.now c.args.egress.now c.args.ingress.now w.take.new.egress = record {
+        sending = λ first before is. is;
+        receiving = w.take.ensures.receiving;
+        sends = search rules;
+        takes = w.take.ensures.ring;
+        reader = g.met.R.BytesIn.same_at_once _;
+        writer = w.take.ensures.same_device;
+      } in
+      record {
+        stepped = stepped_on g.R.BytesIn.left g.R.BytesIn.failures g.R.BytesIn.same g.W.BytesOut.held g.W.BytesOut.failures g.W.BytesOut.same
+            g.met.R.BytesIn.same_later g.met.W.BytesOut.same_later c.args.ingress.now c.args.ingress.now c.send_or_take.new.ingress c.args.egress.now
+            w.take.new.egress c.send_or_take.new.egress taken (rw w.egress-is at c.send_or_take.ensures.stepped);
+      }
+  | else-takes_first w ↦ record { stepped = rw w.egress-is at c.send_or_take.ensures.stepped }
+]

@@ -1,0 +1,3 @@
+pub mod Ingresses
+pub mod Egresses
+pub mod IoLoop

@@ -1,0 +1,217 @@
+//! What comes behind the tools of a run: the ring that their results come from, and what is written of them.
+
+ghost use Rattle.std.specs.Prelude.{◌≡◌, ◌⊎◌, [], ◌∷◌, ◌++◌, List, true, false};
+ghost use Rattle.pnm_image.specs.Packets.{messages_in};
+ghost use Rattle.pnm_stages.specs.Rings.{received, sent, known_items, IsPair, SameSender, SameReceiver};
+ghost use Rattle.pnm_image.specs.declared.format.Form.{Form as FormValue};
+ghost use Rattle.pnm_image.specs.declared.message.Message.{Message as MessageValue};
+ghost use Rattle.pnm_io_loop.specs.Egresses.{HasReceived};
+ghost use Rattle.pnm_serial.specs.FusedSinks.{output_of};
+
+use crate::image_count::count_image;
+use pnm_image::{BytesOut, Ending, Form, Message, Packet, Rows, Several};
+use pnm_read::SpareRows;
+use pnm_serial::FusedSink;
+use pnm_stages::{Receiver, Sender};
+use pnm_write::WriteBuffer;
+use std::sync::Wait;
+
+/// The ring that the results of a run come from, and what is written of them.
+#[derive(Drop)]
+pub struct Egress<W> {
+    /// The end of the ring that the results are received on.
+    pub input: Receiver,
+    /// What is written of them.
+    pub fused_sink: FusedSink<W>,
+    /// Whether the end of the stream, or Stop, was taken.
+    pub has_ended: bool,
+    /// Whether the ring's other end was seen dropped.
+    is_gone: bool,
+    /// How many images have had their end taken, up to `u64::MAX`.
+    images: u64,
+}
+
+impl<W: BytesOut + Drop> Egress<W> {
+    ghost use Rattle.pnm_io_loop.specs.Egresses.{IsEgress, egress_is_over};
+
+    /// An egress that has taken nothing yet, and is to encode into this buffer and write in this form.
+    pub fn new(input: Receiver, buffer: WriteBuffer, writer: W, form: Form) -> Egress<W>
+        ensures receiving { IsEgress W.held W.failures form writer (received input) result }
+        ensures parts { (result.input ≡ input) × (output_of result.fused_sink ≡ writer) }
+    {
+        Egress {
+            input,
+            fused_sink: FusedSink::new(buffer, writer, form),
+            has_ended: false,
+            is_gone: false,
+            images: 0,
+        }
+    }
+
+    /// Whether there is nothing more to take: the end of the stream or Stop was taken, or the ring's other end was seen
+    /// dropped.
+    pub fn is_over(&self) -> bool
+        ensures { result ≡ egress_is_over self.now }
+    {
+        self.has_ended || self.is_gone
+    }
+
+    /// How many images have had their end taken, up to `u64::MAX`.
+    pub fn images(&self) -> u64 {
+        self.images
+    }
+
+    /// Takes the messages that one look at the ring shows, and writes them; the rows become spare ones. Returns false
+    /// if there is no message, and the ring's other end wasn't seen dropped.
+    pub fn try_receive(&mut self, spares: &mut SpareRows) -> bool
+        requires going { egress_is_over self.old ≡ false }
+        ensures receiving { (form : FormValue) (start : W) (before : List MessageValue)
+            → IsEgress W.held W.failures form start before self.old
+            → IsEgress W.held W.failures form start before self.new }
+        ensures ring { SameReceiver self.old.input self.new.input }
+        ensures same_device { W.same (output_of self.old.fused_sink) (output_of self.new.fused_sink) }
+    {
+        if !self.input.has_message() {
+            self.is_gone = self.input.is_abandoned();
+            return self.is_gone;
+        }
+        self.take_seen(spares);
+        true
+    }
+
+    /// Takes the messages that were seen in the ring, up to one that ends the stream, and writes them.
+    fn take_seen(&mut self, spares: &mut SpareRows)
+        ensures receiving { (form : FormValue) (start : W) (before : List MessageValue)
+            → IsEgress W.held W.failures form start before self.old
+            → IsEgress W.held W.failures form start before self.new }
+        ensures ring { SameReceiver self.old.input self.new.input }
+        ensures same_device { W.same (output_of self.old.fused_sink) (output_of self.new.fused_sink) }
+    {
+        while !self.has_ended && self.input.has_seen_message() {
+            if let Packet::Rows(rows) = self.input.peek_known() {
+                // They are written while they lie in the ring, and are taken out of it only then.
+                self.fused_sink.put_rows(rows);
+                recycle(self.input.receive_known(), spares);
+                continue;
+            }
+            let packet = self.input.receive_known();
+            count_image(&mut self.images, packet.ends_image());
+            let rows = put(&mut self.fused_sink, &mut self.has_ended, packet);
+            keep_some(rows, spares);
+        }
+    }
+
+    /// Flushes the writer, if an image has ended since the last flush, so that no image is kept back while the source
+    /// waits for its reader.
+    pub fn flush_images(&mut self)
+        ensures receiving { (form : FormValue) (start : W) (before : List MessageValue)
+            → IsEgress W.held W.failures form start before self.old
+            → IsEgress W.held W.failures form start before self.new }
+        ensures ring { SameReceiver self.old.input self.new.input }
+        ensures same_device { W.same (output_of self.old.fused_sink) (output_of self.new.fused_sink) }
+    {
+        self.fused_sink.flush_images();
+    }
+
+    /// Waits once for a message.
+    pub fn wait<R: Wait>(&self, rt: &R) {
+        self.input.wait(rt);
+    }
+
+    /// Takes and writes what is left in the ring, with both of its ends at hand: what was sent before the other end was
+    /// seen dropped.
+    pub fn receive_rest(&mut self, sender: &mut Sender)
+        requires one_ring { IsPair sender.old self.old.input }
+        ensures receiving { (form : FormValue) (start : W) (before : List MessageValue)
+            → IsEgress W.held W.failures form start before self.old
+            → IsEgress W.held W.failures form start before self.new }
+        ensures in_order { received self.new.input ++ known_items self.new.input ≡ sent sender.new }
+        ensures rest { (self.new.has_ended ≡ true) ⊎ (known_items self.new.input ≡ []) }
+        ensures ring { SameReceiver self.old.input self.new.input }
+        ensures sender { SameSender sender.old sender.new × (sent sender.new ≡ sent sender.old) }
+        ensures same_device { W.same (output_of self.old.fused_sink) (output_of self.new.fused_sink) }
+    {
+        self.input.look_beside(sender);
+        while !self.has_ended && self.input.has_seen_message() {
+            drop(put(
+                &mut self.fused_sink,
+                &mut self.has_ended,
+                self.input.receive_known(),
+            ));
+        }
+    }
+
+    /// Returns what comes behind the ring, and whether the end of the stream or Stop was taken.
+    pub fn into_parts(self) -> (FusedSink<W>, bool)
+        ensures { (result.0 ≡ self.fused_sink) × (result.1 ≡ self.has_ended) }
+    {
+        (self.fused_sink, self.has_ended)
+    }
+}
+
+/// Writes the packet, unless it is Stop, and sets `has_ended` if it ends the stream. Returns the rows that came
+/// together, which are no longer wanted.
+#[inline(always)]
+fn put<W: BytesOut + Drop>(
+    fused_sink: &mut FusedSink<W>,
+    has_ended: &mut bool,
+    packet: Packet,
+) -> Option<Rows>
+    requires going { has_ended.old ≡ false }
+    ensures put { (form : FormValue) (start : W) (l : List MessageValue)
+        → HasReceived W.held W.failures form start l has_ended.old fused_sink.old
+        → HasReceived W.held W.failures form start (l ++ messages_in packet) has_ended.new fused_sink.new }
+    ensures same_device { W.same (output_of fused_sink.old) (output_of fused_sink.new) }
+{
+    match packet.into_message() {
+        Ok(message) => {
+            put_message(fused_sink, has_ended, &message);
+            None
+        }
+        Err(Several::Rows(rows)) => {
+            fused_sink.put_rows(&rows);
+            Some(rows)
+        }
+        Err(Several::Image(head, rows)) => {
+            fused_sink.put_image(head, &rows);
+            Some(rows)
+        }
+    }
+}
+
+/// Writes the message, unless it is Stop, and sets `has_ended` if it ends the stream.
+#[inline(always)]
+fn put_message<W: BytesOut + Drop>(
+    fused_sink: &mut FusedSink<W>,
+    has_ended: &mut bool,
+    message: &Message,
+)
+    requires going { has_ended.old ≡ false }
+    ensures put { (form : FormValue) (start : W) (l : List MessageValue)
+        → HasReceived W.held W.failures form start l has_ended.old fused_sink.old
+        → HasReceived W.held W.failures form start (l ++ message.now ∷ []) has_ended.new fused_sink.new }
+    ensures same_device { W.same (output_of fused_sink.old) (output_of fused_sink.new) }
+{
+    match message.ending() {
+        Ending::More => fused_sink.put(message),
+        Ending::Whole => {
+            fused_sink.put(message);
+            *has_ended = true;
+        }
+        Ending::BrokenOff => *has_ended = true,
+    }
+}
+
+/// Keeps rows as a spare row, if there are some.
+fn keep_some(rows: Option<Rows>, spares: &mut SpareRows) {
+    if let Some(rows) = rows {
+        spares.keep_rows(rows);
+    }
+}
+
+/// Drops the packet, but keeps rows as a spare row.
+fn recycle(packet: Packet, spares: &mut SpareRows) {
+    if let Packet::Rows(rows) = packet {
+        spares.keep_rows(rows);
+    }
+}

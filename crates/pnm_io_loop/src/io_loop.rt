@@ -1,0 +1,209 @@
+//! What the caller of a run over threads does while the tools work: it writes what it takes, and sends what it reads.
+
+ghost use Rattle.std.specs.Prelude.{◌≡◌, List, IsTrue, IfSome, false};
+ghost use Rattle.pnm_stages.specs.Rings.{SameReceiver};
+ghost use Rattle.pnm_image.specs.declared.format.Form.{Form};
+ghost use Rattle.pnm_image.specs.declared.message.Message.{Message};
+ghost use Rattle.pnm_io_loop.specs.Egresses.{IsEgress};
+ghost use Rattle.pnm_serial.specs.FusedSinks.{output_of};
+ghost use Rattle.pnm_io_loop.specs.Ingresses.{ingress_is_over};
+ghost use Rattle.pnm_io_loop.specs.IoLoop.{AreOver, HaveStepped};
+
+use crate::egress::Egress;
+use crate::ingress::Ingress;
+use pnm_image::{BytesIn, BytesOut};
+use pnm_read::SpareRows;
+use pnm_stages::Task;
+use std::alloc::Global;
+use std::sync::Wait;
+
+/// The loop of the caller, until all is sent and taken. Both of its sides are boxed, since each level of a chain's
+/// starts hands the task on to the next.
+#[derive(Drop)]
+pub struct IoLoop<'a, H, R, W> {
+    pub rt: &'a H,
+    pub spares: SpareRows,
+    pub ingress: Box<Ingress<R>>,
+    pub egress: Box<Egress<W>>,
+}
+
+impl<'a, H, R: BytesIn + Drop, W: BytesOut + Drop> IoLoop<'a, H, R, W> {
+    /// The loop of a caller that has this before its chain, and that behind it; none if there is no memory.
+    pub fn new(
+        rt: &'a H,
+        alloc: Global,
+        ingress: Ingress<R>,
+        egress: Egress<W>,
+    ) -> Option<IoLoop<'a, H, R, W>>
+        ensures { IfSome result (λ t. (t.ingress.value ≡ ingress) × (t.egress.value ≡ egress)) }
+    {
+        let ingress = Box::new(alloc, ingress).ok()?;
+        let egress = Box::new(alloc, egress).ok()?;
+        let spares = SpareRows::new(alloc).ok()?;
+        Some(IoLoop {
+            rt,
+            spares,
+            ingress,
+            egress,
+        })
+    }
+}
+
+impl<'a, H: Wait, R: BytesIn + Drop, W: BytesOut + Drop> Task for IoLoop<'a, H, R, W> {
+    type Output = (Box<Ingress<R>>, Box<Egress<W>>);
+
+    ghost can_run = { λ t. Unit {0} };
+
+    ghost run_gives = { λ t r. HaveStepped R.left R.failures R.same W.held W.failures W.same t.ingress.value
+        t.egress.value r.0.value r.1.value × AreOver r.0.value r.1.value };
+
+    fn run(self) -> (Box<Ingress<R>>, Box<Egress<W>>) {
+        let IoLoop {
+            rt,
+            mut spares,
+            mut ingress,
+            mut egress,
+        } = self;
+        run_loop(rt, &mut ingress, &mut egress, &mut spares);
+        (ingress, egress)
+    }
+}
+
+/// Takes and sends until there is no more to do. New rows are made of the rows that were written.
+fn run_loop<H: Wait, R: BytesIn + Drop, W: BytesOut + Drop>(
+    rt: &H,
+    ingress: &mut Ingress<R>,
+    egress: &mut Egress<W>,
+    spares: &mut SpareRows,
+)
+    ensures stepped { HaveStepped R.left R.failures R.same W.held W.failures W.same ingress.old egress.old ingress.new
+        egress.new }
+    ensures over { AreOver ingress.new egress.new }
+{
+    let mut takes = false;
+    for _ in rt.forever() {
+        if ingress.is_over() && egress.is_over() {
+            return;
+        }
+        let takes_first = wake_before_taking(ingress, egress, takes);
+        if !run_once(ingress, egress, spares, takes_first, &mut takes) {
+            wait(rt, ingress, egress);
+        }
+    }
+    unreachable!()
+}
+
+/// Waits once for both rings, if nothing can be done: at the first if there is more to be sent, since
+/// there is no room for it and so the tools have enough to do that something comes of it, and else at the last.
+fn wait<H: Wait, R: BytesIn + Drop, W: BytesOut + Drop>(
+    rt: &H,
+    ingress: &mut Ingress<R>,
+    egress: &Egress<W>,
+)
+    ensures stepped { HaveStepped R.left R.failures R.same W.held W.failures W.same ingress.old egress.now ingress.new
+        egress.now }
+{
+    if may_send(ingress, egress) {
+        ingress.wait(rt);
+    } else {
+        egress.wait(rt);
+    }
+}
+
+/// Whether a message is taken first, if one is there: so it is if one was taken in the step before, or if the source
+/// would have to wait for its reader. The first tool is woken for all that was sent then.
+fn wake_before_taking<R: BytesIn + Drop, W: BytesOut + Drop>(
+    ingress: &mut Ingress<R>,
+    egress: &Egress<W>,
+    takes: bool,
+) -> bool
+    ensures stepped { HaveStepped R.left R.failures R.same W.held W.failures W.same ingress.old egress.now ingress.new
+        egress.now }
+{
+    let takes_first = takes || ingress.would_read();
+    if takes_first {
+        ingress.wake_receiver();
+    }
+    takes_first
+}
+
+/// Goes on with what was done in the step before, to take and write a message or to send one, as long as that can be
+/// done, and then does the other: so the caller looks at a ring for many messages at once. Returns false if nothing can
+/// be done.
+fn run_once<R: BytesIn + Drop, W: BytesOut + Drop>(
+    ingress: &mut Ingress<R>,
+    egress: &mut Egress<W>,
+    spares: &mut SpareRows,
+    takes_first: bool,
+    takes: &mut bool,
+) -> bool
+    ensures stepped { HaveStepped R.left R.failures R.same W.held W.failures W.same ingress.old egress.old ingress.new
+        egress.new }
+{
+    if takes_first {
+        if take(egress, spares) {
+            return true;
+        }
+        *takes = false;
+    }
+    send_or_take(ingress, egress, spares, takes)
+}
+
+/// Sends a message. If that can't be done, takes one, and goes on with taking.
+#[inline(always)]
+fn send_or_take<R: BytesIn + Drop, W: BytesOut + Drop>(
+    ingress: &mut Ingress<R>,
+    egress: &mut Egress<W>,
+    spares: &mut SpareRows,
+    takes: &mut bool,
+) -> bool
+    ensures stepped { HaveStepped R.left R.failures R.same W.held W.failures W.same ingress.old egress.old ingress.new
+        egress.new }
+{
+    if send(ingress, egress, spares) {
+        return true;
+    }
+    *takes = true;
+    take(egress, spares)
+}
+
+/// Sends a message, if there is more to send and room for it. If the source may have to wait for its reader, flushes
+/// the images that have ended first.
+#[inline(always)]
+fn send<R: BytesIn + Drop, W: BytesOut + Drop>(
+    ingress: &mut Ingress<R>,
+    egress: &mut Egress<W>,
+    spares: &mut SpareRows,
+) -> bool
+    ensures stepped { HaveStepped R.left R.failures R.same W.held W.failures W.same ingress.old egress.old ingress.new
+        egress.new }
+{
+    if !may_send(ingress, egress) {
+        return false;
+    }
+    if ingress.would_read() {
+        egress.flush_images();
+    }
+    ingress.try_send(spares)
+}
+
+/// Takes a message and writes it, if one is there.
+#[inline(always)]
+fn take<W: BytesOut + Drop>(egress: &mut Egress<W>, spares: &mut SpareRows) -> bool
+    ensures receiving { (form : Form) (start : W) (before : List Message)
+        → IsEgress W.held W.failures form start before egress.old
+        → IsEgress W.held W.failures form start before egress.new }
+    ensures ring { SameReceiver egress.old.input egress.new.input }
+    ensures same_device { W.same (output_of egress.old.fused_sink) (output_of egress.new.fused_sink) }
+{
+    !egress.is_over() && egress.try_receive(spares)
+}
+
+/// Whether there is more to send. While the result of an image that was sent isn't written yet, what the source may
+/// have to wait for doesn't count.
+fn may_send<R: BytesIn + Drop, W: BytesOut + Drop>(ingress: &Ingress<R>, egress: &Egress<W>) -> bool
+    ensures { IsTrue result → ingress_is_over ingress.now ≡ false }
+{
+    !ingress.is_over()
+        && (egress.is_over() || ingress.images() <= egress.images() || !ingress.would_read())
+}

@@ -1,9 +1,0 @@
-use Rattle.std.proofs.Common.{arith}
-use Rattle.std.proofs.lemmas.Grind.{common_steps}
-use Rattle.pnm_serial.proofs.io_loop.wake_before_taking.Goals as goal
-
-pub returns-else-takes_first : goal.returns-else-takes_first
-returns-else-takes_first g c = grind (arith, common_steps)
-
-pub returns-then-takes_first : goal.returns-then-takes_first
-returns-then-takes_first g c = grind (arith, common_steps)
