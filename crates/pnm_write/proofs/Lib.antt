@@ -5,6 +5,7 @@ pub mod EntryLaws
 pub mod PixelLaws
 pub mod NumeralLaws
 pub mod PartLaws
+pub mod WriteCallSteps
 pub mod RowsLaws
 pub mod RunLaws
 pub mod RowMessages

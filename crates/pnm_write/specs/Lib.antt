@@ -5,5 +5,6 @@ pub mod PixelCells
 pub mod Forms
 pub mod Encoding
 pub mod WriteBuffers
+pub mod WriteCalls
 pub mod Sinks
 pub mod EncodingLaws

@@ -1,10 +1,9 @@
 //! The headers of images, from pbm(5), pgm(5), ppm(5) and pam(5).
 
-ghost use Rattle.std.specs.Prelude.{◌≡◌, ◌+◌, ◌≤◌, ◌++◌, length, codes, decimal, OnOk, OnErr};
+ghost use Rattle.std.specs.Prelude.{◌≡◌, ◌+◌, ◌≤◌, ◌++◌, length, codes, decimal};
 ghost use Rattle.pnm_image.specs.declared.limits.TheConstants.{MAX_TUPLE_TYPE_LENGTH};
-ghost use Rattle.std.specs.Io.KnownBytes.{Appends};
 ghost use Rattle.pnm_write.specs.Encoding.{magic_line, size_line, tuple_type_line, pam_text, header_text};
-ghost use Rattle.pnm_image.specs.Devices.{FailsIn};
+ghost use Rattle.pnm_write.specs.WriteCalls.{WriteCall};
 
 use crate::write_buffer::WriteBuffer;
 use itoa::Buffer;
@@ -17,13 +16,7 @@ pub fn write_header<W: BytesOut>(
     form: Form,
     head: &Head,
 ) -> Result<(), DeviceFailed>
-    ensures written { OnOk result
-        (Appends (W.held writer.old) (W.held writer.new) (header_text form head.now)) }
-    ensures failed { OnErr result
-        (FailsIn (header_text form head.now) (W.held writer.old) (W.held writer.new)
-        (W.failures writer.old) (W.failures writer.new)) }
-    ensures count { OnOk result (W.failures writer.new ≡ W.failures writer.old) }
-    ensures same_device { W.same writer.old writer.new }
+    ensures { WriteCall W.held W.failures W.same writer.old writer.new result (header_text form head.now) }
 {
     buffer.clear();
     push_header(buffer, form, head);

@@ -1,14 +1,14 @@
 //! The rows of plain images: their samples as words in lines.
 
-ghost use Rattle.std.specs.Prelude.{◌≡◌, ◌+◌, ◌*◌, ◌<◌, ◌≤◌, All, ◌++◌, length, take, drop, OnOk, OnErr};
+ghost use Rattle.std.specs.Prelude.{◌≡◌, ◌+◌, ◌*◌, ◌<◌, ◌≤◌, All, ◌++◌, length, take, drop};
 ghost use Rattle.std.specs.Io.KnownBytes.{Appends};
-ghost use Rattle.pnm_image.specs.Devices.{FailsIn};
 ghost use Rattle.pnm_image.specs.declared.shape.Kind.{Kind};
 ghost use Rattle.pnm_samples.specs.Pixels.{all_pixels};
 ghost use Rattle.pnm_samples.specs.SampleVecs.{HasWhiteSpare, slice_samples};
 ghost use Rattle.pnm_write.specs.PlainRows.{sample_text, plain_row_text};
 ghost use Rattle.pnm_write.specs.PlainParts.{column_after, word_in_line, text_of_part, column_after_part, sample_texts};
 ghost use Rattle.pnm_write.specs.PlainParts.{row_end};
+ghost use Rattle.pnm_write.specs.WriteCalls.{WriteCall};
 
 use crate::numerals::MAX_LINE_LENGTH;
 use crate::row::count_of;
@@ -31,13 +31,8 @@ pub fn write_lines<W: BytesOut>(
 ) -> Result<(), DeviceFailed>
     requires range { All (λ sample. sample ≤ shape.maxval) (slice_samples row) }
     requires spare { HasWhiteSpare row }
-    ensures written { OnOk result
-        (Appends (W.held writer.old) (W.held writer.new) (plain_row_text shape.kind (slice_samples row.entry))) }
-    ensures failed { OnErr result
-        (FailsIn (plain_row_text shape.kind (slice_samples row.entry)) (W.held writer.old) (W.held writer.new)
-        (W.failures writer.old) (W.failures writer.new)) }
-    ensures count { OnOk result (W.failures writer.new ≡ W.failures writer.old) }
-    ensures same_device { W.same writer.old writer.new }
+    ensures { WriteCall W.held W.failures W.same writer.old writer.new result
+        (plain_row_text shape.kind (slice_samples row.entry)) }
 {
     match (shape.kind, row) {
         (Kind::Bit, SampleSlice::Bits(bytes, count)) => write_pixels(writer, buffer, bytes, count),
@@ -59,13 +54,8 @@ fn write_pixels<W: BytesOut>(
     count: usize,
 ) -> Result<(), DeviceFailed>
     requires { count ≤ 8 * length bytes.now }
-    ensures written { OnOk result (Appends (W.held writer.old) (W.held writer.new)
-        (plain_row_text Kind.Bit (take count (all_pixels bytes.now)))) }
-    ensures failed { OnErr result
-        (FailsIn (plain_row_text Kind.Bit (take count (all_pixels bytes.now)))
-        (W.held writer.old) (W.held writer.new) (W.failures writer.old) (W.failures writer.new)) }
-    ensures count { OnOk result (W.failures writer.new ≡ W.failures writer.old) }
-    ensures same_device { W.same writer.old writer.new }
+    ensures { WriteCall W.held W.failures W.same writer.old writer.new result
+        (plain_row_text Kind.Bit (take count (all_pixels bytes.now))) }
 {
     let mut rest = bytes;
     let mut left = count;
@@ -86,13 +76,7 @@ fn write_bytes<W: BytesOut>(
     buffer: &mut WriteBuffer,
     samples: &[u8],
 ) -> Result<(), DeviceFailed>
-    ensures written { OnOk result
-        (Appends (W.held writer.old) (W.held writer.new) (plain_row_text Kind.Gray samples.now)) }
-    ensures failed { OnErr result
-        (FailsIn (plain_row_text Kind.Gray samples.now) (W.held writer.old) (W.held writer.new)
-        (W.failures writer.old) (W.failures writer.new)) }
-    ensures count { OnOk result (W.failures writer.new ≡ W.failures writer.old) }
-    ensures same_device { W.same writer.old writer.new }
+    ensures { WriteCall W.held W.failures W.same writer.old writer.new result (plain_row_text Kind.Gray samples.now) }
 {
     let mut column = 0;
     let mut rest = samples;
@@ -113,13 +97,7 @@ fn write_words<W: BytesOut>(
     buffer: &mut WriteBuffer,
     samples: &[u16],
 ) -> Result<(), DeviceFailed>
-    ensures written { OnOk result
-        (Appends (W.held writer.old) (W.held writer.new) (plain_row_text Kind.Gray samples.now)) }
-    ensures failed { OnErr result
-        (FailsIn (plain_row_text Kind.Gray samples.now) (W.held writer.old) (W.held writer.new)
-        (W.failures writer.old) (W.failures writer.new)) }
-    ensures count { OnOk result (W.failures writer.new ≡ W.failures writer.old) }
-    ensures same_device { W.same writer.old writer.new }
+    ensures { WriteCall W.held W.failures W.same writer.old writer.new result (plain_row_text Kind.Gray samples.now) }
 {
     let mut column = 0;
     let mut rest = samples;
@@ -146,13 +124,8 @@ fn write_others<W: BytesOut>(
 ) -> Result<(), DeviceFailed>
     requires count { length (slice_samples row) ≡ count }
     requires range { All (λ sample. sample ≤ shape.maxval) (slice_samples row) }
-    ensures written { OnOk result
-        (Appends (W.held writer.old) (W.held writer.new) (plain_row_text shape.kind (slice_samples row.entry))) }
-    ensures failed { OnErr result
-        (FailsIn (plain_row_text shape.kind (slice_samples row.entry)) (W.held writer.old) (W.held writer.new)
-        (W.failures writer.old) (W.failures writer.new)) }
-    ensures count { OnOk result (W.failures writer.new ≡ W.failures writer.old) }
-    ensures same_device { W.same writer.old writer.new }
+    ensures { WriteCall W.held W.failures W.same writer.old writer.new result
+        (plain_row_text shape.kind (slice_samples row.entry)) }
 {
     // No effect at run time: a proof learns from this that the maxval keeps the rules of shapes.
     let _ = shape.maxval;

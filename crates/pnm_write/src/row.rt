@@ -1,11 +1,10 @@
 //! The rows of images.
 
-ghost use Rattle.std.specs.Prelude.{◌≡◌, ◌≤◌, ◌+◌, All, OnOk, OnErr, length, take, drop};
-ghost use Rattle.std.specs.Io.KnownBytes.{Appends};
+ghost use Rattle.std.specs.Prelude.{◌≡◌, ◌≤◌, ◌+◌, All, length, take, drop};
 ghost use Rattle.pnm_write.specs.Encoding.{row_bytes};
-ghost use Rattle.pnm_image.specs.Devices.{FailsIn};
 ghost use Rattle.pnm_samples.specs.Pixels.{AreBytes};
 ghost use Rattle.pnm_samples.specs.SampleVecs.{HasWhiteSpare, slice_samples};
+ghost use Rattle.pnm_write.specs.WriteCalls.{WriteCall};
 
 use crate::plain::write_lines;
 use crate::raw::most_samples;
@@ -26,13 +25,8 @@ pub fn write_samples<W: BytesOut>(
 ) -> Result<(), DeviceFailed>
     requires range { All (λ sample. sample ≤ shape.maxval) (slice_samples row) }
     requires spare { HasWhiteSpare row }
-    ensures written { OnOk result
-        (Appends (W.held writer.old) (W.held writer.new) (row_bytes form shape (slice_samples row.entry))) }
-    ensures failed { OnErr result
-        (FailsIn (row_bytes form shape (slice_samples row.entry)) (W.held writer.old) (W.held writer.new)
-        (W.failures writer.old) (W.failures writer.new)) }
-    ensures count { OnOk result (W.failures writer.new ≡ W.failures writer.old) }
-    ensures same_device { W.same writer.old writer.new }
+    ensures { WriteCall W.held W.failures W.same writer.old writer.new result
+        (row_bytes form shape (slice_samples row.entry)) }
 {
     match form {
         Form::Raw => write_raw(writer, buffer, shape, row),
@@ -50,13 +44,8 @@ fn write_raw<W: BytesOut>(
 ) -> Result<(), DeviceFailed>
     requires range { All (λ sample. sample ≤ shape.maxval) (slice_samples row) }
     requires spare { HasWhiteSpare row }
-    ensures written { OnOk result
-        (Appends (W.held writer.old) (W.held writer.new) (row_bytes Form.Raw shape (slice_samples row.entry))) }
-    ensures failed { OnErr result
-        (FailsIn (row_bytes Form.Raw shape (slice_samples row.entry)) (W.held writer.old) (W.held writer.new)
-        (W.failures writer.old) (W.failures writer.new)) }
-    ensures count { OnOk result (W.failures writer.new ≡ W.failures writer.old) }
-    ensures same_device { W.same writer.old writer.new }
+    ensures { WriteCall W.held W.failures W.same writer.old writer.new result
+        (row_bytes Form.Raw shape (slice_samples row.entry)) }
 {
     match (SampleWidth::of(shape.kind, shape.maxval), row) {
         (SampleWidth::Bits, SampleSlice::Bits(bytes, _)) => write_all(writer, bytes_of(bytes)),
@@ -98,13 +87,8 @@ fn write_others<W: BytesOut>(
 ) -> Result<(), DeviceFailed>
     requires count { length (slice_samples row) ≡ count }
     requires range { All (λ sample. sample ≤ shape.maxval) (slice_samples row) }
-    ensures written { OnOk result
-        (Appends (W.held writer.old) (W.held writer.new) (row_bytes Form.Raw shape (slice_samples row.entry))) }
-    ensures failed { OnErr result
-        (FailsIn (row_bytes Form.Raw shape (slice_samples row.entry)) (W.held writer.old) (W.held writer.new)
-        (W.failures writer.old) (W.failures writer.new)) }
-    ensures count { OnOk result (W.failures writer.new ≡ W.failures writer.old) }
-    ensures same_device { W.same writer.old writer.new }
+    ensures { WriteCall W.held W.failures W.same writer.old writer.new result
+        (row_bytes Form.Raw shape (slice_samples row.entry)) }
 {
     let sample_width = SampleWidth::of(shape.kind, shape.maxval);
     let mut words = [0; MOST_SAMPLES];
@@ -127,13 +111,7 @@ fn write_words<W: BytesOut>(
     samples: &[u16],
 ) -> Result<(), DeviceFailed>
     requires { All (λ sample. sample ≤ shape.maxval) samples.now }
-    ensures written { OnOk result
-        (Appends (W.held writer.old) (W.held writer.new) (row_bytes Form.Raw shape samples.now)) }
-    ensures failed { OnErr result
-        (FailsIn (row_bytes Form.Raw shape samples.now) (W.held writer.old) (W.held writer.new)
-        (W.failures writer.old) (W.failures writer.new)) }
-    ensures count { OnOk result (W.failures writer.new ≡ W.failures writer.old) }
-    ensures same_device { W.same writer.old writer.new }
+    ensures { WriteCall W.held W.failures W.same writer.old writer.new result (row_bytes Form.Raw shape samples.now) }
 {
     let sample_width = SampleWidth::of(shape.kind, shape.maxval);
     let most = most_samples(sample_width);

@@ -1,13 +1,12 @@
 //! Rows that are handed over together.
 
-ghost use Rattle.std.specs.Prelude.{◌≡◌, ℕ, IsTrue, OnOk, OnErr};
+ghost use Rattle.std.specs.Prelude.{◌≡◌, ℕ, IsTrue};
 ghost use Rattle.std.specs.List.{AllByRecursion};
-ghost use Rattle.std.specs.Io.KnownBytes.{Appends};
-ghost use Rattle.pnm_image.specs.Devices.{FailsIn};
 ghost use Rattle.pnm_image.specs.Heads.{row_length};
 ghost use Rattle.pnm_image.specs.Places.{IsRowOf};
 ghost use Rattle.pnm_image.specs.SampleWidths.{sample_width_of};
 ghost use Rattle.pnm_write.specs.Encoding.{rows_bytes, AreWholeBytes};
+ghost use Rattle.pnm_write.specs.WriteCalls.{WriteCall};
 
 use crate::row::write_samples;
 use crate::write_buffer::WriteBuffer;
@@ -25,13 +24,7 @@ pub fn write_rows<W: BytesOut>(
     rows: &Rows,
 ) -> Result<(), DeviceFailed>
     requires { AllByRecursion (IsRowOf shape) rows.now }
-    ensures written { OnOk result
-        (Appends (W.held writer.old) (W.held writer.new) (rows_bytes form shape rows.now)) }
-    ensures failed { OnErr result
-        (FailsIn (rows_bytes form shape rows.now) (W.held writer.old) (W.held writer.new)
-        (W.failures writer.old) (W.failures writer.new)) }
-    ensures count { OnOk result (W.failures writer.new ≡ W.failures writer.old) }
-    ensures same_device { W.same writer.old writer.new }
+    ensures { WriteCall W.held W.failures W.same writer.old writer.new result (rows_bytes form shape rows.now) }
 {
     let sample_width = SampleWidth::of(shape.kind, shape.maxval);
     if form == Form::Raw && has_whole_samples(sample_width) {
@@ -52,13 +45,7 @@ fn write_as_one<W: BytesOut>(
 ) -> Result<(), DeviceFailed>
     requires rows { AllByRecursion (IsRowOf shape) rows.now }
     requires whole { AreWholeBytes (sample_width_of shape.kind shape.maxval) (row_length shape) }
-    ensures written { OnOk result
-        (Appends (W.held writer.old) (W.held writer.new) (rows_bytes Form.Raw shape rows.now)) }
-    ensures failed { OnErr result
-        (FailsIn (rows_bytes Form.Raw shape rows.now) (W.held writer.old) (W.held writer.new)
-        (W.failures writer.old) (W.failures writer.new)) }
-    ensures count { OnOk result (W.failures writer.new ≡ W.failures writer.old) }
-    ensures same_device { W.same writer.old writer.new }
+    ensures { WriteCall W.held W.failures W.same writer.old writer.new result (rows_bytes Form.Raw shape rows.now) }
 {
     match rows.as_slice() {
         RowSlice::Bytes(bytes) => {
@@ -80,13 +67,7 @@ fn write_each<W: BytesOut>(
     rows: &Rows,
 ) -> Result<(), DeviceFailed>
     requires { AllByRecursion (IsRowOf shape) rows.now }
-    ensures written { OnOk result
-        (Appends (W.held writer.old) (W.held writer.new) (rows_bytes form shape rows.now)) }
-    ensures failed { OnErr result
-        (FailsIn (rows_bytes form shape rows.now) (W.held writer.old) (W.held writer.new)
-        (W.failures writer.old) (W.failures writer.new)) }
-    ensures count { OnOk result (W.failures writer.new ≡ W.failures writer.old) }
-    ensures same_device { W.same writer.old writer.new }
+    ensures { WriteCall W.held W.failures W.same writer.old writer.new result (rows_bytes form shape rows.now) }
 {
     for at in 0..rows.count() {
         write_samples(writer, buffer, form, shape, rows.row_slice(at))?;

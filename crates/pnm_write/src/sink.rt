@@ -3,13 +3,14 @@
 ghost use Rattle.std.specs.Prelude.{◌≡◌, ◌↔◌, List, [], ◌∷◌, ◌++◌, IsTrue, MatchResult, MatchOption, IfErr};
 ghost use Rattle.std.specs.Prelude.{OnOk, OnErr, IfOk, Err, true, false};
 ghost use Rattle.std.specs.Io.KnownBytes.{Appends, Keeps};
-ghost use Rattle.pnm_image.specs.Devices.{Failed, FailsIn};
+ghost use Rattle.pnm_image.specs.Devices.{Failed};
 ghost use Rattle.pnm_image.specs.Places.{Accepts, IsLawfulFrom, place_after, place_of};
 ghost use Rattle.pnm_image.specs.Rows.{row_messages};
 ghost use Rattle.pnm_write.specs.Encoding.{bytes_at, bytes_from};
 ghost use Rattle.pnm_write.specs.Forms.{form_fault, has_begun_after};
 ghost use Rattle.pnm_write.specs.Sinks.{writer_of, form_of, has_begun, next_place, has_failed, HasRows, IsWritable};
 ghost use Rattle.pnm_write.specs.Sinks.{IsRefusedBySink, HasPut, HasWritten, Refuses, RefusesRows};
+ghost use Rattle.pnm_write.specs.WriteCalls.{WriteCall};
 
 use crate::fault::SinkFault;
 use crate::header::write_header;
@@ -323,12 +324,7 @@ fn write_message<W: BytesOut>(
     message: &Message,
 ) -> Result<(), DeviceFailed>
     requires { Accepts place message.now }
-    ensures written { OnOk result (Appends (W.held writer.old) (W.held writer.new) (bytes_at form place message.now)) }
-    ensures failed { OnErr result
-        (FailsIn (bytes_at form place message.now) (W.held writer.old) (W.held writer.new)
-        (W.failures writer.old) (W.failures writer.new)) }
-    ensures count { OnOk result (W.failures writer.new ≡ W.failures writer.old) }
-    ensures same_device { W.same writer.old writer.new }
+    ensures { WriteCall W.held W.failures W.same writer.old writer.new result (bytes_at form place message.now) }
 {
     match message {
         Message::Begin(head) => write_header(writer, buffer, form, head),
@@ -349,13 +345,8 @@ fn write_row_messages<W: BytesOut>(
     rows: &Rows,
 ) -> Result<(), DeviceFailed>
     requires { IsLawfulFrom place (row_messages rows.now) }
-    ensures written { OnOk result
-        (Appends (W.held writer.old) (W.held writer.new) (bytes_from form place (row_messages rows.now))) }
-    ensures failed { OnErr result
-        (FailsIn (bytes_from form place (row_messages rows.now)) (W.held writer.old) (W.held writer.new)
-        (W.failures writer.old) (W.failures writer.new)) }
-    ensures count { OnOk result (W.failures writer.new ≡ W.failures writer.old) }
-    ensures same_device { W.same writer.old writer.new }
+    ensures { WriteCall W.held W.failures W.same writer.old writer.new result
+        (bytes_from form place (row_messages rows.now)) }
 {
     match place {
         Place::Inside(shape, _) => write_rows(writer, buffer, form, shape, rows),

@@ -5,10 +5,11 @@ use Rattle.std.proofs.lemmas.List.Elements.{All-weaker}
 use Rattle.std.proofs.lemmas.Bool.Decides.{nat_tests}
 use Rattle.pnm_image.specs.declared.shape.Kind.{Kind}
 use Rattle.pnm_samples.specs.SampleVecs.{slice_samples}
-use Rattle.pnm_image.proofs.Written.{Sending, at_any_error, sending_part, sending_part_failed}
+use Rattle.pnm_image.proofs.Written.{Sending, sending_part}
 use Rattle.pnm_write.specs.PlainRows.{plain_row_text}
 use Rattle.pnm_write.specs.PlainParts.{text_of_part, column_after_part, sample_texts, row_end}
 use Rattle.pnm_write.proofs.PlainLaws.{text_left, left_part, row_text_left}
+use Rattle.pnm_write.proofs.WriteCallSteps.{call_failed}
 use Rattle.pnm_write.proofs.plain.write_others.Goals as goal
 
 -- what was copied is a part of the row
@@ -45,8 +46,8 @@ ends a b e = grind (arith, nat_tests)
 goes_on : (a b : ℕ) → a < b → (a == b) ≡ false
 goes_on a b h = grind (arith, nat_tests)
 
-pub returns-in_err-write_all-clause-failed : goal.returns-in_err-write_all-clause-failed
-returns-in_err-write_all-clause-failed g c =
+pub returns-in_err-write_all : goal.returns-in_err-write_all
+returns-in_err-write_all g c =
     let n = c.min-size.result in
     let done = c.loop-done.done in
     let row = slice_samples c.args.row in
@@ -58,10 +59,11 @@ returns-in_err-write_all-clause-failed g c =
     let split = part_and_rest c.args.shape.kind c.loop-done.column done n row c.copy_to.new.buffer words c.as_slice.result.now c.set_part-column.new.buffer _
     c.set_part-column.result (omega arith) (omega arith) size same c.set_part-column.ensures.text c.set_part-column.ensures.column
     (λ e. ends _ _ (omega arith)) (λ h. goes_on _ _ (omega arith)) (c.as_slice.ensures ∙ c.end_row.ensures) in
-    at_any_error c.from_residual.result
-    (sending_part_failed g.W.BytesOut.held g.W.BytesOut.failures g.W.BytesOut.same c.args.writer.now c.loop-done.writer c.write_all.new.writer
+    call_failed g.W.BytesOut.held g.W.BytesOut.failures g.W.BytesOut.same c.args.writer.now c.loop-done.writer c.write_all.new.writer
     (plain_row_text c.args.shape.kind row) (text_left c.loop-done.column c.args.shape.kind (drop done row)) c.as_slice.result.now
-    (text_left c.set_part-column.result c.args.shape.kind (drop (done + n) row)) split c.loop-done.invariant.sending c.in_err-write_all.ensures.failed)
+    (text_left c.set_part-column.result c.args.shape.kind (drop (done + n) row))
+    c.from_residual.result c.from_residual.ensures.0 split c.loop-done.invariant.sending c.in_err-write_all.ensures.failed
+    (g.met.W.BytesOut.same_later _ _ _ c.loop-done.invariant.sending.same_device c.in_err-write_all.ensures.same_device)
 
 pub loop-done-preserved : goal.loop-done-preserved
 loop-done-preserved g c =
@@ -103,7 +105,3 @@ loop-done-init g c =
       line = omega arith;
       buffer = omega arith;
     }
-
-pub returns-in_err-write_all-clause-same_device : goal.returns-in_err-write_all-clause-same_device
-returns-in_err-write_all-clause-same_device g c =
-    g.met.W.BytesOut.same_later _ _ _ c.loop-done.invariant.sending.same_device c.write_all.ensures.same_device

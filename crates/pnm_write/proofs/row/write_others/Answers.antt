@@ -1,5 +1,5 @@
 use Rattle.std.proofs.Common.{◌≡◌, ◌∙◌, ◌++◌, ◌+◌, ◌-◌, ◌≤◌, min, List, [], ℕ, length, take, drop, All, refl, ap, sym, subst, arith}
-use Rattle.std.proofs.Common.{◌<◌, Bool, true, false, if◌then◌else◌}
+use Rattle.std.proofs.Common.{◌<◌, Bool, true, false, if◌then◌else◌, Ok}
 use Rattle.std.specs.Prelude.{nat_lt}
 use Rattle.std.proofs.lemmas.Bool.Decides.{nat_tests}
 use Rattle.std.proofs.lemmas.List.Elements.{All-weaker, All-take, All-drop}
@@ -11,12 +11,12 @@ use Rattle.pnm_image.specs.declared.shape.Kind.TheVariants.{Bit, Gray, Color, Pa
 use Rattle.pnm_image.specs.SampleWidths.{sample_width_of}
 use Rattle.pnm_samples.specs.SampleVecs.{slice_samples}
 use Rattle.pnm_write.specs.WriteBuffers.{FitIn}
-use Rattle.std.specs.Io.KnownBytes.{Appends}
 use Rattle.pnm_write.specs.Encoding.{bytes_in}
-use Rattle.pnm_image.specs.Devices.{FailsIn}
-use Rattle.pnm_write.proofs.PartLaws.{begin_sending, all_written}
+use Rattle.pnm_write.specs.WriteCalls.{WriteCall}
+use Rattle.pnm_write.proofs.PartLaws.{begin_sending}
 use Rattle.pnm_write.proofs.RawLaws.{few_parts}
-use Rattle.pnm_image.proofs.Written.{at_any_error, sending_part, sending_part_failed}
+use Rattle.pnm_image.proofs.Written.{sending_part}
+use Rattle.pnm_write.proofs.WriteCallSteps.{call_failed, call_done}
 use Rattle.pnm_write.proofs.row.write_others.Goals as goal
 
 -- no samples have no bytes
@@ -78,8 +78,8 @@ fill-requires-clause-range g c =
     (subst (λ (p : SampleWidth). FitIn p (take n (drop done part))) (sym c.of-sample_width.ensures)
     (fit_of c.args.shape.kind c.args.shape.maxval (take n (drop done part)) all))
 
-pub returns-in_err-write_all-clause-failed : goal.returns-in_err-write_all-clause-failed
-returns-in_err-write_all-clause-failed g c =
+pub returns-in_err-write_all : goal.returns-in_err-write_all
+returns-in_err-write_all g c =
     let n = c.min-size.result in
     let done = c.loop-done.done in
     let part = slice_samples c.args.row in
@@ -90,12 +90,13 @@ returns-in_err-write_all-clause-failed g c =
     let size : length c.copy_to.new.buffer ≡ n = ap length same ∙ omega (arith, length-take n (drop done part), length-drop done part) in
     let split = copied_and_rest c.of-sample_width.result done n part c.copy_to.new.buffer words c.as_slice.result.now (omega arith) size same
     (c.as_slice.ensures ∙ c.fill.ensures) in
-    let failed = sending_part_failed g.W.BytesOut.held g.W.BytesOut.failures g.W.BytesOut.same c.args.writer.now c.loop-done.writer c.write_all.new.writer
+    let call = call_failed g.W.BytesOut.held g.W.BytesOut.failures g.W.BytesOut.same c.args.writer.now c.loop-done.writer c.write_all.new.writer
     (bytes_in c.of-sample_width.result part) (bytes_in c.of-sample_width.result (drop done part)) c.as_slice.result.now
-    (bytes_in c.of-sample_width.result (drop (done + n) part)) split c.loop-done.invariant.0 c.in_err-write_all.ensures.failed in
-    at_any_error c.from_residual.result
-    (subst (λ (p : SampleWidth). FailsIn (bytes_in p part) (g.W.BytesOut.held c.args.writer.now) (g.W.BytesOut.held c.write_all.new.writer)
-    (g.W.BytesOut.failures c.args.writer.now) (g.W.BytesOut.failures c.write_all.new.writer)) c.of-sample_width.ensures failed)
+    (bytes_in c.of-sample_width.result (drop (done + n) part))
+    c.from_residual.result c.from_residual.ensures.0 split c.loop-done.invariant.0 c.in_err-write_all.ensures.failed
+    (g.met.W.BytesOut.same_later _ _ _ c.loop-done.invariant.0.same_device c.in_err-write_all.ensures.same_device) in
+    subst (λ (p : SampleWidth). WriteCall g.W.BytesOut.held g.W.BytesOut.failures g.W.BytesOut.same c.args.writer.now c.write_all.new.writer
+    c.from_residual.result (bytes_in p part)) c.of-sample_width.ensures call
 
 pub loop-done-preserved : goal.loop-done-preserved
 loop-done-preserved g c =
@@ -118,10 +119,6 @@ loop-done-preserved g c =
       omega (arith, length-append c.copy_to.new.buffer (drop n words), length-drop n words, size),
     )
 
-pub returns-in_err-write_all-clause-same_device : goal.returns-in_err-write_all-clause-same_device
-returns-in_err-write_all-clause-same_device g c =
-    g.met.W.BytesOut.same_later _ _ _ c.loop-done.invariant.0.same_device c.write_all.ensures.same_device
-
 pub loop-done-init : goal.loop-done-init
 loop-done-init g c = (
   begin_sending g.W.BytesOut.held g.W.BytesOut.failures g.W.BytesOut.same c.args.writer.now
@@ -130,13 +127,13 @@ loop-done-init g c = (
   refl,
 )
 
-pub returns-clause-written : goal.returns-clause-written
-returns-clause-written g c =
+pub returns : goal.returns
+returns g c =
     let part = slice_samples c.args.row in
     let long : length part ≡ c.args.count = c.requires.count in
     let none : drop c.loop-done.done part ≡ [] = drop_all c.loop-done.done part (omega arith) in
-    subst (λ (p : SampleWidth). Appends (g.W.BytesOut.held c.args.writer.now) (g.W.BytesOut.held c.loop-done.writer) (bytes_in p part))
-    c.of-sample_width.ensures
-    (all_written (g.W.BytesOut.held c.args.writer.now) (g.W.BytesOut.held c.loop-done.writer) (bytes_in c.of-sample_width.result part)
-    (bytes_in c.of-sample_width.result (drop c.loop-done.done part)) c.loop-done.invariant.0.written
-    (ap (bytes_in c.of-sample_width.result) none ∙ no_bytes c.of-sample_width.result))
+    let call = call_done g.W.BytesOut.held g.W.BytesOut.failures g.W.BytesOut.same c.args.writer.now c.loop-done.writer (bytes_in c.of-sample_width.result part)
+    (bytes_in c.of-sample_width.result (drop c.loop-done.done part)) c.loop-done.invariant.0
+    (ap (bytes_in c.of-sample_width.result) none ∙ no_bytes c.of-sample_width.result) in
+    subst (λ (p : SampleWidth). WriteCall g.W.BytesOut.held g.W.BytesOut.failures g.W.BytesOut.same c.args.writer.now c.loop-done.writer (Ok tt)
+    (bytes_in p part)) c.of-sample_width.ensures call

@@ -1,0 +1,29 @@
+-- How a call ends that writes bytes part by part.
+use Rattle.std.proofs.Common.{◌≡◌, ℕ, List, [], ◌++◌, Option, Result, Ok, Err, IsErr}
+use Rattle.pnm_image.specs.Devices.{FailsIn}
+use Rattle.pnm_image.specs.declared.device.DeviceFailed.{DeviceFailed}
+use Rattle.pnm_image.proofs.Written.{Sending, sending_part_failed}
+use Rattle.pnm_write.specs.WriteCalls.{WriteCall}
+use Rattle.pnm_write.proofs.PartLaws.{all_written}
+
+-- the writer failed in a part of what was left
+pub call_failed : {W : Type 0} (held : W → Option (List ℕ)) (failures : W → ℕ) (same : W → W → Type 0) (old a b : W) (bytes rest x y : List ℕ)
+    (result : Result (Unit {0}) DeviceFailed) → IsErr result → rest ≡ x ++ y → Sending held failures same old a bytes rest
+    → FailsIn x (held a) (held b) (failures a) (failures b) → same old b → WriteCall held failures same old b result bytes
+call_failed held failures same old a b bytes rest x y (Ok done) failed parts sending part device = cc
+call_failed held failures same old a b bytes rest x y (Err fault) failed parts sending part device = record {
+  written = tt;
+  failed = sending_part_failed held failures same old a b bytes rest x y parts sending part;
+  count = tt;
+  same_device = device;
+}
+
+-- nothing is left
+pub call_done : {W : Type 0} (held : W → Option (List ℕ)) (failures : W → ℕ) (same : W → W → Type 0) (old now : W) (bytes rest : List ℕ)
+    → Sending held failures same old now bytes rest → rest ≡ [] → WriteCall held failures same old now (Ok tt) bytes
+call_done held failures same old now bytes rest sending none = record {
+  written = all_written (held old) (held now) bytes rest sending.written none;
+  failed = tt;
+  count = sending.count;
+  same_device = sending.same_device;
+}
