@@ -1,7 +1,7 @@
 //! Numbers in lines, from a table of the texts of small ones.
 
 ghost use Rattle.std.specs.Prelude.{◌≡◌, ◌+◌, ◌-◌, ◌*◌, ◌<◌, ◌≤◌, nat_le, if◌then◌else◌, ◌∷◌, ◌++◌, length, take};
-ghost use Rattle.std.specs.Prelude.{decimal, slice_set};
+ghost use Rattle.std.specs.Prelude.{ℕ, decimal, map, slice_set};
 ghost use Rattle.pnm_image.specs.declared.shape.Kind.{Kind};
 ghost use Rattle.pnm_write.specs.Numerals.{IsEntry, three_digits};
 ghost use Rattle.pnm_image.specs.Characters.{blank, line_feed};
@@ -133,54 +133,75 @@ fn break_line(buffer: &mut [u8], at: usize, column: usize, size: usize) -> usize
     }
 }
 
-/// Puts small numbers after the first `start` bytes of the buffer, in a line that has begun. Returns how many bytes the
-/// buffer has then, and how many the line has.
-pub fn append_bytes(
-    buffer: &mut [u8],
-    start: usize,
-    column: usize,
-    samples: &[u8],
-) -> (usize, usize)
-    requires buffer { start + 6 * length samples.now ≤ length buffer.old }
-    requires begun { 0 < column }
-    requires line { column ≤ 70 }
-    ensures text { take result.0 buffer.new
-        ≡ take start buffer.old ++ text_of_part column (sample_texts Kind.Gray samples.now) }
-    ensures within { result.0 ≤ start + 6 * length samples.now }
-    ensures column { result.1 ≡ column_after_part column (sample_texts Kind.Gray samples.now) }
-    ensures line { result.1 ≤ 70 }
-{
-    let mut end = start;
-    let mut at = column;
-    for sample in samples {
-        let size = put_small(buffer, end, usize::from(*sample));
-        at = break_line(buffer, end, at, size);
-        end += size;
+/// A number as a row holds it: a byte or a word.
+pub trait Numeral: Copy {
+    /// The number that it is.
+    ghost value: { Self → ℕ };
+
+    /// The number that it is.
+    fn number(self) -> u16
+        ensures { result ≡ value self };
+
+    /// Puts a blank and the number into the buffer, and returns how many bytes these are.
+    fn put(self, buffer: &mut [u8], at: usize) -> usize
+        requires { at + 6 ≤ length buffer.old }
+        ensures text { take (at + result) buffer.new ≡ take at buffer.old ++ blank ∷ decimal (value self) }
+        ensures count { result ≡ 1 + length (decimal (value self)) }
+        ensures some { 1 < result }
+        ensures within { result ≤ 6 };
+}
+
+impl Numeral for u8 {
+    ghost value = { λ number. number };
+
+    #[inline(always)]
+    fn number(self) -> u16 {
+        u16::from(self)
     }
-    (end, at)
+
+    #[inline(always)]
+    #[tactic(auto, using(std::proofs::lemmas::Fmt::decimal_nonempty))]
+    fn put(self, buffer: &mut [u8], at: usize) -> usize {
+        put_small(buffer, at, usize::from(self))
+    }
+}
+
+impl Numeral for u16 {
+    ghost value = { λ number. number };
+
+    #[inline(always)]
+    fn number(self) -> u16 {
+        self
+    }
+
+    #[inline(always)]
+    #[tactic(auto, using(std::proofs::lemmas::Fmt::decimal_nonempty))]
+    fn put(self, buffer: &mut [u8], at: usize) -> usize {
+        put(buffer, at, usize::from(self))
+    }
 }
 
 /// Puts numbers after the first `start` bytes of the buffer, in a line that has begun. Returns how many bytes the
 /// buffer has then, and how many the line has.
-pub fn append_words(
+pub fn append_numbers<N: Numeral>(
     buffer: &mut [u8],
     start: usize,
     column: usize,
-    samples: &[u16],
+    numbers: &[N],
 ) -> (usize, usize)
-    requires buffer { start + 6 * length samples.now ≤ length buffer.old }
+    requires buffer { start + 6 * length numbers.now ≤ length buffer.old }
     requires begun { 0 < column }
     requires line { column ≤ 70 }
     ensures text { take result.0 buffer.new
-        ≡ take start buffer.old ++ text_of_part column (sample_texts Kind.Gray samples.now) }
-    ensures within { result.0 ≤ start + 6 * length samples.now }
-    ensures column { result.1 ≡ column_after_part column (sample_texts Kind.Gray samples.now) }
+        ≡ take start buffer.old ++ text_of_part column (sample_texts Kind.Gray (map N.value numbers.now)) }
+    ensures within { result.0 ≤ start + 6 * length numbers.now }
+    ensures column { result.1 ≡ column_after_part column (sample_texts Kind.Gray (map N.value numbers.now)) }
     ensures line { result.1 ≤ 70 }
 {
     let mut end = start;
     let mut at = column;
-    for sample in samples {
-        let size = put(buffer, end, usize::from(*sample));
+    for number in numbers {
+        let size = number.put(buffer, end);
         at = break_line(buffer, end, at, size);
         end += size;
     }

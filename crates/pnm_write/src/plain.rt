@@ -1,6 +1,6 @@
 //! The rows of plain images: their samples as words in lines.
 
-ghost use Rattle.std.specs.Prelude.{◌≡◌, ◌+◌, ◌*◌, ◌<◌, ◌≤◌, All, ◌++◌, length, take, drop};
+ghost use Rattle.std.specs.Prelude.{◌≡◌, ◌+◌, ◌*◌, ◌^◌, ◌<◌, ◌≤◌, All, ◌++◌, length, map, take, drop};
 ghost use Rattle.std.specs.Io.KnownBytes.{Appends};
 ghost use Rattle.pnm_image.specs.declared.shape.Kind.{Kind};
 ghost use Rattle.pnm_samples.specs.Pixels.{all_pixels};
@@ -10,7 +10,7 @@ ghost use Rattle.pnm_write.specs.PlainParts.{column_after, word_in_line, text_of
 ghost use Rattle.pnm_write.specs.PlainParts.{row_end};
 ghost use Rattle.pnm_write.specs.WriteCalls.{WriteCall};
 
-use crate::numerals::MAX_LINE_LENGTH;
+use crate::numerals::{MAX_LINE_LENGTH, Numeral};
 use crate::row::count_of;
 use crate::write_buffer::WriteBuffer;
 use itoa::Buffer;
@@ -36,10 +36,10 @@ pub fn write_lines<W: BytesOut>(
 {
     match (shape.kind, row) {
         (Kind::Bit, SampleSlice::Bits(bytes, count)) => write_pixels(writer, buffer, bytes, count),
-        (Kind::Gray | Kind::Color | Kind::Pam, SampleSlice::Bytes(bytes)) => write_bytes(
+        (Kind::Gray | Kind::Color | Kind::Pam, SampleSlice::Bytes(bytes)) => write_numbers(
             writer, buffer, bytes,
         ),
-        (Kind::Gray | Kind::Color | Kind::Pam, SampleSlice::Words(words)) => write_words(
+        (Kind::Gray | Kind::Color | Kind::Pam, SampleSlice::Words(words)) => write_numbers(
             writer, buffer, words,
         ),
         _ => write_others(writer, buffer, shape, row, count_of(row)),
@@ -70,41 +70,22 @@ fn write_pixels<W: BytesOut>(
     Ok(())
 }
 
-/// Writes small numbers.
-fn write_bytes<W: BytesOut>(
-    writer: &mut W,
-    buffer: &mut WriteBuffer,
-    samples: &[u8],
-) -> Result<(), DeviceFailed>
-    ensures { WriteCall W.held W.failures W.same writer.old writer.new result (plain_row_text Kind.Gray samples.now) }
-{
-    let mut column = 0;
-    let mut rest = samples;
-    while !rest.is_empty() {
-        let count = rest.len().min(MOST_SAMPLES);
-        let (part, after) = rest.split_at(count);
-        column = set_bytes(buffer, column, part);
-        end_row(buffer, after.is_empty());
-        write_all(writer, buffer.as_slice())?;
-        rest = after;
-    }
-    Ok(())
-}
-
 /// Writes numbers.
-fn write_words<W: BytesOut>(
+fn write_numbers<W: BytesOut, N: Numeral>(
     writer: &mut W,
     buffer: &mut WriteBuffer,
-    samples: &[u16],
+    numbers: &[N],
 ) -> Result<(), DeviceFailed>
-    ensures { WriteCall W.held W.failures W.same writer.old writer.new result (plain_row_text Kind.Gray samples.now) }
+    requires { All (λ number. number < 2 ^ 64) (map N.value numbers.now) }
+    ensures { WriteCall W.held W.failures W.same writer.old writer.new result
+        (plain_row_text Kind.Gray (map N.value numbers.now)) }
 {
     let mut column = 0;
-    let mut rest = samples;
+    let mut rest = numbers;
     while !rest.is_empty() {
         let count = rest.len().min(MOST_SAMPLES);
         let (part, after) = rest.split_at(count);
-        column = set_words(buffer, column, part);
+        column = set_numbers(buffer, column, part);
         end_row(buffer, after.is_empty());
         write_all(writer, buffer.as_slice())?;
         rest = after;
@@ -143,34 +124,19 @@ fn write_others<W: BytesOut>(
     Ok(())
 }
 
-/// Puts a part of a row of small numbers into the buffer, and returns how many bytes its last line has.
-fn set_bytes(buffer: &mut WriteBuffer, column: usize, samples: &[u8]) -> usize
-    requires some { 0 < length samples.now }
-    requires few { length samples.now ≤ 680 }
-    requires line { column ≤ 70 }
-    ensures text { buffer.new ≡ text_of_part column (sample_texts Kind.Gray samples.now) }
-    ensures count { length buffer.new ≤ 4080 }
-    ensures column { result ≡ column_after_part column (sample_texts Kind.Gray samples.now) }
-    ensures line { result ≤ 70 }
-{
-    buffer.clear();
-    let at = push_sample(buffer, Kind::Gray, column, u16::from(samples[0]));
-    buffer.append_bytes(at, &samples[1..])
-}
-
 /// Puts a part of a row of numbers into the buffer, and returns how many bytes its last line has.
-fn set_words(buffer: &mut WriteBuffer, column: usize, samples: &[u16]) -> usize
-    requires some { 0 < length samples.now }
-    requires few { length samples.now ≤ 680 }
+fn set_numbers<N: Numeral>(buffer: &mut WriteBuffer, column: usize, numbers: &[N]) -> usize
+    requires some { 0 < length numbers.now }
+    requires few { length numbers.now ≤ 680 }
     requires line { column ≤ 70 }
-    ensures text { buffer.new ≡ text_of_part column (sample_texts Kind.Gray samples.now) }
+    ensures text { buffer.new ≡ text_of_part column (sample_texts Kind.Gray (map N.value numbers.now)) }
     ensures count { length buffer.new ≤ 4080 }
-    ensures column { result ≡ column_after_part column (sample_texts Kind.Gray samples.now) }
+    ensures column { result ≡ column_after_part column (sample_texts Kind.Gray (map N.value numbers.now)) }
     ensures line { result ≤ 70 }
 {
     buffer.clear();
-    let at = push_sample(buffer, Kind::Gray, column, samples[0]);
-    buffer.append_words(at, &samples[1..])
+    let at = push_sample(buffer, Kind::Gray, column, numbers[0].number());
+    buffer.append_numbers(at, &numbers[1..])
 }
 
 /// Puts a part of a row into the buffer, and returns how many bytes its last line has.

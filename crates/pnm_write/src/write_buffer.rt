@@ -1,6 +1,6 @@
 //! A fixed buffer for bytes.
 
-ghost use Rattle.std.specs.Prelude.{◌≡◌, ◌+◌, ◌*◌, ◌<◌, ◌≤◌, ◌/◌, [], ◌++◌, length, take, drop, IfOk};
+ghost use Rattle.std.specs.Prelude.{◌≡◌, ◌+◌, ◌*◌, ◌<◌, ◌≤◌, ◌/◌, [], ◌++◌, length, take, drop, map, IfOk};
 ghost use Rattle.pnm_image.specs.declared.shape.Kind.{Kind};
 ghost use Rattle.pnm_samples.specs.Pixels.{all_pixels, packed_bytes};
 ghost use Rattle.pnm_write.specs.PlainRows.{plain_row_text};
@@ -8,7 +8,7 @@ ghost use Rattle.pnm_write.specs.PlainParts.{text_of_part, column_after_part, sa
 ghost use Rattle.pnm_write.specs.Encoding.{bytes_in};
 ghost use Rattle.pnm_write.specs.WriteBuffers.{most_samples, FitIn};
 
-use crate::numerals::{append_bytes, append_words};
+use crate::numerals::{Numeral, append_numbers};
 use crate::pixels::put_pixels;
 use crate::raw::encode;
 use pnm_image::SampleWidth;
@@ -80,31 +80,17 @@ impl WriteBuffer {
 
     /// Appends the numbers to a line that has `column` bytes, and to the lines after it. Returns how many bytes the
     /// last line has.
-    pub fn append_bytes(&mut self, column: usize, samples: &[u8]) -> usize
-        requires room { length self.old + 6 * length samples.now ≤ 4096 }
+    pub fn append_numbers<N: Numeral>(&mut self, column: usize, numbers: &[N]) -> usize
+        requires room { length self.old + 6 * length numbers.now ≤ 4096 }
         requires begun { 0 < column }
         requires line { column ≤ 70 }
-        ensures text { self.new ≡ self.old ++ text_of_part column (sample_texts Kind.Gray samples.now) }
-        ensures count { length self.new ≤ length self.old + 6 * length samples.now }
-        ensures column { result ≡ column_after_part column (sample_texts Kind.Gray samples.now) }
+        ensures text { self.new
+            ≡ self.old ++ text_of_part column (sample_texts Kind.Gray (map N.value numbers.now)) }
+        ensures count { length self.new ≤ length self.old + 6 * length numbers.now }
+        ensures column { result ≡ column_after_part column (sample_texts Kind.Gray (map N.value numbers.now)) }
         ensures line { result ≤ 70 }
     {
-        let (end, at) = append_bytes(&mut self.bytes, self.length, column, samples);
-        self.length = end;
-        at
-    }
-
-    /// Appends numbers of up to 65,535 as `append_bytes` does smaller ones.
-    pub fn append_words(&mut self, column: usize, samples: &[u16]) -> usize
-        requires room { length self.old + 6 * length samples.now ≤ 4096 }
-        requires begun { 0 < column }
-        requires line { column ≤ 70 }
-        ensures text { self.new ≡ self.old ++ text_of_part column (sample_texts Kind.Gray samples.now) }
-        ensures count { length self.new ≤ length self.old + 6 * length samples.now }
-        ensures column { result ≡ column_after_part column (sample_texts Kind.Gray samples.now) }
-        ensures line { result ≤ 70 }
-    {
-        let (end, at) = append_words(&mut self.bytes, self.length, column, samples);
+        let (end, at) = append_numbers(&mut self.bytes, self.length, column, numbers);
         self.length = end;
         at
     }

@@ -1,15 +1,15 @@
-use Rattle.std.proofs.Common.{◌≤◌, length}
+use Rattle.std.proofs.Common.{◌≤◌, length, map}
 use Rattle.pnm_image.specs.declared.shape.Kind.TheVariants.{Gray}
 use Rattle.pnm_image.proofs.Written.{Sending}
 use Rattle.pnm_write.specs.PlainRows.{plain_row_text}
 use Rattle.pnm_write.proofs.PlainLaws.{text_left}
-use Rattle.pnm_write.proofs.plain.write_bytes.Given as goal
+use Rattle.pnm_write.proofs.plain.write_numbers.Given as goal
 
 -- what is left is what isn't written
 abbrev pub invariant-loop-rest : goal.invariant-loop-rest
 invariant-loop-rest g l = record {
-  sending : Sending g.W.BytesOut.held g.W.BytesOut.failures g.W.BytesOut.same l.initial.writer l.writer (plain_row_text Gray l.samples)
-      (text_left l.column Gray l.rest);
+  sending : Sending g.W.BytesOut.held g.W.BytesOut.failures g.W.BytesOut.same l.initial.writer l.writer
+      (plain_row_text Gray (map g.N.Numeral.value l.numbers)) (text_left l.column Gray (map g.N.Numeral.value l.rest));
   line : l.column ≤ 70;
 }
 

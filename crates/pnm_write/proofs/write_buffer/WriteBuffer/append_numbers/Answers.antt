@@ -1,9 +1,9 @@
 use Rattle.std.proofs.Common.{arith}
 use Rattle.std.proofs.lemmas.Grind.{common_steps}
-use Rattle.pnm_write.proofs.write_buffer.WriteBuffer.append_bytes.Goals as goal
+use Rattle.pnm_write.proofs.write_buffer.WriteBuffer.append_numbers.Goals as goal
 
 pub returns-clause-count : goal.returns-clause-count
-returns-clause-count c = grind (arith, common_steps)
+returns-clause-count g c = grind (arith, common_steps)
 
 pub returns-clause-text : goal.returns-clause-text
-returns-clause-text c = grind (arith, common_steps)
+returns-clause-text g c = grind (arith, common_steps)
