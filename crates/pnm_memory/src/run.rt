@@ -36,6 +36,7 @@ pub fn run_into(alloc: Global, chain: &[u8], form: u32, input: &[u8], room: &mut
     }
 }
 
+/// Runs the tools over the input, and puts the results into the room, if they fit into it.
 fn convert_into(alloc: Global, tools: &[Tool], form: Form, input: &[u8], room: &mut [u8]) -> Answer
     requires { IsChain tools.now }
     ensures { HasRunInto tools.now form input.now room.old room.new result }
@@ -70,6 +71,7 @@ pub fn run_new(alloc: Global, chain: &[u8], form: u32, input: &[u8]) -> Made
     }
 }
 
+/// Runs the tools over the input. The results are in memory of their own.
 fn convert_new(alloc: Global, tools: &[Tool], form: Form, input: &[u8]) -> Made
     requires { IsChain tools.now }
     ensures { HasMade tools.now form input.now result }
@@ -81,6 +83,7 @@ fn convert_new(alloc: Global, tools: &[Tool], form: Form, input: &[u8]) -> Made
     }
 }
 
+/// This answer, with no results.
 fn nothing(alloc: Global, answer: Answer) -> Made
     ensures results { result.results.items ≡ [] }
     ensures answer { result.answer ≡ answer }
@@ -91,6 +94,7 @@ fn nothing(alloc: Global, answer: Answer) -> Made
     }
 }
 
+/// The form of a number: 0 is raw, 1 is plain.
 fn form_of(number: u32) -> Option<Form>
     ensures { result ≡ form_numbered number }
 {

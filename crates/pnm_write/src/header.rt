@@ -23,6 +23,7 @@ pub fn write_header<W: BytesOut>(
     write_all(writer, buffer.as_slice())
 }
 
+/// Appends the header of an image with this head; the buffer has to be empty.
 fn push_header(buffer: &mut WriteBuffer, form: Form, head: &Head)
     requires { length buffer.old ≡ 0 }
     ensures { buffer.new ≡ buffer.old ++ header_text form head.now }

@@ -213,6 +213,7 @@ impl<W: BytesOut> Sink<W> {
         }
     }
 
+    /// Writes the message as `put` does. It doesn't note a fault.
     fn write(&mut self, message: &Message) -> Result<(), SinkFault>
         ensures written { OnOk result
             (Appends (W.held (writer_of self.old)) (W.held (writer_of self.new))
@@ -246,6 +247,7 @@ impl<W: BytesOut> Sink<W> {
         Ok(())
     }
 
+    /// Writes the rows as `put_rows` does. It doesn't note a fault.
     fn write_rows(&mut self, rows: &Rows) -> Result<(), SinkFault>
         ensures written { OnOk result
             (Appends (W.held (writer_of self.old)) (W.held (writer_of self.new))
