@@ -192,6 +192,7 @@ impl<'a> Settings<'a> {
         }
     }
 
+    /// Sets an option to its value, the next word; a way to flip has none.
     fn set(&mut self, option: ToolOption, value: Option<&'a [u8]>) -> Result<(), ChainKind>
         ensures set { OnOk result ((value_fault option (value_read value.entry) ≡ None)
             × NowSay self.old (with_option (said_by self.old) option (value_read value.entry)) self.new) }

@@ -311,6 +311,7 @@ fn settle(phase: &mut Phase) -> bool
     }
 }
 
+/// Whether nothing is still to be given, and the caller knows.
 fn is_idle(phase: Phase) -> bool
     ensures { result ≡ is_idle phase }
 {

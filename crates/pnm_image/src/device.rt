@@ -133,6 +133,7 @@ impl<D> Device<D> {
         self.inner
     }
 
+    /// Counts a failure.
     fn fail(&mut self) -> DeviceFailed
         ensures inner { device_inner self.new ≡ device_inner self.old }
         ensures count { device_failures self.new ≡ min (device_failures self.old + 1) (2 ^ 64 - 1) }

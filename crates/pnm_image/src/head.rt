@@ -120,6 +120,7 @@ impl Head {
     }
 }
 
+/// Whether a head of a PAM image may have this tuple type.
 fn is_tuple_type(text: &[u8]) -> bool
     ensures { IsTrue result ↔ IsTupleType text.now }
 {

@@ -182,6 +182,7 @@ struct HeaderScanner {
 impl HeaderScanner {
     ghost use Rattle.pnm_read.specs.Scanners.{IsHeaderFresh, JudgesHeader, PushesHeader, PushesDigit, is_bad_after};
 
+    /// A scanner before the first byte, for a header of so many numbers.
     fn new(wanted: usize) -> HeaderScanner
         ensures { IsHeaderFresh wanted result }
     {

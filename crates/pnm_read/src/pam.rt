@@ -65,6 +65,7 @@ struct PamScanner {
 impl PamScanner {
     ghost use Rattle.pnm_read.specs.PamScanners.{IsPamAfter};
 
+    /// A scanner before the first byte.
     fn new(alloc: Global) -> PamScanner
         ensures { IsPamAfter result [] }
     {

@@ -299,6 +299,7 @@ fn span_of(count: u32, start: Option<i32>, end: Option<i32>, size: Option<u32>) 
     }
 }
 
+/// The first column, or row, that is kept, counted from 0; it may lie outside the image.
 fn first_kept(count: u32, start: Option<i32>, end: Option<i32>, size: Option<u32>) -> i64
     requires { IsLawfulAxis start end size }
     ensures { result ≡ first_kept count start end size }
@@ -310,6 +311,7 @@ fn first_kept(count: u32, start: Option<i32>, end: Option<i32>, size: Option<u32
     }
 }
 
+/// The last column, or row, that is kept, counted from 0; it may lie outside the image.
 fn last_kept(count: u32, start: Option<i32>, end: Option<i32>, size: Option<u32>) -> i64
     requires { IsLawfulAxis start end size }
     ensures { result ≡ last_kept count start end size }

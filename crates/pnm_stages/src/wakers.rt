@@ -35,6 +35,7 @@ impl Waker {
             .park_timeout(rt, Duration::from_millis(LONGEST_SLEEP));
     }
 
+    /// Ends the thread's sleep, or keeps its next one from beginning.
     fn wake(&self) {
         self.parker.unpark();
     }
