@@ -44,7 +44,7 @@ class Together(list):
 
 # a mark of a step, a head, a row, an end, or a brace
 HEAD = r"(Bit|Gray|Color|Pam) (\d+) (\d+) (\d+) (\d+)(?: \(([^)]*)\))?"
-MESSAGE = re.compile(rf" *(?:([?~!{{}}])|{HEAD}|\[([^]]*)\]|(ImageEnd|StreamEnd|Stop))")
+MESSAGE = re.compile(rf" *(?:([?~!}}]|{{\d*)|{HEAD}|\[([^]]*)\]|(ImageEnd|StreamEnd|Stop))")
 
 
 def rows_in(written):
@@ -75,13 +75,13 @@ def parts_in(text):
 
 
 def handed_in(text):
-    """What a text hands over: messages, and rows together that stand between braces."""
-    handed, rows = [], None
+    """What a text hands over: messages, and rows together that stand between braces, behind how often they come."""
+    handed, rows, times = [], None, 1
     for part in parts_in(text):
-        if part == "{":
-            rows = Together()
+        if isinstance(part, str) and part.startswith("{"):
+            rows, times = Together(), int(part[1:] or 1)
         elif part == "}":
-            handed.append(rows)
+            handed.append(Together(rows * times))
             rows = None
         elif rows is not None:
             rows.append(part)

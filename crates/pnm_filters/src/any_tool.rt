@@ -1,7 +1,7 @@
 //! A tool at work, whichever it is.
 
 use pnm_geometry_tools::{Enlarger, Tiler, Transposer};
-use pnm_image::{Head, Rows, Shape};
+use pnm_image::{Head, RepeatedRows, Rows, Shape};
 use pnm_row_tools::{ByRow, Cutter, Inverter, Rescaler, RowFlipper, RowReverser, Samplewise};
 use pnm_tools::{ImageTool, Planes, ToolFault};
 use std::alloc::Global;
@@ -73,7 +73,7 @@ impl ImageTool for AnyTool {
 
     // Which tool it is was seen as it took the row: the choice stands beside the state's own.
     #[inline(always)]
-    fn give(&mut self, alloc: Global) -> Result<Option<Rows>, ToolFault> {
+    fn give(&mut self, alloc: Global) -> Result<Option<RepeatedRows>, ToolFault> {
         with_tool!(self, work => work.give(alloc))
     }
 

@@ -1,6 +1,6 @@
 -- Rows that wait to be enlarged, and what is made of the next of them.
-use Rattle.std.proofs.Common.{◌≡◌, ℕ, ◌+◌, ◌*◌, ◌/◌, ◌≤◌, ◌<◌, List, [], ◌∷◌, ◌++◌, length, get_or, map, take, drop, replicate, All, Option, None, Some}
-use Rattle.std.proofs.Common.{refl, sym, ap, ap₂, subst, ◌∙◌, arith, mul-le-mul, append-nil, append_assoc}
+use Rattle.std.proofs.Common.{◌≡◌, ℕ, zero, suc, ◌+◌, ◌*◌, ◌/◌, ◌≤◌, ◌<◌, List, [], ◌∷◌, ◌++◌, length, map, take, drop, replicate, All, Option, None, Some}
+use Rattle.std.proofs.Common.{refl, sym, ap, ap₂, subst, ◌∙◌, arith, mul-le-mul, append-nil}
 use Rattle.std.proofs.Math.Nat.{mul-le-mul_right}
 use Rattle.std.specs.List.{AllByRecursion, flat_map}
 use Rattle.std.proofs.lemmas.Grind.{flat_map-append}
@@ -8,8 +8,8 @@ use Rattle.std.proofs.lemmas.List.{drop-drop, length-drop, map-append, take-appe
 use Rattle.std.proofs.lemmas.List.Elements.{All-drop, All-from_recursion, All-take, recursion_from_All}
 use Rattle.pnm_image.specs.declared.shape.Shape.{Shape}
 use Rattle.pnm_image.specs.Places.{IsRowOf}
+use Rattle.pnm_image.specs.Repeats.{repeated}
 use Rattle.pnm_image.proofs.RowLaws.{rows_need}
-use Rattle.pnm_tools.specs.Answering.{rows_list}
 use Rattle.pnm_tools.specs.Enlarge.{enlarged_row}
 use Rattle.pnm_geometry_tools.specs.Enlarging.{CanBeEnlarged, ToEnlarge, larger_rows, to_enlarge, waiting_due}
 use Rattle.pnm_geometry_tools.proofs.EnlargedRowsLaws.{each_of, pixels_below}
@@ -61,36 +61,37 @@ next_and_rest w count =
     ∙ larger_in_parts w.across w.down w.shape (take count w.rows) (drop count w.rows)
 
 -- some of them are given
-pub together_given : (copies left : Option (List (List ℕ))) (waits rest : Option ToEnlarge) (w : ToEnlarge) (count down : ℕ) (made : List (List ℕ))
-    → copies ≡ None → left ≡ None → waits ≡ Some w → down ≡ w.down → made ≡ larger_rows w.across down w.shape (take count w.rows)
-    → waiting_due rest ≡ larger_rows w.across w.down w.shape (drop count w.rows)
-    → rows_list copies ++ waiting_due waits ≡ made ++ (rows_list left ++ waiting_due rest)
-together_given copies left waits rest w count down made no_copies none_left some same is behind =
-    ap₂ (λ (c : Option (List (List ℕ))) (o : Option ToEnlarge). rows_list c ++ waiting_due o) no_copies some
-    ∙ next_and_rest w count
+pub together_given : (waits rest : Option ToEnlarge) (w : ToEnlarge) (count down : ℕ) (made given : List (List ℕ))
+    → waits ≡ Some w → down ≡ w.down → made ≡ larger_rows w.across down w.shape (take count w.rows)
+    → waiting_due rest ≡ larger_rows w.across w.down w.shape (drop count w.rows) → given ≡ made
+    → waiting_due waits ≡ given ++ waiting_due rest
+together_given waits rest w count down made given some same is behind as_made =
+    ap waiting_due some ∙ next_and_rest w count
     ∙ ap₂ (λ (a b : List (List ℕ)). a ++ b)
-    (ap (λ (n : ℕ). larger_rows w.across n w.shape (take count w.rows)) (sym same) ∙ sym is)
-    (sym behind ∙ ap (λ (c : Option (List (List ℕ))). rows_list c ++ waiting_due rest) (sym none_left))
+    (ap (λ (n : ℕ). larger_rows w.across n w.shape (take count w.rows)) (sym same) ∙ sym is ∙ sym as_made) (sym behind)
 
 -- the first row, so many times
-copies_of_first : (across down : ℕ) (s : Shape) (rows : List (List ℕ)) → 0 < length rows
-    → larger_rows across down s (take 1 rows) ≡ replicate down (get_or (larger_rows across 1 s (take 1 rows)) 0 [])
-copies_of_first across down s [] some = absurd (omega (arith, some))
-copies_of_first across down s (row ∷ rows) some = append-nil (replicate down (enlarged_row across s row))
+rows_are_repeated : (n : ℕ) (row : List ℕ) → replicate n row ≡ repeated n (row ∷ [])
+rows_are_repeated zero row = refl
+rows_are_repeated (suc n) row = ap (λ (l : List (List ℕ)). row ∷ l) (rows_are_repeated n row)
 
--- copies of the first one are given
-pub alone_given : (copies left : Option (List (List ℕ))) (waits rest : Option ToEnlarge) (w : ToEnlarge) (down : ℕ) (row all next : List (List ℕ))
-    → copies ≡ None → waits ≡ Some w → 0 < length w.rows → down ≡ w.down → row ≡ larger_rows w.across 1 w.shape (take 1 w.rows)
-    → waiting_due rest ≡ larger_rows w.across w.down w.shape (drop 1 w.rows) → all ≡ replicate down (get_or row 0 []) → all ≡ next ++ rows_list left
-    → rows_list copies ++ waiting_due waits ≡ next ++ (rows_list left ++ waiting_due rest)
-alone_given copies left waits rest w down row all next no_copies is some same one behind times parts =
-    ap₂ (λ (c : Option (List (List ℕ))) (o : Option ToEnlarge). rows_list c ++ waiting_due o) no_copies is
-    ∙ next_and_rest w 1
+copies_of_first : (across down : ℕ) (s : Shape) (rows : List (List ℕ)) → 0 < length rows
+    → larger_rows across down s (take 1 rows) ≡ repeated down (larger_rows across 1 s (take 1 rows))
+copies_of_first across down s [] some = absurd (omega (arith, some))
+copies_of_first across down s (row ∷ rows) some =
+    append-nil (replicate down (enlarged_row across s row)) ∙ rows_are_repeated down (enlarged_row across s row)
+
+-- the first one is given so many times
+pub alone_given : (waits rest : Option ToEnlarge) (w : ToEnlarge) (down : ℕ) (row given : List (List ℕ))
+    → waits ≡ Some w → 0 < length w.rows → down ≡ w.down → row ≡ larger_rows w.across 1 w.shape (take 1 w.rows)
+    → waiting_due rest ≡ larger_rows w.across w.down w.shape (drop 1 w.rows) → given ≡ repeated down row
+    → waiting_due waits ≡ given ++ waiting_due rest
+alone_given waits rest w down row given is some same one behind times =
+    ap waiting_due is ∙ next_and_rest w 1
     ∙ ap₂ (λ (a b : List (List ℕ)). a ++ b)
     (copies_of_first w.across w.down w.shape w.rows some
-    ∙ ap₂ (λ (n : ℕ) (l : List (List ℕ)). replicate n (get_or l 0 [])) (sym same) (sym one) ∙ sym times ∙ parts)
+    ∙ ap₂ (λ (n : ℕ) (l : List (List ℕ)). repeated n l) (sym same) (sym one) ∙ sym times)
     (sym behind)
-    ∙ append_assoc next (rows_list left) (waiting_due rest)
 
 -- ---- how many are enlarged at once
 

@@ -27,10 +27,10 @@ abbrev pub down_of : Enlarger → ℕ
 down_of w = w.down
 
 abbrev pub enlarged_due : Enlarger → List (List ℕ)
-enlarged_due w = rows_list w.copies ++ waiting_due w.waiting
+enlarged_due w = waiting_due w.waiting
 
 abbrev pub kept_rows : Enlarger → List (List ℕ)
-kept_rows w = rows_list w.copies ++ waiting_rows w.waiting
+kept_rows w = waiting_rows w.waiting
 
 -- ---- pamflip where columns and rows are exchanged: all rows, and a batch of rows of the result
 

@@ -8,9 +8,8 @@ ghost use Rattle.pnm_geometry_tools.specs.Keeping.{across_of, down_of, enlarged_
 ghost use Rattle.pnm_tools.specs.ToolLimits.{IsExtent};
 ghost use Rattle.pnm_tools.specs.Tools.{TakesHead, result_head};
 
-use crate::row_copies::RowCopies;
 use crate::waiting_rows::WaitingRows;
-use pnm_image::{Head, Rows, Shape};
+use pnm_image::{Head, RepeatedRows, Rows, Shape};
 use pnm_tools::{ImageTool, ToolFault, head_within_limits};
 use std::alloc::Global;
 use std::mem;
@@ -21,8 +20,6 @@ use std::mem;
 pub struct Enlarger {
     across: u32,
     down: u32,
-    /// A row of the result that is given more than once.
-    copies: Option<RowCopies>,
     /// The rows that came and are still to be enlarged.
     waiting: Option<WaitingRows>,
 }
@@ -41,25 +38,18 @@ impl ImageTool for Enlarger {
     }
 
     fn take(&mut self, _alloc: Global, shape: Shape, _y: u32, rows: Rows) -> Result<(), ToolFault> {
-        self.copies = None;
         self.waiting = Some(WaitingRows::new(self.across, self.down, shape, rows));
         Ok(())
     }
 
     fn end(&mut self, _shape: Shape) {
-        self.copies = None;
         self.waiting = None;
     }
 
-    /// Gives the rows that several rows make together. If one row makes more than is given at once, gives copies of the
-    /// row that it makes.
+    /// Gives the rows that several rows make together. If a row is long, or makes more than is given at once, gives the
+    /// row that it makes so many times, without a copy.
     #[inline(never)]
-    fn give(&mut self, alloc: Global) -> Result<Option<Rows>, ToolFault> {
-        if let Some(copies) = mem::replace(&mut self.copies, None) {
-            let (next, left) = copies.next(alloc)?;
-            self.copies = left;
-            return Ok(Some(next));
-        }
+    fn give(&mut self, alloc: Global) -> Result<Option<RepeatedRows>, ToolFault> {
         let Some(waiting) = mem::replace(&mut self.waiting, None) else {
             return Ok(None);
         };
@@ -67,17 +57,14 @@ impl ImageTool for Enlarger {
         if count > 0 {
             let (enlarged, rest) = waiting.enlarge_next(alloc, count, down)?;
             self.waiting = rest;
-            return Ok(Some(enlarged));
+            return Ok(Some(RepeatedRows::once(enlarged)));
         }
         let (row, rest) = waiting.enlarge_next(alloc, 1, 1)?;
-        let (next, left) = RowCopies::new(row, down).next(alloc)?;
-        self.copies = left;
         self.waiting = rest;
-        Ok(Some(next))
+        Ok(Some(RepeatedRows::new(row, down)))
     }
 
     fn release(&mut self, _alloc: Global) {
-        self.copies = None;
         self.waiting = None;
     }
 }
@@ -92,7 +79,6 @@ impl Enlarger {
         Enlarger {
             across,
             down,
-            copies: None,
             waiting: None,
         }
     }

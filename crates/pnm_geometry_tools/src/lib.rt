@@ -11,7 +11,6 @@ mod flat_rows;
 mod kept_rows;
 mod larger;
 mod repeat;
-mod row_copies;
 mod row_of;
 mod sample_rows;
 mod strip;

@@ -17,7 +17,7 @@ ghost use Rattle.pnm_tools.specs.Tools.{TakesHead, result_head};
 
 use crate::kept_rows::KeptRows;
 use crate::together::count_together;
-use pnm_image::{BitRows, Bits, Head, Kind, RowSlice, RowVec, Rows, Shape};
+use pnm_image::{BitRows, Bits, Head, Kind, RepeatedRows, RowSlice, RowVec, Rows, Shape};
 use pnm_tools::{ImageTool, ToolFault, head_within_limits};
 use std::alloc::{AllocError, Global};
 use std::marker::Model;
@@ -299,7 +299,7 @@ impl ImageTool for Tiler {
 
     /// Gives short rows together, and longer ones one by one. After a fault no row is left.
     #[inline(never)]
-    fn give(&mut self, alloc: Global) -> Result<Option<Rows>, ToolFault> {
+    fn give(&mut self, alloc: Global) -> Result<Option<RepeatedRows>, ToolFault> {
         if self.left == 0 {
             return Ok(None);
         }
@@ -309,7 +309,8 @@ impl ImageTool for Tiler {
         self.left = 0;
         let samples = tile_rows(alloc, self.width, self.shape, &self.rows, y, count)?;
         self.left = left;
-        Ok(Some(Rows::new(samples, self.shape.maxval, count, row_length)))
+        let rows = Rows::new(samples, self.shape.maxval, count, row_length);
+        Ok(Some(RepeatedRows::once(rows)))
     }
 
     fn release(&mut self, alloc: Global) {

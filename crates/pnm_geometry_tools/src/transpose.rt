@@ -8,7 +8,7 @@ ghost use Rattle.pnm_geometry_tools.specs.Keeping.{IsTransposing, transposed_due
 
 use crate::sample_rows::SampleRows;
 use crate::together::next_columns;
-use pnm_image::{Head, Rows, SampleWidth, Samples, Shape};
+use pnm_image::{Head, RepeatedRows, Rows, SampleWidth, Samples, Shape};
 use pnm_tools::{FlipWay, ImageTool, ToolFault, flipped_head};
 use std::alloc::Global;
 use std::marker::Model;
@@ -76,7 +76,7 @@ impl ImageTool for Transposer {
 
     /// Gives the next columns of the batch. Makes a batch first if there is none.
     #[inline(never)]
-    fn give(&mut self, alloc: Global) -> Result<Option<Rows>, ToolFault> {
+    fn give(&mut self, alloc: Global) -> Result<Option<RepeatedRows>, ToolFault> {
         if self.batch.is_empty() && self.next < self.columns {
             if self.way.transform().columns_reversed {
                 self.make_last(alloc)?;
@@ -84,7 +84,7 @@ impl ImageTool for Transposer {
                 self.make_first(alloc)?;
             }
         }
-        next_columns(&mut self.batch)
+        Ok(next_columns(&mut self.batch)?.map(RepeatedRows::once))
     }
 
     fn release(&mut self, alloc: Global) {

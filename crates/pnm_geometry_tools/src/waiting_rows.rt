@@ -7,7 +7,7 @@ ghost use Rattle.pnm_tools.specs.declared.fault.ToolFault.TheVariants.{Memory};
 ghost use Rattle.pnm_tools.specs.ToolLimits.{IsExtent};
 ghost use Rattle.pnm_geometry_tools.specs.Enlarging.{IsEnlarging, larger_rows, to_enlarge, waiting_due};
 
-use crate::larger::{MOST_GIVEN, bytes_of_row, enlarge_together};
+use crate::larger::{LEAST_REPEATED, MOST_GIVEN, bytes_of_row, enlarge_together};
 use pnm_image::{Rows, Shape};
 use pnm_tools::ToolFault;
 use std::alloc::{AllocError, Global};
@@ -73,6 +73,9 @@ impl WaitingRows {
     {
         let wide = self.rows.row_length() * self.across as usize;
         let bytes = bytes_of_row(self.rows.as_slice(), self.shape.depth, wide);
+        if self.down > 1 && bytes >= LEAST_REPEATED {
+            return 0;
+        }
         let most = MOST_GIVEN / (bytes * self.down as usize);
         (self.rows.count() - self.next).min(most as u32)
     }

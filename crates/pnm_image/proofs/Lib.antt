@@ -2,6 +2,7 @@ pub mod Heads
 pub mod HeldRowLaws
 pub mod Lists
 pub mod Places
+pub mod RepeatLaws
 pub mod RowLaws
 pub mod Streams
 pub mod BoolLaws

@@ -6,6 +6,7 @@ pub mod Heads
 pub mod SampleWidths
 pub mod Messages
 pub mod Places
+pub mod Repeats
 pub mod Rows
 pub mod Packets
 pub mod Images

@@ -5,6 +5,7 @@ ghost use Rattle.pnm_image.specs.Packets.{ending_of_packet};
 
 use crate::head::Head;
 use crate::message::{Ending, Message};
+use crate::repeated_rows::RepeatedRows;
 use crate::rows::Rows;
 
 /// What a place of a ring holds, and a filter gives at once: one message, rows, each of which is a message, or a whole
@@ -14,7 +15,7 @@ pub enum Packet {
     /// An image begins.
     Begin(Head),
     /// The next rows of the image, each of which stands for a message.
-    Rows(Rows),
+    Rows(RepeatedRows),
     /// A whole image: its head, all its rows, and its end. It stands for a message each.
     Image(Head, Rows),
     /// All rows of the image have passed.
@@ -29,7 +30,7 @@ pub enum Packet {
 #[derive(Debug, Drop)]
 pub enum Several {
     /// Rows of an image, at least two.
-    Rows(Rows),
+    Rows(RepeatedRows),
     /// A whole image: its head, all its rows, and its end.
     Image(Head, Rows),
 }
@@ -44,7 +45,7 @@ impl From<Message> for Packet {
     fn from(message: Message) -> Packet {
         match message {
             Message::Begin(head) => Packet::Begin(head),
-            Message::Row(row) => Packet::Rows(Rows::one(row)),
+            Message::Row(row) => Packet::Rows(RepeatedRows::once(Rows::one(row))),
             Message::ImageEnd => Packet::ImageEnd,
             Message::StreamEnd => Packet::StreamEnd,
             Message::Stop => Packet::Stop,

@@ -90,7 +90,7 @@ impl<W: BytesOut + Drop> Egress<W> {
         while !self.has_ended && self.input.has_seen_message() {
             if let Packet::Rows(rows) = self.input.peek_known() {
                 // They are written while they lie in the ring, and are taken out of it only then.
-                self.fused_sink.put_rows(rows);
+                self.fused_sink.put_repeated(rows);
                 recycle(self.input.receive_known(), spares);
                 continue;
             }
@@ -169,8 +169,8 @@ fn put<W: BytesOut + Drop>(
             None
         }
         Err(Several::Rows(rows)) => {
-            fused_sink.put_rows(&rows);
-            Some(rows)
+            fused_sink.put_repeated(&rows);
+            Some(rows.into_held())
         }
         Err(Several::Image(head, rows)) => {
             fused_sink.put_image(head, &rows);
@@ -212,6 +212,6 @@ fn keep_some(rows: Option<Rows>, spares: &mut SpareRows) {
 /// Drops the packet, but keeps rows as a spare row.
 fn recycle(packet: Packet, spares: &mut SpareRows) {
     if let Packet::Rows(rows) = packet {
-        spares.keep_rows(rows);
+        spares.keep_rows(rows.into_held());
     }
 }

@@ -9,7 +9,7 @@ ghost use Rattle.pnm_read.specs.Sources.{IsFreshSource as IsUnread};
 ghost use Rattle.pnm_read.specs.declared.fault.InputFault.{InputFault as Fault};
 
 use crate::image_count::count_image;
-use pnm_image::{BytesIn, Message, Packet};
+use pnm_image::{BytesIn, Message, Packet, RepeatedRows};
 use pnm_read::{InputFault, Source, SpareRows};
 use pnm_serial::go_together;
 use pnm_stages::Sender;
@@ -174,7 +174,7 @@ impl<R: BytesIn + Drop> Ingress<R> {
         ensures none { IsFalse result → self.new ≡ self.old }
     {
         match self.source.next_rows(spares) {
-            Ok(Some(rows)) => self.output.send_packet_reserved(Packet::Rows(rows)),
+            Ok(Some(rows)) => self.output.send_packet_reserved(Packet::Rows(RepeatedRows::once(rows))),
             Ok(None) => return false,
             Err(refusal) => {
                 self.input = Some(Err(refusal));

@@ -1,5 +1,5 @@
 -- Messages that are dealt one after another, from a place on.
-use Rattle.std.proofs.Common.{◌≡◌, inl, inr, ℕ, ◌+◌, ◌<◌, ◌≤◌, List, [], ◌∷◌, ◌++◌, length, get_or, take, drop, Option, None, Some, refl, sym, ap}
+use Rattle.std.proofs.Common.{◌≡◌, inl, inr, ℕ, ◌+◌, ◌-◌, ◌<◌, ◌≤◌, List, [], ◌∷◌, ◌++◌, length, get_or, take, drop, Option, None, Some, refl, sym, ap}
 use Rattle.std.proofs.Common.{subst, ◌∙◌, append_assoc, append-nil, arith}
 use Rattle.std.proofs.lemmas.List.{take_all, take_at, take-append-drop, drop_more, length-take, length-append, map-append}
 use Rattle.pnm_stages.specs.declared.sender.Sender.{Sender}
@@ -8,8 +8,10 @@ use Rattle.pnm_image.specs.declared.message.Message.{Message}
 use Rattle.pnm_image.specs.declared.message.Message.TheVariants.{Row}
 use Rattle.pnm_image.specs.declared.place.Place.{Place}
 use Rattle.pnm_image.specs.Places.{Accepts, IsLawfulFrom, place_after, place_of}
+use Rattle.pnm_image.specs.Repeats.{repeated}
 use Rattle.pnm_image.specs.Rows.{row_messages}
 use Rattle.pnm_image.proofs.Places.{place_of-append}
+use Rattle.pnm_image.proofs.RepeatLaws.{messages_from, messages_once_more}
 use Rattle.pnm_tools.specs.declared.fault.ToolFault.TheVariants.{OutOfOrder, Memory}
 use Rattle.pnm_tools.specs.Dealing.{dealt_message, dealt_from}
 use Rattle.pnm_stages.specs.declared.stage.StageEnd.{StageEnd}
@@ -190,3 +192,20 @@ pub deals_rows : (at : ℕ) (rows : List (List ℕ)) (place here : Place) (olds 
     → HasDealtBefore at rows place here olds nows → HasDealtMessages place here (row_messages rows) None olds nows
 deals_rows at rows place here olds nows all before =
     subst (λ (x : List (List ℕ)). HasDealtMessages place here (row_messages x) None olds nows) (take_all at rows all) before
+
+-- ---- rows that come several times
+
+-- they were dealt once more, or not all of them
+pub deals_time : (n : ℕ) (rows : List (List ℕ)) (place here new : Place) (unsent : Option StageEnd) (olds nows news : List Sender)
+    → HasDealtMessages place here (row_messages (repeated n rows)) None olds nows → HasDealtMessages here new (row_messages rows) unsent nows news
+    → HasDealtMessages place new (row_messages (repeated (n + 1) rows)) unsent olds news
+deals_time n rows place here new unsent olds nows news before dealt =
+    subst (λ (x : List Message). HasDealtMessages place new x unsent olds news) (sym (messages_once_more n rows))
+    (deals_then place here new (row_messages (repeated n rows)) (row_messages rows) unsent olds nows news before dealt)
+
+-- they weren't dealt the other times
+pub leaves_times : (n times : ℕ) (rows all : List (List ℕ)) (end : StageEnd) (place : Place) (olds news : List Sender) → n ≤ times
+    → all ≡ repeated times rows → HasLeftOff end place (row_messages (repeated n rows)) olds news → HasLeftOff end place (row_messages all) olds news
+leaves_times n times rows all end place olds news within is left =
+    subst (λ (x : List Message). HasLeftOff end place x olds news) (sym (ap row_messages is ∙ messages_from n times rows within))
+    (leaves_rest end place (row_messages (repeated n rows)) (row_messages (repeated (times - n) rows)) olds news left)

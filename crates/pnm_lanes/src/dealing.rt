@@ -16,7 +16,9 @@ ghost use Rattle.pnm_lanes.specs.DealParts.{IsRow, IsSameEnd, part_at, row_part,
 ghost use Rattle.pnm_lanes.specs.DealParts.{HasDealtMessages, HasBrokenOffDealing};
 ghost use Rattle.pnm_lanes.specs.declared.lane.TheConstants.{MAX_LANES};
 
-use pnm_image::{Ending, Head, Message, Packet, Place, Rows, Samples, Several};
+use pnm_image::{
+    Ending, Head, Message, Packet, Place, RepeatedRows, Rows, Samples, Several,
+};
 use pnm_stages::{Receiver, Sender, StageEnd};
 use pnm_tools::ToolFault;
 use std::alloc::Global;
@@ -121,7 +123,7 @@ fn deal_packet<R: Wait>(
 {
     match packet.into_message() {
         Ok(message) => deal_message(rt, place, message, outputs),
-        Err(Several::Rows(rows)) => deal_rows(rt, alloc, place, &rows, outputs),
+        Err(Several::Rows(rows)) => deal_repeated(rt, alloc, place, &rows, outputs),
         Err(Several::Image(head, rows)) => deal_image(rt, alloc, place, head, &rows, outputs),
     }
 }
@@ -146,6 +148,26 @@ fn deal_image<R: Wait>(
         return Some(end);
     }
     deal_message(rt, place, Message::ImageEnd, outputs)
+}
+
+/// Deals each of the rows by itself, as a copy, each time that they come.
+fn deal_repeated<R: Wait>(
+    rt: &R,
+    alloc: Global,
+    place: &mut Place,
+    rows: &RepeatedRows,
+    outputs: &mut [Sender],
+) -> Option<StageEnd>
+    requires { IsLaneCount (length outputs.old) }
+    ensures { HasDealtMessages place.old place.new (row_messages rows.now) result outputs.old outputs.new }
+{
+    let (held, times) = rows.parts();
+    for _time in 0..times {
+        if let Some(end) = deal_rows(rt, alloc, place, held, outputs) {
+            return Some(end);
+        }
+    }
+    None
 }
 
 /// Deals each of the rows by itself, as a copy.

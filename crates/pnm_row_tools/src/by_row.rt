@@ -4,7 +4,7 @@ ghost use Rattle.pnm_tools.specs.Answering.{rows_list};
 ghost use Rattle.pnm_row_tools.specs.RowKeeping.{IsReadyForRows};
 
 use crate::row_tool::RowTool;
-use pnm_image::{Head, Rows, Shape};
+use pnm_image::{Head, RepeatedRows, Rows, Shape};
 use pnm_tools::{ImageTool, ToolFault};
 use std::alloc::Global;
 use std::mem;
@@ -43,8 +43,8 @@ impl<T: RowTool> ImageTool for ByRow<T> {
         self.made = None;
     }
 
-    fn give(&mut self, _alloc: Global) -> Result<Option<Rows>, ToolFault> {
-        Ok(mem::replace(&mut self.made, None))
+    fn give(&mut self, _alloc: Global) -> Result<Option<RepeatedRows>, ToolFault> {
+        Ok(mem::replace(&mut self.made, None).map(RepeatedRows::once))
     }
 
     fn release(&mut self, _alloc: Global) {

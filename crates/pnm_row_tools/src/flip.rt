@@ -17,7 +17,7 @@ ghost use Rattle.pnm_row_tools.specs.RowKeeping.{FlipsInRows, IsReversingRows, r
 ghost use Rattle.pnm_tools.specs.Tools.{TakesHead, result_head};
 
 use crate::row_tool::RowTool;
-use pnm_image::{Head, RowVec, Rows, Shape};
+use pnm_image::{Head, RepeatedRows, RowVec, Rows, Shape};
 use pnm_samples::reverse_rows;
 use pnm_tools::{FlipWay, ImageTool, ToolFault, Transform, flipped_head};
 use std::alloc::{AllocError, Global};
@@ -301,7 +301,7 @@ impl ImageTool for RowReverser {
     }
 
     #[inline(never)]
-    fn give(&mut self, alloc: Global) -> Result<Option<Rows>, ToolFault> {
+    fn give(&mut self, alloc: Global) -> Result<Option<RepeatedRows>, ToolFault> {
         let Some(shape) = self.ended else {
             return Ok(None);
         };
@@ -309,7 +309,7 @@ impl ImageTool for RowReverser {
             return Ok(None);
         };
         let turned = transform_rows(alloc, self.way.transform(), shape, kept)?;
-        Ok(Some(turned))
+        Ok(Some(RepeatedRows::once(turned)))
     }
 
     fn release(&mut self, alloc: Global) {

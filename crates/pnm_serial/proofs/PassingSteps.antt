@@ -1,5 +1,5 @@
 -- What passes through the stages.
-use Rattle.std.proofs.Common.{◌≡◌, ◌<◌, ◌+◌, ◌-◌, ℕ, Bool, true, List, [], ◌∷◌, ◌++◌, Option, sym, ap, subst, ◌∙◌, append_assoc, append-nil}
+use Rattle.std.proofs.Common.{◌≡◌, ◌<◌, ◌≤◌, ◌+◌, ◌-◌, ℕ, Bool, true, List, [], ◌∷◌, ◌++◌, Option, sym, ap, subst, ◌∙◌, append_assoc, append-nil}
 use Rattle.std.proofs.Common.{length, take, drop, get_or, arith}
 use Rattle.std.specs.Prelude.{◌==◌, slice_set}
 use Rattle.std.proofs.lemmas.List.{take_all, drop_all, length-drop}
@@ -10,7 +10,9 @@ use Rattle.pnm_image.specs.declared.message.Message.{Message}
 use Rattle.pnm_image.specs.declared.message.Message.TheVariants.{Row}
 use Rattle.pnm_image.specs.declared.message.Ending.TheVariants.{More}
 use Rattle.pnm_image.specs.Messages.{EndsBy}
+use Rattle.pnm_image.specs.Repeats.{repeated}
 use Rattle.pnm_image.specs.Rows.{row_messages}
+use Rattle.pnm_image.proofs.RepeatLaws.{messages_from, messages_once_more, repeated_some}
 use Rattle.pnm_tools.specs.declared.fault.ToolFault.{ToolFault}
 use Rattle.pnm_tools.specs.declared.tool.Tool.{Tool}
 use Rattle.pnm_tools.specs.declared.fused_filter.FusedFilter.{FusedFilter}
@@ -240,6 +242,25 @@ drops_first at all_given stopped (s ∷ ss) was other next (tool ∷ tools) l g 
 )
 
 -- the rows behind were dropped, since the first stage refused
+drops_behind : {F W : Type 0} (at : F → Tool → List Message → List Message → Type 0) (all_given : F → Bool) (stopped : F → Option ToolFault)
+    (held : W → Option (List ℕ)) (failures : W → ℕ) (old now : List (FusedFilter F)) (was other next : FusedFilter F) (front behind : List (List ℕ))
+    (before after : FusedSink W) → was ≡ get_or now 0 other → 0 < length now → 0 < length behind
+    → FeedsThrough at all_given stopped held failures old (row_messages front) now before after → Drops at all_given stopped was next
+    → FeedsThrough at all_given stopped held failures old (row_messages front ++ row_messages behind) (slice_set now 0 next) before after
+drops_behind at all_given stopped held failures old now was other next front behind before after first some below passes drops =
+    let here = row_messages front in
+    let rest = row_messages behind in
+    record {
+      more = passes.more;
+      stages = λ tools l g lawful sound is.
+          let sound_here : AreSound ((l ++ here) ++ rest) = subst AreSound (sym (append_assoc l here rest)) sound in
+          let goes = goes_on_by_rows (l ++ here) behind below sound_here in
+          let now_at = passes.stages tools l g lawful (sound_prefix (l ++ here) rest sound_here) is in
+          subst (λ (x : List Message). FiltersAt at all_given stopped (slice_set now 0 next) tools x (g ++ passes.more)) (append_assoc l here rest)
+          (drops_first at all_given stopped now was other next tools (l ++ here) (g ++ passes.more) rest first some drops goes now_at);
+      taken = passes.taken;
+    }
+
 pub drops_rows : {F W : Type 0} (at : F → Tool → List Message → List Message → Type 0) (all_given : F → Bool) (stopped : F → Option ToolFault)
     (held : W → Option (List ℕ)) (failures : W → ℕ) (old now : List (FusedFilter F)) (was other next : FusedFilter F) (index : ℕ) (rows : List (List ℕ))
     (before after : FusedSink W) → was ≡ get_or now 0 other → 0 < length now → index < length rows
@@ -247,16 +268,32 @@ pub drops_rows : {F W : Type 0} (at : F → Tool → List Message → List Messa
     → Drops at all_given stopped was next
     → FeedsThrough at all_given stopped held failures old (row_messages rows) (slice_set now 0 next) before after
 drops_rows at all_given stopped held failures old now was other next index rows before after first some below passes drops =
-    let here = row_messages (take index rows) in
-    let rest = row_messages (drop index rows) in
     subst (λ (l : List Message). FeedsThrough at all_given stopped held failures old l (slice_set now 0 next) before after) (sym (rows_from index rows))
-    (record {
-      more = passes.more;
-      stages = λ tools l g lawful sound is.
-          let sound_here : AreSound ((l ++ here) ++ rest) = subst AreSound (sym (append_assoc l here rest)) sound in
-          let goes = goes_on_by_rows (l ++ here) (drop index rows) (omega (arith, below, length-drop index rows)) sound_here in
-          let now_at = passes.stages tools l g lawful (sound_prefix (l ++ here) rest sound_here) is in
-          subst (λ (x : List Message). FiltersAt at all_given stopped (slice_set now 0 next) tools x (g ++ passes.more)) (append_assoc l here rest)
-          (drops_first at all_given stopped now was other next tools (l ++ here) (g ++ passes.more) rest first some drops goes now_at);
-      taken = passes.taken;
-    })
+    (drops_behind at all_given stopped held failures old now was other next (take index rows) (drop index rows) before after first some
+    (omega (arith, below, length-drop index rows)) passes drops)
+
+-- ---- rows that come several times
+
+-- they passed once more
+pub feeds_time : {F W : Type 0} (at : F → Tool → List Message → List Message → Type 0) (all_given : F → Bool) (stopped : F → Option ToolFault)
+    (held : W → Option (List ℕ)) (failures : W → ℕ) (old now new : List (FusedFilter F)) (n : ℕ) (rows copy : List (List ℕ))
+    (before d after : FusedSink W) → copy ≡ rows → FeedsThrough at all_given stopped held failures old (row_messages (repeated n rows)) now before d
+    → FeedsThrough at all_given stopped held failures now (row_messages copy) new d after
+    → FeedsThrough at all_given stopped held failures old (row_messages (repeated (n + 1) rows)) new before after
+feeds_time at all_given stopped held failures old now new n rows copy before d after same was then =
+    subst (λ (l : List Message). FeedsThrough at all_given stopped held failures old l new before after) (sym (messages_once_more n rows))
+    (feeds_more at all_given stopped held failures old now new (row_messages (repeated n rows)) (row_messages rows) before d after was
+    (subst (λ (l : List (List ℕ)). FeedsThrough at all_given stopped held failures now (row_messages l) new d after) same then))
+
+-- they were dropped the other times, since the first stage refused
+pub drops_times : {F W : Type 0} (at : F → Tool → List Message → List Message → Type 0) (all_given : F → Bool) (stopped : F → Option ToolFault)
+    (held : W → Option (List ℕ)) (failures : W → ℕ) (old now : List (FusedFilter F)) (was other next : FusedFilter F) (n times : ℕ)
+    (rows all : List (List ℕ)) (before after : FusedSink W) → was ≡ get_or now 0 other → 0 < length now → n < times → 1 ≤ length rows
+    → all ≡ repeated times rows → FeedsThrough at all_given stopped held failures old (row_messages (repeated n rows)) now before after
+    → Drops at all_given stopped was next → FeedsThrough at all_given stopped held failures old (row_messages all) (slice_set now 0 next) before after
+drops_times at all_given stopped held failures old now was other next n times rows all before after first some below some_rows is passes drops =
+    let within : n ≤ times = omega (arith, below) in
+    subst (λ (l : List Message). FeedsThrough at all_given stopped held failures old l (slice_set now 0 next) before after)
+    (sym (ap row_messages is ∙ messages_from n times rows within))
+    (drops_behind at all_given stopped held failures old now was other next (repeated n rows) (repeated (times - n) rows) before after first some
+    (omega (arith, repeated_some (times - n) rows (omega (arith, below)) some_rows)) passes drops)

@@ -12,7 +12,7 @@ ghost use Rattle.pnm_write.specs.declared.fault.SinkFault.{SinkFault as Fault};
 ghost use Rattle.pnm_write.specs.Sinks.{has_failed};
 
 use crate::summary::Summary;
-use pnm_image::{BytesOut, Form, Head, Message, Packet, Rows, Several};
+use pnm_image::{BytesOut, Form, Head, Message, Packet, RepeatedRows, Rows, Several};
 use pnm_write::{Sink, SinkFault, WriteBuffer};
 
 /// The sink, and what came of it so far.
@@ -49,7 +49,7 @@ impl<W: BytesOut + Drop> FusedSink<W> {
         }
     }
 
-    /// Writes the packet as `put`, `put_rows` or `put_image` does, unless the output had a fault before.
+    /// Writes the packet as `put`, `put_repeated` or `put_image` does, unless the output had a fault before.
     pub fn put_packet(&mut self, packet: Packet)
         ensures taken { (form : FormValue) (start : W) (messages : List MessageValue)
             → HasTaken W.held W.failures form start messages self.old
@@ -58,7 +58,7 @@ impl<W: BytesOut + Drop> FusedSink<W> {
     {
         match packet.into_message() {
             Ok(message) => self.put(&message),
-            Err(Several::Rows(rows)) => self.put_rows(&rows),
+            Err(Several::Rows(rows)) => self.put_repeated(&rows),
             Err(Several::Image(head, rows)) => self.put_image(head, &rows),
         }
     }
@@ -92,6 +92,20 @@ impl<W: BytesOut + Drop> FusedSink<W> {
                 self.summary.count(message);
                 self.pass_on(message);
             }
+        }
+    }
+
+    /// Writes the rows each time that they come, as `put_rows` does.
+    #[inline(never)]
+    pub fn put_repeated(&mut self, rows: &RepeatedRows)
+        ensures taken { (form : FormValue) (start : W) (messages : List MessageValue)
+            → HasTaken W.held W.failures form start messages self.old
+            → HasTaken W.held W.failures form start (messages ++ row_messages rows.now) self.new }
+        ensures same_device { W.same (output_of self.old) (output_of self.new) }
+    {
+        let (held, times) = rows.parts();
+        for _time in 0..times {
+            self.put_rows(held);
         }
     }
 

@@ -19,7 +19,7 @@ use crate::fused_sink::FusedSink;
 use crate::passing::feed_through;
 use crate::summary::Summary;
 use crate::together::go_together;
-use pnm_image::{BytesIn, BytesOut, Form, Packet};
+use pnm_image::{BytesIn, BytesOut, Form, Packet, RepeatedRows};
 use pnm_read::{InputFault, Source, SpareRows};
 use pnm_tools::{Filter, FusedFilter, ToolFault};
 use pnm_write::SinkFault;
@@ -109,7 +109,7 @@ fn feed_all<R: BytesIn, F: Filter + Drop, W: BytesOut + Drop>(
             if let Some(rows) = source.next_rows(&mut spares)? {
                 // Each iteration passes something on.
                 prove!(rows.count() > 0);
-                feed_through(alloc, stages, Packet::Rows(rows), fused_sink);
+                feed_through(alloc, stages, Packet::Rows(RepeatedRows::once(rows)), fused_sink);
                 continue;
             }
         }

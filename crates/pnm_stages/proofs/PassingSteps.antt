@@ -1,21 +1,24 @@
 -- What a tool was passed, and what was sent of its answers: step by step.
-use Rattle.std.proofs.Common.{◌≡◌, ◌<◌, ◌+◌, ℕ, Bool, true, false, List, [], ◌∷◌, ◌++◌, Option, length, take, drop, refl, sym, ap, subst, ◌∙◌, arith}
+use Rattle.std.proofs.Common.{◌≡◌, ◌<◌, ◌≤◌, ◌+◌, ◌-◌, ℕ, Bool, true, false, List, [], ◌∷◌, ◌++◌, Option, None, length, take, drop, refl, sym, ap, subst, ◌∙◌, arith}
 use Rattle.std.proofs.Common.{append_assoc, append-nil}
 use Rattle.std.proofs.lemmas.List.{take_at, length-take, length-append, take-append-drop, map-append}
 use Rattle.pnm_image.specs.declared.message.Message.{Message}
 use Rattle.pnm_image.specs.declared.message.Message.TheVariants.{Row}
 use Rattle.pnm_image.specs.declared.message.Ending.TheVariants.{More}
 use Rattle.pnm_image.specs.Messages.{EndsBy}
+use Rattle.pnm_image.specs.Repeats.{repeated}
 use Rattle.pnm_image.specs.Rows.{row_messages}
+use Rattle.pnm_image.proofs.RepeatLaws.{messages_from, messages_once_more}
 use Rattle.pnm_tools.specs.declared.fault.ToolFault.{ToolFault}
 use Rattle.pnm_tools.specs.declared.tool.Tool.{Tool}
 use Rattle.pnm_tools.specs.declared.fused_filter.FusedFilter.{FusedFilter}
-use Rattle.pnm_tools.specs.FusedFilters.{FilterAt, FilterBusy}
+use Rattle.pnm_tools.specs.declared.fused_filter.FusedFilter.TheVariants.{AtWork, Refused}
+use Rattle.pnm_tools.specs.FusedFilters.{FilterAt, FilterBusy, refusal_in}
 use Rattle.pnm_tools.proofs.InFullLaws.{ends_after}
 use Rattle.pnm_stages.specs.StageParts.{HasAnsweredPart, HasPassed, HasSentAnswers}
 use Rattle.pnm_stages.proofs.PacketLaws.{rows_end_nothing}
 use Rattle.pnm_stages.proofs.RingSteps.{ends_nothing}
-use Rattle.pnm_stages.proofs.StagedSteps.{part_at}
+use Rattle.pnm_stages.proofs.StagedSteps.{drops_more, part_at}
 
 -- a part that was answered, where more was passed
 pub part_of_more : (tool : Tool) (l g more : List Message) → HasAnsweredPart tool l g → HasAnsweredPart tool (l ++ more) g
@@ -148,3 +151,44 @@ drops_rows at all_given stopped old now new index rows s s1 has drops =
     subst (λ (l : List Message). HasPassed at all_given stopped true old new l s s1) (sym (rows_from index rows))
     (drops_rest at all_given stopped old now new (row_messages (take index rows)) (row_messages (drop index rows)) s s1
     (rows_end_nothing (take index rows)) has drops)
+
+-- ---- time by time
+
+-- the rows were passed once more
+pub passes_time : {F : Type 0} (at : F → Tool → List Message → List Message → Type 0) (all_given : F → Bool) (stopped : F → Option ToolFault) (all : Bool)
+    (old now new : FusedFilter F) (n : ℕ) (rows copy : List (List ℕ)) (s s1 s2 : List Message) → copy ≡ rows
+    → HasPassed at all_given stopped true old now (row_messages (repeated n rows)) s s1
+    → HasPassed at all_given stopped all now new (row_messages copy) s1 s2
+    → HasPassed at all_given stopped all old new (row_messages (repeated (n + 1) rows)) s s2
+passes_time at all_given stopped all old now new n rows copy s s1 s2 same before after =
+    subst (λ (l : List Message). HasPassed at all_given stopped all old new l s s2) (sym (messages_once_more n rows))
+    (passes_more at all_given stopped all old now new (row_messages (repeated n rows)) (row_messages rows) s s1 s2 (rows_end_nothing (repeated n rows)) before
+    (subst (λ (l : List (List ℕ)). HasPassed at all_given stopped all now new (row_messages l) s1 s2) same after))
+
+-- they were lost the other times, since the other end is gone
+pub loses_times : {F : Type 0} (at : F → Tool → List Message → List Message → Type 0) (all_given : F → Bool) (stopped : F
+    → Option ToolFault) (old new : FusedFilter F) (n times : ℕ) (rows all : List (List ℕ)) (s s1 : List Message) → n ≤ times → all ≡ repeated times rows
+    → HasPassed at all_given stopped false old new (row_messages (repeated n rows)) s s1
+    → HasPassed at all_given stopped false old new (row_messages all) s s1
+loses_times at all_given stopped old new n times rows all s s1 within is has =
+    subst (λ (l : List Message). HasPassed at all_given stopped false old new l s s1) (sym (ap row_messages is ∙ messages_from n times rows within))
+    (loses_rest at all_given stopped old new (row_messages (repeated n rows)) (row_messages (repeated (times - n) rows)) s s1 has)
+
+-- they were dropped the other times, since the tool refused
+pub drops_times : {F : Type 0} (at : F → Tool → List Message → List Message → Type 0) (all_given : F → Bool) (stopped : F
+    → Option ToolFault) (old now new : FusedFilter F) (n times : ℕ) (rows all : List (List ℕ)) (s s1 : List Message) → n ≤ times → all ≡ repeated times rows
+    → HasPassed at all_given stopped true old now (row_messages (repeated n rows)) s s1
+    → ((tool : Tool) (l g more : List Message) → FilterAt at all_given stopped now tool l g → EndsBy More l
+    → FilterAt at all_given stopped new tool (l ++ more) g)
+    → HasPassed at all_given stopped true old new (row_messages all) s s1
+drops_times at all_given stopped old now new n times rows all s s1 within is has drops =
+    subst (λ (l : List Message). HasPassed at all_given stopped true old new l s s1) (sym (ap row_messages is ∙ messages_from n times rows within))
+    (drops_rest at all_given stopped old now new (row_messages (repeated n rows)) (row_messages (repeated (times - n) rows)) s s1
+    (rows_end_nothing (repeated n rows)) has drops)
+
+-- a tool that has refused drops what comes
+pub refused_drops : {F : Type 0} (at : F → Tool → List Message → List Message → Type 0) (all_given : F → Bool) (stopped : F
+    → Option ToolFault) (stage : FusedFilter F) → (refusal_in stage ≡ None → ⊥) → (tool : Tool) (l g more : List Message)
+    → FilterAt at all_given stopped stage tool l g → EndsBy More l → FilterAt at all_given stopped stage tool (l ++ more) g
+refused_drops at all_given stopped (AtWork filter) has tool l g more h ends = absurd (has refl)
+refused_drops at all_given stopped (Refused fault) has tool l g more h ends = drops_more tool fault l g more h

@@ -226,7 +226,7 @@ next_stays tool fault accepted [] more refused = absurd refused
 next_stays tool fault accepted (m ∷ rest) more refused = refused
 
 -- more was dropped
-drops_more : (tool : Tool) (fault : ToolFault) (l g more : List Message) → HasRefused tool fault l g → HasRefused tool fault (l ++ more) g
+pub drops_more : (tool : Tool) (fault : ToolFault) (l g more : List Message) → HasRefused tool fault l g → HasRefused tool fault (l ++ more) g
 drops_more tool fault l g more has = record {
   accepted = has.accepted;
   rest = has.rest ++ more;

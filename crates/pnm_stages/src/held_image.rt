@@ -6,7 +6,7 @@ ghost use Rattle.pnm_stages.specs.HeldImages.{HasSentOrHeld};
 ghost use Rattle.pnm_stages.specs.Rings.{sent, SameSender};
 
 use crate::sender::Sender;
-use pnm_image::{Head, Packet, Rows};
+use pnm_image::{Head, Packet, RepeatedRows, Rows};
 use std::mem::replace;
 use std::sync::Wait;
 
@@ -42,13 +42,19 @@ impl HeldImage {
                 other => return output.send_packet(rt, other),
             },
             HeldImage::Head(head) => match answer {
-                Packet::Rows(rows) => *self = HeldImage::Rows(head, rows),
+                Packet::Rows(rows) => match rows.into_once() {
+                    Ok(rows) => *self = HeldImage::Rows(head, rows),
+                    Err(rows) => {
+                        return send_both(rt, Packet::Begin(head), Packet::Rows(rows), output);
+                    }
+                },
                 other => return send_both(rt, Packet::Begin(head), other, output),
             },
             HeldImage::Rows(head, rows) => match answer {
                 Packet::ImageEnd => return output.send_packet(rt, Packet::Image(head, rows)),
                 other => {
-                    if !send_both(rt, Packet::Begin(head), Packet::Rows(rows), output) {
+                    let rows = Packet::Rows(RepeatedRows::once(rows));
+                    if !send_both(rt, Packet::Begin(head), rows, output) {
                         return false;
                     }
                     return output.send_packet(rt, other);
@@ -71,7 +77,7 @@ impl HeldImage {
             HeldImage::Rows(head, rows) => send_both(
                 rt,
                 Packet::Begin(head),
-                Packet::Rows(rows),
+                Packet::Rows(RepeatedRows::once(rows)),
                 output,
             ),
         }

@@ -253,7 +253,7 @@ fn recognise(packet: &Packet) -> bool
             let _ = head.shape();
             false
         }
-        Packet::Rows(rows) => rows.count() > 1,
+        Packet::Rows(rows) => rows.are_several(),
         Packet::Image(head, rows) => {
             let _ = head.shape();
             let _ = rows.count();

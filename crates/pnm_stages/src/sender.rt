@@ -217,8 +217,9 @@ impl Sender {
 fn bytes_of(packet: &Packet) -> Option<usize> {
     match packet {
         Packet::Rows(rows) => {
-            let bytes = rows_bytes(rows);
-            let are_few = rows.count() > 1 && bytes <= FEW_TOGETHER;
+            let (held, times) = rows.parts();
+            let bytes = rows_bytes(held);
+            let are_few = times == 1 && held.count() > 1 && bytes <= FEW_TOGETHER;
             Some(if are_few { 0 } else { bytes })
         }
         Packet::Image(_, rows) => {

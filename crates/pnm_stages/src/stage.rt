@@ -14,7 +14,7 @@ ghost use Rattle.pnm_stages.specs.HeldImages.{held_messages, HasHeldAnswers, Has
 use crate::held_image::HeldImage;
 use crate::receiver::Receiver;
 use crate::sender::Sender;
-use pnm_image::{Ending, Head, Message, Packet, Rows, Several};
+use pnm_image::{Ending, Head, Message, Packet, RepeatedRows, Rows, Several};
 use pnm_tools::{Filter, FusedFilter, ToolFault};
 use std::alloc::Global;
 use std::sync::Wait;
@@ -173,7 +173,7 @@ fn pass<R: Wait, F: Filter + Drop>(
             stage.feed(message);
             send_answers(rt, stage, output)
         }
-        Err(Several::Rows(rows)) => pass_rows(rt, alloc, stage, rows, output),
+        Err(Several::Rows(rows)) => pass_repeated(rt, alloc, stage, rows, output),
         Err(Several::Image(head, rows)) => pass_image(rt, alloc, stage, head, rows, output),
     }
 }
@@ -310,6 +310,57 @@ fn pass_rows<R: Wait, F: Filter + Drop>(
         Ok(()) => send_answers(rt, stage, output),
         Err(rows) => pass_each(rt, alloc, stage, &rows, output),
     }
+}
+
+/// Passes rows through the tool, as often as they come, and sends what the tool makes of them. Returns false if the
+/// output's other end was seen dropped before all was sent.
+#[inline(always)]
+fn pass_repeated<R: Wait, F: Filter + Drop>(
+    rt: &R,
+    alloc: Global,
+    stage: &mut FusedFilter<F>,
+    rows: RepeatedRows,
+    output: &mut Sender,
+) -> bool
+    ensures output { SameSender output.old output.new }
+    ensures passed { HasPassed F.at F.all_given F.stopped result stage.old stage.new (row_messages rows)
+        (sent output.old) (sent output.new) }
+{
+    match rows.into_once() {
+        Ok(rows) => pass_rows(rt, alloc, stage, rows, output),
+        Err(rows) => pass_copies(rt, alloc, stage, &rows, output),
+    }
+}
+
+/// Passes a copy of the rows through the tool each time that they come. The copies behind a refused one aren't made. If
+/// there is no memory for a copy, the tool refuses by `Memory`. Returns false if the output's other end was seen
+/// dropped before all was sent.
+#[inline(never)]
+fn pass_copies<R: Wait, F: Filter + Drop>(
+    rt: &R,
+    alloc: Global,
+    stage: &mut FusedFilter<F>,
+    rows: &RepeatedRows,
+    output: &mut Sender,
+) -> bool
+    ensures output { SameSender output.old output.new }
+    ensures passed { HasPassed F.at F.all_given F.stopped result stage.old stage.new (row_messages rows.now)
+        (sent output.old) (sent output.new) }
+{
+    let (held, times) = rows.parts();
+    for _time in 0..times {
+        if stage.fault().is_some() {
+            return true;
+        }
+        let Ok(copy) = held.copy(alloc) else {
+            stage.refuse_for_memory();
+            return true;
+        };
+        if !pass_rows(rt, alloc, stage, copy, output) {
+            return false;
+        }
+    }
+    true
 }
 
 /// Passes a copy of each row through the tool by itself. The copies behind the one that is refused are dropped. If

@@ -3,10 +3,12 @@
 ghost use Rattle.std.specs.Prelude.{◌≡◌, ◌*◌, All, IfOk, length};
 ghost use Rattle.pnm_image.specs.HeldRows.{AreRowsWithin};
 
-use super::messages::{Unmade, held_by, messages_of};
+use super::messages::{Unmade, held_by, messages_of, number_of};
 use super::telling::{write_head, write_message, write_row};
-use super::writing::cut_at;
-use pnm_image::{BitRows, Bits, Message, Packet, RowVec, Rows, SampleVec, Samples, Several};
+use super::writing::{cut_at, cut_number};
+use pnm_image::{
+    BitRows, Bits, Message, Packet, RepeatedRows, RowVec, Rows, SampleVec, Samples, Several,
+};
 use std::alloc::{AllocError, Global};
 
 /// What is handed over at once.
@@ -41,7 +43,7 @@ pub fn handed_of(alloc: Global, text: &[u8], is_narrow: bool) -> Result<Vec<Hand
 }
 
 /// The packets of messages that are written one after another. Rows between braces are one packet, and so is a whole
-/// image between braces. Rows are held as `handed_of` says.
+/// image between braces; rows behind a number come so many times. Rows are held as `handed_of` says.
 pub fn packets_of(alloc: Global, text: &[u8], is_narrow: bool) -> Result<Vec<Packet>, Unmade> {
     let mut packets = Vec::new(alloc);
     let mut rest = text;
@@ -62,15 +64,20 @@ pub fn packets_of(alloc: Global, text: &[u8], is_narrow: bool) -> Result<Vec<Pac
     Ok(packets)
 }
 
-/// The packet of what is written between braces: a whole image, or rows.
+/// The packet of what is written between braces: a whole image, or rows, which a number says how many times they come.
 fn packet_of(alloc: Global, text: &[u8], is_narrow: bool) -> Result<Packet, Unmade> {
+    let is_counted = text.first().is_some_and(|byte| byte.is_ascii_digit());
+    let (times, text) = if is_counted { cut_number(text) } else { (1, text) };
     let messages = messages_of(alloc, text, is_narrow)?;
     match messages.as_slice() {
         [Message::Begin(head), rows @ .., Message::ImageEnd] => {
             let rows = rows_among(alloc, rows, is_narrow)?;
             Ok(Packet::Image(head.copy()?, rows))
         }
-        rows => Ok(Packet::Rows(rows_among(alloc, rows, is_narrow)?)),
+        rows => {
+            let rows = rows_among(alloc, rows, is_narrow)?;
+            Ok(Packet::Rows(RepeatedRows::new(rows, number_of(times).max(1))))
+        }
     }
 }
 
@@ -177,11 +184,26 @@ pub fn write_each_row(alloc: Global, out: &mut String, rows: &Rows) -> Result<()
     Ok(())
 }
 
+/// Adds the rows, between braces, behind the number of times that they come if that isn't once.
+fn write_repeated(
+    alloc: Global,
+    out: &mut String,
+    rows: &RepeatedRows,
+) -> Result<(), AllocError> {
+    let (rows, times) = rows.parts();
+    if times == 1 {
+        return write_rows(alloc, out, rows);
+    }
+    write!(out, " {{{times}")?;
+    write_each_row(alloc, out, rows)?;
+    out.push_str(" }")
+}
+
 /// Adds what is handed over at once, rows that are handed over together, or a whole image, between braces.
 pub fn write_packet(alloc: Global, out: &mut String, packet: Packet) -> Result<(), AllocError> {
     match packet.into_message() {
         Ok(message) => write_message(out, &message),
-        Err(Several::Rows(rows)) => write_rows(alloc, out, &rows),
+        Err(Several::Rows(rows)) => write_repeated(alloc, out, &rows),
         Err(Several::Image(head, rows)) => {
             out.push_str(" {")?;
             write_head(out, &head)?;

@@ -12,7 +12,7 @@ ghost use Rattle.pnm_tools.specs.declared.tool.Tool.{Tool as ToolValue};
 ghost use Rattle.pnm_tools.specs.Tools.{IsLawfulTool, TakesHead, result_head, end_answer};
 
 use crate::fault::ToolFault;
-use pnm_image::{Head, Rows, Shape};
+use pnm_image::{Head, RepeatedRows, Rows, Shape};
 use std::alloc::Global;
 
 /// A tool at work on one image after another.
@@ -60,7 +60,7 @@ pub trait ImageTool {
             → due self.new ≡ end_answer (tool self.old) shape rows };
 
     /// Returns the next rows of the result, or `None` if none are due. The only fault is `Memory`.
-    fn give(&mut self, alloc: Global) -> Result<Option<Rows>, ToolFault>
+    fn give(&mut self, alloc: Global) -> Result<Option<RepeatedRows>, ToolFault>
         ensures same { tool self.new ≡ tool self.old }
         ensures ready { (shape : ShapeValue) (rows : List (List ℕ))
             → ready self.old shape rows → OnOk result (ready self.new shape rows) }

@@ -6,7 +6,7 @@
 
 use super::tasks::{Task, write_at_work};
 use pnm_filters::{RowState, RowWise};
-use pnm_image::{Message, Packet, Rows};
+use pnm_image::{Message, Packet, RepeatedRows, Rows};
 use pnm_test_support::{
     Unmade, cut_at, cut_messages, rows_of, width_of, write_each_row, write_message, write_packet,
 };
@@ -229,11 +229,28 @@ fn write_taken(
     out: &mut String,
 ) -> Result<(), AllocError> {
     match (step, packet) {
-        (Step::Passes, Packet::Rows(rows)) => write_each_row(alloc, out, &rows),
-        (Step::Widths, Packet::Rows(rows)) => write_widths(&rows, out),
+        (Step::Passes, Packet::Rows(rows)) => write_repeated(alloc, step, &rows, out),
+        (Step::Widths, Packet::Rows(rows)) => write_repeated(alloc, step, &rows, out),
         (Step::Passes, other) => write_packet(alloc, out, other),
         _ => Ok(()),
     }
+}
+
+/// Adds what a step tells of rows, each time that they come.
+fn write_repeated(
+    alloc: Global,
+    step: Step,
+    rows: &RepeatedRows,
+    out: &mut String,
+) -> Result<(), AllocError> {
+    let (rows, times) = rows.parts();
+    for _ in 0..times {
+        match step {
+            Step::Widths => write_widths(rows, out)?,
+            _ => write_each_row(alloc, out, rows)?,
+        }
+    }
+    Ok(())
 }
 
 /// Adds how wide each of the rows is held.

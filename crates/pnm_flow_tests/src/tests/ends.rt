@@ -3,7 +3,7 @@
 use super::is_so;
 use super::rings::{holds, is_one_of, send_all};
 use pnm_flow::new_ring;
-use pnm_image::{Kind, Message, Packet, SampleVec, Samples};
+use pnm_image::{Kind, Message, Packet, RepeatedRows, SampleVec, Samples};
 use pnm_stages::{Receiver, Sender};
 use pnm_test_support::{Part, cut_into, message};
 use std::alloc::Global;
@@ -104,7 +104,7 @@ fn send_bytes(
     let Ok(rows) = cut_into(alloc, samples, bytes as usize, 1) else {
         return false;
     };
-    sender.send_packet_reserved(Packet::Rows(rows));
+    sender.send_packet_reserved(Packet::Rows(RepeatedRows::once(rows)));
     true
 }
 

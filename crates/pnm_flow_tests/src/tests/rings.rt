@@ -3,7 +3,7 @@
 
 use super::is_so;
 use pnm_flow::{Packet, Receiver, Sender, StageEnd, new_ring};
-use pnm_image::{Kind, Message, Rows, Several};
+use pnm_image::{Kind, Message, RepeatedRows, Rows, Several};
 use pnm_test_support::{Handed, Part, handed_of, is_made_of, message};
 use std::alloc::Global;
 use std::process::Abort;
@@ -103,7 +103,7 @@ fn send_handed(output: &mut Sender, handed: Handed) -> bool {
     }
     match handed {
         Handed::Message(message) => output.send_reserved(message),
-        Handed::Rows(rows) => output.send_packet_reserved(Packet::Rows(rows)),
+        Handed::Rows(rows) => output.send_packet_reserved(Packet::Rows(RepeatedRows::once(rows))),
     }
     true
 }
@@ -187,7 +187,7 @@ pub fn all_come(alloc: Global, input: &mut Receiver, parts: &[Part<'_>]) -> bool
 /// How many messages the packet stands for.
 fn count_in(packet: &Packet) -> usize {
     match packet {
-        Packet::Rows(rows) => rows.count() as usize,
+        Packet::Rows(rows) => rows.parts().0.count() as usize,
         Packet::Image(_, rows) => rows.count() as usize + 2,
         _ => 1,
     }
@@ -197,7 +197,10 @@ fn count_in(packet: &Packet) -> usize {
 fn is_made_from(alloc: Global, packet: Packet, parts: &[Part<'_>], from: usize) -> bool {
     match packet.into_message() {
         Ok(message) => is_made_at(&message, parts, from),
-        Err(Several::Rows(rows)) => are_made_from(alloc, &rows, parts, from),
+        Err(Several::Rows(rows)) => match rows.into_once() {
+            Ok(rows) => are_made_from(alloc, &rows, parts, from),
+            Err(_) => false,
+        },
         Err(Several::Image(head, rows)) => {
             let first = from.saturating_add(1);
             let end = first.saturating_add(rows.count() as usize);

@@ -219,7 +219,11 @@ fn takes_next<F: Filter>(
                     is_wanted(rt, &message, wants.get(*given));
                     *given = given.wrapping_add(1);
                 }
-                Err(Several::Rows(rows)) => are_wanted(rt, &rows, wants, given),
+                Err(Several::Rows(rows)) => match rows.into_once() {
+                    Ok(rows) => are_wanted(rt, &rows, wants, given),
+                    // No row of these images is so long that it is given once for all times.
+                    Err(_rows) => holds(rt, false, &"rows", &"come once", given),
+                },
                 // A tool gives no whole image at once.
                 Err(Several::Image(head, _rows)) => holds(rt, false, &head, &"rows", given),
             }

@@ -7,7 +7,7 @@ use Rattle.pnm_io_loop.proofs.egress.put.Goals as goal
 pub returns-in-Err-Rows-clause-put : goal.returns-in-Err-Rows-clause-put
 returns-in-Err-Rows-clause-put g c = λ form start l was. let is = rw c.in-Err-Rows.field-0-is at c.in-Err-Rows.ensures.several.0 in
     rw is (collects_rows g.W.BytesOut.held g.W.BytesOut.failures form start l c.in-Err-Rows.rows c.args.has_ended.now
-    c.args.fused_sink.now c.put_rows.new.self c.requires.going c.put_rows.ensures.taken (record { ended = was.ended; taken = was.taken }))
+    c.args.fused_sink.now c.put_repeated.new.self c.requires.going c.put_repeated.ensures.taken (record { ended = was.ended; taken = was.taken }))
 
 pub returns-in-Err-Image-clause-put : goal.returns-in-Err-Image-clause-put
 returns-in-Err-Image-clause-put g c = λ form start l was. let is = rw c.in-Err-Image.field-0-is at c.in-Err-Image.ensures.several.0 in

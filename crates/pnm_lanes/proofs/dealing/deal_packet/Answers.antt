@@ -12,8 +12,8 @@ returns-in-Ok g c =
 
 pub returns-in-Err-Rows : goal.returns-in-Err-Rows
 returns-in-Err-Rows g c = let is = rw c.in-Err-Rows.field-0-is at c.in-Err-Rows.ensures.several.0 in
-    subst (λ (p : Packet). HasDealtMessages c.args.place.now c.deal_rows.new.place (messages_in p) c.deal_rows.result c.args.outputs.now
-    c.deal_rows.new.outputs) (sym is) c.deal_rows.ensures
+    subst (λ (p : Packet). HasDealtMessages c.args.place.now c.deal_repeated.new.place (messages_in p) c.deal_repeated.result c.args.outputs.now
+    c.deal_repeated.new.outputs) (sym is) c.deal_repeated.ensures
 
 pub returns-in-Err-Image : goal.returns-in-Err-Image
 returns-in-Err-Image g c = let is = rw c.in-Err-Image.field-0-is at c.in-Err-Image.ensures.several.0 in

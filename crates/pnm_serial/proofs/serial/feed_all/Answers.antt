@@ -1,4 +1,5 @@
-use Rattle.std.proofs.Common.{◌≡◌, ◌≤◌, List, length, refl, ap, sym, subst, ◌∙◌, arith, Ok, Err}
+use Rattle.std.proofs.Common.{◌≡◌, ◌≤◌, ℕ, List, length, refl, ap, sym, subst, ◌∙◌, arith, Ok, Err}
+use Rattle.pnm_image.specs.Rows.{row_messages}
 use Rattle.pnm_image.specs.declared.message.Message.{Message}
 use Rattle.std.proofs.lemmas.Result.{err_from_is_err_and}
 use Rattle.pnm_read.specs.declared.fault.InputFault.TheVariants.{ReadFailed}
@@ -22,14 +23,17 @@ loop-init g c = (
 pub loop-preserved-in-Some : goal.loop-preserved-in-Some
 loop-preserved-in-Some g c =
     let told = rw c.in-Some.is at c.in_ok-rows.ensures.told in
-    let some : 1 ≤ length c.in-Some.rows = omega (arith, c.count.ensures.rows, c.count.ensures.some) in (
+    let some : 1 ≤ length c.in-Some.rows = omega (arith, c.count.ensures.rows, c.count.ensures.some) in
+    let fed = subst (λ (rows : List (List ℕ)). FeedsThrough g.F.Filter.at g.F.Filter.all_given g.F.Filter.stopped g.W.BytesOut.held
+    g.W.BytesOut.failures c.loop.stages (row_messages rows) c.feed_through.new.stages c.flush_before_read.new.fused_sink c.feed_through.new.fused_sink)
+    c.once.ensures c.feed_through.ensures.fed in (
       going_rows g.R.BytesIn.left g.R.BytesIn.failures g.F.Filter.at g.F.Filter.all_given g.F.Filter.stopped g.W.BytesOut.held g.W.BytesOut.failures
           c.args.source.now c.loop.source c.next_rows.new.self c.args.stages.now c.loop.stages c.feed_through.new.stages c.args.fused_sink.now
           c.flush_before_read.new.fused_sink c.feed_through.new.fused_sink c.loop.counter c.in-Some.rows
           (going_flushed g.R.BytesIn.left g.R.BytesIn.failures g.F.Filter.at g.F.Filter.all_given g.F.Filter.stopped g.W.BytesOut.held g.W.BytesOut.failures
           c.args.source.now c.loop.source c.loop.source c.args.stages.now c.loop.stages c.args.fused_sink.now c.loop.fused_sink
           c.flush_before_read.new.fused_sink c.loop.counter refl c.loop.invariant.0 c.flush_before_read.ensures.taken)
-          some told c.next_rows.ensures.reader c.next_rows.ensures.end c.next_rows.ensures.comes c.feed_through.ensures.fed,
+          some told c.next_rows.ensures.reader c.next_rows.ensures.end c.next_rows.ensures.comes fed,
       subst (λ r. g.R.BytesIn.same (reader_of c.args.source.now) r) (sym c.next_rows.ensures.reader) c.loop.invariant.1,
       g.met.W.BytesOut.same_later _ _ _ (g.met.W.BytesOut.same_later _ _ _ c.loop.invariant.2 c.flush_before_read.ensures.same_device)
           c.feed_through.ensures.same_device,

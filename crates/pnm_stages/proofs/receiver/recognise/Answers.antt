@@ -7,7 +7,7 @@ use Rattle.pnm_stages.proofs.receiver.recognise.Goals as goal
 pub returns-in-Rows-clause-some : goal.returns-in-Rows-clause-some
 returns-in-Rows-clause-some c =
     let count : length (map Row c.in-Rows.rows) ≡ length c.in-Rows.rows = length-map c.in-Rows.rows Row in
-    let some : 0 < length (map Row c.in-Rows.rows) = omega (arith, count, c.count.ensures.rows, c.count.ensures.some) in
+    let some : 0 < length (map Row c.in-Rows.rows) = omega (arith, count, c.are_several.ensures.some) in
     rw (c.in-Rows.is) some
 
 pub returns-in-Rows-clause-messages : goal.returns-in-Rows-clause-messages

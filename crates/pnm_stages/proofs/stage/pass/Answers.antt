@@ -18,10 +18,10 @@ returns-in-Ok g c = record {
 
 pub returns-in-Err-Rows : goal.returns-in-Err-Rows
 returns-in-Err-Rows g c = let is = rw c.in-Err-Rows.field-0-is at c.in-Err-Rows.ensures.several.0 in record {
-  output = c.pass_rows.ensures.output;
-  passed = subst (λ (p : Packet). HasPassed g.F.Filter.at g.F.Filter.all_given g.F.Filter.stopped c.pass_rows.result c.args.stage.now
-      c.pass_rows.new.stage (messages_in p) (sent c.args.output.now) (sent c.pass_rows.new.output)) (sym is)
-      c.pass_rows.ensures.passed;
+  output = c.pass_repeated.ensures.output;
+  passed = subst (λ (p : Packet). HasPassed g.F.Filter.at g.F.Filter.all_given g.F.Filter.stopped c.pass_repeated.result c.args.stage.now
+      c.pass_repeated.new.stage (messages_in p) (sent c.args.output.now) (sent c.pass_repeated.new.output)) (sym is)
+      c.pass_repeated.ensures.passed;
 }
 
 pub returns-in-Err-Image : goal.returns-in-Err-Image

@@ -4,12 +4,11 @@ use Rattle.pnm_geometry_tools.proofs.enlarge.EnlargerImageTool.give.Goals as goa
 
 pub returns-then-count-gt0-clause-due : goal.returns-then-count-gt0-clause-due
 returns-then-count-gt0-clause-due c =
-    together_given c.args.self.now.copies c.replace.new.dest c.args.self.now.waiting c.in_ok-enlarged.rest c.in-Some-replace.waiting
-    c.count_together-count.result c.down-down.result c.in_ok-enlarged.enlarged (search rules) (search rules) (search rules) c.down-down.ensures.down
-    (c.in_ok-enlarged.ensures.made) c.in_ok-enlarged.ensures.rest
+    together_given c.args.self.now.waiting c.in_ok-enlarged.rest c.in-Some.waiting c.count_together-count.result c.down-down.result
+    c.in_ok-enlarged.enlarged c.once.result (search rules) c.down-down.ensures.down c.in_ok-enlarged.ensures.made c.in_ok-enlarged.ensures.rest
+    c.once.ensures
 
 pub returns-clause-due : goal.returns-clause-due
 returns-clause-due c =
-    alone_given c.args.self.now.copies c.in_ok-next-2.left c.args.self.now.waiting c.in_ok-row.rest c.in-Some-replace.waiting c.down-down.result
-    c.in_ok-row.row c.new.result c.in_ok-next-2.next (search rules) (search rules) (search rules) c.down-down.ensures.down c.in_ok-row.ensures.made
-    c.in_ok-row.ensures.rest c.new.ensures c.in_ok-next-2.ensures.next
+    alone_given c.args.self.now.waiting c.in_ok-row.rest c.in-Some.waiting c.down-down.result c.in_ok-row.row c.new.result (search rules)
+    (search rules) c.down-down.ensures.down c.in_ok-row.ensures.made c.in_ok-row.ensures.rest c.new.ensures

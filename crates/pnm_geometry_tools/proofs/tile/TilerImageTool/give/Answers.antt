@@ -3,8 +3,8 @@ use Rattle.pnm_geometry_tools.specs.Keeping.{tiled, tiled_due}
 use Rattle.pnm_geometry_tools.proofs.TileRowsLaws.{due_in_parts, rows_within, tiles_same}
 use Rattle.pnm_geometry_tools.proofs.tile.TilerImageTool.give.Goals as goal
 
-pub new-requires-clause-within : goal.new-requires-clause-within
-new-requires-clause-within c =
+pub new-rows-requires-clause-within : goal.new-rows-requires-clause-within
+new-rows-requires-clause-within c =
     let x = c.self.inside in
     let known = c.self.invariant (omega (arith, c.if-self-eq0.false)) in
     let tiles = tiles_same x.width x.height 0 x.shape.width x.shape.depth x.left 0 x.rows known.1 in
@@ -19,4 +19,4 @@ returns-clause-due c =
     let w = tiled x.width x.height x.shape.width x.shape.depth x.rows x.left in
     ap tiled_due (sym c.self.view_is)
     ∙ due_in_parts w count (x.height - x.left) (x.left - count) _ c.count_together-count.ensures.most known.0 refl refl c.in_ok-samples.ensures.made
-    ∙ ap (λ (l : List (List ℕ)). l ++ tiled_due (tiled x.width x.height x.shape.width x.shape.depth x.rows (x.left - count))) (sym c.new.ensures)
+    ∙ ap (λ (l : List (List ℕ)). l ++ tiled_due (tiled x.width x.height x.shape.width x.shape.depth x.rows (x.left - count))) (sym (c.once.ensures ∙ c.new-rows.ensures))

@@ -14,10 +14,10 @@ loop-self-preserved-in-Rows g c =
     let added = c.receive_known.ensures.received ∙ ap (λ (p : Packet). received c.loop-self.self.input ++ messages_in p) rows in (
       λ form start before was. collects_some g.W.BytesOut.held g.W.BytesOut.failures form start before (row_messages c.in-Rows.rows) c.loop-self.self _ added
           (λ l put. collects_rows g.W.BytesOut.held g.W.BytesOut.failures form start l c.in-Rows.rows c.loop-self.self.has_ended c.loop-self.self.fused_sink
-          c.put_rows.new.self c.loop-self-test.true c.put_rows.ensures.taken (record { ended = put.ended; taken = put.taken }))
+          c.put_repeated.new.self c.loop-self-test.true c.put_repeated.ensures.taken (record { ended = put.ended; taken = put.taken }))
           (c.loop-self.invariant.0 form start before was),
       same_input c.args.self.now.input c.loop-self.self.input c.receive_known.new.self c.loop-self.invariant.1 c.receive_known.ensures.ring,
-      g.met.W.BytesOut.same_later _ _ _ c.loop-self.invariant.2 c.put_rows.ensures.same_device,
+      g.met.W.BytesOut.same_later _ _ _ c.loop-self.invariant.2 c.put_repeated.ensures.same_device,
     )
 
 pub loop-self-preserved : goal.loop-self-preserved

@@ -1,3 +1,4 @@
+use Rattle.std.proofs.Common.{◌∙◌}
 use Rattle.std.proofs.lemmas.List.Elements.{recursion_from_All}
 use Rattle.pnm_image.specs.Places.{IsRowOf}
 use Rattle.pnm_row_tools.proofs.FlipRowsLaws.{block_given, rows_parted}
@@ -27,5 +28,5 @@ invariant_of-self-2 c =
 pub returns-clause-due : goal.returns-clause-due
 returns-clause-due c =
     let x = c.self.inside in
-    block_given c.args.self.now x.way x.ended c.transform.result c.in-Some.shape x.blocks.items c.pop.new.self.items c.in-Some-pop.kept c.in_ok-turned.turned
-    c.self.view_is c.in-Some.is c.transform.ensures c.in-Some-pop.ensures.items c.in_ok-turned.ensures
+    block_given c.args.self.now x.way x.ended c.transform.result c.in-Some.shape x.blocks.items c.pop.new.self.items c.in-Some-pop.kept c.once.result
+    c.self.view_is c.in-Some.is c.transform.ensures c.in-Some-pop.ensures.items (c.once.ensures ∙ c.in_ok-turned.ensures)

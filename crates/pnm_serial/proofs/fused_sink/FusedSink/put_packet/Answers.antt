@@ -12,8 +12,8 @@ returns-in-Ok-clause-taken g c = λ form start messages was.
 
 pub returns-in-Err-Rows-clause-taken : goal.returns-in-Err-Rows-clause-taken
 returns-in-Err-Rows-clause-taken g c = λ form start messages was. let is = rw c.in-Err-Rows.field-0-is at c.in-Err-Rows.ensures.several.0 in
-    subst (λ (p : Packet). HasTaken g.W.BytesOut.held g.W.BytesOut.failures form start (messages ++ messages_in p) c.put_rows.new.self)
-    (sym is) (c.put_rows.ensures.taken form start messages was)
+    subst (λ (p : Packet). HasTaken g.W.BytesOut.held g.W.BytesOut.failures form start (messages ++ messages_in p) c.put_repeated.new.self)
+    (sym is) (c.put_repeated.ensures.taken form start messages was)
 
 pub returns-in-Err-Image-clause-taken : goal.returns-in-Err-Image-clause-taken
 returns-in-Err-Image-clause-taken g c = λ form start messages was. let is = rw c.in-Err-Image.field-0-is at c.in-Err-Image.ensures.several.0 in

@@ -1,4 +1,4 @@
-use Rattle.std.proofs.Common.{[], ◌∷◌, ◌++◌, List, true, false, sym, subst, ◌∙◌, ap}
+use Rattle.std.proofs.Common.{[], ◌∷◌, ◌++◌, List, ℕ, true, false, sym, subst, ◌∙◌, ap}
 use Rattle.pnm_image.specs.Packets.{messages_in}
 use Rattle.pnm_image.specs.Rows.{row_messages}
 use Rattle.pnm_image.specs.declared.message.Message.{Message}
@@ -38,7 +38,9 @@ returns-then-not-send_both g c = record {
       (held_before false (Begin c.in-Rows.head ∷ row_messages c.in-Rows.rows) (messages_in c.args.answer) [] (sent c.args.output.now)
       (sent c.send_both-in_default-answer-2.new.output)
       (lost_then [] [] [] (Begin c.in-Rows.head ∷ row_messages c.in-Rows.rows) (messages_in c.args.answer) (sent c.args.output.now)
-      (sent c.send_both-in_default-answer-2.new.output) c.if-not-send_both.ensures.sent));
+      (sent c.send_both-in_default-answer-2.new.output)
+      (subst (λ (rows : List (List ℕ)). HasSentOrHeld false [] (Begin c.in-Rows.head ∷ row_messages rows) [] (sent c.args.output.now)
+      (sent c.send_both-in_default-answer-2.new.output)) c.once.ensures c.if-not-send_both.ensures.sent)));
 }
 
 pub returns-in_default-answer-2 : goal.returns-in_default-answer-2
@@ -54,7 +56,9 @@ returns-in_default-answer-2 g c =
           (held_before c.send_packet-in_default-answer-2.result rows (messages_in c.args.answer) [] (sent c.args.output.now)
           (sent c.send_packet-in_default-answer-2.new.self)
           (sent_then c.send_packet-in_default-answer-2.result [] [] [] rows (messages_in c.args.answer) (sent c.args.output.now) now
-          (sent c.send_packet-in_default-answer-2.new.self) c.if-not-send_both.ensures.sent
+          (sent c.send_packet-in_default-answer-2.new.self)
+          (subst (λ (made : List (List ℕ)). HasSentOrHeld true [] (Begin c.in-Rows.head ∷ row_messages made) [] (sent c.args.output.now) now)
+          c.once.ensures c.if-not-send_both.ensures.sent)
           (sends_out c.send_packet-in_default-answer-2.result [] (messages_in c.args.answer) now (sent c.send_packet-in_default-answer-2.new.self)
           c.send_packet-in_default-answer-2.ensures.given c.send_packet-in_default-answer-2.ensures.gone)));
     }

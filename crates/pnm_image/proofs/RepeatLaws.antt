@@ -1,0 +1,56 @@
+-- Lists that are repeated.
+use Rattle.std.proofs.Common.{◌≡◌, ◌∙◌, ℕ, zero, suc, ◌+◌, ◌-◌, ◌≤◌, List, [], ◌∷◌, ◌++◌, get_or, length, refl, ap, sym, arith}
+use Rattle.std.proofs.lemmas.List.{append-nil, append_assoc, length-append, map-append}
+use Rattle.pnm_image.specs.declared.message.Message.TheVariants.{Row}
+use Rattle.pnm_image.specs.Repeats.{repeated}
+use Rattle.pnm_image.specs.Rows.{row_messages}
+
+-- a list once
+pub repeated_once : {A : Type 0} → (l : List A) → repeated 1 l ≡ l
+repeated_once l = append-nil l
+
+-- and once more
+pub repeated_more : {A : Type 0} → (n : ℕ) (l : List A) → repeated n l ++ l ≡ repeated (suc n) l
+repeated_more zero l = sym (append-nil l)
+repeated_more (suc n) l = append_assoc l (repeated n l) l ∙ ap (λ m. l ++ m) (repeated_more n l)
+
+-- it has several elements, where it comes several times
+pub repeated_several : {A : Type 0} → (n : ℕ) (l : List A) → 2 ≤ n → 1 ≤ length l → 2 ≤ length (repeated n l)
+repeated_several zero l several some = absurd (omega (arith, several))
+repeated_several (suc zero) l several some = absurd (omega (arith, several))
+repeated_several (suc (suc n)) l several some =
+    omega (arith, length-append l (l ++ repeated n l), length-append l (repeated n l), some)
+
+-- and some
+pub repeated_some : {A : Type 0} → (n : ℕ) (l : List A) → 1 ≤ n → 1 ≤ length l → 1 ≤ length (repeated n l)
+repeated_some zero l times some = absurd (omega (arith, times))
+repeated_some (suc n) l times some = omega (arith, length-append l (repeated n l), some)
+
+-- its first element is the list's
+pub repeated_first : {A : Type 0} → (n : ℕ) (l : List A) (d : A) → 1 ≤ length (repeated n l) → get_or (repeated n l) 0 d ≡ get_or l 0 d
+repeated_first zero l d some = absurd (omega (arith, some))
+repeated_first (suc n) [] d some = repeated_first n [] d some
+repeated_first (suc n) (x ∷ l) d some = refl
+
+-- it comes some times first, and then the others
+pub repeated_parts : {A : Type 0} → (m n : ℕ) (l : List A) → repeated (m + n) l ≡ repeated m l ++ repeated n l
+repeated_parts zero n l = let same : zero + n ≡ n = omega arith in ap (λ (k : ℕ). repeated k l) same
+repeated_parts (suc m) n l =
+    let more : suc m + n ≡ suc (m + n) = omega arith in
+    ap (λ (k : ℕ). repeated k l) more ∙ ap (λ k. l ++ k) (repeated_parts m n l) ∙ sym (append_assoc l (repeated m l) (repeated n l))
+
+-- ---- rows that come several times, as messages
+
+-- and once more
+pub messages_once_more : (n : ℕ) (rows : List (List ℕ)) → row_messages (repeated (n + 1) rows) ≡ row_messages (repeated n rows) ++ row_messages rows
+messages_once_more n rows =
+    let more : n + 1 ≡ suc n = omega arith in
+    ap (λ (k : ℕ). row_messages (repeated k rows)) more ∙ ap row_messages (sym (repeated_more n rows)) ∙ map-append Row (repeated n rows) rows
+
+-- some times, and the others
+pub messages_from : (n times : ℕ) (rows : List (List ℕ)) → n ≤ times
+    → row_messages (repeated times rows) ≡ row_messages (repeated n rows) ++ row_messages (repeated (times - n) rows)
+messages_from n times rows within =
+    let parts : times ≡ n + (times - n) = omega (arith, within) in
+    ap (λ (k : ℕ). row_messages (repeated k rows)) parts ∙ ap row_messages (repeated_parts n (times - n) rows)
+    ∙ map-append Row (repeated n rows) (repeated (times - n) rows)

@@ -1,0 +1,103 @@
+//! Rows that come several times, held once.
+
+ghost use Rattle.std.specs.Prelude.{◌≡◌, ◌≤◌, ◌↔◌, [], ◌∷◌, IsTrue, IfOk, IfErr, length};
+ghost use Rattle.pnm_image.specs.Repeats.{repeated};
+
+use crate::rows::Rows;
+use pnm_samples::Samples;
+use std::marker::Model;
+
+/// Rows of one image, so many times, one after another. They are held once: a sink writes them as often as they come.
+#[derive(Debug, Drop)]
+pub struct RepeatedRows {
+    rows: Rows,
+    times: u32,
+}
+
+impl Model for RepeatedRows {
+    ghost use Rattle.std.specs.Prelude.{◌≤◌, List, ℕ};
+    ghost use Rattle.pnm_image.specs.Repeats.{repeated};
+
+    ghost Value = { List (List ℕ) };
+
+    ghost view = { λ r. repeated r.times r.rows };
+
+    ghost invariant = { λ r. 1 ≤ r.times };
+}
+
+impl RepeatedRows {
+    /// The rows, `times` times, without a copy.
+    pub fn new(rows: Rows, times: u32) -> RepeatedRows
+        requires some { 1 ≤ times }
+        ensures { result ≡ repeated times rows }
+    {
+        RepeatedRows { rows, times }
+    }
+
+    /// The rows, as they are.
+    #[inline(always)]
+    pub fn once(rows: Rows) -> RepeatedRows
+        ensures { result ≡ rows }
+    {
+        RepeatedRows::new(rows, 1)
+    }
+
+    /// The rows as they are held, and how many times they come.
+    #[inline(always)]
+    pub fn parts(&self) -> (&Rows, u32)
+        ensures rows { self.now ≡ repeated result.1 result.0.now }
+        ensures some { 1 ≤ result.1 }
+    {
+        (&self.rows, self.times)
+    }
+
+    /// Whether there are several rows.
+    #[inline(always)]
+    pub fn are_several(&self) -> bool
+        ensures several { IsTrue result ↔ 2 ≤ length self.now }
+        ensures some { 1 ≤ length self.now }
+    {
+        let count = self.rows.count();
+        self.times > 1 || count > 1
+    }
+
+    /// The rows, if they come once.
+    ///
+    /// # Errors
+    ///
+    /// The same, if they come several times.
+    #[inline(always)]
+    pub fn into_once(self) -> Result<Rows, RepeatedRows>
+        ensures once { IfOk result (λ rows. rows ≡ self) }
+        ensures several { IfErr result (λ same. same ≡ self) }
+    {
+        if self.times == 1 {
+            Ok(self.rows)
+        } else {
+            Err(self)
+        }
+    }
+
+    /// The row, if there is only one, and it comes once.
+    ///
+    /// # Errors
+    ///
+    /// The same, if there are several.
+    #[inline(always)]
+    pub fn into_one(self) -> Result<Samples, RepeatedRows>
+        ensures one { IfOk result (λ row. self ≡ row ∷ []) }
+        ensures several { IfErr result (λ same. (same ≡ self) × (2 ≤ length self)) }
+    {
+        if self.are_several() {
+            Err(self)
+        } else {
+            Ok(self.rows.into_first())
+        }
+    }
+
+    /// The rows as they are held, however often they come: for those who want their memory.
+    #[inline(always)]
+    pub fn into_held(self) -> Rows {
+        self.rows
+    }
+}

@@ -1,0 +1,12 @@
+use Rattle.std.proofs.Common.{None, length}
+use Rattle.pnm_image.specs.Repeats.{repeated}
+use Rattle.pnm_image.specs.Rows.{row_messages}
+use Rattle.pnm_lanes.specs.LaneLimits.{IsLaneCount}
+use Rattle.pnm_lanes.specs.DealParts.{HasDealtMessages}
+use Rattle.pnm_lanes.proofs.dealing.deal_repeated.Given as goal
+
+-- the rows were dealt as often as this says
+abbrev pub invariant-loop-time : goal.invariant-loop-time
+invariant-loop-time g l =
+    IsLaneCount (length l.outputs)
+    × HasDealtMessages l.fn.place l.place (row_messages (repeated l._time l.held)) None l.fn.outputs l.outputs
