@@ -29,7 +29,7 @@ use Rattle.pnm_stages.specs.Rings.{IsEnded}
 use Rattle.pnm_flow.specs.Links.{IsWhole, IsDrained}
 use Rattle.pnm_flow.specs.ChainRuns.{IsStageOver, HasRunTool, FirstIsThere, AreStages, HasAnsweredStream, HasRunStages, HasRunChain, HasRunBetween}
 use Rattle.pnm_flow.specs.ChainRuns.{IsReserved, IsToolRun}
-use Rattle.pnm_flow.specs.ThreadedRuns.{HasEndedOver}
+use Rattle.pnm_flow.specs.SentMessages.{HasEndedOver}
 use Rattle.pnm_stages.proofs.EndingLaws.{nothing_follows}
 use Rattle.pnm_stages.proofs.PrefixLaws.{prefix_without_stop}
 use Rattle.pnm_flow.proofs.ToolOverLaws.{stage_ended, ended_well, received_ended, sent_ended, stage_due}

@@ -1,12 +1,13 @@
 -- What the tools of a chain have answered to a whole stream, by how their stages have ended.
-use Rattle.std.proofs.Common.{◌≡◌, ◌≢◌, ℕ, ◌+◌, List, [], ◌∷◌, ◌++◌, map, Option, Some, None, refl, sym, ap, subst, ◌∙◌, append-nil}
+use Rattle.std.proofs.Common.{◌≡◌, ◌≢◌, ℕ, ◌+◌, List, [], ◌∷◌, ◌++◌, map, length, Option, Some, None, refl, sym, ap, subst, ◌∙◌, append-nil, arith}
 use Rattle.pnm_stages.specs.Rings.{sent, received}
 use Rattle.pnm_image.specs.declared.message.Message.{Message}
+use Rattle.pnm_image.specs.declared.message.Message.TheVariants.{Stop}
 use Rattle.pnm_image.specs.Places.{IsLawful}
 use Rattle.pnm_tools.specs.declared.fault.ToolFault.{ToolFault}
 use Rattle.pnm_tools.specs.declared.fault.ToolFault.TheVariants.{Memory}
 use Rattle.pnm_tools.specs.declared.tool.Tool.{Tool}
-use Rattle.pnm_image.specs.declared.message.Ending.TheVariants.{Whole, BrokenOff}
+use Rattle.pnm_image.specs.declared.message.Ending.TheVariants.{More, Whole, BrokenOff}
 use Rattle.pnm_image.specs.Messages.{EndsBy}
 use Rattle.pnm_tools.specs.ChainAnswers.{HaveAnswered, AreWell, IsFirstFault}
 use Rattle.pnm_tools.specs.Chains.{AreLawfulTools}
@@ -19,6 +20,7 @@ use Rattle.pnm_stages.specs.Stages.{HasEndedWell}
 use Rattle.pnm_flow.specs.ThreadedRuns.{first_fault_from}
 use Rattle.pnm_stages.proofs.EndingLaws.{one_ending, stream_ends_whole}
 use Rattle.pnm_serial.proofs.EndSteps.{not_started, none_started}
+use Rattle.pnm_flow.proofs.SentEnds.{IsAlone, alone_is_one}
 use Rattle.pnm_flow.proofs.ToolOverLaws.{stage_ended, ended_well, ended_broken, ended_refused, sent_in_order}
 
 -- ---- a stage that ended well
@@ -89,12 +91,32 @@ all_answered lanes from (t ∷ tools) (Well ∷ ends) (l ∷ links) took gave ar
 
 -- ---- the first fault is a tool's
 
+-- the last of these tools works in one lane
+abbrev pub LastIsAlone : ℕ → List Tool → Type 0
+LastIsAlone lanes tools = (before : List Tool) × (last : Tool) × (tools ≡ before ++ last ∷ []) × IsAlone lanes last
+
 -- what the stages up to the first that refused have answered; what those behind it did isn't told
-pub record AnsweredUntil (tools : List Tool) (took : List Message) (from number : ℕ) (fault : ToolFault) : Type 0 where
+pub record AnsweredUntil (lanes : ℕ) (tools : List Tool) (took gave : List Message) (from number : ℕ) (fault : ToolFault) : Type 0 where
   pub faults : List (Option ToolFault)
   pub last : List Message
   pub answered : HaveAnswered tools faults took last
   pub first : IsFirstFault from faults number fault
+  -- If that is the last, and it works in one lane, all that it has given was sent.
+  pub sent : number + 1 ≡ from + length tools → LastIsAlone lanes tools → (gave ≡ last ++ Stop ∷ []) × EndsBy More last
+
+only_is_alone : (lanes : ℕ) (tool : Tool) → LastIsAlone lanes (tool ∷ []) → IsAlone lanes tool
+only_is_alone lanes tool ([], last, is, alone) = let same : tool ≡ last = cc in subst (IsAlone lanes) (sym same) alone
+only_is_alone lanes tool (t ∷ [], last, is, alone) = absurd cc
+only_is_alone lanes tool (t ∷ u ∷ before, last, is, alone) = absurd cc
+
+later_is_alone : (lanes : ℕ) (tool : Tool) (tools : List Tool) → tools ≢ [] → LastIsAlone lanes (tool ∷ tools) → LastIsAlone lanes tools
+later_is_alone lanes tool tools some ([], last, is, alone) = let none : tools ≡ [] = cc in absurd (some none)
+later_is_alone lanes tool tools some (t ∷ before, last, is, alone) = (before, last, (let rest : tools ≡ before ++ last ∷ [] = cc in rest), alone)
+
+some_stages : (lanes : ℕ) (tools : List Tool) (ends : List StageEnd) (links : List Link) (took gave : List Message)
+    → AreStages lanes tools ends links took gave → tools ≢ []
+some_stages lanes [] ends links took gave are = absurd are
+some_stages lanes (t ∷ tools) ends links took gave are = λ none. absurd cc
 
 -- tools whose answers aren't told
 untold : (tools : List Tool) (received : List Message) (t : Tool) → HaveAnswered (t ∷ tools) (Some Memory ∷ map (λ tool. Some Memory) tools) received []
@@ -102,7 +124,7 @@ untold tools received t = ([], not_started t received, none_started tools)
 
 pub answered_until : (lanes : ℕ) (from : ℕ) (tools : List Tool) (ends : List StageEnd) (links : List Link) (took gave : List Message) (number : ℕ)
     (fault : ToolFault) → AreLawfulTools tools → IsLawful took → AreStages lanes tools ends links took gave → EndsBy Whole took
-    → first_fault_from from ends ≡ Some (OfTool number fault) → AnsweredUntil tools took from number fault
+    → first_fault_from from ends ≡ Some (OfTool number fault) → AnsweredUntil lanes tools took gave from number fault
 answered_until lanes from [] ends links took gave number fault lawful in_order are whole first = absurd are
 answered_until lanes from (t ∷ tools) [] links took gave number fault lawful in_order are whole first = absurd are
 answered_until lanes from (t ∷ tools) (Broken ∷ ends) [] took gave number fault lawful in_order are whole first = let two =
@@ -113,7 +135,13 @@ answered_until lanes from (t ∷ tools) (Broken ∷ ends) (l ∷ links) took gav
 answered_until lanes from (t ∷ tools) (PeerGone ∷ ends) links took gave number fault lawful in_order are whole first = absurd cc
 answered_until lanes from (t ∷ []) (Fault other ∷ ends) [] took gave number fault lawful in_order are whole first =
     let refused = ended_refused lanes t other took gave lawful.0 in_order (stage_ended lanes t (Fault other) took gave are.2) in
-    record { faults = Some other ∷ []; last = refused.0; answered = (refused.0, refused.1, refl); first = (cc, cc) }
+    record {
+      faults = Some other ∷ [];
+      last = refused.given;
+      answered = (refused.given, refused.refused, refl);
+      first = (cc, cc);
+      sent = λ last alone. refused.sent (alone_is_one lanes t (only_is_alone lanes t alone));
+    }
 answered_until lanes from (t ∷ t2 ∷ tools) (Fault other ∷ ends) [] took gave number fault lawful in_order are whole first = let none = are.0 in absurd cc
 answered_until lanes from (t ∷ []) (Fault other ∷ ends) (l ∷ links) took gave number fault lawful in_order are whole first = absurd are.3
 answered_until lanes from (t ∷ t2 ∷ tools) (Fault other ∷ ends) (l ∷ links) took gave number fault lawful in_order are whole first =
@@ -121,8 +149,9 @@ answered_until lanes from (t ∷ t2 ∷ tools) (Fault other ∷ ends) (l ∷ lin
     record {
       faults = Some other ∷ Some Memory ∷ map (λ tool. Some Memory) tools;
       last = [];
-      answered = (refused.0, refused.1, untold tools refused.0 t2);
+      answered = (refused.given, refused.refused, untold tools refused.given t2);
       first = (cc, cc);
+      sent = λ last alone. let here : number ≡ from = cc in absurd (omega (arith, last, here));
     }
 answered_until lanes from (t ∷ []) (Well ∷ []) [] took gave number fault lawful in_order are whole first = absurd cc
 answered_until lanes from (t ∷ []) (Well ∷ e2 ∷ ends) [] took gave number fault lawful in_order are whole first = let none = are.1 in absurd cc
@@ -134,4 +163,12 @@ answered_until lanes from (t ∷ tools) (Well ∷ ends) (l ∷ links) took gave 
     let next = subst (λ (x : List Message). AreStages lanes tools ends links x gave) all are.3 in
     let others = answered_until lanes (from + 1) tools ends links (sent l.producer) gave number fault lawful.1
     (sent_in_order t took (sent l.producer) lawful.0 ended) next (sent_whole t took (sent l.producer) ended) first in
-    record { faults = None ∷ others.faults; last = others.last; answered = (sent l.producer, ended.full, others.answered); first = others.first }
+    record {
+      faults = None ∷ others.faults;
+      last = others.last;
+      answered = (sent l.producer, ended.full, others.answered);
+      first = others.first;
+      sent = λ last alone.
+          let some = some_stages lanes tools ends links (received l.consumer) gave are.3 in
+          others.sent (omega (arith, last)) (later_is_alone lanes t tools some alone);
+    }

@@ -14,10 +14,10 @@ use Rattle.pnm_stages.specs.declared.stage.StageEnd.{StageEnd}
 use Rattle.pnm_stages.specs.declared.stage.StageEnd.TheVariants.{Well, Broken, Fault, PeerGone}
 use Rattle.pnm_serial.specs.declared.summary.Summary.{Summary}
 use Rattle.pnm_serial.specs.Jobs.{Job}
-use Rattle.pnm_serial.specs.Runs.{Change, change}
-use Rattle.pnm_flow.specs.ThreadedRuns.{fault_of_end, first_fault_from, answer_over, HasRunOverThreads}
+use Rattle.pnm_serial.specs.Runs.{Change, change, HasRun}
+use Rattle.pnm_flow.specs.ThreadedRuns.{fault_of_end, first_fault_from, answer_over}
 use Rattle.pnm_serial.proofs.EndSteps.{ended_has_run, unread_has_run as serial_unread}
-use Rattle.pnm_flow.proofs.ThreadedRunSteps.{Over, gone_has_run, ended_over, well_stages, refused_stages, all_sent}
+use Rattle.pnm_flow.proofs.ThreadedRunSteps.{Over, gone_has_run, ended_over, well_stages, refused_stages}
 
 -- ---- the answer
 
@@ -44,27 +44,19 @@ of_stage from (Broken ∷ ends) fault is = of_stage (from + 1) ends fault is
 of_stage from (Fault other ∷ ends) fault is = let same : OfTool from other ≡ fault = cc in subst IsOfStage same tt
 of_stage from (PeerGone ∷ ends) fault is = let same : Gone from ≡ fault = cc in subst IsOfStage same tt
 
--- a tool's fault is answered
-tool_is : (number n : ℕ) (fault f : ToolFault) (answer : Result Summary RunFault) → answer ≡ Err (OfTool number fault) → answer ≡ Err (OfTool n f)
-    → OfTool number fault ≡ OfTool n f
-tool_is number n fault f answer is is_too = cc
-
 pub over_has_run : {R W : Type 0} (left : R → Option (List ℕ)) (reader_failures : R → ℕ) (held : W → Option (List ℕ)) (failures : W → ℕ)
     (first source : Source R) (start done : W) (lanes : ℕ) (job : Job) (ends : List StageEnd) (input : Option (Result (Unit {0}) InputFault))
     (found : Option RunFault) (has_ended : Bool) (output : Result Summary SinkFault)
     → Over left reader_failures held failures first source start done lanes job ends input has_ended output → length ends ≡ length job.tools
     → first_fault_from 1 ends ≡ found
-    → HasRunOverThreads lanes job (answer_over input found has_ended (length ends + 1) output)
+    → HasRun lanes ⊥ job (answer_over input found has_ended (length ends + 1) output)
     (change left reader_failures (reader_of first) (reader_of source)) (change held failures start done)
 over_has_run left reader_failures held failures first source start done lanes job ends None found has_ended output over many is =
     gone_has_run left reader_failures held failures first source start done lanes job ends None has_ended output 0 over (inl refl) (omega arith)
 over_has_run left reader_failures held failures first source start done lanes job ends (Some (Err fault)) found has_ended output over many is =
     let ended = ended_over left reader_failures held failures first source start done lanes job ends (Err fault) has_ended output None [] over
     (λ well. absurd cc) in
-    record {
-      run = ended_has_run ⊥ (change left reader_failures (reader_of first) (reader_of source)) held failures start done job (Err fault) None output ended;
-      all_written = λ text has not_input not_gone sound. absurd (not_input fault refl);
-    }
+    ended_has_run lanes ⊥ (change left reader_failures (reader_of first) (reader_of source)) held failures start done job (Err fault) None output ended
 over_has_run left reader_failures held failures first source start done lanes job ends (Some (Ok tt)) (Some NoStart) has_ended output over many is =
     absurd (of_stage 1 ends NoStart is)
 over_has_run left reader_failures held failures first source start done lanes job ends (Some (Ok tt)) (Some (Input fault)) has_ended output over many is =
@@ -76,14 +68,9 @@ over_has_run left reader_failures held failures first source start done lanes jo
     let stages = refused_stages left reader_failures held failures first source start done lanes job ends has_ended output number fault over is in
     let ended = ended_over left reader_failures held failures first source start done lanes job ends (Ok tt) has_ended output (Some (number, fault)) stages.0
     over (λ well. stages.1) in
-    record {
-      run = ended_has_run ⊥ (change left reader_failures (reader_of first) (reader_of source)) held failures start done job (Ok tt) (Some (number, fault))
-          output
-          ended;
-      all_written = λ text has not_input not_gone sound. all_sent left reader_failures held failures first source start done lanes job ends has_ended output
-          (Err (OfTool number fault)) over (λ n f e. is ∙ ap Some (tool_is number n fault f _ refl e))
-          (λ never. absurd (never number fault refl)) text has sound;
-    }
+    ended_has_run lanes ⊥ (change left reader_failures (reader_of first) (reader_of source)) held failures start done job (Ok tt) (Some (number, fault))
+    output
+    ended
 over_has_run left reader_failures held failures first source start done lanes job ends (Some (Ok tt)) (Some (Gone number)) has_ended output over many is =
     gone_has_run left reader_failures held failures first source start done lanes job ends (Some (Ok tt)) has_ended output number over (inr refl)
     (let within = gone_within 1 number ends is in omega (arith, many))
@@ -94,20 +81,12 @@ over_has_run left reader_failures held failures first source start done lanes jo
     let stages = well_stages left reader_failures held failures first source start done lanes job ends (Err fault) over is in
     let ended = ended_over left reader_failures held failures first source start done lanes job ends (Ok tt) true (Err fault) None stages.0 over
     (λ well. stages.1) in
-    record {
-      run = ended_has_run ⊥ (change left reader_failures (reader_of first) (reader_of source)) held failures start done job (Ok tt) None (Err fault) ended;
-      all_written = λ text has not_input not_gone sound. all_sent left reader_failures held failures first source start done lanes job ends true (Err fault)
-          (Err (Output fault)) over (λ n f e. absurd cc) (λ never. is) text has sound;
-    }
+    ended_has_run lanes ⊥ (change left reader_failures (reader_of first) (reader_of source)) held failures start done job (Ok tt) None (Err fault) ended
 over_has_run left reader_failures held failures first source start done lanes job ends (Some (Ok tt)) None true (Ok summary) over many is =
     let stages = well_stages left reader_failures held failures first source start done lanes job ends (Ok summary) over is in
     let ended = ended_over left reader_failures held failures first source start done lanes job ends (Ok tt) true (Ok summary) None stages.0 over
     (λ well. stages.1) in
-    record {
-      run = ended_has_run ⊥ (change left reader_failures (reader_of first) (reader_of source)) held failures start done job (Ok tt) None (Ok summary) ended;
-      all_written = λ text has not_input not_gone sound. all_sent left reader_failures held failures first source start done lanes job ends true (Ok summary)
-          (Ok summary) over (λ n f e. absurd cc) (λ never. is) text has sound;
-    }
+    ended_has_run lanes ⊥ (change left reader_failures (reader_of first) (reader_of source)) held failures start done job (Ok tt) None (Ok summary) ended
 
 -- ---- the first fault
 
@@ -150,9 +129,6 @@ was_started input ends has_ended behind output = started_by input (first_fault_f
 
 -- there is no memory to read
 pub unread_has_run : (lanes : ℕ) (job : Job) (reader writer : Change) → reader.new ≡ reader.old → reader.failures_new ≡ reader.failures_old
-    → writer.new ≡ writer.old → HasRunOverThreads lanes job (Err (Input NoMemoryToRead)) reader writer
+    → writer.new ≡ writer.old → HasRun lanes ⊥ job (Err (Input NoMemoryToRead)) reader writer
 unread_has_run lanes job reader writer read same_count written =
-    record {
-      run = serial_unread ⊥ job reader writer read same_count written;
-      all_written = λ text is not_input not_gone sound. absurd (not_input NoMemoryToRead refl);
-    }
+    serial_unread lanes ⊥ job reader writer read same_count written

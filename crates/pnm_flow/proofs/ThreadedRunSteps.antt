@@ -1,10 +1,11 @@
 -- What a run over threads knows once all have ended, and what follows of it for its answer.
 use Rattle.std.proofs.Common.{◌≡◌, ◌≢◌, ◌⊎◌, inl, inr, ℕ, ◌+◌, ◌≤◌, Bool, true, false, List, [], ◌∷◌, ◌++◌, length, Option, Some, None, Result, Ok, Err}
-use Rattle.std.proofs.Common.{refl, sym, ap, subst, ◌∙◌, append_assoc, append-nil}
+use Rattle.std.proofs.Common.{refl, sym, ap, subst, ◌∙◌, append_assoc, append-nil, arith}
 use Rattle.std.specs.Io.KnownBytes.{Consumes, Keeps}
 use Rattle.pnm_stages.specs.Rings.{sent, received, known_items, IsEnded}
 use Rattle.pnm_image.specs.Devices.{Failed}
 use Rattle.pnm_image.specs.declared.message.Message.{Message}
+use Rattle.pnm_image.specs.declared.message.Message.TheVariants.{Stop}
 use Rattle.pnm_image.specs.Images.{Image, messages_of_stream}
 use Rattle.pnm_image.specs.Messages.{without_stop, EndsBy}
 use Rattle.pnm_image.specs.Completion.{IsPrefixOf, Completes}
@@ -18,7 +19,7 @@ use Rattle.pnm_read.proofs.TextLaws.{said_text_is_spelled}
 use Rattle.pnm_read.proofs.ReadCalls.{no_fault}
 use Rattle.pnm_tools.specs.declared.fault.ToolFault.{ToolFault}
 use Rattle.pnm_tools.specs.declared.tool.Tool.{Tool}
-use Rattle.pnm_image.specs.declared.message.Ending.TheVariants.{Whole}
+use Rattle.pnm_image.specs.declared.message.Ending.TheVariants.{More, Whole}
 use Rattle.pnm_tools.specs.ChainAnswers.{AreSound}
 use Rattle.pnm_tools.specs.Chains.{AreLawfulTools, due_in_turn}
 use Rattle.pnm_tools.proofs.ChainLaws.{prefix_of_due_is_sound}
@@ -38,102 +39,22 @@ use Rattle.pnm_serial.specs.FusedSinks.{output_of, HasTaken, AnswersFlushes}
 use Rattle.pnm_io_loop.specs.Ingresses.{HasAskedAll, HasAskedBy, closing_messages}
 use Rattle.pnm_serial.specs.Feeding.{IsSaidOf, HasMore, MayFollowRead}
 use Rattle.pnm_serial.specs.Jobs.{Job}
-use Rattle.pnm_serial.specs.Runs.{Change, change, MayFollow}
+use Rattle.pnm_serial.specs.Runs.{Change, change, MayFollow, HasRun}
 use Rattle.pnm_serial.specs.SerialRuns.{answer_by}
 use Rattle.pnm_stages.specs.Prefixes.{IsPrefixOfDue}
-use Rattle.pnm_flow.specs.ThreadedRuns.{first_fault_from, HasEndedOver, HaveEnded, IsAllSent, HasRunOverThreads}
-use Rattle.pnm_flow.proofs.ToolOverLaws.{stage_ended, received_ended, sent_ended}
+use Rattle.pnm_flow.specs.ThreadedRuns.{first_fault_from}
+use Rattle.pnm_flow.proofs.ToolOverLaws.{stage_ended, received_ended}
 use Rattle.pnm_stages.proofs.EndingLaws.{nothing_follows, stream_ends_whole}
 use Rattle.pnm_stages.proofs.PrefixLaws.{prefix_without_stop, stop_is_cut}
-use Rattle.pnm_serial.proofs.EndSteps.{Ended, HaveEnded as StagesAnswered, ended_so, rest_follows}
-use Rattle.pnm_serial.proofs.FeedingSteps.{given_is_sound, may_give, rest_of}
+use Rattle.pnm_stages.proofs.RingSteps.{ends_with}
+use Rattle.pnm_serial.proofs.EndSteps.{Ended, HaveEnded as StagesAnswered, ended_so}
+use Rattle.pnm_serial.proofs.FeedingSteps.{given_is_sound, may_give}
 use Rattle.pnm_serial.proofs.RunSteps.{Ran, run_due, run_begun, output_all, sound_is_writable}
 use Rattle.pnm_flow.proofs.StageEndLaws.{all_answered, answered_until, next_is_well, next_is_there}
 
--- ---- what each tool has ended for
-
--- nothing is left where a list has ended, or nothing was to be left
-left_nothing : (l left : List Message) → IsEnded (l ++ left) ⊎ (left ≡ []) → IsEnded l → left ≡ []
-left_nothing l left (inl whole) ended = nothing_follows l left ended whole
-left_nothing l left (inr none) ended = none
-
+-- where nothing is left, a part is all
 whole_list : (all l left : List Message) → all ≡ l ++ left → left ≡ [] → all ≡ l
 whole_list all l left parts none = parts ∙ ap (λ (x : List Message). l ++ x) none ∙ append-nil l
-
--- a stage that received a part has ended so for all of it, unless it saw an end dropped
-ended_for : (lanes : ℕ) (tool : Tool) (end : StageEnd) (all took left gave : List Message) → IsStageOver lanes tool end took gave → all ≡ took ++ left
-    → IsEnded all ⊎ (left ≡ []) → end ≢ PeerGone → HasEndedOver lanes tool end all gave
-ended_for lanes tool end all took left gave is parts whole there =
-    let none = left_nothing took left (subst (λ (x : List Message). IsEnded x ⊎ (left ≡ [])) parts whole)
-    (received_ended lanes tool end took gave (stage_ended lanes tool end took gave is) there) in
-    subst (λ (x : List Message). HasEndedOver lanes tool end x gave) (sym (whole_list all took left parts none)) (stage_ended lanes tool end took gave is)
-
--- the last stage sent all that was taken of it
-last_ended : (lanes : ℕ) (tool : Tool) (end : StageEnd) (all took left gave got rest : List Message) → IsStageOver lanes tool end took gave → all ≡ took ++ left
-    → IsEnded all ⊎ (left ≡ []) → gave ≡ got ++ rest → IsEnded got ⊎ (rest ≡ []) → end ≢ PeerGone → HasEndedOver lanes tool end all got
-last_ended lanes tool end all took left gave got rest is parts whole came (inl ended) there =
-    let none = nothing_follows got rest ended (subst IsEnded came (sent_ended lanes tool end took gave (stage_ended lanes tool end took gave is) there)) in
-    subst (HasEndedOver lanes tool end all) (whole_list gave got rest came none) (ended_for lanes tool end all took left gave is parts whole there)
-last_ended lanes tool end all took left gave got rest is parts whole came (inr none) there =
-    subst (HasEndedOver lanes tool end all) (whole_list gave got rest came none) (ended_for lanes tool end all took left gave is parts whole there)
-
-one_ended : (lanes : ℕ) (tool : Tool) (end : StageEnd) (all took left gave got rest : List Message) → IsStageOver lanes tool end took gave → all ≡ took ++ left
-    → IsEnded all ⊎ (left ≡ []) → gave ≡ got ++ rest → IsEnded got ⊎ (rest ≡ []) → HasEndedOver lanes tool end all got
-one_ended lanes tool Well all took left gave got rest is parts whole came ends = last_ended lanes tool Well all took left gave got rest is parts whole came ends
-    (λ gone. absurd cc)
-one_ended lanes tool Broken all took left gave got rest is parts whole came ends =
-    last_ended lanes tool Broken all took left gave got rest is parts whole came ends (λ gone. absurd cc)
-one_ended lanes tool (Fault fault) all took left gave got rest is parts whole came ends =
-    last_ended lanes tool (Fault fault) all took left gave got rest is parts whole came ends (λ gone. absurd cc)
-one_ended lanes tool PeerGone all took left gave got rest is parts whole came ends = stage_ended lanes tool PeerGone took gave is
-
--- what a stage sent, as its neighbour may have received it: all, unless the stage saw an end dropped
-record SentOn (lanes : ℕ) (tool : Tool) (end : StageEnd) (all : List Message) (link : Link) : Type 0 where
-  middle : List Message
-  left : List Message
-  ended : HasEndedOver lanes tool end all middle
-  parts : middle ≡ received link.consumer ++ left
-  whole : IsEnded middle ⊎ (left ≡ [])
-
-sent_all_on : (lanes : ℕ) (tool : Tool) (end : StageEnd) (all took left : List Message) (link : Link) → IsStageOver lanes tool end took (sent link.producer)
-    → sent link.producer ≡ received link.consumer ++ known_items link.consumer → all ≡ took ++ left → IsEnded all ⊎ (left ≡ []) → end ≢ PeerGone
-    → SentOn lanes tool end all link
-sent_all_on lanes tool end all took left link is in_order parts whole there = record {
-  middle = sent link.producer;
-  left = known_items link.consumer;
-  ended = ended_for lanes tool end all took left (sent link.producer) is parts whole there;
-  parts = in_order;
-  whole = inl (sent_ended lanes tool end took (sent link.producer) (stage_ended lanes tool end took (sent link.producer) is) there);
-}
-
-sent_on : (lanes : ℕ) (tool : Tool) (end : StageEnd) (all took left : List Message) (link : Link) → IsStageOver lanes tool end took (sent link.producer)
-    → sent link.producer ≡ received link.consumer ++ known_items link.consumer → all ≡ took ++ left → IsEnded all ⊎ (left ≡ []) → SentOn lanes tool end all link
-sent_on lanes tool Well all took left link is in_order parts whole = sent_all_on lanes tool Well all took left link is in_order parts whole (λ gone. absurd cc)
-sent_on lanes tool Broken all took left link is in_order parts whole = sent_all_on lanes tool Broken all took left link is in_order parts whole
-    (λ gone. absurd cc)
-sent_on lanes tool (Fault fault) all took left link is in_order parts whole = sent_all_on lanes tool (Fault fault) all took left link is in_order parts whole
-    (λ gone. absurd cc)
-sent_on lanes tool PeerGone all took left link is in_order parts whole =
-    record {
-      middle = received link.consumer;
-      left = [];
-      ended = stage_ended lanes tool PeerGone took (sent link.producer) is;
-      parts = sym (append-nil (received link.consumer));
-      whole = inr refl;
-    }
-
-have_ended : (lanes : ℕ) (tools : List Tool) (ends : List StageEnd) (links : List Link) (all took left gave got rest : List Message)
-    → AreStages lanes tools ends links took gave → all ≡ took ++ left → IsEnded all ⊎ (left ≡ []) → gave ≡ got ++ rest → IsEnded got ⊎ (rest ≡ [])
-    → HaveEnded lanes tools ends all got
-have_ended lanes [] ends links all took left gave got rest are parts whole came ended = absurd are
-have_ended lanes (t ∷ tools) [] links all took left gave got rest are parts whole came ended = absurd are
-have_ended lanes (t ∷ []) (e ∷ []) [] all took left gave got rest are parts whole came ended =
-    (got, one_ended lanes t e all took left gave got rest are.2 parts whole came ended, refl)
-have_ended lanes (t ∷ []) (e ∷ e2 ∷ ends) [] all took left gave got rest are parts whole came ended = let none = are.1 in absurd cc
-have_ended lanes (t ∷ t2 ∷ tools) (e ∷ ends) [] all took left gave got rest are parts whole came ended = let none = are.0 in absurd cc
-have_ended lanes (t ∷ tools) (e ∷ ends) (l ∷ links) all took left gave got rest are parts whole came ended =
-    let on = sent_on lanes t e all took left l are.0 are.1.in_order parts whole in
-    (on.middle, on.ended, have_ended lanes tools ends links on.middle (received l.consumer) on.left gave got rest are.3 on.parts on.whole came ended)
 
 -- ---- the run
 
@@ -247,35 +168,34 @@ pub gone_has_run : {R W : Type 0} (left : R → Option (List ℕ)) (reader_failu
     (output : Result Summary SinkFault) (number : ℕ)
     → (over : Over left reader_failures held failures first source start done lanes job ends input has_ended output) → (input ≡ None) ⊎ (input ≡ Some (Ok tt))
     → number ≤ length job.tools + 1
-    → HasRunOverThreads lanes job (Err (Gone number)) (change left reader_failures (reader_of first) (reader_of source)) (change held failures start done)
+    → HasRun lanes ⊥ job (Err (Gone number)) (change left reader_failures (reader_of first) (reader_of source)) (change held failures start done)
 gone_has_run left reader_failures held failures first source start done lanes job ends input has_ended output number over well within =
     let reader = change left reader_failures (reader_of first) (reader_of source) in
     let said = said_by left reader_failures first source over.given input well over.asked in
     let ran = ran_over left reader_failures held failures first source start done lanes job ends input has_ended output over in
     let out = without_stop over.got in
     record {
-      run = record {
-        read = said.0;
-        consumed = said.1;
-        verdict = λ rest may. inr within;
-        bytes = record {
-          given = out;
-          due = λ text of images completes.
-              let prefix = subst (λ (l : List ℕ). IsPrefixOf over.given (said_of l)) (sym of.2) (said.3 of.0 (may_follow_gone number reader of.0 of.1)) in
-              run_due held failures start job over.given out over.sink text ran prefix images completes;
-          prefix = run_begun held failures start done job over.given out over.sink ran over.kept;
-          all = λ sound. output_all held failures job.form start done out over.sink over.sink.output ran.writable ran.taken
-              (λ fault e. (over.broken fault e).1) over.kept sound;
-          whole = λ whole. absurd whole;
-        };
-        failures = record {
-          read_failed = λ is. absurd cc;
-          read = λ no_failure. said.2;
-          write_failed = λ is. absurd cc;
-          written = λ summary is. absurd cc;
-        };
+      read = said.0;
+      consumed = said.1;
+      verdict = λ rest may. inr within;
+      bytes = record {
+        given = out;
+        due = λ text of images completes.
+            let prefix = subst (λ (l : List ℕ). IsPrefixOf over.given (said_of l)) (sym of.2) (said.3 of.0 (may_follow_gone number reader of.0 of.1)) in
+            run_due held failures start job over.given out over.sink text ran prefix images completes;
+        full = λ all. absurd all;
+        prefix = run_begun held failures start done job over.given out over.sink ran over.kept;
+        all = λ sound. output_all held failures job.form start done out over.sink over.sink.output ran.writable ran.taken
+            (λ fault e. (over.broken fault e).1) over.kept sound;
+        well = λ summary is. absurd cc;
+        refused = λ fault is not_writer. absurd cc;
       };
-      all_written = λ text is not_input not_gone sound. absurd (not_gone number refl);
+      failures = record {
+        read_failed = λ is. absurd cc;
+        read = λ no_failure. said.2;
+        write_failed = λ is. absurd cc;
+        written = λ summary is. absurd cc;
+      };
     }
 
 -- ---- the other answers
@@ -301,8 +221,8 @@ pub ended_over : {R W : Type 0} (left : R → Option (List ℕ)) (reader_failure
     (output : Result Summary SinkFault)
     (refused : Option (ℕ × ToolFault)) (faults : List (Option ToolFault))
     → (over : Over left reader_failures held failures first source start done lanes job ends (Some result) has_ended output)
-    → (result ≡ Ok tt → StagesAnswered job.tools faults over.given (without_stop over.got) refused)
-    → Ended ⊥ (change left reader_failures (reader_of first) (reader_of source)) held failures start done job result refused output
+    → (result ≡ Ok tt → StagesAnswered lanes job faults over.given (without_stop over.got) refused)
+    → Ended lanes ⊥ (change left reader_failures (reader_of first) (reader_of source)) held failures start done job result refused output
 ended_over left reader_failures held failures first source start done lanes job ends result has_ended output refused faults over stages = record {
   faults = faults;
   given = over.given;
@@ -354,7 +274,7 @@ pub well_stages : {R W : Type 0} (left : R → Option (List ℕ)) (reader_failur
     (first source : Source R)
     (start done : W) (lanes : ℕ) (job : Job) (ends : List StageEnd) (output : Result Summary SinkFault)
     → (over : Over left reader_failures held failures first source start done lanes job ends (Some (Ok tt)) true output) → first_fault_from 1 ends ≡ None
-    → (faults : List (Option ToolFault)) × StagesAnswered job.tools faults over.given (without_stop over.got) None
+    → (faults : List (Option ToolFault)) × StagesAnswered lanes job faults over.given (without_stop over.got) None
 well_stages left reader_failures held failures first source start done lanes job ends output over none =
     let there = next_is_well lanes 1 job.tools ends over.links over.took over.gave over.stages none in
     let took = took_all left reader_failures held failures first source start done lanes job ends true output over there in
@@ -367,24 +287,9 @@ well_stages left reader_failures held failures first source start done lanes job
         last = over.gave;
         answered = answered.answered;
         first = answered.well;
-        all = λ is. sym (unbroken_keeps_all Whole over.gave tt answered.ends) ∙ ap without_stop all;
+        all = λ output is. sym (unbroken_keeps_all Whole over.gave tt answered.ends) ∙ ap without_stop all;
       },
     )
-
--- a tool is at fault
-pub refused_stages : {R W : Type 0} (left : R → Option (List ℕ)) (reader_failures : R → ℕ) (held : W → Option (List ℕ)) (failures : W → ℕ)
-    (first source : Source R)
-    (start done : W) (lanes : ℕ) (job : Job) (ends : List StageEnd) (has_ended : Bool) (output : Result Summary SinkFault) (number : ℕ) (fault : ToolFault)
-    → (over : Over left reader_failures held failures first source start done lanes job ends (Some (Ok tt)) has_ended output)
-    → first_fault_from 1 ends ≡ Some (OfTool number fault)
-    → (faults : List (Option ToolFault)) × StagesAnswered job.tools faults over.given (without_stop over.got) (Some (number, fault))
-refused_stages left reader_failures held failures first source start done lanes job ends has_ended output number fault over is =
-    let there = next_is_there lanes 1 number fault job.tools ends over.links over.took over.gave over.stages is in
-    let took = took_all left reader_failures held failures first source start done lanes job ends has_ended output over there in
-    let answered = answered_until lanes 1 job.tools ends over.links over.given over.gave number fault over.lawful
-    (given_sound left reader_failures first source over.given (Some (Ok tt)) over.asked).lawful
-    (subst (λ (x : List Message). AreStages lanes job.tools ends over.links x over.gave) took.1 over.stages) took.0 is in
-    (answered.faults, record { last = answered.last; answered = answered.answered; first = answered.first; all = λ none. absurd cc })
 
 -- what was taken has ended, or it is all
 got_ended : (rest : List Message) (has_ended : Bool) (got : List Message) → EndedBy has_ended got → (has_ended ≡ true) ⊎ (rest ≡ []) → IsEnded got ⊎ (rest ≡ [])
@@ -392,31 +297,36 @@ got_ended rest true got ended all = inl ended
 got_ended rest false got ended (inl is) = absurd cc
 got_ended rest false got ended (inr none) = inr none
 
--- all that was sent was written, unless the writer failed
-pub all_sent : {R W : Type 0} (left : R → Option (List ℕ)) (reader_failures : R → ℕ) (held : W → Option (List ℕ)) (failures : W → ℕ) (first source : Source R)
-    (start done : W) (lanes : ℕ) (job : Job) (ends : List StageEnd) (has_ended : Bool) (output : Result Summary SinkFault) (answer : Result Summary RunFault)
-    → Over left reader_failures held failures first source start done lanes job ends (Some (Ok tt)) has_ended output
-    → ((number : ℕ) (fault : ToolFault) → answer ≡ Err (OfTool number fault) → first_fault_from 1 ends ≡ Some (OfTool number fault))
-    → (((number : ℕ) (fault : ToolFault) → answer ≢ Err (OfTool number fault)) → first_fault_from 1 ends ≡ None)
-    → (text : List ℕ) → left (reader_of first) ≡ Some text → ¬ Failed (failures start) (failures done)
-    → IsAllSent text lanes job answer (held start) (held done)
-all_sent left reader_failures held failures first source start done lanes job ends has_ended output answer over fault_is none text is sound =
-    let reader = change left reader_failures (reader_of first) (reader_of source) in
-    let rest = rest_of reader.old reader.new over.asked.read text over.asked.consumed is in
-    let said = told_over left reader_failures first source over.given (Ok tt) None output over.asked rest.0
-    (rest_follows ⊥ (answer_by (Ok tt) None output) reader rest.0 rest.1) in
-    let text_is : said_of text ≡ over.given = ap said_of rest.2 ∙ said.0 in
-    let whole = given_whole left reader_failures first source over.given over.asked in
-    let fed : over.given ≡ over.took ++ over.untaken = sym (append-nil over.given) ∙ sym over.passed ∙ over.received in
-    let ran = ran_over left reader_failures held failures first source start done lanes job ends (Some (Ok tt)) has_ended output over in
-    record {
-      ends = ends;
-      given = over.got;
-      first = fault_is;
-      none = none;
-      ended = subst (λ (x : List Message). HaveEnded lanes job.tools ends x over.got) (sym text_is)
-          (have_ended lanes job.tools ends over.links over.given over.took over.untaken over.gave over.got over.rest over.stages fed (inl (inl whole)) over.came
-          (got_ended over.rest has_ended over.got over.ended over.all));
-      written = output_all held failures job.form start done (without_stop over.got) over.sink over.sink.output ran.writable ran.taken
-          (λ fault e. (over.broken fault e).1) over.kept sound;
-    }
+-- of what the last tool sent before Stop, and of Stop, all was taken
+taken_of_last : (gave got rest last : List Message) → gave ≡ last ++ Stop ∷ [] → EndsBy More last → gave ≡ got ++ rest → IsEnded got ⊎ (rest ≡ [])
+    → last ≡ without_stop got
+taken_of_last gave got rest last stopped more came (inl ended) =
+    let none = nothing_follows got rest ended (subst IsEnded (sym stopped ∙ came) (inr (ends_with last Stop more))) in
+    sym (stop_is_cut last) ∙ ap without_stop (sym stopped ∙ whole_list gave got rest came none)
+taken_of_last gave got rest last stopped more came (inr none) =
+    sym (stop_is_cut last) ∙ ap without_stop (sym stopped ∙ whole_list gave got rest came none)
+
+-- a tool is at fault
+pub refused_stages : {R W : Type 0} (left : R → Option (List ℕ)) (reader_failures : R → ℕ) (held : W → Option (List ℕ)) (failures : W → ℕ)
+    (first source : Source R)
+    (start done : W) (lanes : ℕ) (job : Job) (ends : List StageEnd) (has_ended : Bool) (output : Result Summary SinkFault) (number : ℕ) (fault : ToolFault)
+    → (over : Over left reader_failures held failures first source start done lanes job ends (Some (Ok tt)) has_ended output)
+    → first_fault_from 1 ends ≡ Some (OfTool number fault)
+    → (faults : List (Option ToolFault)) × StagesAnswered lanes job faults over.given (without_stop over.got) (Some (number, fault))
+refused_stages left reader_failures held failures first source start done lanes job ends has_ended output number fault over is =
+    let there = next_is_there lanes 1 number fault job.tools ends over.links over.took over.gave over.stages is in
+    let took = took_all left reader_failures held failures first source start done lanes job ends has_ended output over there in
+    let answered = answered_until lanes 1 job.tools ends over.links over.given over.gave number fault over.lawful
+    (given_sound left reader_failures first source over.given (Some (Ok tt)) over.asked).lawful
+    (subst (λ (x : List Message). AreStages lanes job.tools ends over.links x over.gave) took.1 over.stages) took.0 is in (
+      answered.faults,
+      record {
+        last = answered.last;
+        answered = answered.answered;
+        first = answered.first;
+        all = λ output all.
+            let given = answered.sent (omega (arith, all.1)) all.2 in
+            taken_of_last over.gave over.got over.rest answered.last given.0 given.1 over.came
+            (got_ended over.rest has_ended over.got over.ended over.all);
+      },
+    )

@@ -1,12 +1,12 @@
 -- What holds of a tool of a chain however many lanes it runs over.
-use Rattle.std.proofs.Common.{◌≢◌, inl, inr, ℕ, List, refl, sym, subst}
+use Rattle.std.proofs.Common.{◌≡◌, ◌≢◌, inl, inr, ℕ, List, [], ◌∷◌, ◌++◌, refl, sym, subst}
 use Rattle.pnm_image.specs.declared.message.Message.{Message}
 use Rattle.pnm_image.specs.declared.message.Message.TheVariants.{Stop}
 use Rattle.pnm_image.specs.Places.{IsLawful}
 use Rattle.pnm_image.proofs.Streams.{stream_is_lawful}
 use Rattle.pnm_tools.specs.declared.fault.ToolFault.{ToolFault}
 use Rattle.pnm_tools.specs.declared.tool.Tool.{Tool}
-use Rattle.pnm_image.specs.declared.message.Ending.TheVariants.{Whole, BrokenOff}
+use Rattle.pnm_image.specs.declared.message.Ending.TheVariants.{More, Whole, BrokenOff}
 use Rattle.pnm_image.specs.Messages.{EndsBy}
 use Rattle.pnm_tools.specs.ChainAnswers.{HasRefused}
 use Rattle.pnm_tools.specs.Tools.{IsLawfulTool, output_due}
@@ -18,8 +18,8 @@ use Rattle.pnm_stages.specs.Rings.{IsEnded}
 use Rattle.pnm_stages.specs.Stages.{HasEndedWell, HasBrokenOff}
 use Rattle.pnm_stages.proofs.EndingLaws.{stream_ends_whole}
 use Rattle.pnm_stages.proofs.RingSteps.{ends_with}
-use Rattle.pnm_flow.specs.ChainRuns.{IsStageOver}
-use Rattle.pnm_flow.specs.ThreadedRuns.{HasEndedOver}
+use Rattle.pnm_flow.specs.ChainRuns.{RunsInLanes, IsStageOver}
+use Rattle.pnm_flow.specs.SentMessages.{HasEndedOver}
 use Rattle.pnm_flow.proofs.LaneRefusals.{refused_in_lanes}
 
 -- ---- its end
@@ -36,11 +36,19 @@ pub ended_broken : (lanes : ℕ) (tool : Tool) (l g : List Message) → HasEnded
 ended_broken lanes tool l g (inl several) = several.1
 ended_broken lanes tool l g (inr one) = one.1
 
--- what was refused, if the messages are in order
+-- what was refused, if the messages are in order; where the tool is one stage, all that it has given was sent
+pub record Refused (lanes : ℕ) (tool : Tool) (fault : ToolFault) (l g : List Message) : Type 0 where
+  pub given : List Message
+  pub refused : HasRefused tool fault l given
+  pub sent : (RunsInLanes lanes tool → ⊥) → (g ≡ given ++ Stop ∷ []) × EndsBy More given
+
 pub ended_refused : (lanes : ℕ) (tool : Tool) (fault : ToolFault) (l g : List Message) → IsLawfulTool tool → IsLawful l
-    → HasEndedOver lanes tool (Fault fault) l g → (given : List Message) × HasRefused tool fault l given
-ended_refused lanes tool fault l g of_range lawful (inl several) = refused_in_lanes tool fault l of_range lawful several.1.of_input
-ended_refused lanes tool fault l g of_range lawful (inr one) = (one.1.given, one.1.refused)
+    → HasEndedOver lanes tool (Fault fault) l g → Refused lanes tool fault l g
+ended_refused lanes tool fault l g of_range lawful (inl several) =
+    let refused = refused_in_lanes tool fault l of_range lawful several.1.of_input in
+    record { given = refused.0; refused = refused.1; sent = λ one. absurd (one several.0) }
+ended_refused lanes tool fault l g of_range lawful (inr one) =
+    record { given = one.1.given; refused = one.1.refused; sent = λ alone. (one.1.answer, one.1.unbroken) }
 
 -- what was received has ended, and what was sent has, unless a neighbour's end was seen dropped
 failed_received : (lanes : ℕ) (tool : Tool) (fault : ToolFault) (l g : List Message) → HasEndedOver lanes tool (Fault fault) l g → IsEnded l

@@ -1,4 +1,5 @@
 pub mod Links
 pub mod ChainRuns
 pub mod ThreadedRuns
+pub mod SentMessages
 pub mod SerialTools

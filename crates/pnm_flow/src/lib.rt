@@ -4,6 +4,7 @@
 
 mod chain;
 mod lanes;
+pub mod laws;
 mod serial;
 mod stage;
 mod threaded;

@@ -15,11 +15,11 @@ ghost use Rattle.pnm_serial.specs.declared.fault.RunFault.TheVariants.{NoStart a
 ghost use Rattle.pnm_io_loop.specs.Egresses.{IsEgress};
 ghost use Rattle.pnm_serial.specs.FusedSinks.{output_of};
 ghost use Rattle.pnm_io_loop.specs.Ingresses.{IsIngress};
-ghost use Rattle.pnm_serial.specs.Jobs.{Job, job_of};
-ghost use Rattle.pnm_serial.specs.Runs.{change};
+ghost use Rattle.pnm_serial.specs.Jobs.{Job};
+ghost use Rattle.pnm_serial.specs.Runs.{change, HasRun};
 ghost use Rattle.pnm_io_loop.specs.IoLoop.{HaveStepped};
 ghost use Rattle.pnm_flow.specs.ChainRuns.{HasRunChain};
-ghost use Rattle.pnm_flow.specs.ThreadedRuns.{answer_over, fault_of_end, first_fault_from, HasRunOverThreads};
+ghost use Rattle.pnm_flow.specs.ThreadedRuns.{answer_over, fault_of_end, first_fault_from};
 
 use crate::chain::{ChainDone, run_chain_beside};
 use pnm_image::{BytesIn, BytesOut, Form};
@@ -56,7 +56,7 @@ pub fn run<H: Threads + Wait + Sync, R: BytesIn, W: BytesOut, G: Gate>(
     requires chain { IsChain tools.now }
     requires capacity { IsRingCapacity capacity }
     requires lanes { IsLaneCount lanes }
-    ensures ran { (result ≡ Err NotStarted) ⊎ HasRunOverThreads lanes (job_of tools.now form) result
+    ensures ran { (result ≡ Err NotStarted) ⊎ HasRun lanes ⊥ (record { tools = tools.now; form = form }) result
         (change R.left R.failures reader.old reader.new) (change W.held W.failures writer.old writer.new) }
     // If no chain came back, what it held didn't either.
     ensures same_reader { result ≢ Err NotStarted → R.same reader.old reader.new }
@@ -142,7 +142,7 @@ fn conclude<R: BytesIn + Drop, W: BytesOut + Drop>(
         → IsIngress R.left R.failures first [] ingress → IsEgress W.held W.failures job.form start [] egress
         → HasRunChain lanes job.tools chain.ends.items chain.links.items [] (received chain.input) []
         (sent chain.output)
-        → HasRunOverThreads lanes job result.2 (change R.left R.failures (reader_of first) result.0)
+        → HasRun lanes ⊥ job result.2 (change R.left R.failures (reader_of first) result.0)
         (change W.held W.failures start result.1) }
     ensures started { result.2 ≢ Err NotStarted }
     ensures reader { result.0 ≡ reader_of ingress.source }

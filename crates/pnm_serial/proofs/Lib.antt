@@ -8,6 +8,7 @@ pub mod FaultSteps
 pub mod FeedingSteps
 pub mod CountLaws
 pub mod ResultSteps
+pub mod LastRefusals
 pub mod VerdictLaws
 pub mod VerdictFaults
 pub mod RunSteps

@@ -19,7 +19,7 @@ use Rattle.pnm_write.specs.Forms.{plain_kind_fault, images_fault, IsFormFault}
 -- ---- one tool
 
 -- the results, by what becomes of the first image
-abbrev with_first : Result Image ToolFault → Result (List Image) ToolFault → Result (List Image) ToolFault
+abbrev pub with_first : Result Image ToolFault → Result (List Image) ToolFault → Result (List Image) ToolFault
 with_first r others = elim r [
   | Ok j ↦ elim others [ Ok js ↦ Ok (j ∷ js) | Err fault ↦ Err fault ]
   | Err fault ↦ Err fault
@@ -35,7 +35,7 @@ results_by tool i is (x ∷ xs) (Ok j) (Ok ks) made later all =
     let rest : ks ≡ xs = cc in
     (made ∙ ap Ok first, later xs (ap Ok rest))
 
-are_results : (tool : Tool) (is js : List Image) → results_of tool is ≡ Ok js → AreResults tool is js
+pub are_results : (tool : Tool) (is js : List Image) → results_of tool is ≡ Ok js → AreResults tool is js
 are_results tool [] [] all = tt
 are_results tool [] (j ∷ js) all = absurd cc
 are_results tool (i ∷ is) js all = results_by tool i is js (applied tool i) (results_of tool is) refl (λ ks. are_results tool is ks) all
@@ -59,7 +59,7 @@ chain_results number (tool ∷ tools) is none =
     chain_results_by number tool tools is (results_of tool is) refl (λ js. chain_results (number + 1) tools js) none
 
 -- what is due of the first image and the others, by what becomes of the first
-abbrev due_with : List Message → Result Image ToolFault → List Message
+abbrev pub due_with : List Message → Result Image ToolFault → List Message
 due_with others r = elim r [
   | Ok j ↦ messages_of_image j ++ others
   | Err fault ↦ []

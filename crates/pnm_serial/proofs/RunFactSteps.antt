@@ -8,7 +8,7 @@ use Rattle.pnm_image.proofs.Written.{prefix-more}
 use Rattle.pnm_read.specs.declared.fault.InputFault.{InputFault}
 use Rattle.pnm_read.specs.declared.fault.InputFault.TheVariants.{ReadFailed}
 use Rattle.pnm_read.specs.BufferedReaders.{IsOutsideFault}
-use Rattle.pnm_read.specs.Said.{fault_of}
+use Rattle.pnm_read.specs.Said.{fault_of, AreSaid}
 use Rattle.pnm_tools.specs.declared.fault.ToolFault.{ToolFault}
 use Rattle.pnm_tools.specs.declared.fault.ToolFault.TheVariants.{OutOfOrder, Memory}
 use Rattle.pnm_tools.specs.declared.tool.Tool.{Tool}
@@ -23,13 +23,13 @@ use Rattle.pnm_write.proofs.MessageLaws.{bytes_of_stream, written_all, written_p
 use Rattle.pnm_serial.specs.declared.fault.RunFault.{RunFault}
 use Rattle.pnm_serial.specs.declared.fault.RunFault.TheVariants.{NoStart, Input, Tool as OfTool, Output, PeerGone}
 use Rattle.pnm_serial.specs.declared.summary.Summary.{Summary}
-use Rattle.pnm_serial.specs.Jobs.{Job}
-use Rattle.pnm_serial.specs.Runs.{Change, MayFollow, HasRun, EndsOutput}
+use Rattle.pnm_serial.specs.Jobs.{Job, bytes_due}
+use Rattle.pnm_serial.specs.Runs.{Change, MayFollow, HasRun, HoldsNothingBack}
 use Rattle.pnm_serial.specs.RunFacts.{IfInput, IfTool, IfOutput, IfGone, EndedWell, HasWrittenResults, IsStoppedBy, IsPrefixOfBytesDue, RunTells}
 use Rattle.pnm_serial.specs.RunFacts.{IsPrefixWhatever}
 use Rattle.pnm_serial.specs.RunFacts.{WhatARunInOneThreadTells, WhatARunTells, WhatARunWithoutListTells}
 use Rattle.pnm_serial.specs.SerialRuns.{OutlastsRun}
-use Rattle.pnm_serial.specs.Verdicts.{HasResults, IsAcceptedBy, IsFromOutside, IsVerdict, IsAnswer, FailsAround, AnswersVerdict}
+use Rattle.pnm_serial.specs.Verdicts.{HasResults, HasRefusal, IsFromOutside, IsVerdict, IsAnswer, FailsAround, AnswersVerdict}
 use Rattle.pnm_serial.proofs.EndSteps.{rest_follows, ended_without_list}
 use Rattle.pnm_serial.proofs.FeedingSteps.{rest_of}
 use Rattle.pnm_serial.proofs.ResultSteps.{due_of_results}
@@ -41,43 +41,53 @@ use Rattle.pnm_serial.proofs.VerdictFaults.{verdict_is_of_text}
 abbrev IsText : Type 0 → Result Summary RunFault → Change → List ℕ → List ℕ → Type 0
 IsText Outlasts answer reader read text = (rest : List ℕ) × MayFollow Outlasts answer reader rest × (text ≡ read ++ rest)
 
-own_text : (Outlasts : Type 0) (job : Job) (answer : Result Summary RunFault) (reader writer : Change)
-    → (ran : HasRun Outlasts job answer reader writer) → (text : List ℕ) → reader.old ≡ Some text → IsText Outlasts answer reader ran.read text
-own_text Outlasts job answer reader writer ran text is =
+own_text : (lanes : ℕ) (Outlasts : Type 0) (job : Job) (answer : Result Summary RunFault) (reader writer : Change)
+    → (ran : HasRun lanes Outlasts job answer reader writer) → (text : List ℕ) → reader.old ≡ Some text → IsText Outlasts answer reader ran.read text
+own_text lanes Outlasts job answer reader writer ran text is =
     let rest = rest_of reader.old reader.new ran.read text ran.consumed is in
     (rest.0, rest_follows Outlasts answer reader rest.0 rest.1, rest.2)
 
-own_answer : (Outlasts : Type 0) (job : Job) (answer : Result Summary RunFault) (reader writer : Change)
-    → (ran : HasRun Outlasts job answer reader writer) → (text : List ℕ) → reader.old ≡ Some text → IsAnswer text job answer
-own_answer Outlasts job answer reader writer ran text is =
-    let own = own_text Outlasts job answer reader writer ran text is in
+own_answer : (lanes : ℕ) (Outlasts : Type 0) (job : Job) (answer : Result Summary RunFault) (reader writer : Change)
+    → (ran : HasRun lanes Outlasts job answer reader writer) → (text : List ℕ) → reader.old ≡ Some text → IsAnswer text job answer
+own_answer lanes Outlasts job answer reader writer ran text is =
+    let own = own_text lanes Outlasts job answer reader writer ran text is in
     subst (λ (l : List ℕ). IsAnswer l job answer) (sym own.2) (ran.verdict own.0 own.1)
 
 -- ---- what was written
 
--- all that is due was written, which are the messages of the results
-whole_results : (Outlasts : Type 0) (job : Job) (answer : Result Summary RunFault) (reader writer : Change) → HasRun Outlasts job answer reader writer
-    → (text : List ℕ) → reader.old ≡ Some text → EndsOutput answer → (found : Option SinkFault) → (has : HasResults text job found)
-    → Appends writer.old writer.new (written_of job.form (messages_of_stream has.results))
-whole_results Outlasts job answer reader writer ran text is ends found has =
-    let whole = ran.bytes.whole ends in
-    let due = whole.1 text (own_text Outlasts job answer reader writer ran text is) has.images has.said in
-    let messages = due ∙ due_of_results job.tools has.images has.results has.made in
-    rw messages at whole.0
+-- all that is due was written
+due_written : (lanes : ℕ) (Outlasts : Type 0) (job : Job) (answer : Result Summary RunFault) (reader writer : Change)
+    → (ran : HasRun lanes Outlasts job answer reader writer) → (text : List ℕ) → reader.old ≡ Some text → HoldsNothingBack lanes job answer
+    → Appends writer.old writer.new (written_of job.form ran.bytes.given) → (images : List Image) → AreSaid text images
+    → Appends writer.old writer.new (bytes_due job images)
+due_written lanes Outlasts job answer reader writer ran text is full written images said =
+    let due = ran.bytes.full full text (own_text lanes Outlasts job answer reader writer ran text is) images said in
+    rw due at written
 
-encoded : (Outlasts : Type 0) (job : Job) (answer : Result Summary RunFault) (reader writer : Change) → HasRun Outlasts job answer reader writer
-    → (text : List ℕ) → reader.old ≡ Some text → EndsOutput answer → (has : HasResults text job None)
+-- those are the messages of the results
+whole_results : (lanes : ℕ) (Outlasts : Type 0) (job : Job) (answer : Result Summary RunFault) (reader writer : Change)
+    → (ran : HasRun lanes Outlasts job answer reader writer) → (text : List ℕ) → reader.old ≡ Some text → HoldsNothingBack lanes job answer
+    → Appends writer.old writer.new (written_of job.form ran.bytes.given) → (found : Option SinkFault) → (has : HasResults text job found)
+    → Appends writer.old writer.new (written_of job.form (messages_of_stream has.results))
+whole_results lanes Outlasts job answer reader writer ran text is full all found has =
+    let written = due_written lanes Outlasts job answer reader writer ran text is full all has.images has.said in
+    let messages = due_of_results job.tools has.images has.results has.made in
+    rw messages at written
+
+encoded : (lanes : ℕ) (Outlasts : Type 0) (job : Job) (answer : Result Summary RunFault) (reader writer : Change)
+    → (ran : HasRun lanes Outlasts job answer reader writer) → (text : List ℕ) → reader.old ≡ Some text → HoldsNothingBack lanes job answer
+    → Appends writer.old writer.new (written_of job.form ran.bytes.given) → (has : HasResults text job None)
     → Appends writer.old writer.new (encoding_of job.form has.results)
-encoded Outlasts job answer reader writer ran text is ends has =
-    let written = whole_results Outlasts job answer reader writer ran text is ends None has in
+encoded lanes Outlasts job answer reader writer ran text is full all has =
+    let written = whole_results lanes Outlasts job answer reader writer ran text is full all None has in
     let bytes = written_all job.form (messages_of_stream has.results) (stream_fault job.form has.results ∙ has.fit)
     ∙ bytes_of_stream job.form has.results in
     subst (Appends writer.old writer.new) bytes written
 
-well : (Outlasts : Type 0) (job : Job) (answer : Result Summary RunFault) (reader writer : Change) → HasRun Outlasts job answer reader writer
+well : (lanes : ℕ) (Outlasts : Type 0) (job : Job) (answer : Result Summary RunFault) (reader writer : Change) → HasRun lanes Outlasts job answer reader writer
     → (text : List ℕ) → reader.old ≡ Some text → IfOk answer (EndedWell text job writer.old writer.new)
-well Outlasts job (Ok summary) reader writer ran text is =
-    let found = own_answer Outlasts job (Ok summary) reader writer ran text is in
+well lanes Outlasts job (Ok summary) reader writer ran text is =
+    let found = own_answer lanes Outlasts job (Ok summary) reader writer ran text is in
     record {
       images = found.0.images;
       results = found.0.results;
@@ -86,42 +96,46 @@ well Outlasts job (Ok summary) reader writer ran text is =
           record {
             made = found.0.made;
             fit = found.0.fit;
-            written = encoded Outlasts job (Ok summary) reader writer ran text is tt found.0;
+            written = encoded lanes Outlasts job (Ok summary) reader writer ran text is tt (ran.bytes.well summary refl) found.0;
           };
       counts = found.1;
     }
-well Outlasts job (Err fault) reader writer ran text is = tt
+well lanes Outlasts job (Err fault) reader writer ran text is = tt
 
-before_form_fault : (Outlasts : Type 0) (job : Job) (fault : SinkFault) (reader writer : Change) → HasRun Outlasts job (Err (Output fault)) reader writer
+before_form_fault : (lanes : ℕ) (Outlasts : Type 0) (job : Job) (fault : SinkFault) (reader writer : Change)
+    → HasRun lanes Outlasts job (Err (Output fault)) reader writer
     → (text : List ℕ) → reader.old ≡ Some text → IsFormFault job.form fault → IsVerdict text job (Some (Output fault)) ⊎ FailsAround text job (Output fault)
     → HasWrittenResults text job writer.old writer.new
-before_form_fault Outlasts job fault reader writer ran text is of_form (inl has) =
+before_form_fault lanes Outlasts job fault reader writer ran text is of_form (inl has) =
     let not_writer : fault ≢ WriteFailed = λ e. no_write_fault job.form (subst (IsFormFault job.form) e of_form) in
     record {
       images = has.images;
       results = has.results;
       said = has.said;
       made = has.made;
-      written = whole_results Outlasts job (Err (Output fault)) reader writer ran text is not_writer (Some fault) has;
+      written = whole_results lanes Outlasts job (Err (Output fault)) reader writer ran text is tt (ran.bytes.refused fault refl not_writer) (Some fault)
+          has;
     }
-before_form_fault Outlasts job fault reader writer ran text is of_form (inr around) =
+before_form_fault lanes Outlasts job fault reader writer ran text is of_form (inr around) =
     absurd (no_write_fault job.form (subst (IsFormFault job.form) around.0 of_form))
 
-before_refused : (Outlasts : Type 0) (job : Job) (answer : Result Summary RunFault) (reader writer : Change) → HasRun Outlasts job answer reader writer
+before_refused : (lanes : ℕ) (Outlasts : Type 0) (job : Job) (answer : Result Summary RunFault) (reader writer : Change)
+    → HasRun lanes Outlasts job answer reader writer
     → (text : List ℕ) → reader.old ≡ Some text
     → IfOutput answer (λ fault. IsFormFault job.form fault → HasWrittenResults text job writer.old writer.new)
-before_refused Outlasts job (Ok summary) reader writer ran text is = tt
-before_refused Outlasts job (Err NoStart) reader writer ran text is = tt
-before_refused Outlasts job (Err (Input fault)) reader writer ran text is = tt
-before_refused Outlasts job (Err (OfTool number fault)) reader writer ran text is = tt
-before_refused Outlasts job (Err (Output fault)) reader writer ran text is = λ of_form.
-    before_form_fault Outlasts job fault reader writer ran text is of_form (own_answer Outlasts job (Err (Output fault)) reader writer ran text is)
-before_refused Outlasts job (Err (PeerGone number)) reader writer ran text is = tt
+before_refused lanes Outlasts job (Ok summary) reader writer ran text is = tt
+before_refused lanes Outlasts job (Err NoStart) reader writer ran text is = tt
+before_refused lanes Outlasts job (Err (Input fault)) reader writer ran text is = tt
+before_refused lanes Outlasts job (Err (OfTool number fault)) reader writer ran text is = tt
+before_refused lanes Outlasts job (Err (Output fault)) reader writer ran text is = λ of_form.
+    before_form_fault lanes Outlasts job fault reader writer ran text is of_form (own_answer lanes Outlasts job (Err (Output fault)) reader writer ran text is)
+before_refused lanes Outlasts job (Err (PeerGone number)) reader writer ran text is = tt
 
 -- what was written is a prefix of the bytes that are due
-prefix_of_due : (Outlasts : Type 0) (job : Job) (answer : Result Summary RunFault) (reader writer : Change) → (ran : HasRun Outlasts job answer reader writer)
+prefix_of_due : (lanes : ℕ) (Outlasts : Type 0) (job : Job) (answer : Result Summary RunFault) (reader writer : Change)
+    → (ran : HasRun lanes Outlasts job answer reader writer)
     → (text : List ℕ) → IsText Outlasts answer reader ran.read text → IsPrefixOfBytesDue text job writer.old writer.new
-prefix_of_due Outlasts job answer reader writer ran text of images completes =
+prefix_of_due lanes Outlasts job answer reader writer ran text of images completes =
     let due = ran.bytes.due text of images completes in
     let bytes = written_prefix job.form ran.bytes.given due.0 in
     subst (AppendsPrefix writer.old writer.new) (sym (ap (written_of job.form) due.1 ∙ bytes.1))
@@ -129,33 +143,35 @@ prefix_of_due Outlasts job answer reader writer ran text of images completes =
 
 -- ---- the answer
 
-no_failure : (Outlasts : Type 0) (job : Job) (answer : Result Summary RunFault) (reader writer : Change) → HasRun Outlasts job answer reader writer
+no_failure : (lanes : ℕ) (Outlasts : Type 0) (job : Job) (answer : Result Summary RunFault) (reader writer : Change)
+    → HasRun lanes Outlasts job answer reader writer
     → OnOk answer ((reader.failures_new ≡ reader.failures_old) × (writer.failures_new ≡ writer.failures_old))
-no_failure Outlasts job (Ok summary) reader writer ran = (ran.failures.read (λ is. absurd cc), ran.failures.written summary refl)
-no_failure Outlasts job (Err fault) reader writer ran = tt
+no_failure lanes Outlasts job (Ok summary) reader writer ran = (ran.failures.read (λ is. absurd cc), ran.failures.written summary refl)
+no_failure lanes Outlasts job (Err fault) reader writer ran = tt
 
 of_input : (text : List ℕ) (job : Job) (fault : InputFault) → IsAnswer text job (Err (Input fault)) → IsOutsideFault fault ⊎ (fault_of text ≡ Some fault)
 of_input text job fault (inl own) = inr own
 of_input text job fault (inr outside) = inl outside
 
-input : (Outlasts : Type 0) (job : Job) (answer : Result Summary RunFault) (reader writer : Change) → HasRun Outlasts job answer reader writer
+input : (lanes : ℕ) (Outlasts : Type 0) (job : Job) (answer : Result Summary RunFault) (reader writer : Change) → HasRun lanes Outlasts job answer reader writer
     → (text : List ℕ) → reader.old ≡ Some text → IfInput answer (λ fault. IsOutsideFault fault ⊎ (fault_of text ≡ Some fault))
-input Outlasts job (Ok summary) reader writer ran text is = tt
-input Outlasts job (Err NoStart) reader writer ran text is = tt
-input Outlasts job (Err (Input fault)) reader writer ran text is =
-    of_input text job fault (own_answer Outlasts job (Err (Input fault)) reader writer ran text is)
-input Outlasts job (Err (OfTool number fault)) reader writer ran text is = tt
-input Outlasts job (Err (Output fault)) reader writer ran text is = tt
-input Outlasts job (Err (PeerGone number)) reader writer ran text is = tt
+input lanes Outlasts job (Ok summary) reader writer ran text is = tt
+input lanes Outlasts job (Err NoStart) reader writer ran text is = tt
+input lanes Outlasts job (Err (Input fault)) reader writer ran text is =
+    of_input text job fault (own_answer lanes Outlasts job (Err (Input fault)) reader writer ran text is)
+input lanes Outlasts job (Err (OfTool number fault)) reader writer ran text is = tt
+input lanes Outlasts job (Err (Output fault)) reader writer ran text is = tt
+input lanes Outlasts job (Err (PeerGone number)) reader writer ran text is = tt
 
-read_failed : (Outlasts : Type 0) (job : Job) (answer : Result Summary RunFault) (reader writer : Change) → HasRun Outlasts job answer reader writer
+read_failed : (lanes : ℕ) (Outlasts : Type 0) (job : Job) (answer : Result Summary RunFault) (reader writer : Change)
+    → HasRun lanes Outlasts job answer reader writer
     → IfInput answer (λ fault. fault ≡ ReadFailed → Failed reader.failures_old reader.failures_new ⊎ Outlasts)
-read_failed Outlasts job (Ok summary) reader writer ran = tt
-read_failed Outlasts job (Err NoStart) reader writer ran = tt
-read_failed Outlasts job (Err (Input fault)) reader writer ran = λ is. ran.failures.read_failed (ap (λ (f : InputFault). Err (Input f)) is)
-read_failed Outlasts job (Err (OfTool number fault)) reader writer ran = tt
-read_failed Outlasts job (Err (Output fault)) reader writer ran = tt
-read_failed Outlasts job (Err (PeerGone number)) reader writer ran = tt
+read_failed lanes Outlasts job (Ok summary) reader writer ran = tt
+read_failed lanes Outlasts job (Err NoStart) reader writer ran = tt
+read_failed lanes Outlasts job (Err (Input fault)) reader writer ran = λ is. ran.failures.read_failed (ap (λ (f : InputFault). Err (Input f)) is)
+read_failed lanes Outlasts job (Err (OfTool number fault)) reader writer ran = tt
+read_failed lanes Outlasts job (Err (Output fault)) reader writer ran = tt
+read_failed lanes Outlasts job (Err (PeerGone number)) reader writer ran = tt
 
 -- ---- a tool's fault
 
@@ -190,30 +206,31 @@ tool_by text job number fault lawful (inl refused) =
     (λ e. named.1 number (ap (OfTool number) e), within.0, omega (arith, within.1))
 tool_by text job number fault lawful (inr around) = (λ e. let no : Memory ≡ OutOfOrder = sym around.0 ∙ e in absurd cc, around.1, around.2)
 
-tool_fault : (Outlasts : Type 0) (job : Job) (answer : Result Summary RunFault) (reader writer : Change) → AreLawfulTools job.tools
-    → HasRun Outlasts job answer reader writer → IfTool answer (λ number fault. IsToolFault job number fault)
-tool_fault Outlasts job (Ok summary) reader writer lawful ran = tt
-tool_fault Outlasts job (Err NoStart) reader writer lawful ran = tt
-tool_fault Outlasts job (Err (Input fault)) reader writer lawful ran = tt
-tool_fault Outlasts job (Err (OfTool number fault)) reader writer lawful ran =
+tool_fault : (lanes : ℕ) (Outlasts : Type 0) (job : Job) (answer : Result Summary RunFault) (reader writer : Change) → AreLawfulTools job.tools
+    → HasRun lanes Outlasts job answer reader writer → IfTool answer (λ number fault. IsToolFault job number fault)
+tool_fault lanes Outlasts job (Ok summary) reader writer lawful ran = tt
+tool_fault lanes Outlasts job (Err NoStart) reader writer lawful ran = tt
+tool_fault lanes Outlasts job (Err (Input fault)) reader writer lawful ran = tt
+tool_fault lanes Outlasts job (Err (OfTool number fault)) reader writer lawful ran =
     tool_by (ran.read ++ []) job number fault lawful (ran.verdict [] (inl refl))
-tool_fault Outlasts job (Err (Output fault)) reader writer lawful ran = tt
-tool_fault Outlasts job (Err (PeerGone number)) reader writer lawful ran = tt
+tool_fault lanes Outlasts job (Err (Output fault)) reader writer lawful ran = tt
+tool_fault lanes Outlasts job (Err (PeerGone number)) reader writer lawful ran = tt
 
 stopped_by : (text : List ℕ) (job : Job) (number : ℕ) (fault : ToolFault) → IsAnswer text job (Err (OfTool number fault))
     → IsStoppedBy text job.tools number fault
 stopped_by text job number fault (inl refused) = inr refused
 stopped_by text job number fault (inr around) = inl (around.0, around.3)
 
-refusal_is : (Outlasts : Type 0) (job : Job) (answer : Result Summary RunFault) (reader writer : Change) → HasRun Outlasts job answer reader writer
+refusal_is : (lanes : ℕ) (Outlasts : Type 0) (job : Job) (answer : Result Summary RunFault) (reader writer : Change)
+    → HasRun lanes Outlasts job answer reader writer
     → (text : List ℕ) → reader.old ≡ Some text → IfTool answer (λ number fault. IsStoppedBy text job.tools number fault)
-refusal_is Outlasts job (Ok summary) reader writer ran text is = tt
-refusal_is Outlasts job (Err NoStart) reader writer ran text is = tt
-refusal_is Outlasts job (Err (Input fault)) reader writer ran text is = tt
-refusal_is Outlasts job (Err (OfTool number fault)) reader writer ran text is =
-    stopped_by text job number fault (own_answer Outlasts job (Err (OfTool number fault)) reader writer ran text is)
-refusal_is Outlasts job (Err (Output fault)) reader writer ran text is = tt
-refusal_is Outlasts job (Err (PeerGone number)) reader writer ran text is = tt
+refusal_is lanes Outlasts job (Ok summary) reader writer ran text is = tt
+refusal_is lanes Outlasts job (Err NoStart) reader writer ran text is = tt
+refusal_is lanes Outlasts job (Err (Input fault)) reader writer ran text is = tt
+refusal_is lanes Outlasts job (Err (OfTool number fault)) reader writer ran text is =
+    stopped_by text job number fault (own_answer lanes Outlasts job (Err (OfTool number fault)) reader writer ran text is)
+refusal_is lanes Outlasts job (Err (Output fault)) reader writer ran text is = tt
+refusal_is lanes Outlasts job (Err (PeerGone number)) reader writer ran text is = tt
 
 -- ---- the output's fault
 
@@ -221,37 +238,38 @@ abbrev IsOfOutput : Job → SinkFault → Change → Change → Type 0
 IsOfOutput job fault reader writer = (((fault ≡ WriteFailed) × Failed writer.failures_old writer.failures_new) ⊎ IsFormFault job.form fault)
     × (reader.failures_new ≡ reader.failures_old)
 
-output_by : (Outlasts : Type 0) (job : Job) (fault : SinkFault) (reader writer : Change) → AreLawfulTools job.tools
-    → (ran : HasRun Outlasts job (Err (Output fault)) reader writer) → IsAnswer (ran.read ++ []) job (Err (Output fault))
+output_by : (lanes : ℕ) (Outlasts : Type 0) (job : Job) (fault : SinkFault) (reader writer : Change) → AreLawfulTools job.tools
+    → (ran : HasRun lanes Outlasts job (Err (Output fault)) reader writer) → IsAnswer (ran.read ++ []) job (Err (Output fault))
     → ((fault ≡ WriteFailed) × Failed writer.failures_old writer.failures_new) ⊎ IsFormFault job.form fault
-output_by Outlasts job fault reader writer lawful ran (inl has) =
+output_by lanes Outlasts job fault reader writer lawful ran (inl has) =
     let of_text = verdict_is_of_text (ran.read ++ []) job (Output fault) lawful has in inr (of_text.2 fault refl)
-output_by Outlasts job fault reader writer lawful ran (inr around) =
+output_by lanes Outlasts job fault reader writer lawful ran (inr around) =
     inl (around.0, ran.failures.write_failed (ap (λ (f : SinkFault). Err (Output f)) around.0))
 
-output : (Outlasts : Type 0) (job : Job) (answer : Result Summary RunFault) (reader writer : Change) → AreLawfulTools job.tools
-    → HasRun Outlasts job answer reader writer → IfOutput answer (λ fault. IsOfOutput job fault reader writer)
-output Outlasts job (Ok summary) reader writer lawful ran = tt
-output Outlasts job (Err NoStart) reader writer lawful ran = tt
-output Outlasts job (Err (Input fault)) reader writer lawful ran = tt
-output Outlasts job (Err (OfTool number fault)) reader writer lawful ran = tt
-output Outlasts job (Err (Output fault)) reader writer lawful ran =
-    (output_by Outlasts job fault reader writer lawful ran (ran.verdict [] (inl refl)), ran.failures.read (λ is. absurd cc))
-output Outlasts job (Err (PeerGone number)) reader writer lawful ran = tt
+output : (lanes : ℕ) (Outlasts : Type 0) (job : Job) (answer : Result Summary RunFault) (reader writer : Change) → AreLawfulTools job.tools
+    → HasRun lanes Outlasts job answer reader writer → IfOutput answer (λ fault. IsOfOutput job fault reader writer)
+output lanes Outlasts job (Ok summary) reader writer lawful ran = tt
+output lanes Outlasts job (Err NoStart) reader writer lawful ran = tt
+output lanes Outlasts job (Err (Input fault)) reader writer lawful ran = tt
+output lanes Outlasts job (Err (OfTool number fault)) reader writer lawful ran = tt
+output lanes Outlasts job (Err (Output fault)) reader writer lawful ran =
+    (output_by lanes Outlasts job fault reader writer lawful ran (ran.verdict [] (inl refl)), ran.failures.read (λ is. absurd cc))
+output lanes Outlasts job (Err (PeerGone number)) reader writer lawful ran = tt
 
-accepted_by : (text : List ℕ) (job : Job) (fault : SinkFault) → IsAnswer text job (Err (Output fault)) → IsAcceptedBy text job.tools
+accepted_by : (text : List ℕ) (job : Job) (fault : SinkFault) → IsAnswer text job (Err (Output fault)) → HasRefusal text job.tools None
 accepted_by text job fault (inl has) = (has.images, has.said, has.taken)
 accepted_by text job fault (inr around) = around.1
 
-output_last : (Outlasts : Type 0) (job : Job) (answer : Result Summary RunFault) (reader writer : Change) → HasRun Outlasts job answer reader writer
-    → (text : List ℕ) → reader.old ≡ Some text → IfOutput answer (λ fault. IsAcceptedBy text job.tools)
-output_last Outlasts job (Ok summary) reader writer ran text is = tt
-output_last Outlasts job (Err NoStart) reader writer ran text is = tt
-output_last Outlasts job (Err (Input fault)) reader writer ran text is = tt
-output_last Outlasts job (Err (OfTool number fault)) reader writer ran text is = tt
-output_last Outlasts job (Err (Output fault)) reader writer ran text is =
-    accepted_by text job fault (own_answer Outlasts job (Err (Output fault)) reader writer ran text is)
-output_last Outlasts job (Err (PeerGone number)) reader writer ran text is = tt
+output_last : (lanes : ℕ) (Outlasts : Type 0) (job : Job) (answer : Result Summary RunFault) (reader writer : Change)
+    → HasRun lanes Outlasts job answer reader writer
+    → (text : List ℕ) → reader.old ≡ Some text → IfOutput answer (λ fault. HasRefusal text job.tools None)
+output_last lanes Outlasts job (Ok summary) reader writer ran text is = tt
+output_last lanes Outlasts job (Err NoStart) reader writer ran text is = tt
+output_last lanes Outlasts job (Err (Input fault)) reader writer ran text is = tt
+output_last lanes Outlasts job (Err (OfTool number fault)) reader writer ran text is = tt
+output_last lanes Outlasts job (Err (Output fault)) reader writer ran text is =
+    accepted_by text job fault (own_answer lanes Outlasts job (Err (Output fault)) reader writer ran text is)
+output_last lanes Outlasts job (Err (PeerGone number)) reader writer ran text is = tt
 
 -- ---- the verdict
 
@@ -271,70 +289,73 @@ gone_by : (text : List ℕ) (job : Job) (number : ℕ) → IsAnswer text job (Er
 gone_by text job number (inl verdict) = absurd verdict
 gone_by text job number (inr around) = around
 
-gone : (Outlasts : Type 0) (job : Job) (answer : Result Summary RunFault) (reader writer : Change) → HasRun Outlasts job answer reader writer
+gone : (lanes : ℕ) (Outlasts : Type 0) (job : Job) (answer : Result Summary RunFault) (reader writer : Change) → HasRun lanes Outlasts job answer reader writer
     → IfGone answer (λ number. number ≤ length job.tools + 1)
-gone Outlasts job (Ok summary) reader writer ran = tt
-gone Outlasts job (Err NoStart) reader writer ran = tt
-gone Outlasts job (Err (Input fault)) reader writer ran = tt
-gone Outlasts job (Err (OfTool number fault)) reader writer ran = tt
-gone Outlasts job (Err (Output fault)) reader writer ran = tt
-gone Outlasts job (Err (PeerGone number)) reader writer ran = gone_by (ran.read ++ []) job number (ran.verdict [] (inl refl))
+gone lanes Outlasts job (Ok summary) reader writer ran = tt
+gone lanes Outlasts job (Err NoStart) reader writer ran = tt
+gone lanes Outlasts job (Err (Input fault)) reader writer ran = tt
+gone lanes Outlasts job (Err (OfTool number fault)) reader writer ran = tt
+gone lanes Outlasts job (Err (Output fault)) reader writer ran = tt
+gone lanes Outlasts job (Err (PeerGone number)) reader writer ran = gone_by (ran.read ++ []) job number (ran.verdict [] (inl refl))
 
 -- ---- the run
 
-pub tells : (Outlasts : Type 0) (job : Job) (answer : Result Summary RunFault) (reader writer : Change) → AreLawfulTools job.tools
-    → HasRun Outlasts job answer reader writer → RunTells Outlasts job answer reader writer
-tells Outlasts job answer reader writer lawful ran = record {
-  well = λ text is. well Outlasts job answer reader writer ran text is;
-  no_failure = no_failure Outlasts job answer reader writer ran;
-  input = λ text is. input Outlasts job answer reader writer ran text is;
-  read_failed = read_failed Outlasts job answer reader writer ran;
+pub tells : (lanes : ℕ) (Outlasts : Type 0) (job : Job) (answer : Result Summary RunFault) (reader writer : Change) → AreLawfulTools job.tools
+    → HasRun lanes Outlasts job answer reader writer → RunTells lanes Outlasts job answer reader writer
+tells lanes Outlasts job answer reader writer lawful ran = record {
+  well = λ text is. well lanes Outlasts job answer reader writer ran text is;
+  no_failure = no_failure lanes Outlasts job answer reader writer ran;
+  input = λ text is. input lanes Outlasts job answer reader writer ran text is;
+  read_failed = read_failed lanes Outlasts job answer reader writer ran;
   sound_reader = λ not. ran.failures.read not;
-  tool = tool_fault Outlasts job answer reader writer lawful ran;
-  refusal = λ text is. refusal_is Outlasts job answer reader writer ran text is;
-  output = output Outlasts job answer reader writer lawful ran;
-  output_last = λ text is. output_last Outlasts job answer reader writer ran text is;
-  before_refused = λ text is. before_refused Outlasts job answer reader writer ran text is;
-  verdict = λ text is. verdict_by text job answer (own_answer Outlasts job answer reader writer ran text is);
-  prefix = λ text is. prefix_of_due Outlasts job answer reader writer ran text (own_text Outlasts job answer reader writer ran text is);
+  tool = tool_fault lanes Outlasts job answer reader writer lawful ran;
+  refusal = λ text is. refusal_is lanes Outlasts job answer reader writer ran text is;
+  output = output lanes Outlasts job answer reader writer lawful ran;
+  output_last = λ text is. output_last lanes Outlasts job answer reader writer ran text is;
+  before_refused = λ text is. before_refused lanes Outlasts job answer reader writer ran text is;
+  all_due = λ text is full sound images said. due_written lanes Outlasts job answer reader writer ran text is full (ran.bytes.all sound) images said;
+  verdict = λ text is. verdict_by text job answer (own_answer lanes Outlasts job answer reader writer ran text is);
+  prefix = λ text is. prefix_of_due lanes Outlasts job answer reader writer ran text (own_text lanes Outlasts job answer reader writer ran text is);
   prefix_for_each =
       record {
         read = ran.read;
         consumed = ran.consumed;
-        prefix = λ rest may. prefix_of_due Outlasts job answer reader writer ran (ran.read ++ rest) (rest, may, refl);
+        prefix = λ rest may. prefix_of_due lanes Outlasts job answer reader writer ran (ran.read ++ rest) (rest, may, refl);
       };
-  gone = gone Outlasts job answer reader writer ran;
+  gone = gone lanes Outlasts job answer reader writer ran;
 }
 
 pub run_in_one_thread_tells : WhatARunInOneThreadTells
-run_in_one_thread_tells job answer reader writer lawful ran = tells (OutlastsRun reader.old reader.new) job answer reader writer lawful ran
+run_in_one_thread_tells job answer reader writer lawful ran = tells 1 (OutlastsRun reader.old reader.new) job answer reader writer lawful ran
 
 -- over threads the reader failed where that is answered
 failed_itself : (failed : Type 0) → failed ⊎ ⊥ → failed
 failed_itself failed (inl is) = is
 failed_itself failed (inr none) = absurd none
 
-after_failed_read : (job : Job) (answer : Result Summary RunFault) (reader writer : Change) → HasRun ⊥ job answer reader writer
+after_failed_read : (lanes : ℕ) (job : Job) (answer : Result Summary RunFault) (reader writer : Change) → HasRun lanes ⊥ job answer reader writer
     → IfInput answer (λ fault. fault ≡ ReadFailed → Failed reader.failures_old reader.failures_new × IsPrefixWhatever job reader writer)
-after_failed_read job (Ok summary) reader writer ran = tt
-after_failed_read job (Err NoStart) reader writer ran = tt
-after_failed_read job (Err (Input fault)) reader writer ran = λ is.
+after_failed_read lanes job (Ok summary) reader writer ran = tt
+after_failed_read lanes job (Err NoStart) reader writer ran = tt
+after_failed_read lanes job (Err (Input fault)) reader writer ran = λ is.
     let answered = ap (λ (f : InputFault). Err (Input f)) is in (
       failed_itself (Failed reader.failures_old reader.failures_new) (ran.failures.read_failed answered),
       record {
         read = ran.read;
         consumed = ran.consumed;
-        prefix = λ rest. prefix_of_due ⊥ job (Err (Input fault)) reader writer ran (ran.read ++ rest) (rest, inr (inr (answered, inr (λ none. none))), refl);
+        prefix = λ rest.
+            let may = inr (inr (answered, inr (λ none. none))) in
+            prefix_of_due lanes ⊥ job (Err (Input fault)) reader writer ran (ran.read ++ rest) (rest, may, refl);
       },
     )
-after_failed_read job (Err (OfTool number fault)) reader writer ran = tt
-after_failed_read job (Err (Output fault)) reader writer ran = tt
-after_failed_read job (Err (PeerGone number)) reader writer ran = tt
+after_failed_read lanes job (Err (OfTool number fault)) reader writer ran = tt
+after_failed_read lanes job (Err (Output fault)) reader writer ran = tt
+after_failed_read lanes job (Err (PeerGone number)) reader writer ran = tt
 
 pub run_tells : WhatARunTells
-run_tells job answer reader writer lawful ran = record {
-  run = tells ⊥ job answer reader writer lawful ran;
-  read_failed = after_failed_read job answer reader writer ran;
+run_tells lanes job answer reader writer lawful ran = record {
+  run = tells lanes ⊥ job answer reader writer lawful ran;
+  read_failed = after_failed_read lanes job answer reader writer ran;
 }
 
 pub run_without_list_tells : WhatARunWithoutListTells

@@ -1,6 +1,6 @@
 -- What a run has read and written when all messages have passed.
-use Rattle.std.proofs.Common.{◌≡◌, ◌⊎◌, ℕ, Bool, List, [], ◌∷◌, ◌++◌, take, length, sum_by, zero-add, Option, None, Some, Result, Ok, Err, refl, sym, ap, subst}
-use Rattle.std.proofs.Common.{◌∙◌, inl, inr, append_assoc}
+use Rattle.std.proofs.Common.{◌≡◌, ◌≢◌, ◌⊎◌, ℕ, Bool, List, [], ◌∷◌, ◌++◌, take, length, sum_by, zero-add, Option, None, Some, Result, Ok, Err}
+use Rattle.std.proofs.Common.{refl, sym, ap, subst, ◌∙◌, inl, inr, append_assoc}
 use Rattle.std.specs.Result.{is_err}
 use Rattle.std.specs.List.{AllByRecursion}
 use Rattle.std.specs.Io.KnownBytes.{Appends, Keeps}
@@ -20,6 +20,7 @@ use Rattle.pnm_read.specs.BufferedReaders.{IsOutsideFault}
 use Rattle.pnm_read.proofs.TextLaws.{said_text_is_spelled, are_said}
 use Rattle.pnm_read.proofs.StreamLaws.{no_text_fault}
 use Rattle.pnm_tools.specs.declared.fault.ToolFault.{ToolFault}
+use Rattle.pnm_tools.specs.declared.fault.ToolFault.TheVariants.{Memory}
 use Rattle.pnm_tools.specs.declared.tool.Tool.{Tool}
 use Rattle.pnm_tools.specs.Chains.{AreLawfulTools, due_in_turn}
 use Rattle.pnm_tools.specs.ChainAnswers.{IsSound, AreSound, HaveAnswered, AreWell, IsFirstFault}
@@ -44,10 +45,11 @@ use Rattle.pnm_serial.specs.Feeding.{IsSaidOf, HasFed}
 use Rattle.pnm_serial.specs.Jobs.{Job}
 use Rattle.pnm_serial.specs.RunFacts.{IsStoppedBy}
 use Rattle.pnm_serial.specs.SerialRuns.{FitAnswer, IsAllWritten}
-use Rattle.pnm_serial.specs.Verdicts.{IsAcceptedBy, HasResults, IsAnswer}
+use Rattle.pnm_serial.specs.Verdicts.{HasRefusal, HasResults, IsAnswer}
 use Rattle.pnm_serial.specs.SerialChains.{refusals_in, FiltersAt}
 use Rattle.pnm_serial.proofs.CountLaws.{images_in-stream, rows_in-stream}
 use Rattle.pnm_serial.proofs.FeedingSteps.{said_are_sound}
+use Rattle.pnm_serial.proofs.LastRefusals.{last_refusal_is_due}
 use Rattle.pnm_serial.proofs.ResultSteps.{due_of_results}
 
 -- ---- what is said
@@ -237,6 +239,16 @@ run_whole tools faults given out text lawful have said well images are =
     (subst (λ (l : List Message). HaveAnswered tools faults l out) (sym said.0 ∙ are.messages) have) in
     answered.3 ∙ sym (due_of_results tools images answered.0 answered.1)
 
+-- and so it is where the last one has refused an image
+pub run_last : (tools : List Tool) (faults : List (Option ToolFault)) (given out : List Message) (text : List ℕ) (number : ℕ) (fault : ToolFault)
+    → AreLawfulTools tools → AreSound given → HaveAnswered tools faults given out → (said_of text ≡ given) × (fault_of text ≡ None)
+    → IsFirstFault 1 faults number fault → number ≡ length tools → fault ≢ Memory
+    → (images : List Image) → AreSaid text images → out ≡ due_in_turn tools images
+run_last tools faults given out text number fault lawful sound have said first last named images are =
+    let stream : given ≡ messages_of_stream images = sym said.0 ∙ are.messages in
+    last_refusal_is_due tools faults images out number fault lawful are.images_are (subst AreSound stream sound)
+    (subst (λ (l : List Message). HaveAnswered tools faults l out) stream have) first last named
+
 -- where the whole text was read, all that the tools answered was written, unless the writer failed
 pub run_all : {W : Type 0} (held : W → Option (List ℕ)) (failures : W → ℕ) (start done : W) (job : Job) (faults : List (Option ToolFault))
     (given out : List Message) (d : FusedSink W) (text : List ℕ)
@@ -267,7 +279,8 @@ run_refused tools faults given out text number fault lawful sound_given have sai
 
 -- no stage has refused
 pub run_taken : (tools : List Tool) (faults : List (Option ToolFault)) (given out : List Message) (text : List ℕ)
-    → AreLawfulTools tools → HaveAnswered tools faults given out → (said_of text ≡ given) × (fault_of text ≡ None) → AreWell faults → IsAcceptedBy text tools
+    → AreLawfulTools tools → HaveAnswered tools faults given out → (said_of text ≡ given) × (fault_of text ≡ None) → AreWell faults
+    → HasRefusal text tools None
 run_taken tools faults given out text lawful have said well =
     let found = images_said text given said in
     let answered = stream_is_answered tools faults found.0 out lawful found.1.images_are well

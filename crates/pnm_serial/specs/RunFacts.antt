@@ -1,6 +1,6 @@
 -- What a run tells by its answer, which follows of `HasRun`.
 use Rattle.std.specs.Prelude.{◌≡◌, ◌≢◌, ◌⊎◌, ℕ, ◌-◌, ◌+◌, ◌≤◌, length, take, List, ◌++◌, Option, Some, Result, Ok}
-use Rattle.std.specs.Prelude.{Err, IfOk, OnOk}
+use Rattle.std.specs.Prelude.{None, Err, IfOk, OnOk}
 use Rattle.std.specs.Io.KnownBytes.{Appends, Consumes}
 use Rattle.pnm_image.specs.Completion.{Completes}
 use Rattle.pnm_image.specs.Devices.{AppendsPrefix, Failed}
@@ -21,9 +21,9 @@ use Rattle.pnm_serial.specs.declared.fault.RunFault.{RunFault}
 use Rattle.pnm_serial.specs.declared.fault.RunFault.TheVariants.{NoStart, Input, Tool as OfTool, Output, PeerGone}
 use Rattle.pnm_serial.specs.declared.summary.Summary.{Summary}
 use Rattle.pnm_serial.specs.Jobs.{Job, bytes_due, IsOutputOf}
-use Rattle.pnm_serial.specs.Runs.{Change, MayFollow, HasRun}
+use Rattle.pnm_serial.specs.Runs.{Change, MayFollow, HoldsNothingBack, HasRun}
 use Rattle.pnm_serial.specs.SerialRuns.{OutlastsRun, IsAllWritten}
-use Rattle.pnm_serial.specs.Verdicts.{IsRefusedBy, IsAcceptedBy, AnswersVerdict, summary_of}
+use Rattle.pnm_serial.specs.Verdicts.{HasRefusal, AnswersVerdict, summary_of}
 
 -- ---- cases of an answer
 
@@ -82,8 +82,8 @@ pub record HasWrittenResults (text : List ℕ) (job : Job) (old new : Option (Li
 -- the text is accepted, and a tool is the first that refuses one of the images; or there was no memory for it, and no
 -- tool before it refuses one
 abbrev pub IsStoppedBy : List ℕ → List Tool → ℕ → ToolFault → Type 0
-IsStoppedBy text tools number fault = ((fault ≡ Memory) × IsAcceptedBy text (take (number - 1) tools))
-    ⊎ IsRefusedBy text tools number fault
+IsStoppedBy text tools number fault = ((fault ≡ Memory) × HasRefusal text (take (number - 1) tools) None)
+    ⊎ HasRefusal text tools (Some (record { number = number; fault = fault }))
 
 -- what was written is a prefix of what is due, whatever images complete what is said of the text
 abbrev pub IsPrefixOfBytesDue : List ℕ → Job → Option (List ℕ) → Option (List ℕ) → Type 0
@@ -106,8 +106,8 @@ pub record IsPrefixWhatever (job : Job) (reader writer : Change) : Type 0 where
 
 -- ---- the run
 
-pub record RunTells (Outlasts : Type 0) (job : Job) (answer : Result Summary RunFault) (reader writer : Change)
-    : Type 0 where
+pub record RunTells (lanes : ℕ) (Outlasts : Type 0) (job : Job) (answer : Result Summary RunFault)
+    (reader writer : Change) : Type 0 where
   -- It ends well only where the whole input is accepted, no tool refuses an image, the form can hold the results of
   -- all images, these are written, and no device failed.
   pub well : (text : List ℕ) → reader.old ≡ Some text → IfOk answer (EndedWell text job writer.old writer.new)
@@ -130,10 +130,16 @@ pub record RunTells (Outlasts : Type 0) (job : Job) (answer : Result Summary Run
   pub output : IfOutput answer
       (λ fault. (((fault ≡ WriteFailed) × Failed writer.failures_old writer.failures_new) ⊎ IsFormFault job.form fault)
       × (reader.failures_new ≡ reader.failures_old))
-  pub output_last : (text : List ℕ) → reader.old ≡ Some text → IfOutput answer (λ fault. IsAcceptedBy text job.tools)
+  pub output_last : (text : List ℕ) → reader.old ≡ Some text → IfOutput answer
+      (λ fault. HasRefusal text job.tools None)
   -- At a fault of the form all was written that it takes of the results.
   pub before_refused : (text : List ℕ) → reader.old ≡ Some text
       → IfOutput answer (λ fault. IsFormFault job.form fault → HasWrittenResults text job writer.old writer.new)
+  -- Where nothing is held back, as if the last tool refused an image and works in one lane, all that is due was
+  -- written, unless the writer failed.
+  pub all_due : (text : List ℕ) → reader.old ≡ Some text → HoldsNothingBack lanes job answer
+      → ¬ Failed writer.failures_old writer.failures_new → (images : List Image) → AreSaid text images
+      → Appends writer.old writer.new (bytes_due job images)
   -- So each answer is the verdict, unless it is from outside.
   pub verdict : (text : List ℕ) → reader.old ≡ Some text → AnswersVerdict text job answer
   -- However it ends, what is written is a prefix of the output due, for the reader's own text and for any other that
@@ -146,19 +152,21 @@ pub record RunTells (Outlasts : Type 0) (job : Job) (answer : Result Summary Run
 -- in one thread a run tells all this
 abbrev pub WhatARunInOneThreadTells : Type 0
 WhatARunInOneThreadTells = (job : Job) (answer : Result Summary RunFault) (reader writer : Change)
-    → AreLawfulTools job.tools → HasRun (OutlastsRun reader.old reader.new) job answer reader writer
-    → RunTells (OutlastsRun reader.old reader.new) job answer reader writer
+    → AreLawfulTools job.tools → HasRun 1 (OutlastsRun reader.old reader.new) job answer reader writer
+    → RunTells 1 (OutlastsRun reader.old reader.new) job answer reader writer
 
 -- and over threads too; no number of messages ends such a run: where a failed read is answered the reader failed, and
 -- anything may come after the bytes that were read
-pub record RunOverThreadsTells (job : Job) (answer : Result Summary RunFault) (reader writer : Change) : Type 0 where
-  pub run : RunTells ⊥ job answer reader writer
+pub record RunOverThreadsTells (lanes : ℕ) (job : Job) (answer : Result Summary RunFault) (reader writer : Change)
+    : Type 0 where
+  pub run : RunTells lanes ⊥ job answer reader writer
   pub read_failed : IfInput answer (λ fault. fault ≡ ReadFailed → Failed reader.failures_old reader.failures_new
       × IsPrefixWhatever job reader writer)
 
 abbrev pub WhatARunTells : Type 0
-WhatARunTells = (job : Job) (answer : Result Summary RunFault) (reader writer : Change)
-    → AreLawfulTools job.tools → HasRun ⊥ job answer reader writer → RunOverThreadsTells job answer reader writer
+WhatARunTells = (lanes : ℕ) (job : Job) (answer : Result Summary RunFault) (reader writer : Change)
+    → AreLawfulTools job.tools → HasRun lanes ⊥ job answer reader writer
+    → RunOverThreadsTells lanes job answer reader writer
 
 -- where there is no memory for the list of the tools, and nothing is read and written, that is a prefix of what is due
 -- for each text, and all that tools without memory answer

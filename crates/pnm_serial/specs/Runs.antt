@@ -1,5 +1,6 @@
 -- What a run answers, reads and writes, in one thread or over several. A prefix of a list is what it begins with.
-use Rattle.std.specs.Prelude.{◌≡◌, ◌≢◌, ◌⊎◌, ℕ, ◌<◌, List, [], ◌∷◌, ◌++◌, Option, Some, Result, Ok, Err}
+use Rattle.std.specs.Prelude.{◌≡◌, ◌≢◌, ◌⊎◌, ℕ, ◌<◌, ◌≤◌, false, length, List, [], ◌∷◌, ◌++◌, Option, Some, Result, Ok}
+use Rattle.std.specs.Prelude.{Err}
 use Rattle.std.specs.Io.KnownBytes.{Appends, Consumes}
 use Rattle.pnm_image.specs.declared.message.Message.{Message}
 use Rattle.pnm_image.specs.Completion.{IsPrefixOf, Completes}
@@ -7,7 +8,11 @@ use Rattle.pnm_image.specs.Devices.{AppendsPrefix, Failed}
 use Rattle.pnm_image.specs.Images.{Image}
 use Rattle.pnm_read.specs.declared.fault.InputFault.TheVariants.{ReadFailed}
 use Rattle.pnm_read.specs.Said.{said_of, AreSaid}
+use Rattle.pnm_tools.specs.declared.fault.ToolFault.TheVariants.{Memory}
+use Rattle.pnm_tools.specs.declared.tool.Tool.{Tool}
 use Rattle.pnm_tools.specs.Chains.{due_in_turn}
+use Rattle.pnm_tools.specs.Tools.{is_row_wise}
+use Rattle.pnm_write.specs.declared.fault.SinkFault.{SinkFault}
 use Rattle.pnm_write.specs.declared.fault.SinkFault.TheVariants.{WriteFailed}
 use Rattle.pnm_write.specs.Encoding.{written_of}
 use Rattle.pnm_serial.specs.declared.fault.RunFault.{RunFault}
@@ -36,28 +41,34 @@ MayFollow Outlasts answer reader rest = (rest ≡ [])
 
 -- ---- what was written
 
--- the output is whole: the run ends well, or by another fault of the output than the writer's
-abbrev pub EndsOutput : Result Summary RunFault → Type 0
-EndsOutput (Ok summary) = Unit {0}
-EndsOutput (Err NoStart) = ⊥
-EndsOutput (Err (Input fault)) = ⊥
-EndsOutput (Err (OfTool number fault)) = ⊥
-EndsOutput (Err (Output fault)) = fault ≢ WriteFailed
-EndsOutput (Err (PeerGone number)) = ⊥
+-- all that is due is given to the output: the run ends well, or by the output's fault; or it is the last tool that
+-- refused an image, and that tool works in one lane
+abbrev pub HoldsNothingBack : ℕ → Job → Result Summary RunFault → Type 0
+HoldsNothingBack lanes job (Ok summary) = Unit {0}
+HoldsNothingBack lanes job (Err NoStart) = ⊥
+HoldsNothingBack lanes job (Err (Input fault)) = ⊥
+HoldsNothingBack lanes job (Err (OfTool number fault)) = (fault ≢ Memory) × (number ≡ length job.tools)
+    × ((before : List Tool) × (last : Tool) × (job.tools ≡ before ++ last ∷ [])
+    × ((lanes ≤ 1) ⊎ (is_row_wise last ≡ false)))
+HoldsNothingBack lanes job (Err (Output fault)) = Unit {0}
+HoldsNothingBack lanes job (Err (PeerGone number)) = ⊥
 
--- Messages were given to the output, of which that was written which the form takes, and all of it unless the writer
--- failed. For each of these texts they are a prefix of the messages that are due, whatever images complete what is said
--- of it; and they are all that is due where the output is whole, even if a flush has failed.
-pub record HasWritten (job : Job) (answer : Result Summary RunFault) (IsText : List ℕ → Type 0) (writer : Change)
-    : Type 0 where
+-- Messages were given to the output, and what the form takes of them was written: a prefix of it, and all of it if the
+-- writer didn't fail, if the run ended well, or if the form refused one of them, even if a flush has failed. For each
+-- of these texts they are a prefix of the messages that are due, whatever images complete what is said of it; and all
+-- that is due if none is held back.
+pub record HasWritten (lanes : ℕ) (job : Job) (answer : Result Summary RunFault) (IsText : List ℕ → Type 0)
+    (writer : Change) : Type 0 where
   pub given : List Message
   pub due : (text : List ℕ) → IsText text → (images : List Image) → Completes images (said_of text)
       → IsPrefixOf given (due_in_turn job.tools images)
+  pub full : HoldsNothingBack lanes job answer → (text : List ℕ) → IsText text → (images : List Image)
+      → AreSaid text images → given ≡ due_in_turn job.tools images
   pub prefix : AppendsPrefix writer.old writer.new (written_of job.form given)
   pub all : ¬ Failed writer.failures_old writer.failures_new → Appends writer.old writer.new (written_of job.form given)
-  pub whole : EndsOutput answer → Appends writer.old writer.new (written_of job.form given)
-      × ((text : List ℕ) → IsText text → (images : List Image) → AreSaid text images
-      → given ≡ due_in_turn job.tools images)
+  pub well : (summary : Summary) → answer ≡ Ok summary → Appends writer.old writer.new (written_of job.form given)
+  pub refused : (fault : SinkFault) → answer ≡ Err (Output fault) → fault ≢ WriteFailed
+      → Appends writer.old writer.new (written_of job.form given)
 
 -- ---- what failed
 
@@ -71,13 +82,14 @@ pub record CountsFailures (Outlasts : Type 0) (answer : Result Summary RunFault)
 
 -- ---- the run
 
--- A run that was started. It has read these bytes; and for each text that they may begin, it answers as it should, and
--- has written of what is due. It may answer that the reader failed though it didn't where `Outlasts` holds.
-pub record HasRun (Outlasts : Type 0) (job : Job) (answer : Result Summary RunFault) (reader writer : Change)
-    : Type 0 where
+-- A run that was started, in which each row-wise tool works in so many lanes. It has read these bytes; and for each
+-- text that they may begin, it answers as it should, and has written of what is due. It may answer that the reader
+-- failed though it didn't where `Outlasts` holds.
+pub record HasRun (lanes : ℕ) (Outlasts : Type 0) (job : Job) (answer : Result Summary RunFault)
+    (reader writer : Change) : Type 0 where
   pub read : List ℕ
   pub consumed : Consumes reader.old reader.new read
   pub verdict : (rest : List ℕ) → MayFollow Outlasts answer reader rest → IsAnswer (read ++ rest) job answer
-  pub bytes : HasWritten job answer
+  pub bytes : HasWritten lanes job answer
       (λ text. (rest : List ℕ) × MayFollow Outlasts answer reader rest × (text ≡ read ++ rest)) writer
   pub failures : CountsFailures Outlasts answer reader writer

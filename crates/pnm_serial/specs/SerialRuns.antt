@@ -92,6 +92,6 @@ AllIsWritten job answer reader writer =
 
 -- what holds of each run, and in one thread all was written that the tools have answered
 pub record HasRunInOneThread (job : Job) (answer : Result Summary RunFault) (reader writer : Change) : Type 0 where
-  pub run : HasRun (OutlastsRun reader.old reader.new) job answer reader writer
+  pub run : HasRun 1 (OutlastsRun reader.old reader.new) job answer reader writer
   pub all_written : AllIsWritten job answer reader writer
   pub one_thread : IsOfOneThread answer

@@ -1,18 +1,17 @@
 -- The verdict on a text and a job: what a run over them is to answer where nothing fails around it;
 -- and what a run may answer in its place.
-use Rattle.std.specs.Prelude.{◌≡◌, ◌≢◌, ◌⊎◌, ℕ, ◌≤◌, ◌+◌, ◌-◌, length, take, sum_by, List, Option, Some, None, Result}
-use Rattle.std.specs.Prelude.{Ok, Err}
+use Rattle.std.specs.Prelude.{◌≡◌, ◌≢◌, ◌⊎◌, ℕ, ◌≤◌, ◌+◌, ◌-◌, ◌^◌, min, length, take, sum_by, List, Option, Some, None}
+use Rattle.std.specs.Prelude.{Result, Ok, Err}
 use Rattle.pnm_image.specs.Images.{Image}
 use Rattle.pnm_read.specs.BufferedReaders.{IsOutsideFault}
 use Rattle.pnm_read.specs.Said.{fault_of, AreSaid}
 use Rattle.pnm_tools.specs.declared.fault.ToolFault.{ToolFault}
 use Rattle.pnm_tools.specs.declared.fault.ToolFault.TheVariants.{OutOfOrder, Memory}
 use Rattle.pnm_tools.specs.declared.tool.Tool.{Tool}
-use Rattle.pnm_tools.specs.Chains.{AreLawfulTools, AreResultsInTurn, refusal_of}
+use Rattle.pnm_tools.specs.Chains.{AreLawfulTools, AreResultsInTurn, Refusal, refusal_of}
 use Rattle.pnm_write.specs.declared.fault.SinkFault.{SinkFault}
 use Rattle.pnm_write.specs.declared.fault.SinkFault.TheVariants.{WriteFailed}
 use Rattle.pnm_write.specs.Forms.{images_fault, IsFormFault}
-use Rattle.pnm_serial.specs.Counts.{saturate_u64}
 use Rattle.pnm_serial.specs.Jobs.{Job}
 use Rattle.pnm_serial.specs.declared.fault.RunFault.{RunFault}
 use Rattle.pnm_serial.specs.declared.fault.RunFault.TheVariants.{NoStart, Input, Tool as OfTool, Output, PeerGone}
@@ -20,14 +19,9 @@ use Rattle.pnm_serial.specs.declared.summary.Summary.{Summary}
 
 -- ---- refusals of images
 
--- the text is accepted, and a tool is the first that refuses one of the images: which, and why
-abbrev pub IsRefusedBy : List ℕ → List Tool → ℕ → ToolFault → Type 0
-IsRefusedBy text tools number fault = (images : List Image) × AreSaid text images
-    × (refusal_of tools images ≡ Some (record { number = number; fault = fault }))
-
--- the text is accepted, and no tool refuses one of the images
-abbrev pub IsAcceptedBy : List ℕ → List Tool → Type 0
-IsAcceptedBy text tools = (images : List Image) × AreSaid text images × (refusal_of tools images ≡ None)
+-- the text is accepted: the refusal of the first tool that refuses one of the images, or nothing where none does
+abbrev pub HasRefusal : List ℕ → List Tool → Option Refusal → Type 0
+HasRefusal text tools found = (images : List Image) × AreSaid text images × (refusal_of tools images ≡ found)
 
 -- the text is accepted and no tool refuses one of the images: why the form can't hold their results, or nothing where
 -- it can
@@ -48,7 +42,8 @@ abbrev pub IsVerdict : List ℕ → Job → Option RunFault → Type 0
 IsVerdict text job None = HasResults text job None
 IsVerdict text job (Some NoStart) = ⊥
 IsVerdict text job (Some (Input fault)) = fault_of text ≡ Some fault
-IsVerdict text job (Some (OfTool number fault)) = IsRefusedBy text job.tools number fault
+IsVerdict text job (Some (OfTool number fault)) =
+    HasRefusal text job.tools (Some (record { number = number; fault = fault }))
 IsVerdict text job (Some (Output fault)) = HasResults text job (Some fault)
 IsVerdict text job (Some (PeerGone number)) = ⊥
 
@@ -79,14 +74,17 @@ abbrev pub FailsAround : List ℕ → Job → RunFault → Type 0
 FailsAround text job NoStart = ⊥
 FailsAround text job (Input fault) = IsOutsideFault fault
 FailsAround text job (OfTool number fault) = (fault ≡ Memory) × (1 ≤ number) × (number ≤ length job.tools)
-    × IsAcceptedBy text (take (number - 1) job.tools)
-FailsAround text job (Output fault) = (fault ≡ WriteFailed) × IsAcceptedBy text job.tools
+    × HasRefusal text (take (number - 1) job.tools) None
+FailsAround text job (Output fault) = (fault ≡ WriteFailed) × HasRefusal text job.tools None
 FailsAround text job (PeerGone number) = number ≤ length job.tools + 1
 
--- the images and the rows of a stream
+-- the images and the rows of a stream; each count stays at the greatest u64
 abbrev pub summary_of : List Image → Summary
 summary_of images =
-    record { images = saturate_u64 (length images); rows = saturate_u64 (sum_by (λ i. i.head.shape.height) images) }
+    record {
+      images = min (length images) (2 ^ 64 - 1);
+      rows = min (sum_by (λ i. i.head.shape.height) images) (2 ^ 64 - 1);
+    }
 
 -- a run over the text answers so: it ends well, with a summary of the results, only where there is no verdict, and each
 -- fault is the verdict, or tells of what failed around the run

@@ -40,15 +40,15 @@ returns-clause-ran g c = λ tools lawful fresh.
     (λ w. g.W.BytesOut.held w.now) (λ w. g.W.BytesOut.failures w.now)
     c.with_buffer-source.result c.feed_all-input.new.source c.feed_all-input.result c.args.stages.now c.feed_all-input.new.stages
     c.new-fused_sink.result c.feed_all-input.new.fused_sink tools lawful fresh fed in
-    let stages : HaveEnded tools (refusals_in c.feed_all-input.new.stages) fed.given fed.output.out c.first_fault.result = record {
+    let stages : HaveEnded 1 (job_of tools c.args.form) (refusals_in c.feed_all-input.new.stages) fed.given fed.output.out c.first_fault.result = record {
       last = fed.output.out;
       answered = answered;
       first = c.first_fault.ensures;
-      all = λ none. refl;
+      all = λ output whole. refl;
     } in
     let reader = change (λ r. g.R.BytesIn.left r.now) (λ r. g.R.BytesIn.failures r.now) (reader_of c.with_buffer-source.result)
     (reader_of c.feed_all-input.new.source) in
-    let ended : Ended (OutlastsRun reader.old reader.new) reader (λ w. g.W.BytesOut.held w.now) (λ w. g.W.BytesOut.failures w.now) (output_of
+    let ended : Ended 1 (OutlastsRun reader.old reader.new) reader (λ w. g.W.BytesOut.held w.now) (λ w. g.W.BytesOut.failures w.now) (output_of
     c.new-fused_sink.result)
     c.finish-written.result.0 (job_of tools c.args.form) c.feed_all-input.result c.first_fault.result c.finish-written.result.1 = record {
       faults = refusals_in c.feed_all-input.new.stages;
