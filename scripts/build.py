@@ -21,7 +21,7 @@ import sys
 import time
 
 import library
-from crates import ROOT, SOURCES, Ended, below, end_by_signals, read_crates, read_lines
+from crates import ROOT, SIGNALS, SOURCES, Ended, below, end_by_signals, read_crates, read_lines
 
 PROGRAM = "pnmpipe"
 # the static library that the C library is made of
@@ -156,10 +156,22 @@ class Toolchain:
         return [*words, self.path("c/libos_c.a"), self.path("c/liblibc_c.a")]
 
 
-class Run:
-    """A command for a crate, with processes of its own that give way by so much, its output in a file of bin/log."""
+@contextlib.contextmanager
+def signals_held():
+    """Has signals wait, so that none comes between the start of a process and the note of it. Gives those that waited
+    before."""
+    before = signal.pthread_sigmask(signal.SIG_BLOCK, SIGNALS)
+    try:
+        yield before
+    finally:
+        signal.pthread_sigmask(signal.SIG_SETMASK, before)
 
-    def __init__(self, name, words, jobs=1, way=0, **streams):
+
+class Run:
+    """A command for a crate, one of `runs` from its start on, with processes of its own that give way by so much, its
+    output in a file of bin/log."""
+
+    def __init__(self, runs, name, words, jobs=1, way=0, **streams):
         self.name = name
         self.jobs = jobs
         self.start = time.monotonic()
@@ -168,8 +180,15 @@ class Run:
             streams = {"stdin": subprocess.DEVNULL, "stdout": log, "stderr": log, **streams}
             folder = os.path.join(ROOT, "crates", name)
             words = ["nice", "-n", str(way), *words] if way else words
-            # (no session of its own, since sessions share the processors alike, whatever gives way in them)
-            self.child = subprocess.Popen(words, cwd=folder, preexec_fn=os.setpgrp, **streams)
+            with signals_held() as before:
+
+                def be_alone():
+                    # (no session of its own, since sessions share the processors alike, whatever gives way in them)
+                    os.setpgrp()
+                    signal.pthread_sigmask(signal.SIG_SETMASK, before)
+
+                self.child = subprocess.Popen(words, cwd=folder, preexec_fn=be_alone, **streams)
+                runs.append(self)
 
     def seconds(self):
         return time.monotonic() - self.start
@@ -266,7 +285,7 @@ class Build:
         for file in (f"{name}.sum", f"{name}.o"):
             with contextlib.suppress(FileNotFoundError):
                 os.remove(proved(file))
-        self.runs.append(Run(name, self.toolchain.build(name, jobs), jobs, way))
+        Run(self.runs, name, self.toolchain.build(name, jobs), jobs, way)
         say(f"{self.begun} of {len(self.crates)}: {name}" + (f", on {jobs} processors" if jobs > 1 else ""))
 
     def note(self, name):
@@ -296,7 +315,6 @@ class Build:
 
     def ended(self, run):
         """Waits until a command has ended, as a signal to this script ends it too."""
-        self.runs.append(run)
         run.child.wait()
         self.runs.remove(run)
         return run
@@ -311,13 +329,13 @@ class Build:
         """Links the program where it was built anew, and has it pass its stored run. Gives the status."""
         folder, program = os.path.join(ROOT, "crates", PROGRAM), proved(PROGRAM)
         if text_of(proved(f"{PROGRAM}.sum")) != self.sums[PROGRAM]:
-            run = self.ended(Run(PROGRAM, self.toolchain.link(program)))
+            run = self.ended(Run(self.runs, PROGRAM, self.toolchain.link(program)))
             if run.child.returncode:
                 return run.fault()
             self.note(PROGRAM)
         written = os.path.join(ROOT, "bin/stored-run")
         with open(os.path.join(folder, "stdin"), "rb") as given, open(written, "wb") as made:
-            run = self.ended(Run(PROGRAM, [program, "pnminvert"], stdin=given, stdout=made))
+            run = self.ended(Run(self.runs, PROGRAM, [program, "pnminvert"], stdin=given, stdout=made))
             if run.child.returncode:
                 return run.fault()
         with open(written, "rb") as made, open(os.path.join(folder, "stdout"), "rb") as wanted:

@@ -4,7 +4,8 @@
    REFUSED_GROWTH   the number of the call of malloc or realloc, from 1
    REFUSED_START    the number of the call of pthread_create, from 1
    REFUSED_FOR_GOOD where it is set, all calls of that kind after it are refused too
-   REFUSED_REPORT   the number of the file that is told of each refusal, and at the end of how many threads are left
+   REFUSED_REPORT   the number of the file that is told of each refusal, and at the end of how many threads are left,
+                    and of how many starts came if REFUSED_START is set
 
    What the C library asks for on its own, for a thread's stack say, isn't the program's and is never refused. */
 
@@ -75,7 +76,7 @@ __attribute__((destructor)) static void end(void) {
     const struct timespec moment = {0, 1000000};
     for (int turn = 0; turn < 1000 && atomic_load(&threads); turn++) nanosleep(&moment, NULL);
     char line[100];
-    tell(line, snprintf(line, sizeof line, "left %ld\n", atomic_load(&threads)));
+    tell(line, snprintf(line, sizeof line, "left %ld\nstarts %lu\n", atomic_load(&threads), atomic_load(&start.count)));
 }
 
 /* A program that starts threads ends by this one. */

@@ -19,6 +19,7 @@ import unittest.mock
 from support import SCRIPTS
 
 import build
+import crates
 
 CRATES = """low:
 left: low thiserror
@@ -356,6 +357,27 @@ class Building(Repository):
             self.assertEqual(child.returncode, 128 + number, printed)
             at_work = subprocess.run(["pgrep", "-f", self.path("kit/bin/rattle")], stdout=subprocess.PIPE)
             self.assertEqual(at_work.stdout, b"")
+
+    def test_a_signal_while_a_command_starts_ends_it(self):
+        runs, start = [], subprocess.Popen
+
+        def started(*words, **how):
+            # the signal comes as soon as the process is there
+            child = start(*words, **how)
+            os.kill(os.getpid(), signal.SIGTERM)
+            return child
+
+        for number in crates.SIGNALS:
+            self.addCleanup(signal.signal, number, signal.getsignal(number))
+        crates.end_by_signals()
+        self.addCleanup(lambda: [run.stop() for run in runs])
+        os.makedirs(self.path("root/bin/log"))
+        places = unittest.mock.patch.object(build, "ROOT", self.root)
+        with places, unittest.mock.patch.object(subprocess, "Popen", started), self.assertRaises(crates.Ended):
+            build.Run(runs, "low", ["sleep", "30"])
+        self.assertEqual(len(runs), 1)
+        runs[0].stop()
+        self.assertEqual(runs[0].child.returncode, -signal.SIGKILL)
 
     def wait_for_note(self, text):
         # (a note that comes between a look and a removal would be lost)

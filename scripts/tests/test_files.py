@@ -197,9 +197,17 @@ class Files(Runs):
         names = ["in/c.ppm", "in/-d.pgm", "in/a b.pgm"]
         words = [FILES, "--jobs", "2", "--small", "0", "pnminvert", "out", *names]
         environment = self.environment(self.path("slow"))
-        for number in (signal.SIGTERM, signal.SIGINT, signal.SIGHUP):
+        numbers = (signal.SIGTERM, signal.SIGINT, signal.SIGHUP)
+
+        def heed():
+            # (nohup, or a shell that runs the tests in the background, has some of them ignored)
+            for number in numbers:
+                signal.signal(number, signal.SIG_DFL)
+
+        how = {"cwd": self.folder, "env": environment, "stderr": subprocess.DEVNULL, "preexec_fn": heed}
+        for number in numbers:
             self.write("calls", b"")
-            with subprocess.Popen(words, cwd=self.folder, env=environment, stderr=subprocess.DEVNULL) as child:
+            with subprocess.Popen(words, **how) as child:
                 while len(self.read("calls").split()) < 2:
                     time.sleep(0.01)
                 start = time.monotonic()
