@@ -95,9 +95,12 @@ impl RepeatedRows {
         }
     }
 
-    /// The rows as they are held, however often they come: for those who want their memory.
+    /// The rows as they are held, and how many times they come, without a copy.
     #[inline(always)]
-    pub fn into_held(self) -> Rows {
-        self.rows
+    pub fn into_parts(self) -> (Rows, u32)
+        ensures rows { self ≡ repeated result.1 result.0 }
+        ensures some { 1 ≤ result.1 }
+    {
+        (self.rows, self.times)
     }
 }

@@ -170,7 +170,7 @@ fn put<W: BytesOut + Drop>(
         }
         Err(Several::Rows(rows)) => {
             fused_sink.put_repeated(&rows);
-            Some(rows.into_held())
+            Some(rows.into_parts().0)
         }
         Err(Several::Image(head, rows)) => {
             fused_sink.put_image(head, &rows);
@@ -212,6 +212,6 @@ fn keep_some(rows: Option<Rows>, spares: &mut SpareRows) {
 /// Drops the packet, but keeps rows as a spare row.
 fn recycle(packet: Packet, spares: &mut SpareRows) {
     if let Packet::Rows(rows) = packet {
-        spares.keep_rows(rows.into_held());
+        spares.keep_rows(rows.into_parts().0);
     }
 }

@@ -174,7 +174,9 @@ impl<R: BytesIn + Drop> Ingress<R> {
         ensures none { IsFalse result → self.new ≡ self.old }
     {
         match self.source.next_rows(spares) {
-            Ok(Some(rows)) => self.output.send_packet_reserved(Packet::Rows(RepeatedRows::once(rows))),
+            Ok(Some(rows)) => self
+                .output
+                .send_packet_reserved(Packet::Rows(RepeatedRows::once(rows))),
             Ok(None) => return false,
             Err(refusal) => {
                 self.input = Some(Err(refusal));

@@ -16,9 +16,7 @@ ghost use Rattle.pnm_lanes.specs.DealParts.{IsRow, IsSameEnd, part_at, row_part,
 ghost use Rattle.pnm_lanes.specs.DealParts.{HasDealtMessages, HasBrokenOffDealing};
 ghost use Rattle.pnm_lanes.specs.declared.lane.TheConstants.{MAX_LANES};
 
-use pnm_image::{
-    Ending, Head, Message, Packet, Place, RepeatedRows, Rows, Samples, Several,
-};
+use pnm_image::{Ending, Head, Message, Packet, Place, RepeatedRows, Rows, Samples, Several};
 use pnm_stages::{Receiver, Sender, StageEnd};
 use pnm_tools::ToolFault;
 use std::alloc::Global;

@@ -140,11 +140,7 @@ fn feed_copies<F: Filter + Drop, W: BytesOut + Drop>(
 }
 
 /// A copy of the rows, unless the filter has refused, or there is no memory for it.
-fn copy_for<F: Filter + Drop>(
-    alloc: Global,
-    filter: &FusedFilter<F>,
-    rows: &Rows,
-) -> Option<Rows>
+fn copy_for<F: Filter + Drop>(alloc: Global, filter: &FusedFilter<F>, rows: &Rows) -> Option<Rows>
     ensures { IfSome result (λ copy. copy ≡ rows.now) }
 {
     if filter.fault().is_some() {

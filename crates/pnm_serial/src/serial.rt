@@ -109,7 +109,8 @@ fn feed_all<R: BytesIn, F: Filter + Drop, W: BytesOut + Drop>(
             if let Some(rows) = source.next_rows(&mut spares)? {
                 // Each iteration passes something on.
                 prove!(rows.count() > 0);
-                feed_through(alloc, stages, Packet::Rows(RepeatedRows::once(rows)), fused_sink);
+                let rows = Packet::Rows(RepeatedRows::once(rows));
+                feed_through(alloc, stages, rows, fused_sink);
                 continue;
             }
         }

@@ -67,7 +67,11 @@ pub fn packets_of(alloc: Global, text: &[u8], is_narrow: bool) -> Result<Vec<Pac
 /// The packet of what is written between braces: a whole image, or rows, which a number says how many times they come.
 fn packet_of(alloc: Global, text: &[u8], is_narrow: bool) -> Result<Packet, Unmade> {
     let is_counted = text.first().is_some_and(|byte| byte.is_ascii_digit());
-    let (times, text) = if is_counted { cut_number(text) } else { (1, text) };
+    let (times, text) = if is_counted {
+        cut_number(text)
+    } else {
+        (1, text)
+    };
     let messages = messages_of(alloc, text, is_narrow)?;
     match messages.as_slice() {
         [Message::Begin(head), rows @ .., Message::ImageEnd] => {
@@ -185,11 +189,7 @@ pub fn write_each_row(alloc: Global, out: &mut String, rows: &Rows) -> Result<()
 }
 
 /// Adds the rows, between braces, behind the number of times that they come if that isn't once.
-fn write_repeated(
-    alloc: Global,
-    out: &mut String,
-    rows: &RepeatedRows,
-) -> Result<(), AllocError> {
+fn write_repeated(alloc: Global, out: &mut String, rows: &RepeatedRows) -> Result<(), AllocError> {
     let (rows, times) = rows.parts();
     if times == 1 {
         return write_rows(alloc, out, rows);

@@ -6,7 +6,8 @@ use Rattle.pnm_image.specs.Packets.{messages_in}
 use Rattle.pnm_image.specs.Repeats.{repeated}
 use Rattle.pnm_image.specs.Rows.{row_messages}
 use Rattle.pnm_serial.specs.SerialChains.{FeedsThrough, FiltersBusy}
-use Rattle.pnm_serial.proofs.PassingSteps.{passes_on, feeds_nothing, feeds_more, feeds_first, feeds_row, feeds_time, drops_rows, drops_times, gives_nothing, gives_on, gives_all}
+use Rattle.pnm_serial.proofs.PassingSteps.{passes_on, feeds_nothing, feeds_more, feeds_first, feeds_row, feeds_time, drops_rows, drops_times}
+use Rattle.pnm_serial.proofs.PassingSteps.{gives_nothing, gives_on, gives_all}
 use Rattle.pnm_serial.proofs.passing.+through.Goals as goal
 
 -- ---- feed_through
@@ -115,8 +116,8 @@ pub feed_copies-returns-clause-fed : goal.feed_copies-returns-clause-fed
 feed_copies-returns-clause-fed g t c =
     let all : c.loop-time._time ≡ c.parts-times.result.1 = omega (arith, c.loop-time-test.false, c.loop-time.auto._time-end) in
     let whole = c.parts-times.ensures.rows ∙ ap (λ (n : ℕ). repeated n c.parts-times.result.0.now) (sym all) in
-    subst (λ (rows : List (List ℕ)). FeedsThrough g.F.Filter.at g.F.Filter.all_given g.F.Filter.stopped g.W.BytesOut.held g.W.BytesOut.failures c.args.stages.now
-    (row_messages rows) c.loop-time.stages c.args.fused_sink.now c.loop-time.fused_sink) (sym whole) c.loop-time.invariant.0
+    subst (λ (rows : List (List ℕ)). FeedsThrough g.F.Filter.at g.F.Filter.all_given g.F.Filter.stopped g.W.BytesOut.held g.W.BytesOut.failures
+    c.args.stages.now (row_messages rows) c.loop-time.stages c.args.fused_sink.now c.loop-time.fused_sink) (sym whole) c.loop-time.invariant.0
 
 -- ---- pass_answers
 

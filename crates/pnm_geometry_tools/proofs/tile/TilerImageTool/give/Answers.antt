@@ -19,4 +19,5 @@ returns-clause-due c =
     let w = tiled x.width x.height x.shape.width x.shape.depth x.rows x.left in
     ap tiled_due (sym c.self.view_is)
     ∙ due_in_parts w count (x.height - x.left) (x.left - count) _ c.count_together-count.ensures.most known.0 refl refl c.in_ok-samples.ensures.made
-    ∙ ap (λ (l : List (List ℕ)). l ++ tiled_due (tiled x.width x.height x.shape.width x.shape.depth x.rows (x.left - count))) (sym (c.once.ensures ∙ c.new-rows.ensures))
+    ∙ ap (λ (l : List (List ℕ)). l ++ tiled_due (tiled x.width x.height x.shape.width x.shape.depth x.rows (x.left - count)))
+    (sym (c.once.ensures ∙ c.new-rows.ensures))
