@@ -1,12 +1,14 @@
 //! Numbers in lines, from a table of the texts of small ones.
 
 ghost use Rattle.std.specs.Prelude.{◌≡◌, ◌+◌, ◌-◌, ◌*◌, ◌<◌, ◌≤◌, nat_le, if◌then◌else◌, ◌∷◌, ◌++◌, length, take};
-ghost use Rattle.std.specs.Prelude.{ℕ, decimal, map, slice_set};
+ghost use Rattle.std.specs.Prelude.{decimal, map, slice_set};
 ghost use Rattle.pnm_image.specs.declared.shape.Kind.{Kind};
 ghost use Rattle.pnm_write.specs.Numerals.{IsEntry, three_digits};
 ghost use Rattle.pnm_image.specs.Characters.{blank, line_feed};
 ghost use Rattle.pnm_write.specs.PlainRows.{max_line_length};
 ghost use Rattle.pnm_write.specs.PlainParts.{text_of_part, column_after_part, sample_texts};
+
+use pnm_samples::Sample;
 
 /// The most bytes of a line without its LF.
 pub const MAX_LINE_LENGTH: usize = 70;
@@ -133,27 +135,22 @@ fn break_line(buffer: &mut [u8], at: usize, column: usize, size: usize) -> usize
     }
 }
 
-/// A number as a row holds it: a byte or a word.
-pub trait Numeral: Copy {
-    /// The number that it is.
-    ghost value: { Self → ℕ };
-
+/// A sample as a number in a line.
+pub trait Numeral: Sample {
     /// The number that it is.
     fn number(self) -> u16
-        ensures { result ≡ value self };
+        ensures { result ≡ Self.value self };
 
     /// Puts a blank and the number into the buffer, and returns how many bytes these are.
     fn put(self, buffer: &mut [u8], at: usize) -> usize
         requires { at + 6 ≤ length buffer.old }
-        ensures text { take (at + result) buffer.new ≡ take at buffer.old ++ blank ∷ decimal (value self) }
-        ensures count { result ≡ 1 + length (decimal (value self)) }
+        ensures text { take (at + result) buffer.new ≡ take at buffer.old ++ blank ∷ decimal (Self.value self) }
+        ensures count { result ≡ 1 + length (decimal (Self.value self)) }
         ensures some { 1 < result }
         ensures within { result ≤ 6 };
 }
 
 impl Numeral for u8 {
-    ghost value = { λ number. number };
-
     #[inline(always)]
     fn number(self) -> u16 {
         u16::from(self)
@@ -167,8 +164,6 @@ impl Numeral for u8 {
 }
 
 impl Numeral for u16 {
-    ghost value = { λ number. number };
-
     #[inline(always)]
     fn number(self) -> u16 {
         self

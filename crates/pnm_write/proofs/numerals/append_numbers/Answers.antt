@@ -7,7 +7,7 @@ use Rattle.pnm_write.proofs.numerals.append_numbers.Goals as goal
 
 pub loop-number-preserved : goal.loop-number-preserved
 loop-number-preserved g c =
-    let value = g.N.Numeral.value in
+    let value = g.N.Sample.value in
     let xs = map value c.args.numbers.now in
     let i = c.loop-number.number-index in
     let here = c.loop-number.invariant in

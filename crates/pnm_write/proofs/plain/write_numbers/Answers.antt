@@ -21,7 +21,7 @@ values_split value column n rest part after set written then_column is_none is_e
 
 pub returns-in_err-write_all : goal.returns-in_err-write_all
 returns-in_err-write_all g c =
-    let value = g.N.Numeral.value in
+    let value = g.N.Sample.value in
     let split = values_split value c.loop-rest.column c.min-count.result c.loop-rest.rest.now c.split_at.result.0.now c.split_at.result.1.now
     c.set_numbers-column.new.buffer c.as_slice.result.now c.set_numbers-column.result c.is_empty.result _ (omega arith) c.is_empty.ensures c.loop-rest-test.true
     c.split_at.ensures.front c.split_at.ensures.back c.set_numbers-column.ensures.text c.set_numbers-column.ensures.column c.is_empty-in-loop-rest.ensures
@@ -34,7 +34,7 @@ returns-in_err-write_all g c =
 
 pub loop-rest-preserved : goal.loop-rest-preserved
 loop-rest-preserved g c =
-    let value = g.N.Numeral.value in
+    let value = g.N.Sample.value in
     let split = values_split value c.loop-rest.column c.min-count.result c.loop-rest.rest.now c.split_at.result.0.now c.split_at.result.1.now
     c.set_numbers-column.new.buffer c.as_slice.result.now c.set_numbers-column.result c.is_empty.result _ (omega arith) c.is_empty.ensures c.loop-rest-test.true
     c.split_at.ensures.front c.split_at.ensures.back c.set_numbers-column.ensures.text c.set_numbers-column.ensures.column c.is_empty-in-loop-rest.ensures
@@ -50,7 +50,7 @@ loop-rest-preserved g c =
 
 pub loop-rest-init : goal.loop-rest-init
 loop-rest-init g c =
-    let xs = map g.N.Numeral.value c.args.numbers.now in
+    let xs = map g.N.Sample.value c.args.numbers.now in
     let start : Sending g.W.BytesOut.held g.W.BytesOut.failures g.W.BytesOut.same c.args.writer.now c.args.writer.now (plain_row_text Gray xs)
     (plain_row_text Gray xs) = search rules in
     record {

@@ -9,7 +9,7 @@ use Rattle.pnm_write.proofs.plain.write_numbers.Given as goal
 abbrev pub invariant-loop-rest : goal.invariant-loop-rest
 invariant-loop-rest g l = record {
   sending : Sending g.W.BytesOut.held g.W.BytesOut.failures g.W.BytesOut.same l.initial.writer l.writer
-      (plain_row_text Gray (map g.N.Numeral.value l.numbers)) (text_left l.column Gray (map g.N.Numeral.value l.rest));
+      (plain_row_text Gray (map g.N.Sample.value l.numbers)) (text_left l.column Gray (map g.N.Sample.value l.rest));
   line : l.column ≤ 70;
 }
 
