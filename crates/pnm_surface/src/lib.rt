@@ -1,5 +1,6 @@
-//! Tests that name each public call by its path, with the arguments that it takes, and want what is promised of it.
-//! They stand in a crate of their own since a crate that has tests is proved twice.
+//! Tests that name public calls by their paths, with the arguments that they take, and want what is promised of them:
+//! those that no other crate of tests and no program of cases names so, which have the others. They stand in a crate of
+//! their own since a crate that has tests is proved twice.
 #![tactic(auto)]
 
 #[cfg(test)]

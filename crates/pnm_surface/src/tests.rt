@@ -6,12 +6,9 @@ use std::fmt;
 use std::process::Abort;
 
 mod flow;
-mod image;
 mod program;
 mod rings;
 mod runs;
-mod streams;
-mod texts;
 mod tools;
 
 /// Stops the test if something isn't so, and shows these values. An assertion that shows its values takes long to

@@ -1,73 +1,13 @@
 //! `pnm_chain` and `pnm_command_line`: the text of a chain, and the program.
 
-use super::{is_so, same};
-use pnm_chain::{ChainFault, ChainKind, parse_chain};
+use super::same;
 use pnm_command_line::{Runner, command};
 use pnm_flow::{BytesIn, BytesOut, Form, OpenGate, RunFault, Summary, Tool, run};
 use pnm_image::Device;
-use pnm_tools::FlipWay;
 use std::alloc::{AllocError, Global};
 use std::process::Abort;
 use std::sync::Wait;
 use std::thread::Threads;
-
-/// Whether these are a quarter turn and an inversion.
-fn are_turn_and_inversion(tools: &[Tool]) -> bool {
-    match tools {
-        [Tool::Flip(way), Tool::Invert] => *way == FlipWay::Rotate90,
-        _ => false,
-    }
-}
-
-/// The tools that a text names.
-#[test]
-fn chains_are_parsed(rt: HostRuntime) {
-    let tools = parse_chain(rt.alloc(), "pamflip -r90 | pnminvert").expect(&rt, "a chain");
-    is_so(&rt, are_turn_and_inversion(tools.as_slice()), &tools.len());
-}
-
-/// Texts with the stage that is at fault, or 0, and the fault.
-const FAULTS: &[(&str, usize, ChainKind)] = &[
-    (" \t", 0, ChainKind::Empty),
-    ("pnminvert |", 2, ChainKind::EmptyStage),
-    ("x", 1, ChainKind::UnknownTool),
-    ("pnminvert | pnminvert -x", 2, ChainKind::UnknownOption),
-    ("pamcut -left", 1, ChainKind::MissingValue),
-    ("pamdepth x", 1, ChainKind::BadValue),
-    ("pamflip -r90 -xy", 1, ChainKind::Conflict),
-    ("pamdepth", 1, ChainKind::MissingArgument),
-    ("pnminvert 1", 1, ChainKind::ExtraArgument),
-];
-
-/// The text has this fault.
-fn is_refused(rt: &impl Abort, alloc: Global, text: &str, fault: ChainFault) {
-    same(rt, &parse_chain(alloc, text).err(), &Some(fault), &text);
-}
-
-/// The first fault of a text.
-#[test]
-fn chains_are_refused(rt: HostRuntime) {
-    for (text, stage, kind) in FAULTS {
-        let (stage, kind) = (*stage, *kind);
-        is_refused(&rt, rt.alloc(), text, ChainFault { stage, kind });
-    }
-}
-
-/// The text, repeated `count` times.
-fn repeated(rt: &impl Abort, alloc: Global, text: &str, count: usize) -> String {
-    text.repeat(alloc, count).expect(rt, "a text")
-}
-
-/// A text may have 4,096 bytes and 64 stages.
-#[test]
-fn chains_have_limits(rt: HostRuntime) {
-    let (stage, kind) = (0, ChainKind::TooLong);
-    let text = repeated(&rt, rt.alloc(), "x", 4_097);
-    is_refused(&rt, rt.alloc(), text.as_str(), ChainFault { stage, kind });
-    let kind = ChainKind::TooMany;
-    let text = repeated(&rt, rt.alloc(), "|", 64);
-    is_refused(&rt, rt.alloc(), text.as_str(), ChainFault { stage, kind });
-}
 
 /// Runs the tools over threads, as the program does.
 #[derive(Clone, Copy)]

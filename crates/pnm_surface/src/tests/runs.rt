@@ -17,8 +17,6 @@ use std::thread::Threads;
 /// An image of one row, and the image inverted.
 const IMAGE: &[u8] = b"P5\n2 1\n122\nAB";
 
-const INVERTED: &[u8] = b"P5\n2 1\n122\n98";
-
 /// The tools that a text names.
 pub fn tools_of(rt: &impl Abort, alloc: Global, text: &str) -> Vec<Tool>
     ensures { IsChain result.items }
@@ -109,16 +107,6 @@ fn answers<H: Threads + Wait + Abort + Sync>(
     is_outcome(rt, &outcome, want, writes, "in one thread");
 }
 
-/// A run counts the images and the rows that it wrote.
-#[test]
-fn runs_end_well(rt: HostRuntime) {
-    let one = Ok(Summary { images: 1, rows: 1 });
-    let raw = (IMAGE, "pnminvert", Form::Raw);
-    answers(&rt, rt.alloc(), raw, one, INVERTED);
-    let plain = (IMAGE, "pnminvert", Form::Plain);
-    answers(&rt, rt.alloc(), plain, one, b"P2\n2 1\n122\n57 56\n");
-}
-
 /// A fault of the input, of a tool and of the form, and what was written before it.
 #[test]
 fn runs_answer_faults(rt: HostRuntime) {
@@ -132,40 +120,4 @@ fn runs_answer_faults(rt: HostRuntime) {
     let images = b"P5\n1 1\n9\n\x01P5\n1 1\n9\n\x02".as_slice();
     let given = (images, "pnminvert", Form::Plain);
     answers(&rt, rt.alloc(), given, second, b"P2\n1 1\n9\n8\n");
-}
-
-/// A write that fails is the last fault, and a prefix is written.
-#[test]
-fn runs_answer_failed_writes(rt: HostRuntime) {
-    let mut room = [0_u8; 3];
-    let mut writer = Device::new(room.as_mut_slice());
-    let answer = answer_over(&rt, rt.alloc(), IMAGE, "pnminvert", Form::Raw, &mut writer);
-    let failed = Err(RunFault::Output(SinkFault::WriteFailed));
-    same(&rt, &answer, &failed, &"a full writer");
-    drop(writer);
-    same(&rt, &room, b"P5\n", &"a prefix");
-}
-
-/// The place of a run's fault in the order in which the first is returned. Faults of tools and of the caller's ring
-/// ends go by their numbers instead.
-fn place_of(fault: RunFault) -> usize {
-    match fault {
-        RunFault::NoStart => 1,
-        RunFault::Input(_) => 2,
-        RunFault::Tool(_, _) | RunFault::PeerGone(_) => 3,
-        RunFault::Output(_) => 4,
-    }
-}
-
-/// There are five faults of runs.
-#[test]
-fn faults_of_runs(rt: HostRuntime) {
-    let places = [
-        place_of(RunFault::NoStart),
-        place_of(RunFault::Input(InputFault::Memory)),
-        place_of(RunFault::Tool(1, ToolFault::Memory)),
-        place_of(RunFault::PeerGone(0)),
-        place_of(RunFault::Output(SinkFault::WriteFailed)),
-    ];
-    same(&rt, &places, &[1, 2, 3, 3, 4], &"in their order");
 }
