@@ -71,7 +71,7 @@ pub converted : (text written : List ℕ) (job : Job) (answer : Result Summary R
     → reader.failures_old ≡ 0 → reader.failures_new ≡ 0 → writer.old ≡ Some [] → writer.new ≡ Some written
     → HasConverted text job answer written
 converted text written job answer reader writer lawful ran is_text is_none is_none_yet is_empty is_written =
-    let reported = tells (OutlastsReader reader.old reader.new) job answer reader writer lawful ran.run in
+    let reported = tells 1 (OutlastsReader reader.old reader.new) job answer reader writer lawful ran.run in
     record {
       well = ends_well text written job answer (rw (← is_empty) (rw (← is_written) (reported.well text is_text)));
       fault = has_fault text job answer reader is_text is_none is_none_yet (reported.verdict text is_text) ran.one_thread
