@@ -6,25 +6,24 @@ use Rattle.pnm_image.specs.declared.message.Message.{Message}
 use Rattle.pnm_image.specs.declared.message.Message.TheVariants.{Begin, Row, ImageEnd, StreamEnd, Stop}
 use Rattle.pnm_image.specs.declared.message.Ending.TheVariants.{More, Whole, BrokenOff}
 use Rattle.pnm_image.specs.declared.place.Place.TheVariants.{Between}
-use Rattle.pnm_image.specs.Heads.{HeadValue}
 use Rattle.pnm_image.specs.Images.{Image, AreImages, messages_of_stream}
 use Rattle.pnm_image.specs.Messages.{ending_of, without_stop, EndsBy}
 use Rattle.pnm_image.specs.Places.{IsLawful}
-use Rattle.pnm_image.specs.Completion.{IsPrefixOf, IsStreamOf, Completes}
+use Rattle.pnm_image.specs.Completion.{IsPrefixOf, IsStreamOf}
 use Rattle.pnm_image.proofs.Places.{lawful_prefix, next_may_come}
 use Rattle.pnm_image.proofs.Streams.{is_stream_of, stream_is_messages, stream_is_lawful, stream_ends}
 use Rattle.pnm_tools.specs.declared.fault.ToolFault.{ToolFault}
 use Rattle.pnm_tools.specs.declared.fault.ToolFault.TheVariants.{CutOutside, ChannelOutside, TooLarge, OutOfOrder, Memory}
 use Rattle.pnm_tools.specs.declared.tool.Tool.{Tool}
 use Rattle.pnm_tools.specs.Answers.{Answers, AnswersInFull, AreResults}
-use Rattle.pnm_tools.specs.Chains.{due_in_turn, results_of}
+use Rattle.pnm_tools.specs.Chains.{results_of}
 use Rattle.pnm_tools.specs.ChainAnswers.{IsRefusedNext}
 use Rattle.pnm_tools.specs.Laws.{IsFaultOfHead}
 use Rattle.pnm_tools.specs.Tools.{IsLawfulTool, is_row_wise, output_due}
 use Rattle.pnm_tools.proofs.FullLaws.{answering_in_full, prefix_of_prefix}
 use Rattle.pnm_tools.proofs.HeadFaultLaws.{head_is_refused_by_name}
 use Rattle.pnm_tools.proofs.PrefixLaws.{nothing_changes}
-use Rattle.pnm_tools.proofs.SoundLaws.{IsUnbroken, EndsUnbroken}
+use Rattle.pnm_tools.proofs.SoundLaws.{EndsUnbroken}
 use Rattle.pnm_tools.proofs.ToolLaws.{tool_answers_images}
 use Rattle.pnm_write.specs.declared.fault.SinkFault.{SinkFault}
 use Rattle.pnm_write.specs.Encoding.{bytes_of, written_of}

@@ -6,7 +6,6 @@ use Rattle.pnm_read.specs.declared.fault.InputFault.{InputFault}
 use Rattle.pnm_read.specs.declared.fault.InputFault.TheVariants.{Memory as NoMemoryToRead}
 use Rattle.pnm_read.specs.declared.source.Source.{Source}
 use Rattle.pnm_read.specs.Sources.{reader_of}
-use Rattle.pnm_tools.specs.declared.fault.ToolFault.{ToolFault}
 use Rattle.pnm_write.specs.declared.fault.SinkFault.{SinkFault}
 use Rattle.pnm_serial.specs.declared.fault.RunFault.{RunFault}
 use Rattle.pnm_serial.specs.declared.fault.RunFault.TheVariants.{NoStart, Input, Tool as OfTool, Output, PeerGone as Gone}

@@ -1,9 +1,8 @@
 -- What a run over threads knows once all have ended, and what follows of it for its answer.
-use Rattle.std.proofs.Common.{◌≡◌, ◌≢◌, ◌⊎◌, inl, inr, ℕ, ◌+◌, ◌≤◌, Bool, true, false, List, [], ◌∷◌, ◌++◌, length, Option, Some, None, Result, Ok, Err}
+use Rattle.std.proofs.Common.{◌≡◌, ◌⊎◌, inl, inr, ℕ, ◌+◌, ◌≤◌, Bool, true, false, List, [], ◌∷◌, ◌++◌, length, Option, Some, None, Result, Ok, Err}
 use Rattle.std.proofs.Common.{refl, sym, ap, subst, ◌∙◌, append_assoc, append-nil, arith}
 use Rattle.std.specs.Io.KnownBytes.{Consumes, Keeps}
-use Rattle.pnm_stages.specs.Rings.{sent, received, known_items, IsEnded}
-use Rattle.pnm_image.specs.Devices.{Failed}
+use Rattle.pnm_stages.specs.Rings.{sent, received, IsEnded}
 use Rattle.pnm_image.specs.declared.message.Message.{Message}
 use Rattle.pnm_image.specs.declared.message.Message.TheVariants.{Stop}
 use Rattle.pnm_image.specs.Images.{Image, messages_of_stream}
@@ -27,13 +26,11 @@ use Rattle.pnm_tools.proofs.FullLaws.{prefix_of_prefix}
 use Rattle.pnm_tools.proofs.SoundLaws.{sound_keeps_all, unbroken_keeps_all}
 use Rattle.pnm_write.specs.declared.fault.SinkFault.{SinkFault}
 use Rattle.pnm_serial.specs.declared.fused_sink.FusedSink.{FusedSink}
-use Rattle.pnm_serial.specs.declared.fault.RunFault.{RunFault}
 use Rattle.pnm_serial.specs.declared.fault.RunFault.TheVariants.{Tool as OfTool, PeerGone as Gone}
 use Rattle.pnm_flow.specs.declared.chain.Link.{Link}
 use Rattle.pnm_stages.specs.declared.stage.StageEnd.{StageEnd}
-use Rattle.pnm_stages.specs.declared.stage.StageEnd.TheVariants.{Well, Broken, Fault, PeerGone}
 use Rattle.pnm_serial.specs.declared.summary.Summary.{Summary}
-use Rattle.pnm_flow.specs.ChainRuns.{IsStageOver, FirstIsThere, AreStages}
+use Rattle.pnm_flow.specs.ChainRuns.{FirstIsThere, AreStages}
 use Rattle.pnm_io_loop.specs.Egresses.{EndedBy}
 use Rattle.pnm_serial.specs.FusedSinks.{output_of, HasTaken, AnswersFlushes}
 use Rattle.pnm_io_loop.specs.Ingresses.{HasAskedAll, HasAskedBy, closing_messages}

@@ -5,7 +5,6 @@ use Rattle.std.specs.Prelude.{Result, Ok, Err}
 use Rattle.pnm_image.specs.Images.{Image}
 use Rattle.pnm_read.specs.BufferedReaders.{IsOutsideFault}
 use Rattle.pnm_read.specs.Said.{fault_of, AreSaid}
-use Rattle.pnm_tools.specs.declared.fault.ToolFault.{ToolFault}
 use Rattle.pnm_tools.specs.declared.fault.ToolFault.TheVariants.{OutOfOrder, Memory}
 use Rattle.pnm_tools.specs.declared.tool.Tool.{Tool}
 use Rattle.pnm_tools.specs.Chains.{AreLawfulTools, AreResultsInTurn, Refusal, refusal_of}
