@@ -359,7 +359,7 @@ def faults_of_figures():
 
 
 def wide_lines(path, page):
-    """The lines of a page's text that mandoc finds too long, told where it isn't installed too: macros are free."""
+    """The lines of a page's text that mandoc finds too long, found without mandoc. A macro's line may be longer."""
     page = page.replace("\\\n", "\\")
     for line in page.split("\n"):
         if len(line) > 80 and not line.startswith("."):

@@ -165,7 +165,7 @@ def commands_over(lanes):
     yield command("pamflip -lr", EIGHT, TURNED, 1, 0, spared=1)
     yield command("pamcut -left 3 | pamflip -lr", EIGHT, CUT_AND_TURNED, 1, 1, spared=2)
     yield command("pamenlarge 2 | pnminvert", gray(9, [7]), gray(9, [2, 2], [2, 2]), 1, 1, spared=1)
-    # a row that is handed over once for all times that it comes, of which the second tool, or the dealer, makes copies
+    # a long row that the first tool gives once, with the number of its copies, which the second tool's thread makes
     thrice = gray(9, *[[2] * 8192] * 3)
     yield command("pamenlarge -xscale 8192 -yscale 3 | pnminvert", gray(9, [7]), thrice, 1, 1, spared=1)
     if lanes <= LANES[1]:

@@ -75,7 +75,8 @@ def parts_in(text):
 
 
 def handed_in(text):
-    """What a text hands over: messages, and rows together that stand between braces, behind how often they come."""
+    """What a text hands over: messages, and rows together between braces; a number before them says how often they
+    come."""
     handed, rows, times = [], None, 1
     for part in parts_in(text):
         if isinstance(part, str) and part.startswith("{"):

@@ -46,8 +46,8 @@ impl ImageTool for Enlarger {
         self.waiting = None;
     }
 
-    /// Gives the rows that several rows make together. If a row is long, or makes more than is given at once, gives the
-    /// row that it makes so many times, without a copy.
+    /// Gives the rows that several rows make together. If a row of the result is long, or its copies are more than is
+    /// given at once, gives that row and the number of its copies, and makes none.
     #[inline(never)]
     fn give(&mut self, alloc: Global) -> Result<Option<RepeatedRows>, ToolFault> {
         let Some(waiting) = mem::replace(&mut self.waiting, None) else {

@@ -18,7 +18,7 @@ use std::alloc::Global;
 /// The most bytes of the result that are made and given at once, unless one row takes more.
 pub(crate) const MOST_GIVEN: usize = 65_536;
 
-/// The fewest bytes of a row that is given repeated, and not as copies.
+/// The fewest bytes of a row that is given once, with the number of its copies. Shorter rows are copied here.
 pub(crate) const LEAST_REPEATED: usize = 8_192;
 
 /// Returns how many bytes a row of `samples` samples takes if it is held as `rows` are. Bits of several planes count as

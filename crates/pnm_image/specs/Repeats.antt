@@ -1,7 +1,7 @@
--- Rows that come more than once.
+-- Lists that repeat.
 use Rattle.std.specs.Prelude.{ℕ, zero, suc, List, [], ◌++◌}
 
--- a list, so many times, one after another
+-- the list, repeated this number of times
 abbrev pub repeated : {A : Type 0} → ℕ → List A → List A
 repeated zero l = []
 repeated (suc n) l = l ++ repeated n l

@@ -1,4 +1,4 @@
-//! Rows that come several times, held once.
+//! Rows that repeat, held once.
 
 ghost use Rattle.std.specs.Prelude.{◌≡◌, ◌≤◌, ◌↔◌, [], ◌∷◌, IsTrue, IfOk, IfErr, length};
 ghost use Rattle.pnm_image.specs.Repeats.{repeated};
@@ -7,7 +7,8 @@ use crate::rows::Rows;
 use pnm_samples::Samples;
 use std::marker::Model;
 
-/// Rows of one image, so many times, one after another. They are held once: a sink writes them as often as they come.
+/// Rows of one image that repeat: the whole group comes a number of times, one group after another. The group is held
+/// once, whatever the number.
 #[derive(Debug, Drop)]
 pub struct RepeatedRows {
     rows: Rows,

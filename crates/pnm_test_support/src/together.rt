@@ -43,7 +43,7 @@ pub fn handed_of(alloc: Global, text: &[u8], is_narrow: bool) -> Result<Vec<Hand
 }
 
 /// The packets of messages that are written one after another. Rows between braces are one packet, and so is a whole
-/// image between braces; rows behind a number come so many times. Rows are held as `handed_of` says.
+/// image between braces. A number before rows is the number of times that they come. Rows are held as `handed_of` says.
 pub fn packets_of(alloc: Global, text: &[u8], is_narrow: bool) -> Result<Vec<Packet>, Unmade> {
     let mut packets = Vec::new(alloc);
     let mut rest = text;
@@ -64,7 +64,7 @@ pub fn packets_of(alloc: Global, text: &[u8], is_narrow: bool) -> Result<Vec<Pac
     Ok(packets)
 }
 
-/// The packet of what is written between braces: a whole image, or rows, which a number says how many times they come.
+/// The packet of what is written between braces: a whole image, or rows, behind the number of times that they come.
 fn packet_of(alloc: Global, text: &[u8], is_narrow: bool) -> Result<Packet, Unmade> {
     let is_counted = text.first().is_some_and(|byte| byte.is_ascii_digit());
     let (times, text) = if is_counted {
@@ -188,7 +188,7 @@ pub fn write_each_row(alloc: Global, out: &mut String, rows: &Rows) -> Result<()
     Ok(())
 }
 
-/// Adds the rows, between braces, behind the number of times that they come if that isn't once.
+/// Adds the rows, between braces. If they come several times, the number stands before them.
 fn write_repeated(alloc: Global, out: &mut String, rows: &RepeatedRows) -> Result<(), AllocError> {
     let (rows, times) = rows.parts();
     if times == 1 {
