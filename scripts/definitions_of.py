@@ -23,7 +23,6 @@ from places import ROOT
 # What says nothing of an image, a tool, a fault or a byte by itself, and has to be read all the same: by a crate and a
 # file of its specs, the beginnings of the names of such definitions, and why. No beginning stands for the whole file.
 BOOKKEEPING = {
-    ("pnm_image", "Characters"): ([], "names of bytes in ASCII"),
     ("pnm_image", "Messages"): (["without_stop"], "leaves a last Stop aside"),
     ("pnm_image", "Places"): (["IsLawfulFrom", "place_of"], "steps along messages"),
     ("pnm_image", "Texts"): (["begins_in_word", "onto_first"], "steps along a text, for `words`"),

@@ -1,7 +1,6 @@
 -- The seven formats, from pbm(5), pgm(5), ppm(5) and pam(5), by the magic that each begins with.
 use Rattle.std.specs.Prelude.{ℕ, Bool, true, false, ◌==◌, if◌then◌else◌, List, Option, Some, None, codes}
-use Rattle.pnm_image.specs.Characters.{digit_one, digit_two, digit_three, digit_four, digit_five, digit_six}
-use Rattle.pnm_image.specs.Characters.{digit_seven}
+use Rattle.std.specs.Str.{byte}
 use Rattle.pnm_image.specs.declared.shape.Kind.{Kind}
 use Rattle.pnm_image.specs.declared.shape.Kind.TheVariants.{Bit, Gray, Color, Pam}
 use Rattle.pnm_image.specs.declared.format.Form.{Form}
@@ -22,13 +21,13 @@ raw kind = Some (record { kind = kind; form = Raw })
 -- the format that the second byte of a magic names: 1 to 7
 abbrev pub format_of : ℕ → Option Format
 format_of b =
-    if b == digit_one then plain Bit
-    else if b == digit_two then plain Gray
-    else if b == digit_three then plain Color
-    else if b == digit_four then raw Bit
-    else if b == digit_five then raw Gray
-    else if b == digit_six then raw Color
-    else if b == digit_seven then raw Pam
+    if b == byte "1" then plain Bit
+    else if b == byte "2" then plain Gray
+    else if b == byte "3" then plain Color
+    else if b == byte "4" then raw Bit
+    else if b == byte "5" then raw Gray
+    else if b == byte "6" then raw Color
+    else if b == byte "7" then raw Pam
     else None
 
 -- the magic of a format; there is no plain PAM, of which this says nothing

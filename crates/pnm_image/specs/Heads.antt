@@ -1,7 +1,7 @@
 -- Heads: the kind, the sizes and the maxval of an image, and the tuple type of a PAM image.
 use Rattle.std.specs.Prelude.{◌≡◌, ◌≢◌, ℕ, ◌*◌, ◌-◌, ◌<◌, ◌≤◌, Bool, false, List, [], length, slice_index, All, Option}
 use Rattle.std.specs.Prelude.{Some, None, nat_lt, ◌==◌, ◌||◌, if◌then◌else◌}
-use Rattle.pnm_image.specs.Characters.{line_feed}
+use Rattle.std.specs.Str.{byte}
 use Rattle.pnm_image.specs.declared.limits.TheConstants.{MAX_DEPTH, MAX_MAXVAL, MAX_ROW_LENGTH, MAX_SIDE}
 use Rattle.pnm_image.specs.declared.limits.TheConstants.{MAX_TUPLE_TYPE_LENGTH}
 use Rattle.pnm_image.specs.Texts.{is_blank}
@@ -31,7 +31,7 @@ with_height h height = record h { shape = record h.shape { height = height } }
 -- the text of TUPLTYPE lines, from pam(5): one line, without white space at its ends
 pub record IsTupleType (text : List ℕ) : Type 0 where
   pub short : length text ≤ MAX_TUPLE_TYPE_LENGTH
-  pub one_line : All (λ b. b ≢ line_feed) text
+  pub one_line : All (λ b. b ≢ byte "\n") text
   pub first : 0 < length text → is_blank (slice_index text 0) ≡ false
   pub last : 0 < length text → is_blank (slice_index text (length text - 1)) ≡ false
 

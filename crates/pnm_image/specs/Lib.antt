@@ -1,4 +1,3 @@
-pub mod Characters
 pub mod Formats
 pub mod Texts
 pub mod Devices

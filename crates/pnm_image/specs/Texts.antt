@@ -1,18 +1,18 @@
 -- Bytes of a text: white space, digits, words and numbers. From pbm(5), 'The layout'.
 use Rattle.std.specs.Prelude.{ℕ, Bool, false, not, ◌==◌, nat_le, ◌&&◌, ◌||◌, if◌then◌else◌, List, [], ◌∷◌}
 use Rattle.std.specs.Str.Parse.{digits_value}
-use Rattle.pnm_image.specs.Characters.{tab, line_feed, carriage_return, blank, digit_zero, digit_nine}
+use Rattle.std.specs.Str.{byte}
 
 -- blank, TAB or CR: white space that a line can hold
 abbrev pub is_blank : ℕ → Bool
-is_blank b = (b == blank) || (b == tab) || (b == carriage_return)
+is_blank b = (b == byte " ") || (b == byte "\t") || (b == byte "\r")
 
 -- blank, TAB, CR or LF
 abbrev pub is_white : ℕ → Bool
-is_white b = is_blank b || (b == line_feed)
+is_white b = is_blank b || (b == byte "\n")
 
 abbrev pub is_digit : ℕ → Bool
-is_digit b = nat_le digit_zero b && nat_le b digit_nine
+is_digit b = nat_le (byte "0") b && nat_le b (byte "9")
 
 -- ---- words: the longest runs of bytes that aren't white space
 

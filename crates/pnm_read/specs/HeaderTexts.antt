@@ -1,15 +1,15 @@
 -- Bytes of a text: white space, digits, comments and words. From pbm(5), 'The layout'.
 use Rattle.std.specs.Prelude.{ℕ, Bool, true, false, not, ◌==◌, ◌||◌, if◌then◌else◌, List, [], ◌∷◌, map, filter}
-use Rattle.pnm_image.specs.Characters.{line_feed, carriage_return, number_sign}
+use Rattle.std.specs.Str.{byte}
 use Rattle.pnm_image.specs.Texts.{is_white, is_digit, words, decimal_value}
 
 -- CR or LF
 abbrev pub is_line_end : ℕ → Bool
-is_line_end b = (b == carriage_return) || (b == line_feed)
+is_line_end b = (b == byte "\r") || (b == byte "\n")
 
 -- white space, or # , which begins a comment
 abbrev pub is_apart : ℕ → Bool
-is_apart b = is_white b || (b == number_sign)
+is_apart b = is_white b || (b == byte "#")
 
 -- the text is empty, or begins with white space or #
 abbrev pub begins_apart : List ℕ → Bool
@@ -26,7 +26,7 @@ ends_by test (b ∷ c ∷ text) = ends_by test (c ∷ text)
 
 -- whether what follows a byte is inside a comment; inside tells it of the byte
 abbrev pub commented : Bool → ℕ → Bool
-commented inside b = if inside then not (is_line_end b) else (b == number_sign)
+commented inside b = if inside then not (is_line_end b) else (b == byte "#")
 
 -- whether what follows a text is inside a comment
 unfoldable pub commented_after : Bool → List ℕ → Bool
@@ -40,7 +40,7 @@ ends_in_comment text = commented_after false text
 unfoldable pub uncommented_from : Bool → List ℕ → List ℕ
 uncommented_from inside [] = []
 uncommented_from inside (b ∷ text) =
-    if inside || (b == number_sign) then uncommented_from (commented inside b) text else b ∷ uncommented_from false text
+    if inside || (b == byte "#") then uncommented_from (commented inside b) text else b ∷ uncommented_from false text
 
 abbrev pub uncommented : List ℕ → List ℕ
 uncommented text = uncommented_from false text

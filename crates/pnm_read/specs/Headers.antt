@@ -2,7 +2,7 @@
 use Rattle.std.specs.Prelude.{◌≡◌, ℕ, ◌<◌, ◌≤◌, true, false, not, ◌==◌, ◌||◌, List, [], ◌∷◌, ◌++◌, length, flat_map}
 use Rattle.std.specs.Prelude.{Some, codes}
 use Rattle.std.specs.List.{AllPass, AllByRecursion}
-use Rattle.pnm_image.specs.Characters.{line_feed, digit_seven, letter_p}
+use Rattle.std.specs.Str.{byte}
 use Rattle.pnm_image.specs.declared.shape.Kind.{Kind}
 use Rattle.pnm_image.specs.declared.shape.Kind.TheVariants.{Bit, Gray, Color, Pam}
 use Rattle.pnm_image.specs.Heads.{HeadValue, IsHead}
@@ -24,7 +24,7 @@ pub record SpellsPnmHeader (text : List ℕ) (format : Format) (head : HeadValue
   pub digit : ℕ
   pub body : List ℕ
   pub delimiter : ℕ
-  pub whole : text ≡ letter_p ∷ digit ∷ (body ++ delimiter ∷ [])
+  pub whole : text ≡ byte "P" ∷ digit ∷ (body ++ delimiter ∷ [])
   pub short : length text ≤ MAX_HEADER_LENGTH
   pub format_is : format_of digit ≡ Some format
   pub begins : begins_apart body ≡ true
@@ -48,7 +48,7 @@ MaySay End line = ⊥
 MaySay Unknown line = ⊥
 
 abbrev pub IsOneLine : List ℕ → Type 0
-IsOneLine line = AllPass (λ b. not (b == line_feed)) line
+IsOneLine line = AllPass (λ b. not (b == byte "\n")) line
 
 pub record IsPamLine (line : List ℕ) : Type 0 where
   pub one_line : IsOneLine line
@@ -59,9 +59,9 @@ pub record IsPamLine (line : List ℕ) : Type 0 where
 pub record SpellsPamHeader (text : List ℕ) (format : Format) (head : HeadValue) : Type 0 where
   pub lines : List (List ℕ)
   pub last : List ℕ
-  pub whole : text ≡ codes "P7\n" ++ (flat_map (λ line. line ++ line_feed ∷ []) lines ++ (last ++ line_feed ∷ []))
+  pub whole : text ≡ codes "P7\n" ++ (flat_map (λ line. line ++ byte "\n" ∷ []) lines ++ (last ++ byte "\n" ∷ []))
   pub short : length text ≤ MAX_HEADER_LENGTH
-  pub format_is : format_of digit_seven ≡ Some format
+  pub format_is : format_of (byte "7") ≡ Some format
   pub lines_are : AllByRecursion IsPamLine lines
   pub last_one_line : IsOneLine last
   pub last_ends : line_kind last ≡ End

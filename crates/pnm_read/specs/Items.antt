@@ -4,7 +4,7 @@
 use Rattle.std.specs.Prelude.{ℕ, Bool, not, ◌==◌, nat_le, nat_lt, ◌*◌, ◌+◌, ◌-◌, ◌&&◌, ◌||◌, if◌then◌else◌, List, []}
 use Rattle.std.specs.Prelude.{◌∷◌, ◌++◌, length, slice_index, Option, Some, None, Result, Ok, Err}
 use Rattle.std.specs.List.{list_all}
-use Rattle.pnm_image.specs.Characters.{line_feed, digit_zero, digit_one, letter_p}
+use Rattle.std.specs.Str.{byte}
 use Rattle.pnm_image.specs.declared.shape.Shape.{Shape}
 use Rattle.pnm_image.specs.declared.shape.Kind.{Kind}
 use Rattle.pnm_image.specs.declared.shape.Kind.TheVariants.{Bit, Gray, Color, Pam}
@@ -69,7 +69,7 @@ second_magic_item is_first (b ∷ text) = elim (format_of b) [
 -- the start of an image, and the first byte of its magic; after a raw image it isn't asked for where no byte is left
 unfoldable pub first_magic_item : List ℕ → Result (List ℕ) InputFault
 first_magic_item [] = Err EmptyInput
-first_magic_item (b ∷ text) = if b == letter_p then Ok text else Err BadMagic
+first_magic_item (b ∷ text) = if b == byte "P" then Ok text else Err BadMagic
 
 -- ---- the header of PBM, PGM and PPM
 
@@ -116,7 +116,7 @@ numbers_item kind numbers = elim (shape_fault (shape_of kind numbers)) [
 -- the byte after the magic
 unfoldable pub line_feed_item : List ℕ → Result (List ℕ) InputFault
 line_feed_item [] = Err HeaderCut
-line_feed_item (b ∷ text) = if b == line_feed then Ok text else Err BadPamLine
+line_feed_item (b ∷ text) = if b == byte "\n" then Ok text else Err BadPamLine
 
 -- the bytes of a header after the magic and its LF, at most
 abbrev pub pam_limit : ℕ
@@ -152,7 +152,7 @@ line_item lines line = elim (line_kind line) [
 unfoldable pub pam_item : List ℕ → ℕ → ScanStatus
 pam_item before b =
     if nat_le pam_limit (length before) then Fails TooLong
-    else if b == line_feed then line_item (ended_lines before) (last_line before)
+    else if b == byte "\n" then line_item (ended_lines before) (last_line before)
     else GoesOn
 
 -- none of the lines has the number
@@ -218,7 +218,7 @@ abbrev pub decimal_end : List ℕ → Option InputFault
 decimal_end before = if ends_in_digit before then None else Some RasterCut
 
 abbrev pub is_pixel : ℕ → Bool
-is_pixel b = (b == digit_zero) || (b == digit_one)
+is_pixel b = (b == byte "0") || (b == byte "1")
 
 -- a pixel, or a byte of the gap before it
 unfoldable pub pixel_item : List ℕ → ℕ → ScanStatus
@@ -233,13 +233,13 @@ pixel_end before = Some RasterCut
 
 -- the sample that a pixel's character spells; 1 is black, which is sample 0
 abbrev pub pixel_in : List ℕ → ℕ
-pixel_in piece = if ends_by (λ b. b == digit_one) piece then 0 else 1
+pixel_in piece = if ends_by (λ b. b == byte "1") piece then 0 else 1
 
 -- a pixel: 1 is black, which is sample 0
 unfoldable pub plain_pixel : List ℕ → Result (ℕ × List ℕ) InputFault
 plain_pixel text = do
   piece ← piece_from pixel_item (λ before. Some RasterCut) [] text
-  Ok ((if ends_by (λ b. b == digit_one) piece.0 then 0 else 1), piece.1)
+  Ok ((if ends_by (λ b. b == byte "1") piece.0 then 0 else 1), piece.1)
 
 -- the end of a number
 abbrev pub sample_item : ℕ → ℕ → Result ℕ InputFault

@@ -1,7 +1,6 @@
 -- Lines of a PAM header: their tokens, and what a line says. From pam(5), 'The layout'.
 use Rattle.std.specs.Prelude.{ℕ, ◌==◌, if◌then◌else◌, Bool, List, [], ◌∷◌, ◌++◌, codes}
-use Rattle.std.specs.Str.{bytes_eq}
-use Rattle.pnm_image.specs.Characters.{line_feed, blank, number_sign}
+use Rattle.std.specs.Str.{byte, bytes_eq}
 use Rattle.pnm_image.specs.Texts.{is_blank, decimal_value}
 use Rattle.pnm_read.specs.declared.line.Field.{Field}
 use Rattle.pnm_read.specs.declared.line.Field.TheVariants.{Width, Height, Depth, Maxval}
@@ -13,7 +12,7 @@ use Rattle.pnm_read.specs.declared.line.LineKind.TheVariants.{Nothing, Number, T
 -- the lines of a text that have ended, without their LF; these bytes of the first came before
 unfoldable pub ended_after : List ℕ → List ℕ → List (List ℕ)
 ended_after line [] = []
-ended_after line (b ∷ text) = if b == line_feed then line ∷ ended_after [] text else ended_after (line ++ b ∷ []) text
+ended_after line (b ∷ text) = if b == byte "\n" then line ∷ ended_after [] text else ended_after (line ++ b ∷ []) text
 
 abbrev pub ended_lines : List ℕ → List (List ℕ)
 ended_lines text = ended_after [] text
@@ -21,7 +20,7 @@ ended_lines text = ended_after [] text
 -- the bytes after the last LF; these came before
 unfoldable pub last_after : List ℕ → List ℕ → List ℕ
 last_after line [] = line
-last_after line (b ∷ text) = if b == line_feed then last_after [] text else last_after (line ++ b ∷ []) text
+last_after line (b ∷ text) = if b == byte "\n" then last_after [] text else last_after (line ++ b ∷ []) text
 
 abbrev pub last_line : List ℕ → List ℕ
 last_line text = last_after [] text
@@ -83,7 +82,7 @@ begins_with name line = bytes_eq name (first_token line)
 unfoldable pub kind_of_token : List ℕ → LineKind
 kind_of_token [] = Nothing
 kind_of_token (b ∷ text) =
-    if b == number_sign then Nothing
+    if b == byte "#" then Nothing
     else if bytes_eq (name_of Width) (b ∷ text) then Number Width
     else if bytes_eq (name_of Height) (b ∷ text) then Number Height
     else if bytes_eq (name_of Depth) (b ∷ text) then Number Depth
@@ -106,7 +105,7 @@ field_values field (line ∷ lines) =
 abbrev pub joined_with : List ℕ → List ℕ → List ℕ
 joined_with [] text = text
 joined_with (b ∷ first) [] = b ∷ first
-joined_with (b ∷ first) (c ∷ text) = (b ∷ first) ++ blank ∷ c ∷ text
+joined_with (b ∷ first) (c ∷ text) = (b ∷ first) ++ byte " " ∷ c ∷ text
 
 -- the values of the TUPLTYPE lines, joined in order by one blank each
 unfoldable pub tuple_type_in : List (List ℕ) → List ℕ

@@ -3,7 +3,7 @@
 use Rattle.std.specs.Prelude.{◌≡◌, ℕ, ◌+◌, ◌*◌, ◌-◌, ◌/◌, ◌<◌, ◌≤◌, true, false, List, [], ◌∷◌, ◌++◌, length, take, map}
 use Rattle.std.specs.Prelude.{flat_map}
 use Rattle.std.specs.List.{AllPass}
-use Rattle.pnm_image.specs.Characters.{digit_one}
+use Rattle.std.specs.Str.{byte}
 pub use Rattle.pnm_samples.specs.Pixels.{pixel_at}
 unfoldable pub use Rattle.pnm_samples.specs.Pixels.{pixels}
 use Rattle.pnm_image.specs.declared.shape.Shape.{Shape}
@@ -57,7 +57,7 @@ pub record IsGap (text : List ℕ) : Type 0 where
 
 -- the text of a pixel: the character 1 is black
 abbrev pub SpellsPixel : List ℕ → ℕ → Type 0
-SpellsPixel text sample = (sample ≤ 1) × (text ≡ (digit_one - sample) ∷ [])
+SpellsPixel text sample = (sample ≤ 1) × (text ≡ (byte "1" - sample) ∷ [])
 
 -- the text of a decimal number
 pub record SpellsDecimal (text : List ℕ) (number : ℕ) : Type 0 where

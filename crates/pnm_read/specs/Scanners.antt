@@ -2,7 +2,7 @@
 use Rattle.std.specs.Prelude.{◌≡◌, ℕ, ◌+◌, ◌-◌, ◌<◌, ◌≤◌, Bool, true, false, not, ◌==◌, ◌&&◌, ◌||◌, if◌then◌else◌, List}
 use Rattle.std.specs.Prelude.{[], ◌∷◌, length, map, drop, slice_index}
 use Rattle.std.specs.List.{AllPass}
-use Rattle.pnm_image.specs.Characters.{digit_zero}
+use Rattle.std.specs.Str.{byte}
 use Rattle.pnm_read.specs.declared.scan_status.ScanStatus.{ScanStatus}
 use Rattle.pnm_read.specs.declared.header.HeaderScanner.{HeaderScanner}
 use Rattle.pnm_read.specs.declared.decimal.DecimalScanner.{DecimalScanner}
@@ -39,13 +39,13 @@ abbrev pub IsHeaderWhole : HeaderScanner → List ℕ → Type 0
 IsHeaderWhole s piece = IsNumbers s.wanted (numbers_in piece) s.numbers
 
 abbrev pub JudgesHeader : HeaderScanner → ℕ → ScanStatus → Type 0
-JudgesHeader s byte scan_status = (before : List ℕ) → IsHeaderAfter s before
-    → scan_status ≡ header_item s.wanted before byte
+JudgesHeader s b scan_status = (before : List ℕ) → IsHeaderAfter s before
+    → scan_status ≡ header_item s.wanted before b
 
 -- this byte can't stand after them
 abbrev pub is_bad_after : HeaderScanner → ℕ → Bool
-is_bad_after s byte =
-    ((s.length == 0) && not (is_apart byte)) || (not s.in_comment && not (is_digit byte || is_apart byte))
+is_bad_after s b =
+    ((s.length == 0) && not (is_apart b)) || (not s.in_comment && not (is_digit b || is_apart b))
 
 -- the last three numbers with a digit more: the next of a number, or the first of one
 abbrev pub numbers_with_digit : Bool → List ℕ → ℕ → List ℕ
@@ -64,21 +64,21 @@ pub record PushesDigit (old : HeaderScanner) (digit : ℕ) (new : HeaderScanner)
 
 -- a byte of a number outside comments
 abbrev pub is_numeral_byte : Bool → ℕ → Bool
-is_numeral_byte in_comment byte = not in_comment && is_digit byte
+is_numeral_byte in_comment b = not in_comment && is_digit b
 
 -- a byte was taken
-pub record PushesHeader (old : HeaderScanner) (byte : ℕ) (new : HeaderScanner) : Type 0 where
+pub record PushesHeader (old : HeaderScanner) (b : ℕ) (new : HeaderScanner) : Type 0 where
   pub wanted : new.wanted ≡ old.wanted
   pub length_is : new.length ≡ old.length + 1
-  pub comment : new.in_comment ≡ commented old.in_comment byte
+  pub comment : new.in_comment ≡ commented old.in_comment b
   pub word : new.in_number
-      ≡ (if is_numeral_byte old.in_comment byte then true else if not old.in_comment && is_white
-      byte then false else old.in_number)
+      ≡ (if is_numeral_byte old.in_comment b then true else if not old.in_comment && is_white
+      b then false else old.in_number)
   pub found : new.found
-      ≡ (if is_numeral_byte old.in_comment byte && not old.in_number then old.found + 1 else old.found)
+      ≡ (if is_numeral_byte old.in_comment b && not old.in_number then old.found + 1 else old.found)
   pub numbers : new.numbers
-      ≡ (if is_numeral_byte old.in_comment byte then numbers_with_digit old.in_number old.numbers
-      (byte - digit_zero) else old.numbers)
+      ≡ (if is_numeral_byte old.in_comment b then numbers_with_digit old.in_number old.numbers
+      (b - byte "0") else old.numbers)
 
 -- ---- numbers of a plain raster
 
@@ -92,14 +92,14 @@ abbrev pub IsDecimalWhole : DecimalScanner → List ℕ → Type 0
 IsDecimalWhole s piece = s.value ≡ saturate_u32 (number_in piece)
 
 abbrev pub JudgesDecimal : DecimalScanner → ℕ → ScanStatus → Type 0
-JudgesDecimal s byte scan_status = (before : List ℕ) → IsDecimalAfter s before → scan_status ≡ decimal_item before byte
+JudgesDecimal s b scan_status = (before : List ℕ) → IsDecimalAfter s before → scan_status ≡ decimal_item before b
 
-pub record PushesDecimal (old : DecimalScanner) (byte : ℕ) (new : DecimalScanner) : Type 0 where
+pub record PushesDecimal (old : DecimalScanner) (b : ℕ) (new : DecimalScanner) : Type 0 where
   pub length_is : new.length ≡ old.length + 1
-  pub comment : new.in_comment ≡ commented old.in_comment byte
-  pub digit : new.in_number ≡ is_numeral_byte old.in_comment byte
+  pub comment : new.in_comment ≡ commented old.in_comment b
+  pub digit : new.in_number ≡ is_numeral_byte old.in_comment b
   pub value : new.value
-      ≡ (if is_numeral_byte old.in_comment byte then with_digit old.value (byte - digit_zero) else old.value)
+      ≡ (if is_numeral_byte old.in_comment b then with_digit old.value (b - byte "0") else old.value)
 
 -- ---- pixels of a plain raster
 
@@ -111,4 +111,4 @@ abbrev pub IsPixelWhole : PixelScanner → List ℕ → Type 0
 IsPixelWhole s piece = s.pixel ≡ pixel_in piece
 
 abbrev pub JudgesPixel : PixelScanner → ℕ → ScanStatus → Type 0
-JudgesPixel s byte scan_status = (before : List ℕ) → IsPixelAfter s before → scan_status ≡ pixel_item before byte
+JudgesPixel s b scan_status = (before : List ℕ) → IsPixelAfter s before → scan_status ≡ pixel_item before b

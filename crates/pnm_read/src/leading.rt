@@ -4,7 +4,7 @@
 
 ghost use Rattle.std.specs.Prelude.{◌≡◌, ◌≤◌, ◌<◌, ◌-◌, length, take, true, IfOk, IfSome};
 ghost use Rattle.std.specs.List.{AllPass};
-ghost use Rattle.pnm_image.specs.Characters.{digit_zero};
+ghost use Rattle.std.specs.Str.{byte};
 ghost use Rattle.pnm_image.specs.declared.limits.TheConstants.{MAX_MAXVAL};
 ghost use Rattle.pnm_image.specs.Texts.{is_white, is_digit};
 ghost use Rattle.pnm_read.specs.Items.{plain_sample, plain_pixel, plain_decimal};
@@ -173,9 +173,9 @@ fn number_first(bytes: &[u8]) -> Option<(u32, usize)>
 }
 
 /// The value of a digit. The result for any other byte means nothing.
-fn digit_value(byte: u8) -> u32
+fn digit_value(digit: u8) -> u32
     ensures within { result < 256 }
-    ensures value { is_digit byte ≡ true → result ≡ byte - digit_zero }
+    ensures value { is_digit digit ≡ true → result ≡ digit - byte "0" }
 {
-    u32::from(byte.wrapping_sub(b'0'))
+    u32::from(digit.wrapping_sub(b'0'))
 }

@@ -16,7 +16,7 @@ use Rattle.pnm_read.specs.HeaderTexts.{commented_after, uncommented_from, begins
 use Rattle.pnm_read.specs.Rasters.{IsGap, SpellsSample, SpellsPiece, MayFollowSample, SpellsPlainSamples}
 use Rattle.pnm_read.proofs.PlainLaws.{apart_follows}
 use Rattle.pnm_write.specs.Encoding.{row_bytes}
-use Rattle.pnm_image.specs.Characters.{blank, line_feed}
+use Rattle.std.specs.Str.{byte}
 use Rattle.pnm_write.specs.PlainRows.{sample_text, plain_row_text}
 use Rattle.pnm_write.specs.PlainParts.{fits_in_line, separator, column_after, word_in_line, text_of_part, sample_texts}
 use Rattle.pnm_serial.proofs.DecimalText.{decimal_spells}
@@ -57,11 +57,11 @@ no_gap : IsGap []
 unfolding uncommented_from commented_after
 no_gap = record { white = All-nil (λ b. is_white b ≡ true); outside = refl }
 
-blank_gap : IsGap (blank ∷ [])
+blank_gap : IsGap (byte " " ∷ [])
 unfolding uncommented_from commented_after
 blank_gap = record { white = All-cons (λ b. is_white b ≡ true) 32 [] refl (All-nil (λ b. is_white b ≡ true)); outside = refl }
 
-feed_gap : IsGap (line_feed ∷ [])
+feed_gap : IsGap (byte "\n" ∷ [])
 unfolding uncommented_from commented_after
 feed_gap = record { white = All-cons (λ b. is_white b ≡ true) 10 [] refl (All-nil (λ b. is_white b ≡ true)); outside = refl }
 
@@ -83,7 +83,7 @@ record IsBefore (gap : List ℕ) : Type 0 where
   one : length gap ≤ 1
   apart : (text : List ℕ) → begins_apart (gap ++ text) ≡ true
 
-before_word : (at_start fits : Bool) → at_start ≡ false → IsBefore (if at_start then [] else if fits then blank ∷ [] else line_feed ∷ [])
+before_word : (at_start fits : Bool) → at_start ≡ false → IsBefore (if at_start then [] else if fits then byte " " ∷ [] else byte "\n" ∷ [])
 before_word true fits begun = cc
 before_word false true begun = record { is_gap = blank_gap; one = omega arith; apart = λ text. refl }
 before_word false false begun = record { is_gap = feed_gap; one = omega arith; apart = λ text. refl }
@@ -168,7 +168,7 @@ both_spell kind text more (sample ∷ samples) others s apart o = (
 -- the rows after a first one, but for the last LF
 abbrev next_rows : Kind → List (List ℕ) → List ℕ
 next_rows kind [] = []
-next_rows kind (row ∷ rows) = (line_feed ∷ [] ++ text_of_part 0 (sample_texts kind row)) ++ next_rows kind rows
+next_rows kind (row ∷ rows) = (byte "\n" ∷ [] ++ text_of_part 0 (sample_texts kind row)) ++ next_rows kind rows
 
 next_begin_apart : (kind : Kind) (rows : List (List ℕ)) → begins_apart (next_rows kind rows) ≡ true
 next_begin_apart kind [] = refl
@@ -178,29 +178,29 @@ next_begin_apart kind (row ∷ rows) = refl
 record RowSpelled (kind : Kind) (row : List ℕ) : Type 0 where
   some : 0 < length row
   are : AreSpelled kind row
-  text : plain_row_text kind row ≡ text_of_part 0 (sample_texts kind row) ++ line_feed ∷ []
+  text : plain_row_text kind row ≡ text_of_part 0 (sample_texts kind row) ++ byte "\n" ∷ []
 
 next_rows_spell : (kind : Kind) (rows : List (List ℕ)) → AllByRecursion (RowSpelled kind) rows → SpellsPlainSamples kind (next_rows kind rows) (concat rows)
 next_rows_spell kind [] are = refl
 next_rows_spell kind (row ∷ rows) are =
-    both_spell kind (line_feed ∷ [] ++ text_of_part 0 (sample_texts kind row)) (next_rows kind rows) row (concat rows)
-    (row_spells kind (line_feed ∷ []) row feed_gap (omega arith) are.0.some are.0.are) (next_begin_apart kind rows) (next_rows_spell kind rows are.1)
+    both_spell kind (byte "\n" ∷ [] ++ text_of_part 0 (sample_texts kind row)) (next_rows kind rows) row (concat rows)
+    (row_spells kind (byte "\n" ∷ []) row feed_gap (omega arith) are.0.some are.0.are) (next_begin_apart kind rows) (next_rows_spell kind rows are.1)
 
 -- with a LF before them they are the rows' texts
 next_rows_text : (kind : Kind) (rows : List (List ℕ)) → AllByRecursion (RowSpelled kind) rows
-    → line_feed ∷ flat_map (plain_row_text kind) rows ≡ next_rows kind rows ++ line_feed ∷ []
+    → byte "\n" ∷ flat_map (plain_row_text kind) rows ≡ next_rows kind rows ++ byte "\n" ∷ []
 next_rows_text kind [] are = refl
 next_rows_text kind (row ∷ rows) are =
     let text : List ℕ = text_of_part 0 (sample_texts kind row) in
-    ap (λ (l : List ℕ). line_feed ∷ (l ++ flat_map (plain_row_text kind) rows)) are.0.text
-    ∙ ap (λ (l : List ℕ). line_feed ∷ l) (append_assoc text (line_feed ∷ []) (flat_map (plain_row_text kind) rows))
-    ∙ ap (λ (l : List ℕ). line_feed ∷ (text ++ l)) (next_rows_text kind rows are.1)
-    ∙ ap (λ (l : List ℕ). line_feed ∷ l) (sym (append_assoc text (next_rows kind rows) (line_feed ∷ [])))
+    ap (λ (l : List ℕ). byte "\n" ∷ (l ++ flat_map (plain_row_text kind) rows)) are.0.text
+    ∙ ap (λ (l : List ℕ). byte "\n" ∷ l) (append_assoc text (byte "\n" ∷ []) (flat_map (plain_row_text kind) rows))
+    ∙ ap (λ (l : List ℕ). byte "\n" ∷ (text ++ l)) (next_rows_text kind rows are.1)
+    ∙ ap (λ (l : List ℕ). byte "\n" ∷ l) (sym (append_assoc text (next_rows kind rows) (byte "\n" ∷ [])))
 
 -- the text of a raster: what spells the samples, and a LF
 pub record PlainRaster (kind : Kind) (text samples : List ℕ) : Type 0 where
   pub body : List ℕ
-  pub whole : text ≡ body ++ line_feed ∷ []
+  pub whole : text ≡ body ++ byte "\n" ∷ []
   pub spelled : SpellsPlainSamples kind body samples
 
 rows_spell : (kind : Kind) (rows : List (List ℕ)) → 0 < length rows → AllByRecursion (RowSpelled kind) rows
@@ -211,9 +211,9 @@ rows_spell kind (row ∷ rows) some are =
     record {
       body = text ++ next_rows kind rows;
       whole = ap (λ (l : List ℕ). l ++ flat_map (plain_row_text kind) rows) are.0.text
-          ∙ append_assoc text (line_feed ∷ []) (flat_map (plain_row_text kind) rows)
+          ∙ append_assoc text (byte "\n" ∷ []) (flat_map (plain_row_text kind) rows)
           ∙ ap (λ (l : List ℕ). text ++ l) (next_rows_text kind rows are.1)
-          ∙ sym (append_assoc text (next_rows kind rows) (line_feed ∷ []));
+          ∙ sym (append_assoc text (next_rows kind rows) (byte "\n" ∷ []));
       spelled = both_spell kind text (next_rows kind rows) row (concat rows) (row_spells kind [] row no_gap (omega arith) are.0.some are.0.are)
           (next_begin_apart kind rows) (next_rows_spell kind rows are.1);
     }
@@ -222,7 +222,7 @@ rows_spell kind (row ∷ rows) some are =
 
 -- the text of a row with samples is what is left of it, and a LF
 row_text : (kind : Kind) (row : List ℕ) → 0 < length row → All (λ sample. sample < 2 ^ 64) row
-    → plain_row_text kind row ≡ text_of_part 0 (sample_texts kind row) ++ line_feed ∷ []
+    → plain_row_text kind row ≡ text_of_part 0 (sample_texts kind row) ++ byte "\n" ∷ []
 row_text kind [] some fit = absurd (omega arith)
 row_text kind (sample ∷ row) some fit = row_text_left kind (sample ∷ row) fit
 

@@ -3,7 +3,7 @@ use Rattle.std.proofs.Common.{◌≡◌, ℕ, zero, suc, ◌+◌, ◌-◌, ◌*�
 use Rattle.std.proofs.Common.{refl, ap, ap₂, subst, ◌∙◌, arith}
 use Rattle.std.proofs.lemmas.List.{drop-drop}
 use Rattle.std.proofs.lemmas.Bool.Decides.{nat_tests}
-use Rattle.pnm_image.specs.Characters.{blank}
+use Rattle.std.specs.Str.{byte}
 use Rattle.pnm_write.specs.Numerals.{IsEntry}
 
 abbrev pub are_same : List ℕ → List ℕ → Bool
@@ -29,17 +29,17 @@ same (a ∷ as') (b ∷ bs) e = let p = and_parts (a == b) (are_same as' bs) e i
 abbrev pub is_entry : ℕ → List ℕ → Bool
 is_entry number entry =
     (length entry == 5) && ((slice_index entry 0 == 49 + length (decimal number)) && are_same (take (1 + length (decimal number)) (drop 1 entry))
-    (blank ∷ decimal number))
+    (byte " " ∷ decimal number))
 
 is_entry_is : (number : ℕ) (entry : List ℕ) → is_entry number entry ≡ true → IsEntry number entry
 is_entry_is number entry e =
-    let text : Bool = are_same (take (1 + length (decimal number)) (drop 1 entry)) (blank ∷ decimal number) in
+    let text : Bool = are_same (take (1 + length (decimal number)) (drop 1 entry)) (byte " " ∷ decimal number) in
     let p = and_parts (length entry == 5) ((slice_index entry 0 == 49 + length (decimal number)) && text) e in
     let q = and_parts (slice_index entry 0 == 49 + length (decimal number)) text p.1 in
     record {
       long = equal (length entry) 5 p.0;
       size = equal (slice_index entry 0) (49 + length (decimal number)) q.0;
-      text = same (take (1 + length (decimal number)) (drop 1 entry)) (blank ∷ decimal number) q.1;
+      text = same (take (1 + length (decimal number)) (drop 1 entry)) (byte " " ∷ decimal number) q.1;
     }
 
 -- whether a table has the entries of so many numbers, from one on

@@ -6,7 +6,7 @@ use Rattle.std.proofs.lemmas.List.{take-append-le, get_or-drop, take_all, take_m
 use Rattle.std.proofs.Math.ListN.{length-set}
 use Rattle.std.proofs.lemmas.Fmt.{decimal_step, decimal_digit, length-decimal-le}
 use Rattle.pnm_image.specs.declared.shape.Kind.TheVariants.{Gray}
-use Rattle.pnm_image.specs.Characters.{blank, line_feed}
+use Rattle.std.specs.Str.{byte}
 use Rattle.pnm_write.specs.PlainRows.{max_line_length}
 use Rattle.pnm_write.specs.PlainParts.{fits_in_line, column_after, word_in_line, text_of_part, column_after_part, sample_texts}
 use Rattle.pnm_write.specs.Numerals.{IsEntry, three_digits}
@@ -79,7 +79,7 @@ four_are_put buffer (a ∷ b ∷ c ∷ []) at within enough = absurd (omega arit
 -- the prefix of an entry is a blank and the number
 pub small_is_put : (buffer new entry : List ℕ) (at number size : ℕ) → number < 256 → IsEntry number entry → size ≡ 1 + length (decimal number)
     → take (at + 4) new ≡ take at buffer ++ take 4 (drop 1 entry) → at ≤ length buffer
-    → take (at + size) new ≡ take at buffer ++ blank ∷ decimal number
+    → take (at + size) new ≡ take at buffer ++ byte " " ∷ decimal number
 small_is_put buffer new entry at number size small is count put within =
     let digits : length (decimal number) ≤ 3 = length-decimal-le 3 number (omega arith) (omega arith) (omega arith) in
     let copied : List ℕ = take 4 (drop 1 entry) in
@@ -96,8 +96,10 @@ entry_ends n entry small is =
     let digits : decimal number ≡ three_digits number = decimal_three number (omega arith) (omega arith) in
     let long : length (drop 1 entry) ≡ 4 = omega (arith, length-drop 1 entry, is.long) in
     let count : 1 + length (decimal number) ≡ 4 = ap (λ (l : List ℕ). 1 + length l) digits in
-    let whole : drop 1 entry ≡ blank ∷ three_digits number = sym (take_all 4 (drop 1 entry) (omega arith)) ∙ ap (λ (k : ℕ). take k (drop 1 entry)) (sym count)
-    ∙ is.text ∙ ap (λ (l : List ℕ). blank ∷ l) digits in
+    let whole : drop 1 entry ≡ byte " " ∷ three_digits number =
+    sym (take_all 4 (drop 1 entry) (omega arith))
+    ∙ ap (λ (k : ℕ). take k (drop 1 entry)) (sym count)
+    ∙ is.text ∙ ap (λ (l : List ℕ). byte " " ∷ l) digits in
     let tens : number / 10 % 10 ≡ n / 10 % 10 = omega arith in
     let ones : number % 10 ≡ n % 10 = omega arith in
     sym (drop-drop 2 1 entry) ∙ ap (drop 2) whole ∙ ap₂ (λ (a b : ℕ). (48 + a) ∷ (48 + b) ∷ []) tens ones
@@ -127,27 +129,27 @@ three_are_put buffer entry at n digit small is within first =
 
 -- a number of three digits behind a blank
 pub three_alone : (buffer new : List ℕ) (at n : ℕ) → 256 ≤ n → n < 1000 → at < length buffer
-    → take (at + 1 + 3) new ≡ take (at + 1) (set buffer at blank) ++ three_digits n → take (at + 4) new ≡ take at buffer ++ blank ∷ decimal n
+    → take (at + 1 + 3) new ≡ take (at + 1) (set buffer at (byte " ")) ++ three_digits n → take (at + 4) new ≡ take at buffer ++ byte " " ∷ decimal n
 three_alone buffer new at n large small within put =
     ap (λ (k : ℕ). take k new) (omega arith)
     ∙ put
-    ∙ ap (λ (l : List ℕ). l ++ three_digits n) (take_more_set buffer at blank within)
-    ∙ append_assoc (take at buffer) (blank ∷ []) (three_digits n)
-    ∙ ap (λ (l : List ℕ). take at buffer ++ blank ∷ l) (sym (decimal_three n (omega arith) small))
+    ∙ ap (λ (l : List ℕ). l ++ three_digits n) (take_more_set buffer at (byte " ") within)
+    ∙ append_assoc (take at buffer) (byte " " ∷ []) (three_digits n)
+    ∙ ap (λ (l : List ℕ). take at buffer ++ byte " " ∷ l) (sym (decimal_three n (omega arith) small))
 
 pub three_count : (n : ℕ) → 256 ≤ n → n < 1000 → 4 ≡ 1 + length (decimal n)
 three_count n large small = omega (arith, ap length (decimal_three n (omega arith) small))
 
 -- three digits behind others
-pub three_behind : (buffer small new : List ℕ) (at size n : ℕ) → 1000 ≤ n → n < 65536 → take (at + size) small ≡ take at buffer ++ blank ∷ decimal (n / 1000)
+pub three_behind : (buffer small new : List ℕ) (at size n : ℕ) → 1000 ≤ n → n < 65536 → take (at + size) small ≡ take at buffer ++ byte " " ∷ decimal (n / 1000)
     → take (at + size + 3) new ≡ take (at + size) small ++ three_digits (n % 1000)
-    → take (at + (size + 3)) new ≡ take at buffer ++ blank ∷ decimal n
+    → take (at + (size + 3)) new ≡ take at buffer ++ byte " " ∷ decimal n
 three_behind buffer small new at size n large fits prefix put =
     ap (λ (k : ℕ). take k new) (omega arith)
     ∙ put
     ∙ ap (λ (l : List ℕ). l ++ three_digits (n % 1000)) prefix
-    ∙ append_assoc (take at buffer) (blank ∷ decimal (n / 1000)) (three_digits (n % 1000))
-    ∙ ap (λ (l : List ℕ). take at buffer ++ blank ∷ l) (sym (decimal_split n large fits))
+    ∙ append_assoc (take at buffer) (byte " " ∷ decimal (n / 1000)) (three_digits (n % 1000))
+    ∙ ap (λ (l : List ℕ). take at buffer ++ byte " " ∷ l) (sym (decimal_split n large fits))
 
 pub behind_count : (n size : ℕ) → 1000 ≤ n → n < 65536 → size ≡ 1 + length (decimal (n / 1000)) → size + 3 ≡ 1 + length (decimal n)
 behind_count n size large fits count =
@@ -159,24 +161,24 @@ prefix_short n fits = length-decimal-le 2 (n / 1000) (omega arith) (omega arith)
 -- ---- words in a line
 
 -- the byte behind some becomes a LF
-pub set_behind : (prefix : List ℕ) (b : ℕ) (word : List ℕ) → set (prefix ++ b ∷ word) (length prefix) line_feed ≡ prefix ++ line_feed ∷ word
+pub set_behind : (prefix : List ℕ) (b : ℕ) (word : List ℕ) → set (prefix ++ b ∷ word) (length prefix) (byte "\n") ≡ prefix ++ byte "\n" ∷ word
 set_behind [] b word = refl
 set_behind (a ∷ prefix) b word = ap (λ (l : List ℕ). a ∷ l) (set_behind prefix b word)
 
 -- what a buffer has, where the line is ended before the word that was put last, or isn't
 put_word_by : (fits : Bool) (buffer : List ℕ) (at : ℕ) (prefix word : List ℕ) → at ≡ length prefix → at < length buffer
-    → take (at + (1 + length word)) buffer ≡ prefix ++ blank ∷ word
-    → take (at + (1 + length word)) (if fits then buffer else set buffer at line_feed) ≡ prefix ++ ((if fits then blank ∷ [] else line_feed ∷ []) ++ word)
+    → take (at + (1 + length word)) buffer ≡ prefix ++ byte " " ∷ word
+    → take (at + (1 + length word)) (if fits then buffer else set buffer at (byte "\n")) ≡ prefix ++ ((if fits then byte " " ∷ [] else byte "\n" ∷ []) ++ word)
 put_word_by true buffer at prefix word here within put = put
 put_word_by false buffer at prefix word here within put =
-    take-set-lt (at + (1 + length word)) buffer at line_feed (omega arith)
-    ∙ ap (λ (l : List ℕ). set l at line_feed) put
-    ∙ ap (λ (n : ℕ). set (prefix ++ blank ∷ word) n line_feed) here
-    ∙ set_behind prefix blank word
+    take-set-lt (at + (1 + length word)) buffer at (byte "\n") (omega arith)
+    ∙ ap (λ (l : List ℕ). set l at (byte "\n")) put
+    ∙ ap (λ (n : ℕ). set (prefix ++ byte " " ∷ word) n (byte "\n")) here
+    ∙ set_behind prefix (byte " ") word
 
 -- the separator of a word in a line that has begun
-separator_by : (at_start fits : Bool) → at_start ≡ false → (if at_start then [] else if fits then blank ∷ [] else line_feed ∷ [])
-    ≡ (if fits then blank ∷ [] else line_feed ∷ [])
+separator_by : (at_start fits : Bool) → at_start ≡ false → (if at_start then [] else if fits then byte " " ∷ [] else byte "\n" ∷ [])
+    ≡ (if fits then byte " " ∷ [] else byte "\n" ∷ [])
 separator_by true fits e = cc
 separator_by false fits e = refl
 
@@ -190,16 +192,16 @@ same_room : (column size : ℕ) → nat_le (column + (1 + size)) max_line_length
 same_room column size = ap (λ (n : ℕ). nat_le n max_line_length) (omega arith)
 
 pub word_is_put : (old put new prefix word : List ℕ) (at column size : ℕ) → 0 < column → prefix ≡ take at old → at < length old → length put ≡ length old
-    → size ≡ 1 + length word → take (at + size) put ≡ take at old ++ blank ∷ word
-    → new ≡ (if nat_le (column + size) max_line_length then put else set put at line_feed) → take (at + size) new ≡ prefix ++ word_in_line column word
+    → size ≡ 1 + length word → take (at + size) put ≡ take at old ++ byte " " ∷ word
+    → new ≡ (if nat_le (column + size) max_line_length then put else set put at (byte "\n")) → take (at + size) new ≡ prefix ++ word_in_line column word
 word_is_put old put new prefix word at column size begun prefix_is within same count put_is new_is =
     let long : at ≡ length prefix = sym (ap length prefix_is ∙ omega (arith, length-take at old)) in
-    let put_here : take (at + (1 + length word)) put ≡ prefix ++ blank ∷ word = ap (λ (n : ℕ). take (at + n) put) (sym count) ∙ put_is
-    ∙ ap (λ (l : List ℕ). l ++ blank ∷ word) (sym prefix_is) in
+    let put_here : take (at + (1 + length word)) put ≡ prefix ++ byte " " ∷ word = ap (λ (n : ℕ). take (at + n) put) (sym count) ∙ put_is
+    ∙ ap (λ (l : List ℕ). l ++ byte " " ∷ word) (sym prefix_is) in
     let fits : Bool = fits_in_line column word in
     ap₂ (λ (n : ℕ) (l : List ℕ). take (at + n) l) count
-    (new_is ∙ ap (λ (n : ℕ). if nat_le (column + n) max_line_length then put else set put at line_feed) count
-    ∙ ap (λ (b : Bool). if b then put else set put at line_feed) (same_room column (length word)))
+    (new_is ∙ ap (λ (n : ℕ). if nat_le (column + n) max_line_length then put else set put at (byte "\n")) count
+    ∙ ap (λ (b : Bool). if b then put else set put at (byte "\n")) (same_room column (length word)))
     ∙ put_word_by fits put at prefix word long (omega arith) put_here
     ∙ ap (λ (l : List ℕ). prefix ++ (l ++ word)) (sym (separator_by (column == 0) fits (has_begun_line column begun)))
 
@@ -216,8 +218,8 @@ pub number_more : (start column end at size i sample : ℕ) (initial buffer put 
     → i < length samples → sample ≡ get_or samples i 0
     → take end buffer ≡ take start initial ++ text_of_part column (sample_texts Gray (take i samples))
     → at ≡ column_after_part column (sample_texts Gray (take i samples))
-    → size ≡ 1 + length (decimal sample) → take (end + size) put ≡ take end buffer ++ blank ∷ decimal sample
-    → new ≡ (if nat_le (at + size) max_line_length then put else set put end line_feed)
+    → size ≡ 1 + length (decimal sample) → take (end + size) put ≡ take end buffer ++ byte " " ∷ decimal sample
+    → new ≡ (if nat_le (at + size) max_line_length then put else set put end (byte "\n"))
     → take (end + size) new ≡ take start initial ++ text_of_part column (sample_texts Gray (take (i + 1) samples))
 number_more start column end at size i sample initial buffer put new samples begun within same below is known here count put_is new_is =
     let prefix : List ℕ = text_of_part column (sample_texts Gray (take i samples)) in

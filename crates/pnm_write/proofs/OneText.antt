@@ -6,7 +6,7 @@ use Rattle.std.proofs.lemmas.Bool.Decides.{nat_tests}
 use Rattle.pnm_image.specs.declared.shape.Kind.{Kind}
 use Rattle.pnm_image.specs.Heads.{HeadValue, IsHead}
 use Rattle.pnm_image.specs.Places.{IsRowOf}
-use Rattle.pnm_image.specs.Characters.{blank, line_feed}
+use Rattle.std.specs.Str.{byte}
 use Rattle.pnm_write.specs.PlainRows.{max_line_length, sample_text, join_with_blank, IsFilled, AreFilled, IsLine, line_text, IsSetInLines, words_after}
 use Rattle.pnm_write.specs.PlainRows.{set_in_lines}
 use Rattle.pnm_write.specs.EncodingLaws.{HasOneText}
@@ -17,28 +17,28 @@ use Rattle.pnm_write.proofs.WordSizes.{AreShortWords, row_is_short}
 -- the words of a line after its first
 abbrev behind : List (List ℕ) → List ℕ
 behind [] = []
-behind (word ∷ words) = blank ∷ (word ++ behind words)
+behind (word ∷ words) = byte " " ∷ (word ++ behind words)
 
 joined_is : (first : List ℕ) (words : List (List ℕ)) → join_with_blank (first ∷ words) ≡ first ++ behind words
 joined_is first [] = sym (append-nil first)
-joined_is first (word ∷ words) = ap (λ (l : List ℕ). first ++ blank ∷ l) (joined_is word words)
+joined_is first (word ∷ words) = ap (λ (l : List ℕ). first ++ byte " " ∷ l) (joined_is word words)
 
-behind_more : (words : List (List ℕ)) (word : List ℕ) → behind (words ++ word ∷ []) ≡ behind words ++ blank ∷ word
-behind_more [] word = ap (λ (l : List ℕ). blank ∷ l) (append-nil word)
-behind_more (next ∷ words) word = ap (λ (l : List ℕ). blank ∷ (next ++ l)) (behind_more words word)
-    ∙ ap (λ (l : List ℕ). blank ∷ l) (sym (append_assoc next (behind words) (blank ∷ word)))
+behind_more : (words : List (List ℕ)) (word : List ℕ) → behind (words ++ word ∷ []) ≡ behind words ++ byte " " ∷ word
+behind_more [] word = ap (λ (l : List ℕ). byte " " ∷ l) (append-nil word)
+behind_more (next ∷ words) word = ap (λ (l : List ℕ). byte " " ∷ (next ++ l)) (behind_more words word)
+    ∙ ap (λ (l : List ℕ). byte " " ∷ l) (sym (append_assoc next (behind words) (byte " " ∷ word)))
 
 -- a line with one word more
 joined_more : (first : List ℕ) (words : List (List ℕ)) (word : List ℕ) → join_with_blank (first ∷ (words ++ word ∷ [])) ≡ join_with_blank (first ∷ words)
-    ++ blank ∷ word
+    ++ byte " " ∷ word
 joined_more first words word =
     joined_is first (words ++ word ∷ [])
     ∙ ap (λ (l : List ℕ). first ++ l) (behind_more words word)
-    ∙ sym (append_assoc first (behind words) (blank ∷ word))
-    ∙ ap (λ (l : List ℕ). l ++ blank ∷ word) (sym (joined_is first words))
+    ∙ sym (append_assoc first (behind words) (byte " " ∷ word))
+    ∙ ap (λ (l : List ℕ). l ++ byte " " ∷ word) (sym (joined_is first words))
 
-long_more : (line word : List ℕ) → length (line ++ blank ∷ word) ≡ length line + 1 + length word
-long_more line word = omega (arith, length-append line (blank ∷ word))
+long_more : (line word : List ℕ) → length (line ++ byte " " ∷ word) ≡ length line + 1 + length word
+long_more line word = omega (arith, length-append line (byte " " ∷ word))
 
 -- ---- the lines of words
 
@@ -54,7 +54,7 @@ record AreFilledFrom (first : List ℕ) (more words : List (List ℕ)) (lines : 
   in_order : flat_map (λ line. line) lines ≡ (first ∷ more) ++ words
   each : AllByRecursion IsLine lines
   filled : AreFilled lines
-  begins : (line : List (List ℕ)) → max_line_length < length (join_with_blank line ++ blank ∷ first) → IsFilled line lines
+  begins : (line : List (List ℕ)) → max_line_length < length (join_with_blank line ++ byte " " ∷ first) → IsFilled line lines
   text : flat_map line_text lines ≡ join_with_blank (first ∷ more) ++ words_after (length (join_with_blank (first ∷ more))) words
 
 -- each word has room in a line
@@ -79,21 +79,21 @@ one_word word short = record { some = omega arith; short = short }
 -- a word in the line
 fill_here : (first : List ℕ) (more : List (List ℕ)) (word : List ℕ) (words : List (List ℕ)) (lines : List (List (List ℕ)))
     → AreFilledFrom first (more ++ word ∷ []) words lines
-    → flat_map line_text lines ≡ join_with_blank (first ∷ more) ++ blank
+    → flat_map line_text lines ≡ join_with_blank (first ∷ more) ++ byte " "
     ∷ (word ++ words_after (length (join_with_blank (first ∷ more)) + 1 + length word) words)
 fill_here first more word words lines are =
     let line : List ℕ = join_with_blank (first ∷ more) in
     are.text
     ∙ ap (λ (l : List ℕ). l ++ words_after (length l) words) (joined_more first more word)
-    ∙ ap (λ (n : ℕ). (line ++ blank ∷ word) ++ words_after n words) (long_more line word)
-    ∙ append_assoc line (blank ∷ word) (words_after (length line + 1 + length word) words)
+    ∙ ap (λ (n : ℕ). (line ++ byte " " ∷ word) ++ words_after n words) (long_more line word)
+    ∙ append_assoc line (byte " " ∷ word) (words_after (length line + 1 + length word) words)
 
 -- a word in the next line
 fill_next : (first : List ℕ) (more : List (List ℕ)) (word : List ℕ) (words : List (List ℕ)) (lines : List (List (List ℕ))) → AreFilledFrom word [] words lines
-    → flat_map line_text ((first ∷ more) ∷ lines) ≡ join_with_blank (first ∷ more) ++ line_feed ∷ (word ++ words_after (length word) words)
+    → flat_map line_text ((first ∷ more) ∷ lines) ≡ join_with_blank (first ∷ more) ++ byte "\n" ∷ (word ++ words_after (length word) words)
 fill_next first more word words lines are =
     let line : List ℕ = join_with_blank (first ∷ more) in
-    ap (λ (l : List ℕ). (line ++ line_feed ∷ []) ++ l) are.text ∙ append_assoc line (line_feed ∷ []) (word ++ words_after (length word) words)
+    ap (λ (l : List ℕ). (line ++ byte "\n" ∷ []) ++ l) are.text ∙ append_assoc line (byte "\n" ∷ []) (word ++ words_after (length word) words)
 
 fill_step : (here : Bool) (first : List ℕ) (more : List (List ℕ)) (word : List ℕ) (words : List (List ℕ))
     → nat_le (length (join_with_blank (first ∷ more)) + 1 + length word) max_line_length ≡ here → IsLine (first ∷ more)
@@ -104,9 +104,9 @@ fill_step : (here : Bool) (first : List ℕ) (more : List (List ℕ)) (word : Li
     (flat_map (λ line. line) lines ≡ (first ∷ more) ++ word ∷ words)
     × AllByRecursion IsLine lines
     × AreFilled lines
-    × ((line : List (List ℕ)) → max_line_length < length (join_with_blank line ++ blank ∷ first) → IsFilled line lines)
+    × ((line : List (List ℕ)) → max_line_length < length (join_with_blank line ++ byte " " ∷ first) → IsFilled line lines)
     × (flat_map line_text lines ≡ join_with_blank (first ∷ more)
-    ++ (if here then blank ∷ (word ++ words_after (column + 1 + length word) words) else line_feed ∷ (word ++ words_after (length word) words))))
+    ++ (if here then byte " " ∷ (word ++ words_after (column + 1 + length word) words) else byte "\n" ∷ (word ++ words_after (length word) words))))
 fill_step true first more word words is line same next =
     let long : length (join_with_blank (first ∷ (more ++ word ∷ []))) ≡ length (join_with_blank (first ∷ more)) + 1 + length word =
     ap length (joined_more first more word) ∙ long_more (join_with_blank (first ∷ more)) word in
@@ -118,7 +118,7 @@ fill_step true first more word words is line same next =
       fill_here first more word words (fill first (more ++ word ∷ []) words) are,
     )
 fill_step false first more word words is line same next =
-    let full : max_line_length < length (join_with_blank (first ∷ more) ++ blank ∷ word) =
+    let full : max_line_length < length (join_with_blank (first ∷ more) ++ byte " " ∷ word) =
     omega (arith, long_more (join_with_blank (first ∷ more)) word, fits_not (length (join_with_blank (first ∷ more)) + 1 + length word) is) in (
       ap (λ (l : List (List ℕ)). (first ∷ more) ++ l) next.in_order,
       (line, next.each),
@@ -133,7 +133,7 @@ fill_is first more [] line short = record {
   each = (line, tt);
   filled = (tt, tt);
   begins = λ before h. h;
-  text = append-nil (join_with_blank (first ∷ more) ++ line_feed ∷ []);
+  text = append-nil (join_with_blank (first ∷ more) ++ byte "\n" ∷ []);
 }
 fill_is first more (word ∷ words) line short =
     let all = fill_step (nat_le (length (join_with_blank (first ∷ more)) + 1 + length word) max_line_length) first more word words refl line
@@ -162,17 +162,17 @@ stand_here column (word ∷ line) more short =
     let long : length (word ++ behind line) ≡ length word + length (behind line) = length-append word (behind line) in
     let buffer : nat_le now max_line_length ≡ true = le_is now max_line_length (omega arith) in
     let same : now + length (behind line) ≡ column + length (behind (word ∷ line)) = omega arith in
-    ap (λ (b : Bool). if b then blank ∷ (word ++ words_after now (line ++ more)) else line_feed ∷ (word ++ words_after (length word) (line ++ more))) buffer
-    ∙ ap (λ (l : List ℕ). blank ∷ (word ++ l)) (stand_here now line more (omega arith))
-    ∙ ap (λ (l : List ℕ). blank ∷ l) (sym (append_assoc word (behind line) (words_after (now + length (behind line)) more)))
-    ∙ ap (λ (n : ℕ). blank ∷ ((word ++ behind line) ++ words_after n more)) same
+    ap (λ (b : Bool). if b then byte " " ∷ (word ++ words_after now (line ++ more)) else byte "\n" ∷ (word ++ words_after (length word) (line ++ more))) buffer
+    ∙ ap (λ (l : List ℕ). byte " " ∷ (word ++ l)) (stand_here now line more (omega arith))
+    ∙ ap (λ (l : List ℕ). byte " " ∷ l) (sym (append_assoc word (behind line) (words_after (now + length (behind line)) more)))
+    ∙ ap (λ (n : ℕ). byte " " ∷ ((word ++ behind line) ++ words_after n more)) same
 
 -- what follows a line that is filled
 abbrev lines_words : List (List (List ℕ)) → List (List ℕ)
 lines_words lines = flat_map (λ line. line) lines
 
 follow_line : (line : List (List ℕ)) (lines : List (List (List ℕ))) → IsFilled line lines → AreFilled lines → AllByRecursion IsLine lines
-    → words_after (length (join_with_blank line)) (lines_words lines) ≡ line_feed ∷ flat_map line_text lines
+    → words_after (length (join_with_blank line)) (lines_words lines) ≡ byte "\n" ∷ flat_map line_text lines
 follow_line line [] filled others each = refl
 follow_line line ([] ∷ lines) filled others each = absurd filled
 follow_line line ((word ∷ words) ∷ lines) filled others each =
@@ -182,14 +182,14 @@ follow_line line ((word ∷ words) ∷ lines) filled others each =
     let whole : join_with_blank (word ∷ words) ≡ word ++ behind words = joined_is word words in
     let long : length (join_with_blank (word ∷ words)) ≡ length word + length (behind words) = ap length whole ∙ length-append word (behind words) in
     let rest : List (List ℕ) = lines_words lines in
-    ap (λ (b : Bool). if b then blank ∷ (word ++ words_after (column + 1 + length word) (words ++ rest)) else line_feed
+    ap (λ (b : Bool). if b then byte " " ∷ (word ++ words_after (column + 1 + length word) (words ++ rest)) else byte "\n"
     ∷ (word ++ words_after (length word) (words ++ rest))) full
-    ∙ ap (λ (l : List ℕ). line_feed ∷ (word ++ l)) (stand_here (length word) words rest (omega (arith, each.0.short)))
-    ∙ ap (λ (n : ℕ). line_feed ∷ (word ++ (behind words ++ words_after n rest))) (sym long)
-    ∙ ap (λ (l : List ℕ). line_feed ∷ (word ++ (behind words ++ l))) (follow_line (word ∷ words) lines others.0 others.1 each.1)
-    ∙ ap (λ (l : List ℕ). line_feed ∷ l) (sym (append_assoc word (behind words) (line_feed ∷ flat_map line_text lines)))
-    ∙ ap (λ (l : List ℕ). line_feed ∷ (l ++ line_feed ∷ flat_map line_text lines)) (sym whole)
-    ∙ ap (λ (l : List ℕ). line_feed ∷ l) (sym (append_assoc (join_with_blank (word ∷ words)) (line_feed ∷ []) (flat_map line_text lines)))
+    ∙ ap (λ (l : List ℕ). byte "\n" ∷ (word ++ l)) (stand_here (length word) words rest (omega (arith, each.0.short)))
+    ∙ ap (λ (n : ℕ). byte "\n" ∷ (word ++ (behind words ++ words_after n rest))) (sym long)
+    ∙ ap (λ (l : List ℕ). byte "\n" ∷ (word ++ (behind words ++ l))) (follow_line (word ∷ words) lines others.0 others.1 each.1)
+    ∙ ap (λ (l : List ℕ). byte "\n" ∷ l) (sym (append_assoc word (behind words) (byte "\n" ∷ flat_map line_text lines)))
+    ∙ ap (λ (l : List ℕ). byte "\n" ∷ (l ++ byte "\n" ∷ flat_map line_text lines)) (sym whole)
+    ∙ ap (λ (l : List ℕ). byte "\n" ∷ l) (sym (append_assoc (join_with_blank (word ∷ words)) (byte "\n" ∷ []) (flat_map line_text lines)))
 
 -- the text of lines is the one that is written of their words
 lines_text : (lines : List (List (List ℕ))) → AreFilled lines → AllByRecursion IsLine lines → flat_map line_text lines ≡ set_in_lines (lines_words lines)
@@ -199,7 +199,7 @@ lines_text ((word ∷ words) ∷ lines) filled each =
     let whole : join_with_blank (word ∷ words) ≡ word ++ behind words = joined_is word words in
     let long : length (join_with_blank (word ∷ words)) ≡ length word + length (behind words) = ap length whole ∙ length-append word (behind words) in
     let rest : List (List ℕ) = lines_words lines in
-    append_assoc (join_with_blank (word ∷ words)) (line_feed ∷ []) (flat_map line_text lines)
+    append_assoc (join_with_blank (word ∷ words)) (byte "\n" ∷ []) (flat_map line_text lines)
     ∙ ap (λ (l : List ℕ). join_with_blank (word ∷ words) ++ l) (sym (follow_line (word ∷ words) lines filled.0 filled.1 each.1))
     ∙ ap (λ (l : List ℕ). l ++ words_after (length (join_with_blank (word ∷ words))) rest) whole
     ∙ append_assoc word (behind words) (words_after (length (join_with_blank (word ∷ words))) rest)

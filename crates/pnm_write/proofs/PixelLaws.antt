@@ -10,7 +10,7 @@ use Rattle.std.proofs.lemmas.List.{take-append-drop, take_all, drop_all, take_mo
 use Rattle.pnm_samples.specs.Pixels.{pixels, all_pixels}
 use Rattle.pnm_samples.proofs.PixelLaws.{length-all_pixels, all_pixels-push, take-all_pixels, drop-all_pixels}
 use Rattle.pnm_image.specs.declared.shape.Kind.TheVariants.{Bit}
-use Rattle.pnm_image.specs.Characters.{blank, line_feed}
+use Rattle.std.specs.Str.{byte}
 use Rattle.pnm_write.specs.PlainRows.{max_line_length, words_after, plain_row_text}
 use Rattle.pnm_write.specs.PlainParts.{sample_texts}
 use Rattle.pnm_write.specs.PixelCells.{cell, cells, nibble_cells}
@@ -94,7 +94,7 @@ cells_more buffer new bytes i b below is known added =
 
 -- pixels behind others, in their line
 abbrev behind : List ℕ → List ℕ
-behind samples = flat_map (λ sample. blank ∷ (49 - sample) ∷ []) samples
+behind samples = flat_map (λ sample. byte " " ∷ (49 - sample) ∷ []) samples
 
 length-behind : (samples : List ℕ) → length (behind samples) ≡ 2 * length samples
 length-behind [] = refl
@@ -105,9 +105,9 @@ length-cells [] = refl
 length-cells (sample ∷ samples) = omega (arith, length-cells samples)
 
 -- the characters of pixels, a blank before each or behind each
-shifted : (samples : List ℕ) → blank ∷ cells samples ≡ behind samples ++ blank ∷ []
+shifted : (samples : List ℕ) → byte " " ∷ cells samples ≡ behind samples ++ byte " " ∷ []
 shifted [] = refl
-shifted (sample ∷ samples) = ap (λ (l : List ℕ). blank ∷ (49 - sample) ∷ l) (shifted samples)
+shifted (sample ∷ samples) = ap (λ (l : List ℕ). byte " " ∷ (49 - sample) ∷ l) (shifted samples)
 
 le_is : (a b : ℕ) → a ≤ b → nat_le a b ≡ true
 le_is a b h = grind (arith, nat_tests)
@@ -122,20 +122,20 @@ stand_here column [] more short = ap (λ (n : ℕ). words_after n (sample_texts 
 stand_here column (sample ∷ samples) more short =
     let buffer : nat_le (column + 1 + 1) max_line_length ≡ true = le_is (column + 1 + 1) max_line_length (omega arith) in
     let same_column : column + 1 + 1 + 2 * length samples ≡ column + 2 * length (sample ∷ samples) = omega arith in
-    ap (λ (b : Bool). if b then blank ∷ (((49 - sample) ∷ []) ++ words_after (column + 1 + 1) (sample_texts Bit (samples ++ more))) else line_feed
+    ap (λ (b : Bool). if b then byte " " ∷ (((49 - sample) ∷ []) ++ words_after (column + 1 + 1) (sample_texts Bit (samples ++ more))) else byte "\n"
     ∷ (((49 - sample) ∷ []) ++ words_after 1 (sample_texts Bit (samples ++ more)))) buffer
-    ∙ ap (λ (l : List ℕ). blank ∷ (49 - sample) ∷ l) (stand_here (column + 1 + 1) samples more (omega arith))
-    ∙ ap (λ (n : ℕ). blank ∷ (49 - sample) ∷ (behind samples ++ words_after n (sample_texts Bit more))) same_column
+    ∙ ap (λ (l : List ℕ). byte " " ∷ (49 - sample) ∷ l) (stand_here (column + 1 + 1) samples more (omega arith))
+    ∙ ap (λ (n : ℕ). byte " " ∷ (49 - sample) ∷ (behind samples ++ words_after n (sample_texts Bit more))) same_column
 
 -- a pixel for which it hasn't
-stands_next : (column sample : ℕ) (more : List ℕ) → 68 < column → words_after column (sample_texts Bit (sample ∷ more)) ≡ line_feed ∷ plain_row_text Bit
+stands_next : (column sample : ℕ) (more : List ℕ) → 68 < column → words_after column (sample_texts Bit (sample ∷ more)) ≡ byte "\n" ∷ plain_row_text Bit
     (sample ∷ more)
 stands_next column sample more full =
-    ap (λ (b : Bool). if b then blank ∷ (((49 - sample) ∷ []) ++ words_after (column + 1 + 1) (sample_texts Bit more)) else line_feed
+    ap (λ (b : Bool). if b then byte " " ∷ (((49 - sample) ∷ []) ++ words_after (column + 1 + 1) (sample_texts Bit more)) else byte "\n"
     ∷ (((49 - sample) ∷ []) ++ words_after 1 (sample_texts Bit more))) (le_is_not (column + 1 + 1) max_line_length (omega arith))
 
 -- a line of pixels
-line_of : (sample : ℕ) (samples : List ℕ) → length samples ≤ 34 → plain_row_text Bit (sample ∷ samples) ≡ ((49 - sample) ∷ behind samples) ++ line_feed ∷ []
+line_of : (sample : ℕ) (samples : List ℕ) → length samples ≤ 34 → plain_row_text Bit (sample ∷ samples) ≡ ((49 - sample) ∷ behind samples) ++ byte "\n" ∷ []
 line_of sample samples short =
     ap (λ (l : List ℕ). (49 - sample) ∷ words_after 1 (sample_texts Bit l)) (sym (append-nil samples))
     ∙ ap (λ (l : List ℕ). (49 - sample) ∷ l) (stand_here 1 samples [] (omega arith))
@@ -148,7 +148,7 @@ first_line (first ∷ line) (sample ∷ more) whole =
     let count : length line ≡ 34 = omega arith in
     ap (λ (l : List ℕ). (49 - first) ∷ l) (stand_here 1 line (sample ∷ more) (omega arith))
     ∙ ap (λ (l : List ℕ). (49 - first) ∷ (behind line ++ l)) (stands_next (1 + 2 * length line) sample more (omega arith))
-    ∙ ap (λ (l : List ℕ). (49 - first) ∷ l) (sym (append_assoc (behind line) (line_feed ∷ []) (plain_row_text Bit (sample ∷ more))))
+    ∙ ap (λ (l : List ℕ). (49 - first) ∷ l) (sym (append_assoc (behind line) (byte "\n" ∷ []) (plain_row_text Bit (sample ∷ more))))
     ∙ ap (λ (l : List ℕ). l ++ plain_row_text Bit (sample ∷ more)) (sym (line_of first line (omega arith)))
 
 -- whole lines, and what follows them
@@ -173,27 +173,27 @@ whole_lines (suc k) prefix more whole =
 
 -- the last byte of a line's characters becomes its LF
 line_ends : (prefix line more : List ℕ) → 0 < length line → length line ≤ 35
-    → set (prefix ++ (cells line ++ more)) (length prefix + 2 * length line - 1) line_feed ≡ prefix ++ (plain_row_text Bit line ++ more)
+    → set (prefix ++ (cells line ++ more)) (length prefix + 2 * length line - 1) (byte "\n") ≡ prefix ++ (plain_row_text Bit line ++ more)
 line_ends prefix [] more some short = absurd (omega (arith, some))
 line_ends prefix (sample ∷ line) more some short =
     let text : List ℕ = (49 - sample) ∷ behind line in
     let before : List ℕ = prefix ++ text in
     let place : length prefix + 2 * length (sample ∷ line) - 1 ≡ length before = omega (arith, length-append prefix text, length-behind line) in
-    let held : prefix ++ (cells (sample ∷ line) ++ more) ≡ before ++ blank ∷ more =
+    let held : prefix ++ (cells (sample ∷ line) ++ more) ≡ before ++ byte " " ∷ more =
     ap (λ (l : List ℕ). prefix ++ (((49 - sample) ∷ l) ++ more)) (shifted line)
-    ∙ ap (λ (l : List ℕ). prefix ++ l) (append_assoc text (blank ∷ []) more)
-    ∙ sym (append_assoc prefix text (blank ∷ more)) in
-    ap₂ (λ (l : List ℕ) (n : ℕ). set l n line_feed) held place
-    ∙ set_behind before blank more
-    ∙ append_assoc prefix text (line_feed ∷ more)
-    ∙ ap (λ (l : List ℕ). prefix ++ l) (sym (append_assoc text (line_feed ∷ []) more))
+    ∙ ap (λ (l : List ℕ). prefix ++ l) (append_assoc text (byte " " ∷ []) more)
+    ∙ sym (append_assoc prefix text (byte " " ∷ more)) in
+    ap₂ (λ (l : List ℕ) (n : ℕ). set l n (byte "\n")) held place
+    ∙ set_behind before (byte " ") more
+    ∙ append_assoc prefix text (byte "\n" ∷ more)
+    ∙ ap (λ (l : List ℕ). prefix ++ l) (sym (append_assoc text (byte "\n" ∷ []) more))
     ∙ ap (λ (l : List ℕ). prefix ++ (l ++ more)) (sym (line_of sample line (omega arith)))
 
 -- one line more is ended
 pub line_more : (buffer xs : List ℕ) (count done next : ℕ) → length xs ≡ count → 2 * count ≤ length buffer → done < count → next ≡ min (done + 35) count
     → done % 35 ≡ 0
     → take (2 * count) buffer ≡ plain_row_text Bit (take done xs) ++ cells (drop done xs)
-    → take (2 * count) (set buffer (2 * next - 1) line_feed) ≡ plain_row_text Bit (take next xs) ++ cells (drop next xs)
+    → take (2 * count) (set buffer (2 * next - 1) (byte "\n")) ≡ plain_row_text Bit (take next xs) ++ cells (drop next xs)
 line_more buffer xs count done next size within below next_is whole known =
     let prefix : List ℕ = plain_row_text Bit (take done xs) in
     let rest : List ℕ = drop done xs in
@@ -206,10 +206,10 @@ line_more buffer xs count done next size within below next_is whole known =
     omega (arith, ap length known, length-append prefix (cells rest), length-cells rest, length-take (2 * count) buffer) in
     let after : others ≡ drop next xs = drop-drop (next - done) done xs ∙ ap (λ (n : ℕ). drop n xs) (omega arith) in
     let before : take next xs ≡ take done xs ++ line = ap (λ (n : ℕ). take n xs) (omega arith) ∙ take-add done (next - done) xs in
-    take-set-lt (2 * count) buffer (2 * next - 1) line_feed (omega arith)
-    ∙ ap (λ (l : List ℕ). set l (2 * next - 1) line_feed) (known ∙ ap (λ (l : List ℕ). prefix ++ cells l) parts
+    take-set-lt (2 * count) buffer (2 * next - 1) (byte "\n") (omega arith)
+    ∙ ap (λ (l : List ℕ). set l (2 * next - 1) (byte "\n")) (known ∙ ap (λ (l : List ℕ). prefix ++ cells l) parts
     ∙ ap (λ (l : List ℕ). prefix ++ l) (flat_map-append cell line others))
-    ∙ ap (λ (n : ℕ). set (prefix ++ (cells line ++ cells others)) n line_feed) (omega arith)
+    ∙ ap (λ (n : ℕ). set (prefix ++ (cells line ++ cells others)) n (byte "\n")) (omega arith)
     ∙ line_ends prefix line (cells others) (omega arith) (omega arith)
     ∙ sym (append_assoc prefix (plain_row_text Bit line) (cells others))
     ∙ ap (λ (l : List ℕ). l ++ cells others) (sym (whole_lines (done / 35) (take done xs) line (omega (arith, length-take done xs))))
@@ -221,7 +221,7 @@ take-cells : (n : ℕ) (samples : List ℕ) → take (2 * n) (cells samples) ≡
 take-cells zero samples = refl
 take-cells (suc n) [] = take_all (2 * suc n) [] (omega arith)
 take-cells (suc n) (sample ∷ samples) =
-    ap (λ (k : ℕ). take k (cells (sample ∷ samples))) (two_more n) ∙ ap (λ (l : List ℕ). (49 - sample) ∷ blank ∷ l) (take-cells n samples)
+    ap (λ (k : ℕ). take k (cells (sample ∷ samples))) (two_more n) ∙ ap (λ (l : List ℕ). (49 - sample) ∷ byte " " ∷ l) (take-cells n samples)
   where
     two_more : (n : ℕ) → 2 * suc n ≡ suc (suc (2 * n))
     two_more n = omega arith

@@ -8,7 +8,7 @@ use Rattle.std.specs.List.{AllByRecursion}
 use Rattle.std.proofs.lemmas.Fmt.{decimal_nonempty}
 use Rattle.pnm_image.specs.declared.shape.Kind.{Kind}
 use Rattle.pnm_image.specs.declared.shape.Kind.TheVariants.{Bit, Gray, Color, Pam}
-use Rattle.pnm_image.specs.Characters.{blank, line_feed}
+use Rattle.std.specs.Str.{byte}
 use Rattle.pnm_write.specs.PlainRows.{sample_text, words_after, plain_row_text}
 use Rattle.pnm_write.specs.PlainParts.{fits_in_line, column_after, word_in_line, text_of_part, column_after_part, sample_texts, row_end}
 
@@ -33,10 +33,10 @@ column_after_part-append column (word ∷ words) more = column_after_part-append
 -- what is left of a row, behind a line that has so many bytes
 abbrev pub text_left : ℕ → Kind → List ℕ → List ℕ
 text_left column kind [] = []
-text_left column kind (sample ∷ samples) = text_of_part column (sample_texts kind (sample ∷ samples)) ++ line_feed ∷ []
+text_left column kind (sample ∷ samples) = text_of_part column (sample_texts kind (sample ∷ samples)) ++ byte "\n" ∷ []
 
 text_left-some : (column : ℕ) (kind : Kind) (samples : List ℕ) → 0 < length samples
-    → text_left column kind samples ≡ text_of_part column (sample_texts kind samples) ++ line_feed ∷ []
+    → text_left column kind samples ≡ text_of_part column (sample_texts kind samples) ++ byte "\n" ∷ []
 text_left-some column kind [] some = absurd (omega arith)
 text_left-some column kind (sample ∷ samples) some = refl
 
@@ -55,10 +55,10 @@ left_parts column kind prefix (sample ∷ back) is_end some last more =
     let others : List (List ℕ) = sample_texts kind (sample ∷ back) in
     let then_column : ℕ = column_after_part column words in
     text_left-some column kind (prefix ++ sample ∷ back) some
-    ∙ ap (λ (l : List (List ℕ)). text_of_part column l ++ line_feed ∷ []) (map-append (sample_text kind) prefix (sample ∷ back))
-    ∙ ap (λ (l : List ℕ). l ++ line_feed ∷ []) (text_of_part-append column words others)
-    ∙ append_assoc (text_of_part column words) (text_of_part then_column others) (line_feed ∷ [])
-    ∙ ap (λ (l : List ℕ). l ++ (text_of_part then_column others ++ line_feed ∷ [])) (sym (append-nil (text_of_part column words))
+    ∙ ap (λ (l : List (List ℕ)). text_of_part column l ++ byte "\n" ∷ []) (map-append (sample_text kind) prefix (sample ∷ back))
+    ∙ ap (λ (l : List ℕ). l ++ byte "\n" ∷ []) (text_of_part-append column words others)
+    ∙ append_assoc (text_of_part column words) (text_of_part then_column others) (byte "\n" ∷ [])
+    ∙ ap (λ (l : List ℕ). l ++ (text_of_part then_column others ++ byte "\n" ∷ [])) (sym (append-nil (text_of_part column words))
     ∙ ap (λ (b : Bool). text_of_part column words ++ row_end b) (sym (more (omega arith))))
 
 pub left_part : (column : ℕ) (kind : Kind) (n : ℕ) (samples : List ℕ) (is_end : Bool) → n ≤ length samples → 0 < length samples
@@ -92,22 +92,22 @@ samples_have_texts kind (sample ∷ samples) fit = (
 
 -- a word behind a line that has begun, by whether it fits in
 words_step : (at_start fits : Bool) (column : ℕ) (word : List ℕ) (words : List (List ℕ)) → at_start ≡ false
-    → words_after (column + 1 + length word) words ≡ text_of_part (column + 1 + length word) words ++ line_feed ∷ []
-    → words_after (length word) words ≡ text_of_part (length word) words ++ line_feed ∷ []
-    → (if fits then blank ∷ (word ++ words_after (column + 1 + length word) words) else line_feed ∷ (word ++ words_after (length word) words))
-    ≡ (((if at_start then [] else if fits then blank ∷ [] else line_feed ∷ []) ++ word) ++ text_of_part
-    (if at_start then length word else if fits then column + 1 + length word else length word) words) ++ line_feed ∷ []
+    → words_after (column + 1 + length word) words ≡ text_of_part (column + 1 + length word) words ++ byte "\n" ∷ []
+    → words_after (length word) words ≡ text_of_part (length word) words ++ byte "\n" ∷ []
+    → (if fits then byte " " ∷ (word ++ words_after (column + 1 + length word) words) else byte "\n" ∷ (word ++ words_after (length word) words))
+    ≡ (((if at_start then [] else if fits then byte " " ∷ [] else byte "\n" ∷ []) ++ word) ++ text_of_part
+    (if at_start then length word else if fits then column + 1 + length word else length word) words) ++ byte "\n" ∷ []
 words_step true fits column word words begun here next = cc
-words_step false true column word words begun here next = ap (λ (l : List ℕ). blank ∷ (word ++ l)) here
-    ∙ ap (λ (l : List ℕ). blank ∷ l) (sym (append_assoc word (text_of_part (column + 1 + length word) words) (line_feed ∷ [])))
-words_step false false column word words begun here next = ap (λ (l : List ℕ). line_feed ∷ (word ++ l)) next
-    ∙ ap (λ (l : List ℕ). line_feed ∷ l) (sym (append_assoc word (text_of_part (length word) words) (line_feed ∷ [])))
+words_step false true column word words begun here next = ap (λ (l : List ℕ). byte " " ∷ (word ++ l)) here
+    ∙ ap (λ (l : List ℕ). byte " " ∷ l) (sym (append_assoc word (text_of_part (column + 1 + length word) words) (byte "\n" ∷ [])))
+words_step false false column word words begun here next = ap (λ (l : List ℕ). byte "\n" ∷ (word ++ l)) next
+    ∙ ap (λ (l : List ℕ). byte "\n" ∷ l) (sym (append_assoc word (text_of_part (length word) words) (byte "\n" ∷ [])))
 
 pub has_begun_line : (column : ℕ) → 0 < column → (column == 0) ≡ false
 has_begun_line column begun = grind (arith, nat_tests)
 
 -- behind a line that has begun, the words that follow
-words_after_are : (column : ℕ) (words : List (List ℕ)) → 0 < column → HaveBytes words → words_after column words ≡ text_of_part column words ++ line_feed ∷ []
+words_after_are : (column : ℕ) (words : List (List ℕ)) → 0 < column → HaveBytes words → words_after column words ≡ text_of_part column words ++ byte "\n" ∷ []
 words_after_are column [] begun have = refl
 words_after_are column (word ∷ words) begun have =
     words_step (column == 0) (fits_in_line column word) column word words (has_begun_line column begun)
@@ -121,7 +121,7 @@ row_text_left kind (sample ∷ row) fit =
     let word : List ℕ = sample_text kind sample in
     let words : List (List ℕ) = sample_texts kind row in
     ap (λ (l : List ℕ). word ++ l) (words_after_are (length word) words have.0 have.1)
-    ∙ sym (append_assoc word (text_of_part (length word) words) (line_feed ∷ []))
+    ∙ sym (append_assoc word (text_of_part (length word) words) (byte "\n" ∷ []))
 
 -- ---- one sample more
 

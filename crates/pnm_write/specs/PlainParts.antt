@@ -1,7 +1,7 @@
 -- The text of a part of a plain row, behind a line that has so many bytes: 0 where the row begins.
 use Rattle.std.specs.Prelude.{ℕ, ◌+◌, nat_le, ◌==◌, Bool, true, false, if◌then◌else◌, List, [], ◌∷◌, ◌++◌, length, map}
 use Rattle.pnm_image.specs.declared.shape.Kind.{Kind}
-use Rattle.pnm_image.specs.Characters.{blank, line_feed}
+use Rattle.std.specs.Str.{byte}
 use Rattle.pnm_write.specs.PlainRows.{max_line_length, sample_text}
 
 -- whether the word stands in this line, behind a blank
@@ -10,7 +10,7 @@ fits_in_line column word = nat_le (column + 1 + length word) max_line_length
 
 -- what comes before a word
 abbrev pub separator : ℕ → List ℕ → List ℕ
-separator column word = if column == 0 then [] else if fits_in_line column word then blank ∷ [] else line_feed ∷ []
+separator column word = if column == 0 then [] else if fits_in_line column word then byte " " ∷ [] else byte "\n" ∷ []
 
 -- how many bytes the line has after it
 abbrev pub column_after : ℕ → List ℕ → ℕ
@@ -36,5 +36,5 @@ sample_texts kind samples = map (sample_text kind) samples
 
 -- the LF at the end of a row
 abbrev pub row_end : Bool → List ℕ
-row_end true = line_feed ∷ []
+row_end true = byte "\n" ∷ []
 row_end false = []

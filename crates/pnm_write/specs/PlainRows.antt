@@ -4,7 +4,7 @@
 use Rattle.std.specs.Prelude.{◌≡◌, ℕ, ◌+◌, ◌-◌, ◌<◌, ◌≤◌, nat_le, if◌then◌else◌, List, [], ◌∷◌, ◌++◌, length, map}
 use Rattle.std.specs.Prelude.{flat_map, decimal}
 use Rattle.std.specs.List.{AllByRecursion}
-use Rattle.pnm_image.specs.Characters.{blank, line_feed, digit_one}
+use Rattle.std.specs.Str.{byte}
 use Rattle.pnm_image.specs.declared.shape.Kind.{Kind}
 use Rattle.pnm_image.specs.declared.shape.Kind.TheVariants.{Bit, Gray, Color, Pam}
 
@@ -14,7 +14,7 @@ max_line_length = 70
 
 -- the text of a sample: of a pixel the character 1 for black, which is sample 0, and else a number in decimal
 abbrev pub sample_text : Kind → ℕ → List ℕ
-sample_text Bit sample = (digit_one - sample) ∷ []
+sample_text Bit sample = (byte "1" - sample) ∷ []
 sample_text Gray sample = decimal sample
 sample_text Color sample = decimal sample
 sample_text Pam sample = decimal sample
@@ -25,13 +25,13 @@ sample_text Pam sample = decimal sample
 abbrev pub join_with_blank : List (List ℕ) → List ℕ
 join_with_blank [] = []
 join_with_blank (word ∷ []) = word
-join_with_blank (word ∷ next ∷ words) = word ++ blank ∷ join_with_blank (next ∷ words)
+join_with_blank (word ∷ next ∷ words) = word ++ byte " " ∷ join_with_blank (next ∷ words)
 
 -- with a blank and the first word of the next line, the line would be too long; the last one need not be
 abbrev pub IsFilled : List (List ℕ) → List (List (List ℕ)) → Type 0
 IsFilled line [] = Unit {0}
 IsFilled line ([] ∷ lines) = ⊥
-IsFilled line ((word ∷ words) ∷ lines) = max_line_length < length (join_with_blank line ++ blank ∷ word)
+IsFilled line ((word ∷ words) ∷ lines) = max_line_length < length (join_with_blank line ++ byte " " ∷ word)
 
 abbrev pub AreFilled : List (List (List ℕ)) → Type 0
 AreFilled [] = Unit {0}
@@ -50,7 +50,7 @@ pub record AreLinesOf (words : List (List ℕ)) (lines : List (List (List ℕ)))
 
 -- the text of a line
 abbrev pub line_text : List (List ℕ) → List ℕ
-line_text line = join_with_blank line ++ line_feed ∷ []
+line_text line = join_with_blank line ++ byte "\n" ∷ []
 
 -- the text is that of the words in lines
 pub record IsSetInLines (words : List (List ℕ)) (text : List ℕ) : Type 0 where
@@ -63,11 +63,11 @@ pub record IsSetInLines (words : List (List ℕ)) (text : List ℕ) : Type 0 whe
 -- what follows a line that has so many bytes: a word stands in it, after a blank, where there is room, and else begins
 -- the next line
 abbrev pub words_after : ℕ → List (List ℕ) → List ℕ
-words_after column [] = line_feed ∷ []
+words_after column [] = byte "\n" ∷ []
 words_after column (word ∷ words) =
-    if nat_le (column + 1 + length word) max_line_length then blank
+    if nat_le (column + 1 + length word) max_line_length then byte " "
     ∷ (word ++ words_after (column + 1 + length word) words)
-    else line_feed ∷ (word ++ words_after (length word) words)
+    else byte "\n" ∷ (word ++ words_after (length word) words)
 
 abbrev pub set_in_lines : List (List ℕ) → List ℕ
 set_in_lines [] = []

@@ -4,7 +4,7 @@ ghost use Rattle.std.specs.Prelude.{◌≡◌, ◌+◌, ◌-◌, ◌*◌, ◌<�
 ghost use Rattle.std.specs.Prelude.{decimal, map, slice_set};
 ghost use Rattle.pnm_image.specs.declared.shape.Kind.{Kind};
 ghost use Rattle.pnm_write.specs.Numerals.{IsEntry, three_digits};
-ghost use Rattle.pnm_image.specs.Characters.{blank, line_feed};
+ghost use Rattle.std.specs.Str.{byte};
 ghost use Rattle.pnm_write.specs.PlainRows.{max_line_length};
 ghost use Rattle.pnm_write.specs.PlainParts.{text_of_part, column_after_part, sample_texts};
 
@@ -65,7 +65,7 @@ pub fn put_four(buffer: &mut [u8], at: usize, bytes: &[u8])
 fn put_small(buffer: &mut [u8], at: usize, number: usize) -> usize
     requires buffer { at + 4 ≤ length buffer.old }
     requires range { number < 256 }
-    ensures text { take (at + result) buffer.new ≡ take at buffer.old ++ blank ∷ decimal number }
+    ensures text { take (at + result) buffer.new ≡ take at buffer.old ++ byte " " ∷ decimal number }
     ensures count { result ≡ 1 + length (decimal number) }
     ensures within { result ≤ 4 }
 {
@@ -95,7 +95,7 @@ fn put_three(buffer: &mut [u8], at: usize, number: usize)
 fn put(buffer: &mut [u8], at: usize, number: usize) -> usize
     requires buffer { at + 6 ≤ length buffer.old }
     requires range { number < 65536 }
-    ensures text { take (at + result) buffer.new ≡ take at buffer.old ++ blank ∷ decimal number }
+    ensures text { take (at + result) buffer.new ≡ take at buffer.old ++ byte " " ∷ decimal number }
     ensures count { result ≡ 1 + length (decimal number) }
     ensures within { result ≤ 6 }
 {
@@ -121,7 +121,7 @@ fn break_line(buffer: &mut [u8], at: usize, column: usize, size: usize) -> usize
     requires some { 0 < size }
     requires size { size ≤ 6 }
     ensures buffer { buffer.new ≡ (if nat_le (column + size) max_line_length then buffer.old
-        else slice_set buffer.old at line_feed) }
+        else slice_set buffer.old at (byte "\n")) }
     ensures column { result ≡ (if nat_le (column + size) max_line_length then column + size else size - 1) }
     ensures line { result ≤ 70 }
     ensures begun { 1 < size → 0 < result }
@@ -144,7 +144,7 @@ pub trait Numeral: Sample {
     /// Puts a blank and the number into the buffer, and returns how many bytes these are.
     fn put(self, buffer: &mut [u8], at: usize) -> usize
         requires { at + 6 ≤ length buffer.old }
-        ensures text { take (at + result) buffer.new ≡ take at buffer.old ++ blank ∷ decimal (Self.value self) }
+        ensures text { take (at + result) buffer.new ≡ take at buffer.old ++ byte " " ∷ decimal (Self.value self) }
         ensures count { result ≡ 1 + length (decimal (Self.value self)) }
         ensures some { 1 < result }
         ensures within { result ≤ 6 };
