@@ -25,7 +25,6 @@ from places import ROOT
 BOOKKEEPING = {
     ("pnm_image", "Messages"): (["without_stop"], "leaves a last Stop aside"),
     ("pnm_image", "Places"): (["IsLawfulFrom", "place_of"], "steps along messages"),
-    ("pnm_image", "Texts"): (["begins_in_word", "onto_first"], "steps along a text, for `words`"),
     ("pnm_samples", "Pixels"): (["packed_groups", "pixel_bits"], "groups of eight bits"),
     ("pnm_read", "HeaderTexts"): (
         ["commented", "ends_in_", "uncommented_from"],

@@ -6,8 +6,8 @@ use Rattle.std.proofs.lemmas.Bool.Decides.{nat_tests}
 use Rattle.std.proofs.lemmas.List.Splits.{slice_split-cons_no}
 use Rattle.std.specs.List.{onto_first}
 use Rattle.std.proofs.lemmas.Bool.{and_parts, false_from_ne_true, ltb-false, le-ltb}
-use Rattle.pnm_image.specs.Texts.{is_white, begins_in_word, words}
-use Rattle.pnm_image.proofs.Words.{words_by, words-cons, words-nil}
+use Rattle.pnm_image.specs.Texts.{is_white, words}
+use Rattle.pnm_image.proofs.Words.{begins_in_word, words_by, words-cons, words-nil}
 use Rattle.pnm_tools.specs.declared.tool.Tool.{Tool}
 use Rattle.pnm_chain.specs.declared.chain_text.ChainFault.{ChainFault}
 use Rattle.pnm_chain.specs.declared.chain_text.ChainKind.{ChainKind}

@@ -3,7 +3,7 @@ use Rattle.std.proofs.Common.{◌≡◌, ◌≤◌, ℕ, zero, suc, ◌+◌, ◌
 use Rattle.std.proofs.Common.{option_map, unwrap_or, IfSome, IsSome, List, [], ◌∷◌, length, map, drop, refl, sym, ap, subst, ◌∙◌, arith}
 use Rattle.std.specs.Prelude.{◌≢◌, nat_le, nat_lt, slice_index, slice_index_or, neg_ℤ, unsigned_abs, All}
 use Rattle.std.specs.Option.{option_or}
-use Rattle.std.specs.List.{AllByRecursion, list_all, list_any, after_first, position_or_len}
+use Rattle.std.specs.List.{AllByRecursion, list_all, list_any, after_first, onto_first, position_or_len}
 use Rattle.std.proofs.lemmas.List.{length-map}
 use Rattle.std.proofs.lemmas.List.Elements.{All-cons, All-nil}
 use Rattle.std.proofs.lemmas.List.Splits.{length-slice_split}
@@ -11,8 +11,8 @@ use Rattle.std.proofs.lemmas.Bool.Decides.{nat_tests}
 use Rattle.std.proofs.lemmas.Bool.{and_parts, and_from, or_parts, leb-true, ltb-false, eqb-true, not-true, both_ways, false≢true}
 use Rattle.pnm_image.specs.declared.limits.TheConstants.{MAX_DEPTH, MAX_MAXVAL, MAX_TUPLE_TYPE_LENGTH}
 use Rattle.pnm_image.specs.Heads.{IsTupleType}
-use Rattle.pnm_image.specs.Texts.{is_blank, is_white, begins_in_word, onto_first as onto_word, words, decimal_value}
-use Rattle.pnm_image.proofs.Words.{words_by, words-cons, words-nil}
+use Rattle.pnm_image.specs.Texts.{is_blank, is_white, words, decimal_value}
+use Rattle.pnm_image.proofs.Words.{begins_in_word, words_by, words-cons, words-nil}
 use Rattle.pnm_tools.specs.declared.tool.Tool.{Tool}
 use Rattle.pnm_tools.specs.Cut.{IsEdge, IsLawfulAxis}
 use Rattle.pnm_tools.specs.ToolLimits.{IsExtent}
@@ -211,7 +211,7 @@ black b false e f = rw e refl
 abbrev AreWords : List (List ℕ) → Type 0
 AreWords found = AllByRecursion (λ word. no_white word ≡ true) found
 
-onto_is : (b : ℕ) (others : List (List ℕ)) → not (is_white b) ≡ true → AreWords others → AreWords (onto_word b others)
+onto_is : (b : ℕ) (others : List (List ℕ)) → not (is_white b) ≡ true → AreWords others → AreWords (onto_first b others)
 onto_is b [] e h = (and_from (not (is_white b)) true e refl, cc)
 onto_is b (word ∷ others) e h = (and_from (not (is_white b)) (no_white word) e h.0, h.1)
 

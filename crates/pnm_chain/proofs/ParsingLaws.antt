@@ -2,14 +2,14 @@
 use Rattle.std.proofs.Common.{◌≡◌, ◌≤◌, ◌<◌, ◌⊎◌, inl, inr, ℕ, suc, ◌+◌, ◌&&◌, Bool, true, false, Option, Some, None, is_some, List, [], ◌∷◌, ◌++◌, length}
 use Rattle.std.proofs.Common.{take, drop, get_or, refl, sym, ap, subst, ◌∙◌, arith}
 use Rattle.std.specs.Prelude.{nat_lt, MatchOption}
-use Rattle.std.specs.List.{list_all}
+use Rattle.std.specs.List.{list_all, onto_first}
 use denote.Ref.{Bor}
 use Rattle.std.proofs.Math.Seq.{take-length, drop-cons}
 use Rattle.std.proofs.lemmas.List.{take_more, length-append}
 use Rattle.std.proofs.lemmas.Bool.{false_from_ne_true, le-ltb, lt-ltb}
-use Rattle.pnm_image.specs.Texts.{is_white, begins_in_word, onto_first as onto_word, words}
+use Rattle.pnm_image.specs.Texts.{is_white, words}
 use Rattle.pnm_image.proofs.Lists.{not_nil}
-use Rattle.pnm_image.proofs.Words.{words_by, words-cons}
+use Rattle.pnm_image.proofs.Words.{begins_in_word, words_by, words-cons}
 use Rattle.pnm_tools.specs.declared.tool.Tool.{Tool}
 use Rattle.pnm_chain.specs.declared.chain_text.ChainFault.{ChainFault}
 use Rattle.pnm_chain.specs.declared.chain_text.ChainKind.{ChainKind}
@@ -66,7 +66,7 @@ numbered : (stages : List (List ℕ)) (n : ℕ) (tools : List Tool) (stage : Lis
 numbered stages n tools stage kind h at e = h.fault_is ∙ next_fault stages n stage at
     ∙ ap (λ (f : Option ChainKind). from_by (n + 1) f (fault_from (n + 1 + 1) (drop (n + 1) stages))) e
 
-no_first : (b : ℕ) (word : List (List ℕ)) → onto_word b word ≡ [] → ⊥
+no_first : (b : ℕ) (word : List (List ℕ)) → onto_first b word ≡ [] → ⊥
 no_first b [] e = absurd cc
 no_first b (w ∷ ws) e = absurd cc
 

@@ -1,13 +1,14 @@
 -- Words and numbers of a text that is read on by one byte, or split at white space.
 use Rattle.std.proofs.Common.{◌≡◌, ◌⊎◌, inl, inr, ℕ, ◌+◌, ◌-◌, ◌*◌, ◌<◌, Bool, true, false, not, ◌||◌, ◌==◌, List, [], ◌∷◌, ◌++◌, map, length, refl, sym, ap}
 use Rattle.std.proofs.Common.{subst, ◌∙◌, append_assoc, arith}
+use Rattle.std.specs.List.{onto_first}
 use Rattle.std.specs.Char.{digit_value}
 use Rattle.std.proofs.lemmas.Bool.Decides.{nat_tests}
 use Rattle.std.proofs.lemmas.List.{append-nil, map-append, length-append, length-map}
 use Rattle.std.proofs.lemmas.Int.Digits.{digits_value_push}
 use Rattle.pnm_read.specs.HeaderTexts.{ends_by, ends_in_comment, uncommented_from, uncommented, ends_in_word, numbers_in}
-use Rattle.pnm_image.specs.Texts.{is_white, is_digit, begins_in_word, onto_first, words, decimal_value}
-use Rattle.pnm_image.proofs.Words.{words_by, words-cons}
+use Rattle.pnm_image.specs.Texts.{is_white, is_digit, words, decimal_value}
+use Rattle.pnm_image.proofs.Words.{begins_in_word, words_by, words-cons, words-nil}
 use Rattle.pnm_read.proofs.CommentLaws.{uncommented_from-append, ends_by-push}
 
 -- ---- kinds of bytes
@@ -67,13 +68,14 @@ begins_before_white (x ∷ a) b c e = refl
 
 -- the words of a text split at white space
 pub words-split : (a : List ℕ) (b : ℕ) (c : List ℕ) → is_white b ≡ true → words (a ++ b ∷ c) ≡ words a ++ words c
-unfolding words
 words-split [] b c e = words-cons b c ∙ ap (λ (w : Bool). words_by w (begins_in_word c) b (words c)) e
+    ∙ ap (λ (found : List (List ℕ)). found ++ words c) (sym words-nil)
 words-split (x ∷ a) b c e =
     words-cons x (a ++ b ∷ c)
     ∙ ap (λ (w : Bool). words_by (is_white x) w x (words (a ++ b ∷ c))) (begins_before_white a b c e)
     ∙ ap (λ (found : List (List ℕ)). words_by (is_white x) (begins_in_word a) x found) (words-split a b c e)
     ∙ words_by-append (is_white x) (begins_in_word a) x (words a) (words c) (first_word a)
+    ∙ ap (λ (found : List (List ℕ)). found ++ words c) (sym (words-cons x a))
 
 -- ---- words of a text with one byte more
 
@@ -129,13 +131,21 @@ grows_last true begins x found more b g = g
 grows_last false true x found more b g = rw (g.2, g.3) (grows_last_onto x g.0 g.1 b)
 grows_last false false x found more b g = ((x ∷ []) ∷ g.0, g.1, ap (λ (w : List (List ℕ)). (x ∷ []) ∷ w) g.2, ap (λ (w : List (List ℕ)). (x ∷ []) ∷ w) g.3)
 
+-- a byte after one
+word_of_two : (x b : ℕ) → is_white x ≡ false → is_white b ≡ false → GrowsLast (words (x ∷ [])) (words (x ∷ b ∷ [])) b
+unfolding words
+word_of_two x b e h = rw (e, h) ([], x ∷ [], refl, refl)
+
 -- a byte that goes onto the last word
 pub words-next : (text : List ℕ) (b : ℕ) → is_white b ≡ false → ends_in_word text ≡ true → GrowsLast (words text) (words (text ++ b ∷ [])) b
-unfolding words ends_by
+unfolding ends_by
 words-next [] b h e = absurd cc
-words-next (x ∷ []) b h e = let first : is_white x ≡ false = grind arith in rw (first, h) ([], x ∷ [], refl, refl)
-words-next (x ∷ y ∷ text) b h e = grows_last (is_white x) (begins_in_word (y ∷ text)) x (words (y ∷ text)) (words (y ∷ text ++ b ∷ [])) b
-    (words-next (y ∷ text) b h e)
+words-next (x ∷ []) b h e = word_of_two x b (grind arith) h
+words-next (x ∷ y ∷ text) b h e =
+    subst (λ (found : List (List ℕ)). GrowsLast found (words (x ∷ y ∷ text ++ b ∷ [])) b) (sym (words-cons x (y ∷ text)))
+    (subst (λ (more : List (List ℕ)). GrowsLast (words_by (is_white x) (begins_in_word (y ∷ text)) x (words (y ∷ text))) more b)
+    (sym (words-cons x (y ∷ text ++ b ∷ [])))
+    (grows_last (is_white x) (begins_in_word (y ∷ text)) x (words (y ∷ text)) (words (y ∷ text ++ b ∷ [])) b (words-next (y ∷ text) b h e)))
 
 -- ---- a byte more, outside comments and inside
 

@@ -8,6 +8,7 @@ use Rattle.std.proofs.lemmas.Fmt.{decimal_is_IsNumeral}
 use Rattle.std.proofs.lemmas.List.Elements.{All-nil, All-cons, All-head, All-tail}
 use Rattle.std.proofs.lemmas.Str.Parse.{digit_from_value}
 use Rattle.pnm_image.specs.Texts.{is_blank, is_digit, words}
+use Rattle.pnm_image.proofs.Words.{words-cons, words-nil}
 use Rattle.pnm_read.specs.HeaderTexts.{commented_after, ends_in_comment, ends_by, ends_in_word}
 use Rattle.pnm_read.specs.PamLines.{trimmed_start, token_of, first_token}
 use Rattle.pnm_read.specs.Rasters.{SpellsDecimal}
@@ -41,11 +42,11 @@ outside-digits [] h = refl
 outside-digits (b ∷ text) h = rw (digit_is_not_sharp b (first_digit b text h)) (outside-digits text (other_digits b text h))
 
 digits_word : (b : ℕ) (text : List ℕ) → AllPass is_digit (b ∷ text) → words (b ∷ text) ≡ (b ∷ text) ∷ []
-unfolding words
-digits_word b [] h = rw (digit_is_not_white b (first_digit b [] h)) refl
+digits_word b [] h = words-cons b [] ∙ rw (digit_is_not_white b (first_digit b [] h), words-nil) refl
 digits_word b (c ∷ text) h =
     let others : AllPass is_digit (c ∷ text) = other_digits b (c ∷ text) h in
-    rw (digits_word c text others, digit_is_not_white b (first_digit b (c ∷ text) h), digit_is_not_white c (first_digit c text others)) refl
+    words-cons b (c ∷ text)
+    ∙ rw (digits_word c text others, digit_is_not_white b (first_digit b (c ∷ text) h), digit_is_not_white c (first_digit c text others)) refl
 
 -- digits are one word
 pub words-digits : (text : List ℕ) → 0 < length text → AllPass is_digit text → words text ≡ text ∷ []
