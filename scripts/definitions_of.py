@@ -30,10 +30,7 @@ BOOKKEEPING = {
         ["commented", "ends_in_", "uncommented_from"],
         "steps along a text: inside a comment or a word",
     ),
-    ("pnm_read", "PamLines"): (
-        ["after_", "begins_with", "ended_after", "joined_with", "last_after", "onto_", "token_of", "trimmed_"],
-        "steps along a line, for its tokens and values",
-    ),
+    ("pnm_read", "LineWalks"): ([], "steps along a line, as its scanner goes"),
     ("pnm_read", "Items"): (
         ["after_last", "decimal_end", "ends_in_", "fault_of_", "header_end", "is_complete", "is_incomplete"]
         + ["is_field_missing", "piece_from", "pixel_end", "pixel_in", "shape_in"],

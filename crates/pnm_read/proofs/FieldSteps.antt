@@ -13,17 +13,26 @@ use Rattle.pnm_read.specs.declared.line.Field.TheVariants.{Width, Height, Depth,
 use Rattle.pnm_read.specs.declared.line.LineKind.TheVariants.{Nothing, Number, TupleType, End}
 use Rattle.pnm_image.specs.Texts.{is_digit, decimal_value}
 use Rattle.pnm_read.specs.Saturation.{saturate_u32}
-use Rattle.pnm_read.specs.PamLines.{after_first, second_token, value_of, line_kind, field_values, joined_with, tuple_type_in}
+use Rattle.pnm_read.specs.PamLines.{first_token, second_token, value_of, line_kind, field_values, tuple_type_in}
+use Rattle.pnm_read.specs.LineWalks.{after_first, joined_with}
 use Rattle.pnm_read.specs.Items.{line_item, number_item, is_type_too_long, tuple_type_item}
 use Rattle.pnm_read.specs.PamScanners.{number_of, held_number, IsFields, TakesLine, JudgesLine, field_number, with_number, SetsNumber, IsWithTupleType}
 use Rattle.pnm_read.specs.PamScanners.{SetsTupleType, AddsTupleType}
 use Rattle.pnm_read.proofs.LineKinds.{is_number, is_type, values_same, values_first, type_same, type_joined}
 use Rattle.pnm_read.proofs.PamLineLaws.{line_is_judged}
+use Rattle.pnm_read.proofs.WalkLaws.{second_token_is, tuple_type_in-nil}
 
 -- no line so far
 pub no_fields : (s : Fields) → s.width ≡ None → s.height ≡ None → s.depth ≡ None → s.maxval ≡ None → s.tuple_type.items ≡ [] → IsFields s []
-unfolding field_values tuple_type_in
-no_fields s w h d m t = record { width = w; height = h; depth = d; maxval = m; tuple_type = t; short = omega arith }
+unfolding field_values
+no_fields s w h d m t = record {
+  width = w;
+  height = h;
+  depth = d;
+  maxval = m;
+  tuple_type = t ∙ sym tuple_type_in-nil;
+  short = let none = ap (λ (l : List ℕ). length l) tuple_type_in-nil in omega arith;
+}
 
 -- ---- a line that says nothing, and the last
 
@@ -170,8 +179,10 @@ pub line_of_number : (field : Field) (old new : Fields) (line rest : List ℕ) (
     → SetsNumber old field rest new j → JudgesLine old line new j
 line_of_number field old new line rest j e is s lines f =
     let sets : SetsNumber old field (after_first line) new j = subst (λ (l : List ℕ). SetsNumber old field l new j) is s in
+    let of_second : Sets (length (second_token line) == 0) (number_of (second_token line)) (field_number field old) field old new j =
+    subst (λ (token : List ℕ). Sets (length token == 0) (number_of token) (field_number field old) field old new j) (sym (second_token_is line)) sets in
     let held : Sets (length (second_token line) == 0) (number_of (second_token line)) (held_number (field_values field lines)) field old new j =
-    subst (λ (h : Option ℕ). Sets (length (second_token line) == 0) (number_of (second_token line)) h field old new j) (held_is field old lines f) sets in
+    subst (λ (h : Option ℕ). Sets (length (second_token line) == 0) (number_of (second_token line)) h field old new j) (held_is field old lines f) of_second in
     let p = number_by (length (second_token line) == 0) (list_all is_digit (second_token line)) (field_values field lines)
     (saturate_u32 (decimal_value (second_token line))) field old new j (lines ++ line ∷ []) held
     (λ same none. subst (λ (s : Fields). IsFields s (lines ++ line ∷ [])) (sym same) (with_field field old lines line e none f)) in

@@ -9,6 +9,7 @@ pub mod SampleLaws
 pub mod WordLaws
 pub mod HeaderFaults
 pub mod ShapeLaws
+pub mod WalkLaws
 pub mod LineLaws
 pub mod TupleTypeLaws
 pub mod HeaderPieces

@@ -7,9 +7,11 @@ use Rattle.pnm_read.specs.declared.line.Field.TheVariants.{Width, Height, Depth,
 use Rattle.pnm_read.specs.declared.line.LineKind.{LineKind}
 use Rattle.pnm_read.specs.declared.line.LineKind.TheVariants.{Nothing, Number, TupleType, End, Unknown}
 use Rattle.pnm_image.specs.Texts.{decimal_value}
-use Rattle.pnm_read.specs.PamLines.{first_token, second_token, value_of, name_of, begins_with, kind_of_token, line_kind, field_values, joined_with}
+use Rattle.pnm_read.specs.PamLines.{first_token, second_token, value_of, name_of, kind_of_token, line_kind, field_values}
+use Rattle.pnm_read.specs.LineWalks.{begins_with, joined_with}
 use Rattle.pnm_read.specs.PamLines.{tuple_type_in}
 use Rattle.pnm_read.proofs.LineLaws.{joined_with-nothing, field_values-append, tuple_type_in-append}
+use Rattle.pnm_read.proofs.WalkLaws.{tuple_type_in-cons, tuple_type_in-nil}
 
 -- ---- kinds
 
@@ -167,8 +169,10 @@ values_first field lines line e none =
 -- the tuple type of one line
 one_type : (line : List ℕ) (test : Bool) → begins_with (codes "TUPLTYPE") line ≡ test
     → tuple_type_in (line ∷ []) ≡ (if test then joined_with (value_of line) [] else [])
-unfolding tuple_type_in
-one_type line test e = ap (λ (t : Bool). if t then joined_with (value_of line) [] else []) e
+one_type line test e =
+    tuple_type_in-cons line []
+    ∙ ap (λ (l : List ℕ). if begins_with (codes "TUPLTYPE") line then joined_with (value_of line) l else l) tuple_type_in-nil
+    ∙ ap (λ (t : Bool). if t then joined_with (value_of line) [] else []) e
 
 -- a line of another kind leaves the tuple type
 pub type_same : (lines : List (List ℕ)) (line : List ℕ) → is_type (line_kind line) ≡ false → tuple_type_in (lines ++ line ∷ []) ≡ tuple_type_in lines

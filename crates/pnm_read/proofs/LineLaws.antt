@@ -1,14 +1,15 @@
 -- Lines of a PAM header that is read on by one byte, and what lines together have.
-use Rattle.std.proofs.Common.{◌≡◌, ℕ, Bool, true, false, not, ◌==◌, if◌then◌else◌, List, [], ◌∷◌, ◌++◌, refl, sym, ap, ◌∙◌, append_assoc, append-nil, arith}
-use Rattle.std.proofs.Common.{codes}
+use Rattle.std.proofs.Common.{◌≡◌, ℕ, Bool, true, false, not, ◌==◌, if◌then◌else◌, List, [], ◌∷◌, ◌++◌, refl, sym, ap, ap₂, subst}
+use Rattle.std.proofs.Common.{◌∙◌, append_assoc, append-nil, arith, codes}
 use Rattle.std.specs.List.{AllByRecursion, flat_map}
 use Rattle.std.proofs.lemmas.Bool.Decides.{nat_tests}
 use Rattle.std.proofs.lemmas.List.Elements.{All-push}
 use Rattle.pnm_read.specs.declared.line.Field.{Field}
 use Rattle.pnm_image.specs.Texts.{decimal_value}
-use Rattle.pnm_read.specs.PamLines.{ended_after, ended_lines, last_after, last_line, second_token, value_of, name_of, begins_with, field_values, joined_with}
-use Rattle.pnm_read.specs.PamLines.{tuple_type_in}
+use Rattle.pnm_read.specs.PamLines.{ended_lines, last_line, second_token, value_of, name_of, field_values, tuple_type_in}
+use Rattle.pnm_read.specs.LineWalks.{ended_after, last_after, begins_with, joined_with}
 use Rattle.pnm_read.specs.Headers.{IsOneLine}
+use Rattle.pnm_read.proofs.WalkLaws.{ended_lines_are, last_line_is, tuple_type_in-cons, tuple_type_in-nil}
 
 -- a choice between equal values is one choice
 pub same_if : {A : Type 0} {x y z w : A} (c : Bool) → x ≡ y → z ≡ w → (if c then x else z) ≡ (if c then y else w)
@@ -60,17 +61,17 @@ last_after-other line (c ∷ text) b e =
 
 -- a LF ends the last line
 pub ended_lines-lf : (text : List ℕ) → ended_lines (text ++ 10 ∷ []) ≡ ended_lines text ++ last_line text ∷ []
-ended_lines-lf text = ended_after-lf [] text
+ended_lines-lf text = rw (ended_lines_are (text ++ 10 ∷ []), ended_lines_are text, last_line_is text) (ended_after-lf [] text)
 
 pub last_line-lf : (text : List ℕ) → last_line (text ++ 10 ∷ []) ≡ []
-last_line-lf text = last_after-lf [] text
+last_line-lf text = last_line_is (text ++ 10 ∷ []) ∙ last_after-lf [] text
 
 -- another byte belongs to it
 pub ended_lines-other : (text : List ℕ) (b : ℕ) → (b == 10) ≡ false → ended_lines (text ++ b ∷ []) ≡ ended_lines text
-ended_lines-other text b e = ended_after-other [] text b e
+ended_lines-other text b e = rw (ended_lines_are (text ++ b ∷ []), ended_lines_are text) (ended_after-other [] text b e)
 
 pub last_line-other : (text : List ℕ) (b : ℕ) → (b == 10) ≡ false → last_line (text ++ b ∷ []) ≡ last_line text ++ b ∷ []
-last_line-other text b e = last_after-other [] text b e
+last_line-other text b e = rw (last_line_is (text ++ b ∷ []), last_line_is text) (last_after-other [] text b e)
 
 -- ---- the whole text
 
@@ -98,6 +99,7 @@ text_after line (c ∷ text) =
 -- a text is its ended lines, and then its last one
 pub text_of_lines : (text : List ℕ) → text ≡ with_feeds (ended_lines text) ++ last_line text
 text_of_lines text = text_after [] text
+    ∙ ap₂ (λ (lines : List (List ℕ)) (last : List ℕ). with_feeds lines ++ last) (sym (ended_lines_are text)) (sym (last_line_is text))
 
 one_line-push : (line : List ℕ) (b : ℕ) → IsOneLine line → (b == 10) ≡ false → IsOneLine (line ++ b ∷ [])
 one_line-push line b one e = All-push (λ x. not (x == 10) ≡ true) line b one (rw e refl)
@@ -121,10 +123,10 @@ last_after-is line (c ∷ text) one =
 
 -- no line has a LF
 pub ended_lines-are : (text : List ℕ) → AllByRecursion IsOneLine (ended_lines text)
-ended_lines-are text = ended_after-are [] text no_byte
+ended_lines-are text = subst (AllByRecursion IsOneLine) (sym (ended_lines_are text)) (ended_after-are [] text no_byte)
 
 pub last_line-is : (text : List ℕ) → IsOneLine (last_line text)
-last_line-is text = last_after-is [] text no_byte
+last_line-is text = subst IsOneLine (sym (last_line_is text)) (last_after-is [] text no_byte)
 
 -- ---- what lines together have
 
@@ -147,9 +149,10 @@ joined_with-assoc (a ∷ x) (b ∷ y) [] = refl
 joined_with-assoc (a ∷ x) (b ∷ y) (c ∷ z) = append_assoc (a ∷ x) (32 ∷ b ∷ y) (32 ∷ c ∷ z)
 
 pub tuple_type_in-append : (xs ys : List (List ℕ)) → tuple_type_in (xs ++ ys) ≡ joined_with (tuple_type_in xs) (tuple_type_in ys)
-unfolding tuple_type_in
-tuple_type_in-append [] ys = refl
+tuple_type_in-append [] ys = ap (λ (l : List ℕ). joined_with l (tuple_type_in ys)) (sym tuple_type_in-nil)
 tuple_type_in-append (line ∷ xs) ys =
-    if_known (λ (l m : List ℕ). l ≡ joined_with m (tuple_type_in ys)) (begins_with (codes "TUPLTYPE") line)
+    tuple_type_in-cons line (xs ++ ys)
+    ∙ if_known (λ (l m : List ℕ). l ≡ joined_with m (tuple_type_in ys)) (begins_with (codes "TUPLTYPE") line)
     (λ e. ap (joined_with (value_of line)) (tuple_type_in-append xs ys) ∙ sym (joined_with-assoc (value_of line) (tuple_type_in xs) (tuple_type_in ys)))
     (λ e. tuple_type_in-append xs ys)
+    ∙ ap (λ (l : List ℕ). joined_with l (tuple_type_in ys)) (sym (tuple_type_in-cons line xs))

@@ -12,7 +12,9 @@ use Rattle.pnm_read.specs.PamScanners.{number_of}
 use Rattle.pnm_read.proofs.DecimalSteps.{with_digit-saturate_u32}
 use Rattle.pnm_read.proofs.WordLaws.{digit_value_is}
 use Rattle.pnm_read.proofs.TupleTypeLaws.{trimmed_start-same, trimmed_end-same}
-use Rattle.pnm_read.specs.PamLines.{trimmed_start, trimmed_end, onto_trimmed, token_of, after_token}
+use Rattle.pnm_read.specs.PamLines.{first_token}
+use Rattle.pnm_read.specs.LineWalks.{trimmed_start, trimmed_end, onto_trimmed, token_of, after_token}
+use Rattle.pnm_read.proofs.WalkLaws.{first_token_is}
 
 -- ---- white space at the ends of a text
 
@@ -125,9 +127,9 @@ all_after text n (inl le) = ap after_token (drop_all n text le) ∙ after_none �
 all_after text n (inr h) = ap after_token (drop_more text n 0 h.0) ∙ after_blank (get_or text n 0) (drop (n + 1) text) h.1 ∙ sym (drop_more text n 0 h.0)
 
 -- the token was found, and what follows it
-pub split_token_is : (text line : List ℕ) (n : ℕ) → text ≡ trimmed_start line → SplitAt text n → IsTokenEnd text n → take n text ≡ token_of (trimmed_start line)
+pub split_token_is : (text line : List ℕ) (n : ℕ) → text ≡ trimmed_start line → SplitAt text n → IsTokenEnd text n → take n text ≡ first_token line
 split_token_is text line n e s end = sym (append-nil (take n text)) ∙ ap (λ (l : List ℕ). take n text ++ l) (sym (no_token text n end)) ∙ sym s.token
-    ∙ ap token_of e
+    ∙ ap token_of e ∙ sym (first_token_is line)
 
 pub split_rest_is : (text line : List ℕ) (n : ℕ) → text ≡ trimmed_start line → SplitAt text n → IsTokenEnd text n
     → drop n text ≡ after_token (trimmed_start line)

@@ -15,7 +15,8 @@ use Rattle.pnm_read.specs.declared.line.Field.{Field}
 use Rattle.pnm_read.specs.declared.line.Field.TheVariants.{Width, Height, Depth, Maxval}
 use Rattle.pnm_read.specs.declared.line.LineKind.TheVariants.{End}
 use Rattle.pnm_image.specs.Formats.{format_of}
-use Rattle.pnm_read.specs.PamLines.{ended_after, ended_lines, last_after, last_line, line_kind, field_values, tuple_type_in}
+use Rattle.pnm_read.specs.PamLines.{ended_lines, last_line, line_kind, field_values, tuple_type_in}
+use Rattle.pnm_read.specs.LineWalks.{ended_after, last_after}
 use Rattle.pnm_read.specs.Headers.{IsOneLine, IsPamLine, SpellsPamHeader}
 use Rattle.pnm_read.specs.declared.header.TheConstants.{MAX_HEADER_LENGTH}
 use Rattle.pnm_read.specs.Items.{◌>>=◌, piece_from, header_end, line_feed_item, pam_limit, line_item, pam_item, lines_item}
@@ -23,6 +24,7 @@ use Rattle.pnm_read.specs.Said.{pam_head_at}
 use Rattle.pnm_read.proofs.PieceLaws.{bind_ok, done, ok_is, piece_step, FoundBy, found_from, found_at_end, found_is_whole}
 use Rattle.pnm_read.proofs.HeaderPieces.{goes_on_through}
 use Rattle.pnm_read.proofs.LineLaws.{with_feeds, ended_lines-lf, ended_lines-other, ended_lines-are, last_line-is, text_of_lines}
+use Rattle.pnm_read.proofs.WalkLaws.{ended_lines_are, last_line_is}
 use Rattle.pnm_read.proofs.PamHeads.{MadeOf, lines_make_head, made_is_found, lines_item-end}
 use Rattle.pnm_read.proofs.PamLineLaws.{line_is_judged, line_ends, line_ends_with, MayStand, StatusValue, judged-push, judged_none, line_goes_on}
 
@@ -102,7 +104,7 @@ body_is_read (b ∷ text) before found j e =
     (λ on rest. body_is_read text (before ++ b ∷ []) found on rest)
 
 no_lines : ended_lines [] ≡ []
-unfolding ended_after
+unfolding ended_lines
 no_lines = refl
 
 line_feed_by : (feed : Bool) (b : ℕ) (text rest : List ℕ) → (b == 10) ≡ feed → (if feed then Ok text else Err BadPamLine) ≡ done rest → b ∷ text ≡ 10 ∷ rest
@@ -220,7 +222,8 @@ ended_after-feed line (c ∷ prefix) others =
     (ap (λ (l : List (List ℕ)). line ∷ l) (ended_after-feed [] prefix others)) (ended_after-feed (line ++ c ∷ []) prefix others)
 
 ended_lines-feed : (prefix others : List ℕ) → ended_lines (prefix ++ 10 ∷ others) ≡ ended_lines prefix ++ last_line prefix ∷ ended_lines others
-ended_lines-feed prefix others = ended_after-feed [] prefix others
+ended_lines-feed prefix others = rw (ended_lines_are (prefix ++ 10 ∷ others), ended_lines_are prefix, last_line_is prefix, ended_lines_are others)
+    (ended_after-feed [] prefix others)
 
 -- a byte of such a body goes on
 byte_goes_on : (feed : Bool) (prefix : List ℕ) (b : ℕ) (others : List ℕ) → (b == 10) ≡ feed → StatusValue (ended_lines (prefix ++ b ∷ others))
@@ -275,15 +278,19 @@ lines_of_text : (lines : List (List ℕ)) (last : List ℕ) → AllByRecursion I
     × (last_line (with_feeds lines ++ last) ≡ last)
 unfolding ended_after last_after
 lines_of_text [] last are one = (
-  ap ended_lines (sym (append-nil last)) ∙ ended_after-line last [] [] one,
-  ap last_line (sym (append-nil last)) ∙ last_after-line last [] [] one,
+  ended_lines_are last ∙ ap (ended_after []) (sym (append-nil last)) ∙ ended_after-line last [] [] one,
+  last_line_is last ∙ ap (last_after []) (sym (append-nil last)) ∙ last_after-line last [] [] one,
 )
 lines_of_text (line ∷ lines) last are one =
     let others = lines_of_text lines last are.1 one in
     let text : with_feeds (line ∷ lines) ++ last ≡ line ++ 10 ∷ (with_feeds lines ++ last) = append_assoc (line ++ 10 ∷ []) (with_feeds lines) last
     ∙ append_assoc line (10 ∷ []) (with_feeds lines ++ last) in (
-      ap ended_lines text ∙ ended_after-line line [] (10 ∷ (with_feeds lines ++ last)) are.0.one_line ∙ ap (λ (l : List (List ℕ)). line ∷ l) others.0,
-      ap last_line text ∙ last_after-line line [] (10 ∷ (with_feeds lines ++ last)) are.0.one_line ∙ others.1,
+      ended_lines_are (with_feeds (line ∷ lines) ++ last) ∙ ap (ended_after []) text
+          ∙ ended_after-line line [] (10 ∷ (with_feeds lines ++ last)) are.0.one_line
+          ∙ ap (λ (l : List (List ℕ)). line ∷ l) (sym (ended_lines_are (with_feeds lines ++ last)) ∙ others.0),
+      last_line_is (with_feeds (line ∷ lines) ++ last) ∙ ap (last_after []) text
+          ∙ last_after-line line [] (10 ∷ (with_feeds lines ++ last)) are.0.one_line
+          ∙ sym (last_line_is (with_feeds lines ++ last)) ∙ others.1,
     )
 
 may_stand : (lines : List (List ℕ)) → AllByRecursion IsPamLine lines → AllByRecursion MayStand lines

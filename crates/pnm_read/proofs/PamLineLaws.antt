@@ -17,11 +17,13 @@ use Rattle.pnm_read.specs.declared.line.LineKind.TheVariants.{Nothing, Number, T
 use Rattle.pnm_image.specs.declared.limits.TheConstants.{MAX_TUPLE_TYPE_LENGTH}
 use Rattle.pnm_image.specs.Texts.{is_digit, decimal_value}
 use Rattle.pnm_image.proofs.Lists.{each-middle, each-push}
-use Rattle.pnm_read.specs.PamLines.{first_token, second_token, value_of, name_of, begins_with, kind_of_token, line_kind, field_values, joined_with}
+use Rattle.pnm_read.specs.PamLines.{first_token, second_token, value_of, name_of, kind_of_token, line_kind, field_values}
+use Rattle.pnm_read.specs.LineWalks.{begins_with, joined_with}
 use Rattle.pnm_read.specs.PamLines.{tuple_type_in}
 use Rattle.pnm_read.specs.Headers.{MaySay}
 use Rattle.pnm_read.specs.Items.{number_item, is_type_too_long, tuple_type_item, line_item}
 use Rattle.pnm_read.proofs.LineLaws.{joined_with-nothing, field_values-append, tuple_type_in-append}
+use Rattle.pnm_read.proofs.WalkLaws.{tuple_type_in-cons, tuple_type_in-nil}
 
 -- ---- what a line says, by its first token
 
@@ -101,13 +103,9 @@ no_values : (field : Field) → field_values field [] ≡ []
 unfolding field_values
 no_values field = refl
 
-no_tuple_types : tuple_type_in [] ≡ []
-unfolding tuple_type_in
-no_tuple_types = refl
-
 tuple_type-not_here : (line : List ℕ) (lines : List (List ℕ)) → begins_with (codes "TUPLTYPE") line ≡ false → tuple_type_in (line ∷ lines) ≡ tuple_type_in lines
-unfolding tuple_type_in
-tuple_type-not_here line lines e = ap (λ (t : Bool). if t then joined_with (value_of line) (tuple_type_in lines) else tuple_type_in lines) e
+tuple_type-not_here line lines e =
+    tuple_type_in-cons line lines ∙ ap (λ (t : Bool). if t then joined_with (value_of line) (tuple_type_in lines) else tuple_type_in lines) e
 
 -- a line of another kind leaves the numbers of a field
 values-other : (field : Field) (lines : List (List ℕ)) (line : List ℕ) → begins_with (name_of field) line ≡ false
@@ -120,7 +118,7 @@ values-other field lines line e =
 tuple_type-other : (lines : List (List ℕ)) (line : List ℕ) → begins_with (codes "TUPLTYPE") line ≡ false
     → tuple_type_in (lines ++ line ∷ []) ≡ tuple_type_in lines
 tuple_type-other lines line e =
-    tuple_type_in-append lines (line ∷ []) ∙ ap (joined_with (tuple_type_in lines)) (tuple_type-not_here line [] e ∙ no_tuple_types)
+    tuple_type_in-append lines (line ∷ []) ∙ ap (joined_with (tuple_type_in lines)) (tuple_type-not_here line [] e ∙ tuple_type_in-nil)
     ∙ joined_with-nothing (tuple_type_in lines)
 
 -- ENDHDR adds nothing
@@ -268,7 +266,7 @@ pub judged_none : StatusValue []
 judged_none = record {
   say = tt;
   single = λ field. let lengths = ap (λ (l : List ℕ). length l) (no_values field) in omega arith;
-  short = let lengths = ap (λ (l : List ℕ). length l) no_tuple_types in omega arith;
+  short = let lengths = ap (λ (l : List ℕ). length l) tuple_type_in-nil in omega arith;
 }
 
 -- ---- each of such lines goes on

@@ -11,7 +11,7 @@ use Rattle.pnm_read.specs.declared.scan_status.ScanStatus.{ScanStatus}
 use Rattle.pnm_read.specs.declared.scan_status.ScanStatus.TheVariants.{GoesOn, EndsWith, EndsBefore, Fails}
 use Rattle.pnm_read.specs.declared.fields.Fields.{Fields}
 use Rattle.pnm_read.specs.declared.pam.PamScanner.{PamScanner}
-use Rattle.pnm_read.specs.PamLines.{ended_after, ended_lines, last_after, last_line}
+use Rattle.pnm_read.specs.PamLines.{ended_lines, last_line}
 use Rattle.pnm_read.specs.Items.{◌>>=◌, piece_from, pam_limit, line_item, pam_item, header_end, line_feed_item, lines_item}
 use Rattle.pnm_read.specs.Said.{pam_head_at}
 use Rattle.pnm_read.specs.BufferedReaders.{Finds, Passes}
@@ -25,7 +25,7 @@ use Rattle.pnm_read.proofs.PamLaws.{pam_by, pam_item_is}
 
 -- no byte so far
 pub pam_fresh : (s : PamScanner) → s.length ≡ 0 → s.line.items ≡ [] → IsFields s.fields [] → IsPamAfter s []
-unfolding ended_after last_after
+unfolding ended_lines last_line
 pam_fresh s l line fields = record { length_is = l; line = line; fields = fields }
 
 -- ---- one byte more

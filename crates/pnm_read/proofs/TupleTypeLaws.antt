@@ -1,6 +1,6 @@
 -- The tuple type that lines have together: one line, without white space at its ends.
 use Rattle.std.proofs.Common.{◌≡◌, ◌≢◌, ℕ, ◌-◌, ◌<◌, ◌≤◌, Bool, true, false, not, ◌&&◌, ◌==◌, if◌then◌else◌, List, [], ◌∷◌, ◌++◌, length, slice_index, get_or}
-use Rattle.std.proofs.Common.{suc, refl, ap, ◌∙◌, arith, codes, subst}
+use Rattle.std.proofs.Common.{suc, refl, sym, ap, ◌∙◌, arith, codes, subst}
 use Rattle.std.specs.List.{list_all, AllByRecursion}
 use Rattle.std.proofs.lemmas.Bool.{and_parts}
 use Rattle.std.proofs.lemmas.Bool.Decides.{nat_tests}
@@ -10,9 +10,11 @@ use Rattle.pnm_image.specs.declared.limits.TheConstants.{MAX_TUPLE_TYPE_LENGTH}
 use Rattle.pnm_image.specs.Heads.{IsTupleType}
 use Rattle.pnm_image.specs.Texts.{is_blank}
 use Rattle.pnm_read.specs.HeaderTexts.{ends_by}
-use Rattle.pnm_read.specs.PamLines.{trimmed_start, onto_trimmed, trimmed_end, after_token, value_of, begins_with, joined_with, tuple_type_in}
+use Rattle.pnm_read.specs.PamLines.{value_of, tuple_type_in}
+use Rattle.pnm_read.specs.LineWalks.{trimmed_start, onto_trimmed, trimmed_end, after_token, begins_with, joined_with}
 use Rattle.pnm_read.specs.Headers.{IsOneLine}
 use Rattle.pnm_read.proofs.LineLaws.{if_both}
+use Rattle.pnm_read.proofs.WalkLaws.{value_is, tuple_type_in-cons, tuple_type_in-nil}
 
 -- a byte other than LF
 abbrev is_other : ℕ → Bool
@@ -88,12 +90,12 @@ begins-end [] h = refl
 begins-end (b ∷ text) h = onto_begins b (trimmed_end text) h
 
 value_is_trimmed : (line : List ℕ) → list_all is_other line ≡ true → IsTrimmed (value_of line)
-value_is_trimmed line h = record {
+value_is_trimmed line h = subst IsTrimmed (sym (value_is line)) (record {
   begins = begins-end (trimmed_start (after_token (trimmed_start line))) (starts_trimmed (after_token (trimmed_start line)));
   ends = ends_trimmed (trimmed_start (after_token (trimmed_start line)));
   one_line = one_line-end (trimmed_start (after_token (trimmed_start line)))
       (one_line-start (after_token (trimmed_start line)) (one_line-after (trimmed_start line) (one_line-start line h)));
-}
+})
 
 -- ---- joined
 
@@ -118,12 +120,12 @@ unfolding ends_by
 nothing_is_trimmed = record { begins = refl; ends = refl; one_line = refl }
 
 type_is_trimmed : (lines : List (List ℕ)) → AllByRecursion IsOneLine lines → IsTrimmed (tuple_type_in lines)
-unfolding tuple_type_in
-type_is_trimmed [] one = nothing_is_trimmed
+type_is_trimmed [] one = subst IsTrimmed (sym tuple_type_in-nil) nothing_is_trimmed
 type_is_trimmed (line ∷ lines) one =
-    if_both IsTrimmed (begins_with (codes "TUPLTYPE") line)
+    subst IsTrimmed (sym (tuple_type_in-cons line lines))
+    (if_both IsTrimmed (begins_with (codes "TUPLTYPE") line)
     (joined_is_trimmed (value_of line) (tuple_type_in lines) (value_is_trimmed line (list_all-from_AllPass is_other line one.0))
-    (type_is_trimmed lines one.1)) (type_is_trimmed lines one.1)
+    (type_is_trimmed lines one.1)) (type_is_trimmed lines one.1))
 
 -- ---- as heads want it
 

@@ -2,6 +2,7 @@ pub mod HeaderTexts
 pub mod HeaderNumbers
 pub mod Magics
 pub mod PamLines
+pub mod LineWalks
 pub mod Headers
 pub mod Rasters
 pub mod Spelling

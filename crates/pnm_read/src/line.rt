@@ -2,7 +2,8 @@
 
 ghost use Rattle.std.specs.Prelude.{◌≡◌, length, Some, None, if◌then◌else◌};
 ghost use Rattle.std.specs.Str.{bytes_eq};
-ghost use Rattle.pnm_read.specs.PamLines.{trimmed_start, trimmed_end, first_token, after_first, kind_of_token};
+ghost use Rattle.pnm_read.specs.PamLines.{first_token, trimmed, kind_of_token};
+ghost use Rattle.pnm_read.specs.LineWalks.{trimmed_start, trimmed_end, after_first};
 ghost use Rattle.pnm_read.specs.PamScanners.{number_of};
 
 use pnm_image::characters::{is_blank, is_digit};
@@ -72,7 +73,7 @@ pub fn split_token(line: &[u8]) -> (&[u8], &[u8])
 
 /// The text without white space at its ends.
 pub fn trim(text: &[u8]) -> &[u8]
-    ensures { result.now ≡ trimmed_end (trimmed_start text.now) }
+    ensures { result.now ≡ trimmed text.now }
 {
     trimmed_end(trimmed_start(text))
 }

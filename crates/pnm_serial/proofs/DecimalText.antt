@@ -10,7 +10,9 @@ use Rattle.std.proofs.lemmas.Str.Parse.{digit_from_value}
 use Rattle.pnm_image.specs.Texts.{is_blank, is_digit, words}
 use Rattle.pnm_image.proofs.Words.{words-cons, words-nil}
 use Rattle.pnm_read.specs.HeaderTexts.{commented_after, ends_in_comment, ends_by, ends_in_word}
-use Rattle.pnm_read.specs.PamLines.{trimmed_start, token_of, first_token}
+use Rattle.pnm_read.specs.PamLines.{first_token}
+use Rattle.pnm_read.specs.LineWalks.{trimmed_start, token_of}
+use Rattle.pnm_read.proofs.WalkLaws.{first_token_is}
 use Rattle.pnm_read.specs.Rasters.{SpellsDecimal}
 use Rattle.pnm_read.proofs.WordLaws.{digit_is_not_white, digit_is_not_sharp}
 
@@ -83,7 +85,7 @@ trimmed-digits (b ∷ text) h = rw (digit_is_not_blank b (first_digit b text h))
 
 -- digits are one token
 pub first_token-digits : (text : List ℕ) → AllPass is_digit text → first_token text ≡ text
-first_token-digits text h = ap token_of (trimmed-digits text h) ∙ token-digits text h
+first_token-digits text h = first_token_is text ∙ ap token_of (trimmed-digits text h) ∙ token-digits text h
 
 -- digits are within a line
 pub one_line-digits : (text : List ℕ) → AllPass is_digit text → list_all (λ b. not (b == 10)) text ≡ true

@@ -1,6 +1,6 @@
 -- The header that is written of a PAM image, as a reader takes it: its lines, and what they say.
-use Rattle.std.proofs.Common.{◌≡◌, ◌≢◌, ℕ, ◌+◌, ◌<◌, ◌≤◌, Bool, true, not, ◌==◌, List, [], ◌∷◌, ◌++◌, length, All, codes, decimal, refl, sym, ap, subst, ◌∙◌}
-use Rattle.std.proofs.Common.{append_assoc, append-nil, length-append, arith}
+use Rattle.std.proofs.Common.{◌≡◌, ◌≢◌, ℕ, ◌+◌, ◌<◌, ◌≤◌, Bool, true, not, ◌==◌, List, [], ◌∷◌, ◌++◌, length, All, codes, decimal, refl, sym, ap}
+use Rattle.std.proofs.Common.{ap₂, subst, ◌∙◌, append_assoc, append-nil, length-append, arith}
 use Rattle.std.specs.List.{AllPass, AllByRecursion, list_all}
 use Rattle.std.proofs.lemmas.Bool.Decides.{nat_tests}
 use Rattle.std.proofs.lemmas.List.Elements.{All-head, All-tail}
@@ -15,11 +15,12 @@ use Rattle.pnm_read.specs.declared.line.Field.{Field}
 use Rattle.pnm_read.specs.declared.line.Field.TheVariants.{Width, Height, Depth, Maxval}
 use Rattle.pnm_read.specs.declared.line.LineKind.{LineKind}
 use Rattle.pnm_read.specs.declared.line.LineKind.TheVariants.{Number, End}
-use Rattle.pnm_read.specs.PamLines.{trimmed_start, trimmed_end, token_of, after_token, second_token, value_of, name_of, kind_of_token, line_kind, field_values}
-use Rattle.pnm_read.specs.PamLines.{tuple_type_in}
+use Rattle.pnm_read.specs.PamLines.{first_token, second_token, value_of, name_of, kind_of_token, line_kind, field_values, tuple_type_in}
+use Rattle.pnm_read.specs.LineWalks.{trimmed_start, trimmed_end, after_token, joined_with}
 use Rattle.pnm_read.specs.Headers.{MaySay, IsPamLine, SpellsPamHeader}
 use Rattle.pnm_read.specs.Rasters.{SpellsDecimal}
 use Rattle.pnm_read.proofs.LineLaws.{with_feeds}
+use Rattle.pnm_read.proofs.WalkLaws.{value_is, tuple_type_in-cons, tuple_type_in-nil}
 use Rattle.pnm_read.proofs.TupleTypeLaws.{trimmed_start-same, trimmed_end-same}
 use Rattle.pnm_write.specs.Encoding.{tuple_type_line, pam_text}
 use Rattle.pnm_write.proofs.WordSizes.{decimal_short}
@@ -36,14 +37,14 @@ abbrev number_line : Field → List ℕ → List ℕ
 number_line field digits = name_of field ++ 32 ∷ digits
 
 number_line_kind : (field : Field) (digits : List ℕ) → line_kind (number_line field digits) ≡ Number field
-unfolding trimmed_start token_of kind_of_token
+unfolding first_token kind_of_token
 number_line_kind Width digits = refl
 number_line_kind Height digits = refl
 number_line_kind Depth digits = refl
 number_line_kind Maxval digits = refl
 
 number_line_token : (field : Field) (digits : List ℕ) → AllPass is_digit digits → second_token (number_line field digits) ≡ digits
-unfolding trimmed_start token_of after_token
+unfolding first_token second_token
 number_line_token Width digits h = first_token-digits digits h
 number_line_token Height digits h = first_token-digits digits h
 number_line_token Depth digits h = first_token-digits digits h
@@ -85,12 +86,14 @@ tuple_type_lines (b ∷ text) = (codes "TUPLTYPE" ++ 32 ∷ b ∷ text) ∷ []
 -- the value of its line is the tuple type
 tuple_type_value : (b : ℕ) (text : List ℕ) → IsTupleType (b ∷ text) → value_of (codes "TUPLTYPE" ++ 32 ∷ b ∷ text) ≡ b ∷ text
 unfolding trimmed_start after_token
-tuple_type_value b text h = ap trimmed_end (trimmed_start-same b text (h.first (omega arith))) ∙ trimmed_end-same (b ∷ text) h.last
+tuple_type_value b text h =
+    value_is (codes "TUPLTYPE" ++ 32 ∷ b ∷ text) ∙ ap trimmed_end (trimmed_start-same b text (h.first (omega arith))) ∙ trimmed_end-same (b ∷ text) h.last
 
 tuple_type_found : (tuple_type : List ℕ) → IsTupleType tuple_type → tuple_type_in (tuple_type_lines tuple_type) ≡ tuple_type
-unfolding trimmed_start token_of tuple_type_in
-tuple_type_found [] h = refl
-tuple_type_found (b ∷ text) h = rw (tuple_type_value b text h) refl
+unfolding first_token
+tuple_type_found [] h = tuple_type_in-nil
+tuple_type_found (b ∷ text) h =
+    tuple_type_in-cons (codes "TUPLTYPE" ++ 32 ∷ b ∷ text) [] ∙ ap₂ (λ (x y : List ℕ). joined_with x y) (tuple_type_value b text h) tuple_type_in-nil
 
 other_byte : (b : ℕ) → b ≢ 10 → is_other b ≡ true
 other_byte b h = grind (arith, nat_tests)
@@ -101,14 +104,14 @@ tuple_type_is_one (b ∷ text) h = rw (other_byte b (All-head (λ x. x ≢ 10) b
 
 -- its lines may stand in a header
 tuple_type_lines_are : (tuple_type : List ℕ) → IsTupleType tuple_type → AllByRecursion IsPamLine (tuple_type_lines tuple_type)
-unfolding trimmed_start token_of kind_of_token
+unfolding first_token kind_of_token
 tuple_type_lines_are [] h = tt
 tuple_type_lines_are (b ∷ text) h =
     (record { one_line = AllPass-from_list_all is_other (codes "TUPLTYPE" ++ 32 ∷ b ∷ text) (tuple_type_is_one (b ∷ text) h.one_line); says = tt }, tt)
 
 -- they have no numbers
 tuple_type_no_values : (field : Field) (tuple_type : List ℕ) → field_values field (tuple_type_lines tuple_type) ≡ []
-unfolding trimmed_start token_of field_values
+unfolding first_token field_values
 tuple_type_no_values field [] = refl
 tuple_type_no_values Width (b ∷ text) = refl
 tuple_type_no_values Height (b ∷ text) = refl
@@ -133,14 +136,14 @@ lines_of w h d m tuple_type = number_line Width w ∷ number_line Height h ∷ n
 lines_have : (field : Field) (w h d m tuple_type : List ℕ) → field_values field (lines_of w h d m tuple_type)
     ≡ decimal_value (second_token (number_line field (elim field [ Width ↦ w | Height ↦ h | Depth ↦ d | Maxval ↦ m ]))) ∷ field_values field
     (tuple_type_lines tuple_type)
-unfolding trimmed_start token_of field_values
+unfolding first_token field_values
 lines_have Width w h d m tuple_type = refl
 lines_have Height w h d m tuple_type = refl
 lines_have Depth w h d m tuple_type = refl
 lines_have Maxval w h d m tuple_type = refl
 
 lines_have_type : (w h d m tuple_type : List ℕ) → tuple_type_in (lines_of w h d m tuple_type) ≡ tuple_type_in (tuple_type_lines tuple_type)
-unfolding trimmed_start token_of tuple_type_in
+unfolding first_token tuple_type_in
 lines_have_type w h d m tuple_type = refl
 
 -- the number of a field
@@ -192,7 +195,7 @@ text_is_short w h d m tuple_type hw hh hd hm ht =
 
 -- ENDHDR is the last line
 last_is_end : line_kind (codes "ENDHDR") ≡ End
-unfolding trimmed_start token_of kind_of_token
+unfolding first_token kind_of_token
 last_is_end = refl
 
 -- the magic and its LF before it

@@ -1,5 +1,6 @@
-use Rattle.std.proofs.Common.{ap, sym, ◌∙◌, List, ℕ}
-use Rattle.pnm_read.specs.PamLines.{kind_of_token, trimmed_start, trimmed_end}
+use Rattle.std.proofs.Common.{ap, sym, ◌∙◌}
+use Rattle.pnm_read.specs.PamLines.{trimmed, kind_of_token}
+use Rattle.pnm_read.proofs.WalkLaws.{value_is_rest}
 use Rattle.pnm_read.proofs.FieldSteps.{line_of_nothing, line_of_end, line_of_number, line_of_type}
 use Rattle.pnm_read.proofs.fields.Fields.take.Goals as goal
 
@@ -17,7 +18,7 @@ pub returns-in-TupleType-clause-judged : goal.returns-in-TupleType-clause-judged
 returns-in-TupleType-clause-judged c =
     line_of_type c.args.self.now c.add_tuple_type.new.self c.args.line.now c.trim.result.now c.add_tuple_type.result
     (sym (c.of.ensures ∙ ap kind_of_token c.split_token.ensures.token) ∙ c.in-TupleType.is)
-    (c.trim.ensures ∙ ap (λ (l : List ℕ). trimmed_end (trimmed_start l)) c.split_token.ensures.rest) c.add_tuple_type.ensures
+    (c.trim.ensures ∙ ap trimmed c.split_token.ensures.rest ∙ sym (value_is_rest c.args.line.now)) c.add_tuple_type.ensures
 
 pub returns-in-End-clause-judged : goal.returns-in-End-clause-judged
 returns-in-End-clause-judged c = line_of_end c.args.self.now c.args.line.now (sym (c.of.ensures ∙ ap kind_of_token c.split_token.ensures.token) ∙ c.in-End.is)
