@@ -6,7 +6,7 @@ use Rattle.std.proofs.lemmas.List.{length-append}
 use Rattle.pnm_read.specs.declared.scan_status.ScanStatus.{ScanStatus}
 use Rattle.pnm_read.specs.declared.scan_status.ScanStatus.TheVariants.{GoesOn, EndsWith, EndsBefore, Fails}
 use Rattle.pnm_read.specs.declared.decimal.DecimalScanner.{DecimalScanner}
-use Rattle.pnm_read.specs.HeaderTexts.{is_line_end, commented, commented_after, ends_in_comment, ends_by, uncommented_from, number_in}
+use Rattle.pnm_read.specs.HeaderTexts.{is_line_end, commented, ends_in_comment, ends_by, uncommented_from, number_in}
 use Rattle.pnm_image.specs.Texts.{is_digit}
 use Rattle.pnm_read.specs.Items.{decimal_item}
 use Rattle.pnm_read.specs.Scans.{JudgesByte}
@@ -17,7 +17,7 @@ use Rattle.pnm_read.proofs.PieceLaws.{number_in-digit, number_in-other, ends_in_
 use Rattle.pnm_read.proofs.WordLaws.{digit_is_not_sharp}
 
 pub decimal_fresh : (s : DecimalScanner) → s.length ≡ 0 → s.in_comment ≡ false → s.in_number ≡ false → s.value ≡ 0 → IsDecimalAfter s []
-unfolding commented_after ends_by uncommented_from
+unfolding ends_by uncommented_from
 decimal_fresh s l c d v = record { length_is = l; comment = c; digit = d; value = v }
 
 digit_ends_no_line : (b : ℕ) → is_digit b ≡ true → is_line_end b ≡ false

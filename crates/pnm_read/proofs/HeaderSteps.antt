@@ -10,7 +10,7 @@ use Rattle.std.proofs.lemmas.List.Elements.{All-nil}
 use Rattle.pnm_read.specs.declared.scan_status.ScanStatus.{ScanStatus}
 use Rattle.pnm_read.specs.declared.scan_status.ScanStatus.TheVariants.{GoesOn, EndsWith, EndsBefore, Fails}
 use Rattle.pnm_read.specs.declared.header.HeaderScanner.{HeaderScanner}
-use Rattle.pnm_read.specs.HeaderTexts.{is_apart, commented, commented_after, ends_in_comment, ends_by, uncommented_from, numbers_in}
+use Rattle.pnm_read.specs.HeaderTexts.{is_apart, commented, ends_in_comment, ends_by, uncommented_from, numbers_in}
 use Rattle.pnm_image.specs.Texts.{is_white, is_digit, words}
 use Rattle.pnm_read.specs.Items.{header_limit, is_bad_in_header, is_delimiter, header_item}
 use Rattle.pnm_read.specs.Scans.{JudgesByte}
@@ -72,7 +72,7 @@ next_digit held (a ∷ b ∷ c ∷ prefix) last d lt e = absurd (omega arith)
 
 -- no byte so far
 pub header_fresh : (wanted : ℕ) (s : HeaderScanner) → IsHeaderFresh wanted s → 0 < wanted → wanted ≤ 3 → length s.numbers ≤ 3 → IsHeaderAfter s []
-unfolding commented_after ends_by uncommented_from words
+unfolding ends_by uncommented_from words
 header_fresh wanted s f some most three = record {
   length_is = f.length_is;
   comment = f.comment;

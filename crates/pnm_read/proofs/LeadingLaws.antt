@@ -12,7 +12,7 @@ use Rattle.pnm_image.specs.declared.shape.Kind.{Kind}
 use Rattle.pnm_image.specs.declared.shape.Kind.TheVariants.{Bit, Gray, Color, Pam}
 use Rattle.pnm_image.specs.Texts.{is_white, is_digit}
 use Rattle.pnm_read.specs.declared.fault.InputFault.{InputFault}
-use Rattle.pnm_read.specs.HeaderTexts.{is_apart, begins_apart, commented_after, ends_in_comment, uncommented_from, uncommented}
+use Rattle.pnm_read.specs.HeaderTexts.{is_apart, begins_apart, ends_in_comment, uncommented_from, uncommented}
 use Rattle.pnm_read.specs.Rasters.{IsGap, SpellsDecimal}
 use Rattle.pnm_read.specs.Items.{◌>>=◌, plain_pixel, plain_decimal, plain_sample}
 use Rattle.pnm_read.specs.Said.{in_turn}
@@ -34,7 +34,6 @@ uncommented_white (b ∷ text) all =
     rw first (ap (λ (t : List ℕ). b ∷ t) (uncommented_white text (All-tail (λ x. is_white x ≡ true) b text all)))
 
 white_is_outside : (text : List ℕ) → AllPass is_white text → ends_in_comment text ≡ false
-unfolding commented_after
 white_is_outside [] all = refl
 white_is_outside (b ∷ text) all =
     let first : (b == 35) ≡ false = white_is_not_sharp b (All-head (λ x. is_white x ≡ true) b text all) in

@@ -11,7 +11,7 @@ use Rattle.pnm_read.specs.declared.fault.InputFault.{InputFault}
 use Rattle.pnm_read.specs.declared.fault.InputFault.TheVariants.{TooLong, BadSample}
 use Rattle.pnm_read.specs.declared.scan_status.ScanStatus.{ScanStatus}
 use Rattle.pnm_read.specs.declared.scan_status.ScanStatus.TheVariants.{GoesOn, EndsWith, EndsBefore, Fails}
-use Rattle.pnm_read.specs.HeaderTexts.{is_line_end, is_apart, ends_by, commented, commented_after, ends_in_comment, uncommented_from, uncommented, number_in}
+use Rattle.pnm_read.specs.HeaderTexts.{is_line_end, is_apart, ends_by, commented, ends_in_comment, uncommented_from, uncommented, number_in}
 use Rattle.pnm_image.specs.Texts.{is_white, is_digit, decimal_value}
 use Rattle.pnm_read.specs.Rasters.{IsGap}
 use Rattle.pnm_read.specs.Items.{◌>>=◌, piece_from, ends_in_digit, is_complete, decimal_item, is_pixel, pixel_item}
@@ -236,13 +236,12 @@ over_gap item at_end on (b ∷ gap) before rest out white short =
 
 -- nothing ends in no digit
 pub nothing_ends : ends_in_digit [] ≡ false
-unfolding commented_after ends_by
+unfolding ends_by
 nothing_ends = refl
 
 -- a whole gap is gone over
 pub over_whole_gap : (item : List ℕ → ℕ → ScanStatus) (at_end : List ℕ → Option InputFault) → GoesOverGaps item → (gap rest : List ℕ) → IsGap gap
     → length gap ≤ GAP_LIMIT → AfterGap item at_end [] gap rest
-unfolding commented_after
 over_whole_gap item at_end on gap rest g short = over_gap item at_end on gap [] rest nothing_ends g.white (omega arith)
 
 -- ---- bytes of a number

@@ -6,7 +6,7 @@ use Rattle.std.proofs.lemmas.List.{length-append}
 use Rattle.pnm_read.specs.declared.scan_status.ScanStatus.{ScanStatus}
 use Rattle.pnm_read.specs.declared.scan_status.ScanStatus.TheVariants.{GoesOn, EndsWith, EndsBefore}
 use Rattle.pnm_read.specs.declared.pixel.PixelScanner.{PixelScanner}
-use Rattle.pnm_read.specs.HeaderTexts.{commented, commented_after}
+use Rattle.pnm_read.specs.HeaderTexts.{commented}
 use Rattle.pnm_read.specs.Items.{pixel_item, is_pixel}
 use Rattle.pnm_read.specs.Scans.{JudgesByte}
 use Rattle.pnm_read.specs.Scanners.{IsPixelAfter, IsPixelWhole, JudgesPixel}
@@ -14,7 +14,6 @@ use Rattle.pnm_read.proofs.CommentLaws.{commented_after-push, ends_by-push}
 use Rattle.pnm_read.proofs.PieceLaws.{PixelTold, pixel_told}
 
 pub pixel_fresh : (s : PixelScanner) → s.length ≡ 0 → s.in_comment ≡ false → IsPixelAfter s []
-unfolding commented_after
 pixel_fresh s l c = record { length_is = l; comment = c }
 
 -- a pixel ends with its character

@@ -1,5 +1,5 @@
 -- Bytes of a text: white space, digits, comments and words. From pbm(5), 'The layout'.
-use Rattle.std.specs.Prelude.{ℕ, Bool, true, false, not, ◌==◌, ◌||◌, if◌then◌else◌, List, [], ◌∷◌, map, filter}
+use Rattle.std.specs.Prelude.{ℕ, Bool, true, false, not, ◌==◌, ◌||◌, if◌then◌else◌, List, [], ◌∷◌, map, filter, fold}
 use Rattle.std.specs.Str.{byte}
 use Rattle.pnm_image.specs.Texts.{is_white, is_digit, words, decimal_value}
 
@@ -29,12 +29,8 @@ abbrev pub commented : Bool → ℕ → Bool
 commented inside b = if inside then not (is_line_end b) else (b == byte "#")
 
 -- whether what follows a text is inside a comment
-unfoldable pub commented_after : Bool → List ℕ → Bool
-commented_after inside [] = inside
-commented_after inside (b ∷ text) = commented_after (commented inside b) text
-
 abbrev pub ends_in_comment : List ℕ → Bool
-ends_in_comment text = commented_after false text
+ends_in_comment text = fold commented false text
 
 -- the text with every comment cut out
 unfoldable pub uncommented_from : Bool → List ℕ → List ℕ

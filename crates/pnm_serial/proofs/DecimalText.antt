@@ -9,7 +9,7 @@ use Rattle.std.proofs.lemmas.List.Elements.{All-nil, All-cons, All-head, All-tai
 use Rattle.std.proofs.lemmas.Str.Parse.{digit_from_value}
 use Rattle.pnm_image.specs.Texts.{is_blank, is_digit, words}
 use Rattle.pnm_image.proofs.Words.{words-cons, words-nil}
-use Rattle.pnm_read.specs.HeaderTexts.{commented_after, ends_in_comment, ends_by, ends_in_word}
+use Rattle.pnm_read.specs.HeaderTexts.{ends_in_comment, ends_by, ends_in_word}
 use Rattle.pnm_read.specs.PamLines.{first_token}
 use Rattle.pnm_read.specs.LineWalks.{trimmed_start, token_of}
 use Rattle.pnm_read.proofs.WalkLaws.{first_token_is}
@@ -39,7 +39,6 @@ other_digits : (b : ℕ) (text : List ℕ) → AllPass is_digit (b ∷ text) →
 other_digits b text h = All-tail (λ x. is_digit x ≡ true) b text h
 
 pub outside-digits : (text : List ℕ) → AllPass is_digit text → ends_in_comment text ≡ false
-unfolding commented_after
 outside-digits [] h = refl
 outside-digits (b ∷ text) h = rw (digit_is_not_sharp b (first_digit b text h)) (outside-digits text (other_digits b text h))
 

@@ -4,10 +4,10 @@ use Rattle.std.specs.List.{AllPass}
 use Rattle.std.proofs.lemmas.List.{map-append}
 use Rattle.std.proofs.lemmas.List.Elements.{All-nil, All-cons, All-append, All-weaker}
 use Rattle.std.proofs.lemmas.Bool.{or_left, or_right}
-use Rattle.pnm_read.specs.HeaderTexts.{commented, commented_after, uncommented_from, uncommented, ends_in_comment, ends_in_word, numbers_in}
+use Rattle.pnm_read.specs.HeaderTexts.{commented, uncommented_from, uncommented, ends_in_comment, ends_in_word, numbers_in}
 use Rattle.pnm_image.specs.Texts.{is_white, is_digit, words, decimal_value}
 use Rattle.pnm_read.specs.Rasters.{SpellsDecimal}
-use Rattle.pnm_read.proofs.CommentLaws.{commented_after-append}
+use Rattle.pnm_read.proofs.CommentLaws.{commented_after, commented_after-append}
 use Rattle.pnm_read.proofs.WordLaws.{white_is_not_sharp, words-split, uncommented-split, ends_by-split}
 use Rattle.pnm_read.proofs.SampleLaws.{uncommented_digits}
 use Rattle.pnm_serial.proofs.DecimalText.{outside-digits, words-digits, ends-digits}
@@ -23,13 +23,12 @@ pub record SpellsNumbers (text numbers : List ℕ) : Type 0 where
   pub numbers_are : map decimal_value (words text) ≡ numbers
 
 pub no_numbers : SpellsNumbers [] []
-unfolding uncommented_from commented_after words
+unfolding uncommented_from words
 no_numbers = record { plain = refl; outside = refl; decimal = All-nil (λ b. is_body_byte b ≡ true); numbers_are = refl }
 
 -- what white space and digits after a text are
 outside_more : (text : List ℕ) (b : ℕ) (digits : List ℕ) → ends_in_comment text ≡ false → is_white b ≡ true → ends_in_comment digits ≡ false
     → ends_in_comment (text ++ b ∷ digits) ≡ false
-unfolding commented_after
 outside_more text b digits outside white after =
     commented_after-append false text (b ∷ digits)
     ∙ ap (λ (i : Bool). commented_after (commented i b) digits) outside

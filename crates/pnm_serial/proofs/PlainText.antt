@@ -12,7 +12,7 @@ use Rattle.pnm_image.specs.Images.{Image, IsImage, rows_of}
 use Rattle.pnm_image.specs.Places.{IsRowOf}
 use Rattle.pnm_image.specs.Texts.{is_white}
 use Rattle.pnm_image.proofs.RowLaws.{AreRowsOf, AreRowsOf-rows_of, length-rows_of, concat-cut_rows}
-use Rattle.pnm_read.specs.HeaderTexts.{commented_after, uncommented_from, begins_apart}
+use Rattle.pnm_read.specs.HeaderTexts.{uncommented_from, begins_apart}
 use Rattle.pnm_read.specs.Rasters.{IsGap, SpellsSample, SpellsPiece, MayFollowSample, SpellsPlainSamples}
 use Rattle.pnm_read.proofs.PlainLaws.{apart_follows}
 use Rattle.pnm_write.specs.Encoding.{row_bytes}
@@ -54,15 +54,15 @@ row_is_spelled head sound row is =
 
 -- what may stand before a word
 no_gap : IsGap []
-unfolding uncommented_from commented_after
+unfolding uncommented_from
 no_gap = record { white = All-nil (λ b. is_white b ≡ true); outside = refl }
 
 blank_gap : IsGap (byte " " ∷ [])
-unfolding uncommented_from commented_after
+unfolding uncommented_from
 blank_gap = record { white = All-cons (λ b. is_white b ≡ true) 32 [] refl (All-nil (λ b. is_white b ≡ true)); outside = refl }
 
 feed_gap : IsGap (byte "\n" ∷ [])
-unfolding uncommented_from commented_after
+unfolding uncommented_from
 feed_gap = record { white = All-cons (λ b. is_white b ≡ true) 10 [] refl (All-nil (λ b. is_white b ≡ true)); outside = refl }
 
 -- a gap of at most one byte and the text of a sample

@@ -1,5 +1,5 @@
 use Rattle.std.proofs.Common.{refl}
-use Rattle.pnm_read.specs.HeaderTexts.{ends_by, commented_after, uncommented_from}
+use Rattle.pnm_read.specs.HeaderTexts.{ends_by, uncommented_from}
 use Rattle.pnm_image.specs.Texts.{words}
 use Rattle.pnm_read.specs.PamLines.{ended_lines, last_line, first_token, second_token, value_of, kind_of_token, field_values, tuple_type_in}
 use Rattle.pnm_read.specs.Items.{piece_from, second_magic_item, first_magic_item, header_item, numbers_item, line_feed_item, pam_item, lines_item, raw_item}
@@ -11,7 +11,7 @@ use Rattle.pnm_read.specs.Examples.{TextExamplesHold}
 use Rattle.pnm_read.proofs.laws.examples_hold.Goals as goal
 
 computed : TextExamplesHold
-unfolding pixels ends_by commented_after uncommented_from words ended_lines last_line first_token second_token value_of kind_of_token field_values
+unfolding pixels ends_by uncommented_from words ended_lines last_line first_token second_token value_of kind_of_token field_values
     tuple_type_in piece_from second_magic_item first_magic_item header_item numbers_item line_feed_item pam_item lines_item raw_item decimal_item pixel_item
     plain_pixel plain_decimal after_last_item in_turn format_at pnm_head_at pam_head_at raw_row plain_row last_plain_row end_said rows_said image_said
     later_said_in later_said text_said
