@@ -32,8 +32,8 @@ BOOKKEEPING = {
     ),
     ("pnm_read", "LineWalks"): ([], "steps along a line, as its scanner goes"),
     ("pnm_read", "Items"): (
-        ["after_last", "decimal_end", "ends_in_", "fault_of_", "header_end", "is_complete", "is_incomplete"]
-        + ["is_field_missing", "piece_from", "pixel_end", "pixel_in", "shape_in"],
+        ["after_last", "decimal_end", "ends_in_", "fault_of_", "header_end", "is_complete"]
+        + ["piece_from", "pixel_end", "pixel_in", "shape_in"],
         "where a piece of a text ends, and what of it was read so far",
     ),
     ("pnm_read", "Said"): (

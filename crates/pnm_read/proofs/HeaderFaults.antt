@@ -24,7 +24,7 @@ use Rattle.pnm_read.specs.HeaderNumbers.{number_count, shape_of}
 use Rattle.pnm_read.specs.PamLines.{ended_lines, last_line, second_token, line_kind, field_values, tuple_type_in}
 use Rattle.pnm_read.specs.Items.{◌>>=◌, piece_from, first_magic_item, second_magic_item, header_limit, is_bad_in_header, is_delimiter, header_item, header_end}
 use Rattle.pnm_read.specs.Items.{fault_of_head, numbers_item, line_feed_item, pam_limit, number_item, is_type_too_long, tuple_type_item, line_item, pam_item}
-use Rattle.pnm_read.specs.Items.{is_incomplete, shape_in, lines_item}
+use Rattle.pnm_read.specs.Items.{shape_in, lines_item}
 use Rattle.pnm_read.specs.Said.{format_at, pnm_head_at, pam_head_at, head_by, head_at}
 use Rattle.pnm_read.proofs.PamLineLaws.{line_by}
 use Rattle.pnm_image.specs.declared.limits.TheConstants.{MAX_DEPTH, MAX_MAXVAL, MAX_ROW_LENGTH, MAX_SIDE}
@@ -239,7 +239,7 @@ lines_made lines = head_or_fault (shape_fault (shape_in lines)) (head_value (sha
 pub lines_item_by_text : (lines : List (List ℕ)) → FailsByText (lines_item lines)
 unfolding lines_item
 lines_item_by_text lines =
-    lines_by (is_incomplete lines) (lines_made lines) (shape_by_text (shape_in lines) (head_value (shape_in lines) (tuple_type_in lines)))
+    lines_by _ (lines_made lines) (shape_by_text (shape_in lines) (head_value (shape_in lines) (tuple_type_in lines)))
 
 pub pam_head_by_text : (text : List ℕ) → FailsByText (pam_head_at text)
 unfolding pam_head_at

@@ -14,13 +14,13 @@ use Rattle.pnm_read.specs.declared.line.Field.TheVariants.{Width, Height, Depth,
 use Rattle.pnm_read.specs.declared.line.LineKind.TheVariants.{End}
 use Rattle.pnm_read.specs.PamLines.{line_kind, field_values, tuple_type_in}
 use Rattle.pnm_read.specs.Headers.{IsOneLine}
-use Rattle.pnm_read.specs.Items.{is_field_missing, shape_in, lines_item}
+use Rattle.pnm_read.specs.Items.{shape_in, lines_item}
 use Rattle.pnm_read.proofs.ShapeLaws.{head_or_fault, head_or_fault_ok, limits_of, no_shape_fault}
 use Rattle.pnm_read.proofs.TupleTypeLaws.{tuple_type_in-is}
 use Rattle.pnm_read.proofs.PamLineLaws.{values-end, tuple_type-end, StatusValue}
 
-missing_by : (w h d m : Bool) (made : Result HeadValue InputFault) (head : HeadValue) → (if w || h || d || m then Err MissingField else made) ≡ Ok head
-    → (w ≡ false) × (h ≡ false) × (d ≡ false) × (m ≡ false) × (made ≡ Ok head)
+missing_by : (w h d m : Bool) (made : Result HeadValue InputFault) (head : HeadValue)
+    → (if w || (h || (d || (m || false))) then Err MissingField else made) ≡ Ok head → (w ≡ false) × (h ≡ false) × (d ≡ false) × (m ≡ false) × (made ≡ Ok head)
 missing_by true h d m made head e = absurd cc
 missing_by false true d m made head e = absurd cc
 missing_by false false true m made head e = absurd cc
@@ -48,7 +48,8 @@ pub lines_make_head : (lines : List (List ℕ)) (head : HeadValue) → StatusVal
     → MadeOf lines head
 unfolding lines_item
 lines_make_head lines head j one e =
-    let parts = missing_by (is_field_missing Width lines) (is_field_missing Height lines) (is_field_missing Depth lines) (is_field_missing Maxval lines)
+    let parts = missing_by (length (field_values Width lines) == 0) (length (field_values Height lines) == 0) (length (field_values Depth lines) == 0)
+    (length (field_values Maxval lines) == 0)
     (head_or_fault (shape_fault (shape_in lines)) (head_value (shape_in lines) (tuple_type_in lines))) head e in
     let good = head_or_fault_ok (shape_fault (shape_in lines)) (head_value (shape_in lines) (tuple_type_in lines)) head parts.4 in
     let limits = limits_of (shape_in lines) good.0 in
@@ -68,7 +69,7 @@ lines_make_head lines head j one e =
 abbrev made_by : List ℕ → List ℕ → List ℕ → List ℕ → List ℕ → Result HeadValue InputFault
 made_by w h d m tuple_type =
     let s : Shape = record { kind = Pam; width = slice_index w 0; height = slice_index h 0; depth = slice_index d 0; maxval = slice_index m 0 } in
-    if (length w == 0) || (length h == 0) || (length d == 0) || (length m == 0) then Err MissingField else head_or_fault (shape_fault s)
+    if (length w == 0) || ((length h == 0) || ((length d == 0) || ((length m == 0) || false))) then Err MissingField else head_or_fault (shape_fault s)
     (head_value s tuple_type)
 
 lines_item_is : (lines : List (List ℕ)) → lines_item lines ≡ made_by (field_values Width lines) (field_values Height lines) (field_values Depth lines)

@@ -12,7 +12,7 @@ use Rattle.pnm_read.specs.declared.fault.InputFault.TheVariants.{MissingField, R
 use Rattle.pnm_read.specs.declared.fields.Fields.{Fields}
 use Rattle.pnm_read.specs.declared.line.Field.TheVariants.{Width, Height, Depth, Maxval}
 use Rattle.pnm_read.specs.PamLines.{field_values, tuple_type_in}
-use Rattle.pnm_read.specs.Items.{fault_of_head, is_incomplete, shape_in, lines_item}
+use Rattle.pnm_read.specs.Items.{fault_of_head, shape_in, lines_item}
 use Rattle.pnm_read.specs.Saturation.{GivesInMemory}
 use Rattle.pnm_read.specs.PamScanners.{held_number, IsFields, shape_held}
 use Rattle.pnm_read.proofs.FieldSteps.{some_values}
@@ -40,7 +40,7 @@ shape_of_first w h d m = record { kind = Pam; width = slice_index w 0; height = 
 
 -- one of these numbers is missing
 abbrev lacks : List ℕ → List ℕ → List ℕ → List ℕ → Bool
-lacks w h d m = (length w == 0) || (length h == 0) || (length d == 0) || (length m == 0)
+lacks w h d m = (length w == 0) || ((length h == 0) || ((length d == 0) || ((length m == 0) || false)))
 
 -- where no shape is held, a number is missing
 lacks_one : (w h d m : List ℕ) → shape_by (held_number w) (held_number h) (held_number d) (held_number m) ≡ None → lacks w h d m ≡ true
@@ -69,6 +69,10 @@ held_is fields lines f =
     ∙ ap (λ (o : Option ℕ). shape_by (held_number (field_values Width lines)) (held_number (field_values Height lines)) o fields.maxval) f.depth
     ∙ ap (λ (o : Option ℕ). shape_by (held_number (field_values Width lines)) (held_number (field_values Height lines)) (held_number (field_values Depth lines))
     o) f.maxval
+
+-- one of the four numbers is missing
+abbrev is_incomplete : List (List ℕ) → Bool
+is_incomplete lines = lacks (field_values Width lines) (field_values Height lines) (field_values Depth lines) (field_values Maxval lines)
 
 -- the head of lines, where a number may be missing
 abbrev lines_as : Bool → List (List ℕ) → Result HeadValue InputFault

@@ -3,7 +3,7 @@
 -- PAM after its LF), of a plain raster those since the last digit of the sample before.
 use Rattle.std.specs.Prelude.{ℕ, Bool, not, ◌==◌, nat_le, nat_lt, ◌*◌, ◌+◌, ◌-◌, ◌&&◌, ◌||◌, if◌then◌else◌, List, []}
 use Rattle.std.specs.Prelude.{◌∷◌, ◌++◌, length, slice_index, Option, Some, None, Result, Ok, Err}
-use Rattle.std.specs.List.{list_all}
+use Rattle.std.specs.List.{list_all, list_any}
 use Rattle.std.specs.Str.{byte}
 use Rattle.pnm_image.specs.declared.shape.Shape.{Shape}
 use Rattle.pnm_image.specs.declared.shape.Kind.{Kind}
@@ -155,16 +155,6 @@ pam_item before b =
     else if b == byte "\n" then line_item (ended_lines before) (last_line before)
     else GoesOn
 
--- none of the lines has the number
-abbrev pub is_field_missing : Field → List (List ℕ) → Bool
-is_field_missing field lines = length (field_values field lines) == 0
-
--- one of the four numbers is missing
-abbrev pub is_incomplete : List (List ℕ) → Bool
-is_incomplete lines =
-    (length (field_values Width lines) == 0) || (length (field_values Height lines) == 0)
-    || (length (field_values Depth lines) == 0) || (length (field_values Maxval lines) == 0)
-
 -- the shape that the lines make
 abbrev pub shape_in : List (List ℕ) → Shape
 shape_in lines =
@@ -176,10 +166,11 @@ shape_in lines =
       maxval = slice_index (field_values Maxval lines) 0;
     }
 
--- the end of a header: the lines together
+-- the end of a header: the lines together; none of the four numbers may be missing
 unfoldable pub lines_item : List (List ℕ) → Result HeadValue InputFault
 lines_item lines =
-    if is_incomplete lines then Err MissingField
+    if list_any (λ field. length (field_values field lines) == 0) (Width ∷ Height ∷ Depth ∷ Maxval ∷ [])
+    then Err MissingField
     else elim (shape_fault (shape_in lines)) [
       | Some fault ↦ Err (fault_of_head fault)
       | None ↦ Ok (record { shape = shape_in lines; tuple_type = tuple_type_in lines })
