@@ -37,7 +37,7 @@ BOOKKEEPING = {
         "where a piece of a text ends, and what of it was read so far",
     ),
     ("pnm_read", "Said"): (
-        ["end_said", "ends_stream", "format_at", "head_at", "head_by", "in_turn", "last_plain_row", "later_"]
+        ["ends_stream", "format_at", "head_at", "head_by", "in_turn", "last_plain_row", "later_"]
         + ["pam_", "pnm_", "plain_row", "raw_row", "row_", "rows_said", "says_", "then_said", "units_"],
         "goes through a text piece by piece, and hands on what is left of it",
     ),

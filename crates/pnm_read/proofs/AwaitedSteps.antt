@@ -17,8 +17,9 @@ use Rattle.pnm_read.specs.declared.source.Awaited.TheVariants.{FirstImage, RowOr
 use Rattle.pnm_read.specs.declared.source.State.{State}
 use Rattle.pnm_read.specs.declared.source.State.TheVariants.{Awaits, Ended}
 use Rattle.pnm_read.specs.declared.source.Step.{Step}
-use Rattle.pnm_read.specs.Said.{Said, text_said, later_said, format_at, head_at, format_said, head_said, image_said, rows_said, row_at, end_said, then_said}
+use Rattle.pnm_read.specs.Said.{Said, text_said, later_said, format_at, head_at, format_said, head_said, image_said, rows_said, row_at, then_said}
 use Rattle.pnm_read.specs.Said.{says_fault}
+use Rattle.pnm_read.proofs.EndSaid.{end_said}
 use Rattle.pnm_read.specs.BufferedReaders.{ReadCall, Fills, Finds, IsOutsideFault, HoldsEnough, held_of}
 use Rattle.pnm_read.specs.Awaiting.{HasRow, AnswersNext, Steps, StepsAtStart, SeesText, awaited_after, due_at}
 use Rattle.pnm_read.proofs.ReadCalls.{no_fault, call_ok_so, call_err_so, call_seen, nothing_left, some_left}
@@ -62,7 +63,6 @@ begins is_first format head raster step b m a f h rf rs ry sm ss =
 
 -- what is said after an image
 end_due : (is_plain : Bool) (text : List ℕ) → end_said later_said is_plain text ≡ due_at (awaited_after is_plain) text
-unfolding end_said
 end_due true text = refl
 end_due false text = refl
 

@@ -19,8 +19,9 @@ use Rattle.pnm_image.specs.Texts.{is_digit}
 use Rattle.pnm_image.specs.SampleWidths.{sample_width_of}
 use Rattle.pnm_read.specs.Items.{◌>>=◌, piece_from, raw_item, ends_in_digit, is_complete, decimal_item, decimal_end, is_pixel, pixel_item, pixel_end, pixel_in}
 use Rattle.pnm_read.specs.Items.{plain_pixel, sample_item, plain_decimal, plain_sample, after_last_item}
-use Rattle.pnm_read.specs.Said.{Said, in_turn, units_in_row, units_at, raw_row, plain_row, last_plain_row, row_in_form, row_at, end_said, rows_said, head_said}
+use Rattle.pnm_read.specs.Said.{Said, in_turn, units_in_row, units_at, raw_row, plain_row, last_plain_row, row_in_form, row_at, rows_said, head_said}
 use Rattle.pnm_read.specs.Said.{format_said, image_said, later_said_in, later_said, format_at, head_at, text_said, fault_of}
+use Rattle.pnm_read.proofs.EndSaid.{end_said}
 use Rattle.pnm_read.proofs.RowsInTurn.{said_from}
 use Rattle.pnm_read.proofs.HeaderFaults.{EndsByText, FailsByText, IsJudgedByText, bind_by_text, when_by_text, piece_by_text, three_by_text, format_by_text}
 use Rattle.pnm_read.proofs.HeaderFaults.{head_by_text}
@@ -113,7 +114,6 @@ abbrev EndsSo : (List ℕ → Said) → Type 0
 EndsSo later = (text : List ℕ) → EndsByText (later text).fault
 
 end_by_text : (later : List ℕ → Said) (is_plain : Bool) (text : List ℕ) → EndsSo later → EndsByText (end_said later is_plain text).fault
-unfolding end_said
 end_by_text later true text so = tt
 end_by_text later false text so = so text
 

@@ -13,8 +13,9 @@ use Rattle.pnm_read.specs.declared.fault.InputFault.{InputFault}
 use Rattle.pnm_image.specs.declared.format.Format.{Format}
 use Rattle.pnm_read.specs.Headers.{SpellsHeader}
 use Rattle.pnm_read.specs.Spelling.{SpellsRawImages}
-use Rattle.pnm_read.specs.Said.{Said, format_at, head_at, row_at, end_said, rows_said, head_said, format_said, image_said, later_said, text_said, said_of}
+use Rattle.pnm_read.specs.Said.{Said, format_at, head_at, row_at, rows_said, head_said, format_said, image_said, later_said, text_said, said_of}
 use Rattle.pnm_read.specs.Said.{fault_of}
+use Rattle.pnm_read.proofs.EndSaid.{end_said}
 use Rattle.pnm_read.specs.BeforeFaults.{MayBegin, SaysFirstRows, SaysNoImage, SaysUnended, SpellsUpToFault}
 use Rattle.pnm_read.proofs.ReadHeaderLaws.{spelled_head, read_header_is_spelled}
 use Rattle.pnm_read.proofs.SpelledHeaders.{spelled_header_is_read}
@@ -85,7 +86,6 @@ raw_image_ends later text header after format head rows rest fault raw whole h r
 image_ends : (is_plain : Bool) (later : List ℕ → Said) (text header after : List ℕ) (format : Format) (head : HeadValue) (rows : List (List ℕ)) (rest : List ℕ)
     (fault : InputFault) → is_plain_form format.form ≡ is_plain → text ≡ header ++ after → SpellsHeader header format head
     → RowsRead format head.shape rows head.shape.height after zero rest → (end_said later is_plain rest).fault ≡ Some fault → RawAndRest later text (Some fault)
-unfolding end_said
 image_ends false later text header after format head rows rest fault raw whole h read e =
     raw_image_ends later text header after format head rows rest fault raw whole h read e
 image_ends true later text header after format head rows rest fault plain whole h read e = absurd cc

@@ -9,8 +9,9 @@ use Rattle.pnm_read.specs.declared.fault.InputFault.TheVariants.{BadMagic, Plain
 use Rattle.pnm_image.specs.declared.format.Format.{Format}
 use Rattle.pnm_image.specs.Formats.{format_of, is_plain_form}
 use Rattle.pnm_read.specs.Items.{first_magic_item, second_magic_item}
-use Rattle.pnm_read.specs.Said.{Said, then_said, ends_stream, format_at, head_at, row_in_form, row_at, end_said, rows_said, head_said, format_said, image_said}
+use Rattle.pnm_read.specs.Said.{Said, then_said, ends_stream, format_at, head_at, row_in_form, row_at, rows_said, head_said, format_said, image_said}
 use Rattle.pnm_read.specs.Said.{later_said_in, later_said}
+use Rattle.pnm_read.proofs.EndSaid.{end_said}
 use Rattle.pnm_read.proofs.ReadHeaderLaws.{header_shorter}
 use Rattle.pnm_read.proofs.RowsInTurn.{said_from}
 use Rattle.pnm_read.proofs.RawLaws.{raw_row_shorter}
@@ -49,7 +50,6 @@ abbrev SameUpTo : ℕ → (List ℕ → Said) → (List ℕ → Said) → Type 0
 SameUpTo most f g = (text : List ℕ) → length text ≤ most → f text ≡ g text
 
 end_same : (f g : List ℕ → Said) (is_plain : Bool) (text : List ℕ) → SameUpTo (length text) f g → end_said f is_plain text ≡ end_said g is_plain text
-unfolding end_said
 end_same f g true text same = refl
 end_same f g false text same = same text (omega arith)
 
@@ -63,7 +63,7 @@ from_same f g format s more (Ok found) same = ap (then_said (Row found.0)) (same
 -- of a plain raster it is the same anyway
 plain_same : (f g : List ℕ → Said) (format : Format) (s : Shape) (n : ℕ) (text : List ℕ) → is_plain_form format.form ≡ true
     → rows_said f format s n text ≡ rows_said g format s n text
-unfolding rows_said end_said
+unfolding rows_said
 plain_same f g format s zero text plain = rw plain refl
 plain_same f g format s (suc n) text plain = from_same f g format s n (row_at format s n text) (λ found e. plain_same f g format s n found.1 plain)
 

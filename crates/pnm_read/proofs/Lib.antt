@@ -4,6 +4,7 @@ pub mod Consumed
 pub mod PixelSteps
 pub mod ReadCalls
 pub mod EndSteps
+pub mod EndSaid
 pub mod PieceLaws
 pub mod SampleLaws
 pub mod WordLaws

@@ -19,7 +19,8 @@ use Rattle.pnm_image.specs.declared.format.Format.{Format}
 use Rattle.pnm_read.specs.HeaderTexts.{begins_apart}
 use Rattle.pnm_read.specs.Rasters.{SpellsPiece, MayFollowSample, SpellsPlainSamples, SpellsPlain}
 use Rattle.pnm_read.specs.Items.{◌>>=◌, plain_sample, after_last_item}
-use Rattle.pnm_read.specs.Said.{Said, then_said, end_said, in_turn, plain_row, last_plain_row, row_in_form, row_at, rows_said}
+use Rattle.pnm_read.specs.Said.{Said, then_said, in_turn, plain_row, last_plain_row, row_in_form, row_at, rows_said}
+use Rattle.pnm_read.proofs.EndSaid.{end_said}
 use Rattle.pnm_read.specs.Sources.{after_messages}
 use Rattle.pnm_read.proofs.RowsInTurn.{RowsRead, rows_count, read_rows_are_said, all_read, no_more_to_come}
 use Rattle.pnm_read.proofs.PieceLaws.{bind_ok, done, ok_is, if_ok}
@@ -147,7 +148,7 @@ plain_rows_in_turn format s (suc rows) (suc n) text samples more rest plain coun
 -- after all rows come the ends
 after_rows : (later : List ℕ → Said) (format : Format) (s : Shape) (rows : List (List ℕ)) (rest : List ℕ) → is_plain_form format.form ≡ true
     → after_messages (map Row rows) (rows_said later format s zero rest) ≡ rows_and_ends rows
-unfolding rows_said end_said
+unfolding rows_said
 after_rows later format s [] rest plain = ap (λ (p : Bool). then_said ImageEnd (end_said later p rest)) plain
 after_rows later format s (row ∷ rows) rest plain = ap (then_said (Row row)) (after_rows later format s rows rest plain)
 

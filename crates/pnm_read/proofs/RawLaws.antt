@@ -21,7 +21,8 @@ use Rattle.pnm_image.specs.declared.sample_width.SampleWidth.TheVariants.{Bits, 
 use Rattle.pnm_read.specs.Rasters.{bytes_in_row, pixel_at, pixels, wide_samples, raw_samples, SpellsRaw}
 use Rattle.pnm_image.specs.SampleWidths.{sample_width_of}
 use Rattle.pnm_read.specs.Items.{◌>>=◌, raw_item}
-use Rattle.pnm_read.specs.Said.{in_turn, units_in_row, units_at, raw_row, row_in_form, row_at, Said, then_said, end_said, rows_said}
+use Rattle.pnm_read.specs.Said.{in_turn, units_in_row, units_at, raw_row, row_in_form, row_at, Said, then_said, rows_said}
+use Rattle.pnm_read.proofs.EndSaid.{end_said}
 use Rattle.pnm_read.proofs.PieceLaws.{bind_ok}
 use Rattle.pnm_read.proofs.UnitLaws.{unit_bytes, ItemsRead, single, concat_singles, concat_pixels, are_within, are_within_all, all_are_within, unit_if}
 use Rattle.pnm_read.proofs.UnitLaws.{units_if}
@@ -334,7 +335,7 @@ raw_row_shorter s text found e =
 -- after all rows come the image's end and what follows
 after_rows : (later : List ℕ → Said) (format : Format) (s : Shape) (rows : List (List ℕ)) (rest : List ℕ) → is_plain_form format.form ≡ false
     → after_messages (map Row rows) (rows_said later format s zero rest) ≡ rows_then rows (later rest)
-unfolding rows_said end_said
+unfolding rows_said
 after_rows later format s [] rest raw = ap (λ (p : Bool). then_said ImageEnd (end_said later p rest)) raw
 after_rows later format s (row ∷ rows) rest raw = ap (then_said (Row row)) (after_rows later format s rows rest raw)
 
@@ -353,7 +354,6 @@ spelled_raw_is_said later format raster rest image raw h =
 -- the fault after all rows of a raw image is that of what follows it
 raw_end_fault : (later : List ℕ → Said) (format : Format) (rest : List ℕ) → is_plain_form format.form ≡ false
     → (end_said later (is_plain_form format.form) rest).fault ≡ (later rest).fault
-unfolding end_said
 raw_end_fault later format rest raw = ap (λ (p : Bool). (end_said later p rest).fault) raw
 
 -- a raster whose rows are said without a fault spells an image, and what follows has no fault

@@ -13,7 +13,8 @@ use Rattle.pnm_read.specs.declared.source.Awaited.TheVariants.{RowOrEnd}
 use Rattle.pnm_read.specs.declared.source.State.{State}
 use Rattle.pnm_read.specs.declared.source.State.TheVariants.{Awaits}
 use Rattle.pnm_read.specs.declared.source.Source.{Source}
-use Rattle.pnm_read.specs.Said.{Said, later_said, rows_said, then_said, end_said}
+use Rattle.pnm_read.specs.Said.{Said, later_said, rows_said, then_said}
+use Rattle.pnm_read.proofs.EndSaid.{end_said}
 use Rattle.pnm_read.specs.BufferedReaders.{ReadCall, held_of}
 use Rattle.pnm_read.specs.Awaiting.{AnswersNext, awaited_after, due_at, state_due}
 use Rattle.pnm_read.specs.RasterRows.{TakesRows}
@@ -61,7 +62,7 @@ image_due : {R : Type 0} (old new : Source R) (raster : Raster) (count : ℕ) (r
     → raster.shape.height - raster.y ≤ count → count ≤ raster.shape.height - raster.y
     → TakesRows raster.shape count rows (held_of old.input) (held_of new.input)
     → due old rest ≡ after_messages (row_messages rows) (then_said ImageEnd (due new rest))
-unfolding due rows_said end_said
+unfolding due rows_said
 image_due old new raster count rows rest is is_next raw all left takes =
     let n : ℕ = raster.shape.height - raster.y in
     let none_left : n ≡ count + 0 = omega (arith, all, left) in

@@ -5,7 +5,8 @@ use Rattle.pnm_image.specs.declared.shape.Shape.{Shape}
 use Rattle.pnm_image.specs.declared.message.Message.TheVariants.{Row}
 use Rattle.pnm_read.specs.declared.fault.InputFault.{InputFault}
 use Rattle.pnm_image.specs.declared.format.Format.{Format}
-use Rattle.pnm_read.specs.Said.{Said, then_said, says_fault, end_said, row_at, rows_said}
+use Rattle.pnm_read.specs.Said.{Said, then_said, says_fault, row_at, rows_said}
+use Rattle.pnm_read.proofs.EndSaid.{end_said}
 use Rattle.pnm_read.specs.Sources.{after_messages}
 use Rattle.pnm_read.proofs.GivenLaws.{messages_after, fault_after}
 

@@ -9,8 +9,9 @@ use Rattle.pnm_image.specs.Places.{IsRowOf, IsLawfulFrom, IsLawful}
 use Rattle.pnm_image.proofs.Streams.{stream_ends}
 use Rattle.pnm_read.specs.declared.fault.InputFault.{InputFault}
 use Rattle.pnm_image.specs.declared.format.Format.{Format}
-use Rattle.pnm_read.specs.Said.{Said, row_in_form, row_at, end_said, format_at, head_at, rows_said, head_said, format_said, image_said, later_said_in}
+use Rattle.pnm_read.specs.Said.{Said, row_in_form, row_at, format_at, head_at, rows_said, head_said, format_said, image_said, later_said_in}
 use Rattle.pnm_read.specs.Said.{later_said, text_said, said_of, fault_of}
+use Rattle.pnm_read.proofs.EndSaid.{end_said}
 use Rattle.pnm_read.proofs.ReadHeaderLaws.{read_header_is_spelled, spelled_head}
 use Rattle.pnm_read.proofs.PlainLaws.{plain_row_is_row, last_plain_row_is_row}
 use Rattle.pnm_read.proofs.RowsInTurn.{said_from}
@@ -32,7 +33,6 @@ AreLawful later = (text : List ℕ) → IsLawful (later text).messages
 
 -- the end of the stream may come between images, and so may the next image
 end_is_lawful : (later : List ℕ → Said) (is_plain : Bool) (text : List ℕ) → AreLawful later → IsLawful (end_said later is_plain text).messages
-unfolding end_said
 end_is_lawful later true text are = (tt, tt)
 end_is_lawful later false text are = are text
 
@@ -101,7 +101,6 @@ EndIsSound later = (text : List ℕ) → EndsStream (later text).messages → (l
 
 sound_end : (later : List ℕ → Said) (is_plain : Bool) (text : List ℕ) → EndIsSound later → EndsStream (end_said later is_plain text).messages
     → (end_said later is_plain text).fault ≡ None
-unfolding end_said
 sound_end later true text sound ends = refl
 sound_end later false text sound ends = sound text ends
 

@@ -18,8 +18,9 @@ use Rattle.pnm_read.specs.declared.source.State.{State}
 use Rattle.pnm_read.specs.declared.source.State.TheVariants.{Awaits, Ended, Failed}
 use Rattle.pnm_read.specs.BufferedReaders.{IsOutsideFault}
 use Rattle.pnm_read.specs.Awaiting.{state_due, state_fault}
-use Rattle.pnm_read.specs.Said.{Said, row_at, end_said, format_at, head_at, rows_said, head_said, format_said, image_said, later_said_in, later_said, text_said}
+use Rattle.pnm_read.specs.Said.{Said, row_at, format_at, head_at, rows_said, head_said, format_said, image_said, later_said_in, later_said, text_said}
 use Rattle.pnm_read.specs.Said.{said_of, fault_of}
+use Rattle.pnm_read.proofs.EndSaid.{end_said}
 use Rattle.pnm_read.specs.Sources.{reader_of, stopped_by, due, MayGive, SeesEnd, MayGiveMore, HasGiven}
 use Rattle.pnm_read.proofs.FaultLaws.{fault_is_of_text}
 use Rattle.pnm_read.proofs.ReadHeaderLaws.{read_header_is_spelled, spelled_head}
@@ -91,7 +92,6 @@ HoldsOf Claim later = (text : List ℕ) → AllByRecursion Claim (later text).me
 
 holds_of_end : (Claim : Message → Type 0) (h : HoldsOfRead Claim) (later : List ℕ → Said) (is_plain : Bool) (text : List ℕ) → HoldsOf Claim later
     → AllByRecursion Claim (end_said later is_plain text).messages
-unfolding end_said
 holds_of_end Claim h later true text holds = (h.stream_end, tt)
 holds_of_end Claim h later false text holds = holds text
 

@@ -1,8 +1,8 @@
 -- What is said of a text: the messages of its images, and then the end or the first fault. The fault is that
 -- of the first item that has one.
 use Rattle.pnm_image.specs.Formats.{is_plain_form}
-use Rattle.std.specs.Prelude.{◌≡◌, ℕ, zero, suc, ◌+◌, ◌/◌, Bool, true, false, List, [], ◌∷◌, length, take, Option}
-use Rattle.std.specs.Prelude.{Some, None, Result, Ok, Err}
+use Rattle.std.specs.Prelude.{◌≡◌, ℕ, zero, suc, ◌+◌, ◌/◌, Bool, true, false, if◌then◌else◌, List, [], ◌∷◌, length}
+use Rattle.std.specs.Prelude.{take, Option, Some, None, Result, Ok, Err}
 use Rattle.std.specs.List.{concat}
 use Rattle.pnm_image.specs.declared.shape.Kind.{Kind}
 use Rattle.pnm_image.specs.declared.shape.Kind.TheVariants.{Bit, Gray, Color, Pam}
@@ -120,14 +120,10 @@ says_nothing = record { messages = []; fault = None }
 abbrev pub ends_stream : Said
 ends_stream = record { messages = StreamEnd ∷ []; fault = None }
 
--- after a raw image comes what is told of the text by this; what follows a plain image is ignored
-unfoldable pub end_said : (List ℕ → Said) → Bool → List ℕ → Said
-end_said later true text = ends_stream
-end_said later false text = later text
-
--- so many rows, the end of the image, and what comes after a raw image
+-- so many rows, the end of the image, and what is said of the text after a raw image; what follows a plain one is
+-- ignored
 unfoldable pub rows_said : (List ℕ → Said) → Format → Shape → ℕ → List ℕ → Said
-rows_said later format s zero text = then_said ImageEnd (end_said later (is_plain_form format.form) text)
+rows_said later format s zero text = then_said ImageEnd (if is_plain_form format.form then ends_stream else later text)
 rows_said later format s (suc more) text = elim (row_in_form (is_plain_form format.form) s more text) [
   | Err fault ↦ says_fault fault
   | Ok row ↦ then_said (Row row.0) (rows_said later format s more row.1)

@@ -6,7 +6,7 @@ use Rattle.pnm_read.specs.PamLines.{ended_lines, last_line, first_token, second_
 use Rattle.pnm_read.specs.Rasters.{pixels}
 use Rattle.pnm_read.specs.Items.{piece_from, second_magic_item, first_magic_item, header_item, numbers_item, line_feed_item, pam_item, lines_item, raw_item}
 use Rattle.pnm_read.specs.Items.{decimal_item, pixel_item, plain_pixel, plain_decimal, after_last_item}
-use Rattle.pnm_read.specs.Said.{in_turn, format_at, pnm_head_at, pam_head_at, raw_row, plain_row, last_plain_row, end_said, rows_said, image_said}
+use Rattle.pnm_read.specs.Said.{in_turn, format_at, pnm_head_at, pam_head_at, raw_row, plain_row, last_plain_row, rows_said, image_said}
 use Rattle.pnm_read.specs.Said.{later_said_in, later_said, text_said}
 use Rattle.pnm_tools.specs.Tools.{result_head, result_sample}
 use Rattle.pnm_tools.specs.Chains.{due_in_turn}
@@ -16,7 +16,7 @@ use Rattle.pnm_serial.proofs.laws.examples_hold.Goals as goal
 computed : RunExamplesHold
 unfolding digits ends_by uncommented_from words ended_lines last_line first_token second_token value_of kind_of_token field_values
     tuple_type_in piece_from second_magic_item first_magic_item header_item numbers_item line_feed_item pam_item lines_item pixels raw_item decimal_item
-    pixel_item plain_pixel plain_decimal after_last_item in_turn format_at pnm_head_at pam_head_at raw_row plain_row last_plain_row end_said rows_said
+    pixel_item plain_pixel plain_decimal after_last_item in_turn format_at pnm_head_at pam_head_at raw_row plain_row last_plain_row rows_said
     image_said later_said_in later_said text_said result_head result_sample due_in_turn
 computed = record {
   gray = record { said = refl; due = refl };
