@@ -25,7 +25,7 @@ from places import ROOT
 BOOKKEEPING = {
     ("pnm_image", "Messages"): (["without_stop"], "leaves a last Stop aside"),
     ("pnm_image", "Places"): (["IsLawfulFrom", "place_of"], "steps along messages"),
-    ("pnm_samples", "Pixels"): (["packed_groups", "pixel_bits"], "groups of eight bits"),
+    ("pnm_samples", "Pixels"): (["pixel_bits"], "a step along the bits of a byte"),
     ("pnm_read", "HeaderTexts"): (
         ["commented", "ends_in_", "uncommented_from"],
         "steps along a text: inside a comment or a word",

@@ -3,9 +3,9 @@ use Rattle.std.proofs.Common.{◌≡◌, ℕ, zero, suc, ◌+◌, ◌-◌, ◌*�
 use Rattle.std.proofs.Common.{ap₂, ◌∙◌, arith}
 use Rattle.std.proofs.lemmas.List.{length-map, take_all, take_more_set, take-take, drop-take, drop-drop, length-take, length-drop}
 use Rattle.pnm_samples.specs.Cuts.{cut_rows}
-use Rattle.pnm_samples.specs.Pixels.{packed_byte, packed_groups, packed_bytes}
+use Rattle.pnm_samples.specs.Pixels.{packed_byte, packed_bytes}
 use Rattle.pnm_samples.proofs.CutLaws.{length-cut_rows}
-use Rattle.pnm_samples.proofs.PackedBytes.{bits_before_white}
+use Rattle.pnm_samples.proofs.PackedBytes.{packed_groups, bits_before_white}
 
 -- ---- eight pixels
 

@@ -6,8 +6,8 @@ use Rattle.std.proofs.lemmas.Bool.{cases_lt}
 use Rattle.std.proofs.lemmas.List.{take_at, take-append-le, take-append-drop, take_all, length-append, length-replicate, length-drop, length-take}
 use Rattle.std.proofs.lemmas.List.{nil_from_length}
 use Rattle.std.proofs.lemmas.List.Elements.{All-take, All-drop, All-append, All-replicate}
-use Rattle.pnm_samples.specs.Pixels.{pixels, packed_byte, packed_groups}
-use Rattle.pnm_samples.proofs.PackedBytes.{bits_before_white}
+use Rattle.pnm_samples.specs.Pixels.{pixels, packed_byte}
+use Rattle.pnm_samples.proofs.PackedBytes.{packed_groups, bits_before_white}
 
 -- ---- the pixels of a byte
 

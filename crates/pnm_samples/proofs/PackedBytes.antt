@@ -1,11 +1,16 @@
 -- The bytes of the pixels of a row.
 use Rattle.std.proofs.Common.{◌≡◌, ℕ, zero, suc, ◌+◌, ◌-◌, ◌*◌, ◌/◌, ◌<◌, List, [], ◌∷◌, ◌++◌, length, true, eqb, take, drop, replicate, refl, sym, ap, ap₂}
-use Rattle.std.proofs.Common.{◌∙◌, arith}
+use Rattle.std.proofs.Common.{map, ◌∙◌, arith}
 use Rattle.std.proofs.lemmas.Bool.{agree_below_at, eqb-true}
 use Rattle.std.proofs.lemmas.List.{take_all, drop_all, take_at, drop_at, take-append-drop}
-use Rattle.pnm_samples.specs.Pixels.{pixels, all_pixels, ArePacked, AreBytes, pixel_bits, packed_byte, packed_groups, packed_bytes}
+use Rattle.pnm_samples.specs.Pixels.{pixels, all_pixels, ArePacked, AreBytes, pixel_bits, packed_byte, packed_bytes}
+use Rattle.pnm_samples.specs.Cuts.{cut_rows}
 use Rattle.pnm_samples.proofs.PixelLaws.{length-pixels}
 use Rattle.pnm_samples.proofs.PixelRowLaws.{length_of_packed}
+
+-- so many bytes of eight pixels each
+abbrev pub packed_groups : ℕ → List ℕ → List ℕ
+packed_groups count samples = map packed_byte (cut_rows count 8 samples)
 
 -- the byte of the pixels of a byte
 byte_of_pixels : (b : ℕ) → b < 256 → packed_byte (pixels b) ≡ b

@@ -40,10 +40,6 @@ pixel_bits weight (sample ∷ samples) = weight * (1 - sample) + pixel_bits (wei
 abbrev pub packed_byte : List ℕ → ℕ
 packed_byte pixels = pixel_bits 128 pixels
 
--- so many bytes of eight pixels each
-abbrev pub packed_groups : ℕ → List ℕ → List ℕ
-packed_groups count samples = map packed_byte (cut_rows count 8 samples)
-
 -- eight pixels a byte; the last byte may have spare bits
 abbrev pub packed_bytes : List ℕ → List ℕ
-packed_bytes samples = packed_groups ((length samples + 7) / 8) samples
+packed_bytes samples = map packed_byte (cut_rows ((length samples + 7) / 8) 8 samples)

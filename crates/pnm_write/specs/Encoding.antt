@@ -14,7 +14,7 @@ use Rattle.pnm_image.specs.declared.format.Form.TheVariants.{Raw, Plain}
 use Rattle.pnm_image.specs.Formats.{magic_of}
 use Rattle.pnm_image.specs.Heads.{HeadValue}
 use Rattle.pnm_image.specs.Images.{Image, rows_of}
-pub use Rattle.pnm_samples.specs.Pixels.{pixel_bits, packed_byte, packed_groups, packed_bytes}
+pub use Rattle.pnm_samples.specs.Pixels.{pixel_bits, packed_byte, packed_bytes}
 use Rattle.pnm_image.specs.SampleWidths.{sample_width_of}
 use Rattle.pnm_image.specs.Places.{place_after}
 use Rattle.pnm_write.specs.PlainRows.{plain_row_text}

@@ -1,5 +1,5 @@
 use Rattle.std.proofs.Common.{◌≡◌, take}
-use Rattle.pnm_samples.specs.Pixels.{packed_groups}
+use Rattle.pnm_samples.proofs.PackedBytes.{packed_groups}
 use Rattle.pnm_samples.proofs.packing.pack.Given as goal
 
 -- the bytes of the groups that have passed
