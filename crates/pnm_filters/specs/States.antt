@@ -16,7 +16,8 @@ use Rattle.pnm_filters.specs.declared.any_tool.AnyTool.TheVariants.{FlippingRows
 use Rattle.pnm_tools.specs.Answers.{Answers}
 use Rattle.pnm_tools.specs.FusedFilters.{FilterAt}
 use Rattle.pnm_tools.specs.declared.fused_filter.FusedFilter.{FusedFilter}
-use Rattle.pnm_tools.specs.Answering.{IsAnswering, rows_come, rows_list}
+use Rattle.pnm_image.specs.Rows.{rows_list}
+use Rattle.pnm_tools.specs.Answering.{IsAnswering, rows_come}
 use Rattle.pnm_row_tools.specs.RowKeeping.{IsReadyForRows, HasTable, cut_of, HasSpans, FlipsInRows, IsReversingRows}
 use Rattle.pnm_geometry_tools.specs.Enlarging.{IsEnlarging}
 use Rattle.pnm_geometry_tools.specs.Keeping.{across_of, down_of, kept_rows, IsTransposing}

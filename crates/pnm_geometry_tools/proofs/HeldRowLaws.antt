@@ -1,16 +1,16 @@
 -- Rows as they are held: samples that are cut into rows, and pixels in bytes.
 use Rattle.std.proofs.Common.{◌≡◌, ℕ, zero, suc, ◌+◌, ◌*◌, List, [], ◌∷◌, ◌++◌, length, map, take, drop, replicate, All, refl, sym, ap, ap₂, subst}
-use Rattle.std.proofs.Common.{◌∙◌, arith, suc-mul, zero-mul}
+use Rattle.std.proofs.Common.{◌∙◌, arith}
 use Rattle.std.specs.List.{flat_map}
-use Rattle.std.proofs.lemmas.List.{drop-append-le, length-append, length-drop, length-take-le, map-append, nil_from_length, take-append-le, take-take}
-use Rattle.std.proofs.lemmas.List.Elements.{All-append, All-cons, All-nil}
+use Rattle.std.proofs.lemmas.List.{length-append, map-append, take-take}
+use Rattle.std.proofs.lemmas.List.Elements.{All-append}
 use Rattle.pnm_samples.specs.Cuts.{cut_rows}
 use Rattle.pnm_samples.specs.PixelRows.{bytes_for, rows_of_bytes}
 use Rattle.pnm_samples.specs.Pixels.{all_pixels}
-use Rattle.pnm_samples.proofs.PixelLaws.{length-all_pixels, take-all_pixels}
+use Rattle.pnm_samples.proofs.PixelLaws.{take-all_pixels}
 use Rattle.pnm_samples.proofs.PixelRowsLaws.{length_of_rows}
 use Rattle.pnm_image.specs.declared.rows.RowVec.{RowVec}
-use Rattle.pnm_image.proofs.HeldRowLaws.{one_length}
+use Rattle.pnm_image.proofs.HeldRowLaws.{cut_both, length_of_bits}
 use Rattle.pnm_geometry_tools.specs.MadeRows.{HoldsRows}
 use Rattle.pnm_geometry_tools.proofs.EnlargeRowLaws.{columns_repeated}
 use Rattle.pnm_geometry_tools.proofs.EnlargedRowsLaws.{repeated_cut}
@@ -23,22 +23,6 @@ holds_as count each many long rows same held counts lengths are h =
     (subst (λ (n : ℕ). HoldsRows count n same held) lengths (subst (λ (l : List (List ℕ)). HoldsRows count each l held) are h))
 
 -- ---- rows behind others
-
--- samples behind others, cut into rows
-pub cut_both : (count more each : ℕ) (held rest : List ℕ) → length held ≡ count * each
-    → cut_rows (count + more) each (held ++ rest) ≡ cut_rows count each held ++ cut_rows more each rest
-cut_both zero more each held rest long =
-    let none : held ≡ [] = nil_from_length held (long ∙ zero-mul each) in
-    let same : zero + more ≡ more = omega arith in
-    ap (λ (n : ℕ). cut_rows n each (held ++ rest)) same ∙ ap (λ (l : List ℕ). cut_rows more each (l ++ rest)) none
-cut_both (suc count) more each held rest long =
-    let next : suc count + more ≡ suc (count + more) = omega arith in
-    let total : length held ≡ each + count * each = long ∙ omega (arith, suc-mul count each) in
-    let first : take each (held ++ rest) ≡ take each held = take-append-le each held rest (omega (arith, total)) in
-    let left : drop each (held ++ rest) ≡ drop each held ++ rest = drop-append-le each held rest (omega (arith, total)) in
-    ap (λ (n : ℕ). cut_rows n each (held ++ rest)) next
-    ∙ ap₂ (λ (r : List ℕ) (l : List ℕ). r ∷ cut_rows (count + more) each l) first left
-    ∙ ap (λ (l : List (List ℕ)). take each held ∷ l) (cut_both count more each (drop each held) rest (omega (arith, length-drop each held, total)))
 
 -- as many samples as both
 length_of_both : (count more each : ℕ) (held rest : List ℕ) → length held ≡ count * each → length rest ≡ more * each
@@ -67,15 +51,6 @@ bits_behind count more each held rest both is h k = (
 
 -- ---- rows of pixels
 
--- each has so many
-pub length_of_bits : (count each : ℕ) (bytes : List ℕ) → length bytes ≡ count * bytes_for each → All (λ row. length row ≡ each) (rows_of_bytes count each bytes)
-length_of_bits zero each bytes size = All-nil (λ (row : List ℕ). length row ≡ each)
-length_of_bits (suc count) each bytes size =
-    let total : length bytes ≡ count * bytes_for each + bytes_for each = size ∙ suc-mul count (bytes_for each) in
-    All-cons (λ (row : List ℕ). length row ≡ each) (take each (all_pixels bytes)) (rows_of_bytes count each (drop (bytes_for each) bytes))
-    (length-take-le each (all_pixels bytes) (omega (arith, length-all_pixels bytes, total)))
-    (length_of_bits count each (drop (bytes_for each) bytes) (omega (arith, length-drop (bytes_for each) bytes, total)))
-
 -- they lie in the parts that their bytes are cut into
 pixels_of_parts : (count each : ℕ) (bytes : List ℕ)
     → rows_of_bytes count each bytes ≡ map (λ part. take each (all_pixels part)) (cut_rows count (bytes_for each) bytes)
@@ -85,21 +60,6 @@ pixels_of_parts (suc count) each bytes =
     let first : take each (all_pixels bytes) ≡ take each (all_pixels (take size bytes)) =
     sym (take-take each (8 * size) (all_pixels bytes) (omega arith)) ∙ ap (take each) (take-all_pixels size bytes) in
     ap₂ (λ (r : List ℕ) (l : List (List ℕ)). r ∷ l) first (pixels_of_parts count each (drop size bytes))
-
--- so many rows of so many pixels lie so in their bytes, whatever these were said to be
-pub parts_of_bits : (count each n e : ℕ) (bytes : List ℕ) (rows : List (List ℕ)) → rows ≡ rows_of_bytes n e bytes → length bytes ≡ n * bytes_for e
-    → (length rows ≡ count) × All (λ row. length row ≡ each) rows → (length bytes ≡ count * bytes_for each) × (rows_of_bytes count each bytes ≡ rows)
-parts_of_bits zero each n e bytes rows is long are =
-    let none : n ≡ 0 = omega (arith, ap length is, length_of_rows n e bytes, are.0) in (
-      long ∙ ap (λ (k : ℕ). k * bytes_for e) none ∙ zero-mul (bytes_for e) ∙ sym (zero-mul (bytes_for each)),
-      sym (is ∙ ap (λ (k : ℕ). rows_of_bytes k e bytes) none),
-    )
-parts_of_bits (suc count) each n e bytes rows is long are =
-    let many : n ≡ suc count = omega (arith, ap length is, length_of_rows n e bytes, are.0) in
-    let known : All (λ row. length row ≡ e) rows =
-    subst (λ (l : List (List ℕ)). All (λ (row : List ℕ). length row ≡ e) l) (sym is) (length_of_bits n e bytes long) in
-    let same : e ≡ each = one_length each e rows (omega (arith, are.0)) are.1 known in
-    (long ∙ ap₂ (λ (i j : ℕ). i * bytes_for j) many same, sym (is ∙ ap₂ (λ (i j : ℕ). rows_of_bytes i j bytes) many same))
 
 map_copies : (f : List ℕ → List ℕ) (n : ℕ) (row : List ℕ) → map f (replicate n row) ≡ replicate n (f row)
 map_copies f zero row = refl

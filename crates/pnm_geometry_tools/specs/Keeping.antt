@@ -11,7 +11,7 @@ use Rattle.pnm_image.specs.Heads.{IsWithinLimits, row_length}
 use Rattle.pnm_geometry_tools.specs.declared.enlarge.Enlarger.{Enlarger}
 use Rattle.pnm_tools.specs.declared.flip.FlipWay.{FlipWay}
 use Rattle.pnm_tools.specs.Flip.{transform_of, in_order, column_of}
-use Rattle.pnm_tools.specs.Answering.{rows_list}
+use Rattle.pnm_image.specs.Rows.{rows_list}
 use Rattle.pnm_geometry_tools.specs.Enlarging.{waiting_due, waiting_rows}
 use Rattle.pnm_geometry_tools.specs.SampleRows.{SuitsShape}
 use Rattle.pnm_geometry_tools.specs.Strips.{HaveSizes, ReachColumns, coming_column, kept_column, kept_count}

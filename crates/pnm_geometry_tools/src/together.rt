@@ -2,7 +2,7 @@
 
 ghost use Rattle.std.specs.Prelude.{◌≡◌, ◌≤◌, ◌+◌, ◌++◌, [], ℕ, IfOk, IfErr, IfNone, IsTrue, IsFalse, OnErr, reverse};
 ghost use Rattle.pnm_tools.specs.declared.fault.ToolFault.TheVariants.{Memory};
-ghost use Rattle.pnm_tools.specs.Answering.{rows_list};
+ghost use Rattle.pnm_image.specs.Rows.{rows_list};
 ghost use Rattle.pnm_geometry_tools.specs.MadeRows.{HasAdded, HasTaken, HoldsSame, HoldsWithin};
 
 use pnm_image::{RowSlice, RowVec, Rows, Samples};

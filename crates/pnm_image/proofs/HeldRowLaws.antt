@@ -1,13 +1,17 @@
 -- Rows as they are held.
-use Rattle.std.proofs.Common.{◌≡◌, ℕ, zero, suc, ◌-◌, ◌*◌, ◌+◌, ◌≤◌, ◌<◌, List, [], ◌∷◌, get_or, length, map, take, drop, All}
+use Rattle.std.proofs.Common.{◌≡◌, ℕ, zero, suc, ◌-◌, ◌*◌, ◌+◌, ◌≤◌, ◌<◌, List, [], ◌∷◌, ◌++◌, get_or, length, map, take, drop, All}
 use Rattle.std.proofs.Common.{refl, sym, ap, ap₂, subst, ◌∙◌, arith, zero-mul, suc-mul, mul-le-mul_right, inl, inr}
 use Rattle.std.specs.List.{concat}
-use Rattle.std.proofs.lemmas.List.{drop_at, drop-drop, get_or_default, length-append, length-drop, length-take-le, nil_from_length}
-use Rattle.std.proofs.lemmas.List.{take_at, take_all, take-take, drop-take}
+use Rattle.std.proofs.lemmas.List.{drop_at, drop-append-le, drop-drop, get_or_default, length-append, length-drop, length-take-le, nil_from_length}
+use Rattle.std.proofs.lemmas.List.{take_at, take_all, take-append-le, take-take, drop-take}
 use Rattle.std.proofs.lemmas.Bool.{cases_lt}
-use Rattle.std.proofs.lemmas.List.Elements.{All-drop, All-from_recursion, All-head, All-tail, All-take}
+use Rattle.std.proofs.lemmas.List.Elements.{All-cons, All-drop, All-from_recursion, All-head, All-nil, All-tail, All-take}
 use Rattle.pnm_samples.proofs.CutLaws.{length-cut_rows}
+use Rattle.pnm_samples.proofs.PixelLaws.{length-all_pixels}
+use Rattle.pnm_samples.proofs.PixelRowsLaws.{length_of_rows}
 use Rattle.pnm_samples.specs.Cuts.{cut_rows}
+use Rattle.pnm_samples.specs.PixelRows.{bytes_for, rows_of_bytes}
+use Rattle.pnm_samples.specs.Pixels.{all_pixels}
 use Rattle.pnm_image.specs.declared.rows.RowVec.{RowVec}
 use Rattle.pnm_image.specs.declared.rows.RowVec.TheVariants.{Bits, Bytes, Words}
 use Rattle.pnm_image.specs.HeldRows.{AreRows, AreRowsWithin, row_lists}
@@ -130,6 +134,50 @@ whole_rows each (row ∷ rows) long =
 -- what holds of all rows holds of some of them
 pub all_of_part : (P : List ℕ → Type 0) (top many : ℕ) (rows part : List (List ℕ)) → part ≡ take many (drop top rows) → All P rows → All P part
 all_of_part P top many rows part is all = subst (All P) (sym is) (All-take P many (drop top rows) (All-drop P top rows all))
+
+-- ---- rows behind others
+
+-- samples behind others, cut into rows
+pub cut_both : (count more each : ℕ) (held rest : List ℕ) → length held ≡ count * each
+    → cut_rows (count + more) each (held ++ rest) ≡ cut_rows count each held ++ cut_rows more each rest
+cut_both zero more each held rest long =
+    let none : held ≡ [] = nil_from_length held (long ∙ zero-mul each) in
+    let same : zero + more ≡ more = omega arith in
+    ap (λ (n : ℕ). cut_rows n each (held ++ rest)) same ∙ ap (λ (l : List ℕ). cut_rows more each (l ++ rest)) none
+cut_both (suc count) more each held rest long =
+    let next : suc count + more ≡ suc (count + more) = omega arith in
+    let total : length held ≡ each + count * each = long ∙ omega (arith, suc-mul count each) in
+    let first : take each (held ++ rest) ≡ take each held = take-append-le each held rest (omega (arith, total)) in
+    let left : drop each (held ++ rest) ≡ drop each held ++ rest = drop-append-le each held rest (omega (arith, total)) in
+    ap (λ (n : ℕ). cut_rows n each (held ++ rest)) next
+    ∙ ap₂ (λ (r : List ℕ) (l : List ℕ). r ∷ cut_rows (count + more) each l) first left
+    ∙ ap (λ (l : List (List ℕ)). take each held ∷ l) (cut_both count more each (drop each held) rest (omega (arith, length-drop each held, total)))
+
+-- ---- rows of pixels
+
+-- rows of pixels that bytes hold, each of which has so many
+pub length_of_bits : (count each : ℕ) (bytes : List ℕ) → length bytes ≡ count * bytes_for each → All (λ row. length row ≡ each) (rows_of_bytes count each bytes)
+length_of_bits zero each bytes size = All-nil (λ (row : List ℕ). length row ≡ each)
+length_of_bits (suc count) each bytes size =
+    let total : length bytes ≡ count * bytes_for each + bytes_for each = size ∙ suc-mul count (bytes_for each) in
+    All-cons (λ (row : List ℕ). length row ≡ each) (take each (all_pixels bytes)) (rows_of_bytes count each (drop (bytes_for each) bytes))
+    (length-take-le each (all_pixels bytes) (omega (arith, length-all_pixels bytes, total)))
+    (length_of_bits count each (drop (bytes_for each) bytes) (omega (arith, length-drop (bytes_for each) bytes, total)))
+
+-- so many rows of so many pixels lie so in their bytes, whatever these were said to be
+pub parts_of_bits : (count each n e : ℕ) (bytes : List ℕ) (rows : List (List ℕ)) → rows ≡ rows_of_bytes n e bytes → length bytes ≡ n * bytes_for e
+    → (length rows ≡ count) × All (λ row. length row ≡ each) rows → (length bytes ≡ count * bytes_for each) × (rows_of_bytes count each bytes ≡ rows)
+parts_of_bits zero each n e bytes rows is long are =
+    let none : n ≡ 0 = omega (arith, ap length is, length_of_rows n e bytes, are.0) in (
+      long ∙ ap (λ (k : ℕ). k * bytes_for e) none ∙ zero-mul (bytes_for e) ∙ sym (zero-mul (bytes_for each)),
+      sym (is ∙ ap (λ (k : ℕ). rows_of_bytes k e bytes) none),
+    )
+parts_of_bits (suc count) each n e bytes rows is long are =
+    let many : n ≡ suc count = omega (arith, ap length is, length_of_rows n e bytes, are.0) in
+    let known : All (λ row. length row ≡ e) rows =
+    subst (λ (l : List (List ℕ)). All (λ (row : List ℕ). length row ≡ e) l) (sym is) (length_of_bits n e bytes long) in
+    let same : e ≡ each = one_length each e rows (omega (arith, are.0)) are.1 known in
+    (long ∙ ap₂ (λ (i j : ℕ). i * bytes_for j) many same, sym (is ∙ ap₂ (λ (i j : ℕ). rows_of_bytes i j bytes) many same))
 
 -- ---- rows as words
 

@@ -1,3 +1,4 @@
+pub mod CopyLaws
 pub mod Heads
 pub mod HeldRowLaws
 pub mod Lists

@@ -1,6 +1,7 @@
 -- Lists that are repeated.
-use Rattle.std.proofs.Common.{◌≡◌, ◌∙◌, ℕ, zero, suc, ◌+◌, ◌-◌, ◌≤◌, List, [], ◌∷◌, ◌++◌, get_or, length, refl, ap, sym, arith}
+use Rattle.std.proofs.Common.{◌≡◌, ◌∙◌, ℕ, zero, suc, ◌+◌, ◌-◌, ◌≤◌, List, [], ◌∷◌, ◌++◌, ◌*◌, All, get_or, length, refl, ap, sym, subst, arith}
 use Rattle.std.proofs.lemmas.List.{append-nil, append_assoc, length-append, map-append}
+use Rattle.std.proofs.lemmas.List.Elements.{All-append, All-nil}
 use Rattle.pnm_image.specs.declared.message.Message.TheVariants.{Row}
 use Rattle.pnm_image.specs.Repeats.{repeated}
 use Rattle.pnm_image.specs.Rows.{row_messages}
@@ -38,6 +39,26 @@ repeated_parts zero n l = let same : zero + n ≡ n = omega arith in ap (λ (k :
 repeated_parts (suc m) n l =
     let more : suc m + n ≡ suc (m + n) = omega arith in
     ap (λ (k : ℕ). repeated k l) more ∙ ap (λ k. l ++ k) (repeated_parts m n l) ∙ sym (append_assoc l (repeated m l) (repeated n l))
+
+-- each time as many elements
+pub length_of_repeated : {A : Type 0} → (n : ℕ) (l : List A) → length (repeated n l) ≡ length l * n
+length_of_repeated zero l = omega arith
+length_of_repeated (suc n) l = omega (arith, length-append l (repeated n l), length_of_repeated n l)
+
+-- what holds of all elements holds of all of them each time
+pub all_of_repeated : {A : Type 0} (P : A → Type 0) (n : ℕ) (l : List A) → All P l → All P (repeated n l)
+all_of_repeated P zero l all = All-nil P
+all_of_repeated P (suc n) l all = All-append P l (repeated n l) all (all_of_repeated P n l all)
+
+-- some copies, and the others
+pub copies_first : {A : Type 0} (n times : ℕ) (l all copies : List A) → all ≡ repeated times l → copies ≡ repeated n l → n ≤ times
+    → all ≡ copies ++ repeated (times - n) l
+copies_first {A = A} n times l all copies is some within =
+    let parts : times ≡ n + (times - n) = omega (arith, within) in
+    is ∙ ap (λ (k : ℕ). repeated k l) parts ∙ repeated_parts n (times - n) l ∙ ap (λ (m : List A). m ++ repeated (times - n) l) (sym some)
+
+pub some_copies : {A : Type 0} (n : ℕ) (l copies : List A) → copies ≡ repeated n l → 1 ≤ n → 1 ≤ length l → 1 ≤ length copies
+some_copies {A = A} n l copies is times some = subst (λ (m : List A). 1 ≤ length m) (sym is) (repeated_some n l times some)
 
 -- ---- rows that come several times, as messages
 

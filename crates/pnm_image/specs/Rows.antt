@@ -1,8 +1,13 @@
 -- Rows that are handed over together.
-use Rattle.std.specs.Prelude.{ℕ, List, map}
+use Rattle.std.specs.Prelude.{ℕ, List, [], map, Option, Some, None}
 use Rattle.pnm_image.specs.declared.message.Message.{Message}
 use Rattle.pnm_image.specs.declared.message.Message.TheVariants.{Row}
 
 -- rows as messages
 abbrev pub row_messages : List (List ℕ) → List Message
 row_messages rows = map Row rows
+
+-- rows that are handed over together, or none
+abbrev pub rows_list : Option (List (List ℕ)) → List (List ℕ)
+rows_list None = []
+rows_list (Some rows) = rows

@@ -6,6 +6,7 @@
 #![tactic(auto)]
 
 pub mod characters;
+mod copies;
 mod device;
 mod format;
 mod head;

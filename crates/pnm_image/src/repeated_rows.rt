@@ -1,10 +1,13 @@
 //! Rows that repeat, held once.
 
-ghost use Rattle.std.specs.Prelude.{◌≡◌, ◌≤◌, ◌↔◌, [], ◌∷◌, IsTrue, IfOk, IfErr, length};
+ghost use Rattle.std.specs.Prelude.{◌≡◌, ◌≤◌, ◌↔◌, [], ◌∷◌, ◌++◌, IsTrue, IfOk, IfErr, length};
 ghost use Rattle.pnm_image.specs.Repeats.{repeated};
+ghost use Rattle.pnm_image.specs.Rows.{rows_list};
 
+use crate::copies::{count_together, repeat_rows};
 use crate::rows::Rows;
 use pnm_samples::Samples;
+use std::alloc::{AllocError, Global};
 use std::marker::Model;
 
 /// Rows of one image that repeat: the whole group comes a number of times, one group after another. The group is held
@@ -103,5 +106,27 @@ impl RepeatedRows {
         ensures some { 1 ≤ result.1 }
     {
         (self.rows, self.times)
+    }
+
+    /// The next copies, as many as take 65,536 bytes at most, or one, and the rows that come after them, if some do. A
+    /// single copy that is left is the rows as they are held.
+    ///
+    /// # Errors
+    ///
+    /// If there is no memory for the copies.
+    pub fn next_copies(self, alloc: Global) -> Result<(Rows, Option<RepeatedRows>), AllocError>
+        ensures copies { IfOk result (λ parts. self ≡ parts.0 ++ rows_list parts.1) }
+        ensures some { IfOk result (λ parts. 1 ≤ length parts.0) }
+    {
+        let (rows, times) = self.into_parts();
+        let next = count_together(&rows).min(times);
+        if times == 1 {
+            return Ok((rows, None));
+        }
+        let copies = repeat_rows(alloc, &rows, next)?;
+        if next == times {
+            return Ok((copies, None));
+        }
+        Ok((copies, Some(RepeatedRows::new(rows, times - next))))
     }
 }

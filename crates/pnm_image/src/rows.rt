@@ -222,17 +222,6 @@ impl Rows {
         copy_of(alloc, self.row_slice(at))
     }
 
-    /// A copy of the rows.
-    ///
-    /// # Errors
-    ///
-    /// If there is no memory for it.
-    pub fn copy(&self, alloc: Global) -> Result<Rows, AllocError>
-        ensures { IfOk result (λ copy. copy ≡ self.now) }
-    {
-        self.part(alloc, 0, self.count())
-    }
-
     /// A copy of `count` rows, from row `top` on.
     ///
     /// # Errors

@@ -1,6 +1,6 @@
 //! A row tool at work: at most one row of the result for each row.
 
-ghost use Rattle.pnm_tools.specs.Answering.{rows_list};
+ghost use Rattle.pnm_image.specs.Rows.{rows_list};
 ghost use Rattle.pnm_row_tools.specs.RowKeeping.{IsReadyForRows};
 
 use crate::row_tool::RowTool;

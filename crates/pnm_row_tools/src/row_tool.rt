@@ -6,7 +6,8 @@ ghost use Rattle.pnm_image.specs.Places.{IsRowOf};
 ghost use Rattle.pnm_image.specs.declared.shape.Shape.{Shape as ShapeValue};
 ghost use Rattle.pnm_tools.specs.declared.fault.ToolFault.TheVariants.{Memory};
 ghost use Rattle.pnm_tools.specs.declared.tool.Tool.{Tool as ToolValue};
-ghost use Rattle.pnm_tools.specs.Answering.{rows_answer, rows_list};
+ghost use Rattle.pnm_image.specs.Rows.{rows_list};
+ghost use Rattle.pnm_tools.specs.Answering.{rows_answer};
 ghost use Rattle.pnm_tools.specs.Tools.{IsLawfulTool, TakesHead, result_head, end_answer};
 
 use pnm_image::{Head, Rows, Shape};

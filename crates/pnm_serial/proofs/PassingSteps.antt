@@ -1,8 +1,8 @@
 -- What passes through the stages.
-use Rattle.std.proofs.Common.{◌≡◌, ◌<◌, ◌≤◌, ◌+◌, ◌-◌, ℕ, Bool, true, List, [], ◌∷◌, ◌++◌, Option, sym, ap, subst, ◌∙◌, append_assoc, append-nil}
+use Rattle.std.proofs.Common.{◌≡◌, ◌<◌, ◌≤◌, ◌+◌, ◌-◌, ℕ, Bool, true, List, [], ◌∷◌, ◌++◌, Option, refl, sym, ap, subst, ◌∙◌, append_assoc, append-nil}
 use Rattle.std.proofs.Common.{length, take, drop, get_or, arith}
 use Rattle.std.specs.Prelude.{◌==◌, slice_set}
-use Rattle.std.proofs.lemmas.List.{take_all, drop_all, length-drop}
+use Rattle.std.proofs.lemmas.List.{take_all, drop_all, length-drop, map-append}
 use Rattle.std.proofs.lemmas.Bool.Decides.{nat_tests}
 use borrow.Rule.Slice.PartMut.{mid_of, put_mid}
 use Rattle.pnm_image.specs.declared.format.Form.{Form}
@@ -10,9 +10,7 @@ use Rattle.pnm_image.specs.declared.message.Message.{Message}
 use Rattle.pnm_image.specs.declared.message.Message.TheVariants.{Row}
 use Rattle.pnm_image.specs.declared.message.Ending.TheVariants.{More}
 use Rattle.pnm_image.specs.Messages.{EndsBy}
-use Rattle.pnm_image.specs.Repeats.{repeated}
 use Rattle.pnm_image.specs.Rows.{row_messages}
-use Rattle.pnm_image.proofs.RepeatLaws.{messages_from, messages_once_more, repeated_some}
 use Rattle.pnm_tools.specs.declared.fault.ToolFault.{ToolFault}
 use Rattle.pnm_tools.specs.declared.tool.Tool.{Tool}
 use Rattle.pnm_tools.specs.declared.fused_filter.FusedFilter.{FusedFilter}
@@ -223,41 +221,41 @@ feeds_row at all_given stopped held failures old now new index rows row before d
     subst (λ (l : List Message). FeedsThrough at all_given stopped held failures old l new before after) (sym (one_row_more index rows row below parts))
     (feeds_more at all_given stopped held failures old now new (row_messages (take index rows)) (Row row ∷ []) before d after was then)
 
--- the first stage refuses what comes next
-abbrev pub Drops : {F : Type 0} → (F → Tool → List Message → List Message → Type 0) → (F → Bool) → (F → Option ToolFault) → FusedFilter F → FusedFilter F
-    → Type 0
-Drops at all_given stopped was next = (tool : Tool) (l g rest : List Message) → FilterAt at all_given stopped was tool l g → EndsBy More l
-    → FilterAt at all_given stopped next tool (l ++ rest) g
+-- the first stage drops the rows that are left, if some are
+abbrev pub DropsRows : {F : Type 0} → (F → Tool → List Message → List Message → Type 0) → (F → Bool) → (F → Option ToolFault) → FusedFilter F
+    → FusedFilter F → List (List ℕ) → Type 0
+DropsRows at all_given stopped was next left = (tool : Tool) (l g : List Message) → FilterAt at all_given stopped was tool l g
+    → (1 ≤ length left → EndsBy More l) → FilterAt at all_given stopped next tool (l ++ row_messages left) g
 
 drops_first : {F : Type 0} (at : F → Tool → List Message → List Message → Type 0) (all_given : F → Bool) (stopped : F → Option ToolFault)
-    (stages : List (FusedFilter F)) (was other next : FusedFilter F) (tools : List Tool) (l g rest : List Message)
-    → was ≡ get_or stages 0 other → 0 < length stages → Drops at all_given stopped was next → EndsBy More l
-    → FiltersAt at all_given stopped stages tools l g → FiltersAt at all_given stopped (slice_set stages 0 next) tools (l ++ rest) g
-drops_first at all_given stopped [] was other next tools l g rest first some drops more is = absurd (omega (arith, some))
-drops_first at all_given stopped (s ∷ ss) was other next [] l g rest first some drops more is = absurd is
-drops_first at all_given stopped (s ∷ ss) was other next (tool ∷ tools) l g rest first some drops more is = (
+    (stages : List (FusedFilter F)) (was other next : FusedFilter F) (tools : List Tool) (l g : List Message) (left : List (List ℕ))
+    → was ≡ get_or stages 0 other → 0 < length stages → DropsRows at all_given stopped was next left → (1 ≤ length left → EndsBy More l)
+    → FiltersAt at all_given stopped stages tools l g → FiltersAt at all_given stopped (slice_set stages 0 next) tools (l ++ row_messages left) g
+drops_first at all_given stopped [] was other next tools l g left first some drops more is = absurd (omega (arith, some))
+drops_first at all_given stopped (s ∷ ss) was other next [] l g left first some drops more is = absurd is
+drops_first at all_given stopped (s ∷ ss) was other next (tool ∷ tools) l g left first some drops more is = (
   is.0,
-  drops tool l is.0 rest (subst (λ (x : FusedFilter _). FilterAt at all_given stopped x tool l is.0) (sym first) is.1) more,
+  drops tool l is.0 (subst (λ (x : FusedFilter _). FilterAt at all_given stopped x tool l is.0) (sym first) is.1) more,
   is.2,
 )
 
 -- the rows behind were dropped, since the first stage refused
 drops_behind : {F W : Type 0} (at : F → Tool → List Message → List Message → Type 0) (all_given : F → Bool) (stopped : F → Option ToolFault)
     (held : W → Option (List ℕ)) (failures : W → ℕ) (old now : List (FusedFilter F)) (was other next : FusedFilter F) (front behind : List (List ℕ))
-    (before after : FusedSink W) → was ≡ get_or now 0 other → 0 < length now → 0 < length behind
-    → FeedsThrough at all_given stopped held failures old (row_messages front) now before after → Drops at all_given stopped was next
+    (before after : FusedSink W) → was ≡ get_or now 0 other → 0 < length now
+    → FeedsThrough at all_given stopped held failures old (row_messages front) now before after → DropsRows at all_given stopped was next behind
     → FeedsThrough at all_given stopped held failures old (row_messages front ++ row_messages behind) (slice_set now 0 next) before after
-drops_behind at all_given stopped held failures old now was other next front behind before after first some below passes drops =
+drops_behind at all_given stopped held failures old now was other next front behind before after first some passes drops =
     let here = row_messages front in
     let rest = row_messages behind in
     record {
       more = passes.more;
       stages = λ tools l g lawful sound is.
           let sound_here : AreSound ((l ++ here) ++ rest) = subst AreSound (sym (append_assoc l here rest)) sound in
-          let goes = goes_on_by_rows (l ++ here) behind below sound_here in
+          let goes = λ (below : 1 ≤ length behind). goes_on_by_rows (l ++ here) behind (omega (arith, below)) sound_here in
           let now_at = passes.stages tools l g lawful (sound_prefix (l ++ here) rest sound_here) is in
           subst (λ (x : List Message). FiltersAt at all_given stopped (slice_set now 0 next) tools x (g ++ passes.more)) (append_assoc l here rest)
-          (drops_first at all_given stopped now was other next tools (l ++ here) (g ++ passes.more) rest first some drops goes now_at);
+          (drops_first at all_given stopped now was other next tools (l ++ here) (g ++ passes.more) behind first some drops goes now_at);
       taken = passes.taken;
     }
 
@@ -265,35 +263,44 @@ pub drops_rows : {F W : Type 0} (at : F → Tool → List Message → List Messa
     (held : W → Option (List ℕ)) (failures : W → ℕ) (old now : List (FusedFilter F)) (was other next : FusedFilter F) (index : ℕ) (rows : List (List ℕ))
     (before after : FusedSink W) → was ≡ get_or now 0 other → 0 < length now → index < length rows
     → FeedsThrough at all_given stopped held failures old (row_messages (take index rows)) now before after
-    → Drops at all_given stopped was next
+    → ((tool : Tool) (l g rest : List Message) → FilterAt at all_given stopped was tool l g → EndsBy More l
+    → FilterAt at all_given stopped next tool (l ++ rest) g)
     → FeedsThrough at all_given stopped held failures old (row_messages rows) (slice_set now 0 next) before after
 drops_rows at all_given stopped held failures old now was other next index rows before after first some below passes drops =
+    let left = drop index rows in
+    let are_left : 1 ≤ length left = omega (arith, below, length-drop index rows) in
     subst (λ (l : List Message). FeedsThrough at all_given stopped held failures old l (slice_set now 0 next) before after) (sym (rows_from index rows))
-    (drops_behind at all_given stopped held failures old now was other next (take index rows) (drop index rows) before after first some
-    (omega (arith, below, length-drop index rows)) passes drops)
+    (drops_behind at all_given stopped held failures old now was other next (take index rows) left before after first some passes
+    (λ tool l g is ends. drops tool l g (row_messages left) is (ends are_left)))
 
--- ---- rows that come several times
+-- ---- copies of rows
 
--- they passed once more
-pub feeds_time : {F W : Type 0} (at : F → Tool → List Message → List Message → Type 0) (all_given : F → Bool) (stopped : F → Option ToolFault)
-    (held : W → Option (List ℕ)) (failures : W → ℕ) (old now new : List (FusedFilter F)) (n : ℕ) (rows copy : List (List ℕ))
-    (before d after : FusedSink W) → copy ≡ rows → FeedsThrough at all_given stopped held failures old (row_messages (repeated n rows)) now before d
-    → FeedsThrough at all_given stopped held failures now (row_messages copy) new d after
-    → FeedsThrough at all_given stopped held failures old (row_messages (repeated (n + 1) rows)) new before after
-feeds_time at all_given stopped held failures old now new n rows copy before d after same was then =
-    subst (λ (l : List Message). FeedsThrough at all_given stopped held failures old l new before after) (sym (messages_once_more n rows))
-    (feeds_more at all_given stopped held failures old now new (row_messages (repeated n rows)) (row_messages rows) before d after was
-    (subst (λ (l : List (List ℕ)). FeedsThrough at all_given stopped held failures now (row_messages l) new d after) same then))
+-- the first stage has stayed as it was
+stays_first : {F : Type 0} (now : List (FusedFilter F)) (was other next : FusedFilter F) → was ≡ get_or now 0 other → next ≡ was
+    → slice_set now 0 next ≡ now
+stays_first [] was other next first same = refl
+stays_first (s ∷ ss) was other next first same = ap (λ (x : FusedFilter _). x ∷ ss) (same ∙ first)
 
--- they were dropped the other times, since the first stage refused
-pub drops_times : {F W : Type 0} (at : F → Tool → List Message → List Message → Type 0) (all_given : F → Bool) (stopped : F → Option ToolFault)
-    (held : W → Option (List ℕ)) (failures : W → ℕ) (old now : List (FusedFilter F)) (was other next : FusedFilter F) (n times : ℕ)
-    (rows all : List (List ℕ)) (before after : FusedSink W) → was ≡ get_or now 0 other → 0 < length now → n < times → 1 ≤ length rows
-    → all ≡ repeated times rows → FeedsThrough at all_given stopped held failures old (row_messages (repeated n rows)) now before after
-    → Drops at all_given stopped was next → FeedsThrough at all_given stopped held failures old (row_messages all) (slice_set now 0 next) before after
-drops_times at all_given stopped held failures old now was other next n times rows all before after first some below some_rows is passes drops =
-    let within : n ≤ times = omega (arith, below) in
+-- copies have passed after those before them
+pub feeds_copies : {F W : Type 0} (at : F → Tool → List Message → List Message → Type 0) (all_given : F → Bool) (stopped : F → Option ToolFault)
+    (held : W → Option (List ℕ)) (failures : W → ℕ) (old now new : List (FusedFilter F)) (was other next : FusedFilter F) (front copies : List (List ℕ))
+    (before d after : FusedSink W) → was ≡ get_or now 0 other → next ≡ was
+    → FeedsThrough at all_given stopped held failures old (row_messages front) now before d
+    → FeedsThrough at all_given stopped held failures (slice_set now 0 next) (row_messages copies) new d after
+    → FeedsThrough at all_given stopped held failures old (row_messages (front ++ copies)) new before after
+feeds_copies at all_given stopped held failures old now new was other next front copies before d after first same passed then =
+    subst (λ (l : List Message). FeedsThrough at all_given stopped held failures old l new before after) (sym (map-append Row front copies))
+    (feeds_more at all_given stopped held failures old now new (row_messages front) (row_messages copies) before d after passed
+    (subst (λ (stages : List (FusedFilter _)). FeedsThrough at all_given stopped held failures stages (row_messages copies) new d after)
+    (stays_first now was other next first same) then))
+
+-- there were no more, or they were dropped, since the first stage refused
+pub drops_copies : {F W : Type 0} (at : F → Tool → List Message → List Message → Type 0) (all_given : F → Bool) (stopped : F → Option ToolFault)
+    (held : W → Option (List ℕ)) (failures : W → ℕ) (old now : List (FusedFilter F)) (was other next : FusedFilter F) (rows front left : List (List ℕ))
+    (before after : FusedSink W) → was ≡ get_or now 0 other → 0 < length now → rows ≡ front ++ left
+    → FeedsThrough at all_given stopped held failures old (row_messages front) now before after → DropsRows at all_given stopped was next left
+    → FeedsThrough at all_given stopped held failures old (row_messages rows) (slice_set now 0 next) before after
+drops_copies at all_given stopped held failures old now was other next rows front left before after first some is passes drops =
     subst (λ (l : List Message). FeedsThrough at all_given stopped held failures old l (slice_set now 0 next) before after)
-    (sym (ap row_messages is ∙ messages_from n times rows within))
-    (drops_behind at all_given stopped held failures old now was other next (repeated n rows) (repeated (times - n) rows) before after first some
-    (omega (arith, repeated_some (times - n) rows (omega (arith, below)) some_rows)) passes drops)
+    (sym (ap row_messages is ∙ map-append Row front left))
+    (drops_behind at all_given stopped held failures old now was other next front left before after first some passes drops)

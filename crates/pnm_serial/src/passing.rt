@@ -1,6 +1,6 @@
 //! Packets, passed through the tools of a chain in one thread.
 
-ghost use Rattle.std.specs.Prelude.{◌≡◌, ◌∷◌, ◌++◌, [], ◌<◌, length, IfSome};
+ghost use Rattle.std.specs.Prelude.{◌≡◌, ◌∷◌, ◌++◌, [], ◌<◌, length};
 ghost use Rattle.pnm_image.specs.Packets.{messages_in};
 ghost use Rattle.pnm_image.specs.Rows.{row_messages};
 ghost use Rattle.pnm_image.specs.declared.message.Message.TheVariants.{Begin, ImageEnd};
@@ -108,45 +108,30 @@ fn feed_repeated<F: Filter + Drop, W: BytesOut + Drop>(
 {
     match rows.into_once() {
         Ok(rows) => feed_rows(alloc, stages, rows, fused_sink),
-        Err(rows) => feed_copies(alloc, stages, &rows, fused_sink),
+        Err(rows) => feed_copies(alloc, stages, rows, fused_sink),
     }
 }
 
-/// Feeds the first filter a copy of the rows each time that they come, and passes what it gives through the others. The
-/// copies behind a refused one aren't made. If there is no memory for a copy, the filter refuses by `Memory`.
+/// Feeds the first filter copies of the rows, as often as they come, several together, and passes what it gives through
+/// the others. The copies behind a refused one aren't made. If there is no memory for copies, the filter refuses by
+/// `Memory`.
 #[inline(never)]
 #[cycle(through)]
 fn feed_copies<F: Filter + Drop, W: BytesOut + Drop>(
     alloc: Global,
     stages: &mut [FusedFilter<F>],
-    rows: &RepeatedRows,
+    rows: RepeatedRows,
     fused_sink: &mut FusedSink<W>,
 )
     requires some { 0 < length stages.old }
     ensures fed { FeedsThrough F.at F.all_given F.stopped W.held W.failures
-        stages.old (row_messages rows.now) stages.new fused_sink.old fused_sink.new }
+        stages.old (row_messages rows) stages.new fused_sink.old fused_sink.new }
     ensures same_device { W.same (output_of fused_sink.old) (output_of fused_sink.new) }
 {
-    let (held, times) = rows.parts();
-    prove!(held.count() > 0);
-    for _time in 0..times {
-        let Some(copy) = copy_for(alloc, &stages[0], held) else {
-            // A filter that has refused keeps its fault.
-            stages[0].refuse_for_memory();
-            return;
-        };
-        feed_rows(alloc, stages, copy, fused_sink);
+    let mut left = Some(rows);
+    while let Some(copies) = stages[0].next_copies(alloc, &mut left) {
+        feed_rows(alloc, stages, copies, fused_sink);
     }
-}
-
-/// A copy of the rows, unless the filter has refused, or there is no memory for it.
-fn copy_for<F: Filter + Drop>(alloc: Global, filter: &FusedFilter<F>, rows: &Rows) -> Option<Rows>
-    ensures { IfSome result (λ copy. copy ≡ rows.now) }
-{
-    if filter.fault().is_some() {
-        return None;
-    }
-    rows.copy(alloc).ok()
 }
 
 /// Feeds the first filter a copy of each row by itself, and passes what it gives through the others. The copies behind

@@ -1,5 +1,5 @@
 -- What a tool was passed, and what was sent of its answers: step by step.
-use Rattle.std.proofs.Common.{◌≡◌, ◌<◌, ◌≤◌, ◌+◌, ◌-◌, ℕ, Bool, true, false, List, [], ◌∷◌, ◌++◌, Option, None, length, take, drop}
+use Rattle.std.proofs.Common.{◌≡◌, ◌<◌, ◌≤◌, ◌+◌, ℕ, Bool, true, false, List, [], ◌∷◌, ◌++◌, Option, length, take, drop}
 use Rattle.std.proofs.Common.{refl, sym, ap, subst, ◌∙◌, arith}
 use Rattle.std.proofs.Common.{append_assoc, append-nil}
 use Rattle.std.proofs.lemmas.List.{take_at, length-take, length-append, take-append-drop, map-append}
@@ -7,19 +7,16 @@ use Rattle.pnm_image.specs.declared.message.Message.{Message}
 use Rattle.pnm_image.specs.declared.message.Message.TheVariants.{Row}
 use Rattle.pnm_image.specs.declared.message.Ending.TheVariants.{More}
 use Rattle.pnm_image.specs.Messages.{EndsBy}
-use Rattle.pnm_image.specs.Repeats.{repeated}
 use Rattle.pnm_image.specs.Rows.{row_messages}
-use Rattle.pnm_image.proofs.RepeatLaws.{messages_from, messages_once_more}
 use Rattle.pnm_tools.specs.declared.fault.ToolFault.{ToolFault}
 use Rattle.pnm_tools.specs.declared.tool.Tool.{Tool}
 use Rattle.pnm_tools.specs.declared.fused_filter.FusedFilter.{FusedFilter}
-use Rattle.pnm_tools.specs.declared.fused_filter.FusedFilter.TheVariants.{AtWork, Refused}
-use Rattle.pnm_tools.specs.FusedFilters.{FilterAt, FilterBusy, refusal_in}
+use Rattle.pnm_tools.specs.FusedFilters.{FilterAt, FilterBusy}
 use Rattle.pnm_tools.proofs.InFullLaws.{ends_after}
 use Rattle.pnm_stages.specs.StageParts.{HasAnsweredPart, HasPassed, HasSentAnswers}
 use Rattle.pnm_stages.proofs.PacketLaws.{rows_end_nothing}
 use Rattle.pnm_stages.proofs.RingSteps.{ends_nothing}
-use Rattle.pnm_stages.proofs.StagedSteps.{drops_more, part_at}
+use Rattle.pnm_stages.proofs.StagedSteps.{part_at}
 
 -- a part that was answered, where more was passed
 pub part_of_more : (tool : Tool) (l g more : List Message) → HasAnsweredPart tool l g → HasAnsweredPart tool (l ++ more) g
@@ -92,14 +89,14 @@ loses_rest at all_given stopped old new passed rest s s1 has = record {
 pub drops_rest : {F : Type 0} (at : F → Tool → List Message → List Message → Type 0) (all_given : F → Bool) (stopped : F
     → Option ToolFault) (old now new : FusedFilter F)
     (passed rest s s1 : List Message) → EndsBy More passed → HasPassed at all_given stopped true old now passed s s1
-    → ((tool : Tool) (l g more : List Message) → FilterAt at all_given stopped now tool l g → EndsBy More l
-    → FilterAt at all_given stopped new tool (l ++ more) g)
+    → ((tool : Tool) (l g : List Message) → FilterAt at all_given stopped now tool l g → EndsBy More l
+    → FilterAt at all_given stopped new tool (l ++ rest) g)
     → HasPassed at all_given stopped true old new (passed ++ rest) s s1
 drops_rest at all_given stopped old now new passed rest s s1 goes has drops =
     let full : (tool : Tool) (l g : List Message) → EndsBy More l → FilterAt at all_given stopped old tool l g
     → FilterAt at all_given stopped new tool (l ++ (passed ++ rest)) (g ++ has.more) = λ tool l g ends idle.
     subst (λ (x : List Message). FilterAt at all_given stopped new tool x (g ++ has.more)) (append_assoc l passed rest)
-    (drops tool (l ++ passed) (g ++ has.more) rest (has.full refl tool l g ends idle) (ends_after More l passed (ends_nothing l ends) goes)) in
+    (drops tool (l ++ passed) (g ++ has.more) (has.full refl tool l g ends idle) (ends_after More l passed (ends_nothing l ends) goes)) in
     record {
       more = has.more;
       added = has.added;
@@ -151,45 +148,42 @@ pub drops_rows : {F : Type 0} (at : F → Tool → List Message → List Message
 drops_rows at all_given stopped old now new index rows s s1 has drops =
     subst (λ (l : List Message). HasPassed at all_given stopped true old new l s s1) (sym (rows_from index rows))
     (drops_rest at all_given stopped old now new (row_messages (take index rows)) (row_messages (drop index rows)) s s1
-    (rows_end_nothing (take index rows)) has drops)
+    (rows_end_nothing (take index rows)) has (λ tool l g is ends. drops tool l g (row_messages (drop index rows)) is ends))
 
--- ---- time by time
+-- ---- copies of rows
 
--- the rows were passed once more
-pub passes_time : {F : Type 0} (at : F → Tool → List Message → List Message → Type 0) (all_given : F → Bool) (stopped : F → Option ToolFault) (all : Bool)
-    (old now new : FusedFilter F) (n : ℕ) (rows copy : List (List ℕ)) (s s1 s2 : List Message) → copy ≡ rows
-    → HasPassed at all_given stopped true old now (row_messages (repeated n rows)) s s1
-    → HasPassed at all_given stopped all now new (row_messages copy) s1 s2
-    → HasPassed at all_given stopped all old new (row_messages (repeated (n + 1) rows)) s s2
-passes_time at all_given stopped all old now new n rows copy s s1 s2 same before after =
-    subst (λ (l : List Message). HasPassed at all_given stopped all old new l s s2) (sym (messages_once_more n rows))
-    (passes_more at all_given stopped all old now new (row_messages (repeated n rows)) (row_messages rows) s s1 s2 (rows_end_nothing (repeated n rows)) before
-    (subst (λ (l : List (List ℕ)). HasPassed at all_given stopped all now new (row_messages l) s1 s2) same after))
+-- those that were made are the next of them
+pub copies_on : (rows front rest copies left : List (List ℕ)) → rows ≡ front ++ rest → rest ≡ copies ++ left → rows ≡ (front ++ copies) ++ left
+copies_on rows front rest copies left is made = is ∙ ap (λ (l : List (List ℕ)). front ++ l) made ∙ sym (append_assoc front copies left)
 
--- they were lost the other times, since the other end is gone
-pub loses_times : {F : Type 0} (at : F → Tool → List Message → List Message → Type 0) (all_given : F → Bool) (stopped : F
-    → Option ToolFault) (old new : FusedFilter F) (n times : ℕ) (rows all : List (List ℕ)) (s s1 : List Message) → n ≤ times → all ≡ repeated times rows
-    → HasPassed at all_given stopped false old new (row_messages (repeated n rows)) s s1
-    → HasPassed at all_given stopped false old new (row_messages all) s s1
-loses_times at all_given stopped old new n times rows all s s1 within is has =
-    subst (λ (l : List Message). HasPassed at all_given stopped false old new l s s1) (sym (ap row_messages is ∙ messages_from n times rows within))
-    (loses_rest at all_given stopped old new (row_messages (repeated n rows)) (row_messages (repeated (times - n) rows)) s s1 has)
+-- copies were passed after those before them
+pub passes_copies : {F : Type 0} (at : F → Tool → List Message → List Message → Type 0) (all_given : F → Bool) (stopped : F → Option ToolFault) (all : Bool)
+    (old now same new : FusedFilter F) (front copies : List (List ℕ)) (s s1 s2 : List Message) → same ≡ now
+    → HasPassed at all_given stopped true old now (row_messages front) s s1
+    → HasPassed at all_given stopped all same new (row_messages copies) s1 s2
+    → HasPassed at all_given stopped all old new (row_messages (front ++ copies)) s s2
+passes_copies at all_given stopped all old now same new front copies s s1 s2 is before after =
+    subst (λ (l : List Message). HasPassed at all_given stopped all old new l s s2) (sym (map-append Row front copies))
+    (passes_more at all_given stopped all old now new (row_messages front) (row_messages copies) s s1 s2 (rows_end_nothing front) before
+    (subst (λ (f : FusedFilter _). HasPassed at all_given stopped all f new (row_messages copies) s1 s2) is after))
 
--- they were dropped the other times, since the tool refused
-pub drops_times : {F : Type 0} (at : F → Tool → List Message → List Message → Type 0) (all_given : F → Bool) (stopped : F
-    → Option ToolFault) (old now new : FusedFilter F) (n times : ℕ) (rows all : List (List ℕ)) (s s1 : List Message) → n ≤ times → all ≡ repeated times rows
-    → HasPassed at all_given stopped true old now (row_messages (repeated n rows)) s s1
-    → ((tool : Tool) (l g more : List Message) → FilterAt at all_given stopped now tool l g → EndsBy More l
-    → FilterAt at all_given stopped new tool (l ++ more) g)
-    → HasPassed at all_given stopped true old new (row_messages all) s s1
-drops_times at all_given stopped old now new n times rows all s s1 within is has drops =
-    subst (λ (l : List Message). HasPassed at all_given stopped true old new l s s1) (sym (ap row_messages is ∙ messages_from n times rows within))
-    (drops_rest at all_given stopped old now new (row_messages (repeated n rows)) (row_messages (repeated (times - n) rows)) s s1
-    (rows_end_nothing (repeated n rows)) has drops)
+-- the copies behind were lost, since the other end is gone
+pub loses_copies : {F : Type 0} (at : F → Tool → List Message → List Message → Type 0) (all_given : F → Bool) (stopped : F
+    → Option ToolFault) (old new : FusedFilter F) (rows front rest : List (List ℕ)) (s s1 : List Message) → rows ≡ front ++ rest
+    → HasPassed at all_given stopped false old new (row_messages front) s s1
+    → HasPassed at all_given stopped false old new (row_messages rows) s s1
+loses_copies at all_given stopped old new rows front rest s s1 is has =
+    subst (λ (l : List Message). HasPassed at all_given stopped false old new l s s1) (sym (ap row_messages is ∙ map-append Row front rest))
+    (loses_rest at all_given stopped old new (row_messages front) (row_messages rest) s s1 has)
 
--- a tool that has refused drops what comes
-pub refused_drops : {F : Type 0} (at : F → Tool → List Message → List Message → Type 0) (all_given : F → Bool) (stopped : F
-    → Option ToolFault) (stage : FusedFilter F) → (refusal_in stage ≡ None → ⊥) → (tool : Tool) (l g more : List Message)
-    → FilterAt at all_given stopped stage tool l g → EndsBy More l → FilterAt at all_given stopped stage tool (l ++ more) g
-refused_drops at all_given stopped (AtWork filter) has tool l g more h ends = absurd (has refl)
-refused_drops at all_given stopped (Refused fault) has tool l g more h ends = drops_more tool fault l g more h
+-- there were no more, or they were dropped, since the tool refused
+pub drops_copies : {F : Type 0} (at : F → Tool → List Message → List Message → Type 0) (all_given : F → Bool) (stopped : F
+    → Option ToolFault) (old now new : FusedFilter F) (rows front rest : List (List ℕ)) (s s1 : List Message) → rows ≡ front ++ rest
+    → HasPassed at all_given stopped true old now (row_messages front) s s1
+    → ((tool : Tool) (l g : List Message) → FilterAt at all_given stopped now tool l g → (1 ≤ length rest → EndsBy More l)
+    → FilterAt at all_given stopped new tool (l ++ row_messages rest) g)
+    → HasPassed at all_given stopped true old new (row_messages rows) s s1
+drops_copies at all_given stopped old now new rows front rest s s1 is has drops =
+    subst (λ (l : List Message). HasPassed at all_given stopped true old new l s s1) (sym (ap row_messages is ∙ map-append Row front rest))
+    (drops_rest at all_given stopped old now new (row_messages front) (row_messages rest) s s1 (rows_end_nothing front) has
+    (λ tool l g now_at ends. drops tool l g now_at (λ some. ends)))

@@ -328,35 +328,28 @@ fn pass_repeated<R: Wait, F: Filter + Drop>(
 {
     match rows.into_once() {
         Ok(rows) => pass_rows(rt, alloc, stage, rows, output),
-        Err(rows) => pass_copies(rt, alloc, stage, &rows, output),
+        Err(rows) => pass_copies(rt, alloc, stage, rows, output),
     }
 }
 
-/// Passes a copy of the rows through the tool each time that they come. The copies behind a refused one aren't made. If
-/// there is no memory for a copy, the tool refuses by `Memory`. Returns false if the output's other end was seen
-/// dropped before all was sent.
+/// Passes copies of the rows through the tool, as often as they come, several together. The copies behind a refused one
+/// aren't made. If there is no memory for copies, the tool refuses by `Memory`. Returns false if the output's other end
+/// was seen dropped before all was sent.
 #[inline(never)]
 fn pass_copies<R: Wait, F: Filter + Drop>(
     rt: &R,
     alloc: Global,
     stage: &mut FusedFilter<F>,
-    rows: &RepeatedRows,
+    rows: RepeatedRows,
     output: &mut Sender,
 ) -> bool
     ensures output { SameSender output.old output.new }
-    ensures passed { HasPassed F.at F.all_given F.stopped result stage.old stage.new (row_messages rows.now)
+    ensures passed { HasPassed F.at F.all_given F.stopped result stage.old stage.new (row_messages rows)
         (sent output.old) (sent output.new) }
 {
-    let (held, times) = rows.parts();
-    for _time in 0..times {
-        if stage.fault().is_some() {
-            return true;
-        }
-        let Ok(copy) = held.copy(alloc) else {
-            stage.refuse_for_memory();
-            return true;
-        };
-        if !pass_rows(rt, alloc, stage, copy, output) {
+    let mut left = Some(rows);
+    while let Some(copies) = stage.next_copies(alloc, &mut left) {
+        if !pass_rows(rt, alloc, stage, copies, output) {
             return false;
         }
     }

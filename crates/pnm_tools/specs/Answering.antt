@@ -14,11 +14,6 @@ abbrev pub row_list : Option (List ℕ) → List (List ℕ)
 row_list None = []
 row_list (Some row) = row ∷ []
 
--- rows that are handed over together, or none
-abbrev pub rows_list : Option (List (List ℕ)) → List (List ℕ)
-rows_list None = []
-rows_list (Some rows) = rows
-
 -- the rows that answer rows of an image of this shape, from row y on
 abbrev pub rows_answer : Tool → Shape → ℕ → List (List ℕ) → List (List ℕ)
 rows_answer tool s y [] = []

@@ -1,12 +1,12 @@
 //! A tool at work: what it is fed, what it gives, and its refusal.
 
-ghost use Rattle.std.specs.Prelude.{◌≡◌, ◌<◌, ◌∷◌, ◌++◌, [], List, true, IfSome, IfNone, IsTrue, IsFalse};
-ghost use Rattle.std.specs.Prelude.{OnOk, OnErr, IfErr, Some, None};
+ghost use Rattle.std.specs.Prelude.{◌≡◌, ◌<◌, ◌≤◌, ◌∷◌, ◌++◌, [], List, length, true, IfSome, IfNone, IsNone};
+ghost use Rattle.std.specs.Prelude.{IsTrue, IsFalse, OnOk, OnErr, IfErr, Some, None};
 ghost use Rattle.pnm_image.specs.declared.message.Ending.TheVariants.{More};
 ghost use Rattle.pnm_image.specs.declared.message.Message.{Message as MessageValue};
 ghost use Rattle.pnm_image.specs.Messages.{EndsBy};
 ghost use Rattle.pnm_image.specs.Packets.{messages_in};
-ghost use Rattle.pnm_image.specs.Rows.{row_messages};
+ghost use Rattle.pnm_image.specs.Rows.{row_messages, rows_list};
 ghost use Rattle.pnm_tools.specs.Answers.{RowsMayCome};
 ghost use Rattle.pnm_tools.specs.declared.fault.ToolFault.{ToolFault as Fault};
 ghost use Rattle.pnm_tools.specs.declared.fault.ToolFault.TheVariants.{Memory};
@@ -15,7 +15,9 @@ ghost use Rattle.pnm_tools.specs.FusedFilters.{refusal_in, waiting_at, FilterAt,
 
 use crate::fault::ToolFault;
 use crate::filter::Filter;
-use pnm_image::{Message, Packet, Rows};
+use pnm_image::{Message, Packet, RepeatedRows, Rows};
+use std::alloc::Global;
+use std::mem;
 
 /// A filter of a chain, which takes nothing more once it has refused.
 #[derive(Drop)]
@@ -121,6 +123,36 @@ impl<F: Filter + Drop> FusedFilter<F> {
             }
             FusedFilter::Refused(_) => Err(rows),
         }
+    }
+
+    /// Makes the next of the copies that are left, several together, for the tool to take. Returns `None` once all are
+    /// made. If the tool has refused, makes none. If there is no memory for them, the tool refuses by `Memory`.
+    pub fn next_copies(&mut self, alloc: Global, left: &mut Option<RepeatedRows>) -> Option<Rows>
+        ensures made { IfSome result (λ copies. rows_list left.old ≡ copies ++ rows_list left.new) }
+        ensures fewer { IfSome result (λ _. length (rows_list left.new) < length (rows_list left.old)) }
+        ensures same { IfSome result (λ _. self.new ≡ self.old) }
+        ensures dropped { IfNone result ((tool : ToolValue) (l g : List MessageValue)
+            → FilterAt F.at F.all_given F.stopped self.old tool l g
+            → (1 ≤ length (rows_list left.old) → EndsBy More l)
+            → FilterAt F.at F.all_given F.stopped self.new tool (l ++ row_messages (rows_list left.old)) g) }
+        ensures memory { IfNone result (1 ≤ length (rows_list left.old) → refusal_in self.old ≡ None
+            → refusal_in self.new ≡ Some Memory) }
+        ensures stays { (k : Fault) → refusal_in self.old ≡ Some k → (IsNone result × (self.new ≡ self.old)) }
+    {
+        let Some(rows) = mem::replace(left, None) else {
+            return None;
+        };
+        // No effect at run time: from this, a proof learns that there is a row.
+        let _ = rows.are_several();
+        if self.fault().is_none() {
+            if let Ok((copies, rest)) = rows.next_copies(alloc) {
+                *left = rest;
+                return Some(copies);
+            }
+        }
+        // A tool that has refused keeps its fault.
+        self.refuse_for_memory();
+        None
     }
 
     /// Refuses what comes next, since there is no memory to feed it. A tool that has refused keeps its fault.

@@ -5,7 +5,8 @@ use Rattle.pnm_image.specs.declared.rows.RowSlice.{RowSlice}
 use Rattle.pnm_image.specs.HeldRows.{AreSliceRows, slice_lists}
 use Rattle.pnm_geometry_tools.proofs.EnlargeRowLaws.{columns_repeated}
 use Rattle.pnm_geometry_tools.proofs.EnlargedRowsLaws.{repeated_cut}
-use Rattle.pnm_geometry_tools.proofs.HeldRowLaws.{parts_of_bits, repeated_bits}
+use Rattle.pnm_image.proofs.HeldRowLaws.{parts_of_bits}
+use Rattle.pnm_geometry_tools.proofs.HeldRowLaws.{repeated_bits}
 use Rattle.pnm_geometry_tools.proofs.larger.repeat_rows.Goals as goal
 
 pub repeat_runs-requires : goal.repeat_runs-requires

@@ -1,12 +1,12 @@
-use Rattle.std.proofs.Common.{◌≡◌, ◌<◌, ◌≤◌, ◌∷◌, ◌++◌, [], ℕ, List, length, refl, ap, sym, subst, ◌∙◌, arith}
+use Rattle.std.proofs.Common.{◌≡◌, ◌<◌, ◌∷◌, ◌++◌, [], ℕ, List, length, refl, sym, subst, ◌∙◌, arith}
 use Rattle.pnm_image.specs.declared.message.Message.{Message}
 use Rattle.pnm_image.specs.declared.message.Message.TheVariants.{Begin, ImageEnd}
 use Rattle.pnm_image.specs.declared.packet.Packet.{Packet}
 use Rattle.pnm_image.specs.Packets.{messages_in}
-use Rattle.pnm_image.specs.Repeats.{repeated}
-use Rattle.pnm_image.specs.Rows.{row_messages}
+use Rattle.pnm_image.specs.Rows.{row_messages, rows_list}
+use Rattle.pnm_stages.proofs.PassingSteps.{copies_on}
 use Rattle.pnm_serial.specs.SerialChains.{FeedsThrough, FiltersBusy}
-use Rattle.pnm_serial.proofs.PassingSteps.{passes_on, feeds_nothing, feeds_more, feeds_first, feeds_row, feeds_time, drops_rows, drops_times}
+use Rattle.pnm_serial.proofs.PassingSteps.{passes_on, feeds_nothing, feeds_more, feeds_first, feeds_row, feeds_copies, drops_rows, drops_copies}
 use Rattle.pnm_serial.proofs.PassingSteps.{gives_nothing, gives_on, gives_all}
 use Rattle.pnm_serial.proofs.passing.+through.Goals as goal
 
@@ -88,36 +88,37 @@ feed_each-returns-in_default-clause-fed g t c =
 
 -- ---- feed_copies
 
-pub feed_copies-loop-time-init : goal.feed_copies-loop-time-init
-feed_copies-loop-time-init g t c = (
-  feeds_nothing g.F.Filter.at g.F.Filter.all_given g.F.Filter.stopped g.W.BytesOut.held g.W.BytesOut.failures c.args.stages.now c.args.fused_sink.now,
+pub feed_copies-loop-copies-init : goal.feed_copies-loop-copies-init
+feed_copies-loop-copies-init g t c = (
   g.met.W.BytesOut.same_at_once _,
+  (
+    [],
+    refl,
+    feeds_nothing g.F.Filter.at g.F.Filter.all_given g.F.Filter.stopped g.W.BytesOut.held g.W.BytesOut.failures c.args.stages.now c.args.fused_sink.now,
+  ),
 )
 
-pub feed_copies-loop-time-preserved : goal.feed_copies-loop-time-preserved
-feed_copies-loop-time-preserved g t c = (
-  feeds_time g.F.Filter.at g.F.Filter.all_given g.F.Filter.stopped g.W.BytesOut.held g.W.BytesOut.failures
-      c.args.stages.now c.loop-time.stages c.feed_rows.new.stages c.loop-time._time c.parts-times.result.0.now c.in-Some.copy
-      c.args.fused_sink.now c.loop-time.fused_sink c.feed_rows.new.fused_sink c.in-Some.ensures c.loop-time.invariant.0 c.feed_rows.ensures.fed,
-  g.met.W.BytesOut.same_later _ _ _ c.loop-time.invariant.1 c.feed_rows.ensures.same_device,
-)
+pub feed_copies-loop-copies-preserved : goal.feed_copies-loop-copies-preserved
+feed_copies-loop-copies-preserved g t c =
+    let so_far = c.loop-copies.invariant.1 in (
+      g.met.W.BytesOut.same_later _ _ _ c.loop-copies.invariant.0 c.feed_rows.ensures.same_device,
+      (
+        so_far.0 ++ c.in-Some.copies,
+        copies_on c.args.rows so_far.0 (rows_list c.loop-copies.left) c.in-Some.copies (rows_list c.next_copies.new.left) so_far.1 c.in-Some.ensures.made,
+        feeds_copies g.F.Filter.at g.F.Filter.all_given g.F.Filter.stopped g.W.BytesOut.held g.W.BytesOut.failures
+            c.args.stages.now c.loop-copies.stages c.feed_rows.new.stages _ c.index-stages-0.result c.next_copies.new.self so_far.0 c.in-Some.copies
+            c.args.fused_sink.now c.loop-copies.fused_sink c.feed_rows.new.fused_sink refl c.in-Some.ensures.same so_far.2 c.feed_rows.ensures.fed,
+      ),
+    )
 
--- there is no memory for a copy, or the filter has refused
-pub feed_copies-returns-in_default-clause-fed : goal.feed_copies-returns-in_default-clause-fed
-feed_copies-returns-in_default-clause-fed g t c =
-    let some : 0 < length c.loop-time.stages = omega (arith, c.loop-time.auto.stages, c.requires.some) in
-    let rows = subst (λ (n : ℕ). 1 ≤ n) c.count.ensures.rows c.count.ensures.some in
-    drops_times g.F.Filter.at g.F.Filter.all_given g.F.Filter.stopped g.W.BytesOut.held g.W.BytesOut.failures
-    c.args.stages.now c.loop-time.stages _ c.index-stages-0-in_default.result c.refuse_for_memory.new.self
-    c.loop-time._time c.parts-times.result.1 c.parts-times.result.0.now c.args.rows.now c.args.fused_sink.now c.loop-time.fused_sink refl some
-    c.loop-time-test.true rows c.parts-times.ensures.rows c.loop-time.invariant.0 c.refuse_for_memory.ensures.dropped
-
+-- all copies were made, or the filter has refused
 pub feed_copies-returns-clause-fed : goal.feed_copies-returns-clause-fed
 feed_copies-returns-clause-fed g t c =
-    let all : c.loop-time._time ≡ c.parts-times.result.1 = omega (arith, c.loop-time-test.false, c.loop-time.auto._time-end) in
-    let whole = c.parts-times.ensures.rows ∙ ap (λ (n : ℕ). repeated n c.parts-times.result.0.now) (sym all) in
-    subst (λ (rows : List (List ℕ)). FeedsThrough g.F.Filter.at g.F.Filter.all_given g.F.Filter.stopped g.W.BytesOut.held g.W.BytesOut.failures
-    c.args.stages.now (row_messages rows) c.loop-time.stages c.args.fused_sink.now c.loop-time.fused_sink) (sym whole) c.loop-time.invariant.0
+    let so_far = c.loop-copies.invariant.1 in
+    let some : 0 < length c.loop-copies.stages = omega (arith, c.loop-copies.auto.stages, c.requires.some) in
+    drops_copies g.F.Filter.at g.F.Filter.all_given g.F.Filter.stopped g.W.BytesOut.held g.W.BytesOut.failures
+    c.args.stages.now c.loop-copies.stages _ c.index-stages-0.result c.next_copies.new.self c.args.rows so_far.0 (rows_list c.loop-copies.left)
+    c.args.fused_sink.now c.loop-copies.fused_sink refl some so_far.1 so_far.2 c.in_default.ensures.dropped
 
 -- ---- pass_answers
 

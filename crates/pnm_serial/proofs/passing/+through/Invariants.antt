@@ -1,6 +1,5 @@
-use Rattle.std.proofs.Common.{length, take, ◌*◌, ◌+◌}
-use Rattle.pnm_image.specs.Repeats.{repeated}
-use Rattle.pnm_image.specs.Rows.{row_messages}
+use Rattle.std.proofs.Common.{◌≡◌, ◌++◌, ◌*◌, ◌+◌, ℕ, List, length, take}
+use Rattle.pnm_image.specs.Rows.{row_messages, rows_list}
 use Rattle.pnm_serial.specs.FusedSinks.{output_of}
 use Rattle.pnm_serial.specs.SerialChains.{FeedsThrough, FiltersBusy, GivesThrough}
 use Rattle.pnm_serial.proofs.PassingSteps.{first_waiting}
@@ -48,9 +47,13 @@ invariant-feed_each-loop-at g l =
     (row_messages (take l.at l.fn.rows)) l.stages l.fn.fused_sink l.fused_sink
     × g.W.BytesOut.same (output_of l.fn.fused_sink) (output_of l.fused_sink)
 
--- the rows have passed as often as this says
-abbrev pub invariant-feed_copies-loop-time : goal.invariant-feed_copies-loop-time
-invariant-feed_copies-loop-time g l =
-    FeedsThrough g.F.Filter.at g.F.Filter.all_given g.F.Filter.stopped g.W.BytesOut.held g.W.BytesOut.failures l.fn.stages
-    (row_messages (repeated l._time l.held)) l.stages l.fn.fused_sink l.fused_sink
-    × g.W.BytesOut.same (output_of l.fn.fused_sink) (output_of l.fused_sink)
+-- the copies before those that are left have passed
+abbrev pub invariant-feed_copies-loop-copies : goal.invariant-feed_copies-loop-copies
+invariant-feed_copies-loop-copies g l =
+    g.W.BytesOut.same (output_of l.fn.fused_sink) (output_of l.fused_sink)
+    × ((front : List (List ℕ)) × (l.fn.rows ≡ front ++ rows_list l.left)
+    × FeedsThrough g.F.Filter.at g.F.Filter.all_given g.F.Filter.stopped g.W.BytesOut.held g.W.BytesOut.failures l.fn.stages
+    (row_messages front) l.stages l.fn.fused_sink l.fused_sink)
+
+abbrev pub decreases-feed_copies-loop-copies : goal.decreases-feed_copies-loop-copies
+decreases-feed_copies-loop-copies g l = length (rows_list l.left)

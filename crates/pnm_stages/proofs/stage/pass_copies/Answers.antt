@@ -1,70 +1,43 @@
-use Rattle.std.proofs.Common.{◌≡◌, ◌≤◌, ◌∙◌, ◌+◌, ℕ, List, None, true, false, ap, sym, subst, arith}
-use Rattle.pnm_image.specs.Repeats.{repeated}
-use Rattle.pnm_image.specs.Rows.{row_messages}
-use Rattle.std.specs.Option.{is_some}
-use Rattle.pnm_tools.specs.FusedFilters.{refusal_in}
+use Rattle.std.proofs.Common.{◌++◌, [], refl, true, false}
+use Rattle.pnm_image.specs.Rows.{rows_list}
 use Rattle.pnm_stages.specs.Rings.{sent}
-use Rattle.pnm_stages.specs.StageParts.{HasPassed}
 use Rattle.pnm_stages.proofs.RingSteps.{same_output, itself_output}
-use Rattle.pnm_stages.proofs.PassingSteps.{passes_none, passes_time, loses_times, drops_times, refused_drops}
+use Rattle.pnm_stages.proofs.PassingSteps.{copies_on, passes_none, passes_copies, loses_copies, drops_copies}
 use Rattle.pnm_stages.proofs.stage.pass_copies.Goals as goal
 
-pub loop-time-init : goal.loop-time-init
-loop-time-init g c = (
+pub loop-copies-init : goal.loop-copies-init
+loop-copies-init g c = (
   itself_output c.args.output.now,
-  passes_none g.F.Filter.at g.F.Filter.all_given g.F.Filter.stopped c.args.stage.now (sent c.args.output.now),
+  ([], refl, passes_none g.F.Filter.at g.F.Filter.all_given g.F.Filter.stopped c.args.stage.now (sent c.args.output.now)),
 )
 
-pub returns-then-is_some-clause-output : goal.returns-then-is_some-clause-output
-returns-then-is_some-clause-output g c = c.loop-time.invariant.0
+pub loop-copies-preserved : goal.loop-copies-preserved
+loop-copies-preserved g c =
+    let so_far = c.loop-copies.invariant.1 in (
+      same_output c.args.output.now c.loop-copies.output c.pass_rows.new.output c.loop-copies.invariant.0 c.pass_rows.ensures.output,
+      (
+        so_far.0 ++ c.in-Some.copies,
+        copies_on c.args.rows so_far.0 (rows_list c.loop-copies.left) c.in-Some.copies (rows_list c.next_copies.new.left) so_far.1 c.in-Some.ensures.made,
+        passes_copies g.F.Filter.at g.F.Filter.all_given g.F.Filter.stopped true c.args.stage.now c.loop-copies.stage c.next_copies.new.self
+            c.pass_rows.new.stage so_far.0 c.in-Some.copies (sent c.args.output.now) (sent c.loop-copies.output) (sent c.pass_rows.new.output)
+            c.in-Some.ensures.same so_far.2 c.if-not-pass_rows.ensures.passed,
+      ),
+    )
 
-pub returns-then-is_some-clause-passed : goal.returns-then-is_some-clause-passed
-returns-then-is_some-clause-passed g c =
-    let within : c.loop-time._time ≤ c.parts-times.result.1 = omega (arith, c.loop-time-test.true) in
-    let refused = λ (none : refusal_in c.loop-time.stage ≡ None).
-    let no : true ≡ false = c.if-is_some.ensures ∙ ap is_some (c.fault.ensures ∙ none) in absurd cc in
-    drops_times g.F.Filter.at g.F.Filter.all_given g.F.Filter.stopped c.args.stage.now c.loop-time.stage c.loop-time.stage c.loop-time._time
-    c.parts-times.result.1 c.parts-times.result.0.now c.args.rows.now (sent c.args.output.now) (sent c.loop-time.output) within c.parts-times.ensures.rows
-    c.loop-time.invariant.1 (refused_drops g.F.Filter.at g.F.Filter.all_given g.F.Filter.stopped c.loop-time.stage refused)
-
-pub returns-in_default-clause-output : goal.returns-in_default-clause-output
-returns-in_default-clause-output g c = c.loop-time.invariant.0
-
-pub returns-in_default-clause-passed : goal.returns-in_default-clause-passed
-returns-in_default-clause-passed g c =
-    let within : c.loop-time._time ≤ c.parts-times.result.1 = omega (arith, c.loop-time-test.true) in
-    drops_times g.F.Filter.at g.F.Filter.all_given g.F.Filter.stopped c.args.stage.now c.loop-time.stage c.refuse_for_memory.new.self
-    c.loop-time._time c.parts-times.result.1 c.parts-times.result.0.now c.args.rows.now (sent c.args.output.now) (sent c.loop-time.output) within
-    c.parts-times.ensures.rows c.loop-time.invariant.1 c.refuse_for_memory.ensures.dropped
-
-pub returns-then-not-pass_rows-clause-output : goal.returns-then-not-pass_rows-clause-output
-returns-then-not-pass_rows-clause-output g c =
-    same_output c.args.output.now c.loop-time.output c.pass_rows.new.output c.loop-time.invariant.0 c.pass_rows.ensures.output
-
+-- the output's other end is gone
 pub returns-then-not-pass_rows-clause-passed : goal.returns-then-not-pass_rows-clause-passed
 returns-then-not-pass_rows-clause-passed g c =
-    let within : c.loop-time._time + 1 ≤ c.parts-times.result.1 = omega (arith, c.loop-time-test.true) in
-    loses_times g.F.Filter.at g.F.Filter.all_given g.F.Filter.stopped c.args.stage.now c.pass_rows.new.stage (c.loop-time._time + 1)
-    c.parts-times.result.1 c.parts-times.result.0.now c.args.rows.now (sent c.args.output.now) (sent c.pass_rows.new.output) within
-    c.parts-times.ensures.rows
-    (passes_time g.F.Filter.at g.F.Filter.all_given g.F.Filter.stopped false c.args.stage.now c.loop-time.stage c.pass_rows.new.stage
-    c.loop-time._time c.parts-times.result.0.now c.in-Ok.copy (sent c.args.output.now) (sent c.loop-time.output) (sent c.pass_rows.new.output)
-    c.in-Ok.ensures c.loop-time.invariant.1 c.if-not-pass_rows.ensures.passed)
+    let so_far = c.loop-copies.invariant.1 in
+    loses_copies g.F.Filter.at g.F.Filter.all_given g.F.Filter.stopped c.args.stage.now c.pass_rows.new.stage c.args.rows
+    (so_far.0 ++ c.in-Some.copies) (rows_list c.next_copies.new.left) (sent c.args.output.now) (sent c.pass_rows.new.output)
+    (copies_on c.args.rows so_far.0 (rows_list c.loop-copies.left) c.in-Some.copies (rows_list c.next_copies.new.left) so_far.1 c.in-Some.ensures.made)
+    (passes_copies g.F.Filter.at g.F.Filter.all_given g.F.Filter.stopped false c.args.stage.now c.loop-copies.stage c.next_copies.new.self
+    c.pass_rows.new.stage so_far.0 c.in-Some.copies (sent c.args.output.now) (sent c.loop-copies.output) (sent c.pass_rows.new.output)
+    c.in-Some.ensures.same so_far.2 c.if-not-pass_rows.ensures.passed)
 
-pub loop-time-preserved : goal.loop-time-preserved
-loop-time-preserved g c = (
-  same_output c.args.output.now c.loop-time.output c.pass_rows.new.output c.loop-time.invariant.0 c.pass_rows.ensures.output,
-  passes_time g.F.Filter.at g.F.Filter.all_given g.F.Filter.stopped true c.args.stage.now c.loop-time.stage c.pass_rows.new.stage
-      c.loop-time._time c.parts-times.result.0.now c.in-Ok.copy (sent c.args.output.now) (sent c.loop-time.output) (sent c.pass_rows.new.output)
-      c.in-Ok.ensures c.loop-time.invariant.1 c.if-not-pass_rows.ensures.passed,
-)
-
-pub returns-clause-output : goal.returns-clause-output
-returns-clause-output g c = c.loop-time.invariant.0
-
+-- all copies were made, or the tool has refused
 pub returns-clause-passed : goal.returns-clause-passed
 returns-clause-passed g c =
-    let all : c.loop-time._time ≡ c.parts-times.result.1 = omega (arith, c.loop-time-test.false, c.loop-time.auto._time-end) in
-    let whole = c.parts-times.ensures.rows ∙ ap (λ (n : ℕ). repeated n c.parts-times.result.0.now) (sym all) in
-    subst (λ (rows : List (List ℕ)). HasPassed g.F.Filter.at g.F.Filter.all_given g.F.Filter.stopped true c.args.stage.now c.loop-time.stage
-    (row_messages rows) (sent c.args.output.now) (sent c.loop-time.output)) (sym whole) c.loop-time.invariant.1
+    let so_far = c.loop-copies.invariant.1 in
+    drops_copies g.F.Filter.at g.F.Filter.all_given g.F.Filter.stopped c.args.stage.now c.loop-copies.stage c.next_copies.new.self c.args.rows
+    so_far.0 (rows_list c.loop-copies.left) (sent c.args.output.now) (sent c.loop-copies.output) so_far.1 so_far.2 c.in_default.ensures.dropped
