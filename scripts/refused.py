@@ -165,9 +165,10 @@ def commands_over(lanes):
     yield command("pamflip -lr", EIGHT, TURNED, 1, 0, spared=1)
     yield command("pamcut -left 3 | pamflip -lr", EIGHT, CUT_AND_TURNED, 1, 1, spared=2)
     yield command("pamenlarge 2 | pnminvert", gray(9, [7]), gray(9, [2, 2], [2, 2]), 1, 1, spared=1)
-    # a long row that the first tool gives once, with the number of its copies, which the second tool's thread makes
-    thrice = gray(9, *[[2] * 8192] * 3)
-    yield command("pamenlarge -xscale 8192 -yscale 3 | pnminvert", gray(9, [7]), thrice, 1, 1, spared=1)
+    # a long row that the first tool gives once, with the number of its copies, which the second tool's thread makes,
+    # two at a time, and the dealer one by one
+    often = gray(9, *[[2] * 30000] * 5)
+    yield command("pamenlarge -xscale 30000 -yscale 5 | pnminvert", gray(9, [7]), often, 1, 1, spared=1)
     if lanes <= LANES[1]:
         yield command("pamflip -xy", gray(9, [1, 2], [3, 4], [5, 6]), gray(9, [1, 3, 5], [2, 4, 6]), 0, 1, spared=2)
     yield command("pamflip -null", TYPED, pam(1, 1, b"A B", [1]), 1, 0, spared=1)
