@@ -91,17 +91,17 @@ def want_of_source(word, rest):
     if word == "fails":
         text = text_of(rest)
         return changes([said_until(text, count) for count in range(len(text) + 1)])
-    first, _, by = word.partition("_")
-    if first in ("reads", "together", "whole"):
+    first = word.removesuffix("_by")
+    if first in ("reads", "together", "rows_ahead", "whole"):
         size = 4096
-        if by:
+        if first != word:
             number, _, rest = rest.partition(" ")
             size = max(size, int(number))
         most, failing, written = rest.split(" ", 2)
         reading = Reading(text_of(written), size, int(most), int(failing))
         told = reading.read(first)
         calls = "".join(f" {asked}:{got}" for asked, got in reading.calls)
-        return f"{told} by{calls}" if first == "reads" else told
+        return f"{told} by{calls}" if first in ("reads", "rows_ahead") else told
     if word == "width":
         return width_of(text_of(rest))
     if word not in ("ahead", "held"):

@@ -46,15 +46,19 @@ class Reading:
         self.whole, self.needs = answers(text), needs(text)
         # the bytes that have come; what each read asked for, and what it got
         self.come, self.calls = 0, []
-        # of a raw image's rows the bytes of each, of a sample in it, and how many are left
-        self.row, self.sample, self.rows = 0, 1, 0
+        # of a raw image's rows the bytes of each, of a sample in it, the maxval, none for bits, and how many are
+        # left
+        self.row, self.sample, self.maxval, self.rows = 0, 1, None, 0
 
     def read(self, first):
         """Tells all answers, where before each message rows together are asked for, or the rest of an image, or
-        nothing; rows that come so stand between braces."""
-        count_of = {"together": self.together, "whole": self.image_at_once}.get(first, lambda number: 0)
+        nothing; rows that come so stand between braces. Where rows are to be read ahead, that is asked for before."""
+        count_of = {"together": self.together, "rows_ahead": self.together, "whole": self.image_at_once}
+        count_of = count_of.get(first, lambda number: 0)
         told, number = "", 0
         while number < len(self.whole):
+            if first == "rows_ahead" and not self.read_ahead(number):
+                return f"{told} ReadFailed"
             count = count_of(number)
             if not count and not self.wait(number):
                 return f"{told} ReadFailed"
@@ -70,6 +74,7 @@ class Reading:
         """Begins an image, whose header ends where its head is known."""
         start = self.needs[number - 1] if number else 0
         self.row, self.sample = raw_row(head), 2 if head[4] > 255 else 1
+        self.maxval = None if head[0] == "Bit" else head[4]
         self.rows = head[2] if self.text[start + 1 : start + 2] in b"4567" else 0
 
     def held_whole(self, number):
@@ -92,6 +97,32 @@ class Reading:
         count = self.held_whole(number) if has_begun else 0
         return count if count == self.rows else 0
 
+    def read_ahead(self, number):
+        """Reads once if a row is next that may come with others, and isn't held whole, though nothing that is held of
+        it shows that it is at fault; whether that read doesn't fail."""
+        if not self.rows or not self.row <= min(MOST_ROW, self.size) or self.come > len(self.text):
+            return True
+        part = self.text[self.needs[number - 1] : self.come]
+        if len(part) >= self.row or self.is_at_fault(part):
+            return True
+        return self.call(self.size - len(part))
+
+    def is_at_fault(self, part):
+        """Whether a whole sample of a row's first bytes is above the maxval."""
+        if self.maxval is None:
+            return False
+        whole = range(0, len(part) + 1 - self.sample, self.sample)
+        return any(int.from_bytes(part[at : at + self.sample], "big") > self.maxval for at in whole)
+
+    def call(self, asked):
+        """Reads once; whether that doesn't fail."""
+        is_failing = len(self.calls) + 1 == self.failing
+        got = 0 if is_failing else min(asked, self.most, len(self.text) - self.come)
+        self.calls.append((asked, got))
+        # the end is found if nothing comes
+        self.come += got if got or is_failing else 1
+        return not is_failing
+
     def wait(self, number):
         """Reads until an answer is known; whether no read fails."""
         is_row = isinstance(self.whole[number], list) and self.rows
@@ -102,13 +133,6 @@ class Reading:
                 asked = left
             elif is_row and self.sample == 2:
                 asked -= (self.row - left) % 2
-            is_failing = len(self.calls) + 1 == self.failing
-            got = 0 if is_failing else min(asked, self.most, len(self.text) - self.come)
-            self.calls.append((asked, got))
-            if is_failing:
+            if not self.call(asked):
                 return False
-            if not got:
-                # the end is found
-                self.come = len(self.text) + 1
-            self.come += got
         return True

@@ -29,9 +29,12 @@
 //!   read FAILING
 //! - `together MOST FAILING TEXT`: the answers where the source is asked for rows together before each message, between
 //!   braces those that come so: a read gives at most MOST bytes, and read FAILING fails, none for 0
+//! - `rows_ahead MOST FAILING TEXT`: the same where it is asked to read ahead before that, and what each read asked for
+//!   and got
 //! - `whole MOST FAILING TEXT`: the same where it is asked for the rest of an image before each message, whose end
 //!   stands behind the braces
-//! - `reads_by SIZE MOST FAILING TEXT`, `together_by ..`, `whole_by ..`: the same through a buffer of SIZE bytes
+//! - `reads_by SIZE MOST FAILING TEXT`, `together_by ..`, `rows_ahead_by ..`, `whole_by ..`: the same through a buffer
+//!   of SIZE bytes
 //! - `ahead COUNT TEXT`: how many reads of a byte each were made before the first answer, and after each
 //! - `held COUNT TEXT`: for each number of bytes a read, for how many of COUNT answers the source rightly tells
 //!   whether it will make a read

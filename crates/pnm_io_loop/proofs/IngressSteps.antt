@@ -13,7 +13,7 @@ use Rattle.pnm_serial.specs.Feeding.{HasMore}
 use Rattle.pnm_read.specs.declared.fault.InputFault.{InputFault}
 use Rattle.pnm_read.specs.declared.fault.InputFault.TheVariants.{Memory, ReadFailed}
 use Rattle.pnm_read.specs.declared.source.Source.{Source}
-use Rattle.pnm_read.specs.Sources.{reader_of, stopped_by, HasGiven, MayGive, SeesEnd, Tells, TellsRows}
+use Rattle.pnm_read.specs.Sources.{reader_of, stopped_by, HasGiven, MayGive, SeesEnd, Tells, TellsNothing, TellsRows}
 use Rattle.pnm_read.proofs.Consumed.{consumes_then}
 use Rattle.pnm_read.proofs.ReadCalls.{no_fault}
 use Rattle.pnm_io_loop.specs.declared.ingress.Ingress.{Ingress}
@@ -31,6 +31,23 @@ asked_more : {R : Type 0} (left : R → Option (List ℕ)) (failures : R → ℕ
     → failures (reader_of next) ≡ failures (reader_of source)
     → HasAsked left failures first next (given ++ m ∷ [])
 asked_more left failures first source next given m asked t end unread count = record {
+  read = asked.read ++ t.more;
+  consumed = consumes_then (left (reader_of first)) (left (reader_of source)) (left (reader_of next)) asked.read t.more asked.consumed t.consumed;
+  told = t.told asked.read given asked.told;
+  end = end asked.end;
+  unread = unread_after left source next asked.end unread;
+  count = count ∙ asked.count;
+}
+
+-- bytes were read, and nothing was given
+asked_ahead : {R : Type 0} (left : R → Option (List ℕ)) (failures : R → ℕ) (first source next : Source R) (given : List Message)
+    → HasAsked left failures first source given
+    → TellsNothing left source next
+    → (SeesEnd left source → SeesEnd left next)
+    → IsUnreadAfter left source next
+    → failures (reader_of next) ≡ failures (reader_of source)
+    → HasAsked left failures first next given
+asked_ahead left failures first source next given asked t end unread count = record {
   read = asked.read ++ t.more;
   consumed = consumes_then (left (reader_of first)) (left (reader_of source)) (left (reader_of next)) asked.read t.more asked.consumed t.consumed;
   told = t.told asked.read given asked.told;
@@ -117,6 +134,22 @@ sent_so_far left failures first before f input sending =
 asked_of : {R : Type 0} (left : R → Option (List ℕ)) (failures : R → ℕ) (first : Source R) (before : List Message) (f : Ingress R)
     → f.input ≡ None → (sending : IsIngress left failures first before f) → HasAsked left failures first f.source sending.given
 asked_of left failures first before f input sending = subst (HasAskedBy left failures first f.source sending.given) input sending.asked
+
+-- nothing was given, and nothing sent
+pub feeds_nothing : {R : Type 0} (left : R → Option (List ℕ)) (failures : R → ℕ) (first : Source R) (before : List Message) (f : Ingress R) (next : Source R)
+    → f.input ≡ None
+    → TellsNothing left f.source next
+    → (SeesEnd left f.source → SeesEnd left next)
+    → IsUnreadAfter left f.source next
+    → failures (reader_of next) ≡ failures (reader_of f.source)
+    → IsIngress left failures first before f
+    → IsIngress left failures first before (record f { source = next })
+feeds_nothing left failures first before f next input t end unread count sending = record {
+  given = sending.given;
+  asked = subst (HasAskedBy left failures first next sending.given) (sym input)
+      (asked_ahead left failures first f.source next sending.given (asked_of left failures first before f input sending) t end unread count);
+  passed = sending.passed;
+}
 
 -- a message was given, or a whole image that it begins, and sent in one packet
 pub feeds_packet : {R : Type 0} (left : R → Option (List ℕ)) (failures : R → ℕ) (first : Source R) (before : List Message) (f : Ingress R)

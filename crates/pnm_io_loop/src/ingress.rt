@@ -145,8 +145,8 @@ impl<R: BytesIn + Drop> Ingress<R> {
         }
     }
 
-    /// Asks the source for rows that it holds whole, if they are to go together, or else for its next message, and
-    /// sends that, for which there is room. After the source's fault Stop is sent.
+    /// Asks the source for rows that it holds whole, or that one read brings, if they are to go together, or else for
+    /// its next message, and sends that, for which there is room. After the source's fault Stop is sent.
     fn send_next(&mut self, spares: &mut SpareRows)
         requires going { self.old.input ≡ None }
         requires room { 0 < known_free self.old.output }
@@ -156,8 +156,34 @@ impl<R: BytesIn + Drop> Ingress<R> {
         ensures ring { SameSender self.old.output self.new.output }
         ensures same_device { R.same (reader_of self.old.source) (reader_of self.new.source) }
     {
-        if !self.rows_together || !self.may_be_together || !self.send_rows(spares) {
-            self.send_message(spares);
+        if self.rows_together && self.may_be_together {
+            if !self.read_ahead() || self.send_rows(spares) {
+                return;
+            }
+        }
+        self.send_message(spares);
+    }
+
+    /// Has the source read once, if the next row isn't held whole and may go together with others. Returns false if
+    /// the reader failed; Stop is sent then.
+    fn read_ahead(&mut self) -> bool
+        requires going { self.old.input ≡ None }
+        requires room { 0 < known_free self.old.output }
+        ensures sending { (first : Source R) (before : List MessageValue)
+            → IsIngress R.left R.failures first before self.old
+            → IsIngress R.left R.failures first before self.new }
+        ensures ring { SameSender self.old.output self.new.output }
+        ensures same_device { R.same (reader_of self.old.source) (reader_of self.new.source) }
+        ensures going { IsTrue result → self.new.input ≡ None }
+        ensures room { IsTrue result → self.new.output ≡ self.old.output }
+    {
+        match self.source.read_ahead() {
+            Ok(()) => true,
+            Err(failure) => {
+                self.output.send_packet_reserved(Packet::Stop);
+                self.input = Some(Err(failure));
+                false
+            }
         }
     }
 

@@ -54,6 +54,7 @@ pub mod LeadingLaws
 pub mod PlainSteps
 pub mod LeadingSteps
 pub mod SourceSteps
+pub mod AheadSteps
 pub mod GivenLaws
 pub mod RowsInTurn
 pub mod FirstRows

@@ -81,6 +81,12 @@ pub record Tells {R : Type 0} (left : R → Option (List ℕ)) (old : Source R)
   pub told : (read : List ℕ) (given : List Message) → HasGiven old read given
       → AnswerTells new (read ++ more) given result
 
+-- A call read some bytes, and gave nothing: what the source has still to say of the text is as before.
+pub record TellsNothing {R : Type 0} (left : R → Option (List ℕ)) (old new : Source R) : Type 0 where
+  pub more : List ℕ
+  pub consumed : Consumes (left (reader_of old)) (left (reader_of new)) more
+  pub told : (read : List ℕ) (given : List Message) → HasGiven old read given → HasGiven new (read ++ more) given
+
 -- Rows were given that came next of what was to be said, and nothing was read for them.
 abbrev pub TellsRows : {R : Type 0} → Source R → Source R → List (List ℕ) → Type 0
 TellsRows old new rows = (read : List ℕ) (given : List Message) → HasGiven old read given

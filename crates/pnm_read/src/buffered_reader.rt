@@ -128,9 +128,21 @@ impl<R: BytesIn> BufferedReader<R> {
         Ok(())
     }
 
+    /// Reads once, behind the bytes that are held, if they are fewer than `wanted`, the buffer has room for so many,
+    /// and the input hasn't ended. The only fault is `ReadFailed`.
+    pub fn read_towards(&mut self, wanted: usize) -> Result<(), InputFault>
+        ensures read_call { ReadCall R.left R.failures R.same self.old self.new result (Fills result) }
+        ensures failed { IfErr result (λ fault. fault ≡ ReadFailed) }
+    {
+        if self.holds(wanted) || wanted > self.buffer.len() {
+            return Ok(());
+        }
+        self.read_more()
+    }
+
     /// Reads once, behind the bytes that are held. The only fault is `ReadFailed`.
     fn read_more(&mut self) -> Result<(), InputFault>
-        requires free { length (held_of self.old) < 4096 }
+        requires free { length (held_of self.old) < vec_len self.old.buffer }
         requires goes_on { self.old.ended ≡ false }
         ensures read_call { ReadCall R.left R.failures R.same self.old self.new result (Fills result) }
         ensures more { OnOk result ((length (held_of self.old) < length (held_of self.new))
@@ -146,6 +158,7 @@ impl<R: BytesIn> BufferedReader<R> {
     /// Moves the bytes that are held to the front of the buffer.
     fn move_to_front(&mut self)
         ensures front { self.new.at ≡ 0 }
+        ensures size { vec_len self.new.buffer ≡ vec_len self.old.buffer }
         ensures held { held_of self.new ≡ held_of self.old }
         ensures reader { self.new.reader ≡ self.old.reader }
         ensures ended { self.new.ended ≡ self.old.ended }

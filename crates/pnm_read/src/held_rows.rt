@@ -9,6 +9,7 @@ ghost use Rattle.pnm_read.specs.Units.{AreBytesWithin};
 use crate::buffered_reader::BufferedReader;
 use crate::fault::InputFault;
 use crate::raster::Raster;
+use crate::raw;
 use crate::spare_rows::SpareRows;
 use crate::units::are_units_within;
 use pnm_image::{BitRows, BytesIn, RowVec, Rows, SampleWidth};
@@ -21,6 +22,31 @@ const MOST_BYTES: usize = 65_536;
 
 /// The sample of a white pixel, which none is above.
 const GREATEST_PIXEL: u32 = 1;
+
+/// Whether the held bytes determine the next row of the raster, or it has no more rows.
+pub fn holds_row<R: BytesIn>(input: &BufferedReader<R>, raster: &Raster) -> bool {
+    if raster.y == raster.shape.height {
+        true
+    } else if raster.format.is_plain() {
+        input.holds(usize::MAX)
+    } else {
+        input.holds(raw::bytes_of(raster.units, raster.sample_width))
+    }
+}
+
+/// How many bytes are to be held of what comes next, if these are: those of a row, if one comes next that can be given
+/// together with others, and no sample that is held of it is above the maxval. Otherwise 0.
+pub fn wanted_ahead(bytes: &[u8], raster: &Raster) -> usize {
+    let wanted = raw::bytes_of(raster.units, raster.sample_width);
+    if raster.y == raster.shape.height || wanted > MOST_ROW_BYTES || bytes.len() >= wanted {
+        return 0;
+    }
+    if raw::are_within(bytes, raster.sample_width, raster.shape.maxval) {
+        wanted
+    } else {
+        0
+    }
+}
 
 /// How many of the next rows can be handed over together: all rows left in the image that are held whole, up to
 /// `MOST_BYTES`. 0 if these are fewer than `least`, if one of them has a sample above the maxval, or if they are too

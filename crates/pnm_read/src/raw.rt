@@ -57,6 +57,16 @@ pub fn bytes_of(units: usize, sample_width: SampleWidth) -> usize {
     }
 }
 
+/// Whether no sample that begins a row, of which these are the first bytes, is above the maxval.
+pub fn are_within(bytes: &[u8], sample_width: SampleWidth, maxval: u32) -> bool {
+    match sample_width {
+        SampleWidth::Bits | SampleWidth::Bytes => are_units_within(bytes, sample_width, maxval),
+        SampleWidth::Words => bytes.chunks_exact(2).all(|pair| u32::from(u16::from_be_bytes([
+            pair[0], pair[1],
+        ])) <= maxval),
+    }
+}
+
 /// The bytes of the next row, each of them a unit.
 #[inline(always)]
 fn read_bytes<R: BytesIn>(

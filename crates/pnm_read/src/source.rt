@@ -1,8 +1,7 @@
 //! The source of a stream: the bytes of a reader as messages.
 
 ghost use Rattle.std.specs.Prelude.{◌≡◌, List, ℕ, ◌<◌, ◌≤◌, ◌-◌, ◌⊎◌, ◌↔◌, IsTrue, true, false, Some, None, Ok};
-ghost use Rattle.std.specs.Prelude.{Err};
-ghost use Rattle.std.specs.Prelude.{IfOk, IfErr, IfSome};
+ghost use Rattle.std.specs.Prelude.{Err, IfOk, IfErr, IfSome, OnOk, MatchResult};
 ghost use Rattle.pnm_image.specs.Devices.{Failed};
 ghost use Rattle.pnm_image.specs.Formats.{is_plain_form};
 ghost use Rattle.pnm_image.specs.declared.message.Message.TheVariants.{ImageEnd, StreamEnd, Stop};
@@ -69,7 +68,7 @@ pub struct Source<R> {
 
 impl<R: BytesIn> Source<R> {
     ghost use Rattle.pnm_read.specs.Sources.{IsFreshSource, Tells, MayGive, SeesEnd, MayGiveMore, stopped_by};
-    ghost use Rattle.pnm_read.specs.Sources.{TellsRows, TellsImage, HasJustBegun, has_ended, reader_of};
+    ghost use Rattle.pnm_read.specs.Sources.{TellsNothing, TellsRows, TellsImage, HasJustBegun, has_ended, reader_of};
 
     /// A source over the reader, with a buffer of its own. It reads nothing. The only fault is
     /// `Memory`, and then the reader is gone: `with_buffer` keeps it.
@@ -128,6 +127,45 @@ impl<R: BytesIn> Source<R> {
             State::Awaits(awaited) => self.go_on(awaited, spares),
             State::Ended => Ok(None),
             State::Failed(fault) => Err(fault),
+        }
+    }
+
+    /// Reads once, if a row of a raw image comes next that has at most 16,384 bytes and isn't held whole: `next_rows`
+    /// can then give it together with the rows behind it that came. It gives nothing.
+    /// If a sample that is held of the row is above the maxval, it doesn't read: `next` finds the fault without that.
+    /// The only fault is `ReadFailed`, which `next` returns from then on.
+    pub fn read_ahead(&mut self) -> Result<(), InputFault>
+        // What is to be said stays, or is the fault.
+        ensures told { MatchResult result (λ _. TellsNothing R.left self.old self.new)
+            (λ fault. (fault ≡ ReadFailed) × Tells R.left self.old (Err fault) self.new) }
+        ensures going { OnOk result ((stopped_by self.new ≡ stopped_by self.old)
+            × (has_ended self.new ≡ has_ended self.old)) }
+        ensures end { SeesEnd R.left self.old → SeesEnd R.left self.new }
+        ensures unread { SeesEnd R.left self.old → MayGiveMore R.left self.new }
+
+        // The end and a fault stay.
+        ensures for_good { has_ended self.old ≡ true → (result ≡ Ok tt) × (self.new ≡ self.old) }
+        ensures stopped { IfErr result (λ fault. stopped_by self.new ≡ Some fault) }
+        ensures stays { (fault : Fault) → stopped_by self.old ≡ Some fault
+            → (result ≡ Ok tt) × (self.new ≡ self.old) }
+
+        // The reader.
+        ensures same_device { R.same (reader_of self.old) (reader_of self.new) }
+        ensures count { (result ≡ Err ReadFailed → ⊥)
+            → R.failures (reader_of self.new) ≡ R.failures (reader_of self.old) }
+        ensures read_failed { result ≡ Err ReadFailed → ((rest : List ℕ) → MayGive self.new rest)
+            × Failed (R.failures (reader_of self.old)) (R.failures (reader_of self.new)) }
+    {
+        let Some(raster) = raw_raster(&self.state) else {
+            return Ok(());
+        };
+        let wanted = held_rows::wanted_ahead(self.input.bytes(), &raster);
+        match self.input.read_towards(wanted) {
+            Ok(()) => Ok(()),
+            Err(found) => {
+                self.state = State::Failed(found);
+                Err(found)
+            }
         }
     }
 
@@ -368,20 +406,9 @@ fn step_at<R: BytesIn>(input: &mut BufferedReader<R>, awaited: Awaited) -> Resul
 fn holds_at<R: BytesIn>(input: &BufferedReader<R>, awaited: &Awaited) -> bool {
     match awaited {
         Awaited::FirstImage => input.holds(usize::MAX) || is_complete(input.bytes(), true),
-        Awaited::RowOrEnd(raster) => holds_row(input, raster),
+        Awaited::RowOrEnd(raster) => held_rows::holds_row(input, raster),
         Awaited::ImageOrEnd => input.holds(usize::MAX) || is_complete(input.bytes(), false),
         Awaited::End => true,
-    }
-}
-
-/// Whether the held bytes determine the next row of the raster, or it has no more rows.
-fn holds_row<R: BytesIn>(input: &BufferedReader<R>, raster: &Raster) -> bool {
-    if raster.y == raster.shape.height {
-        true
-    } else if raster.format.is_plain() {
-        input.holds(usize::MAX)
-    } else {
-        input.holds(raw::bytes_of(raster.units, raster.sample_width))
     }
 }
 

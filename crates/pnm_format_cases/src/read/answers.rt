@@ -15,6 +15,8 @@ pub enum First {
     Nothing,
     /// The next rows together (`next_rows`).
     Rows,
+    /// To read ahead (`read_ahead`), and then the next rows together.
+    RowsAhead,
     /// The rows and the end of an image (`rest_of_image`).
     Image,
 }
@@ -85,6 +87,10 @@ fn next_of<R: BytesIn>(
     let together = match first {
         First::Nothing => None,
         First::Rows => source.next_rows(spares)?.map(Given::Rows),
+        First::RowsAhead => {
+            source.read_ahead()?;
+            source.next_rows(spares)?.map(Given::Rows)
+        }
         First::Image => source.rest_of_image(spares).map(Given::Image),
     };
     match together {
@@ -134,8 +140,8 @@ fn recycle(message: Message, spares: &mut SpareRows) {
     }
 }
 
-/// Adds a word if rows or an image come, or if the source answers anything but the fault, or anything but `None` if
-/// there is no fault.
+/// Adds a word if rows or an image come, or a fault comes of reading ahead, or if the source answers anything but the
+/// fault, or anything but `None` if there is no fault.
 fn write_stays<R: BytesIn>(
     source: &mut Source<R>,
     fault: Option<InputFault>,
@@ -143,7 +149,8 @@ fn write_stays<R: BytesIn>(
     spares: &mut SpareRows,
 ) -> Result<(), AllocError> {
     for _ in 0..3 {
-        let have_come = have_come(source.next_rows(spares))
+        let have_come = source.read_ahead().is_err()
+            || have_come(source.next_rows(spares))
             || source.rest_of_image(spares).is_some();
         if have_come || !is_same(source.next(spares), fault) {
             out.push_str(" and another answer")?;

@@ -59,9 +59,9 @@ pub fn write_recorded(
     Vec::from_slice(alloc, reader.calls())
 }
 
-/// Adds the answers to a text, and what each read asked for and got, unless rows or images are asked for. The line says
-/// how many bytes a read gives at most, and which read fails, counted from 1. If `how` says so, the line begins with
-/// the size of the buffer that the source reads through.
+/// Adds the answers to a text, and what each read asked for and got, unless rows that are held or images are asked for.
+/// The line says how many bytes a read gives at most, and which read fails, counted from 1. If `how` says so, the line
+/// begins with the size of the buffer that the source reads through.
 pub fn write_reads(
     alloc: Global,
     how: How,
@@ -69,7 +69,7 @@ pub fn write_reads(
     out: &mut String,
 ) -> Result<(), AllocError> {
     let (size, rest) = match how {
-        How::ReadsBy | How::TogetherBy | How::WholeBy => {
+        How::ReadsBy | How::TogetherBy | How::RowsAheadBy | How::WholeBy => {
             let (size, rest) = cut_number(line);
             (Some(size), rest)
         }
@@ -78,6 +78,7 @@ pub fn write_reads(
     let (most, failing, text) = cut_pair(rest);
     let first = match how {
         How::Together | How::TogetherBy => First::Rows,
+        How::RowsAhead | How::RowsAheadBy => First::RowsAhead,
         How::Whole | How::WholeBy => First::Image,
         _ => First::Nothing,
     };
@@ -90,7 +91,7 @@ pub fn write_reads(
     };
     let calls = write_recorded(alloc, reading, out)?;
     match first {
-        First::Nothing => write_calls(calls.as_slice(), out),
+        First::Nothing | First::RowsAhead => write_calls(calls.as_slice(), out),
         First::Rows | First::Image => Ok(()),
     }
 }

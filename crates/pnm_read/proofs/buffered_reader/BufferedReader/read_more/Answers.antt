@@ -1,10 +1,11 @@
-use Rattle.std.proofs.Common.{◌≡◌, ◌⊎◌, ◌+◌, ◌-◌, ◌<◌, ◌≤◌, ◌==◌, Bool, true, List, ℕ, zero, suc, length, ◌++◌, take, inl, inr, ap, sym, arith, ◌∙◌, append-nil}
+use Rattle.std.proofs.Common.{◌≡◌, ◌⊎◌, ◌+◌, ◌-◌, ◌<◌, ◌≤◌, ◌==◌, Bool, true, List, ℕ, zero}
+use Rattle.std.proofs.Common.{suc, length, ◌++◌, take, drop, inl, inr, ap, sym, arith, ◌∙◌, append-nil}
 use borrow.Rule.Slice.PartMut.{post_of}
 use Rattle.std.specs.List.{slice_range}
 use Rattle.std.specs.Vec.{with_items}
 use Rattle.std.proofs.lemmas.Bool.{eqb-true}
 use Rattle.std.proofs.lemmas.Grind.{common_steps}
-use Rattle.std.proofs.lemmas.List.{length-append, length-take}
+use Rattle.std.proofs.lemmas.List.{length-append, length-take, length-drop}
 use Rattle.std.proofs.lemmas.Result.{err_from_is_err_and}
 use Rattle.pnm_read.proofs.ReadSteps.{call_grown, call_failed, range_grown}
 use Rattle.pnm_read.proofs.buffered_reader.BufferedReader.read_more.Goals as goal
@@ -50,3 +51,20 @@ returns-clause-more g c =
     ∙ ap (λ (l : List ℕ). l ++ take c.in_ok-self.field-0 target) (ap (λ (l : List ℕ). slice_range l mid.at mid.end) c.as_mut_slice.ensures.value
     ∙ c.move_to_front.ensures.held))
     c.in_ok-self.ensures.read.1 c.in_ok-self.ensures.end
+
+pub read_into-requires-clause-target : goal.read_into-requires-clause-target
+read_into-requires-clause-target g c =
+    let mid = c.move_to_front.new.self in
+    let bytes : List ℕ = mid.buffer.items in
+    omega (
+      arith,
+      c.requires.free,
+      c.move_to_front.ensures.front,
+      c.move_to_front.ensures.size,
+      ap (λ (l : List ℕ). length l) c.move_to_front.ensures.held,
+      length-take (mid.end - mid.at) (drop mid.at bytes),
+      length-drop mid.at bytes,
+      c.as_mut_slice.ensures.len,
+      length-take (length c.as_mut_slice.result.now - mid.end) (drop mid.end c.as_mut_slice.result.now),
+      length-drop mid.end c.as_mut_slice.result.now,
+    )
