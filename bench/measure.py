@@ -50,7 +50,8 @@ def written(path, header, size, count=1):
 
 
 def timed(words, source, target):
-    """Wall seconds, processor seconds and peak MB of one run; None where it fails."""
+    """Wall seconds, processor seconds and peak MB of one run; None where it fails. The system counts what this script
+    itself takes as the least peak of a child."""
     with open(source, "rb") as stdin, open(target, "wb") as stdout:
         start = time.perf_counter()
         child = subprocess.Popen(words, stdin=stdin, stdout=stdout)

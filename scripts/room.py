@@ -33,10 +33,10 @@ STEP = 2
 TRIES = 6
 MOST = 8192
 
-# a PGM image of 80 MB, five of whose columns are shown, and the MB that may be resident then
+# a PGM image of 80 MB, five of whose columns are shown, and the MB that may be resident at any time
 WIDE, HIGH = 10_000, 8_000
 SHOWN = 5
-RESIDENT = 40
+RESIDENT = 10
 
 
 def tools_of(command):
@@ -107,27 +107,36 @@ def check_stacks(args):
     return count, failed
 
 
+def peak_of(process):
+    """The most memory that a running process has had since it began its program, in MB: what wait4(2) tells has that of
+    this script in it, too, whose child it was."""
+    with open(f"/proc/{process.pid}/status") as status:
+        return next(int(line.split()[1]) for line in status if line.startswith("VmHWM:")) // 1024
+
+
 def check_tiles(args):
     """Whether `pnmtile` takes less than what the whole image would, and shows what it has to. Gives 1 where not."""
     row = bytes(range(250)) * (WIDE // 250)
+    want = b"P5\n%d %d\n255\n" % (SHOWN, HIGH) + row[:SHOWN] * HIGH
     words = [args.program, f"pnmtile {SHOWN} {HIGH}"]
-    child = subprocess.Popen(words, stdin=subprocess.PIPE, stdout=subprocess.PIPE)
+    with subprocess.Popen(words, stdin=subprocess.PIPE, stdout=subprocess.PIPE) as child:
 
-    def give():
-        with child.stdin:
+        def give():
             child.stdin.write(b"P5\n%d %d\n255\n" % (WIDE, HIGH))
             for _ in range(HIGH):
                 child.stdin.write(row)
+            child.stdin.flush()
 
-    giver = threading.Thread(target=give)
-    giver.start()
-    written = child.stdout.read()
-    giver.join()
-    _, status, usage = os.wait4(child.pid, 0)
-    child.returncode = os.waitstatus_to_exitcode(status)
-    resident = usage.ru_maxrss // 1024
+        giver = threading.Thread(target=give)
+        giver.start()
+        # the whole result comes while the input is open, and the program waits for another image
+        written = child.stdout.read(len(want))
+        resident = peak_of(child)
+        giver.join()
+        child.stdin.close()
+        rest = child.stdout.read()
     print(f"room: {resident} MB for {SHOWN} columns of {WIDE} by {HIGH}")
-    is_right = written == b"P5\n%d %d\n255\n" % (SHOWN, HIGH) + row[:SHOWN] * HIGH
+    is_right = written == want and not rest
     return 0 if is_right and child.returncode == 0 and resident < RESIDENT else 1
 
 
