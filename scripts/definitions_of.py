@@ -30,6 +30,8 @@ BOOKKEEPING = {
         ["commented", "ends_in_", "uncommented_from"],
         "steps along a text: inside a comment or a word",
     ),
+    ("pnm_image", "Texts"): (["runs_between"], "cuts a text, for its words"),
+    ("pnm_read", "PamLines"): (["trimmed"], "cuts a line, for its values"),
     ("pnm_read", "LineWalks"): ([], "steps along a line, as its scanner goes"),
     ("pnm_read", "Items"): (
         ["after_last", "decimal_end", "ends_in_", "fault_of_", "header_end", "is_complete"]
