@@ -1,7 +1,7 @@
 """Chains beside a shell pipe of Netpbm's tools, over narrow rows and small images: file to memory, medians, the bytes
-compared. A line for each image and chain: wall seconds, processor seconds and the greatest resident memory in MB of the
-program, of each program named by --beside NAME=PATH and of the pipe, and the program's wall and processor time over the
-pipe's."""
+compared. A line for each image and chain: wall seconds, processor seconds and the greatest resident memory in MB (no
+less than this script's own, some 19) of the program, of each program named by --beside NAME=PATH and of the pipe, and
+the program's wall and processor time over the pipe's."""
 
 import os
 
@@ -23,7 +23,16 @@ RGBA = b"P7\nWIDTH 32\nHEIGHT 32\nDEPTH 4\nMAXVAL 255\nTUPLTYPE RGB_ALPHA\nENDHD
 # their own
 EACH = ["pnminvert", "pamdepth 100", "pamchannel 0", "pamflip -lr", "pamflip -xy", "pamflip -r180", "pamenlarge 2"]
 EACH += untried([*EACH, "pamcut", "pnmtile"])
-ENLARGED = ["pamenlarge 2", "pamenlarge 8", "pamenlarge 32"]
+
+# by what pixels are enlarged, and how many times as many rows there are for that: a result takes 32 to 127 MB
+FACTORS = [(2, 64), (8, 8), (32, 1)]
+
+
+def enlarged(name, header, size, rows):
+    """An image for each factor: its name, header and size, and the chain."""
+    heights = [(factor, times * rows) for factor, times in FACTORS]
+    return [(name, header % height, size * height, 1, [f"pamenlarge {factor}"]) for factor, height in heights]
+
 
 # the name, the header and the bytes of the raster of an image, how many there are, and the chains
 STREAMS = [
@@ -48,16 +57,16 @@ STREAMS = [
     ("gray page", b"P5\n2480 7016\n255\n", 2480 * 7016, 1, ["pnminvert"]),
     ("color page", b"P6\n2480 3508\n255\n", 7440 * 3508, 1, ["pnminvert"]),
     ("photo", b"P6\n4032 3024\n255\n", 12096 * 3024, 1, ["pnminvert"]),
-    ("part of a page", b"P4\n2480 400\n", 310 * 400, 1, ENLARGED),
-    ("part of 20000 bits", b"P4\n20000 50\n", 2500 * 50, 1, ENLARGED),
-    ("part of a gray page", b"P5\n2480 50\n255\n", 2480 * 50, 1, ENLARGED),
-    ("part of a color page", b"P6\n2480 17\n255\n", 7440 * 17, 1, ENLARGED),
-    ("part of a page of words", b"P5\n2480 25\n65535\n", 4960 * 25, 1, ENLARGED),
+    *enlarged("bits of 2480", b"P4\n2480 %d\n", 310, 400),
+    *enlarged("bits of 20000", b"P4\n20000 %d\n", 2500, 50),
+    *enlarged("gray of 2480", b"P5\n2480 %d\n255\n", 2480, 50),
+    *enlarged("color of 2480", b"P6\n2480 %d\n255\n", 7440, 17),
+    *enlarged("words of 2480", b"P5\n2480 %d\n65535\n", 4960, 25),
 ]
 
 
 def add_options(parser):
-    add_options_beside(parser, [stream[0] for stream in STREAMS])
+    add_options_beside(parser, list(dict.fromkeys(stream[0] for stream in STREAMS)))
 
 
 def run(args, folder):
