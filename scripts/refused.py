@@ -49,10 +49,6 @@ MOST_TOOLS = 64
 # shared may let no process run for more than one
 PROMPT = 10.0
 
-# how often a command is tried again if too many runs of it ended well: each run gives its threads other turns, so that
-# an allocation that the program can do without may have one number in one run and the next in another
-AGAIN = 3
-
 
 class Command(typing.NamedTuple):
     """A call of the program, what it writes and prints if nothing is refused, how many threads it starts at least,
@@ -67,8 +63,9 @@ class Command(typing.NamedTuple):
 
 
 class Answer(typing.NamedTuple):
-    """How a run ended, what it wrote and printed, and what the loaded code told: refusals, and at the end threads
-    that are left, and how many starts of threads it has counted."""
+    """How a run ended, what it wrote and printed, and what the loaded code told: refusals, at the end threads that are
+    left, how many starts of threads it has counted, and of the first call that was refused which thread's it was and
+    which of that thread's calls."""
 
     status: int
     written: bytes
@@ -76,6 +73,7 @@ class Answer(typing.NamedTuple):
     refusals: int
     left: typing.Optional[int]
     starts: int = 0
+    place: str = ""
 
 
 class Fault(Exception):
@@ -249,8 +247,10 @@ def run(words, given, seconds, loaded, variables):
         if teller is not None:
             os.close(teller)
     # (the first of each kind counts)
-    counts = {word: int(count) for word, count in (line.split() for line in reversed(lines) if " " in line)}
-    told = lines.count("refused"), counts.get("left"), counts.get("starts", 0)
+    counts = dict(line.split() for line in reversed(lines) if " " in line)
+    refusals = sum(line.startswith("refused ") for line in lines)
+    left = int(counts["left"]) if "left" in counts else None
+    told = refusals, left, int(counts.get("starts", 0)), counts.get("refused", "")
     return Answer(ran.returncode, ran.stdout, ran.stderr.decode(errors="replace"), *told)
 
 
@@ -312,10 +312,6 @@ def refuse_each(kind, is_for_good, run_once, last=MOST):
     return met
 
 
-def count_well(answers):
-    return sum(answer.status == 0 for answer in answers)
-
-
 def refuse_command(program, command, kinds, seconds, loaded):
     """Refuses all of these kinds of a command. Gives how many of each were met, and how often each line was printed."""
 
@@ -335,12 +331,10 @@ def refuse_command(program, command, kinds, seconds, loaded):
             if len(met) < least:
                 raise Fault(f"{kind.lower()}: only {len(met)} were refused, of {least} at least")
             most = command.spared if kind == "GROWTH" and not is_for_good else 0
-            spared = count_well(met)
-            for _ in range(AGAIN):
-                if most < spared:
-                    spared = min(spared, count_well(refuse_each(kind, is_for_good, run_once)))
+            # threads take other turns in each run, so one call may be met at two numbers
+            spared = len({answer.place for answer in met if answer.status == 0})
             if spared > most:
-                raise Fault(f"{kind.lower()}: {spared} runs ended well, of {most} at most")
+                raise Fault(f"{kind.lower()}: {spared} calls were spared, of {most} at most")
             counts.append((kind, len(met)))
             lines.update(shown(answer) for answer in met)
     return counts, lines
