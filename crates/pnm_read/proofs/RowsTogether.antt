@@ -11,7 +11,7 @@ use Rattle.pnm_samples.specs.PixelRows.{bytes_for, rows_of_bytes}
 use Rattle.pnm_samples.proofs.PixelRowLaws.{byte_pixels_within}
 use Rattle.pnm_image.specs.HeldRows.{AreRowsWithin}
 use Rattle.pnm_samples.specs.Pixels.{all_pixels}
-use Rattle.pnm_samples.proofs.PixelLaws.{length-all_pixels, take-all_pixels}
+use Rattle.pnm_samples.proofs.PixelLaws.{take-all_pixels}
 use Rattle.pnm_image.specs.declared.shape.Shape.{Shape}
 use Rattle.pnm_image.specs.declared.format.Format.{Format}
 use Rattle.pnm_image.specs.declared.sample_width.SampleWidth.{SampleWidth}
@@ -115,14 +115,6 @@ bits_are_rows s (suc count) bytes fits =
     sym (take-take each (8 * units) (all_pixels bytes) (omega (arith, fits))) ∙ ap (take each) (take-all_pixels units bytes) in
     ap₂ (λ (r : List ℕ) (l : List (List ℕ)). r ∷ l) row
     (ap (λ (n : ℕ). rows_of_bytes count each (drop n bytes)) fits ∙ bits_are_rows s count (drop units bytes) fits)
-
-pub length_of_bits : (count each : ℕ) (bytes : List ℕ) → length bytes ≡ count * bytes_for each → All (λ row. length row ≡ each) (rows_of_bytes count each bytes)
-length_of_bits zero each bytes size = All-nil (λ (row : List ℕ). length row ≡ each)
-length_of_bits (suc count) each bytes size =
-    let total : length bytes ≡ count * bytes_for each + bytes_for each = size ∙ suc-mul count (bytes_for each) in
-    All-cons (λ (row : List ℕ). length row ≡ each) (take each (all_pixels bytes)) (rows_of_bytes count each (drop (bytes_for each) bytes))
-    (length-take-le each (all_pixels bytes) (omega (arith, length-all_pixels bytes, total)))
-    (length_of_bits count each (drop (bytes_for each) bytes) (omega (arith, length-drop (bytes_for each) bytes, total)))
 
 pub bits_within : (count each : ℕ) (bytes : List ℕ) → AreRowsWithin 1 (rows_of_bytes count each bytes)
 bits_within zero each bytes = All-nil (λ (row : List ℕ). All (λ sample. sample ≤ 1) row)

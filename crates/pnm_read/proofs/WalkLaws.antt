@@ -2,7 +2,7 @@
 use Rattle.std.proofs.Common.{◌≡◌, ℕ, zero, suc, ◌+◌, ◌-◌, ◌<◌, ◌≤◌, Bool, true, false, not, cond, ◌==◌, nat_lt, if◌then◌else◌, List, [], ◌∷◌, ◌++◌}
 use Rattle.std.proofs.Common.{length, take, drop, map, filter, reverse, codes, slice_index_or, count_by, refl, sym, ap, ap₂, subst}
 use Rattle.std.proofs.Common.{◌∙◌, append_assoc, append-nil, arith}
-use Rattle.std.specs.List.{slice_split, onto_first, after_last, prefix_len, suffix_len, join_with_byte}
+use Rattle.std.specs.List.{slice_split, onto_first, prefix_len, suffix_len, join_with_byte}
 use Rattle.std.proofs.lemmas.Bool.{lt-ltb}
 use Rattle.std.proofs.lemmas.Bool.Decides.{nat_tests}
 use Rattle.std.proofs.lemmas.List.{reverse-append, length-reverse, length-append, take_at, drop-drop}

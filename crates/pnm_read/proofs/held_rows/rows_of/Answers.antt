@@ -7,7 +7,8 @@ use Rattle.pnm_image.specs.Images.{cut_rows}
 use Rattle.pnm_read.specs.Units.{AreBytesWithin}
 use Rattle.pnm_read.specs.RasterRows.{FitsBytes, rows_held}
 use Rattle.pnm_read.specs.Said.{units_in_row}
-use Rattle.pnm_read.proofs.RowsTogether.{are_bytes, bits_are_rows, bits_within, bytes_are_rows, cut_within, length_of_bits}
+use Rattle.pnm_image.proofs.HeldRowLaws.{length_of_bits}
+use Rattle.pnm_read.proofs.RowsTogether.{are_bytes, bits_are_rows, bits_within, bytes_are_rows, cut_within}
 use Rattle.pnm_read.proofs.held_rows.rows_of.Goals as goal
 
 pub new-requires : goal.new-requires

@@ -2,7 +2,8 @@ use Rattle.std.proofs.Common.{◌≡◌, ◌*◌, ◌∙◌, ℕ, List, All, len
 use Rattle.pnm_samples.specs.PixelRows.{bytes_for}
 use Rattle.pnm_samples.proofs.PixelRowsLaws.{length_of_rows}
 use Rattle.pnm_image.specs.HeldRows.{AreRowsWithin}
-use Rattle.pnm_test_support.proofs.HeldRows.{bits_within, length_of_bits}
+use Rattle.pnm_image.proofs.HeldRowLaws.{length_of_bits}
+use Rattle.pnm_test_support.proofs.HeldRows.{bits_within}
 use Rattle.pnm_test_support.proofs.together.rows_of_bits.Goals as goal
 
 pub returns-clause-many : goal.returns-clause-many

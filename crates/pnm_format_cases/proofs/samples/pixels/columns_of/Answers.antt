@@ -1,7 +1,7 @@
 use Rattle.std.proofs.Common.{◌≡◌, ℕ, ◌+◌, ◌*◌, length, List, ◌++◌, ap, All, ◌∙◌, arith}
 use Rattle.pnm_samples.specs.PixelRows.{bytes_for, rows_of_bytes}
 use Rattle.pnm_samples.proofs.PixelRowsLaws.{length_of_rows}
-use Rattle.pnm_test_support.proofs.HeldRows.{length_of_bits}
+use Rattle.pnm_image.proofs.HeldRowLaws.{length_of_bits}
 use Rattle.pnm_format_cases.proofs.samples.pixels.columns_of.Goals as goal
 
 pub columns-requires-clause-rows : goal.columns-requires-clause-rows
