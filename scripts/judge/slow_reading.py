@@ -98,8 +98,8 @@ class Reading:
         return count if count == self.rows else 0
 
     def read_ahead(self, number):
-        """Reads once if a row is next that may come with others, and isn't held whole, though nothing that is held of
-        it shows that it is at fault; whether that read doesn't fail."""
+        """Reads once if the next row may come with others, isn't held whole, and shows no fault in what is held of it.
+        Whether that read doesn't fail."""
         if not self.rows or not self.row <= min(MOST_ROW, self.size) or self.come > len(self.text):
             return True
         part = self.text[self.needs[number - 1] : self.come]

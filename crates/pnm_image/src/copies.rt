@@ -8,7 +8,7 @@ use crate::rows::{RowSlice, RowVec, Rows};
 use pnm_samples::BitRows;
 use std::alloc::{AllocError, Global};
 
-/// The most bytes of copies that are made together, unless the rows take more when they come once.
+/// The most bytes of copies that are made together, unless a single copy takes more.
 const MOST_TOGETHER: usize = 65_536;
 
 /// How many copies of the rows are made together: as many as take 65,536 bytes at most, or one.

@@ -108,8 +108,8 @@ impl RepeatedRows {
         (self.rows, self.times)
     }
 
-    /// The next copies, as many as take 65,536 bytes at most, or one, and the rows that come after them, if some do. A
-    /// single copy that is left is the rows as they are held.
+    /// Returns the next copies, as many as take at most 65,536 bytes, or one, and the copies still to be made, if any
+    /// are. If only one copy is left, returns the rows as they are held, without a copy.
     ///
     /// # Errors
     ///

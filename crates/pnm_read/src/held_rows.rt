@@ -34,8 +34,9 @@ pub fn holds_row<R: BytesIn>(input: &BufferedReader<R>, raster: &Raster) -> bool
     }
 }
 
-/// How many bytes are to be held of what comes next, if these are: those of a row, if one comes next that can be given
-/// together with others, and no sample that is held of it is above the maxval. Otherwise 0.
+/// How many bytes have to be held before rows are taken together, where `bytes` are held: those of the next row, if it
+/// is short enough to go together with others, isn't held whole, and has no sample above the maxval in `bytes`.
+/// Otherwise 0.
 pub fn wanted_ahead(bytes: &[u8], raster: &Raster) -> usize {
     let wanted = raw::bytes_of(raster.units, raster.sample_width);
     if raster.y == raster.shape.height || wanted > MOST_ROW_BYTES || bytes.len() >= wanted {

@@ -57,7 +57,7 @@ pub fn bytes_of(units: usize, sample_width: SampleWidth) -> usize {
     }
 }
 
-/// Whether no sample that begins a row, of which these are the first bytes, is above the maxval.
+/// Whether no sample that lies whole in `bytes`, the first bytes of a row, is above the maxval.
 pub fn are_within(bytes: &[u8], sample_width: SampleWidth, maxval: u32) -> bool {
     match sample_width {
         SampleWidth::Bits | SampleWidth::Bytes => are_units_within(bytes, sample_width, maxval),
