@@ -1,12 +1,8 @@
 # pnmpipe: `make` proves and builds, `make check` is the whole gate.
 
 PROGRAM := crates/pnmpipe
-# where the tests stand: in crates of their own, and those of the program's words beside the program
-TESTED := pnm_unit_tests pnm_flow_tests pnm_surface pnmpipe
-# programs that tell what comes of written cases
-CASES := pnm_format_cases pnm_tools_cases pnm_flow_cases
 
-.PHONY: all bench bench-files bench-library bench-sweep bench-waits built check controls deb dist disturb gate help install install-library
+.PHONY: all bench bench-files bench-library bench-sweep bench-waits built check deb dist disturb gate help install install-library
 .PHONY: lanes library lint long-stream model near pass pictures recipes refused scripts soak soak-library test toolchain uninstall wheel
 
 # where `make install` puts things, below DESTDIR
@@ -47,26 +43,26 @@ library: toolchain
 near pass: toolchain
 	python3 scripts/change.py $@ $(CRATES)
 
-# the whole gate, how long it took by the clock and of all processors, and the last line of `rt ci`; sh has no `time`
+# the whole gate, how long it took by the clock and of all processors, and the last lines of `rt ci` and of the edits; sh
+# has no `time`
 check: SHELL := bash
 check: toolchain
 	TIMEFORMAT='gate: %lR, and %lU + %lS of all processors'; { time $(MAKE) --no-print-directory gate; } 2>&1
-	tail -n 1 bin/gate
+	grep -E '^[0-9]+ passed, [0-9]+ failed$$|^edits: ' bin/gate
 
-# one check a processor, each of at most 4 GB; then each allocation and each start of a thread is refused in turn, of the
-# program and the tests that the gate has left, the program's input is silent, its stack is small, the C library is built
-# over what was proved and tested, the scripts, pages and documents are checked, and the model of how threads wait is
-# searched
+# one check a processor, each of at most 4 GB: `rt ci`, the edits and their controls, the C library over what was proved
+# (ALONE=1: each edit in a check of its own); then each allocation and each start of a thread is refused in turn, of the
+# program and the tests that the gate has left, the program's input is silent, its stack is small, the scripts, pages and
+# documents are checked, and the model of how threads wait is searched
 gate:
 	mkdir -p bin
 	rm -f bin/gate-failed
-	(RT_JOBS=$${RT_JOBS:-$$(nproc)} rt ci || touch bin/gate-failed) | tee bin/gate
+	(python3 scripts/gate_crates.py $(if $(ALONE),--alone) || touch bin/gate-failed) | tee bin/gate
 	test ! -e bin/gate-failed
 	python3 scripts/refused.py growth start silent tests --program $(PROGRAM)/out/pnmpipe
 	python3 scripts/idle.py --program $(PROGRAM)/out/pnmpipe
 	python3 scripts/waits.py --program $(PROGRAM)/out/pnmpipe
 	python3 scripts/room.py --program $(PROGRAM)/out/pnmpipe
-	python3 scripts/gate_library.py --program $(PROGRAM)/out/pnmpipe
 	$(MAKE) --no-print-directory scripts BUILT=$(PROGRAM)/out/pnmpipe
 	python3 scripts/cases.py
 	python3 model/check.py --where-installed
@@ -90,6 +86,8 @@ scripts: lint
 	python3 scripts/tests/test_pages.py --program $(BUILT)
 	python3 scripts/tests/test_explain.py --program $(BUILT)
 	python3 scripts/tests/test_build.py
+	python3 scripts/tests/test_edits.py
+	python3 scripts/tests/test_kit.py
 	python3 scripts/tests/test_definitions_of.py
 	python3 scripts/tests/test_library.py --header
 	python3 scripts/pictures.py --check --program $(BUILT)
@@ -161,12 +159,13 @@ pictures: built
 recipes: built
 	python3 scripts/recipes.py
 
-# the tests alone, built and run as they stand: `make check` proves them too; the stored commands by the program that make has left
-test: toolchain
-	for crate in $(TESTED); do (cd crates/$$crate && rt try --test --seconds 600) || exit 1; done
-	for crate in $(CASES); do (cd crates/$$crate && mkdir -p out && rt run < stdin > out/told && cmp out/told stdout) || exit 1; done
-	python3 scripts/cases.py
+# whether the program that make has left works: the stored commands, rows of all sizes beside what the judge works out, the
+# pages' examples, and the stored cases judged again; nothing is proved
+test: built
 	python3 scripts/tests/test_commands.py --program $(BUILT)
+	python3 scripts/tests/test_rows.py --program $(BUILT)
+	python3 scripts/tests/test_pages.py --program $(BUILT)
+	python3 scripts/cases.py
 
 # the program that make has left beside Netpbm's own tools, where these are installed: a table, for a quiet machine, and
 # the figures of the documents, which `make scripts` then wants in their tables
@@ -198,10 +197,6 @@ lanes:
 long-stream:
 	sh scripts/long_stream.sh
 
-# edits that keep the code's meaning, each of the shape of a must-fail edit: they have to prove
-controls: toolchain
-	sh scripts/controls.sh
-
 # each allocation and each start of a thread refused in turn, of the program that make has left and of tests
 refused: toolchain
 	for crate in $(REFUSED); do (cd crates/$$crate && rt test) || exit 1; done
@@ -226,10 +221,10 @@ toolchain:
 help:
 	@echo "make                 proves the crates that the program stands on, builds it and leaves it as bin/pnmpipe"
 	@echo "make library         does what make does, and beside it the same for the C library, as bin/libpnmpipe.a and bin/libpnmpipe.so.1, with bin/pnmpipe.h"
-	@echo "make near CRATES=..  tries changed crates in minutes: layout, proof, edits that must fail, tests as they stand, and the crates above"
+	@echo "make near CRATES=..  tries changed crates in minutes: layout, proof, edits that must fail and their controls, tests as they stand, and the crates above"
 	@echo "make pass CRATES=..  proves changed crates, their tests and edits from nothing, as the gate does, with what they stand on"
-	@echo "make test            the tests alone, without their proofs"
-	@echo "make check           the whole gate: every proof, the edits that must fail, the tests, the stored runs and commands, refused allocations, silent inputs, small stacks, the C library, scripts and pages, the model"
+	@echo "make test            whether the program that make has left works: the stored commands, rows of all sizes, the pages' examples, the stored cases; no proof"
+	@echo "make check           the whole gate: every proof, the edits that must fail and their controls, the tests, the stored runs and commands, refused allocations, silent inputs, small stacks, the C library, scripts and pages, the model"
 	@echo "make bench           times the program that make has left beside Netpbm's own tools, on large images, narrow rows and small images, and writes docs/figures.tsv"
 	@echo "make bench-sweep     all tools by kinds of images and by options, and which take more processor time than Netpbm's"
 	@echo "make bench-files     times many files in each way, beside Netpbm's own tools"
@@ -237,7 +232,6 @@ help:
 	@echo "make bench-library   times calls of the C library in C and in Python, beside a process a file, Pillow, numpy and libvips"
 	@echo "make lanes           times the program that make has left with 1, 2, 4 and 8 lanes"
 	@echo "make long-stream     passes a stream of 4 GiB through the program that make has left, and wants less than 32 MB of memory"
-	@echo "make controls        tries the edits that keep the code's meaning, which must prove"
 	@echo "make refused         refuses each allocation and each start of a thread in turn, of the program that make has left and of tests"
 	@echo "make soak SECONDS=n  runs random chains over random streams for n seconds, in one thread and over threads"
 	@echo "make disturb         runs random chains by the program that make has left, between slow neighbours and signals that stop it"

@@ -6,8 +6,9 @@ header.
 Each crate is checked from nothing by `rattle build`, over the statements of the crates below it, as the gate checks it:
 the proofs of libraries aren't loaded, as `rt check` loads them to begin with what it kept. Crates that don't stand on
 one another are checked side by side. What is proved stands in bin/proved beside the sum of all that its check has read,
-so that the next call takes what is the same; what each check printed stands in bin/log. RT_JOBS says on how many
-processors, by default all that there are.
+so that the next call takes what is the same: the statements of a crate as an archive, since they have copies of its
+sources, and `rt` stops at a source of which it knows no crate. What each check printed stands in bin/log. RT_JOBS says
+on how many processors, by default all that there are.
 """
 
 import contextlib
@@ -18,6 +19,7 @@ import shutil
 import signal
 import subprocess
 import sys
+import tempfile
 import time
 
 import library
@@ -27,7 +29,7 @@ PROGRAM = "pnmpipe"
 # the static library that the C library is made of
 LIBRARY = "pnm_c"
 PROVED = os.path.join(ROOT, "bin/proved")
-TOLD = "from nothing 9 minutes on 4 cores with nothing beside, 16 on 2, by the machine"
+TOLD = "from nothing 9 to 16 minutes on 4 cores, by the machine, and more on 2"
 
 # how much memory a check wants, and how many processors it makes use of
 MEMORY_OF_ONE = 4 << 30
@@ -82,9 +84,14 @@ def proved(file):
     return os.path.join(PROVED, file)
 
 
-def made_of(name, at=PROVED):
-    """What is left of a crate that is proved: the program, the static library, or what crates above it read."""
-    return os.path.join(at, {PROGRAM: PROGRAM, LIBRARY: f"lib{LIBRARY}.a"}.get(name, f"{name}.rlib"))
+def kept(name):
+    """What is kept of a crate that is proved: the program, the static library, or an archive of its statements."""
+    return proved({PROGRAM: PROGRAM, LIBRARY: f"lib{LIBRARY}.a"}.get(name, f"{name}.tar"))
+
+
+def made_of(name, at):
+    """What a check leaves in the folder: the program's object file, the static library, or statements."""
+    return os.path.join(at, {PROGRAM: f"{PROGRAM}.o", LIBRARY: f"lib{LIBRARY}.a"}.get(name, f"{name}.rlib"))
 
 
 def text_of(path):
@@ -129,12 +136,10 @@ class Toolchain:
                 made.update(repr((os.path.relpath(path, ROOT), file.read())).encode())
         return made.hexdigest()
 
-    def build(self, name, jobs, at=PROVED):
-        """Checks the crate over what the folder has of those below it, and writes there its statements, the program's
-        object file, or the static library."""
-        is_program = name == PROGRAM
-        words = [self.path("bin/rattle"), "build", "--crate-name", name]
-        words += ["src/main.rt" if is_program else "src/lib.rt"]
+    def words(self, verb, name, jobs, at):
+        """The words of rattle for a check of the crate over what the folder has of those below it."""
+        words = [self.path("bin/rattle"), verb, "--crate-name", name]
+        words += ["src/main.rt" if name == PROGRAM else "src/lib.rt"]
         for library in ["std", *self.lines[name]]:
             own = library in self.lines
             folder = made_of(library, at) if own else self.path(f"rlibs/{library}.rlib")
@@ -142,17 +147,18 @@ class Toolchain:
         words += ["-L", f"dependency={at}", "-L", f"dependency={self.path('rlibs')}"]
         words += ["--antt-project", self.path("rattle/logic/antt-project.json")]
         words += ["--logic-built", self.path("logic_built"), "--jobs", str(jobs), "--links", f"{name}="]
-        if is_program:
-            return [*words, "--toolchain", self.path("toolchain"), "-o", os.path.join(at, f"{name}.o")]
-        if name == LIBRARY:
-            words += ["--crate-type", "staticlib", "--toolchain", self.path("toolchain")]
-            return [*words, "-o", made_of(name, at)]
-        return [*words, "--statements", "-o", made_of(name, at)]
+        return words + (["--crate-type", "staticlib"] if name == LIBRARY else [])
 
-    def link(self, program):
+    def build(self, name, jobs, at):
+        """Checks the crate over what the folder has of those below it, and writes there its statements, the program's
+        object file, or the static library."""
+        more = ["--toolchain", self.path("toolchain")] if name in (PROGRAM, LIBRARY) else ["--statements"]
+        return [*self.words("build", name, jobs, at), *more, "-o", made_of(name, at)]
+
+    def link(self, program, at):
         """Links the program's object file with what the standard library needs of C."""
         words = [self.path("bin/rattle-link"), "--target", "x86_64-unknown-linux-gnu"]
-        words += ["--toolchain", self.path("toolchain"), "-o", program, proved(f"{PROGRAM}.o")]
+        words += ["--toolchain", self.path("toolchain"), "-o", program, made_of(PROGRAM, at)]
         return [*words, self.path("c/libos_c.a"), self.path("c/liblibc_c.a")]
 
 
@@ -209,11 +215,12 @@ class Run:
 
 
 class Build:
-    """The crates that are left, and the checks that run."""
+    """The crates that are left, the checks that run, and a folder for what they read and leave."""
 
-    def __init__(self, toolchain, most, targets=(PROGRAM,)):
+    def __init__(self, toolchain, most, room, targets=(PROGRAM,)):
         crates = read_crates()
         self.toolchain = toolchain
+        self.room = room
         self.targets = targets
         # how many checks may run at a time
         self.most = most
@@ -239,7 +246,12 @@ class Build:
 
     def is_proved(self, name):
         """Whether what an earlier call made of the crate is there, and still the same would be made."""
-        return os.path.exists(made_of(name)) and text_of(proved(f"{name}.sum")) == self.sums[name]
+        return os.path.exists(kept(name)) and text_of(proved(f"{name}.sum")) == self.sums[name]
+
+    def unpack(self):
+        """Lays out the statements of crates that were proved, where something is left to prove over them."""
+        for name in self.done.intersection(set().union(*(self.crates[it] for it in self.left))):
+            shutil.unpack_archive(kept(name), self.room)
 
     def ready(self):
         """What can be checked now, first what the longest chain stands on."""
@@ -282,11 +294,17 @@ class Build:
     def begin(self, name, jobs, way):
         self.left.remove(name)
         self.begun += 1
-        for file in (f"{name}.sum", f"{name}.o"):
-            with contextlib.suppress(FileNotFoundError):
-                os.remove(proved(file))
-        Run(self.runs, name, self.toolchain.build(name, jobs), jobs, way)
+        with contextlib.suppress(FileNotFoundError):
+            os.remove(proved(f"{name}.sum"))
+        Run(self.runs, name, self.toolchain.build(name, jobs, self.room), jobs, way)
         say(f"{self.begun} of {len(self.crates)}: {name}" + (f", on {jobs} processors" if jobs > 1 else ""))
+
+    def keep(self, name):
+        """Keeps what a check has left of the crate."""
+        if name == LIBRARY:
+            shutil.copy(made_of(name, self.room), kept(name))
+        elif name != PROGRAM:
+            shutil.make_archive(proved(name), "tar", self.room, f"{name}.rlib")
 
     def note(self, name):
         """Notes that what was made of the crate is whole, and from which files, if these are still as they were."""
@@ -297,6 +315,7 @@ class Build:
     def prove(self):
         """Proves the crates, the program and the library last. Gives the status."""
         told = time.monotonic()
+        self.unpack()
         while self.left or self.runs:
             self.fill()
             time.sleep(0.1)
@@ -306,6 +325,7 @@ class Build:
                     return run.fault()
                 self.done.add(run.name)
                 if run.name != PROGRAM:
+                    self.keep(run.name)
                     self.note(run.name)
                 say(f"{run.name} is proved, {run.seconds():.0f} s")
             if self.runs and time.monotonic() - told > EVERY:
@@ -323,13 +343,13 @@ class Build:
         """Makes of what was built what is left in bin. Gives the status."""
         if LIBRARY not in self.targets:
             return self.link()
-        return self.link() or library.make(made_of(LIBRARY), os.path.join(ROOT, "bin"), self.toolchain.path("c"))
+        return self.link() or library.make(kept(LIBRARY), os.path.join(ROOT, "bin"), self.toolchain.path("c"))
 
     def link(self):
         """Links the program where it was built anew, and has it pass its stored run. Gives the status."""
         folder, program = os.path.join(ROOT, "crates", PROGRAM), proved(PROGRAM)
         if text_of(proved(f"{PROGRAM}.sum")) != self.sums[PROGRAM]:
-            run = self.ended(Run(self.runs, PROGRAM, self.toolchain.link(program)))
+            run = self.ended(Run(self.runs, PROGRAM, self.toolchain.link(program, self.room)))
             if run.child.returncode:
                 return run.fault()
             self.note(PROGRAM)
@@ -352,9 +372,9 @@ class Build:
             run.stop()
 
 
-def build(targets):
+def build(targets, room):
     start = time.monotonic()
-    this = Build(Toolchain(), max(1, min(processors(), free_memory() // MEMORY_OF_ONE)), targets)
+    this = Build(Toolchain(), max(1, min(processors(), free_memory() // MEMORY_OF_ONE)), room, targets)
     taken = f"; {len(this.done)} were proved before" if this.done else ""
     named = "program and the library" if LIBRARY in targets else "program"
     say(f"{len(this.crates)} crates, the {named} among them, on {processors()} processors{taken}")
@@ -377,8 +397,8 @@ def main():
     end_by_signals()
     os.makedirs(os.path.join(ROOT, "bin/log"), exist_ok=True)
     try:
-        with alone():
-            return build((PROGRAM, LIBRARY) if sys.argv[1:] else (PROGRAM,))
+        with alone(), tempfile.TemporaryDirectory(prefix="pnmpipe-build-") as room:
+            return build((PROGRAM, LIBRARY) if sys.argv[1:] else (PROGRAM,), room)
     except Ended as ended:
         say("ended by a signal; a next call goes on with what is proved")
         return 128 + ended.args[0]

@@ -1,25 +1,23 @@
 #!/usr/bin/env python3
 """Tries crates that were changed: `near` in minutes, over what was kept, `pass` from nothing, as the gate does.
 
-near: of each crate the layout, its check, the edits that must fail, the tests as they stand, unproved, and what the
-program of its cases prints, or the commands that are stored beside the program; then the check of each crate that
-stands on one of them. pass: `rt ci` over a temporary
-copy, below TMPDIR, of these crates and their tests, and of all that they stand on, the latter without edits. Neither
-takes the place of `make check`, which is the gate.
+near: of each crate the layout, its check, the edits that must fail and their controls, the tests as they stand,
+unproved, and what the program of its cases prints, or the commands that are stored beside the program; then the check
+of each crate that stands on one of them. pass: `rt ci` over a temporary copy, below TMPDIR, of these crates and their
+tests, and of all that they stand on, and the edits of these crates. Neither takes the place of `make check`, which is
+the gate.
 """
 
 import argparse
 import itertools
 import os
-import shutil
 import subprocess
 import sys
 import tempfile
 
-from crates import ROOT, SOURCES, Ended, above, below, copy_lines, end_by_signals, read_crates, tests_of
-
-# the program, beside which commands are stored
-PROGRAM = "pnmpipe"
+import gate_crates
+from build import PROGRAM
+from crates import ROOT, SOURCES, Ended, above, below, copied, end_by_signals, read_crates, tests_of
 
 
 def say(text):
@@ -33,19 +31,6 @@ def call(folder, *words, **how):
     status = subprocess.run(["rt", *words], cwd=folder, **how).returncode
     if status:
         sys.exit(f"change: rt {' '.join(words)} in {place} FAILED, status {status}")
-
-
-def copied(name, folder, parts):
-    """A copy of these parts of a crate, or of all but what checks left."""
-    source, target = os.path.join(ROOT, "crates", name), os.path.join(folder, "crates", name)
-    os.makedirs(target)
-    for part in parts or (it for it in os.listdir(source) if it != "out"):
-        path = os.path.join(source, part)
-        if os.path.isdir(path):
-            shutil.copytree(path, os.path.join(target, part))
-        elif os.path.isfile(path):
-            shutil.copy(path, target)
-    return target
 
 
 def is_laid_out(name):
@@ -100,7 +85,10 @@ def near(crates, names):
             sys.exit(f"change: {name} isn't laid out: run rt fmt in crates/{name}")
     for name in names:
         call(folders[name], "check")
-    call(ROOT, "must-fail", *names)
+    with tempfile.TemporaryDirectory(prefix="pnmpipe-near-") as folder:
+        say(f"the edits of {', '.join(names)}")
+        if gate_crates.call("edits.py", "--proved", gate_crates.statements(folder, ROOT), *names):
+            sys.exit("change: an edit or a control FAILED")
     for tests in dict.fromkeys(it for name in names for it in tests_of(crates, name)):
         if tests.endswith("_cases"):
             tells_what_is_stored(folders[tests])
@@ -115,25 +103,13 @@ def near(crates, names):
     return 0
 
 
-def lay_out(folder, taken, whole):
-    """A copy of these crates that rt ci takes: of some all but what checks left, of the others what a check reads."""
-    # (rt ci wants crates.txt at the top of a repository)
-    os.mkdir(os.path.join(folder, ".git"))
-    shutil.copy(os.path.join(ROOT, "HANDLES"), folder)
-    copy_lines(taken, folder)
-    for name in taken:
-        copied(name, folder, () if name in whole else SOURCES)
-
-
 def pass_alone(crates, names):
     whole = set(names).union(*(tests_of(crates, name) for name in names))
     taken = whole.union(*(below(crates, name) for name in whole))
     with tempfile.TemporaryDirectory(prefix="pnmpipe-pass-") as folder:
-        lay_out(folder, taken, whole)
         named = ", ".join(it for it in crates if it in whole)
-        say(f"rt ci over {named}, and {len(taken - whole)} crates that these stand on")
-        environment = {"RT_JOBS": str(len(os.sched_getaffinity(0))), **os.environ}
-        return subprocess.run(["rt", "ci"], cwd=folder, env=environment).returncode
+        say(f"rt ci over {named}, and {len(taken - whole)} crates that these stand on; then the edits")
+        return gate_crates.judged(folder, taken, whole)
 
 
 def main():

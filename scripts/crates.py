@@ -1,6 +1,7 @@
 """The crates of crates.txt, what each stands on, and what stands on it. For scripts that prove some of them."""
 
 import os
+import shutil
 import signal
 
 from places import ROOT
@@ -60,12 +61,30 @@ def read_crates():
     return {name: named[name] for name in sorted(named, key=lambda it: len(below(named, it)))}
 
 
-def copy_lines(crates, folder):
-    """Writes a crates.txt for a copy that has these crates alone: rt wants a folder of each crate that a line names."""
+def copied(name, folder, parts):
+    """A copy of these parts of a crate."""
+    source, target = os.path.join(ROOT, "crates", name), os.path.join(folder, "crates", name)
+    os.makedirs(target)
+    for part in parts:
+        path = os.path.join(source, part)
+        if os.path.isdir(path):
+            shutil.copytree(path, os.path.join(target, part))
+        elif os.path.isfile(path):
+            shutil.copy(path, target)
+    return target
+
+
+def lay_out(folder, crates, parts_of):
+    """A copy of these crates that rt ci takes, with the parts of each that parts_of gives."""
+    # (rt ci wants crates.txt at the top of a repository, and a folder of each crate that a line names)
+    os.mkdir(os.path.join(folder, ".git"))
+    shutil.copy(os.path.join(ROOT, "HANDLES"), folder)
     with open(os.path.join(ROOT, "crates.txt"), encoding="utf-8") as file:
         lines = [line for line in file if line.partition(":")[0].split()[:1] in [[name] for name in crates]]
     with open(os.path.join(folder, "crates.txt"), "w", encoding="utf-8") as file:
         file.writelines(lines)
+    for name in crates:
+        copied(name, folder, parts_of(name))
 
 
 def below(crates, name):

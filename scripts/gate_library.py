@@ -1,11 +1,9 @@
 #!/usr/bin/env python3
 """Builds the C library over what the gate's `rt ci` has just proved, and tests it (test_library.py).
 
-`rt ci` proves a static library, and compiles none. What it proved of each crate it keeps on this machine, by the sums
-of all that it read. So a second `rt ci`, over a copy of the crates that the library stands on, without their edits,
-proves nothing that the first one did, and leaves in the copy what crates above these read: their statements, and the
-code that was proved. Over that `rattle build` checks pnm_c once more, from nothing, and compiles all, as `make library`
-does over what make has proved. Where nothing could be kept the copy is proved anew.
+`rt ci` proves a static library, and compiles none. It leaves the statements of each crate that it has proved, and the
+code. Over these, which gate_crates.py has in a copy of the crates, `rattle build` checks pnm_c once more, from nothing,
+and compiles all, as `make library` does over what make has proved.
 """
 
 import argparse
@@ -17,7 +15,6 @@ import time
 
 import library
 from build import LIBRARY, Toolchain, made_of
-from change import lay_out
 from crates import ROOT, Ended, below, end_by_signals, read_crates
 
 TESTS = os.path.join(ROOT, "scripts/tests/test_library.py")
@@ -40,26 +37,23 @@ def ended_well(what, words, folder):
     return ran.returncode == 0
 
 
-def built(folder):
-    """The static library, made in a copy in the folder; None where a check has failed."""
-    crates, toolchain = read_crates(), Toolchain()
-    taken = below(crates, LIBRARY) | {LIBRARY}
-    lay_out(folder, taken, set())
-    if not ended_well(f"rt ci over {len(taken)} crates that were proved", ["rt", "ci"], folder):
+def built(folder, proved):
+    """The static library, made in the folder over what was proved; None where a check has failed."""
+    toolchain = Toolchain()
+    at = os.path.join(folder, "proved")
+    os.mkdir(at)
+    for name in below(read_crates(), LIBRARY):
+        os.symlink(made_of(name, os.path.abspath(proved)), made_of(name, at))
+    words = toolchain.build(LIBRARY, min(4, len(os.sched_getaffinity(0))), at)
+    if not ended_well(f"{LIBRARY} is checked and compiled", words, os.path.join(ROOT, "crates", LIBRARY)):
         return None
-    proved = os.path.join(folder, "proved")
-    os.mkdir(proved)
-    for name in taken - {LIBRARY}:
-        os.symlink(os.path.join(folder, "crates", name, "out/rlib", f"{name}.rlib"), made_of(name, proved))
-    words = toolchain.build(LIBRARY, min(4, len(os.sched_getaffinity(0))), proved)
-    if not ended_well(f"{LIBRARY} is checked and compiled", words, os.path.join(folder, "crates", LIBRARY)):
-        return None
-    return made_of(LIBRARY, proved)
+    return made_of(LIBRARY, at)
 
 
 def main():
     parser = argparse.ArgumentParser(description=__doc__.split("\n")[0])
     parser.add_argument("--program", required=True, help="the program that the gate has built")
+    parser.add_argument("--proved", required=True, help="where the statements of crates are that the gate has proved")
     words = parser.parse_args()
     end_by_signals()
     if not library.compiler():
@@ -67,7 +61,7 @@ def main():
         return subprocess.run([sys.executable, TESTS]).returncode
     try:
         with tempfile.TemporaryDirectory(prefix="pnmpipe-library-") as folder:
-            archive = built(folder)
+            archive = built(folder, words.proved)
             if archive is None:
                 return 1
             given = ["--archive", archive, "--program", os.path.join(ROOT, words.program)]

@@ -1,6 +1,6 @@
 #!/usr/bin/env python3
-"""Tests of build.py, change.py and gate_library.py, over a small repository and stand-ins for rt and rattle that prove
-nothing.
+"""Tests of build.py, change.py, gate_crates.py and gate_library.py, over a small repository and stand-ins for rt and
+rattle that prove nothing.
 
 The stand-ins note each call and leave what the toolchain leaves. `make scripts` runs this.
 """
@@ -56,8 +56,9 @@ def build(crate):
         os.makedirs(out)
 
 
-if words[0] in ("doc", "version"):
-    print(os.path.join(os.environ["KIT"], "START-HERE.md") if words[0] == "doc" else "the version of a stand-in")
+TOLD = {"doc": os.path.join(os.environ["KIT"], "START-HERE.md"), "version": "the version of a stand-in"}
+if words[0] in ("doc", "version", "help"):
+    print(TOLD.get(words[0], os.environ.get("HELP")))
     sys.exit(0)
 note(" ".join(words) + (f" ({name})" if os.path.basename(os.path.dirname(os.getcwd())) == "crates" else ""))
 if words[0] == "run":
@@ -68,7 +69,11 @@ if words[0] == "run":
     print(sys.stdin.read().upper(), end="")
 if words[0] == "ci":
     note("ci sees " + " ".join(sorted(os.listdir("crates"))))
-    note("edits of " + " ".join(it for it in sorted(os.listdir("crates")) if os.path.isdir(f"crates/{it}/must-fail")))
+    edited = [it for it in sorted(os.listdir("crates")) if os.path.isdir(f"crates/{it}/must-fail")]
+    note(" ".join(["ci has edits of", *edited]))
+    read = [at for at, _, files in os.walk(".") if any(it.endswith((".rt", ".antt")) for it in files)]
+    if not all(at.startswith("./crates/") for at in read):
+        sys.exit("no check reads a source")
     for crate in os.listdir("crates"):
         os.makedirs(f"crates/{crate}/out/rlib/{crate}.rlib")
 sys.exit(1 if fault == words[0] else 0)
@@ -95,7 +100,8 @@ if os.environ.get("FAULT") == name:
     print("a goal is open")
     sys.exit(1)
 if "--statements" in words:
-    os.makedirs(made, exist_ok=True)
+    os.makedirs(f"{made}/interface/lang/src", exist_ok=True)
+    open(f"{made}/interface/lang/src/lib.rt", "w").close()
 else:
     with open(made, "w") as code:
         code.write("#!/bin/sh\ntr a-z A-Z\n")
@@ -121,6 +127,14 @@ HUNDREDS = {
     **{"pnm_memory": 5, "pnm_c": 1},
 }
 
+# notes which crates' edits are tried, and over which statements
+EDITS = r'''import os, sys
+with open(os.environ["NOTES"], "a") as notes:
+    names = " ".join(sorted(sys.argv[3:])) or "all"
+    notes.write(f"edits of {names} over {' '.join(sorted(os.listdir(sys.argv[2])))}\n")
+sys.exit(os.environ.get("FAULT") == "edits")
+'''
+
 LINK = r'''#!/bin/sh
 [ "$FAULT" != link ] || exit 1
 while [ "$1" != -o ]; do shift; done
@@ -133,9 +147,10 @@ class Repository(unittest.TestCase):
         self.folder = os.path.realpath(tempfile.mkdtemp())
         self.addCleanup(shutil.rmtree, self.folder)
         self.root = self.path("root")
-        for file in ("build.py", "change.py", "crates.py", "gate_library.py", "library.py", "places.py"):
-            os.makedirs(self.path("root/scripts"), exist_ok=True)
-            shutil.copy(os.path.join(SCRIPTS, file), self.path("root/scripts"))
+        own = ("build", "change", "crates", "gate_crates", "gate_library", "library", "places")
+        self.write("root/scripts/edits.py", EDITS)
+        for file in own:
+            shutil.copy(os.path.join(SCRIPTS, f"{file}.py"), self.path("root/scripts"))
         self.write("root/crates.txt", CRATES)
         self.write("root/HANDLES", "Handles allowed: none.\n")
         for line in CRATES.splitlines():
@@ -225,7 +240,7 @@ class Building(Repository):
         self.write("root/crates.txt", CRATES.replace("top: longest right", "top: longest right thiserror"))
         self.assertEqual(self.run_script("build.py", RT_JOBS="2")[0], 0)
         self.assertEqual(self.proved(), ["top", "pnmpipe"])
-        shutil.rmtree(self.path("root/bin/proved/longest.rlib"))
+        os.remove(self.path("root/bin/proved/longest.tar"))
         self.assertEqual(self.run_script("build.py", RT_JOBS="2")[0], 0)
         self.assertEqual(self.proved(), ["longest", "top", "pnmpipe"])
 
@@ -255,7 +270,7 @@ class Building(Repository):
         self.ways = {}
         lines = unittest.mock.patch.object(build, "lines_of", HUNDREDS.get)
         with lines, unittest.mock.patch.dict(os.environ, {"RT_JOBS": str(number)}):
-            this = build.Build(toolchain, most, targets)
+            this = build.Build(toolchain, most, self.folder, targets)
             this.done = set(proved)
             this.runs = [types.SimpleNamespace(name=name, jobs=jobs) for name, jobs in at_work]
             this.left = [name for name in this.crates if name not in {*proved, *(name for name, _ in at_work)}]
@@ -395,7 +410,7 @@ class Changing(Repository):
     def test_near_goes_from_the_layout_to_what_stands_above(self):
         status, printed = self.run_script("change.py", "near", "longest", "right")
         self.assertEqual(status, 0, printed)
-        calls = ["fmt (right)", "fmt (longest)", "check (right)", "check (longest)", "must-fail right longest"]
+        calls = ["fmt (right)", "fmt (longest)", "check (right)", "check (longest)", "edits of longest right over "]
         calls += ["try --test --seconds 600 (right_tests)", "try --test --seconds 600 (longest)"]
         calls += ["run (right_cases)", "proves low in the checkout", "proves right in the checkout"]
         calls += [f"check ({name})" for name in ("right_tests", "right_cases", "top", "pnmpipe", "pnm_c", "top_tests")]
@@ -422,7 +437,7 @@ class Changing(Repository):
         self.assertEqual((status, "a stored command FAILED" in printed), (1, True), printed)
 
     def test_near_ends_at_a_fault(self):
-        for fault, calls in [("fmt", 1), ("check", 2), ("must-fail", 3), ("try", 4)]:
+        for fault, calls in [("fmt", 1), ("check", 2), ("edits", 3), ("try", 4)]:
             self.assertEqual(self.run_script("change.py", "near", "top", FAULT=fault)[0], 1)
             self.assertEqual(len(self.notes()), calls)
 
@@ -430,7 +445,9 @@ class Changing(Repository):
         status, printed = self.run_script("change.py", "pass", "right")
         self.assertEqual(status, 0, printed)
         copied = "right right_cases right_tests"
-        self.assertEqual(self.notes(), ["ci", f"ci sees low {copied}", f"edits of {copied}"])
+        libraries = " ".join(f"{it}.rlib" for it in f"low {copied}".split())
+        edits = f"edits of {copied} over {libraries}"
+        self.assertEqual(self.notes(), ["ci", f"ci sees low {copied}", "ci has edits of", edits])
         self.assertEqual(self.run_script("change.py", "pass", "pnmpipe", FAULT="ci")[0], 1)
 
     def test_names_have_to_be_crates(self):
@@ -452,23 +469,33 @@ class Gate(Repository):
     def setUp(self):
         super().setUp()
         self.write("root/scripts/tests/test_library.py", TESTS)
+        crates = sorted(line.partition(":")[0].split()[0] for line in CRATES.splitlines())
+        self.calls = ["ci", f"ci sees {' '.join(crates)}", "ci has edits of"]
+        self.calls += [f"edits of {' '.join(crates)} over {' '.join(f'{it}.rlib' for it in crates)}"]
+        self.calls += [f"pnm_c over std right, {min(4, len(os.sched_getaffinity(0)))} jobs"]
+        program = {"--program": os.path.join(self.root, "crates/pnmpipe/out/pnmpipe")}
+        self.calls += [f"tests of #!/bin/sh, {program}"]
 
-    def test_the_library_is_built_over_what_the_gate_has_proved(self):
-        status, printed = self.run_script("gate_library.py", "--program", "out/it")
-        self.assertEqual(status, 0, printed)
-        jobs = min(4, len(os.sched_getaffinity(0)))
-        calls = ["ci", "ci sees low pnm_c right", "edits of ", f"pnm_c over std right, {jobs} jobs"]
-        program = {"--program": os.path.join(self.root, "out/it")}
-        self.assertEqual(self.notes(), [*calls, f"tests of #!/bin/sh, {program}"])
+    def test_edits_are_tried_and_the_library_is_built_over_what_is_proved(self):
+        status, printed = self.run_script("gate_crates.py")
+        self.assertEqual((status, self.notes()), (0, self.calls), printed)
+
+    def test_a_toolchain_that_keeps_what_passed_takes_nothing_over(self):
+        self.assertEqual(self.run_script("gate_crates.py", HELP="ci [--anew]")[0], 0)
+        self.assertEqual(self.notes(), ["ci --anew", *self.calls[1:]])
+
+    def test_each_edit_is_tried_alone_too(self):
+        self.assertEqual(self.run_script("gate_crates.py", "--alone")[0], 0)
+        self.assertEqual(self.notes()[2], self.calls[1].replace("ci sees", "ci has edits of"))
 
     def test_faults_end_it(self):
-        for fault, calls in (("ci", 3), ("pnm_c", 4), ("tests", 5)):
-            status, printed = self.run_script("gate_library.py", "--program", "out/it", FAULT=fault)
+        for fault, calls in (("ci", 3), ("edits", 4), ("pnm_c", 5), ("tests", 6)):
+            status, printed = self.run_script("gate_crates.py", FAULT=fault)
             self.assertEqual((status, len(self.notes())), (3 if fault == "tests" else 1, calls), printed)
 
     def test_without_a_compiler_nothing_is_built(self):
-        self.assertEqual(self.run_script("gate_library.py", "--program", "out/it", CC="no-compiler")[0], 0)
-        self.assertEqual(self.notes(), ["tests of None, {}"])
+        self.assertEqual(self.run_script("gate_crates.py", CC="no-compiler")[0], 0)
+        self.assertEqual(self.notes(), [*self.calls[:4], "tests of None, {}"])
 
 
 if __name__ == "__main__":

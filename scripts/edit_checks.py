@@ -1,0 +1,167 @@
+"""What edits.py asks the prover: a check of a crate with other texts, and what such a check tells of each function.
+
+A function is proved by its own body, its own contract and the contracts of what it calls. So in a crate that was
+proved, a hole may stand for the proof of each function that isn't asked about: a check goes past it by the contract.
+"""
+
+import collections
+import os
+import re
+import subprocess
+import tempfile
+import typing
+
+from rust_places import functions, is_name_of, module_of
+
+SOURCES = ("src", "specs", "proofs")
+
+HOLE = """use Rattle.{crate}.proofs.{path}.Statement.{{statement}}
+
+pub {name}_spec : {{M : Type 1}} → statement M
+{name}_spec = ?
+"""
+
+# a check's line on what it has proved or not, and how it tells that a goal of it stays open: of one that has an answer
+# by an error there, of another one by a note on the code, and in the line itself
+LINE = re.compile(r"^(?:fn|impl|trait|const|static|type|struct|enum) (\S+): (.*)")
+OF_ANSWER = re.compile(r"^(?:\./)?proofs/(\S+)/(?:Answers|Invariants|Proof)\.antt:\d+:\d+: error: `([^`]*)`: ")
+OF_CODE = re.compile(r"^note: (?:\./)?src/\S+:\d+:\d+: .*\(`([^`]*)`\)")
+BY_SEARCH = re.compile(r"`search` did not prove ((?:`[^`]*`(?:, | and )?)+)")
+# a lemma that a function stands on, and that isn't proved
+BY_LEMMA = re.compile(r"it stands on ((?:`[^`]*`(?:, | and )?)+), which antt refuses")
+# what is no refusal of what the code does: an answer that names what the edit took away
+OF_NAMES = re.compile(r"has no field|is not in scope|has no `|was not admitted|is no name")
+# how a line begins of a function that has no open goal, in a check that goes past holes
+WHOLE = ("no holes", "depends on a hole in", "proved")
+# how the last line of a check begins that came to a verdict
+VERDICTS = ("logic=", "only=", "holes=")
+
+# why a goal is open, by words of the prover's; the last that fits no other is a bound of a tactic, at which it gave up
+DIFFERS = re.compile(r"types (?:first |)differ|the two types are")
+IS_FALSE = re.compile(r"does not follow|at which this goal is false|Every way was tried")
+AT_A_LIMIT = re.compile(r"one of its limits|its own limit|broke off|step limit|bound of its own|lemmas still to try")
+LIMIT = "a limit of the search"
+
+
+class Told(typing.NamedTuple):
+    """What a check told: whether it came to a verdict, its line on each function, the open goals of each with the kind
+    of what refuses them, the lemmas without a proof that each stands on, and all that it printed."""
+
+    has_verdict: bool
+    lines: dict
+    goals: dict
+    lemmas: dict
+    text: str
+
+
+def reason(text):
+    """By what a goal stays open, from what the prover says of it."""
+    if DIFFERS.search(text):
+        return "a type that differs"
+    return LIMIT if AT_A_LIMIT.search(text) and not IS_FALSE.search(text) else "a goal that doesn't follow"
+
+
+def messages(text):
+    """The messages of a check: a line, with those below it that are set in."""
+    message = []
+    for line in text.split("\n"):
+        if message and not line.startswith(" "):
+            yield "\n".join(message)
+            message = []
+        message.append(line)
+    yield "\n".join(message)
+
+
+def read(text):
+    """What a check has told, by what it printed."""
+    lines, goals, lemmas, noted = {}, collections.defaultdict(dict), {}, {}
+    for message in messages(text):
+        found, of_answer, of_code = LINE.match(message), OF_ANSWER.match(message), OF_CODE.match(message)
+        if of_answer and not OF_NAMES.search(message.partition("\n")[0]):
+            goals[of_answer[1].replace("/", "::")][of_answer[2]] = reason(message)
+        elif of_code:
+            noted[of_code[1]] = reason(message)
+        elif found:
+            name, said = found[1], found[2]
+            lines[name] = said
+            searched, stands = BY_SEARCH.search(said), BY_LEMMA.search(said)
+            for goal in re.findall(r"`([^`]*)`", searched[1] if searched else ""):
+                goals[name.partition("::")[2]][goal] = noted.get(goal, reason(""))
+            lemmas[name] = re.findall(r"`([^`]*)`", stands[1] if stands else "")
+            noted = {}
+    last = [it for it in text.rstrip("\n").split("\n") if it][-1:]
+    return Told(bool(last) and last[0].startswith(VERDICTS), lines, goals, lemmas, text)
+
+
+def named(function):
+    return function.owner, function.trait, function.name
+
+
+def is_test(text, function):
+    """Whether the function is left out of the crate where it is no test."""
+    return "#[cfg(test)]" in text[max(0, function.start - 200) : function.start].rpartition("\n\n")[2]
+
+
+class Crate:
+    """A crate whose edits are tried: its texts, and how they are checked over the statements of the crates below it."""
+
+    def __init__(self, name, folder, toolchain, proved):
+        self.name, self.toolchain, self.proved = name, toolchain, proved
+        self.texts = {}
+        for part in SOURCES:
+            for at, _, files in os.walk(os.path.join(folder, part)):
+                for file in files:
+                    path = os.path.join(at, file)
+                    with open(path, encoding="utf-8") as text:
+                        self.texts[os.path.relpath(path, folder)] = text.read()
+        # each function by its place: its file and its name
+        self.functions = {
+            (file, named(function)): function
+            for file in sorted(it for it in self.texts if it.endswith(".rt"))
+            for function in functions(self.texts[file])
+            if not is_test(self.texts[file], function)
+        }
+        self.known = set()
+        self.checks = self.seconds = 0
+
+    def symbols(self, place):
+        """The names by which checks have told of the function and of the closures in it."""
+        return sorted(it for it in self.known if is_name_of(it, self.name, place[0], self.functions[place]))
+
+    def proof_folders(self, file, function):
+        """The folders of a function's proof: of a trait's method where it is there, since its name may have more."""
+        start = "/".join([*module_of(file), ""])
+        if not function.trait:
+            return [f"{start}{function.owner}/{function.name}" if function.owner else f"{start}{function.name}"]
+        begins = f"proofs/{start}{function.owner}{function.trait}"
+        found = {it.split("/", 1)[1].rpartition("/")[0] for it in self.texts if it.startswith(begins)}
+        return sorted(it for it in found if it.endswith("/" + function.name))
+
+    def with_holes(self, texts, places):
+        """The texts with a hole for the proof of each function but these."""
+        texts = dict(texts)
+        for place, function in self.functions.items():
+            for path in self.proof_folders(place[0], function) if place not in places else ():
+                for it in ("Answers", "Invariants"):
+                    texts.pop(f"proofs/{path}/{it}.antt", None)
+                words = {"crate": self.name, "path": path.replace("/", "."), "name": function.name}
+                texts[f"proofs/{path}/Proof.antt"] = HOLE.format(**words)
+        return texts
+
+    def check(self, texts, kept, more):
+        """What a check of these texts tells, over what the folder keeps of earlier ones."""
+        words = [*self.toolchain.words("check", self.name, 1, self.proved), "--incremental", kept, *more]
+        with tempfile.TemporaryDirectory(prefix="pnmpipe-edits-") as room, tempfile.TemporaryFile() as out:
+            for path, text in texts.items():
+                os.makedirs(os.path.dirname(os.path.join(room, path)), exist_ok=True)
+                with open(os.path.join(room, path), "w", encoding="utf-8") as file:
+                    file.write(text)
+            child = subprocess.Popen(words, cwd=room, stdin=subprocess.DEVNULL, stdout=out, stderr=subprocess.STDOUT)
+            _, status, used = os.wait4(child.pid, 0)
+            child.returncode = os.waitstatus_to_exitcode(status)
+            out.seek(0)
+            told = read(out.read().decode(errors="replace"))
+        self.checks += 1
+        self.seconds += used.ru_utime + used.ru_stime
+        self.known |= set(told.lines)
+        return told

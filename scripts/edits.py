@@ -1,0 +1,321 @@
+#!/usr/bin/env python3
+"""Tries the edits of crates that must fail, and their controls, which keep the meaning: many in one check.
+
+    edits.py --proved FOLDER [--plan] [--logs FOLDER] [CRATE..]
+
+An edit, crates/NAME/must-fail/*.edit, changes what the code means, and the prover has to refuse it; its control, of
+the same name in crates/NAME/controls, has its shape and keeps the meaning, and has to prove. The crates are proved as
+they stand, and so one check tells of many edits: those of different functions are made in one copy of the crate, with
+holes for the proofs of the functions that none of them changes. An edit is refused where a goal of the very function
+stays open that it changes: a type that differs, or a goal that doesn't follow. What stops at a limit of the search
+alone might hold, so such an edit counts as a fault. A control has no goal open in the functions that it changes.
+
+What a group can't judge, since a function that is called is edited too, is tried again with others of which that holds,
+and then by itself. Edits of limits, which the law `limits_are` names, are tried together, each at its clause of the
+law; those of other constants alone, in the functions that name these; those of definitions alone, in the laws of the
+crate. The statements of the crates below come from FOLDER. The crates are tried side by side, one a processor.
+"""
+
+import argparse
+import concurrent.futures
+import contextlib
+import os
+import re
+import sys
+import tempfile
+import typing
+
+from build import MEMORY_OF_ONE, Toolchain, free_memory, processors
+from crates import ROOT, Ended, end_by_signals, read_crates
+from edit_checks import LIMIT, WHOLE, Crate, named
+from rust_places import blanked, functions
+
+FOLDERS = {"edit": "must-fail", "control": "controls"}
+WORDS = {"edit": ("refused", "NOT REFUSED"), "control": ("proved", "NOT PROVED")}
+LAWS = "src/laws.rt"
+LIMITS = (LAWS, ("", "", "limits_are"))
+ITEM = re.compile(r"^(?:pub(?:\([a-z]+\))? )?([a-z]+)\b(?: (\w+))?", re.M)
+
+
+class Change(typing.NamedTuple):
+    """An edit or a control: its name, its steps (file, old text, new text), the functions whose goals tell of it, the
+    clause of the law on limits that does so, if one does, and whether it can be tried with others."""
+
+    kind: str
+    name: str
+    steps: tuple
+    places: frozenset
+    clause: str
+    is_grouped: bool
+
+    def meets(self, other):
+        """Whether both are told of by the same goals."""
+        return bool(self.places & other.places) and self.clause == other.clause
+
+
+def steps_of(path):
+    """The steps of an edit."""
+    file = old = None
+    steps = []
+    with open(path, encoding="utf-8") as text:
+        for line in text.read().split("\n"):
+            if line.startswith("file: "):
+                file = line[6:].strip()
+            elif line.startswith("old: "):
+                old = line[5:]
+            elif line.startswith("new:"):
+                steps.append((file, old, line[4:].removeprefix(" ")))
+    return tuple(steps)
+
+
+def applied(texts, steps):
+    """The texts with these steps made; None where an old text doesn't stand in its file once."""
+    texts = dict(texts)
+    for file, old, new in steps:
+        if texts.get(file, "").count(old) != 1:
+            return None
+        texts[file] = texts[file].replace(old, new)
+    return texts
+
+
+def header_of(text, function):
+    """What others see of a function: its signature and its contract, but not which of its parameters may change."""
+    return re.sub(r"\bmut (?=\w+:)", "", re.sub(r"\s+", " ", text[function.start : function.body]))
+
+
+def function_at(text, old, new):
+    """The name of the function whose body a step changes; an empty one if the step only adds functions; else None."""
+    at, changed = text.find(old), text.replace(old, new)
+    before, after = list(functions(text)), list(functions(changed))
+    held = [number for number, it in enumerate(before) if it.start <= at and at + len(old) <= it.end]
+    if held:
+        number = max(held, key=lambda it: before[it].start)
+        is_kept = len(before) == len(after) and header_of(text, before[number]) == header_of(changed, after[number])
+        return named(before[number]) if is_kept else None
+    is_comment = not blanked(text)[at : at + len(old)].strip()
+    names = [[named(it) for it in found] for found in (before, after)]
+    return () if is_comment and all(names[0].count(it) == names[1].count(it) for it in names[0]) else None
+
+
+def functions_of(texts, steps):
+    """The functions that these steps change; none if one is made elsewhere."""
+    found, texts = set(), dict(texts)
+    for file, old, new in steps:
+        function = function_at(texts[file], old, new) if file.endswith(".rt") else None
+        if function is None:
+            return frozenset()
+        found |= {(file, function)} if function else set()
+        texts[file] = texts[file].replace(old, new)
+    return frozenset(found)
+
+
+def constant_of(texts, steps):
+    """The constant that these steps change; None if they change anything else."""
+    for file, old, _ in steps:
+        text, end = blanked(texts[file]), texts[file].find(old) + len(old)
+        items = [it for it in ITEM.finditer(text) if it.start() < end] if file.endswith(".rt") else []
+        if not items or items[-1][1] != "const":
+            return None
+    return items[-1][2]
+
+
+def users_of(crate, name):
+    """The functions whose contracts or bodies have this name, or that of a constant that has it."""
+    word, found = re.compile(rf"\b{name}\b"), set()
+    for path in [it for it in crate.texts if it.endswith(".rt")]:
+        code = blanked(crate.texts[path])
+        found |= {at for at, it in crate.functions.items() if at[0] == path and word.search(code, it.start, it.end)}
+        for it in re.findall(rf"^(?:pub(?:\([a-z]+\))? )?const (\w+): [^;]*\b{name}\b", code, re.M):
+            found |= users_of(crate, it)
+    return frozenset(found)
+
+
+def clause_on(crate, name):
+    """The clause of the law on limits that names this constant, if one does."""
+    law = crate.functions.get(LIMITS)
+    text = crate.texts[LAWS][law.start : law.body] if law else ""
+    found = re.search(rf"ensures (\w+) \{{[^}}]*\b{name}\b", text)
+    return found[1] if found else ""
+
+
+def change_of(crate, kind, name, steps):
+    """The edit or control, with where a check tells of it."""
+    if applied(crate.texts, steps) is None:
+        sys.exit(f"edits: {crate.name}/{FOLDERS[kind]}/{name}: an old text doesn't stand in its file once")
+    places, constant = functions_of(crate.texts, steps), constant_of(crate.texts, steps)
+    if places:
+        return Change(kind, name, steps, places, "", True)
+    if constant and clause_on(crate, constant):
+        return Change(kind, name, steps, frozenset({LIMITS}), clause_on(crate, constant), True)
+    if constant:
+        return Change(kind, name, steps, users_of(crate, constant), "", False)
+    own = functions_of(crate.texts, [it for it in steps if it[0].endswith(".rt")])
+    return Change(kind, name, steps, own | {it for it in crate.functions if it[0] == LAWS}, "", False)
+
+
+def changes_of(crate, folder, kind):
+    """All edits, or all controls, of a crate."""
+    at = os.path.join(folder, FOLDERS[kind])
+    for name in sorted(os.listdir(at)) if os.path.isdir(at) else ():
+        if name.endswith(".edit"):
+            yield change_of(crate, kind, name[:-5], steps_of(os.path.join(at, name)))
+
+
+def grouped(changes, texts):
+    """The changes in groups that can be made at once: limits by themselves, and no function twice."""
+    groups = []
+    for change in sorted(changes, key=lambda it: -sum(it.meets(other) for other in changes)):
+        for group in groups:
+            steps = [step for it in [*group, change] for step in it.steps]
+            is_alike = bool(change.clause) == bool(group[0].clause)
+            if is_alike and not any(change.meets(it) for it in group) and applied(texts, steps):
+                group.append(change)
+                break
+        else:
+            groups.append([change])
+    return groups
+
+
+def open_goals(crate, change, told):
+    """The goals of the functions that tell of a change which stay open, each with why: for a definition also the lemmas
+    without a proof that these stand on."""
+    found = {}
+    for symbol in sorted({it for place in change.places for it in crate.symbols(place) if it in told.lines}):
+        own = symbol.partition("::")[2]
+        for goal, why in told.goals.get(own, {}).items():
+            if goal in ("returns", f"returns-clause-{change.clause}") or not change.clause:
+                found[f"`{goal}` of {own}"] = why
+        for lemma in told.lemmas[symbol] if not change.is_grouped else ():
+            found[f"`{lemma.rpartition('.')[2]}` of {own}"] = "a lemma without a proof"
+    return found
+
+
+def judged(crate, change, told):
+    """Whether a check tells that an edit is refused, or a control proved, and why, or why not."""
+    goals = open_goals(crate, change, told)
+    ways = sorted(goals, key=lambda it: goals[it] == LIMIT)
+    why = f"at {ways[0]}: {goals[ways[0]]}" if ways else "no goal of its own is open"
+    if change.kind == "edit":
+        return any(it != LIMIT for it in goals.values()), why
+    own = [it for place in change.places for it in crate.symbols(place) if it in told.lines]
+    is_well = own and not goals and all(told.lines[it].startswith(WHOLE) for it in own)
+    return bool(is_well), "as it must be" if is_well else why
+
+
+class Judge:
+    """Tries the changes of a crate over a folder of what its checks keep."""
+
+    def __init__(self, crate, kept, logs):
+        self.crate, self.kept, self.logs = crate, kept, logs
+        self.told = []
+        self.failed = 0
+
+    def check(self, changes, what):
+        """What a check with these changes tells; None if they can't be made together, or it came to no verdict."""
+        texts = applied(self.crate.texts, [step for it in changes for step in it.steps])
+        if texts is None:
+            return None
+        places = frozenset().union(*(it.places for it in changes))
+        told = self.crate.check(self.crate.with_holes(texts, places), self.kept, ["--allow-holes"])
+        if self.logs:
+            with open(os.path.join(self.logs, f"{self.crate.name}.{what}.log"), "w", encoding="utf-8") as file:
+                file.write(told.text)
+        return told if told.has_verdict else None
+
+    def try_group(self, group, what):
+        """Tries a group; in halves where the check has no verdict. Gives each change with how it was judged."""
+        told = self.check(group, what)
+        if told:
+            return [(change, *judged(self.crate, change, told)) for change in group]
+        if len(group) == 1:
+            return [(group[0], False, "the check has no verdict: see it by rt must-fail")]
+        half = len(group) // 2
+        return self.try_group(group[:half], f"{what}a") + self.try_group(group[half:], f"{what}b")
+
+    def try_groups(self, changes, what):
+        """Tries changes in groups. Gives those that weren't as they have to be, with why."""
+        left = []
+        for number, group in enumerate(grouped(changes, self.crate.texts)):
+            for change, is_well, why in self.try_group(group, f"{what}-{number}"):
+                if is_well:
+                    self.report(change, True, why)
+                else:
+                    left.append((change, why))
+        return left
+
+    def report(self, change, is_well, why):
+        self.failed += not is_well
+        verdict = " ".join([WORDS[change.kind][0], why]) if is_well else f"{WORDS[change.kind][1]}: {why}"
+        self.told.append(f"{self.crate.name}/{FOLDERS[change.kind]}/{change.name}: {verdict}")
+
+    def try_all(self, changes, what):
+        left = self.try_groups([it for it in changes if it.is_grouped], what)
+        # (one that isn't judged well in its group, since a function that it calls was edited too, may be without it)
+        if len(left) > 1:
+            left = self.try_groups([change for change, _ in left], f"{what}-again")
+        for change in [*(it for it in changes if not it.is_grouped), *(change for change, _ in left)]:
+            self.report(*self.try_group([change], f"{what}-alone-{change.name}")[0])
+
+
+def tried(crate, changes, logs):
+    """Tries all changes of a crate. Gives what judged them."""
+    with tempfile.TemporaryDirectory(prefix="pnmpipe-edits-kept-") as kept:
+        judge = Judge(crate, kept, logs)
+        for kind, found in changes.items():
+            judge.try_all(found, kind)
+    for change in changes["control"]:
+        if change.name not in [it.name for it in changes["edit"]]:
+            judge.report(change, False, "no edit has its name")
+    return judge
+
+
+def plan(crate, changes):
+    for kind, found in changes.items():
+        groups = grouped([it for it in found if it.is_grouped], crate.texts)
+        alone = [it.name for it in found if not it.is_grouped]
+        print(f"{crate.name}: {len(found)} {kind}s in groups of {[len(it) for it in groups]}, alone: {alone}")
+
+
+def try_crates(crates, logs):
+    """Tries the edits and controls of the crates, and tells of each. Gives the status."""
+    total = failed = checks = seconds = 0
+    most = max(1, min(processors(), free_memory() // MEMORY_OF_ONE))
+    # the largest first: what a crate's edits take goes by its size
+    crates = sorted(crates, key=lambda it: -sum(len(text) for text in it[0].texts.values()))
+    with concurrent.futures.ThreadPoolExecutor(most) as pool:
+        for judge in pool.map(lambda it: tried(*it, logs), crates):
+            crate, count = judge.crate, len(judge.told)
+            told = f"{count} tried, {judge.failed} failed, {crate.checks} checks, {crate.seconds:.0f} CPU s"
+            print("\n".join([*judge.told, f"{crate.name}: {told}"]), flush=True)
+            total, failed = total + count, failed + judge.failed
+            checks, seconds = checks + crate.checks, seconds + crate.seconds
+    print(f"edits: {total} tried, {failed} failed, {checks} checks, {seconds:.0f} CPU s")
+    return 1 if failed else 0
+
+
+def main():
+    parser = argparse.ArgumentParser(description=__doc__, formatter_class=argparse.RawDescriptionHelpFormatter)
+    parser.add_argument("--proved", required=True, metavar="FOLDER", help="where the statements of proved crates are")
+    parser.add_argument("--plan", action="store_true", help="print the groups, and check nothing")
+    parser.add_argument("--logs", metavar="FOLDER", help="a folder for what each check prints")
+    parser.add_argument("crates", nargs="*", metavar="CRATE", help="by default all")
+    asked = parser.parse_args()
+    end_by_signals()
+    toolchain, crates = Toolchain(), []
+    for name in asked.crates or read_crates():
+        folder = os.path.join(ROOT, "crates", name)
+        crate = Crate(name, folder, toolchain, os.path.abspath(asked.proved))
+        changes = {kind: list(changes_of(crate, folder, kind)) for kind in FOLDERS}
+        if any(changes.values()):
+            crates.append((crate, changes))
+    if asked.plan:
+        for crate, changes in crates:
+            plan(crate, changes)
+        return 0
+    with contextlib.suppress(Ended):
+        return try_crates(crates, asked.logs)
+    return 1
+
+
+if __name__ == "__main__":
+    sys.exit(main())
