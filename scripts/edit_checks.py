@@ -9,8 +9,10 @@ import os
 import re
 import subprocess
 import tempfile
+import threading
 import typing
 
+from crates import Ended
 from rust_places import functions, is_name_of, module_of
 
 SOURCES = ("src", "specs", "proofs")
@@ -29,6 +31,8 @@ OF_CODE = re.compile(r"^note: (?:\./)?src/\S+:\d+:\d+: .*\(`([^`]*)`\)")
 BY_SEARCH = re.compile(r"`search` did not prove ((?:`[^`]*`(?:, | and )?)+)")
 # a lemma that a function stands on, and that isn't proved
 BY_LEMMA = re.compile(r"it stands on ((?:`[^`]*`(?:, | and )?)+), which antt refuses")
+# a proof for which no hole can stand: of functions that call one another, which are proved together
+TOGETHER = re.compile(r"^(?:\./)?proofs/(\S+)/Proof\.antt: error\[reserved-name\]", re.M)
 # what is no refusal of what the code does: an answer that names what the edit took away
 OF_NAMES = re.compile(r"has no field|is not in scope|has no `|was not admitted|is no name")
 # how a line begins of a function that has no open goal, in a check that goes past holes
@@ -72,13 +76,25 @@ def messages(text):
     yield "\n".join(message)
 
 
+def function_of(folder, goal, lines):
+    """The function whose goal is answered in this folder of proofs, and the goal's name for it: of functions that are
+    proved together, whose folder begins with +, the goal's name begins with its function, or the folder ends with it."""
+    module, plus, together = folder.replace("/", "::").partition("::+")
+    if not plus:
+        return module, goal
+    name, _, rest = goal.partition("-")
+    if any(it.endswith(f"::{module}::{name}") for it in lines):
+        return f"{module}::{name}", rest
+    return f"{module}::{together.rpartition('+')[2]}", goal
+
+
 def read(text):
     """What a check has told, by what it printed."""
-    lines, goals, lemmas, noted = {}, collections.defaultdict(dict), {}, {}
+    lines, goals, lemmas, noted, answered = {}, collections.defaultdict(dict), {}, {}, []
     for message in messages(text):
         found, of_answer, of_code = LINE.match(message), OF_ANSWER.match(message), OF_CODE.match(message)
         if of_answer and not OF_NAMES.search(message.partition("\n")[0]):
-            goals[of_answer[1].replace("/", "::")][of_answer[2]] = reason(message)
+            answered.append((of_answer[1], of_answer[2], reason(message)))
         elif of_code:
             noted[of_code[1]] = reason(message)
         elif found:
@@ -89,6 +105,9 @@ def read(text):
                 goals[name.partition("::")[2]][goal] = noted.get(goal, reason(""))
             lemmas[name] = re.findall(r"`([^`]*)`", stands[1] if stands else "")
             noted = {}
+    for folder, goal, why in answered:
+        function, goal = function_of(folder, goal, lines)
+        goals[function][goal] = why
     last = [it for it in text.rstrip("\n").split("\n") if it][-1:]
     return Told(bool(last) and last[0].startswith(VERDICTS), lines, goals, lemmas, text)
 
@@ -100,6 +119,41 @@ def named(function):
 def is_test(text, function):
     """Whether the function is left out of the crate where it is no test."""
     return "#[cfg(test)]" in text[max(0, function.start - 200) : function.start].rpartition("\n\n")[2]
+
+
+class Checks:
+    """The checks that run, so that a signal ends them."""
+
+    def __init__(self):
+        self.lock = threading.Lock()
+        self.children = set()
+        self.ended = None
+
+    def start(self, words, **how):
+        with self.lock:
+            if self.ended:
+                raise Ended(self.ended)
+            child = subprocess.Popen(words, stdin=subprocess.DEVNULL, **how)
+            self.children.add(child)
+        return child
+
+    def wait(self, child):
+        """How many seconds of a processor it took."""
+        _, status, used = os.wait4(child.pid, 0)
+        with self.lock:
+            child.returncode = os.waitstatus_to_exitcode(status)
+            self.children.remove(child)
+        return used.ru_utime + used.ru_stime
+
+    def end(self, number):
+        """Ends all of them, and has none begin any more."""
+        with self.lock:
+            self.ended = number
+            for child in self.children:
+                child.kill()
+
+
+CHECKS = Checks()
 
 
 class Crate:
@@ -121,6 +175,8 @@ class Crate:
             for function in functions(self.texts[file])
             if not is_test(self.texts[file], function)
         }
+        # the folders of proofs for which no hole can stand
+        self.together = set()
         self.known = set()
         self.checks = self.seconds = 0
 
@@ -138,30 +194,37 @@ class Crate:
         return sorted(it for it in found if it.endswith("/" + function.name))
 
     def with_holes(self, texts, places):
-        """The texts with a hole for the proof of each function but these."""
+        """The texts with a hole for the proof of each function but these, where one can stand."""
         texts = dict(texts)
         for place, function in self.functions.items():
-            for path in self.proof_folders(place[0], function) if place not in places else ():
+            paths = self.proof_folders(place[0], function) if place not in places else ()
+            for path in [it for it in paths if it not in self.together]:
                 for it in ("Answers", "Invariants"):
                     texts.pop(f"proofs/{path}/{it}.antt", None)
                 words = {"crate": self.name, "path": path.replace("/", "."), "name": function.name}
                 texts[f"proofs/{path}/Proof.antt"] = HOLE.format(**words)
         return texts
 
-    def check(self, texts, kept, more):
-        """What a check of these texts tells, over what the folder keeps of earlier ones."""
-        words = [*self.toolchain.words("check", self.name, 1, self.proved), "--incremental", kept, *more]
+    def check(self, texts, places, kept):
+        """What a check of these texts tells of these functions, over what the folder keeps of earlier ones."""
+        told = self.told_of(self.with_holes(texts, places), kept)
+        together = set(TOGETHER.findall(told.text))
+        if not together:
+            return told
+        self.together |= together
+        return self.told_of(self.with_holes(texts, places), kept)
+
+    def told_of(self, texts, kept):
+        words = self.toolchain.words("check", self.name, 1, self.proved)
+        words += ["--incremental", kept, "--allow-holes"]
         with tempfile.TemporaryDirectory(prefix="pnmpipe-edits-") as room, tempfile.TemporaryFile() as out:
             for path, text in texts.items():
                 os.makedirs(os.path.dirname(os.path.join(room, path)), exist_ok=True)
                 with open(os.path.join(room, path), "w", encoding="utf-8") as file:
                     file.write(text)
-            child = subprocess.Popen(words, cwd=room, stdin=subprocess.DEVNULL, stdout=out, stderr=subprocess.STDOUT)
-            _, status, used = os.wait4(child.pid, 0)
-            child.returncode = os.waitstatus_to_exitcode(status)
+            self.seconds += CHECKS.wait(CHECKS.start(words, cwd=room, stdout=out, stderr=subprocess.STDOUT))
             out.seek(0)
             told = read(out.read().decode(errors="replace"))
         self.checks += 1
-        self.seconds += used.ru_utime + used.ru_stime
         self.known |= set(told.lines)
         return told

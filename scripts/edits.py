@@ -8,7 +8,8 @@ the same name in crates/NAME/controls, has its shape and keeps the meaning, and 
 they stand, and so one check tells of many edits: those of different functions are made in one copy of the crate, with
 holes for the proofs of the functions that none of them changes. An edit is refused where a goal of the very function
 stays open that it changes: a type that differs, or a goal that doesn't follow. What stops at a limit of the search
-alone might hold, so such an edit counts as a fault. A control has no goal open in the functions that it changes.
+alone might hold, so such an edit counts as a fault, unless it has a line `limit:` that says so: then it is counted, and
+is a fault once the line isn't true any more. A control has no goal open in the functions that it changes.
 
 What a group can't judge, since a function that is called is edited too, is tried again with others of which that holds,
 and then by itself. Edits of limits, which the law `limits_are` names, are tried together, each at its clause of the
@@ -18,7 +19,6 @@ crate. The statements of the crates below come from FOLDER. The crates are tried
 
 import argparse
 import concurrent.futures
-import contextlib
 import os
 import re
 import sys
@@ -27,7 +27,7 @@ import typing
 
 from build import MEMORY_OF_ONE, Toolchain, free_memory, processors
 from crates import ROOT, Ended, end_by_signals, read_crates
-from edit_checks import LIMIT, WHOLE, Crate, named
+from edit_checks import CHECKS, LIMIT, WHOLE, Crate, named
 from rust_places import blanked, functions
 
 FOLDERS = {"edit": "must-fail", "control": "controls"}
@@ -39,7 +39,8 @@ ITEM = re.compile(r"^(?:pub(?:\([a-z]+\))? )?([a-z]+)\b(?: (\w+))?", re.M)
 
 class Change(typing.NamedTuple):
     """An edit or a control: its name, its steps (file, old text, new text), the functions whose goals tell of it, the
-    clause of the law on limits that does so, if one does, and whether it can be tried with others."""
+    clause of the law on limits that does so, if one does, whether it can be tried with others, and whether it says that
+    the search stops at a limit."""
 
     kind: str
     name: str
@@ -47,24 +48,24 @@ class Change(typing.NamedTuple):
     places: frozenset
     clause: str
     is_grouped: bool
+    is_at_limit: bool = False
 
     def meets(self, other):
         """Whether both are told of by the same goals."""
         return bool(self.places & other.places) and self.clause == other.clause
 
 
-def steps_of(path):
-    """The steps of an edit."""
+def steps_of(text):
+    """The steps of an edit's text."""
     file = old = None
     steps = []
-    with open(path, encoding="utf-8") as text:
-        for line in text.read().split("\n"):
-            if line.startswith("file: "):
-                file = line[6:].strip()
-            elif line.startswith("old: "):
-                old = line[5:]
-            elif line.startswith("new:"):
-                steps.append((file, old, line[4:].removeprefix(" ")))
+    for line in text.split("\n"):
+        if line.startswith("file: "):
+            file = line[6:].strip()
+        elif line.startswith("old: "):
+            old = line[5:]
+        elif line.startswith("new:"):
+            steps.append((file, old, line[4:].removeprefix(" ")))
     return tuple(steps)
 
 
@@ -158,7 +159,10 @@ def changes_of(crate, folder, kind):
     at = os.path.join(folder, FOLDERS[kind])
     for name in sorted(os.listdir(at)) if os.path.isdir(at) else ():
         if name.endswith(".edit"):
-            yield change_of(crate, kind, name[:-5], steps_of(os.path.join(at, name)))
+            with open(os.path.join(at, name), encoding="utf-8") as file:
+                text = file.read()
+            change = change_of(crate, kind, name[:-5], steps_of(text))
+            yield change._replace(is_at_limit="\nlimit:" in text)
 
 
 def grouped(changes, texts):
@@ -191,15 +195,17 @@ def open_goals(crate, change, told):
 
 
 def judged(crate, change, told):
-    """Whether a check tells that an edit is refused, or a control proved, and why, or why not."""
+    """Whether a check tells that an edit is refused, or a control proved, and why, or why not. None if it doesn't tell:
+    if no goal is open, but the function isn't proved for want of another."""
     goals = open_goals(crate, change, told)
-    ways = sorted(goals, key=lambda it: goals[it] == LIMIT)
-    why = f"at {ways[0]}: {goals[ways[0]]}" if ways else "no goal of its own is open"
-    if change.kind == "edit":
-        return any(it != LIMIT for it in goals.values()), why
+    if goals:
+        ways = sorted(goals, key=lambda it: goals[it] == LIMIT)
+        is_refused = change.kind == "edit" and (goals[ways[0]] == LIMIT) == change.is_at_limit
+        return is_refused, f"at {ways[0]}: {goals[ways[0]]}"
     own = [it for place in change.places for it in crate.symbols(place) if it in told.lines]
-    is_well = own and not goals and all(told.lines[it].startswith(WHOLE) for it in own)
-    return bool(is_well), "as it must be" if is_well else why
+    if not own or not all(told.lines[it].startswith(WHOLE) for it in own):
+        return None, "no goal of its own is open, and it isn't proved"
+    return (True, "as it must be") if change.kind == "control" else (False, "no goal of its own is open")
 
 
 class Judge:
@@ -208,7 +214,7 @@ class Judge:
     def __init__(self, crate, kept, logs):
         self.crate, self.kept, self.logs = crate, kept, logs
         self.told = []
-        self.failed = 0
+        self.failed = self.at_limit = 0
 
     def check(self, changes, what):
         """What a check with these changes tells; None if they can't be made together, or it came to no verdict."""
@@ -216,7 +222,7 @@ class Judge:
         if texts is None:
             return None
         places = frozenset().union(*(it.places for it in changes))
-        told = self.crate.check(self.crate.with_holes(texts, places), self.kept, ["--allow-holes"])
+        told = self.crate.check(texts, places, self.kept)
         if self.logs:
             with open(os.path.join(self.logs, f"{self.crate.name}.{what}.log"), "w", encoding="utf-8") as file:
                 file.write(told.text)
@@ -233,27 +239,27 @@ class Judge:
         return self.try_group(group[:half], f"{what}a") + self.try_group(group[half:], f"{what}b")
 
     def try_groups(self, changes, what):
-        """Tries changes in groups. Gives those that weren't as they have to be, with why."""
+        """Tries changes in groups. Gives those that couldn't be judged so."""
         left = []
         for number, group in enumerate(grouped(changes, self.crate.texts)):
             for change, is_well, why in self.try_group(group, f"{what}-{number}"):
-                if is_well:
-                    self.report(change, True, why)
+                if is_well is None:
+                    left.append(change)
                 else:
-                    left.append((change, why))
+                    self.report(change, is_well, why)
         return left
 
     def report(self, change, is_well, why):
         self.failed += not is_well
+        self.at_limit += change.is_at_limit
         verdict = " ".join([WORDS[change.kind][0], why]) if is_well else f"{WORDS[change.kind][1]}: {why}"
         self.told.append(f"{self.crate.name}/{FOLDERS[change.kind]}/{change.name}: {verdict}")
 
     def try_all(self, changes, what):
         left = self.try_groups([it for it in changes if it.is_grouped], what)
-        # (one that isn't judged well in its group, since a function that it calls was edited too, may be without it)
         if len(left) > 1:
-            left = self.try_groups([change for change, _ in left], f"{what}-again")
-        for change in [*(it for it in changes if not it.is_grouped), *(change for change, _ in left)]:
+            left = self.try_groups(left, f"{what}-again")
+        for change in [*(it for it in changes if not it.is_grouped), *left]:
             self.report(*self.try_group([change], f"{what}-alone-{change.name}")[0])
 
 
@@ -278,18 +284,23 @@ def plan(crate, changes):
 
 def try_crates(crates, logs):
     """Tries the edits and controls of the crates, and tells of each. Gives the status."""
-    total = failed = checks = seconds = 0
+    total = failed = at_limit = checks = seconds = 0
     most = max(1, min(processors(), free_memory() // MEMORY_OF_ONE))
     # the largest first: what a crate's edits take goes by its size
     crates = sorted(crates, key=lambda it: -sum(len(text) for text in it[0].texts.values()))
     with concurrent.futures.ThreadPoolExecutor(most) as pool:
-        for judge in pool.map(lambda it: tried(*it, logs), crates):
-            crate, count = judge.crate, len(judge.told)
-            told = f"{count} tried, {judge.failed} failed, {crate.checks} checks, {crate.seconds:.0f} CPU s"
-            print("\n".join([*judge.told, f"{crate.name}: {told}"]), flush=True)
-            total, failed = total + count, failed + judge.failed
-            checks, seconds = checks + crate.checks, seconds + crate.seconds
-    print(f"edits: {total} tried, {failed} failed, {checks} checks, {seconds:.0f} CPU s")
+        try:
+            for judge in pool.map(lambda it: tried(*it, logs), crates):
+                crate, count = judge.crate, len(judge.told)
+                told = f"{count} tried, {judge.failed} failed, {crate.checks} checks, {crate.seconds:.0f} CPU s"
+                print("\n".join([*judge.told, f"{crate.name}: {told}"]), flush=True)
+                total, failed, at_limit = total + count, failed + judge.failed, at_limit + judge.at_limit
+                checks, seconds = checks + crate.checks, seconds + crate.seconds
+        except Ended as ended:
+            CHECKS.end(ended.args[0])
+            raise
+    told = f"{at_limit} refused at a limit of the search alone" if at_limit else "none refused at a limit alone"
+    print(f"edits: {total} tried, {failed} failed, {told}, {checks} checks, {seconds:.0f} CPU s")
     return 1 if failed else 0
 
 
@@ -312,9 +323,10 @@ def main():
         for crate, changes in crates:
             plan(crate, changes)
         return 0
-    with contextlib.suppress(Ended):
+    try:
         return try_crates(crates, asked.logs)
-    return 1
+    except Ended as ended:
+        return 128 + ended.args[0]
 
 
 if __name__ == "__main__":

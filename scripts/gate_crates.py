@@ -21,9 +21,15 @@ from places import SCRIPTS
 
 
 def call(script, *words):
-    """Runs a script of this folder. Gives its status."""
+    """Runs a script of this folder, which a signal to this one ends too. Gives its status."""
     sys.stdout.flush()
-    return subprocess.run([sys.executable, os.path.join(SCRIPTS, script), *words]).returncode
+    child = subprocess.Popen([sys.executable, os.path.join(SCRIPTS, script), *words])
+    try:
+        return child.wait()
+    except Ended:
+        child.terminate()
+        child.wait()
+        raise
 
 
 def statements(folder, crates):

@@ -4,8 +4,10 @@
 
 import os
 import shutil
+import signal
 import subprocess
 import sys
+import time
 import unittest
 
 from support import SCRIPTS, Folder
@@ -30,7 +32,7 @@ RT = """#!/bin/sh
 
 # a function is refused if its body has a word of these, and proved if nothing that it calls is refused
 RATTLE = r'''#!/usr/bin/env python3
-import glob, os, re, sys
+import os, re, sys, time
 
 OPEN = "note: src/lib.rt:1:1: it is not proved (`returns`); "
 NO_PROOF = "no proof: `search` did not prove `returns`"
@@ -49,6 +51,7 @@ is_holed = lambda law: os.path.exists(f"proofs/laws/{law}/Proof.antt")
 tried += [it for it in ("limits_are", "words_hold") if not is_holed(it)]
 with open(os.environ["NOTES"], "a") as notes:
     notes.write(" ".join(tried) + "\n")
+time.sleep(float(os.environ.get("SECONDS", "0")))
 if "BROKEN" in code:
     print("src/lib.rt:1:1: error[mismatched-types]: it doesn't compile")
     sys.exit(2)
@@ -95,17 +98,25 @@ class Edits(Folder):
         text = "".join(f"old: {old}\nnew: {new}\n" for old, new in steps)
         self.write(f"root/crates/one/{kind}/{name}.edit", f"file: {file}\n{text}".encode())
 
-    def tried(self, *words):
-        """The status, the line on each edit and control, and what each check went into."""
+    def start(self, **variables):
         path = f"{self.path('bin')}:{os.path.dirname(sys.executable)}:{os.environ['PATH']}"
-        own = {"PATH": path, "KIT": self.path("kit"), "NOTES": self.path("notes"), "PYTHONDONTWRITEBYTECODE": "1"}
-        script = [sys.executable, self.path("root/scripts/edits.py"), "--proved", self.path("proved"), *words]
-        ran = subprocess.run(script, env={**os.environ, **own}, capture_output=True, text=True)
-        self.assertEqual(ran.stderr, "")
-        lines = [line.split(": ", 1) for line in ran.stdout.splitlines()]
+        own = {"PATH": path, "KIT": self.path("kit"), "NOTES": self.path("notes"), "TMPDIR": self.path("tmp")}
+        own["PYTHONDONTWRITEBYTECODE"] = "1"
+        os.makedirs(self.path("tmp"), exist_ok=True)
+        script = [sys.executable, self.path("root/scripts/edits.py"), "--proved", self.path("proved")]
+        streams = {"stdout": subprocess.PIPE, "stderr": subprocess.PIPE, "text": True}
+        return subprocess.Popen(script, env={**os.environ, **own, **variables}, **streams)
+
+    def tried(self):
+        """The status, the line on each edit and control, and what each check went into."""
+        child = self.start()
+        told, faults = child.communicate(timeout=60)
+        self.assertEqual(faults, "")
+        self.assertEqual(os.listdir(self.path("tmp")), [])
+        lines = [line.split(": ", 1) for line in told.splitlines()]
         with open(self.path("notes"), encoding="utf-8") as notes:
             checks = notes.read().splitlines()
-        return ran.returncode, {name.split("/", 1)[1]: said for name, said in lines if "/" in name}, checks
+        return child.returncode, {name.split("/", 1)[1]: said for name, said in lines if "/" in name}, checks
 
     def test_edits_of_different_functions_are_refused_in_one_check(self):
         self.edit("low_is_wrong", ("is_low(x)", "WRONG(x)"))
@@ -142,10 +153,20 @@ class Edits(Folder):
         told = {"must-fail/low_is_deep": "NOT REFUSED: at `returns` of low: a limit of the search"}
         self.assertEqual((status, said), (1, told))
 
+    def test_an_edit_may_say_that_a_limit_alone_refuses_it(self):
+        self.edit("low_is_deep", ("is_low(x)", "DEEP(x)\nlimit: so"))
+        status, said, _ = self.tried()
+        told = {"must-fail/low_is_deep": "refused at `returns` of low: a limit of the search"}
+        self.assertEqual((status, said), (0, told))
+        self.edit("low_is_deep", ("is_low(x)", "WRONG(x)\nlimit: so"))
+        status, said, _ = self.tried()
+        self.assertEqual((status, said["must-fail/low_is_deep"][:11]), (1, "NOT REFUSED"))
+
     def test_an_edit_that_takes_a_name_from_an_answer_is_a_fault(self):
         self.edit("low_is_renamed", ("is_low(x)", "RENAMED(x)"))
         status, said, _ = self.tried()
-        self.assertEqual((status, said), (1, {"must-fail/low_is_renamed": "NOT REFUSED: no goal of its own is open"}))
+        why = "no goal of its own is open, and it isn't proved"
+        self.assertEqual((status, said), (1, {"must-fail/low_is_renamed": f"NOT REFUSED: {why}"}))
 
     def test_an_edit_that_does_not_compile_is_a_fault_and_spoils_no_other(self):
         self.edit("low_is_broken", ("is_low(x)", "BROKEN(x)"))
@@ -189,6 +210,22 @@ class Edits(Folder):
             self.edit("low_is_wrong", ("is_low(x)", f"{word}(x)"), kind="controls")
             status, said, _ = self.tried()
             self.assertEqual((status, said["controls/low_is_wrong"][:10]), (1, "NOT PROVED"), word)
+
+    def test_a_signal_ends_the_checks(self):
+        self.edit("low_is_wrong", ("is_low(x)", "WRONG(x)"))
+        self.edit("low_differs", ("is_low(x)", "DIFFERS(x)"))
+        child = self.start(SECONDS="30")
+        for _ in range(600):
+            if os.path.exists(self.path("notes")):
+                break
+            time.sleep(0.05)
+        child.send_signal(signal.SIGTERM)
+        child.communicate(timeout=20)
+        self.assertEqual((child.returncode, os.listdir(self.path("tmp"))), (128 + signal.SIGTERM, []))
+        with open(self.path("notes"), encoding="utf-8") as notes:
+            self.assertEqual(notes.read(), "low\n")
+        left = subprocess.run(["pgrep", "-f", self.path("kit/bin/rattle")], stdout=subprocess.PIPE, check=False)
+        self.assertEqual(left.stdout, b"")
 
     def test_a_control_is_of_an_edit(self):
         self.edit("low_is_low", ("is_low(x)", "{ is_low(x) }"), kind="controls")
