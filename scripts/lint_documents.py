@@ -4,13 +4,12 @@ The page's SYNOPSIS is the usage line of the program, and the page names each fa
 have each option of the pages; what is said of tools is read by `lint_tools.py`. The pages' text has at most 80 columns,
 and where mandoc is installed, it has to find nothing in them.
 
-Lines of documents have at most 100 columns; ARCHITECTURE.md has 25,000 bytes at most, and the README 8,192. Each link
-of the README and of docs leads to a file, and to a heading of it. Each file and folder that a document names is there:
-a name without its folders is that of some file, and words like NAME and FILE stand for any. So is each item that it
-names by its crate, as `pnm_flow::run`, each script that a source, a page or a script names, each goal of the Makefile
-that one of all these names, and each edit that docs/PROMISES.md names. Each word of docs/DEFINITIONS.md is defined in
-the file of its row, and each of its laws is one. `make help` has each goal. Figures of the documents' tables are those
-of docs/figures.tsv, which `make bench` writes.
+Lines of documents have at most 100 columns. Each link of the README and of docs leads to a file, and to a heading of
+it. Each file and folder that a document names is there: a name without its folders is that of some file, and words like
+NAME and FILE stand for any. So is each item that it names by its crate, as `pnm_flow::run`, each script that a source,
+a page or a script names, each goal of the Makefile that one of all these names, and each edit that docs/PROMISES.md
+names. Each word of docs/DEFINITIONS.md is defined in the file of its row, and each of its laws is one. `make help` has
+each goal. Figures of the documents' tables are those of docs/figures.tsv, which `make bench` writes.
 """
 
 import glob
@@ -109,7 +108,6 @@ DOCUMENTS = [*OF_DOCS, "CHANGELOG.md", "library/python/README.md", "model/README
 COLUMNS = 100
 # a row of a table can't be broken, and the table of this document is to become a list
 WIDE_TABLES = {"docs/DECISIONS.md"}
-MOST_BYTES = {"README.md": 8_192, "docs/ARCHITECTURE.md": 25_000}
 
 
 def anchors(text):
@@ -300,9 +298,6 @@ def faults_of_documents():
         found += faults_of_names(path, text, ends)
         found += faults_of_items(path, text)
         found += faults_of_goals(path, code_in(text), known)
-        size, most = len(text.encode()), MOST_BYTES.get(path)
-        if most and size > most:
-            found.append(f"{path} has {size:,} bytes, more than {most:,}")
     return found
 
 

@@ -43,8 +43,8 @@ from case_text import text_of
 STORED = f"{ROOT}/crates/pnmpipe/commands"
 HELP = f"{ROOT}/crates/pnmpipe/src/tests/help.rt"
 
-# what the help text has to fit, in lines and columns
-SCREEN = (30, 80)
+# what each topic of the help text has to fit, in lines and columns
+SCREEN = (24, 80)
 
 # how it names each limit, a constant of the sources
 LIMITS = {
@@ -207,10 +207,13 @@ def constants():
 
 
 def faults_of_help(text):
-    """What is wrong with the help text: it has to fit a screen, and to name the limits that the words are held to."""
-    lines, known = text.splitlines(), constants()
-    if len(lines) > SCREEN[0] or any(len(line) > SCREEN[1] for line in lines):
-        yield "it doesn't fit a screen"
+    """What is wrong with the help text: each topic, between empty lines, has to fit a screen, and it has to
+    name the limits that the words are held to."""
+    known = constants()
+    for topic in text.split("\n\n"):
+        lines = topic.splitlines()
+        if len(lines) > SCREEN[0] or any(len(line) > SCREEN[1] for line in lines):
+            yield f"a topic doesn't fit a screen: {lines[0]}"
     for name, form in LIMITS.items():
         if name not in known or form.format(known[name]) not in text:
             yield f"it doesn't name {name}, {known.get(name, 'which is nowhere')}"
