@@ -11,6 +11,7 @@ import os
 import re
 import shutil
 import sys
+import unittest
 
 sys.dont_write_bytecode = True
 
@@ -65,11 +66,22 @@ def pasted(lines, source):
     return "\n".join(block) + "\n"
 
 
+FORMATS = shutil.which("mandoc") or shutil.which("groff")
+
+
+@unittest.skipUnless(FORMATS, "neither mandoc nor groff is installed")
+class Width(unittest.TestCase):
+    def test_pages_fit(self):
+        """No line of a page, as it shows, is wider than 80 columns."""
+        for page in sorted(glob.glob(f"{ROOT}/man/*.[13]")):
+            for line in shown(page):
+                self.assertLessEqual(len(line), 80, f"{os.path.basename(page)}: {line}")
+
+
+@unittest.skipUnless(FORMATS, "neither mandoc nor groff is installed")
 class Examples(Program):
     def setUp(self):
         super().setUp()
-        if not shutil.which("mandoc") and not shutil.which("groff"):
-            self.skipTest("neither mandoc nor groff is installed")
         for name in ("pnmpipe-explain", "pnmpipe-files", "pnmpipe-split", "pnmpipe-translate"):
             self.write(f"bin/{name}", f'#!/bin/sh\nexec {HELPERS}/{name} "$@"\n'.encode(), 0o755)
         os.symlink(self.PROGRAM, self.path("bin/pnmpipe"))
