@@ -88,6 +88,7 @@ scripts: lint
 	python3 scripts/tests/test_build.py
 	python3 scripts/tests/test_edits.py
 	python3 scripts/tests/test_kit.py
+	python3 scripts/tests/test_packages.py --program $(BUILT)
 	python3 scripts/tests/test_definitions_of.py
 	python3 scripts/tests/test_library.py --header
 	python3 scripts/pictures.py --check --program $(BUILT)

@@ -394,6 +394,8 @@ def build(targets, room):
 def main():
     if sys.argv[1:] not in ([], ["library"]):
         sys.exit("build: say nothing, or library")
+    if sys.argv[1:] and library.lacks_tools():
+        return 1
     end_by_signals()
     os.makedirs(os.path.join(ROOT, "bin/log"), exist_ok=True)
     try:

@@ -3,10 +3,12 @@
 libpnmpipe.so.1 and pnmpipe.h in the folder.
 
 The archive has one object: the proved functions, what they need of the toolchain's C code, and library/pnmpipe.c before
-them. Its global names are those of pnmpipe.h alone, as in the shared library. A C compiler and binutils make both.
+them. Its global names are those of pnmpipe.h alone, as in the shared library. A C compiler and binutils make both; CC
+names the compiler, and CPPFLAGS, CFLAGS and LDFLAGS are added to its calls, as by make.
 """
 
 import os
+import shlex
 import shutil
 import subprocess
 import sys
@@ -29,6 +31,20 @@ def compiler():
     return shutil.which(os.environ.get("CC", "cc"))
 
 
+def lacks_tools():
+    """Whether a program is missing that makes the library. Names those that are."""
+    names = [os.environ.get("CC", "cc"), "ld", "objcopy", "ar", "strip"]
+    missing = [name for name in names if not shutil.which(name)]
+    if missing:
+        print(f"library: not found: {', '.join(missing)}. A C compiler and binutils make the library: install them")
+    return bool(missing)
+
+
+def flags(*names):
+    """The words of variables like CFLAGS."""
+    return [word for name in names for word in shlex.split(os.environ.get(name, ""))]
+
+
 def version():
     with open(os.path.join(ROOT, "VERSION"), encoding="ascii") as file:
         return file.read().strip()
@@ -44,21 +60,20 @@ def commands(archive, work, folder, toolchain):
     """What makes the library, one command after another."""
     cc, own, whole = compiler(), f"{work}/pnmpipe.o", f"{work}/libpnmpipe.o"
     build = [cc, "-std=c99", "-O2", "-fPIC", *WARNINGS, f'-DPNMPIPE_VERSION="{version()}"']
-    yield [*build, "-c", f"{SOURCE}/pnmpipe.c", "-o", own]
+    yield [*build, *flags("CPPFLAGS", "CFLAGS"), "-c", f"{SOURCE}/pnmpipe.c", "-o", own]
     libraries = [os.path.join(toolchain, it) for it in OF_TOOLCHAIN]
     yield ["ld", "-r", "-o", whole, own, "--whole-archive", archive, "--no-whole-archive", *libraries]
     yield ["objcopy", *(f"--keep-global-symbol={name}" for name in exports()), whole]
     yield ["ar", "rcD", f"{work}/{ARCHIVE}", whole]
-    link = [cc, "-shared", "-o", f"{work}/{SHARED}", whole, "-Wl,-soname," + SHARED, "-Wl,-z,defs,-z,relro,-z,now"]
+    link = [cc, *flags("CFLAGS", "LDFLAGS"), "-shared", "-o", f"{work}/{SHARED}", whole]
+    link += ["-Wl,-soname," + SHARED, "-Wl,-z,defs,-z,relro,-z,now"]
     yield [*link, "-Wl,--gc-sections", f"-Wl,--version-script={SOURCE}/pnmpipe.map"]
     yield ["strip", "--strip-unneeded", f"{work}/{SHARED}"]
 
 
 def make(archive, folder, toolchain):
     """Leaves the library and its header in the folder. Gives the status."""
-    missing = [it for it in ("ld", "objcopy", "ar", "strip") if not shutil.which(it)]
-    if not compiler() or missing:
-        print(f"library: a C compiler and binutils make the library: there is no {', '.join(missing) or 'C compiler'}")
+    if lacks_tools():
         return 1
     os.makedirs(folder, exist_ok=True)
     with tempfile.TemporaryDirectory(dir=folder) as work:
