@@ -242,7 +242,7 @@ help:
 	@echo "make model           searches the model of how threads wait, for small sizes, with spin and gcc; ALL=1: for bigger ones too"
 	@echo "make wheel           leaves a wheel of the Python module, with the C library that make library has left, in dist/"
 	@echo "make install         installs the program that make has left, and the C library that make library has left, below PREFIX=/usr/local; make uninstall takes it away"
-	@echo "make dist, make deb  archives, and Debian packages, of what make and make library have left, in dist/"
+	@echo "make dist, make deb  archives, and Debian packages (by debhelper), of what make and make library have left, in dist/"
 	@echo "make pictures        makes the pictures of the documents anew"
 	@echo "make recipes         runs each block of docs/RECIPES.md, with the programs that are installed"
 	@echo "make help            this list"

@@ -78,6 +78,8 @@ def faults_of_page():
     for path in glob.glob(os.path.join(ROOT, "helpers/pnmpipe-*")):
         if f'VERSION = "{read("VERSION").strip()}"' not in read(path):
             found.append(f"{os.path.basename(path)} has another version than VERSION")
+    if not read("debian/changelog").startswith(f"pnmpipe ({version}) "):
+        found.append("debian/changelog has another version than VERSION")
     told = page.split(".Sh DIAGNOSTICS\n")[1]
     for name in sorted(fault_names()):
         if not re.search(rf"^\.It .*\b{name}\b", told, re.M):

@@ -33,7 +33,8 @@ LIST = 6
 OLD = ["pnmcut", "pnmdepth", "pnmenlarge", "pnmflip"]
 BETWEEN = r"(?:\W|\b(?:and|or|Xr|1|pnmpipe-\w+)\b)+"
 # folders of texts in which lists are looked for
-OF_LISTS = re.compile(r"Makefile|README\.md|(?:bench|completions|docs|helpers|library|man|scripts)/.*|crates/.*\.rt")
+FOLDERS = "bench|completions|debian|docs|helpers|library|man|scripts"
+OF_LISTS = re.compile(rf"Makefile|README\.md|(?:{FOLDERS})/.*|crates/.*\.rt")
 
 
 def listed(names):

@@ -374,7 +374,8 @@ class Install(Program):
         self.assertEqual([names for _, _, names in os.walk(self.path("x y")) if names], [])
 
     def test_archive(self):
-        """install.sh puts all that the archive of the built program has elsewhere, twice too, and takes it away."""
+        """install.sh puts all that the archive of the built program has elsewhere, twice too, and takes it away, and of
+        the folders those that it made."""
         target = ["-s", "-C", ROOT, f"BUILT={self.PROGRAM}", f"DESTDIR={self.folder}/archive", "PREFIX="]
         self.assertEqual(run(["make", "install", *target]).returncode, 0)
         shutil.copy(f"{HELPERS}/install.sh", self.path("archive"))
@@ -384,7 +385,14 @@ class Install(Program):
         self.assertEqual(run([self.path("x y/bin/pnmpipe"), "pnminvert"], GRAY).stdout, GRAY[:-2] + b"\x08\x07")
         self.assertEqual(run([self.path("x y/bin/pnmpipe-translate"), "pamcut"]).stdout, b"pnmpipe 'pamcut'\n")
         self.assertEqual(run([*words, "--uninstall", self.path("x y")]).returncode, 0)
-        self.assertEqual([names for _, _, names in os.walk(self.path("x y")) if names], [])
+        self.assertFalse(os.path.exists(self.path("x y")))
+        os.makedirs(self.path("x y/bin"))
+        self.assertEqual(run([*words, self.path("x y")]).returncode, 0)
+        self.write("x y/share/man/man1/other.1", b"")
+        self.assertEqual(run([*words, "--uninstall", self.path("x y")]).returncode, 0)
+        left = {os.path.relpath(at, self.folder): names for at, _, names in os.walk(self.path("x y"))}
+        man = {"x y/share": [], "x y/share/man": [], "x y/share/man/man1": ["other.1"]}
+        self.assertEqual(left, {"x y": [], "x y/bin": [], **man})
         self.assertEqual(run([*words, "--unknown"]).returncode, 2)
 
 
