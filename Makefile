@@ -91,6 +91,7 @@ scripts: lint
 	python3 scripts/tests/test_packages.py --program $(BUILT)
 	python3 scripts/tests/test_definitions_of.py
 	python3 scripts/tests/test_library.py --header
+	python3 scripts/tests/test_charts.py
 	python3 scripts/pictures.py --check --program $(BUILT)
 	python3 model/functions.py
 	python3 model/test_functions.py
@@ -171,7 +172,7 @@ test: built
 # the program that make has left beside Netpbm's own tools, where these are installed: a table, for a quiet machine, and
 # the figures of the documents, which `make scripts` then wants in their tables
 bench:
-	for table in tools turns plain narrow; do python3 bench/bench.py $$table --figures docs/figures.tsv || exit 1; done
+	for table in tools turns plain narrow curves; do python3 bench/bench.py $$table --figures docs/figures.tsv || exit 1; done
 
 # all tools by kinds of images and by options, beside Netpbm's own: which pairs take more processor time than these
 bench-sweep:

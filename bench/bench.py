@@ -3,8 +3,9 @@
 --help` for what a table measures and its options.
 
 The tables: `tools`, `turns` and `plain`, each tool beside Netpbm's own; `narrow`, chains over narrow rows and small
-images; `waits`, beside busy processes; `files`, many files in each way; `library`, calls of the C library; `lanes`,
-numbers of lanes; and `sweep`, all tools by kinds of images and by options.
+images; `curves`, rows of other widths and chains of more tools; `waits`, beside busy processes; `files`, many files in
+each way; `library`, calls of the C library; `lanes`, numbers of lanes; and `sweep`, all tools by kinds of images and by
+options.
 """
 
 import argparse
@@ -12,6 +13,7 @@ import os
 import sys
 import tempfile
 
+import curves
 import files
 import lanes
 import library_calls
@@ -26,6 +28,7 @@ TABLES = {
     "turns": tools,
     "plain": tools,
     "narrow": narrow,
+    "curves": curves,
     "waits": waits,
     "files": files,
     "library": library_calls,

@@ -14,7 +14,7 @@ ROOT = os.path.dirname(HERE)
 # images and results lie in memory, if the system has a folder for that
 IN_MEMORY = "/dev/shm" if os.path.isdir("/dev/shm") else None
 
-# (library_calls.py links the C library as scripts/library.py says)
+# (library_calls.py links the C library as scripts/library.py says, and curves.py measures what scripts/charts.py draws)
 sys.path.append(os.path.join(ROOT, "scripts"))
 
 
@@ -114,7 +114,7 @@ class Beside:
         self.runs, self.programs = args.runs, [("pnmpipe", args.program), *getattr(args, "beside", [])]
         self.wanted, self.made = (os.path.join(folder, name) for name in ("wanted", "made"))
         self.differing = 0
-        # wall seconds of the first program and of Netpbm's tool, by image and tool
+        # wall seconds of the first program and of Netpbm's tool, and their processor seconds, by image and tool
         self.figures = {}
         print_columns([*labels, *(name for name, _ in self.programs), "Netpbm", *further, "over Netpbm"])
 
@@ -135,7 +135,7 @@ class Beside:
         first, ratio = results[0], "-"
         *ahead, image, tool = labels
         if first and peer:
-            self.figures[image, tool] = first[0], peer[0]
+            self.figures[image, tool] = first[0], peer[0], first[1], peer[1]
             ratio = "%.2f, %.2f" % over(first, peer)
         print_line([*ahead, image, f"`{tool}`", *cells, shown(peer), *further(peer), ratio])
 
@@ -152,6 +152,6 @@ def write_figures(path, figures):
         head, *lines = file.read().splitlines()
     known = {tuple(line.split("\t")[:2]): line for line in lines}
     for (image, tool), seconds in figures.items():
-        known[image, tool] = "%s\t%s\t%.3f\t%.3f" % (image, tool, *seconds)
+        known[image, tool] = "\t".join([image, tool, *("%.3f" % it for it in seconds)])
     with open(path, "w", encoding="utf-8") as file:
         file.write("\n".join([head, *known.values()]) + "\n")

@@ -304,7 +304,6 @@ def faults_of_documents():
 
 
 PLAIN_IMAGES = {"PBM": "scan", "PPM": "color", "PGM": "gray16"}
-README_IMAGES = {"20,000 images of 64 by 64": "64 by 64"}
 # chains that PERFORMANCE names in its table of narrow rows
 NAMED_CHAINS = {
     "three tools": "pamcut -left 8 -right -9 | pamflip -lr | pnminvert",
@@ -315,16 +314,9 @@ NAMED_CHAINS = {
 }
 
 
-def figures_of_readme():
-    """Each image and tool of its table of seconds, with the figures of the program and of Netpbm's tools."""
-    row = r"^\| ([\w, ]+): `(.+?)`(, written as plain text)? \| ([\d.]+) \| ([\d.]+) \|$"
-    for image, tool, plain, *figures in re.findall(row, read("README.md"), re.M):
-        tool = tool.replace("\\|", "|")
-        yield README_IMAGES.get(image, image), "--plain " * bool(plain) + tool, figures
-
-
 def figures_of_performance():
-    """The same of its tables beside Netpbm, of turned images, of narrow rows and of plain text."""
+    """Each image and tool of its tables beside Netpbm, of turned images, of narrow rows and of plain text, with the
+    figures of the program and of Netpbm's tools."""
     text = read("docs/PERFORMANCE.md")
     for tool, *figures in re.findall(r"^\| `([^`]+)` \| (\S+) \| (\S+) \| \S+ \| (\S*) \| (\S*) \|", text, re.M):
         yield "scan", tool, figures[:2]
@@ -344,15 +336,14 @@ def faults_of_figures():
     """A figure that isn't that of the file that `make bench` writes, as far as its digits go."""
     lines = [line.split("\t") for line in read("docs/figures.tsv").splitlines() if not line.startswith("#")]
     measured = {(image, tool): figures for image, tool, *figures in lines}
-    tables = [("README.md", *row) for row in figures_of_readme()]
-    tables += [("docs/PERFORMANCE.md", *row) for row in figures_of_performance()]
-    found = []
-    for path, image, tool, figures in tables:
+    tables, found = list(figures_of_performance()), []
+    for image, tool, figures in tables:
         for figure, seconds in zip(figures, measured.get((image, tool), ("nan", "nan"))):
             half = 0.5 * 10 ** -len(figure.partition(".")[2])
             if not abs(float(figure) - float(seconds)) <= half + 1e-9:
-                found.append(f"{path} has {figure} for {tool} of {image}, and docs/figures.tsv {seconds}")
-    return found if len(tables) > 40 else [f"README.md and docs/PERFORMANCE.md have {len(tables)} rows of figures"]
+                told = f"{figure} for {tool} of {image}, and docs/figures.tsv {seconds}"
+                found.append(f"docs/PERFORMANCE.md has {told}")
+    return found if len(tables) > 40 else [f"docs/PERFORMANCE.md has {len(tables)} rows of figures"]
 
 
 def wide_lines(path, page):

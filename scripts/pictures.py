@@ -2,7 +2,7 @@
 """Makes the pictures of the documents, docs/pictures: a test card that is drawn here, and what each tool makes of it.
 
 With --check nothing is written: the pictures that are there have to be the same, pixel by pixel, as those that would be
-made. The diagram of threads is made here too.
+made. The diagram of threads is made here too, and the charts of figures (charts.py), where gnuplot is installed.
 """
 
 import argparse
@@ -12,6 +12,7 @@ import subprocess
 import sys
 import zlib
 
+import charts
 from places import ROOT
 
 FOLDER = f"{ROOT}/docs/pictures"
@@ -140,6 +141,14 @@ def threads():
     )
 
 
+def drawings():
+    """The pictures that aren't made of the card, by their names."""
+    if not charts.can_draw():
+        print("pictures: gnuplot isn't installed, so no chart is looked at")
+        return {"threads": threads()}
+    return {"threads": threads(), **charts.drawn()}
+
+
 def checked(program):
     """The pictures that differ from those that would be made."""
     found = []
@@ -152,9 +161,14 @@ def checked(program):
             there = opened(file.read())
         if there != opened(png(*pixels_of(program, chain))):
             found.append(f"{name}.png is another picture")
-    with open(f"{FOLDER}/threads.svg", encoding="utf-8") as file:
-        if file.read() != threads():
-            found.append("threads.svg is another picture")
+    for name, drawing in drawings().items():
+        path = f"{FOLDER}/{name}.svg"
+        if not os.path.exists(path):
+            found.append(f"{name}.svg isn't there")
+            continue
+        with open(path, encoding="utf-8") as file:
+            if not charts.are_the_same(file.read(), drawing):
+                found.append(f"{name}.svg is another picture")
     return found
 
 
@@ -174,8 +188,9 @@ def main():
     for name, chain in CHAINS.items():
         with open(f"{FOLDER}/{name}.png", "wb") as file:
             file.write(png(*pixels_of(options.program, chain)))
-    with open(f"{FOLDER}/threads.svg", "w", encoding="utf-8") as file:
-        file.write(threads())
+    for name, drawing in drawings().items():
+        with open(f"{FOLDER}/{name}.svg", "w", encoding="utf-8") as file:
+            file.write(drawing)
 
 
 if __name__ == "__main__":
