@@ -1,5 +1,6 @@
 #!/usr/bin/env python3
-"""Pastes each example of the manual pages into a shell, as it shows at 80 columns.
+"""Pastes each example of the manual pages into a shell, as it shows at 80 columns, and the README's first one, whose
+result stands below it.
 
 An example is a block of text as it is, `.Bd -literal`. The page is made by mandoc, or by groff where that isn't there.
 A pasted one has to end with its status below, and to leave what is named beside it; those that no row names fail.
@@ -128,6 +129,13 @@ class Examples(Program):
                     if beginning is not None:
                         self.assertTrue(self.read(f"{folder}/{name}").startswith(beginning), text)
         self.assertEqual(rows, set(), "examples that no page has")
+
+    def test_readme(self):
+        with open(f"{ROOT}/README.md", encoding="utf-8") as file:
+            text, printed = re.search(r"^    \$ (.*)\n((?:    .*\n)+)", file.read(), re.M).groups()
+        done = self.paste(text, "readme", {})
+        self.assertEqual((done.returncode, done.stderr), (0, b""))
+        self.assertEqual(done.stdout.decode(), re.sub("^    ", "", printed, flags=re.M))
 
     def test_quotes(self):
         for page in glob.glob(f"{ROOT}/man/*.1"):
