@@ -28,7 +28,7 @@ const ABOUT: &str = "Passes a stream of PBM, PGM, PPM or PAM images through a ch
   pnmpipe 'pamcut -width 640 | pamflip -lr' < a.ppm > b.ppm
 Put CHAIN in quotes; files go by < and >. Every image of a stream is treated.";
 
-const CHAIN_HELP: &str = "1 to 64 tools, parted by |, in one word";
+const CHAIN_HELP: &str = "1 to 64 tools, separated by |, in one word";
 
 const RING_HELP: &str = "Rows that wait between two tools, 1 to 1024";
 
@@ -48,7 +48,7 @@ const AFTER_HELP: &str = "Tools:
   pnmtile WIDTH HEIGHT
 
 Status: 0 all went well, 1 the input, a tool or the output failed, 2 wrong words
-64 rows suit all but huge ones. The page pnmpipe(1) has more.
+Lower --ring only if rows are huge. The page pnmpipe(1) has more.
 pnmpipe-explain CHAIN < FILE says what is wrong with a chain or an input.";
 
 /// What the words name.

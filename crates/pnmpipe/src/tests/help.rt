@@ -8,7 +8,7 @@ Put CHAIN in quotes; files go by < and >. Every image of a stream is treated.
 Usage: pnmpipe [--ring N] [--lanes K] [--plain] CHAIN
 
 Arguments:
-  <CHAIN>  1 to 64 tools, parted by |, in one word
+  <CHAIN>  1 to 64 tools, separated by |, in one word
 
 Options:
       --ring <N>   Rows that wait between two tools, 1 to 1024 [default: 64]
@@ -29,6 +29,6 @@ Tools:
   pnmtile WIDTH HEIGHT
 
 Status: 0 all went well, 1 the input, a tool or the output failed, 2 wrong words
-64 rows suit all but huge ones. The page pnmpipe(1) has more.
+Lower --ring only if rows are huge. The page pnmpipe(1) has more.
 pnmpipe-explain CHAIN < FILE says what is wrong with a chain or an input.
 ";
