@@ -153,7 +153,7 @@ uninstall:
 dist deb: built
 	sh scripts/package.sh $@
 
-# the pictures of the documents, made anew from the program that make has left
+# the pictures of the documents, made anew by the program that make has left, and by gnuplot from docs/figures.tsv
 pictures: built
 	python3 scripts/pictures.py
 

@@ -31,7 +31,7 @@ source_files() {
 copy_source() {
     mkdir -p dist "$work/$source"
     source_files > "$work/files"
-    tar -cf - -T "$work/files" | tar -C "$work/$source" -xf -
+    xargs -d '\n' cp -P --parents -t "$work/$source" < "$work/files"
 }
 
 # packed NAME: an archive of a folder, in dist/
