@@ -14,7 +14,7 @@ from charts import NUMBERS, TOOL, WIDTHS, columns
 RUNS = 7
 
 # how many samples an image of each width has, or a few less
-SAMPLES = 4_000_000
+SAMPLES = 16_000_000
 SHEET = b"P5\n2480 7016\n255\n", 2480 * 7016
 
 
