@@ -1,5 +1,6 @@
 #!/usr/bin/env python3
-"""Makes the pictures of the documents, docs/pictures: a test card that is drawn here, and what each tool makes of it.
+"""Makes the pictures of the documents, docs/pictures: a test card that is drawn here, also as PPM for the README's first
+run, and what each tool makes of it.
 
 With --check nothing is written: the pictures that are there have to be the same, pixel by pixel, as those that would be
 made. The diagram of threads is made here too, and the charts of figures (charts.py), where gnuplot is installed.
@@ -151,7 +152,8 @@ def drawings():
 
 def checked(program):
     """The pictures that differ from those that would be made."""
-    found = []
+    with open(f"{FOLDER}/card.ppm", "rb") as file:
+        found = [] if file.read() == card() else ["card.ppm is another picture"]
     for name, chain in CHAINS.items():
         path = f"{FOLDER}/{name}.png"
         if not os.path.exists(path):
@@ -185,6 +187,8 @@ def main():
         print("\n".join(f"pictures: {line}" for line in found) or "pictures: they are as the program makes them")
         sys.exit(bool(found))
     os.makedirs(FOLDER, exist_ok=True)
+    with open(f"{FOLDER}/card.ppm", "wb") as file:
+        file.write(card())
     for name, chain in CHAINS.items():
         with open(f"{FOLDER}/{name}.png", "wb") as file:
             file.write(png(*pixels_of(options.program, chain)))
