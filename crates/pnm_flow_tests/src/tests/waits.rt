@@ -11,7 +11,7 @@ use std::alloc::Global;
 use std::process::Abort;
 use std::rt::Clock;
 use std::sync::Wait;
-use std::thread;
+use std::thread::{self, Threads};
 use std::time::{Duration, Instant};
 
 /// A thread that was woken sleeps for fewer milliseconds than this, and one that wasn't sleeps for more, unless the
@@ -116,25 +116,32 @@ fn send_from_last(rt: &(impl Clock + Wait), alloc: Global, lanes: Vec<Sender>) -
     true
 }
 
+/// Whether no sleep lasts of a gatherer that drains four lanes, of which the last one sends first.
+fn drains_shortly<R: Threads + Wait + Clock + Abort + Sync>(rt: &R, alloc: Global) -> bool {
+    let (output, _consumer) = new_ring(alloc, 1).expect(rt, "a ring");
+    let (mut lanes, inputs) = rings(alloc, 4, 1).expect(rt, "rings");
+    for sender in lanes.iter_mut() {
+        is_so(rt, sender.set_home(&output), &"shared");
+    }
+    let start = Instant::now(rt).expect(rt, "a clock");
+    let both = thread::join(
+        rt,
+        move || gathered(rt, inputs, output).end == StageEnd::Broken,
+        move || send_from_last(rt, alloc, lanes),
+    );
+    is_so(rt, both.0 && both.1, &"gathered");
+    was_short(rt, start)
+}
+
 /// A gatherer that drains takes what comes from any lane: none of its sleeps lasts, though the lanes before that one
-/// are silent.
+/// are silent. On a busy machine a try may take long by itself, but hardly both of two.
 #[test]
 fn drains_whichever_lane_has_no_room(rt: HostRuntime) {
-    let (output, _consumer) = new_ring(rt.alloc(), 1).expect(&rt, "a ring");
-    let (mut lanes, inputs) = rings(rt.alloc(), 4, 1).expect(&rt, "rings");
-    for sender in lanes.iter_mut() {
-        is_so(&rt, sender.set_home(&output), &"shared");
-    }
-    let alloc = rt.alloc();
-    let host = &rt;
-    let start = Instant::now(&rt).expect(&rt, "a clock");
-    let both = thread::join(
+    is_so(
         &rt,
-        move || gathered(host, inputs, output).end == StageEnd::Broken,
-        move || send_from_last(host, alloc, lanes),
+        drains_shortly(&rt, rt.alloc()) || drains_shortly(&rt, rt.alloc()),
+        &"no sleep lasted",
     );
-    is_so(&rt, both.0 && both.1, &"gathered");
-    is_so(&rt, was_short(&rt, start), &"no sleep lasted");
 }
 
 /// Sends a row, if there is room. It is so wide that a ring of four keeps two places free next to it.
