@@ -4,9 +4,11 @@ test's own, the program, images, and how a helper is run and loaded."""
 import argparse
 import os
 import shutil
+import signal
 import subprocess
 import sys
 import tempfile
+import time
 import unittest
 
 sys.dont_write_bytecode = True
@@ -21,12 +23,37 @@ from netpbm_words import OLD_NAMES, OPTIONS
 GRAY = b"P5\n2 1\n9\n\x01\x02"
 COLOR = b"P6\n1 1\n9\n\x03\x04\x05"
 
+# the signals that end a helper
+SIGNALS = (signal.SIGTERM, signal.SIGINT, signal.SIGHUP)
+
 # the tools that have a stand-in
 SHIMS = [*OPTIONS, *OLD_NAMES]
 
 
 def run(words, given=b"", **others):
     return subprocess.run(words, input=given, capture_output=True, check=False, **others)
+
+
+def has_ended(process):
+    """Whether a process has ended, or does soon: the kernel may still have to end one that was killed, and whoever it
+    is left to may not have taken its status yet."""
+    end = time.monotonic() + 60
+    while time.monotonic() < end:
+        try:
+            with open(f"/proc/{process}/stat", encoding="ascii", errors="replace") as file:
+                if file.read().rpartition(")")[2].split()[0] == "Z":
+                    return True
+        except OSError:
+            return True
+        time.sleep(0.01)
+    return False
+
+
+def heed_signals():
+    """Has a process heed the signals that end it, some of which nohup, or a shell that runs the tests in the
+    background, has ignored."""
+    for number in SIGNALS:
+        signal.signal(number, signal.SIG_DFL)
 
 
 class Folder(unittest.TestCase):
@@ -49,6 +76,12 @@ class Folder(unittest.TestCase):
     def read(self, name):
         with open(self.path(name), "rb") as file:
             return file.read()
+
+    def assert_within(self, seconds, attempt):
+        """Wants an attempt to tell fewer seconds than these, a second one where the first has not: a machine that is
+        busy with other things may be late once."""
+        if attempt() >= seconds:
+            self.assertLess(attempt(), seconds)
 
 
 def program_of(path):

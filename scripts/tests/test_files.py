@@ -19,7 +19,7 @@ import time
 sys.dont_write_bytecode = True
 
 # pylint: disable=wrong-import-position
-from support import COLOR, GRAY, HELPERS, ROOT, Program, parser_of, run, run_tests
+from support import COLOR, GRAY, HELPERS, ROOT, SIGNALS, Program, has_ended, heed_signals, parser_of, run, run_tests
 
 from test_commands import stored_commands
 
@@ -105,20 +105,6 @@ def children_of(process):
         return list(map(int, file.read().split()))
 
 
-def has_ended(process):
-    """Whether a process has ended, or does within a second: the kernel may still have to end one that was killed, and
-    whoever it is left to may not have taken its status yet."""
-    for _ in range(100):
-        try:
-            with open(f"/proc/{process}/stat", encoding="ascii", errors="replace") as file:
-                if file.read().rpartition(")")[2].split()[0] == "Z":
-                    return True
-        except OSError:
-            return True
-        time.sleep(0.01)
-    return False
-
-
 class Runs(Program):
     """Runs of pnmpipe-files."""
 
@@ -197,27 +183,25 @@ class Files(Runs):
         names = ["in/c.ppm", "in/-d.pgm", "in/a b.pgm"]
         words = [FILES, "--jobs", "2", "--small", "0", "pnminvert", "out", *names]
         environment = self.environment(self.path("slow"))
-        numbers = (signal.SIGTERM, signal.SIGINT, signal.SIGHUP)
-
-        def heed():
-            # (nohup, or a shell that runs the tests in the background, has some of them ignored)
-            for number in numbers:
-                signal.signal(number, signal.SIG_DFL)
-
-        how = {"cwd": self.folder, "env": environment, "stderr": subprocess.DEVNULL, "preexec_fn": heed}
-        for number in numbers:
-            self.write("calls", b"")
-            with subprocess.Popen(words, **how) as child:
-                while len(self.read("calls").split()) < 2:
-                    time.sleep(0.01)
-                start = time.monotonic()
-                child.send_signal(number)
-                self.assertEqual(child.wait(timeout=10), -number)
-                self.assertLess(time.monotonic() - start, 1)
-            for process in self.read("calls").split():
-                self.assertTrue(has_ended(int(process)))
-            self.assertEqual(os.listdir(self.path("out")), ["pnmpipe-files.log"])
+        how = {"cwd": self.folder, "env": environment, "stderr": subprocess.DEVNULL, "preexec_fn": heed_signals}
+        for number in SIGNALS:
+            self.assert_within(1, lambda number=number: self.seconds_to_end(words, how, number))
         self.assertEqual(self.files("--resume", "pnminvert", "out", *names).stderr, b"3 files, 0 failed, 0 left out\n")
+
+    def seconds_to_end(self, words, how, number):
+        """How long a signal takes to end a run and its two calls."""
+        self.write("calls", b"")
+        with subprocess.Popen(words, **how) as child:
+            while len(self.read("calls").split()) < 2:
+                time.sleep(0.01)
+            start = time.monotonic()
+            child.send_signal(number)
+            self.assertEqual(child.wait(timeout=60), -number)
+        for process in self.read("calls").split():
+            self.assertTrue(has_ended(int(process)))
+        seconds = time.monotonic() - start
+        self.assertEqual(os.listdir(self.path("out")), ["pnmpipe-files.log"])
+        return seconds
 
     def test_refuses(self):
         for words in [
@@ -276,9 +260,9 @@ class Files(Runs):
         with subprocess.Popen(words, cwd=self.folder, env=self.environment(), stderr=theirs) as child:
             os.close(theirs)
             shown = b""
-            while b" left out" not in shown and select.select([ours], [], [], 10)[0]:
+            while b" left out" not in shown and select.select([ours], [], [], 60)[0]:
                 shown += os.read(ours, 65536)
-            self.assertEqual(child.wait(timeout=10), 1)
+            self.assertEqual(child.wait(timeout=60), 1)
         os.close(ours)
         self.assertRegex(shown, rb"\r\x1b\[K2 of 2 files, [0-9]+ a second, 0:00 left\r\n")
         self.assertIn(b"\r\x1b[Kin/cut.pgm: pnmpipe: input: RasterCut", shown)
@@ -379,19 +363,26 @@ class SmallFiles(Files):
 
     def test_killed(self):
         """A signal ends it within a second, with no part left; the log has what is there, --resume does the rest."""
-        child, words, names = self.slow_run()
-        start = time.monotonic()
-        child.send_signal(signal.SIGTERM)
-        said = child.communicate(timeout=10)[1]
-        self.assertEqual((child.returncode, time.monotonic() - start < 1), (-signal.SIGTERM, True))
-        self.assertIn(b", ended by SIGTERM: --resume goes on\n", said)
-        made = sorted(name for name in os.listdir(self.path("out")) if name.endswith(".pgm"))
-        self.assertEqual(self.parts(), [])
-        self.assertEqual([line.split(b"/")[-1] for line in self.log()], [os.fsencode(f"{name}\t") for name in made])
-        self.assertLess(len(made), len(names))
-        done = run([words[0], "--resume", *words[1:]], cwd=self.folder, env=self.environment())
-        self.assertEqual((done.returncode, len(self.log())), (0, len(names)))
-        self.assertTrue(f"files, 0 failed, {len(made)} left out\n".encode() in done.stderr, done.stderr)
+
+        def seconds_to_end():
+            shutil.rmtree(self.path("out"), ignore_errors=True)
+            child, words, names = self.slow_run()
+            start = time.monotonic()
+            child.send_signal(signal.SIGTERM)
+            said = child.communicate(timeout=60)[1]
+            seconds = time.monotonic() - start
+            self.assertEqual(child.returncode, -signal.SIGTERM)
+            self.assertIn(b", ended by SIGTERM: --resume goes on\n", said)
+            made = sorted(name for name in os.listdir(self.path("out")) if name.endswith(".pgm"))
+            self.assertEqual(self.parts(), [])
+            self.assertEqual([line.split(b"/")[-1] for line in self.log()], [os.fsencode(f"{name}\t") for name in made])
+            self.assertLess(len(made), len(names))
+            done = run([words[0], "--resume", *words[1:]], cwd=self.folder, env=self.environment())
+            self.assertEqual((done.returncode, len(self.log())), (0, len(names)))
+            self.assertTrue(f"files, 0 failed, {len(made)} left out\n".encode() in done.stderr, done.stderr)
+            return seconds
+
+        self.assert_within(1, seconds_to_end)
 
     def test_lost_worker(self):
         """Where a worker is killed, others do its files; where the run itself is, a next one clears what is left."""
@@ -399,18 +390,22 @@ class SmallFiles(Files):
         os.kill(children_of(child.pid)[0], signal.SIGKILL)
         self.assertEqual(child.communicate(timeout=60)[1], b"120 files, 0 failed, 0 left out\n")
         self.assertEqual((len(self.log()), self.parts()), (len(names), []))
-        shutil.rmtree(self.path("out"))
-        child, words, names = self.slow_run()
-        workers = children_of(child.pid)
-        child.kill()
-        child.communicate(timeout=10)
-        end = time.monotonic() + 5
-        while not all(map(has_ended, workers)):
-            self.assertLess(time.monotonic(), end)
-            time.sleep(0.01)
-        done = run([words[0], "--resume", *words[1:]], cwd=self.folder, env=self.environment())
-        self.assertEqual((done.returncode, self.parts()), (0, []))
-        self.assertEqual(len(os.listdir(self.path("out"))), len(names) + 1)
+
+        def seconds_to_end():
+            shutil.rmtree(self.path("out"))
+            child, words, names = self.slow_run()
+            workers = children_of(child.pid)
+            child.kill()
+            start = time.monotonic()
+            child.communicate(timeout=60)
+            self.assertTrue(all(map(has_ended, workers)))
+            seconds = time.monotonic() - start
+            done = run([words[0], "--resume", *words[1:]], cwd=self.folder, env=self.environment())
+            self.assertEqual((done.returncode, self.parts()), (0, []))
+            self.assertEqual(len(os.listdir(self.path("out"))), len(names) + 1)
+            return seconds
+
+        self.assert_within(5, seconds_to_end)
 
 
 class OddLibrary(Runs):

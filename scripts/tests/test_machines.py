@@ -78,18 +78,24 @@ class Machines(Runs):
         os.mkdir(self.path("home"))
         slow = f"[ ! -c /dev/stdin ] || exec {self.program()} \"$@\"\necho $$ >> {self.path('calls')}\nexec sleep 60\n"
         slow = self.write("slow", b"#!/bin/sh\n" + slow.encode(), 0o755)
-        self.write("calls", b"")
         words = [FILES, "--machines", "host,:", "--jobs", "2", "pnminvert", "out", "in/-x.pgm", "in/{}.pgm"]
-        with subprocess.Popen(words, cwd=self.folder, env=self.environment(slow), stderr=subprocess.PIPE) as child:
-            while not self.read("calls"):
-                time.sleep(0.01)
-            start = time.monotonic()
-            child.send_signal(signal.SIGTERM)
-            child.communicate(timeout=10)
-            self.assertEqual((child.returncode, time.monotonic() - start < 1), (-signal.SIGTERM, True))
-        for process in self.read("calls").split():
-            run(["kill", process])
-        self.assertEqual(os.listdir(self.path("out")), ["pnmpipe-files.log"])
+
+        def seconds_to_end():
+            self.write("calls", b"")
+            with subprocess.Popen(words, cwd=self.folder, env=self.environment(slow), stderr=subprocess.PIPE) as child:
+                while not self.read("calls"):
+                    time.sleep(0.01)
+                start = time.monotonic()
+                child.send_signal(signal.SIGTERM)
+                child.communicate(timeout=60)
+                seconds = time.monotonic() - start
+            for process in self.read("calls").split():
+                run(["kill", process])
+            self.assertEqual(child.returncode, -signal.SIGTERM)
+            self.assertEqual(os.listdir(self.path("out")), ["pnmpipe-files.log"])
+            return seconds
+
+        self.assert_within(1, seconds_to_end)
 
 
 def main():
