@@ -19,8 +19,8 @@ FISHDIR ?= $(PREFIX)/share/fish/vendor_completions.d
 SHIMDIR = $(LIBEXECDIR)/pnmpipe/netpbm
 # helpers that stand beside the modules they use, with a link in BINDIR
 HELPERS := pnmpipe-explain pnmpipe-files pnmpipe-split pnmpipe-translate
-MODULES := chain_text.py file_machines.py file_tasks.py file_workers.py image_stream.py input_faults.py netpbm_words.py
-MODULES += shell_reader.py slow_reader.py translation.py
+MODULES := chain_text.py end_signals.py file_machines.py file_tasks.py file_workers.py image_stream.py
+MODULES += input_faults.py netpbm_words.py shell_reader.py slow_reader.py translation.py
 SHIMS = $(shell python3 scripts/tool_table.py) pnmcut pnmdepth pnmenlarge pnmflip
 
 # crates whose tests of want of memory are refused each allocation

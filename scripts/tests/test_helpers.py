@@ -20,7 +20,8 @@ import unittest
 sys.dont_write_bytecode = True
 
 # pylint: disable=wrong-import-position
-from support import COLOR, GRAY, HELPERS, ROOT, SHIMS, Folder, Program, loaded, parser_of, run, run_tests
+from support import COLOR, GRAY, HELPERS, ROOT, SHIMS, SIGNALS, Folder, Program
+from support import heed_signals, loaded, parser_of, run, run_tests
 
 
 def random_header(numbers):
@@ -126,6 +127,50 @@ class Split(Folder):
         self.assertIn(b"--force would replace it", done.stderr)
         self.assertEqual(self.split(GRAY + GRAY, "--force").returncode, 0)
         self.assertEqual(self.read("x-000002.pgm"), GRAY)
+
+    def test_files_of_the_users(self):
+        """A file that is there stays, whatever its name is, also one that has come while the image was read."""
+        for name in ("x-000001.pgm.part", "x-000002.pgm.part"):
+            self.write(name, b"mine")
+        names = self.write("names", b"a.part\na\n" + b"n" * 253 + b"\n")
+        self.assertEqual(self.split(GRAY + COLOR).returncode, 0)
+        self.assertEqual(self.split(GRAY + COLOR + GRAY, "--names", names).returncode, 0)
+        self.assertEqual([self.read(name) for name in ("x-a.part", "x-a", "x-" + "n" * 253)], [GRAY, COLOR, GRAY])
+        for name in ("x-000001.pgm.part", "x-000002.pgm.part"):
+            self.assertEqual(self.read(name), b"mine")
+        child = self.begun("--start", "7")
+        self.write("x-000007.pgm", b"mine")
+        _, told = child.communicate(b"\0", timeout=60)
+        self.assertEqual((child.returncode, self.read("x-000007.pgm")), (1, b"mine"))
+        self.assertIn(b"x-000007.pgm is there, and --force would replace it", told)
+        self.write("names", b".pnmpipe-split.0\n")
+        done = run([f"{HELPERS}/pnmpipe-split", "--names", names, self.folder + "/"], GRAY)
+        self.assertEqual((done.returncode, os.path.exists(self.path(".pnmpipe-split.0"))), (1, False))
+
+    def begun(self, *words):
+        """A call that has begun to write an image, which lacks its last byte, beside what is there."""
+        before = os.listdir(self.folder)
+        words = [f"{HELPERS}/pnmpipe-split", *words, self.path("x-")]
+        child = subprocess.Popen(words, stdin=subprocess.PIPE, stderr=subprocess.PIPE, preexec_fn=heed_signals)
+        child.stdin.write(b"P5\n1000 1\n9\n" + bytes(999))
+        child.stdin.flush()
+        end = time.monotonic() + 60
+        while os.listdir(self.folder) == before:
+            self.assertTrue(child.poll() is None and time.monotonic() < end)
+            time.sleep(0.01)
+        return child
+
+    def test_signals(self):
+        """A signal ends it, and leaves no image that isn't whole."""
+        for number in SIGNALS:
+            child = self.begun()
+            child.send_signal(number)
+            child.communicate(timeout=60)
+            self.assertEqual((child.returncode, os.listdir(self.folder)), (-number, []))
+
+    def test_refuses(self):
+        for words in (["--digits", "-3"], ["--digits", "256"], ["--start", "-1"]):
+            self.assertEqual((self.split(GRAY, *words).returncode, os.listdir(self.folder)), (2, []), words)
 
     def test_numbers_sort(self):
         """The names of more than 9,999 images stand in the order of the images."""
