@@ -23,6 +23,9 @@ from netpbm_words import OLD_NAMES, OPTIONS
 GRAY = b"P5\n2 1\n9\n\x01\x02"
 COLOR = b"P6\n1 1\n9\n\x03\x04\x05"
 
+# seconds after which a test ends that hangs: more than what a busy machine takes for any step
+PATIENCE = 600
+
 # the signals that end a helper
 SIGNALS = (signal.SIGTERM, signal.SIGINT, signal.SIGHUP)
 
@@ -37,7 +40,7 @@ def run(words, given=b"", **others):
 def has_ended(process):
     """Whether a process has ended, or does soon: the kernel may still have to end one that was killed, and whoever it
     is left to may not have taken its status yet."""
-    end = time.monotonic() + 60
+    end = time.monotonic() + PATIENCE
     while time.monotonic() < end:
         try:
             with open(f"/proc/{process}/stat", encoding="ascii", errors="replace") as file:

@@ -20,7 +20,7 @@ import unittest
 sys.dont_write_bytecode = True
 
 # pylint: disable=wrong-import-position
-from support import COLOR, GRAY, HELPERS, ROOT, SHIMS, SIGNALS, Folder, Program
+from support import COLOR, GRAY, HELPERS, PATIENCE, ROOT, SHIMS, SIGNALS, Folder, Program
 from support import heed_signals, loaded, parser_of, run, run_tests
 
 
@@ -140,7 +140,7 @@ class Split(Folder):
             self.assertEqual(self.read(name), b"mine")
         child = self.begun("--start", "7")
         self.write("x-000007.pgm", b"mine")
-        _, told = child.communicate(b"\0", timeout=60)
+        _, told = child.communicate(b"\0", timeout=PATIENCE)
         self.assertEqual((child.returncode, self.read("x-000007.pgm")), (1, b"mine"))
         self.assertIn(b"x-000007.pgm is there, and --force would replace it", told)
         self.write("names", b".pnmpipe-split.0\n")
@@ -154,7 +154,7 @@ class Split(Folder):
         child = subprocess.Popen(words, stdin=subprocess.PIPE, stderr=subprocess.PIPE, preexec_fn=heed_signals)
         child.stdin.write(b"P5\n1000 1\n9\n" + bytes(999))
         child.stdin.flush()
-        end = time.monotonic() + 60
+        end = time.monotonic() + PATIENCE
         while os.listdir(self.folder) == before:
             self.assertTrue(child.poll() is None and time.monotonic() < end)
             time.sleep(0.01)
@@ -165,7 +165,7 @@ class Split(Folder):
         for number in SIGNALS:
             child = self.begun()
             child.send_signal(number)
-            child.communicate(timeout=60)
+            child.communicate(timeout=PATIENCE)
             self.assertEqual((child.returncode, os.listdir(self.folder)), (-number, []))
 
     def test_refuses(self):

@@ -15,7 +15,7 @@ import unittest
 sys.dont_write_bytecode = True
 
 # pylint: disable=wrong-import-position
-from support import GRAY, parser_of, run, run_tests
+from support import GRAY, PATIENCE, parser_of, run, run_tests
 
 from recipes import Host
 from test_files import FILES, Runs
@@ -87,7 +87,7 @@ class Machines(Runs):
                     time.sleep(0.01)
                 start = time.monotonic()
                 child.send_signal(signal.SIGTERM)
-                child.communicate(timeout=60)
+                child.communicate(timeout=PATIENCE)
                 seconds = time.monotonic() - start
             for process in self.read("calls").split():
                 run(["kill", process])
