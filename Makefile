@@ -19,7 +19,7 @@ FISHDIR ?= $(PREFIX)/share/fish/vendor_completions.d
 SHIMDIR = $(LIBEXECDIR)/pnmpipe/netpbm
 # helpers that stand beside the modules they use, with a link in BINDIR
 HELPERS := pnmpipe-explain pnmpipe-files pnmpipe-split pnmpipe-translate
-MODULES := chain_text.py end_signals.py file_machines.py file_tasks.py file_workers.py image_stream.py
+MODULES := chain_text.py end_signals.py file_machines.py file_parts.py file_tasks.py file_workers.py image_stream.py
 MODULES += input_faults.py netpbm_words.py shell_reader.py slow_reader.py translation.py
 SHIMS = $(shell python3 scripts/tool_table.py) pnmcut pnmdepth pnmenlarge pnmflip
 
@@ -82,6 +82,7 @@ scripts: lint
 	python3 scripts/tests/test_translate.py --program $(BUILT)
 	python3 scripts/tests/test_helpers.py --program $(BUILT)
 	python3 scripts/tests/test_files.py --program $(BUILT)
+	python3 scripts/tests/test_parts.py --program $(BUILT)
 	python3 scripts/tests/test_machines.py --program $(BUILT)
 	python3 scripts/tests/test_pages.py --program $(BUILT)
 	python3 scripts/tests/test_explain.py --program $(BUILT)

@@ -1,7 +1,7 @@
 """Files that GNU parallel hands to several machines, some at a time: each machine gets a folder of them, calls the
 program for each, and its results come back. `pnmpipe-files --machines` uses it.
 
-The folders stand in one beside the results, and have a link to each file under its number, so that no machine sees what
+The folders stand where parts of results do, and have a link to each file under its number, so that no machine sees what
 a file is called.
 """
 
@@ -12,8 +12,8 @@ import signal
 import stat
 import subprocess
 
-from file_tasks import Task, refuse
-from file_workers import SIGNALS
+from end_signals import heed
+from file_tasks import refuse
 
 # the most files that are handed over together, and the most bytes; and how many turns of a machine's there are at least
 MOST_TOGETHER, MOST_BYTES, TURNS = 64, 64 << 20, 8
@@ -28,6 +28,7 @@ done
 [ -d "$0.in" ] || cd "$1" || exit
 shift
 mkdir -p "$0.out"
+trap '' XFSZ
 for file in "$0.in"/*; do
     name=${file##*/}
     said=$("$@" 2>&1 < "$file" > "$0.out/$name")
@@ -59,11 +60,13 @@ def checked():
 class Machines:
     """A run over the machines, each of which is named as GNU parallel's option -S has it."""
 
-    def __init__(self, worker, folder, tell):
+    def __init__(self, worker, tell):
         self.tasks, self.words, self.options, self.tell = worker.tasks, worker.words, worker.options, tell
-        self.explained = worker.explained
-        self.work = os.path.join(os.path.abspath(folder), f"pnmpipe-files.{Task.owner}.part")
-        self.folder_of, self.is_told = {}, bytearray(len(self.tasks))
+        self.explained, self.parts = worker.explained, worker.parts
+        self.work = os.path.abspath(self.parts.path())
+        # a time before any file is read
+        self.began = os.stat(self.work).st_mtime_ns
+        self.part_of, self.is_told = {}, bytearray(len(self.tasks))
         self.child = self.signal = None
         # how it is ended that hasn't ended yet
         self.ways = []
@@ -91,7 +94,7 @@ class Machines:
                 at, count, size = at + 1, 0, 0
                 os.makedirs(os.path.join(self.work, f"{at}.in"))
             os.symlink(os.path.abspath(task.file), os.path.join(self.work, f"{at}.in", str(number)))
-            self.folder_of[number] = os.path.join(self.work, f"{at}.out")
+            self.part_of[number] = f"{at}.out/{number}"
             count, size = count + 1, size + found.st_size
         return at
 
@@ -127,16 +130,10 @@ class Machines:
 
     def all(self):
         """Runs all files until a signal comes, which is given."""
-        for number in SIGNALS:
-            if signal.getsignal(number) != signal.SIG_IGN:
-                signal.signal(number, self.end_by)
-        os.makedirs(self.work)
-        try:
-            count = self.fill()
-            if count and not self.signal:
-                self.hand_over(count)
-        finally:
-            shutil.rmtree(self.work, ignore_errors=True)
+        heed(self.end_by)
+        count = self.fill()
+        if count and not self.signal:
+            self.hand_over(count)
         return self.signal
 
     def hand_over(self, count):
@@ -147,11 +144,11 @@ class Machines:
                 self.end_by(self.signal, None)
             for line in self.child.stdout:
                 told = TOLD.fullmatch(line)
-                if told and int(told[1]) in self.folder_of:
+                if told and int(told[1]) in self.part_of:
                     self.take(int(told[1]), int(told[2]), told[3].decode(errors="replace"))
         signal.setitimer(signal.ITIMER_REAL, 0)
         if not self.signal:
-            for number in [it for it in self.folder_of if not self.is_told[it]]:
+            for number in [it for it in self.part_of if not self.is_told[it]]:
                 self.fail(number, 1, f"no machine has done it: parallel's status is {self.child.returncode}")
 
     def take(self, number, status, fault):
@@ -161,19 +158,12 @@ class Machines:
         if status:
             self.fail(number, status, fault or f"status {status}")
             return
-        task = self.tasks[number]
+        part = self.part_of[number]
         try:
-            os.close(task.create())
-            os.replace(os.path.join(self.folder_of[number], str(number)), task.part())
+            os.utime(os.path.join(self.work, part), ns=(self.began, self.began), follow_symlinks=False)
+            self.parts.finish(part, self.tasks[number].result, self.options.suffix)
         except OSError as error:
-            task.remove()
             self.fail(number, 1, "its result hasn't come back" if error.errno == 2 else error.strerror)
-            return
-        try:
-            task.finish(self.options.suffix)
-        except OSError as error:
-            task.remove()
-            self.fail(number, 1, error.strerror)
             return
         self.is_told[number] = 1
         self.tell([number], [])

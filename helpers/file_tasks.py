@@ -1,11 +1,11 @@
-"""Files that a chain is run over: how their results are named, what the log says of each, and what a run has left that
-was killed. `pnmpipe-files` uses it."""
+"""Files that a chain is run over: how their results are named, and the log, which has a line for each. `pnmpipe-files`
+uses it."""
 
 import os
-import shutil
 import sys
 
-LOG = "pnmpipe-files.log"
+# what a run has in OUTDIR beside results: the log, and the folder where results stand until they are whole
+LOG, OWN = "pnmpipe-files.log", ".pnmpipe-files"
 
 # the kinds of images by how they begin, and the suffixes that a file's name may have
 KINDS = {b"P1": ".pbm", b"P2": ".pgm", b"P3": ".ppm", b"P4": ".pbm", b"P5": ".pgm", b"P6": ".ppm", b"P7": ".pam"}
@@ -22,53 +22,21 @@ class Task:
     """A file and its result."""
 
     __slots__ = ("file", "result")
-    # the process whose run it is of
-    owner = os.getpid()
 
     def __init__(self, file, result):
         self.file = file
         # the result's name, without the suffix where that comes from its kind
         self.result = result
 
-    def part(self):
-        """Where the result is written first."""
-        return f"{self.result}.{self.owner}.part"
-
-    def create(self):
-        """A descriptor of the part, in a folder that is made where it isn't there."""
-        flags = os.O_WRONLY | os.O_CREAT | os.O_TRUNC
-        try:
-            try:
-                return os.open(self.part(), flags, 0o666)
-            except FileNotFoundError:
-                os.makedirs(os.path.dirname(self.result), exist_ok=True)
-                return os.open(self.part(), flags, 0o666)
-        except OSError as error:
-            raise OSError(error.errno, f"its result can't be written: {error.strerror}") from error
-
-    def finish(self, suffix):
-        """Gives the part its name; with a suffix that of its kind."""
-        kind = ""
-        try:
-            if suffix:
-                with open(self.part(), "rb", buffering=0) as file:
-                    kind = KINDS.get(file.read(2), "")
-            os.rename(self.part(), self.result + kind)
-        except OSError as error:
-            raise OSError(error.errno, f"its result can't be renamed: {error.strerror}") from error
-
-    def remove(self):
-        """Takes the part away, if it is there."""
-        try:
-            os.remove(self.part())
-        except OSError:
-            pass
-
     def name(self):
         """The file's name in one line, as sha256sum(1) tells one of several lines."""
         if "\n" not in self.file:
             return self.file
         return "\\" + self.file.replace("\\", "\\\\").replace("\n", "\\n")
+
+    def line(self, status, fault=""):
+        """What the log says of the file."""
+        return os.fsencode(f"{status}\t{self.name()}\t{fault}\n")
 
     def results(self, suffix):
         """The names that the result may have."""
@@ -120,17 +88,19 @@ def result_of(file, folder, options):
 
 
 def tasks_of(files, folder, options):
-    """A task for each file; no result replaces another one, a file or the log."""
+    """A task for each file; no result replaces another one, a file or what the run has beside results."""
     tasks, seen = [], {}
-    log = os.path.join(folder, LOG)
+    kept = tuple(os.path.join(folder, name) for name in (LOG, OWN))
     for file in files:
         task = Task(file, result_of(file, folder, options))
         other = seen.setdefault(task.result, file)
         if len(seen) == len(tasks):
             hint = "" if options.keep_folders else " (--keep-folders keeps files of several folders apart)"
             refuse(f"{other} and {file} would have one result{hint}")
-        if log in task.results(options.suffix):
-            refuse(f"the result of {file} would replace the log")
+        if task.result.startswith(kept):
+            for result in task.results(options.suffix):
+                if result in kept or result.startswith(kept[1] + "/"):
+                    refuse(f"the result of {file} would be {result}, which pnmpipe-files has for itself")
         tasks.append(task)
     refuse_replaced(tasks, options.suffix)
     return tasks
@@ -175,34 +145,42 @@ def identity(path):
         return object()
 
 
-def log_of(folder, asked, resume):
-    """The log, which begins with what was asked for, so that a run is resumed with the same chain alone."""
-    path = os.path.join(folder, LOG)
-    if resume and os.path.exists(path):
-        with open(path, "rb") as file:
-            if file.readline() != asked:
-                refuse(f"{path} is of another chain, so nothing is resumed")
-        return open(path, "ab", buffering=0)
-    log = open(path, "wb", buffering=0)
-    log.write(asked)
-    return log
+class Log:
+    """OUTDIR/pnmpipe-files.log: what was asked for, and a line for each file."""
 
+    def __init__(self, folder, asked, resume):
+        """Opens the log, which is resumed only where the same was asked for."""
+        path = os.path.join(folder, LOG)
+        self.file = open(path, "ab+", buffering=0)
+        self.file.seek(0)
+        text = self.file.read() if resume else self.file.read(2)
+        if text[:2] != b"# "[: len(text)]:
+            refuse(f"{path} isn't a log of pnmpipe-files: rename it")
+        if resume and not asked.startswith(text[: len(asked)]):
+            refuse(f"{path} is of another chain, so nothing is resumed")
+        self.lines = set(text.split(b"\n")[:-1])
+        # (a last line that was cut goes)
+        self.length = text.rfind(b"\n") + 1
+        if self.file.seek(0, os.SEEK_END) > self.length:
+            self.file.truncate(self.length)
+        if not self.length:
+            _, failure = self.write([asked])
+            if failure:
+                raise OSError(0, failure, path)
 
-def clear(folders):
-    """Takes away what calls of a killed run have left."""
-    for folder in folders:
-        for name in names_in(folder):
-            process = name.split(".")[-2] if name.endswith(".part") and name.count(".") > 1 else ""
-            if process.isdecimal() and not is_alive(int(process)):
-                part = os.path.join(folder or "/", name)
-                shutil.rmtree(part) if os.path.isdir(part) and not os.path.islink(part) else os.remove(part)
-
-
-def is_alive(process):
-    try:
-        os.kill(process, 0)
-    except ProcessLookupError:
-        return False
-    except (OSError, OverflowError):
-        pass
-    return True
+    def write(self, lines):
+        """Writes lines; gives how many it has written, of which no other one begins, and why not all of them."""
+        text, written, failure = b"".join(lines), 0, None
+        try:
+            while written < len(text):
+                written += self.file.write(text[written:])
+        except OSError as error:
+            failure = error.strerror
+        count = whole = 0
+        while count < len(lines) and whole + len(lines[count]) <= written:
+            whole += len(lines[count])
+            count += 1
+        self.length += whole
+        if written > whole:
+            self.file.truncate(self.length)
+        return count, failure

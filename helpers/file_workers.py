@@ -16,8 +16,9 @@ import struct
 import sys
 import time
 
+from end_signals import SIGNALS, heed
+
 HERE = os.path.dirname(os.path.abspath(__file__))
-SIGNALS = (signal.SIGHUP, signal.SIGINT, signal.SIGTERM)
 
 # the most bytes that the results of a small file may come to, and of bytes of results to one of the file: a pixel of
 # PBM may become a sample of 16 bits, and that six characters
@@ -45,8 +46,8 @@ def call(words, source, target=None):
         try:
             places = enumerate((source, errors if target is None else target, errors))
             moves = [(os.POSIX_SPAWN_DUP2, descriptor, place) for place, descriptor in places]
-            # python3 has these ignored
-            own = [signal.SIGPIPE, signal.SIGXFSZ]
+            # python3 ignores this one; it ignores XFSZ, too, and so the program tells what is too large for a limit
+            own = [signal.SIGPIPE]
             process = os.posix_spawnp(words[0], words, os.environ, file_actions=moves, setsigdef=own)
         finally:
             os.close(errors)
@@ -111,8 +112,8 @@ def keep_memory():
 class Worker:
     """A process that runs the chain over the files that it is handed."""
 
-    def __init__(self, tasks, words, options):
-        self.tasks, self.words, self.options = tasks, words, options
+    def __init__(self, tasks, parts, words, options):
+        self.tasks, self.parts, self.words, self.options = tasks, parts, words, options
         self.chain = words[-1]
         # what becomes of each file, in memory that all workers have
         self.states = None
@@ -156,39 +157,43 @@ class Worker:
         is_again = states[number] == FAILED_ONCE
         states[number] = BEGUN_AGAIN if is_again else BEGUN
         try:
-            status, fault = self.run(task, is_again)
+            status, fault = self.run(number, is_again)
             if status == 0:
                 states[number] = FINISHING
-                task.finish(self.options.suffix)
+                self.parts.finish(number, task.result, self.options.suffix)
                 states[number] = DONE
                 self.done.append(number)
                 return
         except OSError as error:
             status, fault = 1, error.strerror
             states[number] = BEGUN
-            task.remove()
+            self.parts.remove(number)
         explained = self.explained(task) if fault.startswith("pnmpipe: ") else ""
         self.failed.append((number, status, fault, explained))
 
-    def run(self, task, is_again):
+    def run(self, number, is_again):
         """Leaves the results of a file in its part, which isn't there after a fault: the status, and the fault."""
-        found = os.stat(task.file)
+        file = self.tasks[number].file
+        found = os.stat(file)
         if not stat.S_ISREG(found.st_mode):
             raise OSError(0, "is no file")
-        source = os.open(task.file, os.O_RDONLY)
+        target = self.parts.create(number)
+        status = 1
         try:
-            target = task.create()
-            status = 1
+            # a result has the time at which its file isn't read yet, so that a change of that since then is seen
+            began = os.fstat(target).st_mtime_ns
+            source = os.open(file, os.O_RDONLY)
             try:
                 told = None if found.st_size > self.most or is_again else self.in_process(source, target, found.st_size)
                 status, fault = told or self.by_program(source, target)
-                return status, fault
             finally:
-                os.close(target)
-                if status:
-                    task.remove()
+                os.close(source)
+            os.utime(target, ns=(began, began))
+            return status, fault
         finally:
-            os.close(source)
+            os.close(target)
+            if status:
+                self.parts.remove(number)
 
     def in_process(self, source, target, size):
         """Runs the chain over a small file; None where that is left to the program: the file has changed, it can't be
@@ -218,15 +223,15 @@ class Worker:
 
     def explained(self, task):
         """What pnmpipe-explain says of a file that failed, in one line, where it finds what is wrong."""
-        if self.explain is None:
-            from chain_text import loaded  # pylint: disable=import-outside-toplevel
-
-            self.explain = loaded("pnmpipe-explain")
         try:
+            if self.explain is None:
+                from chain_text import loaded  # pylint: disable=import-outside-toplevel
+
+                self.explain = loaded("pnmpipe-explain")
             with open(task.file, "rb", buffering=0) as file:
                 text, status = self.explain.said(["--brief", *self.words[1:]], file.fileno())
                 return text if status else ""
-        except OSError:
+        except (ImportError, OSError):
             return ""
 
 
@@ -322,10 +327,7 @@ class Workers:
             for descriptor in others:
                 if descriptor is not None:
                     os.close(descriptor)
-            for number in SIGNALS:
-                # nohup has HUP ignored
-                if signal.getsignal(number) != signal.SIG_IGN:
-                    signal.signal(number, signal.SIG_DFL)
+            heed(signal.SIG_DFL)
             signal.pthread_sigmask(signal.SIG_UNBLOCK, SIGNALS)
             self.worker.work(own, self.queue, told, place)
             status = 0
@@ -341,9 +343,7 @@ class Workers:
     def all(self):
         """Runs all files, and tells what becomes of them, some at a time, until a signal comes, which is given."""
         signal.signal(signal.SIGCHLD, signal.SIG_DFL)
-        for number in SIGNALS:
-            if signal.getsignal(number) != signal.SIG_IGN:
-                signal.signal(number, self.end_by)
+        heed(self.end_by)
         self.poll.register(self.feed, select.POLLOUT)
         self.hand_out()
         for at in range(self.jobs):
@@ -409,8 +409,8 @@ class Workers:
         for number in [*process.own, *range(*SPAN.unpack_from(self.states, process.place))]:
             if self.is_told[number]:
                 continue
-            state, task = self.states[number], self.worker.tasks[number]
-            if state == DONE or (state == FINISHING and not os.path.lexists(task.part())):
+            state, parts = self.states[number], self.worker.parts
+            if state == DONE or (state == FINISHING and not parts.is_there(number)):
                 done.append(number)
             elif state == BEGUN_AGAIN and not self.signal:
                 failed.append((number, 128 - status if status < 0 else status, self.died, ""))
@@ -418,7 +418,7 @@ class Workers:
                 left.append(number)
             has_begun |= state not in (WAITS, FAILED_ONCE)
             if state in (BEGUN, BEGUN_AGAIN, FINISHING):
-                task.remove()
+                parts.remove(number)
                 self.states[number] = FAILED_ONCE
         self.note(done, failed)
         SPAN.pack_into(self.states, process.place, 0, 0)

@@ -19,7 +19,8 @@ import time
 sys.dont_write_bytecode = True
 
 # pylint: disable=wrong-import-position
-from support import COLOR, GRAY, HELPERS, ROOT, SIGNALS, Program, has_ended, heed_signals, parser_of, run, run_tests
+from support import COLOR, GRAY, HELPERS, PATIENCE, ROOT, SIGNALS, Program
+from support import has_ended, heed_signals, parser_of, run, run_tests
 
 from test_commands import stored_commands
 
@@ -122,11 +123,11 @@ class Runs(Program):
         return {**os.environ, "PNMPIPE": program or self.PROGRAM, "PNMPIPE_LIBRARY": self.LIBRARY}
 
     def files(self, *words):
-        return run([FILES, *words], cwd=self.folder, env=self.environment(), timeout=60)
+        return run([FILES, *words], cwd=self.folder, env=self.environment(), timeout=PATIENCE)
 
     def parts(self):
-        """What is left of results that aren't whole."""
-        return [name for _, _, names in os.walk(self.path("out")) for name in names if name.endswith(".part")]
+        """What is left of results that aren't whole, and of the folder where they stand."""
+        return [name for name in os.listdir(self.path("out")) if name == ".pnmpipe-files"]
 
     def log(self):
         """The lines of the log but the first, sorted."""
@@ -196,7 +197,7 @@ class Files(Runs):
                 time.sleep(0.01)
             start = time.monotonic()
             child.send_signal(number)
-            self.assertEqual(child.wait(timeout=60), -number)
+            self.assertEqual(child.wait(timeout=PATIENCE), -number)
         for process in self.read("calls").split():
             self.assertTrue(has_ended(int(process)))
         seconds = time.monotonic() - start
@@ -260,9 +261,9 @@ class Files(Runs):
         with subprocess.Popen(words, cwd=self.folder, env=self.environment(), stderr=theirs) as child:
             os.close(theirs)
             shown = b""
-            while b" left out" not in shown and select.select([ours], [], [], 60)[0]:
+            while b" left out" not in shown and select.select([ours], [], [], PATIENCE)[0]:
                 shown += os.read(ours, 65536)
-            self.assertEqual(child.wait(timeout=60), 1)
+            self.assertEqual(child.wait(timeout=PATIENCE), 1)
         os.close(ours)
         self.assertRegex(shown, rb"\r\x1b\[K2 of 2 files, [0-9]+ a second, 0:00 left\r\n")
         self.assertIn(b"\r\x1b[Kin/cut.pgm: pnmpipe: input: RasterCut", shown)
@@ -369,7 +370,7 @@ class SmallFiles(Files):
             child, words, names = self.slow_run()
             start = time.monotonic()
             child.send_signal(signal.SIGTERM)
-            said = child.communicate(timeout=60)[1]
+            said = child.communicate(timeout=PATIENCE)[1]
             seconds = time.monotonic() - start
             self.assertEqual(child.returncode, -signal.SIGTERM)
             self.assertIn(b", ended by SIGTERM: --resume goes on\n", said)
@@ -388,7 +389,7 @@ class SmallFiles(Files):
         """Where a worker is killed, others do its files; where the run itself is, a next one clears what is left."""
         child, _, names = self.slow_run()
         os.kill(children_of(child.pid)[0], signal.SIGKILL)
-        self.assertEqual(child.communicate(timeout=60)[1], b"120 files, 0 failed, 0 left out\n")
+        self.assertEqual(child.communicate(timeout=PATIENCE)[1], b"120 files, 0 failed, 0 left out\n")
         self.assertEqual((len(self.log()), self.parts()), (len(names), []))
 
         def seconds_to_end():
@@ -397,7 +398,7 @@ class SmallFiles(Files):
             workers = children_of(child.pid)
             child.kill()
             start = time.monotonic()
-            child.communicate(timeout=60)
+            child.communicate(timeout=PATIENCE)
             self.assertTrue(all(map(has_ended, workers)))
             seconds = time.monotonic() - start
             done = run([words[0], "--resume", *words[1:]], cwd=self.folder, env=self.environment())
@@ -458,7 +459,7 @@ def run(chain, data, plain):
         self.write("dies", b"#!/bin/sh\n" + dies.encode(), 0o755)
         names = [self.write(f"in/{at}.pgm", GRAY) for at in range(9)]
         words = [FILES, "--jobs", "2", "pnminvert", "out", *names]
-        done = run(words, cwd=self.folder, env=self.environment(self.path("dies")), timeout=60)
+        done = run(words, cwd=self.folder, env=self.environment(self.path("dies")), timeout=PATIENCE)
         self.assertEqual((done.returncode, self.parts()), (1, []))
         self.assertEqual(self.log(), [os.fsencode(f"137\t{name}\tstatus -9") for name in names])
 
@@ -471,10 +472,15 @@ def take(options):
         print(f"test_files.py: there is no {options.library}, so tests of files in process are passed over")
 
 
+def parser(doc):
+    """What reads the words of a script that wants the library, too."""
+    made = parser_of(doc)
+    made.add_argument("--library", default=f"{ROOT}/bin/libpnmpipe.so.1")
+    return made
+
+
 def main():
-    parser = parser_of(__doc__)
-    parser.add_argument("--library", default=f"{ROOT}/bin/libpnmpipe.so.1")
-    run_tests(parser, take)
+    run_tests(parser(__doc__), take)
 
 
 if __name__ == "__main__":
