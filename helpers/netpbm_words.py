@@ -38,16 +38,17 @@ PNMFLIP = [("-lr|-le.*", "lr"), ("-tb|-to.*", "tb"), ("-x.*|-tr.*", "xy"), ("-r9
 PNMFLIP += [("-r1.*|-rotate1.*", "r180"), ("-r2.*|-rotate2.*|-cw", "r270")]
 
 # the notes, each of which is said once a script
-STREAMS = "differs, {}: every image of a stream is treated, and Netpbm's tool takes the first alone"
+STREAMS = "differs, {}: pnmpipe treats every image of a stream, and Netpbm's tool only the first"
 STAYS_PAM = "differs, {}: a PAM image stays PAM, and Netpbm's tool makes PGM or PPM of it"
-STAYS_BITS = "differs, pamdepth {}: PBM, and PAM of type BLACKANDWHITE, stay as they are, and Netpbm's tool makes gray"
+STAYS_BITS = "differs, pamdepth {}: PBM, and PAM of type BLACKANDWHITE, stay as they are; Netpbm's tool makes them gray"
 PLAIN_LINES = "differs, -plain: the same samples, with other blanks and line ends than Netpbm's"
 TYPES = "differs, pamchannel -tupletype: Netpbm's tool refuses a type that doesn't fit the planes or the maxval"
-PLAIN_STREAMS = "differs, {}: of several plain images in one input the first is taken, and Netpbm's tool takes all"
-LINE_END = "differs, an LF or junk behind a raw image: pnmpipe ends with BadMagic, and Netpbm's tools go past it or end"
-NAMED = "differs, a file's name from a variable: where it begins with a dash, Netpbm takes an option or standard input"
+PLAIN_STREAMS = "differs, {}: of several plain images in one input pnmpipe takes the first; Netpbm's tool takes all"
+LINE_END = "differs, an LF or other bytes after a raw image: pnmpipe ends with BadMagic; Netpbm's tools mostly don't"
+NAMED = "differs, a file's name from a variable: if it begins with a dash, Netpbm takes an option or standard input"
+ONE_NAME = "assumed: {} without quotes is one file's name, and no option"
 ONE_NUMBER = "assumed: a variable or a sum that stands for a number holds one decimal number"
-SIZES = "assumed: in pamcut's four numbers a width or height from a variable is above 0 (pnmpipe refuses others)"
+SIZES = "assumed: among pamcut's four numbers a width or height from a variable is above 0 (pnmpipe refuses others)"
 
 # one less than the greatest number that pnmpipe takes, or a negative one counted from the end
 MOST_NUMBER = EXTENT[1] - 1
@@ -59,10 +60,6 @@ ANY_SETTING = re.compile(r"[A-Za-z_]\w*\+?=")
 NICE = re.compile(r"-n|-?-?[0-9]+|-n[0-9]+|--adjustment=-?[0-9]+")
 FOLDER = re.compile(r"/(?:[\w.+-]+/)*bin")
 
-# programs that run the command of their words
-RUNNERS = {"chrt", "env", "exec", "find", "ionice", "nice", "nohup", "parallel", "setsid", "stdbuf", "sudo", "taskset"}
-RUNNERS |= {"time", "timeout", "xargs"}
-
 
 class Call:
     """A call of one of Netpbm's tools, and what pnmpipe has in its place."""
@@ -73,7 +70,8 @@ class Call:
         # what stands before the tool's name: settings, `nice` and its number
         self.prefix = [word.raw for word in stage.words[:index]]
         self.tools = []
-        self.file = None
+        # the file that is read, and the variable that may be an option in its place
+        self.file = self.doubtful = None
         self.plain = False
         self.notes = []
         # notes that hold where it is the first of its call
@@ -82,7 +80,7 @@ class Call:
 
 def tool_of(word, anywhere=False):
     """The tool that a word names, by its own name or by a path of programs, or anywhere; None where it names none."""
-    folder, _, name = (word.value or "").rpartition("/")
+    folder, _, name = ("".join(word.parts) if anywhere else word.value or "").rpartition("/")
     if folder and not anywhere and not FOLDER.fullmatch(folder):
         return None
     return name if OLD_NAMES.get(name, name) in OPTIONS else None
@@ -106,20 +104,17 @@ def place_of(stage):
         return index
     if index < len(words) and tool_of(words[index], True):
         raise Kept("another program may stand there")
-    runner = words[settings].raw.rsplit("/", 1)[-1] if settings < len(words) else None
-    if runner in RUNNERS and any(tool_of(word, True) for word in words[settings + 1 :]):
-        raise Kept(f"{runner} runs it")
     return None
 
 
 def whole_name(tool, given):
     """The option that a name is or begins alone."""
     names = OPTIONS[tool][0] + OPTIONS[tool][1]
-    if given in names:
-        return given
-    found = [name for name in names if name.startswith(given)]
-    if len(found) != 1:
-        raise Kept(f"-{given} is no option of {tool}, or several")
+    found = [given] if given in names else [name for name in names if given and name.startswith(given)]
+    if len(found) > 1:
+        raise Kept(f"-{given} may be any of -{', -'.join(found)}")
+    if not found:
+        raise Kept(f"{tool} has no option -{given}" if given else "the word -- isn't translated")
     return found[0]
 
 
@@ -145,7 +140,7 @@ def option_of(tool, word):
         if not text.startswith("-") or text == "-" or (tool == "pamcut" and re.fullmatch(r"-[0-9]+", text)):
             return None
         name, sign, value = option_parts(text)
-        return whole_name(tool, name), Word(raw=value) if sign else None
+        return whole_name(tool, name), Word.of_text(value) if sign else None
     if not found:
         return None
     value = word.behind(found.group(0)) if found.group(2) else None
@@ -184,11 +179,11 @@ def axis_words(call, options, first, last, size):
     crop_first, crop_last = "crop" + first, "crop" + last
     given = [name for name in (first, last, size, crop_first, crop_last) if name in options]
     if len(given) > 2 or {first, crop_first} <= set(given) or {last, crop_last} <= set(given):
-        raise Kept("-" + ", -".join(given) + " stand together")
+        raise Kept(f"pamcut can't take -{' and -'.join(given)} together")
     words = []
     for name in given:
         if name == crop_last and options[name].parameter:
-            raise Kept(f"-{name} is a variable, and pnmpipe wants a negative -{last}, one less")
+            raise Kept(f"-{name} is a variable, and the -{last} of pnmpipe would be its negative less 1")
         number = number_of(call, options[name], f"-{name}", 1 if name == size else 0 if "crop" in name else None)
         if name == crop_last:
             number = str(-int(number) - 1)
@@ -234,7 +229,7 @@ def depth(call, _, arguments):
 
 def channel(call, options, arguments):
     if not 1 <= len(arguments) <= 16:
-        raise Kept("pamchannel wants 1 to 16 planes")
+        raise Kept("it is translated with 1 to 16 planes")
     words = ["pamchannel", *[number_of(call, word, "a plane", 0) for word in arguments]]
     if "tupletype" in options:
         value = options["tupletype"].value
@@ -254,7 +249,7 @@ def enlarge(call, options, arguments):
         return [f"pamenlarge {number_of(call, arguments[0], 'the factor', 1)}"], arguments[1:]
     if "scale" in options:
         if len(options) > 1:
-            raise Kept("-scale stands beside another scale")
+            raise Kept("-scale and another scale are both there")
         return [f"pamenlarge {number_of(call, options['scale'], '-scale', 1)}"], arguments
     named = [name for name in ("xscale", "yscale") if name in options]
     scales = [f"-{name} {number_of(call, options[name], '-' + name, 1)}" for name in named]
@@ -263,14 +258,16 @@ def enlarge(call, options, arguments):
 
 def flip(_, options, arguments):
     if len(options) != 1:
-        unknown = [word.raw for word in arguments if not word.literal and word.may_split]
-        raise Kept(f"{unknown[0]} may be a way to flip" if unknown and not options else "pamflip wants one way")
+        unknown = [word.raw for word in arguments if word.may_split or word.may_split_by_parameter]
+        if unknown and not options:
+            raise Kept(f"{unknown[0]} may be a way to flip")
+        raise Kept("pamflip takes one way to flip")
     name = next(iter(options))
     if name == "xform":
         value = options[name].value
         way = "(leftright|topbottom|transpose)"
         if value is None or not re.fullmatch(f"{way}(,{way})*", value):
-            raise Kept("-xform has something else than leftright, topbottom and transpose")
+            raise Kept("-xform has something other than leftright, topbottom and transpose")
         return [stage for way in value.split(",") for stage in WAYS[way]], arguments
     if name not in WAYS:
         raise Kept(f"pnmpipe's pamflip has no -{name}")
@@ -290,7 +287,7 @@ def old_flip(words):
                 stages += WAYS[way]
                 break
         else:
-            raise Kept(f"pnmflip has no {text} that pnmpipe knows")
+            raise Kept(f"pnmpipe has nothing for pnmflip's {text}")
     return stages or ["pamflip -null"], arguments
 
 
@@ -316,13 +313,16 @@ def file_of(call, arguments):
     if not arguments:
         return None
     if len(arguments) > 1:
-        unknown = [word.raw for word in arguments if word.may_split]
+        unknown = [word.raw for word in arguments if word.may_split or word.may_split_by_parameter]
         raise Kept(f"{unknown[0]} may be an option" if unknown else "it has several files, or too many arguments")
     word = arguments[0]
     if word.value == "-":
         return None
     if word.may_split:
         raise Kept(f"{word.raw} may be several words: put it in double quotes")
+    if word.may_split_by_parameter:
+        call.doubtful = word.raw
+        call.notes.append(ONE_NAME.format(word.raw))
     if not word.literal:
         call.notes.append(NAMED)
     return word.raw

@@ -1,19 +1,16 @@
-"""Reads text of the shell: its words, redirections and pipelines. `pnmpipe-translate` uses it.
+"""Reads text of the shell as shfmt(1) parses it: its pipelines, with their words and redirections. `pnmpipe-translate`
+and `pnmpipe-explain` use it.
 
-What is read is the shell of POSIX, and of bash the words that stand most in scripts. Single commands and their
-pipelines are found in loops, functions, brackets, branches of `case`, `$(..)` and `<(..)`; text in quotes, backquotes
-and here documents is passed over.
+Single commands and their pipelines are found in loops, functions, brackets, branches of `case`, `$(..)` and `<(..)`.
+Patterns, quotes, backquotes and here documents are no commands.
 """
 
+import json
 import re
 import shlex
+import subprocess
 
-# words that begin or part compound commands, where they are the first of a command
-RESERVED = {"if", "then", "else", "elif", "do", "while", "until", "!", "{", "time"}
-OPERATORS = [";;&", "&&", "||", "|&", ";;", ";&", "|", "&", ";", "(", ")", "\n"]
-
-REDIRECTION = re.compile(r"[0-9]*(<<<|<<-?|<>|<&|>>|>&|>\||&>>|&>|<|>)[ \t]*")
-PARAMETER = re.compile(r"\$([A-Za-z_]\w*|[0-9@*#?$!-])")
+LACKING = "it needs shfmt, which parses the shell's text: install it (Debian's package is shfmt)"
 
 # an expansion that gives one word and changes nothing: a parameter, or a sum of them
 PLAIN_PARAMETER = re.compile(r"\$(?:[A-Za-z_]\w*|[0-9#]|\{(?:[A-Za-z_]\w*|[0-9]+)\})")
@@ -24,6 +21,10 @@ class Kept(Exception):
     """Why something is kept as it is."""
 
 
+class Lacking(Exception):
+    """The program that parses the shell's text isn't there."""
+
+
 class Expansion(str):
     """The text of a parameter, a substitution or an arithmetic expansion."""
 
@@ -31,14 +32,18 @@ class Expansion(str):
 class Word:
     """A word of the shell: its text as it stands, and what it means where no expansion is in it."""
 
-    def __init__(self, start=0, raw=""):
-        self.start = self.end = start
-        self.raw = shlex.quote(raw)
-        self.parts = [raw] if raw else []
+    def __init__(self, raw, value=""):
+        self.raw = raw
+        self.parts = [value] if value else []
         # whether its meaning is its text, without expansions and patterns
         self.literal = True
-        # whether an expansion in it may make several words of it, or none
-        self.may_split = False
+        # whether it may become several words, or none: by a pattern or an expansion, or by parameters alone
+        self.may_split = self.may_split_by_parameter = False
+
+    @classmethod
+    def of_text(cls, text):
+        """The word that means a text."""
+        return cls(shlex.quote(text), text)
 
     @property
     def value(self):
@@ -52,76 +57,90 @@ class Word:
         plain = PLAIN_PARAMETER.fullmatch(self.parts[0]) or PLAIN_SUM.fullmatch(self.parts[0])
         return str(self.parts[0]) if plain else None
 
-    def add(self, text):
-        """Adds literal text."""
-        if self.parts and not isinstance(self.parts[-1], Expansion):
-            self.parts[-1] += text
+    def add(self, kind, text, quoted):
+        """Adds what the shell has as a part of a word."""
+        if kind == "SglQuoted" and text.startswith("'"):
+            self.parts.append(text[1:-1])
+        elif kind == "Lit" and quoted:
+            self.parts.append(re.sub(r'\\([$`"\\]|\n)', lambda it: it[1].strip("\n"), text))
+        elif kind == "Lit":
+            if re.search(r"[*?[{]", re.sub(r"(?s)\\.", "", text)):
+                self.literal, self.may_split = False, True
+            self.literal = self.literal and (bool(self.parts) or not text.startswith("~"))
+            self.parts.append(re.sub(r"(?s)\\(.)", lambda it: it[1].strip("\n"), text))
         else:
-            self.parts.append(text)
+            self.parts.append(Expansion(text))
+            self.literal = False
+            if kind == "ProcSubst":
+                return
+            if not quoted and PLAIN_PARAMETER.fullmatch(text):
+                self.may_split_by_parameter = True
+            elif not quoted or re.search(r"\$[@*]|[@*]\]|\$\{[@*]", text):
+                self.may_split = True
 
     def behind(self, prefix):
         """The word without a literal prefix that has no quotes; None where it has another beginning."""
         if not self.raw.startswith(prefix) or not self.parts or not self.parts[0].startswith(prefix):
             return None
-        word = Word(self.start + len(prefix))
-        word.raw = self.raw[len(prefix) :]
+        word = Word(self.raw[len(prefix) :])
         word.parts = [part for part in [self.parts[0][len(prefix) :], *self.parts[1:]] if part]
         word.literal, word.may_split = self.literal, self.may_split
+        word.may_split_by_parameter = self.may_split_by_parameter
         return word
 
 
 class Stage:
-    """A simple command: its words and redirections, and where it stands."""
+    """A command of a pipeline: where it stands, its words and redirections, and the bar behind it. One that isn't a
+    simple command has no words."""
 
-    def __init__(self):
-        self.words = []
-        self.redirections = []
-        self.start = self.end = None
-
-    def __bool__(self):
-        return bool(self.words or self.redirections)
-
-    def add(self, start, end):
-        self.start = start if self.start is None else self.start
-        self.end = end
+    def __init__(self, start, end, words=(), redirections=(), bar=""):
+        self.start, self.end, self.bar = start, end, bar
+        self.words, self.redirections = list(words), list(redirections)
 
 
-class Place:
-    """Where a list of commands stands: the brackets and cases that are open, and the pipeline so far."""
+def span(node):
+    """Where a node of the tree begins and ends in the text."""
+    return node["Pos"]["Offset"], node["End"]["Offset"]
 
-    def __init__(self, inside):
-        # whether it is that of a substitution
-        self.inside = inside
-        self.open = []
-        # whether a pattern of case comes
-        self.pattern = False
-        self.pipeline = []
-        self.stage = Stage()
 
-    def is_first(self):
-        return not self.stage
+def parsed(text):
+    """The tree of the lines that shfmt can parse, from the first one on; where they end in the text; and what it finds
+    at fault behind them, or None. A shell would run these lines too before it comes to the fault."""
+    # One byte stands in for each letter that isn't ASCII, which means nothing to the shell: so places in the tree are
+    # places in the text.
+    given = re.sub(r"[^\x01-\x7f]", ".", text).encode("ascii")
+    end, fault = len(given), None
+    while True:
+        try:
+            done = subprocess.run(["shfmt", "--to-json"], input=given[:end], capture_output=True, check=False)
+        except FileNotFoundError:
+            raise Lacking(LACKING) from None
+        if done.returncode == 0:
+            return json.loads(done.stdout), end, fault
+        told = done.stderr.decode("utf-8", "replace").strip()
+        line, why = re.fullmatch(r"(?:.*?(\d+):\d+: )?(.*)", told, re.S).groups("1")
+        fault = fault or f"shfmt can't parse line {line}: {why}"
+        # the lines before the one at fault, which may be the last one
+        before = re.findall(rb"[^\n]*\n", given[: end - 1])
+        end = len(b"".join(before[: int(line) - 1]))
 
 
 class ShellReader:
-    """One pass over a text. What reads it has its own pipeline_ended(stages, operator)."""
+    """A text, and the edits that are made in it. What reads it has its own pipeline_ended(stages)."""
 
     def __init__(self, text):
         self.text = text
-        self.at = 0
         # what is put in place of what
         self.edits = []
-        self.heredocs = []
-        self.place = None
-        # behind the last line that no bracket or quote goes on from
-        self.whole = 0
+        # parts that are comments; and others that no command stands in, each with the reason
+        self.comments, self.asides = [], []
 
-    def pipeline_ended(self, stages, operator):
+    def pipeline_ended(self, stages):
+        """Takes a pipeline; those inside of it came before."""
         raise NotImplementedError
 
     def rendered(self, start, end):
         """A part of the text with the edits that were made in it."""
-        if not self.edits or self.edits[-1][1] <= start:
-            return self.text[start:end]
         made, at = [], start
         for first, behind, text in sorted(self.edits):
             # an edit inside of another one was made before it, and stands in its text
@@ -131,295 +150,60 @@ class ShellReader:
             at = behind
         return "".join(made) + self.text[at:end]
 
-    # words
-
-    def skip_quote(self, word):
-        """Takes a quoted part of a word."""
-        end = self.text.find("'", self.at + 1)
-        if self.text[self.at] == "'":
-            if end < 0:
-                raise Kept("a quote doesn't end")
-            word.add(self.text[self.at + 1 : end])
-            self.at = end + 1
-            return
-        start = self.at
-        self.at += 1
-        while self.at < len(self.text) and self.text[self.at] != '"':
-            letter = self.text[self.at]
-            if letter == "\\":
-                following = self.text[self.at + 1 : self.at + 2]
-                word.add(following if following in '$`"\\' else "" if following == "\n" else "\\" + following)
-                self.at += 2
-            elif letter in "$`":
-                self.skip_expansion(word, True)
+    def read(self, node):
+        """Reads what stands below a node of the tree."""
+        if isinstance(node, list):
+            for each in node:
+                self.read(each)
+        elif isinstance(node, dict):
+            if "Hash" in node:
+                self.comments.append(span(node))
+            elif node.get("Backquotes"):
+                self.asides.append((*span(node), "it stands in backquotes; write $(..) in their place"))
+            elif "Position" in node and not {"Type", "FiPos"} & node.keys():
+                # a statement; a branch of `if` has the field Position too
+                self.read_pipeline(node)
             else:
-                word.add(letter)
-                self.at += 1
-        if self.at >= len(self.text):
-            self.at = start
-            raise Kept("a quote doesn't end")
-        self.at += 1
+                if "Hdoc" in node:
+                    self.asides.append((*span(node.pop("Hdoc")), "it stands in a here document"))
+                self.read(list(node.values()))
 
-    def skip_expansion(self, word, quoted):
-        """Takes a variable, a substitution or an arithmetic expansion of a word; commands in $(..) are read."""
-        start = self.at
-        if self.text[self.at] == "`":
-            self.at = self.unescaped("`", self.at + 1) + 1
-        elif self.text.startswith("$((", self.at) and self.is_arithmetic(self.at + 1):
-            self.at = self.closing(self.at + 1)
-        elif self.text.startswith("$(", self.at):
-            self.at += 2
-            self.commands(True)
-        elif self.text.startswith("${", self.at):
-            self.at = self.closing(self.at + 1, quoted)
-        elif self.text.startswith("$'", self.at) and not quoted:
-            self.at = self.unescaped("'", self.at + 2) + 1
-        else:
-            found = PARAMETER.match(self.text, self.at)
-            if not found:
-                word.add("$")
-                self.at += 1
-                return
-            self.at = found.end()
-        taken = self.text[start : self.at]
-        word.parts.append(Expansion(taken))
-        word.literal = False
-        if not quoted or re.search(r"\$[@*]|[@*]\]|\$\{[@*]", taken):
-            word.may_split = True
+    def read_pipeline(self, statement):
+        """Reads what stands in a statement, and then hands it on as a pipeline."""
+        linked = self.linked(statement)
+        for each, _ in linked:
+            self.read([each.get(key) for key in ("Comments", "Cmd", "Redirs")])
+        self.pipeline_ended([self.stage(each, bar) for each, bar in linked])
 
-    def unescaped(self, letter, at):
-        """The next place of a letter that has no backslash before it."""
-        while at < len(self.text) and self.text[at] != letter:
-            at += 2 if self.text[at] == "\\" else 1
-        if at >= len(self.text):
-            raise Kept("a quote doesn't end")
-        return at
+    def linked(self, statement, bar=""):
+        """The statements with bars between that a statement is, each with the bar behind it."""
+        command = statement.get("Cmd", {})
+        if command.get("Type") == "BinaryCmd" and not statement.get("Redirs"):
+            at = command["OpPos"]["Offset"]
+            operator = re.match(r"\|&?(?!\|)|", self.text[at : at + 3])[0]
+            if operator:
+                self.read(statement.get("Comments"))
+                return self.linked(command["X"], operator) + self.linked(command["Y"], bar)
+        return [(statement, bar)]
 
-    def closing(self, at, quoted=False):
-        """The place after the bracket that closes the one that stands here, in double quotes or out of them."""
-        pairs = {"(": ")", "{": "}"}
-        wanted = []
-        while at < len(self.text):
-            letter = self.text[at]
-            if letter == "\\":
-                at += 1
-            elif letter in pairs:
-                wanted.append(pairs[letter])
-            elif letter == wanted[-1]:
-                wanted.pop()
-                if not wanted:
-                    return at + 1
-            elif letter in '"`':
-                at = self.unescaped(letter, at + 1)
-            elif letter == "'" and not quoted:
-                at = self.text.find("'", at + 1)
-                if at < 0:
-                    break
-            at += 1
-        raise Kept("a bracket doesn't end")
+    def stage(self, statement, bar):
+        """A statement as a stage of a pipeline."""
+        command, redirections = statement.get("Cmd"), statement.get("Redirs", [])
+        parts = [span(it) for it in [command] if it] + [(span(it)[0], span(it["Word"])[1]) for it in redirections]
+        parts = parts or [span(statement)]
+        start, end = min(part[0] for part in parts), max(part[1] for part in parts)
+        if command and command["Type"] != "CallExpr":
+            return Stage(start, end, bar=bar)
+        words = [Word(self.rendered(*span(it))) for it in (command or {}).get("Assigns", [])]
+        words += [self.word(it) for it in (command or {}).get("Args", [])]
+        texts = [self.rendered(span(it)[0], span(it["Word"])[1]) for it in redirections]
+        return Stage(start, end, words, texts, bar)
 
-    def is_arithmetic(self, at):
-        """Whether the two brackets that stand here are closed by two that stand together."""
-        try:
-            return self.closing(at) == self.closing(at + 1) + 1
-        except Kept:
-            return False
-
-    def word(self):
-        """Takes a word."""
-        word = Word(self.at)
-        while self.at < len(self.text):
-            letter = self.text[self.at]
-            if self.text.startswith(("<(", ">("), self.at) and self.at == word.start:
-                self.process(word)
-                continue
-            if letter in " \t\n|&;()<>":
-                break
-            if letter in "'\"":
-                self.skip_quote(word)
-            elif letter == "\\":
-                if self.text[self.at + 1 : self.at + 2] != "\n":
-                    word.add(self.text[self.at + 1 : self.at + 2])
-                self.at += 2
-            elif letter in "$`":
-                self.skip_expansion(word, False)
-            else:
-                if letter in "*?[{" or (letter == "~" and not word.parts):
-                    word.literal = False
-                    word.may_split = word.may_split or letter != "~"
-                word.add(letter)
-                self.at += 1
-        if self.text[word.start : self.at].endswith("=") and self.text.startswith("(", self.at):
-            # a list of bash
-            self.at = self.closing(self.at)
-            word.literal = False
-        word.end = self.at
-        word.raw = self.rendered(word.start, word.end)
+    def word(self, node):
+        """A word of the tree."""
+        word = Word(self.rendered(*span(node)))
+        for part in node["Parts"]:
+            is_quoted = part["Type"] == "DblQuoted" and not part.get("Dollar")
+            for each in part.get("Parts", []) if is_quoted else [part]:
+                word.add(each["Type"], self.text[slice(*span(each))], is_quoted)
         return word
-
-    def process(self, word):
-        """Takes <(..) or >(..) of bash, which give a file's name; the commands in it are read."""
-        start = self.at
-        self.at += 2
-        self.commands(True)
-        word.parts.append(Expansion(self.text[start : self.at]))
-        word.literal = False
-
-    # redirections and here documents
-
-    def redirection(self, stage):
-        """Takes a redirection, if one stands here."""
-        found = REDIRECTION.match(self.text, self.at)
-        if not found or self.text.startswith(("<(", ">("), self.at):
-            return False
-        start = self.at
-        self.at = found.end()
-        word = self.word()
-        if found.group(1) in ("<<", "<<-"):
-            self.heredocs.append(("".join(word.parts), found.group(1) == "<<-"))
-        stage.redirections.append(self.rendered(start, self.at))
-        stage.add(start, self.at)
-        return True
-
-    def skip_heredocs(self):
-        """Goes past the here documents that begin after this line."""
-        for delimiter, tabs in self.heredocs:
-            while self.at < len(self.text):
-                end = self.text.find("\n", self.at)
-                end = len(self.text) if end < 0 else end
-                line = self.text[self.at : end]
-                self.at = min(end + 1, len(self.text))
-                if (line.lstrip("\t") if tabs else line) == delimiter:
-                    break
-        self.heredocs = []
-
-    # commands
-
-    def blanks(self):
-        while self.at < len(self.text):
-            if self.text[self.at] in " \t":
-                self.at += 1
-            elif self.text.startswith("\\\n", self.at):
-                self.at += 2
-            elif self.text[self.at] == "#" and (self.at == 0 or self.text[self.at - 1] in " \t\n;&|()"):
-                end = self.text.find("\n", self.at)
-                self.at = len(self.text) if end < 0 else end
-            else:
-                return
-
-    def operator(self):
-        """The operator that stands here, which is taken; None where there is none."""
-        for operator in OPERATORS:
-            if self.text.startswith(operator, self.at):
-                if operator == "&" and self.text.startswith("&>", self.at):
-                    return None
-                self.at += len(operator)
-                return operator
-        return None
-
-    def commands(self, inside):
-        """Takes commands until the text ends or, inside of a substitution, the bracket that closes it."""
-        outer, self.place = self.place, Place(inside)
-        ended = False
-        while not ended:
-            ended = self.one_token(inside)
-        self.place = outer
-
-    def one_token(self, inside):
-        """Takes an operator, a redirection or a word; whether the commands end here."""
-        place = self.place
-        self.blanks()
-        if self.at >= len(self.text):
-            self.end_pipeline("")
-            if inside:
-                raise Kept("a bracket doesn't end")
-            return True
-        if not place.pattern and self.redirection(place.stage):
-            return False
-        if place.is_first() and self.text.startswith("((", self.at) and self.is_arithmetic(self.at):
-            start, self.at = self.at, self.closing(self.at)
-            place.stage.words.append(Word(start, self.text[start : self.at]))
-            place.stage.add(start, self.at)
-            return False
-        operator = self.operator()
-        if operator is None:
-            self.one_word()
-        elif place.pattern:
-            place.pattern = operator != ")"
-            place.stage = Stage()
-        elif operator == ")" and not place.open:
-            self.end_pipeline(operator)
-            return inside
-        else:
-            self.one_operator(operator)
-        return False
-
-    def one_operator(self, operator):
-        """Ends a stage or a pipeline by an operator that was taken."""
-        place = self.place
-        if operator == "|":
-            if place.stage:
-                place.pipeline.append(place.stage)
-                place.stage = Stage()
-                self.lines()
-            return
-        if operator == "\n" and place.stage.words and place.stage.words[0].raw == "case":
-            # its `in` may stand on another line
-            return
-        if operator == "(":
-            place.open.append("(")
-        elif operator == ")" and place.open[-1] == "(":
-            place.open.pop()
-        elif operator in (";;", ";&", ";;&") and place.open[-1:] == ["case"]:
-            place.pattern = True
-        self.end_pipeline(operator)
-        if operator == "\n":
-            self.skip_heredocs()
-            if not place.inside and not place.open:
-                self.whole = self.at
-
-    def lines(self):
-        """Goes past line ends, after a bar."""
-        while True:
-            self.blanks()
-            if not self.text.startswith("\n", self.at):
-                return
-            self.at += 1
-            self.skip_heredocs()
-
-    def one_word(self):
-        """Takes a word, which may be one of the shell's own."""
-        place = self.place
-        start = self.at
-        word = self.word()
-        if self.at == start:
-            self.at += 1
-            return
-        own = word.raw
-        first = place.is_first()
-        if own == "esac" and (place.pattern or first) and place.open[-1:] == ["case"]:
-            place.open.pop()
-            place.pattern = False
-            return
-        if place.pattern:
-            return
-        if first and own in RESERVED:
-            # a compound command: what stands before a bar is a pipeline of its own
-            self.end_pipeline("|")
-            return
-        place.stage.words.append(word)
-        place.stage.add(start, self.at)
-        if own == "in" and place.stage.words[0].raw == "case" and len(place.stage.words) > 2:
-            place.stage = Stage()
-            self.end_pipeline("|")
-            place.open.append("case")
-            place.pattern = True
-
-    def end_pipeline(self, operator):
-        """Hands on the stages so far; a bar or a bracket behind the last of them is told as one."""
-        place = self.place
-        stages = place.pipeline + [place.stage] * bool(place.stage)
-        # `a | (b)` has its bar before the bracket
-        operator = operator if place.stage else "|"
-        place.pipeline, place.stage = [], Stage()
-        self.pipeline_ended(stages, operator)

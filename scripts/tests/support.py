@@ -2,6 +2,7 @@
 test's own, the program, images, and how a helper is run and loaded."""
 
 import argparse
+import functools
 import os
 import shutil
 import signal
@@ -93,6 +94,15 @@ def program_of(path):
         return os.path.abspath(path)
     print(f"{os.path.basename(sys.argv[0])}: there is no {path}, so tests that want it are passed over")
     return None
+
+
+@functools.cache
+def wants(name):
+    """Passes what it decorates over, which is said, where a program isn't installed."""
+    if shutil.which(name):
+        return lambda tested: tested
+    print(f"{os.path.basename(sys.argv[0])}: {name} isn't installed, so tests that want it are passed over")
+    return unittest.skip(f"{name} isn't installed")
 
 
 class Program(Folder):

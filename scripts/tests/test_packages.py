@@ -152,7 +152,7 @@ class Packages(Program):
             self.done(["dpkg-deb", "-x", f"checkout/dist/{deb}", "root"])
             told = self.read(f"root/usr/share/doc/{name}/copyright")
             self.assertIn(b"\nLicense: as-stated\n Nobody may\n .\n copy it.\n", told)
-        wanted = f"libpnmpipe1 (= {library.version()})\n".encode()
+        wanted = f"libpnmpipe1 (= {library.version()}), shfmt\n".encode()
         self.assertEqual(self.done(["dpkg-deb", "-f", f"checkout/dist/{debs[2]}", "Recommends"]), wanted)
         self.assertEqual(run([self.path("root/usr/bin/pnmpipe"), "pamcut"], GRAY).stdout, GRAY)
         if shutil.which("lintian"):

@@ -15,7 +15,7 @@ import sys
 sys.dont_write_bytecode = True
 
 # pylint: disable=wrong-import-position
-from support import GRAY, HELPERS, SHIMS, Folder, Program, parser_of, run, run_tests
+from support import GRAY, HELPERS, SHIMS, Folder, Program, parser_of, run, run_tests, wants
 
 import netpbm_words
 import translation
@@ -29,7 +29,7 @@ CALLS, LEAST = 40, 4
 
 # pipelines, and what they become
 TRANSLATED = [
-    ("pamcut -l 8 in.pgm | pnminvert > out", "pnmpipe 'pamcut -left 8 | pnminvert' < in.pgm > out"),
+    ("pamcut -l 8 in.pgm | pnminvert > out", "pnmpipe 'pamcut -left 8 | pnminvert' > out < in.pgm"),
     ("pamflip -r90 a", "pnmpipe 'pamflip -r90' < a"),
     ("pamflip --r270 | pamflip -r180", "pnmpipe 'pamflip -r270 | pamflip -r180'"),
     ("pnmcut 1 2 0 -3 'a b'", "pnmpipe 'pamcut -left 1 -top 2 -right -1 -bottom -4' < 'a b'"),
@@ -40,7 +40,7 @@ TRANSLATED = [
     ("pnmflip -tr -cw f", "pnmpipe 'pamflip -xy | pamflip -r270' < f"),
     ("pamchannel -infile='a b' -tuple X 0 1", "pnmpipe 'pamchannel -tupletype=X 0 1' < 'a b'"),
     ("pnmcut 0 0 12000000 -16777215", "pnmpipe 'pamcut -left 0 -top 0 -width 12000000 -bottom -16777216'"),
-    ("pnmtile 7 8 f -quiet 2>/dev/null", "pnmpipe 'pnmtile 7 8' < f 2>/dev/null"),
+    ("pnmtile 7 8 f -quiet 2>/dev/null", "pnmpipe 'pnmtile 7 8' 2>/dev/null < f"),
     ("pamdepth 9 f | pnmtile -plain 3 3", "pnmpipe --plain 'pamdepth 9 | pnmtile 3 3' < f"),
     ("a | pamcut -left 1 f|pamflip -lr", "a | pnmpipe 'pamcut -left 1 | pamflip -lr' < f"),
     ('x="$(pamcut -left 1 < "$f" | pamflip -tb)"', "x=\"$(pnmpipe 'pamcut -left 1 | pamflip -tb' < \"$f\")\""),
@@ -66,6 +66,12 @@ TRANSLATED = [
     ("cmp <(pnminvert a) b", "cmp <(pnmpipe 'pnminvert' < a) b"),
     ("pamcut -left 1 <(pnminvert a)", "pnmpipe 'pamcut -left 1' < <(pnmpipe 'pnminvert' < a)"),
     ("pamcut -left 1 2> e | pnminvert", "pnmpipe 'pamcut -left 1' 2> e | pnmpipe 'pnminvert'"),
+    ("pamcut < a | pnminvert > b", "pnmpipe 'pamcut | pnminvert' > b < a"),
+    ("pamcut -left 1 $f", "pnmpipe 'pamcut -left 1' < $f"),
+    ("pamcut ${d}/a$1.pgm", "pnmpipe 'pamcut' < ${d}/a$1.pgm"),
+    ("if a; then b; elif pnminvert f; then c; fi", "if a; then b; elif pnmpipe 'pnminvert' < f; then c; fi"),
+    ("x='caf\u00e9 | pamcut' && pnminvert f", "x='caf\u00e9 | pamcut' && pnmpipe 'pnminvert' < f"),
+    ("(( n << 1 )); pnminvert f", "(( n << 1 )); pnmpipe 'pnminvert' < f"),
 ]
 
 # what is kept as it is
@@ -84,8 +90,10 @@ KEPT = [
     "env pamcut -left 1",
     "pamcut -left 8 in.pgm\r\npnminvert\r\n",
     "#!/usr/bin/perl\npnminvert\n",
-    "pamcut -left 1 $f",
+    "pamcut -left 1 $(ls)",
     "pamcut -left 1 *.pgm",
+    "cat f | pamcut $opts",
+    "pamcut $opts f",
     "pamcut -left 1 a b",
     "pamcut -left 1 -left 2",
     "pamcut -left 1 -right 2 -width 2",
@@ -115,7 +123,39 @@ KEPT = [
     "pnminvert 'a",
 ]
 
+# what names tools and surely calls none, and the lines of the tools that are named as kept
+NO_CALLS = [
+    ("[[ $t =~ ^(pamcut|pnminvert)$ ]]", "1 pamcut: it isn't surely a call", "1 pnminvert: it isn't surely a call"),
+    ("[[ x == @(pamcut|pnminvert) ]]", "1 pamcut: it isn't surely a call", "1 pnminvert: it isn't surely a call"),
+    ("case $t in\npamcut | pnminvert) ;; esac", "2 pamcut: it isn't", "2 pnminvert: it isn't"),
+    ("x=`pamcut f`", "1 pamcut: it stands in backquotes"),
+    ("\neval \"pamcut -left 1 f\"", "2 pamcut: it is an argument of eval"),
+    ("X=1 sh -c 'pnminvert f' # pamcut", "1 pnminvert: it is an argument of sh"),
+    ("trap 'pamcut f' EXIT", "1 pamcut: it is an argument of trap"),
+    ("find . | xargs -0 pamcut", "1 pamcut: it is an argument of xargs"),
+    ("cat <<E\na\npamcut $(pamcut f)\nE", "3 pamcut: it stands in a here document", "3 pamcut: it stands in a here"),
+    ("$D/pamcut f", "1 $D/pamcut: another program may stand there"),
+    ("alias x=y pnminvert=cat", "1 pnminvert: it is an argument of alias"),
+    ("alias x=y pnminvert=cat\npnminvert f", "1 pnminvert: it is", "2 pnminvert: a function or an alias"),
+    ("pnminvert() { cat; }; pnminvert f", "1 pnminvert: a function", "1 pnminvert: it isn't surely a call"),
+    ("a >pamcut.log # pamcut\n: pnminvert.c",),
+]
 
+# texts that aren't the shell's, the names of their files, and what is said
+OTHERS = [
+    ("out.pgm: in.pgm\n\tpamcut $< | pnminvert > $@\n", "makefile", "a Makefile"),
+    ("\tpamcut a | pnminvert > b\n", "rules.mk", "a Makefile"),
+    ("out.pgm: in.pgm\n\tpamcut in.pgm | pnminvert > $@\n", "-", "out.pgm: is no command's name"),
+    ("run: pamcut a | pnminvert > b\n", "a.yml", "YAML"),
+    ("jobs:\n  - pamcut a | pnminvert > b\n", "-", "jobs: is no command's name"),
+    ("- pamcut a | pnminvert > b\n", "-", "- is no command's name"),
+    ("Call it\n\n    pamcut a | pnminvert > b\n", "README.md", "Markdown"),
+    ("Call it\n```sh\npamcut a | pnminvert > b\n```\n", "-", "```sh is no command's name"),
+    ("#!/usr/bin/python3\npamcut\n", "-", "a script of python3"),
+]
+
+
+@wants("shfmt")
 class Translate(Folder):
     def translated(self, text):
         made, said = translation.translated(text)
@@ -131,9 +171,33 @@ class Translate(Folder):
         for text in KEPT:
             self.assertEqual(self.translated(text)[0], text)
 
+    def test_names_what_is_no_call(self):
+        for text, *wanted in NO_CALLS:
+            made, said = translation.translated(text)
+            self.assertEqual((made, len(said)), (text, len(wanted)), said)
+            for (line, note), each in zip(sorted(said), sorted(wanted)):
+                self.assertTrue(f"{line} {note.removeprefix('kept ')}".startswith(each), (text, note))
+
+    def test_keeps_other_texts(self):
+        for text, name, why in OTHERS:
+            self.write("text/" + name, text.encode())
+            done = run([f"{HELPERS}/pnmpipe-translate", "-f", name], text.encode(), cwd=self.path("text"))
+            self.assertEqual((done.returncode, done.stdout), (0, text.encode()))
+            self.assertIn("line 1: kept all: ", done.stderr.decode())
+            self.assertIn(why, done.stderr.decode())
+
+    def test_opens_a_file_after_the_outputs(self):
+        """Where a file isn't there, the message goes where the tool's went, and the outputs are made."""
+        made, _ = self.translated("pamcut nofile 2>err >o")
+        for shell in filter(shutil.which, ("sh", "bash")):
+            done = run([shell, "-c", made], cwd=self.folder)
+            self.assertEqual((done.returncode == 0, done.stderr, self.read("o")), (False, b"", b""))
+            self.assertIn(b"nofile", self.read("err"))
+            os.remove(self.path("o"))
+
     def test_tells_what_differs(self):
         for text, note in [
-            ("pnminvert", "every image of a stream"),
+            ("pnminvert", "pnmpipe treats every image of a stream"),
             ("pnmtile 2 2", "stays PAM"),
             ("pamdepth 1", "stay as they are"),
             ("pamcut -left 1", "several plain images"),
@@ -145,10 +209,15 @@ class Translate(Folder):
             ("pamdepth $n", "that holds 1"),
             ("pamcut -left $(expr 1 + 2)", "kept pamcut: -left is $(expr 1 + 2), which is more than a variable"),
             ("pamcut $opts f", "kept pamcut: $opts may be an option"),
+            ("cat f | pamcut $opts", "kept pamcut: $opts may be an option"),
+            ("pamcut -left 1 $f", "assumed: $f without quotes is one file's name, and no option"),
+            ("pnminvert f <> g", "kept pnminvert: pnmpipe-translate doesn't know what the redirection <> g does"),
+            ("pamcut -- f", "kept pamcut: the word -- isn't translated"),
+            ("pamflip -r f", "kept pamflip: -r may be any of -rotate90, -r90, -rotate180, -r180, -rotate270, -r270"),
+            ("pamcut -x 1", "kept pamcut: pamcut has no option -x"),
             ("pamflip $way f", "kept pamflip: $way may be a way to flip"),
             ("PATH=/old pamcut", "kept pamcut: PATH=/old stands before it"),
             ("./pamcut", "kept ./pamcut: another program"),
-            ("find . | xargs -0 pamcut", "kept pamcut: xargs runs it"),
             ("pnminvert\r\n", "CR LF"),
             ("#!/usr/bin/env perl\n", "a script of perl"),
             ("pnminvert -plain", "other blanks and line ends"),
@@ -167,7 +236,7 @@ class Translate(Folder):
         self.assertEqual(run([f"{HELPERS}/pnmpipe-translate", "-f", script]).stdout, self.read("script"))
         made, said = self.translated("pnminvert a\n{ pnminvert b; } \"\n")
         self.assertEqual(made, "pnmpipe 'pnminvert' < a\n{ pnminvert b; } \"\n")
-        self.assertIn("kept what follows: a quote doesn't end", said)
+        self.assertIn("kept what follows: shfmt can't parse line 2: ", said)
 
     def test_script(self):
         script = self.write("script", b"#!/bin/sh\n# caf\xe9\npnminvert < a\n")
@@ -180,6 +249,16 @@ class Translate(Folder):
         self.assertEqual([call.count("pnminvert") for call in made.split("pnmpipe")[1:]], [64, 2])
 
 
+class Lacking(Folder):
+    def test_says_what_it_needs(self):
+        os.symlink(sys.executable, self.path("python3"))
+        done = run([sys.executable, f"{HELPERS}/pnmpipe-translate", "pamcut"], env={"PATH": self.folder})
+        self.assertEqual((done.returncode, done.stdout), (1, b""))
+        self.assertEqual(done.stderr.count(b"\n"), 1)
+        self.assertIn(b"pnmpipe-translate: it needs shfmt", done.stderr)
+
+
+@wants("shfmt")
 class StandIns(Folder):
     """netpbm-shim makes of a tool's words what netpbm_words.py makes of them. It is a script for sh: one is started for
     each call, and python3 takes longer to start."""
@@ -236,6 +315,7 @@ class StandIns(Folder):
             self.assertGreater(len(chains), LEAST, tool)
 
 
+@wants("shfmt")
 class RandomScripts(Program):
     """Scripts before and after they are translated."""
 
