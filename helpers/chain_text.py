@@ -47,12 +47,12 @@ TOOLS = {
 # what stands in place of options that Netpbm's tools take and pnmpipe doesn't
 ELSEWHERE = {
     "plain": "Leave it out here, and ask pnmpipe for plain output:\npnmpipe --plain '..'",
-    "quiet": "Leave it out: no tool says anything but its fault.",
-    "verbose": "Leave it out: no tool says anything but its fault.",
+    "quiet": "Leave it out: the tools print nothing but faults.",
+    "verbose": "Leave it out: the tools print nothing but faults.",
     "pad": "pnmpipe pads nothing; Netpbm's own pamcut does.",
     "memsize": "Leave it out.",
     "pagesize": "Leave it out.",
-    "infile": "A file comes by <:\npnmpipe '..' < FILE",
+    "infile": "Use < for a file:\npnmpipe '..' < FILE",
 }
 
 FACTOR = "Write a factor, as in pamenlarge 2, or -xscale N, -yscale N or both."
@@ -109,14 +109,14 @@ def read_chain(text):
     """The tools that a chain's text names."""
     size = len(text.encode("utf-8", "surrogateescape"))
     if size > MOST_BYTES:
-        what = f"The chain has {size:,} bytes, and at most {MOST_BYTES:,} are taken."
-        raise ChainFault("TooLong", [], what, "Split it into two calls, with a bar of the shell between.")
+        what = f"The chain has {size:,} bytes; at most {MOST_BYTES:,} are allowed."
+        raise ChainFault("TooLong", [], what, "Split it into two calls, with a pipe of the shell between them.")
     if not text.strip(BLANKS):
         raise ChainFault("Empty", [], "The chain names no tool.", f"Name one: {listed(TOOLS, 'or')}.")
     parts = text.split("|")
     if len(parts) > MOST_STAGES:
-        what = f"The chain has {len(parts):,} stages, and at most {MOST_STAGES} are taken."
-        raise ChainFault("TooMany", [], what, "Split it into two calls, with a bar of the shell between.")
+        what = f"The chain has {len(parts):,} stages; at most {MOST_STAGES} are allowed."
+        raise ChainFault("TooMany", [], what, "Split it into two calls, with a pipe of the shell between them.")
     tools, start = [], 0
     for number, part in enumerate(parts, 1):
         words = [Word(found[0], start + found.start(), start + found.end()) for found in WORD.finditer(part)]
@@ -132,8 +132,8 @@ def read_chain(text):
 def read_stage(words):
     """The tool that a stage names."""
     if not words:
-        what = "No word stands between two bars, before the first one or behind the last one."
-        raise ChainFault("EmptyStage", [], what, "Take a bar away, or name a tool there.")
+        what = "A stage is empty: no word stands between two bars, before the first one or after the last one."
+        raise ChainFault("EmptyStage", [], what, "Remove a bar, or name a tool there.")
     if words[0].text not in TOOLS:
         raise unknown_tool(words)
     tool, left = Tool(words), words[1:]
@@ -142,14 +142,20 @@ def read_stage(words):
         if word.text.startswith("-"):
             take_option(tool, word, left)
         else:
-            take_argument(tool, word)
+            take_argument(tool, word, left)
     finish(tool, words)
     return tool
 
 
 def is_file(text):
     """Whether a word seems to name a file."""
-    return re.search(r"[./]|^-$", text) is not None or os.path.exists(text)
+    return re.search(r"^[^<>].*[./]|^[./]|^-$", text) is not None or os.path.exists(text)
+
+
+def outside(text, following):
+    """What to do about a redirection of the shell inside of a chain: a word, and the words that follow it."""
+    file = text.lstrip("<>") or (following[0].text if following else "FILE")
+    return f"Put it after the chain, outside of the quotes:\npnmpipe '..' {text[0]} {shlex.quote(file)}"
 
 
 def loaded(name):
@@ -170,11 +176,13 @@ def nearest(text, names, mark=""):
 def unknown_tool(words):
     """The fault of a stage whose first word is no tool."""
     name = words[0].text
-    remedy = f"{nearest(name, TOOLS)}The tools are {listed(TOOLS)}; case counts."
+    remedy = f"{nearest(name, TOOLS)}The tools are {listed(TOOLS)}; case matters."
     if re.fullmatch(r"p[abgnp]m\w+|\w+to(p[abgnp]m|pnm)", name) and not nearest(name, TOOLS):
-        remedy = f"A tool that pnmpipe lacks stands before or behind it, in the shell's pipe. {remedy}"
+        remedy = f"Run a tool that pnmpipe lacks before or after it, in a pipe of the shell. {remedy}"
     if re.match(r"['\"]", name):
-        remedy = "Leave the inner quotes out: the whole chain stands in one pair of them."
+        remedy = "Leave the inner quotes out: one pair goes around the whole chain."
+    if name[0] in "<>":
+        remedy = outside(name, words[1:])
     return ChainFault("UnknownTool", words[:1], f"pnmpipe has no tool {name}.", remedy)
 
 
@@ -192,7 +200,7 @@ def take_option(tool, word, left):
     wanted = options[name]
     key = name if wanted else "way"
     if key in tool.options:
-        what, remedy = f"-{name} is there twice.", "Leave one out."
+        what, remedy = f"-{name} is given twice.", "Leave one out."
         if not wanted:
             what = "pamflip takes one way to flip, and this is a second one."
             remedy = "Leave one out, or make a stage of each, as in pamflip -lr | pamflip -tb."
@@ -204,7 +212,7 @@ def take_option(tool, word, left):
         return
     if not equals and not left:
         what = f"-{name} lacks its value: it is the stage's last word."
-        raise ChainFault("MissingValue", [word], what, f"Write {kind_of(wanted)} behind it.")
+        raise ChainFault("MissingValue", [word], what, f"Write {kind_of(wanted)} after it.")
     value = Word(text, word.start, word.end) if equals else left.pop(0)
     tool.options[name] = value_of(value, wanted, f"-{name}")
 
@@ -215,29 +223,37 @@ def unknown_option(tool, word, name):
     has = f"it has {listed('-' + it for it in options)}" if options else "it takes no option"
     begun = [it for it in options if name and it.startswith(name)]
     if re.fullmatch(r"-[0-9]+", word.text):
-        remedy = "A number below 0 is taken behind -left, -right, -top and -bottom of pamcut alone."
+        remedy = "Only -left, -right, -top and -bottom of pamcut take a negative number."
     elif name in ELSEWHERE:
         remedy = ELSEWHERE[name]
     elif len(begun) > 1:
-        remedy = f"Write the option whole: {listed(('-' + it for it in begun), 'or')}."
+        remedy = f"Write the option in full: {listed(('-' + it for it in begun), 'or')}."
     elif options:
-        remedy = nearest(name, options, "-") + "An option is written whole, and case counts."
+        remedy = nearest(name, options, "-") + "Write options in full; case matters."
     else:
         remedy = "Leave it out."
     return ChainFault("UnknownOption", [word], f"{tool.name} has no option {word.text}; {has}.", remedy)
 
 
-def take_argument(tool, word):
-    """Takes an argument."""
+def take_argument(tool, word, left):
+    """Takes an argument, which so many words follow."""
     form = TOOLS[tool.name]
     if len(tool.arguments) < form.most:
         tool.arguments.append(value_of(word, form.argument, tool.name))
         return
-    takes = f"{form.most or 'no'} argument{'s' * (form.most > 1)}{' at most' * (form.most > 0)}"
-    remedy = "Leave it out; an option's name begins with a dash."
-    if is_file(word.text):
-        remedy = f"Leave it out. A file comes by <:\npnmpipe '..' < {shlex.quote(word.text)}"
-    raise ChainFault("ExtraArgument", [word], f"{tool.name} takes {takes}, so {word.text} can't stand there.", remedy)
+    takes = f"at most {form.most} argument{'s' * (form.most > 1)}" if form.most else "no arguments"
+    remedy = "Leave it out."
+    if word.text in form.options:
+        remedy = f"Is -{word.text} meant? An option's name begins with a dash."
+    elif tool.name == "pamenlarge" and word.text.isdecimal():
+        scales = f"-xscale {tool.arguments[0]} -yscale {word.text}"
+        remedy = f"One factor holds for both ways; for two of them write:\npnmpipe 'pamenlarge {scales}'"
+    elif word.text[0] in "<>":
+        remedy = outside(word.text, left)
+    elif is_file(word.text):
+        remedy = f"Leave it out. Use < for a file:\npnmpipe '..' < {shlex.quote(word.text)}"
+    what = f"{tool.name} takes {takes}, so {word.text} is one too many."
+    raise ChainFault("ExtraArgument", [word], what, remedy)
 
 
 def kind_of(wanted):
@@ -257,7 +273,7 @@ def value_of(word, wanted, whose):
     is_number = re.fullmatch("-?[0-9]+" if wanted[0] < 0 else "[0-9]+", word.text)
     if is_number and wanted[0] <= int(word.text) <= wanted[1]:
         return int(word.text)
-    isnt = "out of range" if is_number else "no decimal number"
+    isnt = "out of range" if is_number else "not a decimal number"
     what = f"{whose} takes {kind_of(wanted)}, and {word.text or 'an empty word'} is {isnt}."
     raise ChainFault("BadValue", [word], what, "Write a number in this range.")
 
@@ -268,7 +284,7 @@ def finish(tool, words):
         if set(axis) <= set(tool.options):
             names = [f"-{name}" for name in axis]
             marked = [word for word in words if re.split("=", word.text.lstrip("-"))[0] in axis]
-            what = f"{listed(names)} can't stand together: any two of them say the third."
+            what = f"{listed(names)} can't be given together: any two of them determine the third."
             raise ChainFault("Conflict", marked, what, "Leave one of them out.")
     if tool.name == "pamenlarge" and tool.arguments and tool.options:
         what = "pamenlarge takes a factor for both ways, or -xscale and -yscale, and not both."
@@ -305,8 +321,8 @@ def cut_length(tool, length, axis, unit):
         asks = f"ends at {unit} {last:,}"
     else:
         asks = f"ends at {unit} {last:,}, and begins behind it at {unit} {first:,}"
-    has = f"It has {length:,} {unit}{'s' * (length > 1)}, 0 to {length - 1:,}, and what {given} keeps {asks}."
-    raise ToolFault("CutOutside", has, "Ask for what every image of the stream has, or take this one out.")
+    has = f"It has {length:,} {unit}{'s' * (length > 1)}, counted from 0, and what {given} keeps {asks}."
+    raise ToolFault("CutOutside", has, "Ask for what every image of the stream has, or leave this one out.")
 
 
 def head_of_result(tool, head):
@@ -321,8 +337,7 @@ def head_of_result(tool, head):
     elif tool.name == "pamchannel":
         beyond = [plane for plane in arguments if plane >= depth]
         if beyond:
-            planes = f"{depth} planes, 0 to {depth - 1}," if depth > 1 else "1 plane, 0,"
-            what = f"It has {planes} and no plane {beyond[0]}."
+            what = f"It has {depth} plane{'s' * (depth > 1)}, counted from 0, and so no plane {beyond[0]}."
             raise ToolFault("ChannelOutside", what, "Ask for planes that every image of the stream has.")
         kind, depth, tuple_type = "Pam", len(arguments), options.get("tupletype", "")
     elif tool.name == "pamenlarge":

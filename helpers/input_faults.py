@@ -8,9 +8,17 @@ from image_stream import BLANKS, MOST_GAP, MOST_HEADER, PIECE
 
 KINDS = {"Bit": "PBM", "Gray": "PGM", "Color": "PPM", "Pam": "PAM"}
 
-CONVERT = "Make a Netpbm image of it first:\n"
+CONVERT = "Convert it first:\n"
+MAGICK = "convert FILE ppm:- | pnmpipe '..'"
+PRINTER = "Have the program that wrote it write PGM or PPM, as Ghostscript does by -sDEVICE=ppmraw."
+DECOMPRESS = "Decompress it first:\n"
 HEIF = "heif-convert FILE NEW.png && pngtopam NEW.png | pnmpipe '..'"
 GHOSTSCRIPT = "gs -q -dBATCH -dNOPAUSE -sDEVICE=ppmraw -sOutputFile=- FILE | pnmpipe '..'"
+
+TARGA = CONVERT + "tgatoppm FILE | pnmpipe '..'"
+
+# a byte order mark and white space, where they are
+MARK = rb"(?:\xef\xbb\xbf)?\s*"
 
 # what the first bytes of other files are, and what makes images of them
 OTHERS = [
@@ -25,27 +33,45 @@ OTHERS = [
     (rb"\0\0\0\x0cjP  |\xff\x4f\xff\x51", "a JPEG 2000 file", CONVERT + "jpeg2ktopam FILE | pnmpipe '..'"),
     (rb"....ftyp(?:hei|mif|avif)", "a HEIF or AVIF file", CONVERT + HEIF),
     (rb"AT&TFORM", "a DjVu file", CONVERT + "ddjvu -format=ppm FILE | pnmpipe '..'"),
-    (rb"P[Ff][ \n]", "a PFM file, whose samples are no whole numbers", CONVERT + "pfmtopam FILE | pnmpipe '..'"),
-    (rb"\x1f\x8b", "a file that gzip has compressed", "Unpack it first:\ngzip -dc FILE | pnmpipe '..'"),
-    (rb"BZh[1-9]", "a file that bzip2 has compressed", "Unpack it first:\nbzip2 -dc FILE | pnmpipe '..'"),
-    (rb"\xfd7zXZ\0", "a file that xz has compressed", "Unpack it first:\nxz -dc FILE | pnmpipe '..'"),
-    (rb"\x28\xb5\x2f\xfd", "a file that zstd has compressed", "Unpack it first:\nzstd -dc FILE | pnmpipe '..'"),
+    (rb"P[Ff][ \n]", "a PFM file, whose samples are floating-point numbers", CONVERT + "pfmtopam FILE | pnmpipe '..'"),
+    (rb"\x1f\x8b", "a file compressed by gzip", DECOMPRESS + "gzip -dc FILE | pnmpipe '..'"),
+    (rb"BZh[1-9]", "a file compressed by bzip2", DECOMPRESS + "bzip2 -dc FILE | pnmpipe '..'"),
+    (rb"\xfd7zXZ\0", "a file compressed by xz", DECOMPRESS + "xz -dc FILE | pnmpipe '..'"),
+    (rb"\x28\xb5\x2f\xfd", "a file compressed by zstd", DECOMPRESS + "zstd -dc FILE | pnmpipe '..'"),
     (rb"PK\x03\x04", "a ZIP archive", "Unpack it first:\nunzip -p FILE | pnmpipe '..'"),
-    (rb"\xff\xfe|\xfe\xff", "a text in UTF-16", "PowerShell's > writes such: let the program write the file itself."),
-    (rb"\xef\xbb\xbfP[1-7]", "an image behind the mark of a text in UTF-8", "Take its three first bytes away."),
-    (rb"\s*<(?:!|\?|svg|html)", "a text in XML or HTML", "Look at where it comes from: a page of the web, or SVG."),
+    (rb"RaS2PwgRaster\0", "a PWG raster file, for printers", PRINTER),
+    (rb"UNIRAST\0", "a URF file (Apple raster), for printers", PRINTER),
+    (rb"RaS[t23]|[t23]SaR", "a CUPS raster file, for printers", PRINTER),
+    (rb"\xff\x0a|\0\0\0\x0cJXL ", "a JPEG XL file", CONVERT + "djxl FILE NEW.ppm && pnmpipe '..' < NEW.ppm"),
+    (rb"\x97JB2\r\n\x1a\n", "a JBIG2 file", CONVERT + "jbig2dec -t pbm -o - FILE | pnmpipe '..'"),
+    (rb"8BPS\0[\x01\x02]", "a Photoshop file (PSD)", CONVERT + MAGICK.replace("FILE", "'FILE[0]'")),
+    (rb"\x76\x2f\x31\x01", "an OpenEXR file", CONVERT + MAGICK),
+    (rb"(?:/\*.*?\*/\s*)?#define\s+\w*width\s+\d", "an XBM file", CONVERT + "xbmtopbm FILE | pnmpipe '..'"),
+    (rb"/\* XPM \*/", "an XPM file", CONVERT + "xpmtoppm FILE | pnmpipe '..'"),
+    (rb"YUV4MPEG2 ", "a Y4M video", CONVERT + "ffmpeg -v error -i FILE -f image2pipe -c:v ppm - | pnmpipe '..'"),
+    (rb"\xff\xfe|\xfe\xff", "text in UTF-16", "PowerShell's > writes UTF-16: have the program write the file itself."),
+    (rb"\xef\xbb\xbfP[1-7]", "an image after a byte order mark", "Remove the mark:\ntail -c +4 FILE | pnmpipe '..'"),
+    (MARK + rb"<(?i:!doctype html|html)\b", "an HTML page", "Perhaps a server answered with it: get the image itself."),
+    (MARK + rb"<(?:\?xml|!|svg)", "SVG or other XML", "If it is SVG:\nrsvg-convert FILE | pngtopam | pnmpipe '..'"),
+    # TGA has no mark of its own: the kinds of its palette and pixels, no palette or one, and bits a pixel
+    (rb".(?:\0[\x02\x03\x0a\x0b]\0{5}|\x01[\x01\x09].{5}).{8}[\x08\x0f\x10\x18\x20][\0-\x3f]", "a TGA file", TARGA),
 ]
 
 BROKEN_OFF = "The file was cut short, or the program before the pipe failed. Get the file again."
+BEGINS = "a Netpbm image begins with P1 to P7."
 CORRECT = "Correct the header."
-DOS = "The header's lines end by CR LF. The CR ends the header, so the LF is taken for the raster's first byte."
-TRANSFER = "A transfer as text has changed the file, LF to CR LF. Get it again, as binary."
+DOS = "The header's lines end with CR LF. The CR ends the header, so the LF is taken for the raster's first byte."
+TRANSFER = "A transfer in text mode has changed LF to CR LF in it. Transfer it again, in binary mode."
+
+
+def number_shown(number):
+    """A number, or that it has too many digits."""
+    return f"{number:,}" if number < 10**15 else f"more than {10**15 - 1:,}"
 
 
 def counted(number, unit):
-    """A number of things; one with too many digits is named so."""
-    shown = f"{number:,}" if number < 10**15 else "a number with more than 15 digits of"
-    return f"{shown} {unit}{'s' * (number != 1)}"
+    """A number of things."""
+    return f"{number_shown(number)} {unit}{'s' * (number != 1)}"
 
 
 def shown(text, most=16):
@@ -58,7 +84,7 @@ def shown(text, most=16):
 
 def byte_shown(byte):
     """A byte in words."""
-    names = {9: "a TAB", 10: "a LF", 13: "a CR", 32: "a blank"}
+    names = {9: "a TAB", 10: "an LF", 13: "a CR", 32: "a blank"}
     return names.get(byte) or (f'"{chr(byte)}"' if 32 < byte < 127 else f"the byte {byte:02X} (hexadecimal)")
 
 
@@ -107,7 +133,7 @@ class Words:
 
     def empty_input(self):
         what = "The chain is good, and the input is empty."
-        return what, "Look at the program that should have written it, or at the file's name."
+        return what, "Check the program that should have written it, or the file's name."
 
     def bad_magic(self):
         text = self.stream.peek(PIECE)
@@ -117,27 +143,28 @@ class Words:
         if self.image.number > 1:
             return self.behind_image(text, bare, blanks, other)
         if other:
-            return f"The input is {other[0]}, and an image begins with P1 to P7.", other[1]
+            return f"The input is {other[0]}; {BEGINS}", other[1]
         if re.match(rb"P[1-7]", bare):
-            return f"The input begins with {blanks}, and an image with P1 to P7.", "Take the white space away."
-        return f"The input begins with {shown(text)}, and an image with P1 to P7.", "Look at the program that wrote it."
+            return f"The input begins with {blanks}; {BEGINS}", "Remove the white space."
+        return f"The input begins with {shown(text)}; {BEGINS}", "Check the program that wrote it."
 
     def behind_image(self, text, bare, blanks, other):
         """What is wrong where something else than an image follows one."""
-        ends = f"Image {self.before.number} ends at {self.at}, by the numbers of its header, and"
+        ends = f"Image {self.before.number} ends at {self.at}, by the numbers in its header, and"
         if other:
-            return f"{ends} {other[0]} follows. An image begins with P1 to P7.", other[1]
+            return f"{ends} {other[0]} follows; {BEGINS}", other[1]
         if not bare:
-            return f"{ends} {blanks} follows.", f"Nothing may follow a raw image:\nhead -c {self.fault.at} FILE > NEW"
+            remedy = f"Only another image may follow a raw one. Cut it off:\nhead -c {self.fault.at} FILE > NEW"
+            return f"{ends} {blanks} follows.", remedy
         if self.before.has_lines_of_dos:
             return f"{ends} {shown(text)} follows. {DOS}", TRANSFER
         if self.hidden():
             remedy = "The image was cut short, and took the missing bytes from the next one. Get the file again."
-            return f"{ends} {shown(text)} follows, which is no image.{self.hidden()}", remedy
+            return f"{ends} {shown(text)} follows, which isn't an image.{self.hidden()}", remedy
         if re.match(rb"P[1-7]", bare):
-            return f"{ends} {blanks} stands before the next image.", "Take it away: raw images have nothing between."
-        remedy = "The header tells too small a size or maxval for its raster, or what follows has to be taken away."
-        return f"{ends} {shown(text)} follows, which is no image.", remedy
+            return f"{ends} {blanks} stands before the next image.", "Remove it: nothing may stand between raw images."
+        remedy = "The header gives too small a size or maxval for its raster, or what follows has to be removed."
+        return f"{ends} {shown(text)} follows, which isn't an image.", remedy
 
     def header_cut(self):
         text = self.stream.peek(MOST_HEADER)
@@ -145,12 +172,12 @@ class Words:
 
     def too_long(self):
         if self.image.raster is not None:
-            what = f"Before {self.at} stand {MOST_GAP:,} bytes in which no sample ends, and fewer are taken."
+            what = f"In the {MOST_GAP:,} bytes before {self.at} no sample ends, and fewer are allowed."
             return what, "Look there for white space, a comment or a number of that length, and shorten it."
         if self.fault.what is not None:
-            return f"The image's tuple type has {self.fault.what:,} bytes, and at most 255 are taken.", "Shorten it."
+            return f"The image's tuple type has {self.fault.what:,} bytes; at most 255 are allowed.", "Shorten it."
         what = f"The image's header doesn't end within {MOST_HEADER:,} bytes."
-        return what, "It has comments of that length, or is no image at all."
+        return what, "It has very long comments, or it isn't an image at all."
 
     def bad_number(self):
         if isinstance(self.fault.what, bytes):
@@ -163,7 +190,7 @@ class Words:
         wanted = f"a digit of the {names[index]}, or white space," if index < len(names) else "white space"
         wanted = "white space before the width" if at == 2 else wanted
         what = f"At {self.at} is {byte_shown(text[at])}, where {wanted} is expected: {shown(text[: at + 1], 60)}."
-        return what, "Correct the header, or look whether another file's bytes stand there."
+        return what, "Correct the header, or check whether bytes of another file got in there."
 
     def zero_size(self):
         names = [name for name, number in self.fault.what.items() if not number and name != "maxval"]
@@ -177,13 +204,12 @@ class Words:
 
     def bad_maxval(self):
         maxval = self.fault.what["maxval"]
-        told = f"{maxval:,}" if maxval < 10**15 else "a number with more than 15 digits"
-        return f"Its maxval is {told}; it has to be 1 to 65,535.", CORRECT
+        return f"Its maxval is {number_shown(maxval)}; it has to be 1 to 65,535.", CORRECT
 
     def bad_pam_line(self):
         text = self.fault.what
         if self.fault.at == self.image.start + 2:
-            what = f"P7 is followed by {byte_shown(text[0])}, and a PAM header's first line ends by a LF alone."
+            what = f"P7 is followed by {byte_shown(text[0])}, and a PAM header's first line ends with an LF alone."
             return what, TRANSFER if text == b"\r" else CORRECT
         if re.match(rb"[ \t\r]*(WIDTH|HEIGHT|DEPTH|MAXVAL)[ \t\r]*$", text):
             return f"The header's line at {self.at} lacks its number: {shown(text, 60)}.", CORRECT
@@ -213,26 +239,26 @@ class Words:
     def sample_above_maxval(self):
         image, fault = self.image, self.fault
         index = image.seen if image.is_plain else (fault.at - image.raster) // image.sample_size()
-        sample = f"{fault.what:,}" if fault.what < 10**15 else "a number with more than 15 digits"
+        sample = number_shown(fault.what)
         what = f"At {self.at} ({place_of(image, index)}) is the sample {sample}, above the maxval {image.head[4]:,}."
         if image.has_lines_of_dos and not image.is_plain:
             return f"{what} {DOS}", TRANSFER
         if self.hidden():
             return what + self.hidden(), "An image was cut short, and took bytes from the next one. Get the file again."
-        return what, "The header tells too low a maxval, or the raster belongs to another header."
+        return what, "The header gives too low a maxval, or the raster belongs to another header."
 
     def bad_sample(self):
         image, byte = self.image, byte_shown(self.fault.what)
         if image.seen == image.samples():
             what = f"At {self.at}, right behind the last sample, is {byte}, where white space or the end is expected."
-            return what, "Take away what follows, or correct the size in the header."
+            return what, "Remove what follows, or correct the size in the header."
         wanted = "0, 1, white space or a comment" if image.head[0] == "Bit" else "a digit, white space or a comment"
         what = f"At {self.at}, for the sample at {place_of(image, image.seen)}, is {byte}, where {wanted} is expected."
         return what, "Correct it there. A comment goes from # to its line's end."
 
     def plain_in_stream(self):
         what = "It is plain, and a plain image stands alone: it can't follow another one."
-        return what, "Make it raw first, by Netpbm's own tool:\npamcut < plain.pgm > raw.pgm"
+        return what, "Make it raw first, with Netpbm's own tool:\npamcut < plain.pgm > raw.pgm"
 
     def read_failed(self):
         number = self.fault.what.errno

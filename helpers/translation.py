@@ -4,7 +4,7 @@
 import re
 import shlex
 
-from chain_text import MOST_BYTES, MOST_STAGES, WORD, ChainFault, read_chain
+from chain_text import MOST_BYTES, MOST_STAGES, WORD, ChainFault, is_file, read_chain
 from netpbm_words import ANY_SETTING, OLD_NAMES, OPTIONS, Kept, place_of, read_stage, tool_of
 from shell_reader import ShellReader, Stage, Word, parsed, span
 
@@ -191,10 +191,15 @@ def in_pnmpipe(text):
         stages.append(Stage(at, end, map(Word.of_text, words)))
         at = end + len(" | ")
     reading = Translation(" | ".join(shlex.join(WORD.findall(stage)) for stage in text.split("|")))
-    reading.pipeline_ended(stages)
+    try:
+        reading.pipeline_ended(stages)
+    except NoScript:
+        return None
     made = reading.rendered(0, len(reading.text))
     words = [word for word in shlex.split(made) if word != "--plain"]
     if words[:1] != ["pnmpipe"] or len(words) not in (2, 4) or words[2:3] not in ([], ["<"]):
+        return None
+    if not all(map(is_file, words[3:])):
         return None
     try:
         read_chain(words[1])
