@@ -71,6 +71,12 @@ _pnmpipe_at_chain() {
     done
 }
 
+# the files whose names go on from the word that is being typed
+_pnmpipe_file() {
+    mapfile -t COMPREPLY < <(compgen -f -- "$1")
+    compopt -o filenames 2> /dev/null
+}
+
 _pnmpipe() {
     local current=${COMP_WORDS[COMP_CWORD]} before=${COMP_WORDS[COMP_CWORD - 1]} options=''
     COMPREPLY=()
@@ -84,6 +90,9 @@ _pnmpipe() {
         pnmpipe-split) options='--start --digits --names --force --help --version' ;;
         pnmpipe-translate) options='--file --help --version' ;;
     esac
+    # a redirection's operator is a word of its own, and a file follows it
+    [[ $current != ?(&)[\<\>]* ]] || { before=$current; current=''; }
+    [[ $before != ?(&)[\<\>]* ]] || { _pnmpipe_file "$current"; return; }
     ! _pnmpipe_value "$before" "$current" || return 0
     if [[ $current == -* ]]; then
         mapfile -t COMPREPLY < <(compgen -W "$options" -- "$current")
@@ -93,8 +102,7 @@ _pnmpipe() {
         pnmpipe | pnmpipe-explain) _pnmpipe_chain "$current" "$options"; return ;;
         pnmpipe-files) ! _pnmpipe_at_chain || { _pnmpipe_chain "$current" "$options"; return; } ;;
     esac
-    mapfile -t COMPREPLY < <(compgen -f -- "$current")
-    compopt -o filenames 2> /dev/null
+    _pnmpipe_file "$current"
 }
 
 complete -F _pnmpipe pnmpipe pnmpipe-explain pnmpipe-files pnmpipe-split pnmpipe-translate

@@ -5,6 +5,7 @@ They want python3 and sh alone. The program is named by --program; where it isn'
 The stand-ins are tried over scripts that only tell how they were called.
 """
 
+import contextlib
 import os
 import pty
 import random
@@ -21,7 +22,7 @@ sys.dont_write_bytecode = True
 
 # pylint: disable=wrong-import-position
 from support import COLOR, GRAY, HELPERS, PATIENCE, ROOT, SHIMS, SIGNALS, Folder, Program
-from support import heed_signals, loaded, parser_of, run, run_tests
+from support import heed_signals, loaded, parser_of, run, run_tests, wants
 
 
 def random_header(numbers):
@@ -314,13 +315,13 @@ class HelpAndVersion(unittest.TestCase):
                 self.assertTrue(done.stdout.startswith(beginning.encode()), done.stdout)
 
 
-class Completion(unittest.TestCase):
+class Completion(Folder):
     def replies(self, *words):
         code = f'. {ROOT}/completions/pnmpipe.bash; COMP_WORDS=("$@"); COMP_CWORD=$(($# - 1)); _pnmpipe; '
         code += 'printf "%s\\n" "${COMPREPLY[@]}"'
         return run(["bash", "--norc", "-c", code, "bash", *words]).stdout.decode().splitlines()
 
-    @unittest.skipIf(shutil.which("bash") is None, "bash isn't installed")
+    @wants("bash")
     def test_bash(self):
         self.assertIn("'pamcut", self.replies("pnmpipe", "pam"))
         self.assertEqual(self.replies("pnmpipe", "--l"), ["--lanes"])
@@ -334,7 +335,7 @@ class Completion(unittest.TestCase):
         self.assertEqual(self.replies("pnmpipe-files", "pnminvert", "out", f"{ROOT}/VERS"), [f"{ROOT}/VERSION"])
         self.assertEqual(self.replies("pnmpipe-split", "--fo"), ["--force"])
 
-    @unittest.skipIf(shutil.which("fish") is None, "fish isn't installed")
+    @wants("fish")
     def test_fish(self):
         for typed, wanted in [
             ("pnmpipe --l", ["--lanes"]),
@@ -349,46 +350,82 @@ class Completion(unittest.TestCase):
             made = run(["fish", "-N", "-c", code, typed], cwd=ROOT).stdout.decode().splitlines()
             self.assertEqual([line.split("\t")[0] for line in made], wanted, typed)
 
-    @unittest.skipIf(shutil.which("fish") is None, "fish isn't installed")
+    @wants("fish")
     def test_fish_on_a_terminal(self):
         """A chain whose opening quote is typed goes on in its quote, which closes where the user closes it."""
-        start = f"source {ROOT}/completions/pnmpipe.fish; function pnmpipe; echo (count $argv)=\"$argv\"; end; "
+        start = 'function pnmpipe; echo (count $argv)="$argv"; end; '
         for typed, completed, rest, wanted in [
             ("pnmpipe 'pamcut -wi", "'pamcut -width ", "5'", "1=pamcut -width 5"),
             ('pnmpipe "pamcut|pamflip -nu', '"pamcut|pamflip -null ', '"', "1=pamcut|pamflip -null"),
             ("pnmpipe --lanes 2 'pamcut|pnmt", "'pamcut|pnmtile ", "4 5'", "3=--lanes 2 pamcut|pnmtile 4 5"),
         ]:
-            process, terminal = pty.fork()
-            if process == 0:
-                home = {"HOME": "/nonexistent", "XDG_CONFIG_HOME": "/nonexistent", "XDG_DATA_HOME": "/nonexistent"}
-                os.execvpe("fish", ["fish", "-N", "-i"], {**os.environ, **home, "TERM": "dumb"})
-            self.typed(terminal, start + "echo rea''dy\n", b"\nready")
-            self.assertIn(completed.encode(), self.typed(terminal, typed + "\t", completed.encode()))
-            shown = self.typed(terminal, rest + "\n", b"\n" + wanted.encode())
-            os.kill(process, signal.SIGKILL)
-            os.waitpid(process, 0)
-            os.close(terminal)
+            with self.terminal("fish", start) as terminal:
+                self.assertIn(completed.encode(), self.typed(terminal, typed + "\t", completed.encode()))
+                shown = self.typed(terminal, rest + "\n", b"\n" + wanted.encode())
             self.assertIn(wanted.encode(), shown, typed)
 
-    @unittest.skipIf(shutil.which("zsh") is None, "zsh isn't installed")
+    @wants("zsh")
     def test_zsh(self):
         """A word that one alone goes on from is completed on a terminal."""
-        start = f"PS1=; fpath=({ROOT}/completions $fpath); autoload -U compinit; compinit -u -D; echo rea''dy\n"
         for typed, wanted in [
             ("pnmpipe --la", "pnmpipe --lanes "),
             ("pnmpipe 'pamcut -left 8 | pamflip -nu", "pnmpipe 'pamcut -left 8 | pamflip -null "),
             ("pnmpipe-files --res", "pnmpipe-files --resume "),
             ("pnmpipe-split --fo", "pnmpipe-split --force "),
         ]:
-            process, terminal = pty.fork()
-            if process == 0:
-                os.execvpe("zsh", ["zsh", "-f", "-i"], {**os.environ, "TERM": "dumb"})
-            self.typed(terminal, start, b"\nready")
-            shown = self.typed(terminal, typed + "\t", wanted.encode())
+            with self.terminal("zsh") as terminal:
+                self.assertIn(wanted.encode(), self.typed(terminal, typed + "\t", wanted.encode()))
+
+    @wants("bash")
+    def test_files_in_bash(self):
+        self.completes_files("bash")
+
+    @wants("zsh")
+    def test_files_in_zsh(self):
+        self.completes_files("zsh")
+
+    @wants("fish")
+    def test_files_in_fish(self):
+        self.completes_files("fish")
+
+    def completes_files(self, shell):
+        """Behind redirections stand files, of any of the programs, whatever the chain is."""
+        self.write("scan one/page.pgm", b"")
+        self.write("scans.pgm", b"")
+        for typed, wanted in [
+            ("pnmpipe pnminvert < scans", " < scans.pgm "),
+            ("pnmpipe pnminvert <scans", "<scans.pgm "),
+            ("pnmpipe 'pamcut -left 8 | pnminvert' >scans", ">scans.pgm "),
+            ("pnmpipe pnminvert 2>> scans", ">> scans.pgm "),
+            ("pnmpipe pnminvert &> scans", "&> scans.pgm "),
+            ("pnmpipe < scans", "pnmpipe < scans.pgm "),
+            ("pnmpipe pnminvert < scan\\ one/", "< scan\\ one/page.pgm "),
+            ("pnmpipe-split x < scans", "< scans.pgm "),
+            ("pnmpipe-explain 'pnminvert' < scans", "< scans.pgm "),
+        ]:
+            with self.terminal(shell) as terminal:
+                self.assertIn(wanted.encode(), self.typed(terminal, typed + "\t", wanted.encode()), typed)
+
+    @contextlib.contextmanager
+    def terminal(self, shell, start=""):
+        """A terminal in which a shell runs that has the completions."""
+        words, code = {
+            "bash": (["--noprofile", "--norc"], f"PS1=; . {ROOT}/completions/pnmpipe.bash; "),
+            "zsh": (["-f"], f"PS1=; fpath=({ROOT}/completions $fpath); autoload -U compinit; compinit -u -D; "),
+            "fish": (["-N"], f"source {ROOT}/completions/pnmpipe.fish; "),
+        }[shell]
+        process, terminal = pty.fork()
+        if process == 0:
+            os.chdir(self.folder)
+            home = dict.fromkeys(("HOME", "XDG_CONFIG_HOME", "XDG_DATA_HOME"), "/nonexistent")
+            os.execvpe(shell, [shell, *words, "-i"], {**os.environ, **home, "TERM": "dumb"})
+        try:
+            self.typed(terminal, f"{code}{start}echo rea''dy\n", b"\nready")
+            yield terminal
+        finally:
             os.kill(process, signal.SIGKILL)
             os.waitpid(process, 0)
             os.close(terminal)
-            self.assertIn(wanted.encode(), shown)
 
     def typed(self, terminal, text, wanted):
         """What a terminal shows after a text, until something is there or ten seconds have passed."""
