@@ -321,7 +321,7 @@ def cut_length(tool, length, axis, unit):
         asks = f"ends at {unit} {last:,}"
     else:
         asks = f"ends at {unit} {last:,}, and begins behind it at {unit} {first:,}"
-    has = f"It has {length:,} {unit}{'s' * (length > 1)}, counted from 0, and what {given} keeps {asks}."
+    has = f"It has {length:,} {unit}{'s' * (length > 1)}, numbered from 0, and what {given} keeps {asks}."
     raise ToolFault("CutOutside", has, "Ask for what every image of the stream has, or leave this one out.")
 
 
@@ -337,7 +337,7 @@ def head_of_result(tool, head):
     elif tool.name == "pamchannel":
         beyond = [plane for plane in arguments if plane >= depth]
         if beyond:
-            what = f"It has {depth} plane{'s' * (depth > 1)}, counted from 0, and so no plane {beyond[0]}."
+            what = f"It has {depth} plane{'s' * (depth > 1)}, numbered from 0, so there is no plane {beyond[0]}."
             raise ToolFault("ChannelOutside", what, "Ask for planes that every image of the stream has.")
         kind, depth, tuple_type = "Pam", len(arguments), options.get("tupletype", "")
     elif tool.name == "pamenlarge":

@@ -10,7 +10,7 @@ import re
 import shlex
 import subprocess
 
-LACKING = "it needs shfmt, which parses the shell's text: install it (Debian's package is shfmt)"
+LACKING = "it needs shfmt 3.6 or later, which parses the shell's text (Debian's package is shfmt)"
 
 # an expansion that gives one word and changes nothing: a parameter, or a sum of them
 PLAIN_PARAMETER = re.compile(r"\$(?:[A-Za-z_]\w*|[0-9#]|\{(?:[A-Za-z_]\w*|[0-9]+)\})")
@@ -22,7 +22,7 @@ class Kept(Exception):
 
 
 class Lacking(Exception):
-    """The program that parses the shell's text isn't there."""
+    """The program that parses the shell's text isn't there, or is another one."""
 
 
 class Expansion(str):
@@ -117,6 +117,8 @@ def parsed(text):
             raise Lacking(LACKING) from None
         if done.returncode == 0:
             return json.loads(done.stdout), end, fault
+        if end == 0:
+            raise Lacking(LACKING)
         told = done.stderr.decode("utf-8", "replace").strip()
         line, why = re.fullmatch(r"(?:.*?(\d+):\d+: )?(.*)", told, re.S).groups("1")
         fault = fault or f"shfmt can't parse line {line}: {why}"

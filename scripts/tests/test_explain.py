@@ -144,10 +144,10 @@ INPUTS = [
 TOOLS = [
     ("pamcut -left 1 | pamcut -left 1", GRAY, ["Stage 2, pamcut -left 1: image 1", "PGM of 1 by 1", "1 column"]),
     ("pamcut -left 1", GRAY + COLOR, ["image 2 of the stream", "begins at column 1"]),
-    ("pamcut -height 2", GRAY, ["It has 1 row, counted from 0,", "ends at row 1"]),
+    ("pamcut -height 2", GRAY, ["It has 1 row, numbered from 0,", "ends at row 1"]),
     ("pamcut -left 1 -right 0", GRAY, ["ends at column 0", "begins behind it at column 1"]),
-    ("pamchannel 3", COLOR, ["It has 3 planes, counted from 0, and so no plane 3."]),
-    ("pamchannel 1", GRAY, ["It has 1 plane, counted from 0, and so no plane 1."]),
+    ("pamchannel 3", COLOR, ["It has 3 planes, numbered from 0, so there is no plane 3."]),
+    ("pamchannel 1", GRAY, ["It has 1 plane, numbered from 0, so there is no plane 1."]),
     ("pamenlarge 16777216", GRAY, ["33,554,432 columns"]),
 ]
 

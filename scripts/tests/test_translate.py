@@ -251,11 +251,13 @@ class Translate(Folder):
 
 class Lacking(Folder):
     def test_says_what_it_needs(self):
-        os.symlink(sys.executable, self.path("python3"))
-        done = run([sys.executable, f"{HELPERS}/pnmpipe-translate", "pamcut"], env={"PATH": self.folder})
-        self.assertEqual((done.returncode, done.stdout), (1, b""))
-        self.assertEqual(done.stderr.count(b"\n"), 1)
-        self.assertIn(b"pnmpipe-translate: it needs shfmt", done.stderr)
+        for _ in range(2):
+            done = run([sys.executable, f"{HELPERS}/pnmpipe-translate", "pamcut"], env={"PATH": self.folder})
+            self.assertEqual((done.returncode, done.stdout), (1, b""))
+            self.assertEqual(done.stderr.count(b"\n"), 1)
+            self.assertIn(b"pnmpipe-translate: it needs shfmt", done.stderr)
+            # an old one, which doesn't know the option
+            self.write("shfmt", b"#!/bin/sh\necho 'flag provided but not defined' >&2\nexit 2\n", 0o755)
 
 
 @wants("shfmt")
