@@ -2,6 +2,7 @@
 """Makes a wheel of the Python module with the C library in it, from library/python and bin/libpnmpipe.so.1, into dist/.
 
 A wheel is an archive (PEP 427): the module's files, and what is said of them. It fits one machine and any Python 3.
+`--metadata` prints what is said of the module, for another package of it.
 """
 
 import base64
@@ -19,15 +20,20 @@ SOURCE = os.path.join(ROOT, "library/python", NAME)
 PYTHON = ">=3.8"
 
 
-def said(tag):
-    """The files that say what the wheel is."""
+def metadata():
+    """What is said of the module, in the form of PEP 566."""
     lines = ["Metadata-Version: 2.1", f"Name: {NAME}", f"Version: {version()}"]
     lines += ["Summary: Netpbm tools over images in memory, in one call and proved", f"Requires-Python: {PYTHON}"]
     lines += ["Provides-Extra: numpy", "Requires-Dist: numpy; extra == 'numpy'"]
     lines += ["Description-Content-Type: text/markdown"]
     with open(os.path.join(ROOT, "library/python/README.md"), encoding="utf-8") as file:
         lines += ["", file.read()]
-    yield "METADATA", "\n".join(lines)
+    return "\n".join(lines)
+
+
+def said(tag):
+    """The files that say what the wheel is."""
+    yield "METADATA", metadata()
     yield "WHEEL", f"Wheel-Version: 1.0\nGenerator: {NAME}\nRoot-Is-Purelib: false\nTag: {tag}\n"
 
 
@@ -68,6 +74,9 @@ def write(wheel, name, data, mode, stamp):
 
 
 def main():
+    if sys.argv[1:] == ["--metadata"]:
+        sys.stdout.write(metadata())
+        return
     shared = os.path.join(ROOT, "bin", SHARED)
     if not os.path.exists(shared):
         sys.exit(f"wheel: there is no bin/{SHARED}: run make library first")

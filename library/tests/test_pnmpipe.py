@@ -1,7 +1,13 @@
 """Tests of the Python module, for pytest. Expected values are worked out by hand from the tools' manual pages."""
 
+import gc
+import importlib.metadata
 import os
+import signal
+import subprocess
+import sys
 import threading
+import weakref
 
 import pytest
 
@@ -32,6 +38,27 @@ def test_parts_of_buffers():
         pnmpipe.run("pnminvert", "P1 1 1 0")
 
 
+class Data(bytearray):
+    """A bytearray of which it can be told whether it is still there."""
+
+
+def test_inputs_are_let_go():
+    """Once a call has ended, its input can grow and goes with its last name, without the collector of cycles."""
+    gc.disable()
+    try:
+        data = Data(IMAGE)
+        pnmpipe.run("pnminvert", data)
+        data.extend(b"P")
+        with pytest.raises(pnmpipe.InputHeaderCut):
+            pnmpipe.run("pnminvert", data)
+        data.extend(b"5")
+        there = weakref.ref(data)
+        del data
+        assert there() is None
+    finally:
+        gc.enable()
+
+
 @pytest.mark.parametrize("empty", [b"", bytearray(), memoryview(b"")])
 def test_empty_inputs(empty):
     with pytest.raises(pnmpipe.InputEmptyInput):
@@ -51,6 +78,16 @@ def test_chains():
         pnmpipe.check(" " * 4097)
     with pytest.raises(pnmpipe.Fault, match="^BadText$"):
         pnmpipe.check("\udcff")
+
+
+def test_chains_in_bytes():
+    pnmpipe.check(b"pnminvert")
+    assert pnmpipe.run(b"pamflip -null", IMAGE) == IMAGE
+    with pytest.raises(pnmpipe.ChainUnknownTool):
+        pnmpipe.check(b"pamflop")
+    for call in (pnmpipe.check, lambda it: pnmpipe.run(it, IMAGE), lambda it: pnmpipe.run_fd(it, 0, 1)):
+        with pytest.raises(TypeError, match="^a chain is a str, or bytes of UTF-8, and no list$"):
+            call(["pnminvert"])
 
 
 def test_faults():
@@ -78,6 +115,46 @@ def test_descriptors(tmp_path):
     with open(path, "rb") as source, open("/dev/full", "wb") as full:
         with pytest.raises(pnmpipe.OutputWriteFailed):
             pnmpipe.run_fd("pnminvert", source.fileno(), full.fileno())
+
+
+def test_files(tmp_path):
+    (tmp_path / "image").write_bytes(IMAGE)
+    with open(tmp_path / "image", "rb") as source, open(tmp_path / "same", "wb") as target:
+        assert pnmpipe.run_fd("pamflip -null", source, target) == (1, 3)
+        assert not source.closed and os.fstat(target.fileno()).st_size == len(IMAGE)
+    assert (tmp_path / "same").read_bytes() == IMAGE
+
+
+@pytest.mark.parametrize("number", [1 << 32, 1 << 31, -2, -(1 << 32)])
+def test_numbers_of_no_descriptor(number):
+    for words in ((number, 1), (0, number)):
+        with pytest.raises(ValueError, match=f"^{number} is no file descriptor$"):
+            pnmpipe.run_fd("pnminvert", *words)
+
+
+INTERRUPTED = """
+import os, signal, sys, pnmpipe
+try:
+    pnmpipe.run_fd("pnminvert", 0, 1)
+except KeyboardInterrupt:
+    os.fstat(0), os.fstat(1)
+    sys.exit(7 if signal.getsignal(signal.SIGINT) is signal.default_int_handler else 8)
+"""
+
+
+@pytest.mark.parametrize("side", [1, 1000])
+def test_interrupted(side):
+    """SIGINT ends a call that waits for more input, or for room for its results, and leaves the descriptors open."""
+    pipes = {"stdin": subprocess.PIPE, "stdout": subprocess.PIPE, "bufsize": 0}
+    with subprocess.Popen([sys.executable, "-c", INTERRUPTED], **pipes) as running:
+        try:
+            running.stdin.write(b"P5 %d %d 9 " % (side, side) + bytes(side * side))
+            # (it has begun to write, so it is in its call)
+            assert running.stdout.read(2) == b"P5"
+            running.send_signal(signal.SIGINT)
+            assert running.wait(60) == 7
+        finally:
+            running.kill()
 
 
 def test_interpreters_lock_is_free():
@@ -113,5 +190,22 @@ def test_arrays():
         pnmpipe.run_array("pnminvert", numpy.zeros((2, 2)))
 
 
+@pytest.mark.parametrize("order", ["<u2", ">u2"])
+def test_arrays_of_both_orders(order):
+    numpy = pytest.importorskip("numpy")
+    turned = pnmpipe.run_array("pnminvert", numpy.array([[0, 258, 65535]], order))
+    assert turned.dtype == numpy.uint16 and turned.tolist() == [[65535, 65277, 0]]
+
+
+@pytest.mark.parametrize("name", ["ENDHDR", "XENDHDR", "WIDTH", "ENDHDR=ENDHDR"])
+def test_arrays_of_types_like_headers(name):
+    numpy = pytest.importorskip("numpy")
+    gray = numpy.array([[1, 2], [3, 4]], numpy.uint8)
+    assert pnmpipe.run_array(f"pamchannel 0 -tupletype {name}", gray).tolist() == [[1, 2], [3, 4]]
+
+
 def test_version():
     assert pnmpipe.version().count(".") == 2
+    assert pnmpipe.__version__ == pnmpipe.version()
+    if os.environ.get("PNMPIPE_METADATA"):
+        assert importlib.metadata.version("pnmpipe") == pnmpipe.__version__

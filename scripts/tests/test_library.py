@@ -7,8 +7,8 @@ The library is linked, and exports the functions of its header alone. Each store
 that names a run is run through it, in memory and between descriptors, and has to be answered as the program answers it.
 Rows of all sizes go through each tool (test_rows.py). Each allocation is refused in turn; threads make calls at once,
 on a small stack; a C++ file and the examples are built; valgrind, where it is there, finds nothing; and the Python
-module passes its tests, where pytest is there. `--archive` names the static library, and `--program` a program beside
-which random cases are tried.
+module passes its tests, where pytest is there. mypy judges its types and those of a caller. `--archive` names the
+static library, and `--program` a program beside which random cases are tried.
 """
 
 import argparse
@@ -415,6 +415,16 @@ def faults_of_examples(built):
     yield from written_by("the README's line", [line], image, turned)
 
 
+def faults_of_types():
+    """What mypy says of the Python module and of a caller of it."""
+    if not shutil.which("mypy"):
+        print("test_library: mypy isn't installed, so the types of the Python module aren't judged")
+        return
+    with tempfile.TemporaryDirectory() as folder:
+        words = ["mypy", "--strict", "--ignore-missing-imports", "--cache-dir", folder, "pnmpipe", f"{TESTS}/caller.py"]
+        yield from ended_well("types", words, cwd=os.path.join(SOURCE, "python"))
+
+
 def faults_of_module(folder):
     """The tests of the Python module, by a Python that has pytest, and of the module in a wheel."""
     pythons = [it for it in (sys.executable, "/usr/bin/python3") if os.path.exists(it)]
@@ -426,8 +436,10 @@ def faults_of_module(folder):
     with zipfile.ZipFile(wheel.make(shared, folder)) as made:
         made.extractall(os.path.join(folder, "wheel"))
     modules = [os.path.join(SOURCE, "python"), os.path.join(folder, "wheel")]
-    for module, of_system in zip(modules, (shared, "")):
-        own = {"PYTHONPATH": module, "PNMPIPE_LIBRARY": of_system, "PYTHONDONTWRITEBYTECODE": "1"}
+    # (a wheel has its own library, and what is said of it)
+    for module, of_system, has_metadata in zip(modules, (shared, ""), ("", "yes")):
+        own = {"PYTHONPATH": module, "PNMPIPE_LIBRARY": of_system, "PNMPIPE_METADATA": has_metadata}
+        own["PYTHONDONTWRITEBYTECODE"] = "1"
         words = [python, "-m", "pytest", "-q", "-p", "no:cacheprovider", f"{TESTS}/test_pnmpipe.py"]
         yield from ended_well("the Python module", words, env={**os.environ, **own})
 
@@ -461,7 +473,7 @@ def main():
     parser.add_argument("--program", default=PROGRAM)
     parser.add_argument("--header", action="store_true", help="look at the header alone")
     words = parser.parse_args()
-    archive, found = words.archive, list(faults_of_header())
+    archive, found = words.archive, [*faults_of_header(), *faults_of_types()]
     if words.header:
         pass
     elif not library.compiler():

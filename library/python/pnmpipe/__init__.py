@@ -11,7 +11,10 @@ threads: the interpreter's lock is free while the tools run. What goes wrong is 
 from __future__ import annotations
 
 import ctypes
+import errno
 import os
+import signal
+import threading
 import typing
 
 if typing.TYPE_CHECKING:
@@ -23,8 +26,9 @@ if typing.TYPE_CHECKING:
         """The class of a fault: they are made of what the library has."""
 
 __all__ = ["Fault", "ChainFault", "InputFault", "ToolFault", "OutputFault", "MemoryFault", "Summary"]
-__all__ += ["check", "run", "run_array", "run_fd", "version"]
+__all__ += ["__version__", "check", "run", "run_array", "run_fd", "version"]
 
+Chain = typing.Union[str, bytes]
 Buffer = typing.Union[bytes, bytearray, memoryview, "Array"]
 
 _ABI = 1
@@ -82,6 +86,13 @@ class OutputFault(Fault, ValueError):
 
 class MemoryFault(Fault, MemoryError):
     """There was no memory."""
+
+
+class HasDescriptor(typing.Protocol):
+    """A file that has a descriptor."""
+
+    def fileno(self) -> int:
+        """The descriptor."""
 
 
 class Summary(typing.NamedTuple):
@@ -166,8 +177,12 @@ def _fault(code: int, number: int, results: bytes = b"") -> Fault:
     return _FAULTS.get(code, Fault)(code, _name(code), number, results)
 
 
-def _text(chain: str) -> bytes:
-    return chain.encode("utf-8", "surrogateescape")
+def _text(chain: Chain) -> bytes:
+    if isinstance(chain, bytes):
+        return chain
+    if isinstance(chain, str):
+        return chain.encode("utf-8", "surrogateescape")
+    raise TypeError(f"a chain is a str, or bytes of UTF-8, and no {type(chain).__name__}")
 
 
 def version() -> str:
@@ -176,7 +191,10 @@ def version() -> str:
     return told.decode("ascii")
 
 
-def check(chain: str) -> None:
+__version__ = version()
+
+
+def check(chain: Chain) -> None:
     """Raises a ChainFault where the chain's text is at fault."""
     text, stage = _text(chain), ctypes.c_size_t()
     code = _LIBRARY.pnmpipe_check(text, len(text), ctypes.byref(stage))
@@ -184,59 +202,130 @@ def check(chain: str) -> None:
         raise _fault(code, stage.value)
 
 
-def run(chain: str, data: Buffer, plain: bool = False) -> bytes:
+def run(chain: Chain, data: Buffer, plain: bool = False) -> bytes:
     """Passes the images of data through the tools of the chain. Gives the results: raw images, or a plain one."""
-    view = memoryview(typing.cast(bytes, data))
-    if isinstance(data, bytes):
-        given: typing.Any = data
-    elif view.readonly or not view.c_contiguous:
-        given = view.tobytes()
-    else:
-        given = (ctypes.c_char * view.nbytes).from_buffer(view)
-    text, answer, results = _text(chain), _Answer(), _Bytes()
-    pointer = ctypes.cast(given, ctypes.c_void_p)
-    try:
-        code = _LIBRARY.pnmpipe_run_new(
-            text, len(text), int(plain), pointer, view.nbytes, ctypes.byref(results), ctypes.byref(answer)
-        )
-        made = ctypes.string_at(results.at, results.length) if results.length else b""
-    finally:
-        _FREE(results.at)
+    code, number, made = _run_new(_text(chain), data, plain)
     if code:
-        raise _fault(code, answer.number, made)
+        raise _fault(code, number, made)
     return made
 
 
-def run_fd(chain: str, source: int, target: int, plain: bool = False) -> Summary:
-    """Passes the images that one descriptor gives through the tools, and writes the results to another. Both stay open."""
+def _run_new(text: bytes, data: Buffer, plain: bool) -> tuple[int, int, bytes]:
+    """The code, the number and the results of a call. It holds data until it returns, and no fault holds it longer."""
+    view = memoryview(typing.cast(bytes, data))
+    given: typing.Any = data
+    if not isinstance(data, bytes):
+        held = ctypes.c_char.from_buffer(view) if view.nbytes and view.c_contiguous and not view.readonly else None
+        given = view.tobytes() if held is None else ctypes.addressof(held)
+    answer, results = _Answer(), _Bytes()
+    try:
+        code = _LIBRARY.pnmpipe_run_new(
+            text, len(text), int(plain), given, view.nbytes, ctypes.byref(results), ctypes.byref(answer)
+        )
+        return code, answer.number, ctypes.string_at(results.at, results.length) if results.length else b""
+    finally:
+        _FREE(results.at)
+
+
+def run_fd(chain: Chain, source: int | HasDescriptor, target: int | HasDescriptor, plain: bool = False) -> Summary:
+    """Passes the images that one file gives through the tools, and writes the results to another: descriptors, or files
+    that have one, whose own buffers it passes by. Both stay open. In the main thread handlers of signals run meanwhile,
+    and one that raises, as that of SIGINT does, ends the call."""
     text, answer = _text(chain), _Answer()
-    code = _LIBRARY.pnmpipe_run_fd(text, len(text), int(plain), source, target, ctypes.byref(answer))
-    if code:
-        raise _fault(code, answer.number)
+    files = [_descriptor(source), _descriptor(target)]
+
+    def work(source: int, target: int) -> None:
+        _LIBRARY.pnmpipe_run_fd(text, len(text), int(plain), source, target, ctypes.byref(answer))
+
+    if threading.current_thread() is threading.main_thread():
+        _beside(work, files)
+    else:
+        work(*files)
+    if answer.code:
+        raise _fault(answer.code, answer.number)
     return Summary(answer.images, answer.rows)
 
 
-def run_array(chain: str, array: Array) -> Array:
+def _descriptor(file: int | HasDescriptor) -> int:
+    number = file if isinstance(file, int) else file.fileno()
+    if not -1 <= number < 1 << 31:
+        raise ValueError(f"{number} is no file descriptor")
+    return number
+
+
+def _duplicate(descriptor: int) -> int:
+    """Another descriptor of the same file; -1, at which a read or a write fails, where there is no such file."""
+    try:
+        return os.dup(descriptor)
+    except OSError as error:
+        if error.errno != errno.EBADF:
+            raise
+        return -1
+
+
+def _beside(work: typing.Callable[[int, int], None], files: list[int]) -> None:
+    """Works over files in another thread, while handlers of signals run in this one."""
+    own = [_duplicate(it) for it in files]
+    ended, left = threading.Event(), threading.Event()
+
+    def run() -> None:
+        try:
+            work(*own)
+        finally:
+            ended.set()
+            # (it is there as long as a signal may be sent to it)
+            left.wait()
+
+    thread = threading.Thread(target=run, daemon=True)
+    try:
+        thread.start()
+        ended.wait()
+    except BaseException:
+        if thread.ident is not None:
+            _end(thread.ident, own, ended)
+        raise
+    finally:
+        left.set()
+        for it in own:
+            if it >= 0:
+                os.close(it)
+
+
+def _end(thread: int, files: list[int], ended: threading.Event) -> None:
+    """Ends a thread's work over files: reads find the end from now on, writes fail, and a signal interrupts the one that
+    waits."""
+    null = os.open(os.devnull, os.O_RDONLY)
+    for it in files:
+        if it >= 0:
+            os.dup2(null, it)
+    os.close(null)
+    handler = signal.signal(signal.SIGINT, lambda *_: None)
+    signal.pthread_kill(thread, signal.SIGINT)
+    ended.wait()
+    signal.signal(signal.SIGINT, handler or signal.SIG_DFL)
+
+
+def run_array(chain: Chain, array: Array) -> Array:
     """Passes one image through the tools: an array of bool, uint8 or uint16 by row and column, and by plane where there
     are several. True is white. The result has as many dimensions as its planes want."""
     import numpy
 
     shape = array.shape if array.ndim == 3 else (*array.shape, 1)
-    if len(shape) != 3 or array.dtype not in (numpy.bool_, numpy.uint8, numpy.uint16):
+    kind = array.dtype.newbyteorder("=")
+    if len(shape) != 3 or kind not in (numpy.bool_, numpy.uint8, numpy.uint16):
         raise TypeError("an image is an array of bool, uint8 or uint16 in two or three dimensions")
-    maxval = 1 if array.dtype == numpy.bool_ else int(numpy.iinfo(array.dtype).max)
+    maxval = {1: 255, 2: 65_535}[kind.itemsize] if kind != numpy.bool_ else 1
     raster = numpy.ascontiguousarray(array, dtype=">u2" if maxval > 255 else numpy.uint8)
     lines = (b"P7", b"WIDTH %d" % shape[1], b"HEIGHT %d" % shape[0], b"DEPTH %d" % shape[2], b"MAXVAL %d" % maxval)
-    return _array_of(run(chain, b"\n".join([*lines, b"ENDHDR\n"]) + raster.tobytes()), array.dtype == numpy.bool_)
+    return _array_of(run(chain, b"\n".join([*lines, b"ENDHDR\n"]) + raster.tobytes()), kind == numpy.bool_)
 
 
 def _array_of(image: bytes, is_bool: bool) -> Array:
     """The samples of a PAM image that the library has written."""
     import numpy
 
-    head, _, raster = image.partition(b"ENDHDR\n")
-    lines = [line.partition(b" ") for line in head.split(b"\n")[1:-1]]
-    facts = {key: value for key, _, value in lines}
+    head, _, raster = image.partition(b"\nENDHDR\n")
+    facts = {key: value for key, _, value in (line.partition(b" ") for line in head.split(b"\n"))}
     height, width, depth, maxval = (int(facts[key]) for key in (b"HEIGHT", b"WIDTH", b"DEPTH", b"MAXVAL"))
     samples = numpy.frombuffer(raster, dtype=">u2" if maxval > 255 else numpy.uint8)
     samples = samples.reshape((height, width) if depth == 1 else (height, width, depth))
