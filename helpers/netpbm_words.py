@@ -80,8 +80,10 @@ class Call:
 
 def tool_of(word, anywhere=False):
     """The tool that a word names, by its own name or by a path of programs, or anywhere; None where it names none."""
-    folder, _, name = ("".join(word.parts) if anywhere else word.value or "").rpartition("/")
-    if folder and not anywhere and not FOLDER.fullmatch(folder):
+    folder, _, name = (word.value or "").rpartition("/")
+    if anywhere:
+        name = re.split(r"[^\w.-]", "".join(word.parts))[-1]
+    elif folder and not FOLDER.fullmatch(folder):
         return None
     return name if OLD_NAMES.get(name, name) in OPTIONS else None
 

@@ -157,7 +157,7 @@ def reason_to_keep_all(text, path):
         return "its lines end with CR LF, which no shell takes: make them end with LF, by `tr -d '\\r'` say"
     for end, what in OTHERS.items():
         if path.endswith(end):
-            return f"it is {what}, and no script of the shell"
+            return f"it is {what}, not a script of the shell"
     interpreter = re.match(r"#! *(?:/usr/bin/env +)?(\S+)", text)
     name = interpreter.group(1).rsplit("/", 1)[-1] if interpreter else "sh"
     return None if name in ("sh", "ash", "bash", "dash", "ksh", "mksh") else f"it is a script of {name}"

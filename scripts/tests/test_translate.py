@@ -135,6 +135,8 @@ NO_CALLS = [
     ("find . | xargs -0 pamcut", "1 pamcut: it is an argument of xargs"),
     ("cat <<E\na\npamcut $(pamcut f)\nE", "3 pamcut: it stands in a here document", "3 pamcut: it stands in a here"),
     ("$D/pamcut f", "1 $D/pamcut: another program may stand there"),
+    ("nice \"$D\"/pamcut f", '1 "$D"/pamcut: another program may stand there'),
+    ("${D}pamcut f", "1 ${D}pamcut: another program may stand there"),
     ("alias x=y pnminvert=cat", "1 pnminvert: it is an argument of alias"),
     ("alias x=y pnminvert=cat\npnminvert f", "1 pnminvert: it is", "2 pnminvert: a function or an alias"),
     ("pnminvert() { cat; }; pnminvert f", "1 pnminvert: a function", "1 pnminvert: it isn't surely a call"),
