@@ -183,19 +183,24 @@ def translated(text, path=""):
     return reading.rendered(0, len(text)), reading.said
 
 
-def in_pnmpipe(text):
-    """The call of pnmpipe that does what Netpbm's tools do with these words; none where pnmpipe-translate has none."""
+def translated_words(pipeline):
+    """The translation of a pipeline whose stages are lists of words, as a text of the shell."""
+    reading = Translation(" | ".join(map(shlex.join, pipeline)))
     stages, at = [], 0
-    for words in map(WORD.findall, text.split("|")):
+    for words in pipeline:
         end = at + len(shlex.join(words))
         stages.append(Stage(at, end, map(Word.of_text, words)))
         at = end + len(" | ")
-    reading = Translation(" | ".join(shlex.join(WORD.findall(stage)) for stage in text.split("|")))
+    reading.pipeline_ended(stages)
+    return reading.rendered(0, len(reading.text))
+
+
+def in_pnmpipe(text):
+    """The call of pnmpipe that does what Netpbm's tools do with these words; none where pnmpipe-translate has none."""
     try:
-        reading.pipeline_ended(stages)
+        made = translated_words([WORD.findall(stage) for stage in text.split("|")])
     except NoScript:
         return None
-    made = reading.rendered(0, len(reading.text))
     words = [word for word in shlex.split(made) if word != "--plain"]
     if words[:1] != ["pnmpipe"] or len(words) not in (2, 4) or words[2:3] not in ([], ["<"]):
         return None

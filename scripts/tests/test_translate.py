@@ -262,7 +262,6 @@ class Lacking(Folder):
             self.write("shfmt", b"#!/bin/sh\necho 'flag provided but not defined' >&2\nexit 2\n", 0o755)
 
 
-@wants("shfmt")
 class StandIns(Folder):
     """netpbm-shim makes of a tool's words what netpbm_words.py makes of them. It is a script for sh: one is started for
     each call, and python3 takes longer to start."""
@@ -288,7 +287,7 @@ class StandIns(Folder):
     def translated(self, words):
         """The chain of the call that words become; none where they stay as they are, or a stand-in hands them on: plain
         output, `pamdepth 1`, and what isn't there."""
-        call = shlex.split(translation.translated(shlex.join(words))[0])
+        call = shlex.split(translation.translated_words([words]))
         is_there = call[2:3] != ["<"] or os.path.isfile(self.path(call[3]))
         is_taken = call[0] == "pnmpipe" and call[1] not in ("--plain", "pamdepth 1") and is_there
         return call[1] if is_taken else ""
