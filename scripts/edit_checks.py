@@ -77,8 +77,8 @@ def messages(text):
 
 
 def function_of(folder, goal, lines):
-    """The function whose goal is answered in this folder of proofs, and the goal's name for it: of functions that are
-    proved together, whose folder begins with +, the goal's name begins with its function, or the folder ends with it."""
+    """The function whose goal is answered in this folder of proofs, and the goal's name for it. If functions are proved
+    together, their folder begins with +, and the goal's name with its function, or the folder ends with that."""
     module, plus, together = folder.replace("/", "::").partition("::+")
     if not plus:
         return module, goal

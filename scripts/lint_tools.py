@@ -210,6 +210,6 @@ def faults(read=lint_documents.read):
         text = read(path)
         found += [f"{path} has nothing of {name}" for name in names if not re.search(rf"\b{name}\b", text)]
     for path in sorted(filter(OF_LISTS.fullmatch, lint_documents.all_files())):
-        if os.path.isfile(os.path.join(ROOT, path)) and not path.endswith((".png", ".tsv")):
+        if os.path.isfile(os.path.join(ROOT, path)) and not path.endswith((".png", ".ppm", ".tsv")):
             found += faults_of_lists(path, names, read(path))
     return found

@@ -1,6 +1,6 @@
 #!/usr/bin/env python3
-"""Makes the pictures of the documents, docs/pictures: a test card that is drawn here, also as PPM for the README's first
-run, and what each tool makes of it.
+"""Makes the pictures of the documents, docs/pictures: a test card that is drawn here, also as PPM for the README's
+first run, and what each tool makes of it.
 
 With --check nothing is written: the pictures that are there have to be the same, pixel by pixel, as those that would be
 made. The diagram of threads is made here too, and the charts of figures (charts.py), where gnuplot is installed.
