@@ -13,7 +13,7 @@ import threading
 import typing
 
 from crates import Ended
-from rust_places import functions, is_name_of, module_of
+from rust_places import functions, is_name_of, module_of, modules_of_types
 
 SOURCES = ("src", "specs", "proofs")
 
@@ -175,18 +175,26 @@ class Crate:
             for function in functions(self.texts[file])
             if not is_test(self.texts[file], function)
         }
+        self.types = modules_of_types(self.texts)
         # the folders of proofs for which no hole can stand
         self.together = set()
         self.known = set()
         self.checks = self.seconds = 0
 
+    def module(self, file, function):
+        """The module by which a check names a function: of a type's own methods that of the type."""
+        is_method = function.owner and not function.trait
+        return self.types.get(function.owner, module_of(file)) if is_method else module_of(file)
+
     def symbols(self, place):
         """The names by which checks have told of the function and of the closures in it."""
-        return sorted(it for it in self.known if is_name_of(it, self.name, place[0], self.functions[place]))
+        function = self.functions[place]
+        module = self.module(place[0], function)
+        return sorted(it for it in self.known if is_name_of(it, self.name, module, function))
 
     def proof_folders(self, file, function):
         """The folders of a function's proof: of a trait's method where it is there, since its name may have more."""
-        start = "/".join([*module_of(file), ""])
+        start = "/".join([*self.module(file, function), ""])
         if not function.trait:
             return [f"{start}{function.owner}/{function.name}" if function.owner else f"{start}{function.name}"]
         begins = f"proofs/{start}{function.owner}{function.trait}"

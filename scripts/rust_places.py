@@ -10,6 +10,7 @@ HIDDEN = re.compile(
 )
 CLAUSE = re.compile(r"(requires|ensures)\b(?:\s*\*)?(?:\s+\w+)?\s*(?=\{)")
 FUNCTION = re.compile(r"\bfn\s+(\w+)\s*(?=[<(])")
+TYPE = re.compile(r"^(?:pub(?:\([a-z]+\))? )?(?:struct|enum) (\w+)", re.M)
 BLOCK = re.compile(r"^(?:pub(?:\([a-z]+\))? )?(?:unsafe )?(impl|trait)\b", re.M)
 
 
@@ -83,8 +84,9 @@ def blocks(text):
         trait, word, owner = header.rpartition(" for ")
         if found[1] == "trait":
             trait, owner = "", header.partition(":")[0]
-        # (a check names `&mut W` RefMut)
+        # (a check names `&mut W` RefMut, and u8 U8)
         owner = re.sub(r"^&mut .*", "RefMut", owner.strip())
+        owner = owner[:1].upper() + owner[1:]
         names = [it.strip().split("::")[-1].strip(" &") for it in (owner, trait if word else "")]
         yield re.match(r"\w*", names[0])[0], re.match(r"\w*", names[1])[0], opens, closed(text, opens)
 
@@ -107,9 +109,14 @@ def module_of(path):
     return [it for it in words if it not in ("lib", "main", "mod")]
 
 
-def is_name_of(symbol, crate, path, function):
-    """Whether a name that a check has printed may be this function's, or that of a closure in it."""
-    module = "::".join([crate, *module_of(path), ""])
+def modules_of_types(texts):
+    """The module of each type that these sources declare, by its name."""
+    return {name: module_of(path) for path, text in texts.items() if path.endswith(".rt") for name in TYPE.findall(text)}
+
+
+def is_name_of(symbol, crate, module, function):
+    """Whether a name that a check has printed may be that of this function of a module, or of a closure in it."""
+    module = "::".join([crate, *module, ""])
     if not symbol.startswith(module):
         return False
     words = symbol[len(module) :].split("::")
