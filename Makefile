@@ -64,6 +64,8 @@ gate:
 	python3 scripts/waits.py --program $(PROGRAM)/out/pnmpipe
 	python3 scripts/room.py --program $(PROGRAM)/out/pnmpipe
 	$(MAKE) --no-print-directory scripts BUILT=$(PROGRAM)/out/pnmpipe
+	python3 scripts/tests/test_kit.py
+	python3 scripts/tests/test_packages.py --program $(PROGRAM)/out/pnmpipe
 	python3 scripts/cases.py
 	python3 model/check.py --where-installed
 
@@ -72,7 +74,7 @@ lint:
 	python3 scripts/lint.py
 
 # lint, and the stored cases, the stored commands, rows of all sizes, the helpers, the pages' examples and pictures, and
-# whether functions have changed that the model restates: in a minute, and with what is installed
+# whether functions have changed that the model restates: in some minutes, and with what is installed
 BUILT ?= bin/pnmpipe
 scripts: lint
 	python3 scripts/tests/test_lint.py
@@ -88,8 +90,6 @@ scripts: lint
 	python3 scripts/tests/test_explain.py --program $(BUILT)
 	python3 scripts/tests/test_build.py
 	python3 scripts/tests/test_edits.py
-	python3 scripts/tests/test_kit.py
-	python3 scripts/tests/test_packages.py --program $(BUILT)
 	python3 scripts/tests/test_definitions_of.py
 	python3 scripts/tests/test_library.py --header
 	python3 scripts/tests/test_charts.py

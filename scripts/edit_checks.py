@@ -101,7 +101,7 @@ def read(text):
             name, said = found[1], found[2]
             lines[name] = said
             searched, stands = BY_SEARCH.search(said), BY_LEMMA.search(said)
-            for goal in re.findall(r"`([^`]*)`", searched[1] if searched else ""):
+            for goal in [*noted, *re.findall(r"`([^`]*)`", searched[1] if searched else "")]:
                 goals[name.partition("::")[2]][goal] = noted.get(goal, reason(""))
             lemmas[name] = re.findall(r"`([^`]*)`", stands[1] if stands else "")
             noted = {}

@@ -1,6 +1,6 @@
 #!/usr/bin/env python3
 """Tests of what make and the gate ask of the installed toolchain, over a repository of two crates: `make`, `rt ci` and
-the edits follow one another in one checkout. `make scripts` runs this where `rt` is installed."""
+the edits follow one another in one checkout. The gate runs this."""
 
 import os
 import shutil
