@@ -111,7 +111,8 @@ def module_of(path):
 
 def modules_of_types(texts):
     """The module of each type that these sources declare, by its name."""
-    return {name: module_of(path) for path, text in texts.items() if path.endswith(".rt") for name in TYPE.findall(text)}
+    sources = [(path, text) for path, text in texts.items() if path.endswith(".rt")]
+    return {name: module_of(path) for path, text in sources for name in TYPE.findall(text)}
 
 
 def is_name_of(symbol, crate, module, function):
