@@ -19,10 +19,10 @@ use Rattle.pnm_tools.specs.declared.fused_filter.FusedFilter.{FusedFilter}
 use Rattle.pnm_image.specs.Rows.{rows_list}
 use Rattle.pnm_tools.specs.Answering.{IsAnswering, rows_come}
 use Rattle.pnm_row_tools.specs.RowKeeping.{IsReadyForRows, HasTable, cut_of, HasSpans, FlipsInRows, IsReversingRows}
-use Rattle.pnm_geometry_tools.specs.Enlarging.{IsEnlarging}
-use Rattle.pnm_geometry_tools.specs.Keeping.{across_of, down_of, kept_rows, IsTransposing}
+use Rattle.pnm_repeat_tools.specs.Enlarging.{IsEnlarging}
+use Rattle.pnm_repeat_tools.specs.Keeping.{IsTiling, across_of, down_of, enlarged_due, kept_rows, tiled_due}
 use Rattle.pnm_row_tools.specs.RowKeeping.{reversed_due}
-use Rattle.pnm_geometry_tools.specs.Keeping.{IsTiling, enlarged_due, transposed_due, tiled_due}
+use Rattle.pnm_transpose.specs.Keeping.{IsTransposing, transposed_due}
 use Rattle.pnm_tools.specs.Channel.{HasPlanes}
 use Rattle.pnm_tools.specs.Depth.{rescaled_by}
 use Rattle.pnm_tools.specs.Invert.{inverting}

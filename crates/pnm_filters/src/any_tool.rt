@@ -1,9 +1,10 @@
 //! A tool at work, whichever it is.
 
-use pnm_geometry_tools::{Enlarger, Tiler, Transposer};
 use pnm_image::{Head, RepeatedRows, Rows, Shape};
+use pnm_repeat_tools::{Enlarger, Tiler};
 use pnm_row_tools::{ByRow, Cutter, Inverter, Rescaler, RowFlipper, RowReverser, Samplewise};
 use pnm_tools::{ImageTool, Planes, ToolFault};
+use pnm_transpose::Transposer;
 use std::alloc::Global;
 
 /// What the tool at work does, whichever it is.

@@ -4,8 +4,8 @@ ghost use Rattle.std.specs.Prelude.{◌≡◌, ◌⊎◌, IfOk, IfErr, Ok, Err};
 ghost use Rattle.pnm_tools.specs.declared.fault.ToolFault.TheVariants.{Memory};
 ghost use Rattle.pnm_tools.specs.Tools.{IsLawfulTool, TakesHead, result_head};
 
-use pnm_geometry_tools::{Enlarger, Tiler};
 use pnm_image::Head;
+use pnm_repeat_tools::{Enlarger, Tiler};
 use pnm_row_tools::{Cutter, Inverter, RowTool, SampleTool, picked_head, rescaled_head};
 use pnm_tools::{ImageTool, Tool, ToolFault, flipped_head};
 use std::alloc::Global;

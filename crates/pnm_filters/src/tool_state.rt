@@ -8,11 +8,12 @@ ghost use Rattle.pnm_tools.specs.Tools.{IsLawfulTool};
 
 use crate::any_tool::AnyTool;
 use crate::state::State;
-use pnm_geometry_tools::{Enlarger, Tiler, Transposer};
+use pnm_repeat_tools::{Enlarger, Tiler};
 use pnm_row_tools::{
     ByRow, Cutter, Inverter, Rescaler, RowFlipper, RowReverser, RowTool, Samplewise,
 };
 use pnm_tools::{FlipWay, FusedFilter, Tool, ToolFault};
+use pnm_transpose::Transposer;
 use std::alloc::Global;
 
 /// A tool of a chain at work on a stream.

@@ -5,7 +5,7 @@ use Rattle.std.specs.List.{concat}
 use Rattle.std.proofs.lemmas.List.{drop_at, drop-append-le, drop-drop, get_or_default, length-append, length-drop, length-take-le, nil_from_length}
 use Rattle.std.proofs.lemmas.List.{take_at, take_all, take-append-le, take-take, drop-take}
 use Rattle.std.proofs.lemmas.Bool.{cases_lt}
-use Rattle.std.proofs.lemmas.List.Elements.{All-cons, All-drop, All-from_recursion, All-head, All-nil, All-tail, All-take}
+use Rattle.std.proofs.lemmas.List.Elements.{All-append, All-cons, All-drop, All-from_recursion, All-head, All-nil, All-tail, All-take}
 use Rattle.pnm_samples.proofs.CutLaws.{length-cut_rows}
 use Rattle.pnm_samples.proofs.PixelLaws.{length-all_pixels}
 use Rattle.pnm_samples.proofs.PixelRowsLaws.{length_of_rows}
@@ -14,7 +14,8 @@ use Rattle.pnm_samples.specs.PixelRows.{bytes_for, rows_of_bytes}
 use Rattle.pnm_samples.specs.Pixels.{all_pixels}
 use Rattle.pnm_image.specs.declared.rows.RowVec.{RowVec}
 use Rattle.pnm_image.specs.declared.rows.RowVec.TheVariants.{Bits, Bytes, Words}
-use Rattle.pnm_image.specs.HeldRows.{AreRows, AreRowsWithin, row_lists}
+use Rattle.pnm_image.specs.declared.rows.RowSlice.{RowSlice}
+use Rattle.pnm_image.specs.HeldRows.{AreRows, AreRowsWithin, HasAdded, row_lists}
 use Rattle.pnm_image.proofs.RowLaws.{lengths_of_cut_rows, row_ends_within}
 
 -- there are as many as it says
@@ -152,6 +153,37 @@ cut_both (suc count) more each held rest long =
     ap (λ (n : ℕ). cut_rows n each (held ++ rest)) next
     ∙ ap₂ (λ (r : List ℕ) (l : List ℕ). r ∷ cut_rows (count + more) each l) first left
     ∙ ap (λ (l : List (List ℕ)). take each held ∷ l) (cut_both count more each (drop each held) rest (omega (arith, length-drop each held, total)))
+
+-- as many samples as both
+length_of_both : (count more each : ℕ) (held rest : List ℕ) → length held ≡ count * each → length rest ≡ more * each
+    → length (held ++ rest) ≡ (count + more) * each
+length_of_both count more each held rest long also = omega (arith, length-append held rest, long, also)
+
+-- what is held then
+pub cut_behind : (count more each : ℕ) (held rest both : List ℕ) → both ≡ held ++ rest → length held ≡ count * each → length rest ≡ more * each
+    → (cut_rows (count + more) each both ≡ cut_rows count each held ++ cut_rows more each rest) × (length both ≡ (count + more) * each)
+cut_behind count more each held rest both is long also = (
+  ap (cut_rows (count + more) each) is ∙ cut_both count more each held rest long,
+  ap length is ∙ length_of_both count more each held rest long also,
+)
+
+pub bits_behind : (count more each : ℕ) (held rest both : List (List ℕ)) → both ≡ held ++ rest
+    → (length held ≡ count) × All (λ row. length row ≡ each) held → (length rest ≡ more) × All (λ row. length row ≡ each) rest
+    → (both ≡ held ++ rest) × ((length both ≡ count + more) × All (λ row. length row ≡ each) both)
+bits_behind count more each held rest both is h k = (
+  is,
+  (
+    ap length is ∙ length-append held rest ∙ omega (arith, h.0, k.0),
+    subst (λ (rows : List (List ℕ)). All (λ (row : List ℕ). length row ≡ each) rows) (sym is)
+        (All-append (λ (row : List ℕ). length row ≡ each) held rest h.1 k.1),
+  ),
+)
+
+-- what is so of rows that are held and lent is so of them by other names
+pub added_as : (old other new next : RowVec) (more lent : RowSlice) → old ≡ other → new ≡ next → more ≡ lent → HasAdded other lent next → HasAdded old more new
+added_as old other new next more lent olds news mores h =
+    subst (λ (o : RowVec). HasAdded o more new) (sym olds)
+    (subst (λ (n : RowVec). HasAdded other more n) (sym news) (subst (λ (m : RowSlice). HasAdded other m next) (sym mores) h))
 
 -- ---- rows of pixels
 

@@ -1,5 +1,5 @@
 -- How rows that come together are held.
-use Rattle.std.specs.Prelude.{◌≡◌, ℕ, ◌*◌, ◌≤◌, List, length, All}
+use Rattle.std.specs.Prelude.{◌≡◌, ℕ, ◌+◌, ◌*◌, ◌≤◌, List, ◌++◌, length, All}
 use Rattle.pnm_image.specs.declared.rows.RowVec.{RowVec}
 use Rattle.pnm_image.specs.declared.rows.RowVec.TheVariants.{Bits, Bytes, Words}
 use Rattle.pnm_image.specs.declared.rows.RowSlice.{RowSlice}
@@ -32,3 +32,16 @@ AreSliceRows count each (SliceWords words) = length words.now ≡ count * each
 -- no sample is above this number
 abbrev pub AreRowsWithin : ℕ → List (List ℕ) → Type 0
 AreRowsWithin bound rows = All (λ row. All (λ sample. sample ≤ bound) row) rows
+
+-- these rows are held, so many of so many samples, and no sample more
+abbrev pub HoldsRows : ℕ → ℕ → List (List ℕ) → RowVec → Type 0
+HoldsRows count each rows held = (row_lists count each held ≡ rows) × AreRows count each held
+
+-- the same rows are held as before, however many they were, and however long
+abbrev pub HoldsSame : RowVec → RowVec → Type 0
+HoldsSame old new = (count each : ℕ) → AreRows count each old → HoldsRows count each (row_lists count each old) new
+
+-- the rows that are lent stand behind those that were held, however many and long both were
+abbrev pub HasAdded : RowVec → RowSlice → RowVec → Type 0
+HasAdded old more new = (count more_count each : ℕ) → AreRows count each old → AreSliceRows more_count each more
+    → HoldsRows (count + more_count) each (row_lists count each old ++ slice_lists more_count each more) new

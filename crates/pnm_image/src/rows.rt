@@ -1,10 +1,11 @@
 //! Several rows of an image in one.
 
 ghost use Rattle.std.specs.Prelude.{◌≡◌, ℕ, ◌≤◌, ◌<◌, ◌+◌, ◌*◌, ◌↔◌, All, IsTrue, IfOk, length, take, drop, ◌++◌, ◌∷◌};
-ghost use Rattle.std.specs.Prelude.{[], IfErr, get_or};
+ghost use Rattle.std.specs.Prelude.{[], IfErr, IsFalse, OnErr, get_or};
 ghost use Rattle.pnm_samples.specs.Cuts.{cut_rows};
 ghost use Rattle.pnm_samples.specs.SampleVecs.{HasWhiteSpare, samples_of, slice_samples};
-ghost use Rattle.pnm_image.specs.HeldRows.{AreRows, AreRowsWithin, AreSliceRows, row_lists, slice_lists};
+ghost use Rattle.pnm_image.specs.HeldRows.{AreRows, AreRowsWithin, AreSliceRows, HasAdded, HoldsSame, row_lists};
+ghost use Rattle.pnm_image.specs.HeldRows.{slice_lists};
 
 use pnm_samples::{BitRows, Bits, SampleSlice, SampleVec, Samples, bytes_to_words};
 use std::alloc::{AllocError, Global};
@@ -42,6 +43,30 @@ impl RowVec {
             RowVec::Bits(rows) => RowSlice::Bits(rows),
             RowVec::Bytes(bytes) => RowSlice::Bytes(bytes.as_slice()),
             RowVec::Words(words) => RowSlice::Words(words.as_slice()),
+        }
+    }
+
+    /// Adds rows behind those that are held. Returns false, and adds nothing, if they aren't held alike.
+    ///
+    /// # Errors
+    ///
+    /// If there is no memory for them. Then nothing has changed.
+    pub fn append(&mut self, more: RowSlice<'_>) -> Result<bool, AllocError>
+        ensures added { IfOk result (λ done. IsTrue done → HasAdded self.old more.entry self.new) }
+        ensures same { IfOk result (λ done. IsFalse done → HoldsSame self.old self.new) }
+        ensures failed { OnErr result (HoldsSame self.old self.new) }
+    {
+        match (self, more) {
+            (RowVec::Bits(rows), RowSlice::Bits(more)) => rows.append(more),
+            (RowVec::Bytes(bytes), RowSlice::Bytes(more)) => {
+                bytes.extend_from_slice(more)?;
+                Ok(true)
+            }
+            (RowVec::Words(words), RowSlice::Words(more)) => {
+                words.extend_from_slice(more)?;
+                Ok(true)
+            }
+            _ => Ok(false),
         }
     }
 }

@@ -1,8 +1,8 @@
 -- The rows of images that are made of the pixels of another image.
 use Rattle.std.proofs.Common.{◌≡◌, ℕ, suc, ◌+◌, ◌*◌, ◌<◌, ◌≤◌, List, length, slice_index, take, drop, map, sym, ap, ◌∙◌, arith, add-mul, mul_assoc, mul-le-mul}
-use Rattle.std.proofs.Common.{suc-mul}
+use Rattle.std.proofs.Common.{suc-mul, [], ◌∷◌, get_or}
 use Rattle.std.specs.List.{flat_map, range_with_len}
-use Rattle.std.proofs.lemmas.List.{length-drop, length-take-le, get_or-take, get_or-drop, map-id}
+use Rattle.std.proofs.lemmas.List.{drop_more, length-drop, length-take-le, get_or-take, get_or-drop, map-id}
 use Rattle.std.proofs.lemmas.List.FromFn.{fill_by_all}
 use Rattle.pnm_image.specs.declared.shape.Shape.{Shape}
 use Rattle.pnm_image.specs.Heads.{HeadValue, row_length}
@@ -72,3 +72,27 @@ rows_by_rows i height line is in_image =
     rows_of-image_by (resized s.width height i.head) (λ x y p. sample_at i x (line y) p)
     ∙ range_alike (λ y. columns 0 s.width s.depth (λ x p. sample_at i x (line y) p)) (λ y. row_at i (line y)) 0 height
     (λ y row. whole_row i (line y) is (in_image y (omega arith)))
+
+-- ---- pixels of a few samples
+
+-- a pixel of one sample
+pub pixel_of_one : {X : Type 0} (row : List X) (i : ℕ) (v : X) → i < length row → v ≡ get_or row i v → pixel_of 1 row i ≡ v ∷ []
+pixel_of_one {X = X} row i v lt is =
+    let place : i * 1 ≡ i = omega arith in
+    ap (λ (k : ℕ). take 1 (drop k row)) place ∙ ap (take 1) (drop_more row i v lt) ∙ ap (λ (x : X). x ∷ []) (sym is)
+
+-- three samples that stand side by side
+pub three_samples : {X : Type 0} (row : List X) (n : ℕ) (a b c : X) → n + 3 ≤ length row → a ≡ get_or row n a → b ≡ get_or row (n + 1) b
+    → c ≡ get_or row (n + 2) c → a ∷ b ∷ c ∷ [] ≡ take 3 (drop n row)
+three_samples {X = X} row n a b c fits first second third =
+    let next : (n + 1) + 1 ≡ n + 2 = omega arith in
+    sym (
+    ap (take 3) (drop_more row n a (omega arith)) ∙ ap (λ (y : X). y ∷ take 2 (drop (n + 1) row)) (sym first)
+    ∙ ap (λ (l : List X). a ∷ take 2 l) (drop_more row (n + 1) b (omega arith)) ∙ ap (λ (y : X). a ∷ y ∷ take 1 (drop ((n + 1) + 1) row)) (sym second)
+    ∙ ap (λ (k : ℕ). a ∷ b ∷ take 1 (drop k row)) next
+    ∙ ap (λ (l : List X). a ∷ b ∷ take 1 l) (drop_more row (n + 2) c (omega arith)) ∙ ap (λ (y : X). a ∷ b ∷ y ∷ []) (sym third)
+    )
+
+-- a pixel of three samples
+pub color_of : {X : Type 0} (row color : List X) (n x : ℕ) → color ≡ take 3 (drop n row) → n ≡ 3 * x → color ≡ pixel_of 3 row x
+color_of {X = X} row color n x is place = is ∙ ap (λ (k : ℕ). take 3 (drop k row)) (omega (arith, place))

@@ -3,7 +3,9 @@
 //! and pnmtile(1).
 #![tactic(auto)]
 
+mod buffer;
 mod channel;
+mod color;
 mod cut;
 mod fault;
 mod filter;
@@ -13,9 +15,12 @@ mod head;
 mod image_tool;
 pub mod laws;
 mod limits;
+mod together;
 mod tool;
 
+pub use buffer::store;
 pub use channel::Planes;
+pub use color::color_at;
 pub use cut::{CutBox, Span};
 pub use fault::ToolFault;
 pub use filter::Filter;
@@ -24,4 +29,5 @@ pub use fused_filter::FusedFilter;
 pub use head::{flipped_head, head_within_limits};
 pub use image_tool::ImageTool;
 pub use limits::{MAX_EXTENT, MAX_TOOLS};
+pub use together::count_together;
 pub use tool::Tool;

@@ -1,6 +1,0 @@
-use Rattle.pnm_geometry_tools.specs.ColumnBatches.{AreBlank}
-use Rattle.pnm_geometry_tools.proofs.batch.blank_columns.Given as goal
-
--- so many columns are there
-abbrev pub invariant-loop : goal.invariant-loop
-invariant-loop g l = AreBlank l.counter l.samples l.columns.items

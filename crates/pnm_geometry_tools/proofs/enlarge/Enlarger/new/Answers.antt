@@ -1,6 +1,0 @@
-use Rattle.std.proofs.Common.{arith}
-use Rattle.std.proofs.lemmas.Grind.{common_steps}
-use Rattle.pnm_geometry_tools.proofs.enlarge.Enlarger.new.Goals as goal
-
-pub returns-clause-down : goal.returns-clause-down
-returns-clause-down c = grind (arith, common_steps)

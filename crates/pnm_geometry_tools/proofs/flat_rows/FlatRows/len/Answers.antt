@@ -1,7 +1,0 @@
-use Rattle.std.proofs.Common.{length, sym, ap, ◌∙◌}
-use Rattle.pnm_geometry_tools.proofs.FlatRowsLaws.{length_of_ordered}
-use Rattle.pnm_geometry_tools.proofs.flat_rows.FlatRows.len.Goals as goal
-
-pub returns : goal.returns
-returns g c =
-    sym (length_of_ordered c.self.inside.is_reversed c.self.inside.count c.self.inside.each c.self.inside.samples.items) ∙ ap length c.self.view_is

@@ -1,7 +1,0 @@
-use Rattle.std.proofs.Common.{◌≡◌, ◌*◌, take}
-use Rattle.pnm_geometry_tools.proofs.EnlargeRowLaws.{columns_repeated}
-use Rattle.pnm_geometry_tools.proofs.repeat.double_samples.Given as goal
-
--- the samples that have passed stand twice
-abbrev pub invariant-loop-i : goal.invariant-loop-i
-invariant-loop-i g l = take (2 * l.i) l.buffer ≡ columns_repeated 2 1 l.row l.i

@@ -1,4 +1,0 @@
-use Rattle.pnm_geometry_tools.proofs.repeat.put_twice.Goals as goal
-
-pub returns-clause-stored : goal.returns-clause-stored
-returns-clause-stored g c = c.store.ensures

@@ -1,7 +1,0 @@
-use Rattle.std.proofs.Common.{◌≡◌, ◌++◌, take}
-use Rattle.std.specs.List.{flat_map}
-use Rattle.pnm_geometry_tools.proofs.strip.add_columns.Given as goal
-
--- the columns that have passed stand in the strip
-abbrev pub invariant-loop-column : goal.invariant-loop-column
-invariant-loop-column g l = l.strip.items ≡ l.initial.strip.items ++ flat_map (λ column. column.items) (take l.column-index l.column-items)

@@ -1,5 +1,0 @@
-use Rattle.std.proofs.Common.{rules}
-use Rattle.pnm_geometry_tools.proofs.tile.Tiler.new.Goals as goal
-
-pub returns-clause-height : goal.returns-clause-height
-returns-clause-height c = search rules

@@ -1,5 +1,0 @@
-use Rattle.std.proofs.Common.{rules}
-use Rattle.pnm_geometry_tools.proofs.transpose.Transposer.new.Goals as goal
-
-pub returns-clause-way : goal.returns-clause-way
-returns-clause-way c = search rules

@@ -1,0 +1,5 @@
+use Rattle.std.proofs.Common.{rules}
+use Rattle.pnm_repeat_tools.proofs.tile.Tiler.new.Goals as goal
+
+pub returns-clause-height : goal.returns-clause-height
+returns-clause-height c = search rules

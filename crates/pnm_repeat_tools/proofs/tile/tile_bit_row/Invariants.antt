@@ -1,0 +1,8 @@
+use Rattle.std.proofs.Common.{◌≡◌, ◌*◌, ◌++◌, take}
+use Rattle.pnm_samples.specs.Pixels.{all_pixels}
+use Rattle.pnm_tools.specs.Tile.{tiled_row}
+use Rattle.pnm_repeat_tools.proofs.tile.tile_bit_row.Given as goal
+
+-- so many whole rows stand behind what stood
+abbrev pub invariant-loop : goal.invariant-loop
+invariant-loop l = l.tiled ≡ l.fn.tiled ++ tiled_row (l.counter * l.fn.each) l.fn.each 1 (take l.fn.each (all_pixels l.fn.bytes))

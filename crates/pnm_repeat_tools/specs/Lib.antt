@@ -1,0 +1,2 @@
+pub mod Enlarging
+pub mod Keeping

@@ -1,0 +1,5 @@
+use Rattle.std.proofs.Common.{rules}
+use Rattle.pnm_transpose.proofs.transpose.Transposer.new.Goals as goal
+
+pub returns-clause-way : goal.returns-clause-way
+returns-clause-way c = search rules

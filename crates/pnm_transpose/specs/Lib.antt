@@ -1,0 +1,6 @@
+pub mod ColumnBatches
+pub mod FlatRows
+pub mod Strips
+pub mod SampleRows
+pub mod HeldColumns
+pub mod Keeping

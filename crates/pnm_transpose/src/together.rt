@@ -1,0 +1,70 @@
+//! Columns of a batch that are given together.
+
+ghost use Rattle.std.specs.Prelude.{◌≡◌, ◌+◌, ◌++◌, [], ℕ, IfOk, IfErr, IfNone, IsTrue, IsFalse, reverse};
+ghost use Rattle.pnm_tools.specs.declared.fault.ToolFault.TheVariants.{Memory};
+ghost use Rattle.pnm_image.specs.Rows.{rows_list};
+ghost use Rattle.pnm_transpose.specs.HeldColumns.{HasTaken, HoldsWithin};
+
+use pnm_image::{RowVec, Rows, Samples};
+use pnm_tools::{ToolFault, count_together};
+
+/// The most rows that `next_columns` gives together.
+const MOST_ROWS: u32 = 256;
+
+/// Takes the next columns of a batch, whose last column is the next one: as many together as are short and alike, or
+/// one. The only fault is `Memory`.
+pub(crate) fn next_columns(batch: &mut Vec<Samples>) -> Result<Option<Rows>, ToolFault>
+    ensures given { IfOk result (λ rows. reverse batch.old.items ≡ rows_list rows ++ reverse batch.new.items) }
+    ensures all { IfOk result (λ rows. IfNone rows (batch.new.items ≡ [])) }
+    ensures refused { IfErr result (λ fault. fault ≡ Memory) }
+{
+    let Some(first) = batch.pop() else {
+        return Ok(None);
+    };
+    let first = Rows::one(first);
+    let mut bound = first.bound();
+    let (mut held, mut count, each) = first.into_parts();
+    let most = count_together(each, MOST_ROWS);
+    while count < most {
+        if !take_next(batch, &mut held, &mut bound, each)? {
+            break;
+        }
+        count += 1;
+    }
+    Ok(Some(Rows::new(held, bound, count, each)))
+}
+
+/// Moves the next column of a batch to those that are held, which have `each` samples and none above `bound`. Returns
+/// false if no column is left, or if the next one has another length or is held otherwise: then it stays in the batch.
+/// The only fault is `Memory`.
+fn take_next(
+    batch: &mut Vec<Samples>,
+    held: &mut RowVec,
+    bound: &mut u32,
+    each: usize,
+) -> Result<bool, ToolFault>
+    ensures taken { IfOk result (λ done. IsTrue done → (count : ℕ)
+        → HoldsWithin count each bound.old held.old
+        → HasTaken count each held.old batch.old.items (count + 1) held.new batch.new.items
+        × HoldsWithin (count + 1) each bound.new held.new) }
+    ensures same { IfOk result (λ done. IsFalse done → (count : ℕ)
+        → HoldsWithin count each bound.old held.old
+        → HasTaken count each held.old batch.old.items count held.new batch.new.items
+        × HoldsWithin count each bound.new held.new) }
+    ensures refused { IfErr result (λ fault. fault ≡ Memory) }
+{
+    let Some(next) = batch.pop() else {
+        return Ok(false);
+    };
+    if next.len() != each {
+        batch.push(next)?;
+        return Ok(false);
+    }
+    let next = Rows::one(next);
+    if !held.append(next.as_slice())? {
+        batch.push(next.into_first())?;
+        return Ok(false);
+    }
+    *bound = (*bound).max(next.bound());
+    Ok(true)
+}
