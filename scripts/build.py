@@ -48,14 +48,24 @@ def say(text):
     print(f"build: {text}", flush=True)
 
 
-def processors():
+def given_jobs():
+    """How many processors RT_JOBS gives; 0 if it gives none."""
     given = os.environ.get("RT_JOBS", "")
-    return int(given) if given.isdigit() and int(given) else len(os.sched_getaffinity(0))
+    return int(given) if given.isdigit() else 0
+
+
+def processors():
+    return given_jobs() or len(os.sched_getaffinity(0))
 
 
 def free_memory():
     with open("/proc/meminfo", encoding="ascii") as file:
         return next(1024 * int(line.split()[1]) for line in file if line.startswith("MemAvailable"))
+
+
+def most_checks():
+    """How many checks may run side by side: as many as RT_JOBS says, or one a processor, as far as there is memory."""
+    return given_jobs() or max(1, min(processors(), free_memory() // MEMORY_OF_ONE))
 
 
 def told_by_rt(word):
@@ -374,7 +384,7 @@ class Build:
 
 def build(targets, room):
     start = time.monotonic()
-    this = Build(Toolchain(), max(1, min(processors(), free_memory() // MEMORY_OF_ONE)), room, targets)
+    this = Build(Toolchain(), most_checks(), room, targets)
     taken = f"; {len(this.done)} were proved before" if this.done else ""
     named = "program and the library" if LIBRARY in targets else "program"
     say(f"{len(this.crates)} crates, the {named} among them, on {processors()} processors{taken}")

@@ -25,7 +25,7 @@ import sys
 import tempfile
 import typing
 
-from build import MEMORY_OF_ONE, Toolchain, free_memory, processors
+from build import Toolchain, most_checks
 from crates import ROOT, Ended, end_by_signals, read_crates
 from edit_checks import CHECKS, LIMIT, WHOLE, Crate, named
 from rust_places import blanked, functions
@@ -285,10 +285,9 @@ def plan(crate, changes):
 def try_crates(crates, logs):
     """Tries the edits and controls of the crates, and tells of each. Gives the status."""
     total = failed = at_limit = checks = seconds = 0
-    most = max(1, min(processors(), free_memory() // MEMORY_OF_ONE))
     # the largest first: what a crate's edits take goes by its size
     crates = sorted(crates, key=lambda it: -sum(len(text) for text in it[0].texts.values()))
-    with concurrent.futures.ThreadPoolExecutor(most) as pool:
+    with concurrent.futures.ThreadPoolExecutor(most_checks()) as pool:
         try:
             for judge in pool.map(lambda it: tried(*it, logs), crates):
                 crate, count = judge.crate, len(judge.told)

@@ -497,7 +497,7 @@ class Program(unittest.TestCase):
 
     def test_page(self):
         with open(f"{ROOT}/man/pnmpipe-explain.1", encoding="utf-8") as file:
-            blocks = re.findall(r"^\.Bd -\w+ .*\n((?:[^.].*\n|\n)*)\.Ed", file.read(), re.M)
+            blocks = re.findall(r"^\.Bd -\w+.*\n((?:[^.].*\n|\n)*)\.Ed", file.read(), re.M)
         command, wanted, _ = (text.replace(r"\(aq", "'").replace(r"\(ha", "^") for text in blocks)
         done = run(["sh", "-c", command], env={**os.environ, "PATH": f"{HELPERS}:{os.environ['PATH']}"})
         self.assertEqual((done.stdout.decode(), done.returncode), (wanted, 1))
