@@ -162,13 +162,12 @@ pictures: built
 recipes: built
 	python3 scripts/recipes.py
 
-# whether the program that make has left works: the stored commands, rows of all sizes beside what the judge works out, the
-# pages' examples, and the stored cases judged again; nothing is proved
+# whether the program that make has left works: the stored commands, rows of all sizes beside what the judge works out, and
+# the pages' examples; nothing is proved
 test: built
 	python3 scripts/tests/test_commands.py --program $(BUILT)
 	python3 scripts/tests/test_rows.py --program $(BUILT)
 	python3 scripts/tests/test_pages.py --program $(BUILT)
-	python3 scripts/cases.py
 
 # the program that make has left beside Netpbm's own tools, where these are installed: a table, for a quiet machine, and
 # the figures of the documents, which `make scripts` then wants in their tables
@@ -226,7 +225,7 @@ help:
 	@echo "make library         does what make does, and beside it the same for the C library, as bin/libpnmpipe.a and bin/libpnmpipe.so.1, with bin/pnmpipe.h"
 	@echo "make near CRATES=..  tries changed crates in minutes: layout, proof, edits that must fail and their controls, tests as they stand, and the crates above"
 	@echo "make pass CRATES=..  proves changed crates, their tests and edits from nothing, as the gate does, with what they stand on"
-	@echo "make test            whether the program that make has left works: the stored commands, rows of all sizes, the pages' examples, the stored cases; no proof"
+	@echo "make test            whether the program that make has left works: the stored commands, rows of all sizes, the pages' examples; no proof"
 	@echo "make check           the whole gate: every proof, the edits that must fail and their controls, the tests, the stored runs and commands, refused allocations, silent inputs, small stacks, the C library, scripts and pages, the model"
 	@echo "make bench           times the program that make has left beside Netpbm's own tools, on large images, narrow rows and small images, and writes docs/figures.tsv"
 	@echo "make bench-sweep     all tools by kinds of images and by options, and which take more processor time than Netpbm's"
