@@ -40,7 +40,7 @@ WHOLE = ("no holes", "depends on a hole in", "proved")
 # how the last line of a check begins that came to a verdict
 VERDICTS = ("logic=", "only=", "holes=")
 
-# why a goal is open, by words of the prover's; the last that fits no other is a bound of a tactic, at which it gave up
+# why a goal is open, by words of the prover's
 DIFFERS = re.compile(r"types (?:first |)differ|the two types are")
 IS_FALSE = re.compile(r"does not follow|at which this goal is false|Every way was tried")
 AT_A_LIMIT = re.compile(r"one of its limits|its own limit|broke off|step limit|bound of its own|lemmas still to try")
@@ -103,7 +103,8 @@ def read(text):
             searched, stands = BY_SEARCH.search(said), BY_LEMMA.search(said)
             for goal in [*noted, *re.findall(r"`([^`]*)`", searched[1] if searched else "")]:
                 goals[name.partition("::")[2]][goal] = noted.get(goal, reason(""))
-            lemmas[name] = re.findall(r"`([^`]*)`", stands[1] if stands else "")
+            refused = re.findall(r"`([^`]*)`", stands[1] if stands else "")
+            lemmas[name] = [it for it in refused if ".Answers." not in it]
             noted = {}
     for folder, goal, why in answered:
         function, goal = function_of(folder, goal, lines)

@@ -85,7 +85,8 @@ def header_of(text, function):
 
 
 def function_at(text, old, new):
-    """The name of the function whose body a step changes; an empty one if the step only adds functions; else None."""
+    """The name of the function whose body a step changes; an empty one if the step only adds functions, or changes the
+    words that clauses import; else None."""
     at, changed = text.find(old), text.replace(old, new)
     before, after = list(functions(text)), list(functions(changed))
     held = [number for number, it in enumerate(before) if it.start <= at and at + len(old) <= it.end]
@@ -93,9 +94,10 @@ def function_at(text, old, new):
         number = max(held, key=lambda it: before[it].start)
         is_kept = len(before) == len(after) and header_of(text, before[number]) == header_of(changed, after[number])
         return named(before[number]) if is_kept else None
-    is_comment = not blanked(text)[at : at + len(old)].strip()
+    is_import = all(it.startswith("ghost use ") for it in (old, new))
+    is_beside = is_import or not blanked(text)[at : at + len(old)].strip()
     names = [[named(it) for it in found] for found in (before, after)]
-    return () if is_comment and all(names[0].count(it) == names[1].count(it) for it in names[0]) else None
+    return () if is_beside and all(names[0].count(it) == names[1].count(it) for it in names[0]) else None
 
 
 def functions_of(texts, steps):
@@ -150,8 +152,9 @@ def change_of(crate, kind, name, steps):
         return Change(kind, name, steps, frozenset({LIMITS}), clause_on(crate, constant), True)
     if constant:
         return Change(kind, name, steps, users_of(crate, constant), "", False)
-    own = functions_of(crate.texts, [it for it in steps if it[0].endswith(".rt")])
-    return Change(kind, name, steps, own | {it for it in crate.functions if it[0] == LAWS}, "", False)
+    of_code = [it for it in steps if it[0].endswith(".rt")]
+    laws = {it for it in crate.functions if it[0] == LAWS} if len(of_code) < len(steps) else set()
+    return Change(kind, name, steps, functions_of(crate.texts, of_code) | laws, "", False)
 
 
 def changes_of(crate, folder, kind):

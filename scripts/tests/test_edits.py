@@ -179,7 +179,7 @@ class Edits(Folder):
     def test_an_edit_whose_function_is_gone_is_a_fault(self):
         self.edit("low_is_gone", ("fn low(x: u32)", "fn lower(x: u32)"), ("{ low(x) }", "{ lower(x) }"))
         status, said, _ = self.tried()
-        self.assertEqual((status, said), (1, {"must-fail/low_is_gone": "NOT REFUSED: no goal of its own is open"}))
+        self.assertEqual((status, said["must-fail/low_is_gone"][:11]), (1, "NOT REFUSED"))
 
     def test_an_edit_that_cannot_be_made_is_told(self):
         self.edit("old_text_is_gone", ("is_lower(x)", "WRONG(x)"))
