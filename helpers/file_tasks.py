@@ -36,7 +36,7 @@ class Task:
 
     def line(self, status, fault=""):
         """What the log says of the file."""
-        return os.fsencode(f"{status}\t{self.name()}\t{fault}\n")
+        return os.fsencode(f"{status}\t{self.name()}\t{' '.join(fault.split())}\n")
 
     def results(self, suffix):
         """The names that the result may have."""
@@ -67,9 +67,12 @@ def files_of(words):
     try:
         is_given = words[1] == "-"
         with open(0 if is_given else words[1], "rb", closefd=not is_given) as file:
-            names = file.read().split(end)
+            text = file.read()
     except OSError as error:
         refuse(f"{words[1]} can't be read: {error.strerror}")
+    if end == b"\n" and b"\0" in text:
+        refuse(f"{words[1]} has a byte 0, which no name has: --names0 takes names that end in one")
+    names = text.split(end)
     return [os.fsdecode(name) for name in names[: -1 if names[-1] == b"" else None]]
 
 

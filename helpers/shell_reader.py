@@ -115,6 +115,8 @@ def parsed(text):
             done = subprocess.run(["shfmt", "--to-json"], input=given[:end], capture_output=True, check=False)
         except FileNotFoundError:
             raise Lacking(LACKING) from None
+        except OSError as error:
+            raise Lacking(f"shfmt can't be run: {error.strerror}") from None
         if done.returncode == 0:
             return json.loads(done.stdout), end, fault
         if end == 0:

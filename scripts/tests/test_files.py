@@ -205,6 +205,7 @@ class Files(Runs):
         return seconds
 
     def test_refuses(self):
+        self.write("zero", b"in/c.ppm\0\n")
         for words in [
             ("pnmscale 2", "out", "in/c.ppm"),
             ("pnminvert", "in", "in/c.ppm"),
@@ -215,12 +216,28 @@ class Files(Runs):
             ("--suffix", "pnminvert", "out", "in/c.ppm", "in/c.pgm"),
             ("pnminvert", "out"),
             ("pnminvert", "out", "--names", "no list"),
+            ("pnminvert", "out", "--names", "zero"),
             ("pnminvert", "out", "in/two\nlines"),
             ("--jobs", "x", "pnminvert", "out", "in/c.ppm"),
         ]:
-            self.assertEqual(self.files(*words).returncode, 2, words)
+            done = self.files(*words)
+            self.assertEqual((done.returncode, b"Traceback" in done.stderr), (2, False), words)
             self.assertEqual(self.read("in/c.ppm"), COLOR)
 
+    def test_closed_streams(self):
+        """Closed standard streams change nothing."""
+        for closed in ("<&-", ">&-", "2>&-", "<&- >&- 2>&-"):
+            words = ["sh", "-c", f"exec {sys.executable} {FILES} pnminvert out in/c.ppm {closed}"]
+            self.assertEqual(run(words, cwd=self.folder, env=self.environment()).returncode, 0, closed)
+            self.assertEqual((self.log(), self.read("out/c.ppm")[-3:]), ([b"0\tin/c.ppm\t"], b"\x06\x05\x04"), closed)
+
+    def test_faults_of_two_lines(self):
+        """The log has one line for each file, whatever stands in place of the program."""
+        text = f"#!/bin/sh\n[ ! -c /dev/stdin ] || exec {self.PROGRAM} \"$@\"\nprintf 'a\\nb\\n' >&2\nexit 3\n"
+        words = [FILES, "--small", "0", "pnminvert", "out", "in/c.ppm"]
+        environment = self.environment(self.write("says two", text.encode(), 0o755))
+        self.assertEqual(run(words, cwd=self.folder, env=environment).returncode, 1)
+        self.assertEqual(self.log(), [b"3\tin/c.ppm\ta b"])
 
     def test_full_disk(self):
         """What doesn't fit has no result, and the fault that the program tells."""

@@ -186,8 +186,12 @@ class Split(Folder):
         self.assertEqual((self.read("x-a b.pgm"), self.read("x-c.ppm")), (GRAY, COLOR))
         self.assertIn(b"image 2 is missing", self.split(GRAY, "--force", "--names", names).stderr)
         self.assertIn(b"image 3 has no name", self.split(GRAY * 3, "--force", "--names", names).stderr)
-        self.write("names", b"a/c\nb/c\n")
-        self.assertEqual(self.split(GRAY + COLOR, "--names", names).returncode, 1)
+        for text in (b"a/c\nb/c\n", b"d\n\n", b"d\0\ne\n", b"d/\ne\n"):
+            self.write("names", text)
+            done = self.split(GRAY + COLOR, "--names", names)
+            self.assertEqual((done.returncode, done.stderr.count(b"\n")), (1, 1), done.stderr)
+            self.assertIn(b"names has an empty name, a name twice, or one with a byte 0: ", done.stderr)
+        self.assertEqual(len(os.listdir(self.folder)), 3)
 
 
 # tells how it was called, and hands its input on

@@ -260,6 +260,10 @@ class Lacking(Folder):
             self.assertIn(b"pnmpipe-translate: it needs shfmt", done.stderr)
             # an old one, which doesn't know the option
             self.write("shfmt", b"#!/bin/sh\necho 'flag provided but not defined' >&2\nexit 2\n", 0o755)
+        os.chmod(self.path("shfmt"), 0o644)
+        done = run([sys.executable, f"{HELPERS}/pnmpipe-translate", "pamcut"], env={"PATH": self.folder})
+        self.assertEqual((done.returncode, done.stdout), (1, b""))
+        self.assertEqual(done.stderr, b"pnmpipe-translate: shfmt can't be run: Permission denied\n")
 
 
 class StandIns(Folder):
