@@ -149,12 +149,12 @@ def read_stage(words):
 
 def is_file(text):
     """Whether a word seems to name a file."""
-    return re.search(r"^[^<>].*[./]|^[./]|^-$", text) is not None or os.path.exists(text)
+    return re.search(r"^[^<>'\"].*[./]|^[./]|^-$", text) is not None or os.path.exists(text)
 
 
 def outside(text, following):
-    """What to do about a redirection of the shell inside of a chain: a word, and the words that follow it."""
-    file = text.lstrip("<>") or (following[0].text if following else "FILE")
+    """What to do about a redirection of the shell inside of quotes: a word, and the words that follow it."""
+    file = text.lstrip("<>") or (following[0] if following else "FILE")
     return f"Put it after the chain, outside of the quotes:\npnmpipe '..' {text[0]} {shlex.quote(file)}"
 
 
@@ -182,7 +182,7 @@ def unknown_tool(words):
     if re.match(r"['\"]", name):
         remedy = "Leave the inner quotes out: one pair goes around the whole chain."
     if name[0] in "<>":
-        remedy = outside(name, words[1:])
+        remedy = outside(name, [it.text for it in words[1:]])
     return ChainFault("UnknownTool", words[:1], f"pnmpipe has no tool {name}.", remedy)
 
 
@@ -243,15 +243,17 @@ def take_argument(tool, word, left):
         return
     takes = f"at most {form.most} argument{'s' * (form.most > 1)}" if form.most else "no arguments"
     remedy = "Leave it out."
-    if word.text in form.options:
-        remedy = f"Is -{word.text} meant? An option's name begins with a dash."
+    # (inside of the chain quotes mean nothing)
+    text = word.text.strip("'\"")
+    if text in form.options:
+        remedy = f"Is -{text} meant? An option's name begins with a dash."
     elif tool.name == "pamenlarge" and word.text.isdecimal():
         scales = f"-xscale {tool.arguments[0]} -yscale {word.text}"
         remedy = f"One factor holds for both ways; for two of them write:\npnmpipe 'pamenlarge {scales}'"
-    elif word.text[0] in "<>":
-        remedy = outside(word.text, left)
-    elif is_file(word.text):
-        remedy = f"Leave it out. Use < for a file:\npnmpipe '..' < {shlex.quote(word.text)}"
+    elif text[:1] in ("<", ">"):
+        remedy = outside(text, [it.text for it in left])
+    elif is_file(text):
+        remedy = f"Leave it out. Use < for a file:\npnmpipe '..' < {shlex.quote(text)}"
     what = f"{tool.name} takes {takes}, so {word.text} is one too many."
     raise ChainFault("ExtraArgument", [word], what, remedy)
 
