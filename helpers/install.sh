@@ -18,17 +18,20 @@ case ${1:-/usr/local} in
     /*) folder=${1:-/usr/local} ;;
     *) folder=$PWD/$1 ;;
 esac
+folder=${folder%/}
 cd "$(dirname "$0")"
 for part in bin libexec share; do
     [ -d "$part" ] || { echo "install.sh: $PWD isn't the archive of the built program: it has no $part" >&2 && exit 1; }
 done
 parts=$(ls -d bin include lib libexec share 2> /dev/null || :)
-# the file that names the folders which weren't there before
+# the file that names the folders which weren't there before, with `..` for each above this one
 made=$folder/libexec/pnmpipe/folders
 
 # shellcheck disable=SC2086
 if [ -z "$away" ]; then
-    new=$(for each in . $(find $parts -type d); do [ -d "$folder/$each" ] || echo "$each"; done)
+    new=$(for each in . $(find $parts -type d); do [ -d "$folder/$each" ] || echo "$each"; done
+        above=$folder
+        while above=${above%/*} && [ -n "$above" ] && [ ! -d "$above" ]; do echo ..; done)
     [ -z "$new" ] || { mkdir -p "${made%/*}" && echo "$new" >> "$made"; }
 fi
 # shellcheck disable=SC2086
@@ -42,9 +45,10 @@ if [ -z "$away" ]; then
     echo "pnmpipe is installed as $folder/bin/pnmpipe"
 elif [ -e "$made" ]; then
     # (those within a folder come before it)
-    folders=$(LC_ALL=C sort -r "$made")
+    folders=$(grep -vx '\.\.' "$made" | LC_ALL=C sort -r; grep -x '\.\.' "$made" || :)
     rm "$made"
     echo "$folders" | while IFS= read -r each; do
+        [ "$each" != .. ] || folder=${folder%/*} each=.
         rmdir "$folder/${each#.}" 2> /dev/null || :
     done
 fi

@@ -487,6 +487,10 @@ class Install(Program):
         left = {os.path.relpath(at, self.folder): names for at, _, names in os.walk(self.path("x y"))}
         man = {"x y/share": [], "x y/share/man": [], "x y/share/man/man1": ["other.1"]}
         self.assertEqual(left, {"x y": [], "x y/bin": [], **man})
+        os.mkdir(self.path("there"))
+        for options in ([], ["--uninstall"]):
+            self.assertEqual(run([*words, *options, self.path("there/a b/c/d/")]).returncode, 0)
+        self.assertEqual(os.listdir(self.path("there")), [])
         self.assertEqual(run([*words, "--unknown"]).returncode, 2)
 
 

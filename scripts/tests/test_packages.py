@@ -118,10 +118,11 @@ class Packages(Program):
             self.assertTrue(made[0] == made[1], name)
 
     def test_packages(self):
-        """An archive of the source makes the same archives and packages, which have all that was built."""
+        """An archive of the source makes the same archives and packages, which have all that was built, for whoever has
+        another umask, too."""
         how = {"stdout": subprocess.DEVNULL, "stderr": subprocess.PIPE}
         goals = ["dist", "deb"] if shutil.which("dh") else ["dist"]
-        calls = [subprocess.Popen(["make", "-s", *goals], cwd=self.path(self.source), **how)]
+        calls = [subprocess.Popen(["make", "-s", *goals], cwd=self.path(self.source), umask=0o077, **how)]
         calls.append(subprocess.Popen(["make", "-s", *goals[1:], "built"], cwd=self.path("checkout"), **how))
         for call in calls:
             told = call.communicate()[1].decode(errors="replace")
