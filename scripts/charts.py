@@ -51,15 +51,16 @@ plot $rows using (.5):0:(.5):(.38):yticlabels(1) with boxxyerror fs solid nobord
 
 CURVES = """
 set terminal svg size 640,360 font "sans-serif,13" background "#ffffff"
-set logscale x
+set logscale xy
+set xrange [{first}/1.2:{last}*1.2]
 set xtics ({ticks})
+set format y "%g"
 set xlabel "{label}"
 set ylabel "Processor time, s"
-set yrange [0:*]
 set grid ytics lc rgb "#d5d9e0"
 set border 3
 set tics nomirror
-set key top right
+set key outside top center horizontal
 {blocks}
 plot {plots}
 """
@@ -93,7 +94,8 @@ def curves(label, places, lines):
         blocks.append(f"$line{at} << END\n{rows}\nEND")
         plots.append(f'$line{at} with linespoints lw 2 {FORMS[at]} title "{title}"')
     ticks = ", ".join(f'"{place:,}" {place}' for place in places)
-    return CURVES.format(label=label, ticks=ticks, blocks="\n".join(blocks), plots=", ".join(plots))
+    texts = {"label": label, "ticks": ticks, "blocks": "\n".join(blocks), "plots": ", ".join(plots)}
+    return CURVES.format(first=places[0], last=places[-1], **texts)
 
 
 def by_width(known):

@@ -5,11 +5,12 @@ have each option of the pages; what is said of tools is read by `lint_tools.py`.
 and where mandoc is installed, it has to find nothing in them.
 
 Lines of documents have at most 100 columns. Each link of the README and of docs leads to a file, and to a heading of
-it. Each file and folder that a document names is there: a name without its folders is that of some file, and words like
-NAME and FILE stand for any. So is each item that it names by its crate, as `pnm_flow::run`, each script that a source,
-a page or a script names, each goal of the Makefile that one of all these names, and each edit that docs/PROMISES.md
-names. Each word of docs/DEFINITIONS.md is defined in the file of its row, and each of its laws is one. `make help` has
-each goal. Figures of the documents' tables are those of docs/figures.tsv, which `make bench` writes.
+it, but for those in comments. Each picture stands in one of these documents. Each file and folder that a document names
+is there: a name without its folders is that of some file, and words like NAME and FILE stand for any. So is each item
+that it names by its crate, as `pnm_flow::run`, each script that a source, a page or a script names, each goal of the
+Makefile that one of all these names, and each edit that docs/PROMISES.md names. Each word of docs/DEFINITIONS.md is
+defined in the file of its row, and each of its laws is one. `make help` has each goal. Figures of the documents' tables
+are those of docs/figures.tsv, which `make bench` writes.
 """
 
 import glob
@@ -118,7 +119,19 @@ def anchors(text):
     return {re.sub(r"[^\w -]", "", heading.lower()).replace(" ", "-") for heading in headings}
 
 
+def shown(text):
+    """A document without its comments."""
+    return re.sub(r"<!--.*?-->", "", text, flags=re.S)
+
+
+def faults_of_pictures(names, texts):
+    for name in sorted(names):
+        if not any(f"pictures/{name}" in shown(text) for text in texts):
+            yield f"docs/pictures/{name} stands in no document"
+
+
 def faults_of_links(path, text):
+    text = shown(text)
     named = dict(re.findall(r"^\[(\w+)\]: (\S+)$", text, re.M))
     for name in sorted(set(re.findall(r"!\[[^\]]*\]\[(\w+)\]", text)) ^ set(named)):
         yield f"{path} has the name {name} for a link without its use, or the other way round"
@@ -290,6 +303,7 @@ def faults_of_documents():
     ends = ends_of(files)
     found = [*faults_of_edits(), *faults_of_help(known), *faults_of_sources(files, ends, known)]
     found += faults_of_definitions()
+    found += faults_of_pictures(os.listdir(os.path.join(ROOT, "docs/pictures")), list(map(read, OF_DOCS)))
     for path in DOCUMENTS:
         text = read(path)
         for number, line in enumerate(text.split("\n"), 1):

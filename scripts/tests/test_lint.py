@@ -173,6 +173,13 @@ class Documents(unittest.TestCase):
         for link in ("docs/NONE.md", "docs/PROOFS.md#none", "scripts/lint.py"):
             with self.subTest(link):
                 self.assertEqual(len(list(lint_documents.faults_of_links("README.md", f"[x]({link})"))), 1)
+                hidden = f"a <!-- b\n[x]({link}) --> c"
+                self.assertEqual(list(lint_documents.faults_of_links("README.md", hidden)), [])
+
+    def test_pictures(self):
+        texts = ["![a](docs/pictures/a.png) <!-- ![b](docs/pictures/b.png)\n-->", "[c]: pictures/c.png"]
+        told = list(lint_documents.faults_of_pictures(["a.png", "b.png", "c.png"], texts))
+        self.assertEqual(told, ["docs/pictures/b.png stands in no document"])
 
 
 class Tools(unittest.TestCase):
