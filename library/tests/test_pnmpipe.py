@@ -132,6 +132,13 @@ def test_numbers_of_no_descriptor(number):
             pnmpipe.run_fd("pnminvert", *words)
 
 
+@pytest.mark.parametrize("file", [None, 1.5, "path"])
+def test_what_has_no_descriptor(file):
+    for words in ((file, 1), (0, file)):
+        with pytest.raises(TypeError, match=f"^a file is a descriptor, or has one, and is no {type(file).__name__}$"):
+            pnmpipe.run_fd("pnminvert", *words)
+
+
 INTERRUPTED = """
 import os, signal, sys, pnmpipe
 try:
@@ -186,8 +193,9 @@ def test_arrays():
     flipped = pnmpipe.run_array("pamflip -lr", bits)
     assert flipped.dtype == numpy.bool_ and flipped.tolist() == [[False, False, True]]
     assert pnmpipe.run_array("pamflip -lr", gray[:, ::-1]).tolist() == gray.tolist()
-    with pytest.raises(TypeError):
-        pnmpipe.run_array("pnminvert", numpy.zeros((2, 2)))
+    for other in (numpy.zeros((2, 2)), numpy.zeros(2, numpy.uint8), [[1, 2]], None):
+        with pytest.raises(TypeError, match="^an image is an array of bool, uint8 or uint16"):
+            pnmpipe.run_array("pnminvert", other)
 
 
 @pytest.mark.parametrize("order", ["<u2", ">u2"])

@@ -247,6 +247,8 @@ def run_fd(chain: Chain, source: int | HasDescriptor, target: int | HasDescripto
 
 
 def _descriptor(file: int | HasDescriptor) -> int:
+    if not isinstance(file, int) and not hasattr(file, "fileno"):
+        raise TypeError(f"a file is a descriptor, or has one, and is no {type(file).__name__}")
     number = file if isinstance(file, int) else file.fileno()
     if not -1 <= number < 1 << 31:
         raise ValueError(f"{number} is no file descriptor")
@@ -310,6 +312,7 @@ def run_array(chain: Chain, array: Array) -> Array:
     are several. True is white. The result has as many dimensions as its planes want."""
     import numpy
 
+    array = numpy.asarray(array)
     shape = array.shape if array.ndim == 3 else (*array.shape, 1)
     kind = array.dtype.newbyteorder("=")
     if len(shape) != 3 or kind not in (numpy.bool_, numpy.uint8, numpy.uint16):
