@@ -2,10 +2,14 @@
 uses it."""
 
 import os
+import re
 import sys
 
 # what a run has in OUTDIR beside results: the log, and the folder where results stand until they are whole
 LOG, OWN = "pnmpipe-files.log", ".pnmpipe-files"
+
+# how a log begins, which may be cut anywhere: what was asked for, and a status
+IS_LOG = re.compile(rb"(?:# [^\n]*\n[0-9]+\t)|(?:# [^\n]*(?:\n[0-9]*)?|#?)\Z")
 
 # the kinds of images by how they begin, and the suffixes that a file's name may have
 KINDS = {b"P1": ".pbm", b"P2": ".pgm", b"P3": ".ppm", b"P4": ".pbm", b"P5": ".pgm", b"P6": ".ppm", b"P7": ".pam"}
@@ -156,14 +160,14 @@ class Log:
         path = os.path.join(folder, LOG)
         self.file = open(path, "ab+", buffering=0)
         self.file.seek(0)
-        text = self.file.read() if resume else self.file.read(2)
-        if text[:2] != b"# "[: len(text)]:
+        text = self.file.read() if resume else self.file.read(65536)
+        if not IS_LOG.match(text):
             refuse(f"{path} isn't a log of pnmpipe-files: rename it")
         if resume and not asked.startswith(text[: len(asked)]):
             refuse(f"{path} is of another chain, so nothing is resumed")
         self.lines = set(text.split(b"\n")[:-1])
         # (a last line that was cut goes)
-        self.length = text.rfind(b"\n") + 1
+        self.length = text.rfind(b"\n") + 1 if resume else 0
         if self.file.seek(0, os.SEEK_END) > self.length:
             self.file.truncate(self.length)
         if not self.length:

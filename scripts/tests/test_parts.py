@@ -124,10 +124,20 @@ class Users(Waiting):
 
     def test_log_of_that_name(self):
         """A file of the log's name that isn't one stays."""
-        self.write("out/pnmpipe-files.log", b"notes\n")
-        for words in ([], ["--resume"]):
-            self.assertEqual(self.kept("out", *words, "pnminvert", "out", "in/c.ppm").returncode, 2)
-        self.assertEqual(self.parts(), [])
+        for text in (b"notes\n", b"# Notes\n\nmilk\n", b"# 1\n2\n", b"# 1\n2 3\t\n", b"#notes"):
+            self.write("out/pnmpipe-files.log", text)
+            for words in ([], ["--resume"]):
+                self.assertEqual(self.kept("out", *words, "pnminvert", "out", "in/c.ppm").returncode, 2, text)
+            self.assertEqual(self.parts(), [])
+
+    def test_logs_that_were_cut(self):
+        """A log may be cut anywhere."""
+        log = b"# pnminvert\n0\tin/c.ppm\t\n"
+        for end in (0, 1, 2, 7, 11, 12, 13, 14, 20, len(log)):
+            for words in ([], ["--resume"]):
+                self.write("out/pnmpipe-files.log", log[:end])
+                self.assertEqual(self.files(*words, "pnminvert", "out", "in/c.ppm").returncode, 0, log[:end])
+                self.assertEqual(self.read("out/pnmpipe-files.log"), log)
 
     def test_results_of_those_names(self):
         """No result stands in .pnmpipe-files, or takes its name."""
