@@ -110,7 +110,7 @@ install: built
 	install -d "$(DESTDIR)$(BINDIR)" "$(DESTDIR)$(MANDIR)/man1" "$(DESTDIR)$(SHIMDIR)"
 	install -d "$(DESTDIR)$(COMPLETIONDIR)" "$(DESTDIR)$(ZSHDIR)" "$(DESTDIR)$(FISHDIR)"
 	install -m 755 $(BUILT) "$(DESTDIR)$(BINDIR)/pnmpipe"
-	for page in man/*.1; do sed "s/@VERSION@/$$(cat VERSION)/" $$page > "$(DESTDIR)$(MANDIR)/man1/$${page#man/}" || exit 1; done
+	umask 022; for page in man/*.1; do sed "s/@VERSION@/$$(cat VERSION)/" $$page > "$(DESTDIR)$(MANDIR)/man1/$${page#man/}" || exit 1; done
 	install -m 644 completions/pnmpipe.bash "$(DESTDIR)$(COMPLETIONDIR)/pnmpipe"
 	install -m 644 completions/_pnmpipe "$(DESTDIR)$(ZSHDIR)/_pnmpipe"
 	install -m 644 completions/pnmpipe.fish "$(DESTDIR)$(FISHDIR)/pnmpipe.fish"
@@ -132,7 +132,7 @@ install-library:
 	ln -sf libpnmpipe.so.1 "$(DESTDIR)$(LIBDIR)/libpnmpipe.so"
 	install -m 644 bin/pnmpipe.h "$(DESTDIR)$(INCLUDEDIR)"
 	install -m 644 man/pnmpipe.3 "$(DESTDIR)$(MANDIR)/man3"
-	sed -e 's|@PREFIX@|$(PREFIX)|' -e 's|@LIBDIR@|$(LIBDIR)|' -e "s|@VERSION@|$$(cat VERSION)|" \
+	umask 022; sed -e 's|@PREFIX@|$(PREFIX)|' -e 's|@LIBDIR@|$(LIBDIR)|' -e "s|@VERSION@|$$(cat VERSION)|" \
 		library/pnmpipe.pc.in > "$(DESTDIR)$(LIBDIR)/pkgconfig/pnmpipe.pc"
 
 # a wheel of the Python module, with the C library that make library has left, in dist/

@@ -7,6 +7,8 @@
 # Netpbm's tools, and FOLDER/lib and FOLDER/include the C library, if the archive has it. It needs no tools but those of
 # any system. --uninstall removes the folders, too, that this script has made, unless something else is in them.
 set -eu
+# (who has installed it isn't the only one who may run it)
+umask 022
 away=''
 case ${1-} in
     --uninstall) away=yes && shift ;;

@@ -23,7 +23,7 @@ PYTHON = ">=3.8"
 def metadata():
     """What is said of the module, in the form of PEP 566."""
     lines = ["Metadata-Version: 2.1", f"Name: {NAME}", f"Version: {version()}"]
-    lines += ["Summary: Netpbm tools over images in memory, in one call and proved", f"Requires-Python: {PYTHON}"]
+    lines += ["Summary: Netpbm tools over images in memory, in one call", f"Requires-Python: {PYTHON}"]
     lines += ["Provides-Extra: numpy", "Requires-Dist: numpy; extra == 'numpy'"]
     lines += ["Description-Content-Type: text/markdown"]
     with open(os.path.join(ROOT, "library/python/README.md"), encoding="utf-8") as file:

@@ -450,9 +450,16 @@ class Install(Program):
         else:
             self.assertIn(b"it needs shfmt", done.stderr)
 
+    def readable(self, folder):
+        """All that was installed is for whoever comes."""
+        for at, _, names in os.walk(self.path(folder)):
+            modes = {os.stat(os.path.join(at, name)).st_mode & 0o777 for name in [".", *names]}
+            self.assertLessEqual(modes, {0o755, 0o644}, at)
+
     def test_installs(self):
         target = ["-s", "-C", ROOT, f"BUILT={self.PROGRAM}", f"DESTDIR={self.folder}/x y", "PREFIX=/usr"]
-        self.assertEqual(run(["make", "install", *target]).returncode, 0)
+        self.assertEqual(run(["make", "install", *target], umask=0o077).returncode, 0)
+        self.readable("x y")
         bin_folder = self.path("x y/usr/bin")
         path = {"PATH": f"{bin_folder}:{os.environ['PATH']}"}
         self.assertEqual(run([f"{bin_folder}/pnmpipe", "pnminvert"], GRAY).stdout, GRAY[:-2] + b"\x08\x07")
@@ -475,7 +482,8 @@ class Install(Program):
         shutil.copy(f"{HELPERS}/install.sh", self.path("archive"))
         words = ["sh", self.path("archive/install.sh")]
         for _ in range(2):
-            self.assertEqual(run([*words, "x y"], cwd=self.folder).returncode, 0)
+            self.assertEqual(run([*words, "x y"], cwd=self.folder, umask=0o077).returncode, 0)
+        self.readable("x y")
         self.assertEqual(run([self.path("x y/bin/pnmpipe"), "pnminvert"], GRAY).stdout, GRAY[:-2] + b"\x08\x07")
         self.translates(self.path("x y/bin/pnmpipe-translate"))
         self.assertEqual(run([*words, "--uninstall", self.path("x y")]).returncode, 0)
