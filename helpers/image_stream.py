@@ -6,7 +6,7 @@ import re
 import sys
 from array import array
 
-from slow_reader import FORMATS, Fault, magic, pam_head, pnm_head
+from slow_reader import Fault, magic, pam_head, pnm_head
 
 BLANKS = b" \t\r\n"
 
