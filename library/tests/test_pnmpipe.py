@@ -164,6 +164,28 @@ def test_interrupted(side):
             running.kill()
 
 
+def test_interrupted_before_it_begins(tmp_path, monkeypatch):
+    """A call whose thread begins after it was interrupted touches no file, whoever has its descriptors by then."""
+    late, start = [], threading.Thread.start
+
+    def interrupted(thread):
+        late.append(thread)
+        raise KeyboardInterrupt
+
+    (tmp_path / "image").write_bytes(IMAGE)
+    with open(tmp_path / "image", "rb") as source, open(tmp_path / "result", "wb") as target:
+        with monkeypatch.context() as patched:
+            patched.setattr(threading.Thread, "start", interrupted)
+            with pytest.raises(KeyboardInterrupt):
+                pnmpipe.run_fd("pnminvert", source, target)
+        others = [os.dup(it.fileno()) for it in (source, target)]
+        start(late[0])
+        late[0].join(10)
+        assert (late[0].is_alive(), os.lseek(others[0], 0, os.SEEK_CUR), os.fstat(others[1]).st_size) == (False, 0, 0)
+        for it in others:
+            os.close(it)
+
+
 def test_interpreters_lock_is_free():
     """A call that waits for its input leaves another thread to write it."""
     source, sink = os.pipe()

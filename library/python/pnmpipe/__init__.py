@@ -269,10 +269,14 @@ def _beside(work: typing.Callable[[int, int], None], files: list[int]) -> None:
     """Works over files in another thread, while handlers of signals run in this one."""
     own = [_duplicate(it) for it in files]
     ended, left = threading.Event(), threading.Event()
+    # whether the thread began before this one was interrupted: the first that is said counts
+    has_begun: list[bool] = []
 
     def run() -> None:
+        has_begun.append(True)
         try:
-            work(*own)
+            if has_begun[0]:
+                work(*own)
         finally:
             ended.set()
             # (it is there as long as a signal may be sent to it)
@@ -283,7 +287,8 @@ def _beside(work: typing.Callable[[int, int], None], files: list[int]) -> None:
         thread.start()
         ended.wait()
     except BaseException:
-        if thread.ident is not None:
+        has_begun.append(False)
+        if has_begun[0] and thread.ident is not None:
             _end(thread.ident, own, ended)
         raise
     finally:
