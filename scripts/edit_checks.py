@@ -2,6 +2,7 @@
 
 A function is proved by its own body, its own contract and the contracts of what it calls. So in a crate that was
 proved, a hole may stand for the proof of each function that isn't asked about: a check goes past it by the contract.
+Nor does it need the body, of which it would work out each step all the same.
 """
 
 import collections
@@ -13,7 +14,7 @@ import threading
 import typing
 
 from crates import Ended
-from rust_places import functions, is_name_of, module_of, modules_of_types
+from rust_places import Function, emptied, functions, is_marked, is_name_of, module_of, modules_of_types, named
 
 SOURCES = ("src", "specs", "proofs")
 
@@ -31,8 +32,6 @@ OF_CODE = re.compile(r"^note: (?:\./)?src/\S+:\d+:\d+: .*\(`([^`]*)`\)")
 BY_SEARCH = re.compile(r"`search` did not prove ((?:`[^`]*`(?:, | and )?)+)")
 # a lemma that a function stands on, and that isn't proved
 BY_LEMMA = re.compile(r"it stands on ((?:`[^`]*`(?:, | and )?)+), which antt refuses")
-# a proof for which no hole can stand: of functions that call one another, which are proved together
-TOGETHER = re.compile(r"^(?:\./)?proofs/(\S+)/Proof\.antt: error\[reserved-name\]", re.M)
 # what is no refusal of what the code does: an answer that names what the edit took away
 OF_NAMES = re.compile(r"has no field|is not in scope|has no `|was not admitted|is no name")
 # how a line begins of a function that has no open goal, in a check that goes past holes
@@ -113,15 +112,6 @@ def read(text):
     return Told(bool(last) and last[0].startswith(VERDICTS), lines, goals, lemmas, text)
 
 
-def named(function):
-    return function.owner, function.trait, function.name
-
-
-def is_test(text, function):
-    """Whether the function is left out of the crate where it is no test."""
-    return "#[cfg(test)]" in text[max(0, function.start - 200) : function.start].rpartition("\n\n")[2]
-
-
 class Checks:
     """The checks that run, so that a signal ends them."""
 
@@ -174,11 +164,9 @@ class Crate:
             (file, named(function)): function
             for file in sorted(it for it in self.texts if it.endswith(".rt"))
             for function in functions(self.texts[file])
-            if not is_test(self.texts[file], function)
+            if not is_marked(self.texts[file], function, "cfg(test)")
         }
         self.types = modules_of_types(self.texts)
-        # the folders of proofs for which no hole can stand
-        self.together = set()
         self.known = set()
         self.checks = self.seconds = 0
 
@@ -189,8 +177,9 @@ class Crate:
 
     def symbols(self, place):
         """The names by which checks have told of the function and of the closures in it."""
-        function = self.functions[place]
-        module = self.module(place[0], function)
+        file, (owner, trait, name) = place
+        function = Function(name, owner, trait, 0, 0, 0)
+        module = self.module(file, function)
         return sorted(it for it in self.known if is_name_of(it, self.name, module, function))
 
     def proof_folders(self, file, function):
@@ -203,27 +192,23 @@ class Crate:
         return sorted(it for it in found if it.endswith("/" + function.name))
 
     def with_holes(self, texts, places):
-        """The texts with a hole for the proof of each function but these, where one can stand."""
-        texts = dict(texts)
+        """The texts with a hole for the proof of each function but these, and no body, where a hole can stand: there is
+        none for functions that call one another, which are proved together."""
+        texts, emptied_of = dict(texts), collections.defaultdict(set)
         for place, function in self.functions.items():
-            paths = self.proof_folders(place[0], function) if place not in places else ()
-            for path in [it for it in paths if it not in self.together]:
+            if place in places or is_marked(self.texts[place[0]], function, "cycle("):
+                continue
+            for path in self.proof_folders(place[0], function):
                 for it in ("Answers", "Invariants"):
                     texts.pop(f"proofs/{path}/{it}.antt", None)
                 words = {"crate": self.name, "path": path.replace("/", "."), "name": function.name}
                 texts[f"proofs/{path}/Proof.antt"] = HOLE.format(**words)
-        return texts
+                emptied_of[place[0]].add(place[1])
+        return {path: emptied(text, emptied_of[path]) if path in emptied_of else text for path, text in texts.items()}
 
     def check(self, texts, places, kept):
         """What a check of these texts tells of these functions, over what the folder keeps of earlier ones."""
-        told = self.told_of(self.with_holes(texts, places), kept)
-        together = set(TOGETHER.findall(told.text))
-        if not together:
-            return told
-        self.together |= together
-        return self.told_of(self.with_holes(texts, places), kept)
-
-    def told_of(self, texts, kept):
+        texts = self.with_holes(texts, places)
         words = self.toolchain.words("check", self.name, 1, self.proved)
         words += ["--incremental", kept, "--allow-holes"]
         with tempfile.TemporaryDirectory(prefix="pnmpipe-edits-") as room, tempfile.TemporaryFile() as out:

@@ -5,16 +5,19 @@
 
 An edit, crates/NAME/must-fail/*.edit, changes what the code means, and the prover has to refuse it; its control, of
 the same name in crates/NAME/controls, has its shape and keeps the meaning, and has to prove. The crates are proved as
-they stand, and so one check tells of many edits: those of different functions are made in one copy of the crate, with
-holes for the proofs of the functions that none of them changes. An edit is refused where a goal of the very function
-stays open that it changes: a type that differs, or a goal that doesn't follow. What stops at a limit of the search
-alone might hold, so such an edit counts as a fault, unless it has a line `limit:` that says so: then it is counted, and
-is a fault once the line isn't true any more. A control has no goal open in the functions that it changes.
+they stand, and so one check tells of many changes: each is made in a copy of its function, which stands beside that one
+and has its contract and its answers, with holes for the proofs of the functions as they stand. An edit is refused where
+a goal of the very function stays open that it changes: a type that differs, or a goal that doesn't follow. What stops
+at a limit of the search alone might hold, so such an edit counts as a fault, unless it has a line `limit:` that says
+so: then it is counted, and is a fault once the line isn't true any more. A control has no goal open in the functions
+that it changes.
 
-What a group can't judge, since a function that is called is edited too, is tried again with others of which that holds,
-and then by itself. Edits of limits, which the law `limits_are` names, are tried together, each at its clause of the
-law; those of other constants alone, in the functions that name these; those of definitions alone, in the laws of the
-crate. The statements of the crates below come from FOLDER. The crates are tried side by side, one a processor.
+A function of a trait and a few others have no copies (`may_be_copied`), and are changed where they stand, those of
+different functions in one check. So is what a copy doesn't show to be well. What a group can't judge, since a function
+that is called is edited too, is tried again with others of which that holds, and then by itself. Edits of limits, which
+the law `limits_are` names, are tried together, each at its clause of the law; those of other constants alone, in the
+functions that name these; those of definitions alone, in the laws of the crate. The statements of the crates below come
+from FOLDER. The crates are tried side by side, one a processor.
 """
 
 import argparse
@@ -27,8 +30,9 @@ import typing
 
 from build import Toolchain, most_checks
 from crates import ROOT, Ended, end_by_signals, read_crates
-from edit_checks import CHECKS, LIMIT, WHOLE, Crate, named
-from rust_places import blanked, functions
+from edit_checks import CHECKS, LIMIT, WHOLE, Crate
+from edit_steps import applied, copied, functions_of, may_be_copied, steps_of, written
+from rust_places import blanked
 
 FOLDERS = {"edit": "must-fail", "control": "controls"}
 WORDS = {"edit": ("refused", "NOT REFUSED"), "control": ("proved", "NOT PROVED")}
@@ -39,8 +43,8 @@ ITEM = re.compile(r"^(?:pub(?:\([a-z]+\))? )?([a-z]+)\b(?: (\w+))?", re.M)
 
 class Change(typing.NamedTuple):
     """An edit or a control: its name, its steps (file, old text, new text), the functions whose goals tell of it, the
-    clause of the law on limits that does so, if one does, whether it can be tried with others, and whether it says that
-    the search stops at a limit."""
+    clause of the law on limits that does so, if one does, whether it can be tried with others, and whether in copies of
+    its functions, and whether it says that the search stops at a limit."""
 
     kind: str
     name: str
@@ -48,68 +52,12 @@ class Change(typing.NamedTuple):
     places: frozenset
     clause: str
     is_grouped: bool
+    is_copied: bool = False
     is_at_limit: bool = False
 
     def meets(self, other):
         """Whether both are told of by the same goals."""
         return bool(self.places & other.places) and self.clause == other.clause
-
-
-def steps_of(text):
-    """The steps of an edit's text."""
-    file = old = None
-    steps = []
-    for line in text.split("\n"):
-        if line.startswith("file: "):
-            file = line[6:].strip()
-        elif line.startswith("old: "):
-            old = line[5:]
-        elif line.startswith("new:"):
-            steps.append((file, old, line[4:].removeprefix(" ")))
-    return tuple(steps)
-
-
-def applied(texts, steps):
-    """The texts with these steps made; None where an old text doesn't stand in its file once."""
-    texts = dict(texts)
-    for file, old, new in steps:
-        if texts.get(file, "").count(old) != 1:
-            return None
-        texts[file] = texts[file].replace(old, new)
-    return texts
-
-
-def header_of(text, function):
-    """What others see of a function: its signature and its contract, but not which of its parameters may change."""
-    return re.sub(r"\bmut (?=\w+:)", "", re.sub(r"\s+", " ", text[function.start : function.body]))
-
-
-def function_at(text, old, new):
-    """The name of the function whose body a step changes; an empty one if the step only adds functions, or changes the
-    words that clauses import; else None."""
-    at, changed = text.find(old), text.replace(old, new)
-    before, after = list(functions(text)), list(functions(changed))
-    held = [number for number, it in enumerate(before) if it.start <= at and at + len(old) <= it.end]
-    if held:
-        number = max(held, key=lambda it: before[it].start)
-        is_kept = len(before) == len(after) and header_of(text, before[number]) == header_of(changed, after[number])
-        return named(before[number]) if is_kept else None
-    is_import = all(it.startswith("ghost use ") for it in (old, new))
-    is_beside = is_import or not blanked(text)[at : at + len(old)].strip()
-    names = [[named(it) for it in found] for found in (before, after)]
-    return () if is_beside and all(names[0].count(it) == names[1].count(it) for it in names[0]) else None
-
-
-def functions_of(texts, steps):
-    """The functions that these steps change; none if one is made elsewhere."""
-    found, texts = set(), dict(texts)
-    for file, old, new in steps:
-        function = function_at(texts[file], old, new) if file.endswith(".rt") else None
-        if function is None:
-            return frozenset()
-        found |= {(file, function)} if function else set()
-        texts[file] = texts[file].replace(old, new)
-    return frozenset(found)
 
 
 def constant_of(texts, steps):
@@ -145,16 +93,17 @@ def change_of(crate, kind, name, steps):
     """The edit or control, with where a check tells of it."""
     if applied(crate.texts, steps) is None:
         sys.exit(f"edits: {crate.name}/{FOLDERS[kind]}/{name}: an old text doesn't stand in its file once")
-    places, constant = functions_of(crate.texts, steps), constant_of(crate.texts, steps)
+    (places, is_within), constant = functions_of(crate.texts, steps), constant_of(crate.texts, steps)
     if places:
-        return Change(kind, name, steps, places, "", True)
+        is_copied = is_within and all(may_be_copied(crate, it) for it in places)
+        return Change(kind, name, steps, places, "", True, is_copied)
     if constant and clause_on(crate, constant):
         return Change(kind, name, steps, frozenset({LIMITS}), clause_on(crate, constant), True)
     if constant:
         return Change(kind, name, steps, users_of(crate, constant), "", False)
     of_code = [it for it in steps if it[0].endswith(".rt")]
     laws = {it for it in crate.functions if it[0] == LAWS} if len(of_code) < len(steps) else set()
-    return Change(kind, name, steps, functions_of(crate.texts, of_code) | laws, "", False)
+    return Change(kind, name, steps, functions_of(crate.texts, of_code)[0] | laws, "", False)
 
 
 def changes_of(crate, folder, kind):
@@ -169,7 +118,8 @@ def changes_of(crate, folder, kind):
 
 
 def grouped(changes, texts):
-    """The changes in groups that can be made at once: limits by themselves, and no function twice."""
+    """The changes in groups that can be made at once where the functions stand: limits by themselves, and no function
+    twice."""
     groups = []
     for change in sorted(changes, key=lambda it: -sum(it.meets(other) for other in changes)):
         for group in groups:
@@ -183,6 +133,20 @@ def grouped(changes, texts):
     return groups
 
 
+def first_groups(changes, texts):
+    """The changes in groups that can be made at once. The copies stand in the last one that isn't of limits: there are
+    mostly controls, which prove."""
+    changes = [it for it in changes if it.is_grouped]
+    groups = grouped([it for it in changes if not it.is_copied], texts)
+    copies = [it for it in changes if it.is_copied]
+    of_functions = [it for it in groups if not it[0].clause]
+    if copies and not of_functions:
+        return [copies, *groups]
+    for group in of_functions[-1:]:
+        group += copies
+    return groups
+
+
 def open_goals(crate, change, told):
     """The goals of the functions that tell of a change which stay open, each with why: for a definition also the lemmas
     without a proof that these stand on."""
@@ -191,7 +155,7 @@ def open_goals(crate, change, told):
         own = symbol.partition("::")[2]
         for goal, why in told.goals.get(own, {}).items():
             if goal in ("returns", f"returns-clause-{change.clause}") or not change.clause:
-                found[f"`{goal}` of {own}"] = why
+                found[f"`{goal}` of {written(own)}"] = why
         for lemma in told.lemmas[symbol] if not change.is_grouped else ():
             found[f"`{lemma.rpartition('.')[2]}` of {own}"] = "a lemma without a proof"
     return found
@@ -220,34 +184,37 @@ class Judge:
         self.failed = self.at_limit = 0
 
     def check(self, changes, what):
-        """What a check with these changes tells; None if they can't be made together, or it came to no verdict."""
-        texts = applied(self.crate.texts, [step for it in changes for step in it.steps])
+        """How a check with these changes judges each; None if they can't be made together, or it came to no verdict."""
+        in_place = [it for it in changes if not it.is_copied]
+        texts, places = applied(self.crate.texts, [step for it in in_place for step in it.steps]), {}
         if texts is None:
             return None
-        places = frozenset().union(*(it.places for it in changes))
-        told = self.crate.check(texts, places, self.kept)
+        for number, change in enumerate(it for it in changes if it.is_copied):
+            texts, places[change] = copied(self.crate, texts, change, number)
+        told = self.crate.check(texts, frozenset().union(*(it.places for it in in_place)), self.kept)
         if self.logs:
             with open(os.path.join(self.logs, f"{self.crate.name}.{what}.log"), "w", encoding="utf-8") as file:
                 file.write(told.text)
-        return told if told.has_verdict else None
+        tried = [(it, it._replace(places=places.get(it, it.places))) for it in changes]
+        return [(it, *judged(self.crate, made, told)) for it, made in tried] if told.has_verdict else None
 
     def try_group(self, group, what):
         """Tries a group; in halves where the check has no verdict. Gives each change with how it was judged."""
         told = self.check(group, what)
         if told:
-            return [(change, *judged(self.crate, change, told)) for change in group]
+            return told
         if len(group) == 1:
             return [(group[0], False, "the check has no verdict: see it by rt must-fail")]
         half = len(group) // 2
         return self.try_group(group[:half], f"{what}a") + self.try_group(group[half:], f"{what}b")
 
-    def try_groups(self, changes, what):
-        """Tries changes in groups. Gives those that couldn't be judged so."""
+    def try_groups(self, groups, what):
+        """Tries groups of changes. Gives those that have to be tried again, where their functions stand."""
         left = []
-        for number, group in enumerate(grouped(changes, self.crate.texts)):
+        for number, group in enumerate(groups):
             for change, is_well, why in self.try_group(group, f"{what}-{number}"):
-                if is_well is None:
-                    left.append(change)
+                if is_well is None or change.is_copied and not is_well:
+                    left.append(change._replace(is_copied=False))
                 else:
                     self.report(change, is_well, why)
         return left
@@ -258,31 +225,33 @@ class Judge:
         verdict = " ".join([WORDS[change.kind][0], why]) if is_well else f"{WORDS[change.kind][1]}: {why}"
         self.told.append(f"{self.crate.name}/{FOLDERS[change.kind]}/{change.name}: {verdict}")
 
-    def try_all(self, changes, what):
-        left = self.try_groups([it for it in changes if it.is_grouped], what)
+    def try_all(self, changes):
+        left = self.try_groups(first_groups(changes, self.crate.texts), "group")
         if len(left) > 1:
-            left = self.try_groups(left, f"{what}-again")
+            left = self.try_groups(grouped(left, self.crate.texts), "again")
         for change in [*(it for it in changes if not it.is_grouped), *left]:
-            self.report(*self.try_group([change], f"{what}-alone-{change.name}")[0])
+            self.report(*self.try_group([change], f"alone-{change.kind}-{change.name}")[0])
 
 
 def tried(crate, changes, logs):
     """Tries all changes of a crate. Gives what judged them."""
     with tempfile.TemporaryDirectory(prefix="pnmpipe-edits-kept-") as kept:
         judge = Judge(crate, kept, logs)
-        for kind, found in changes.items():
-            judge.try_all(found, kind)
-    for change in changes["control"]:
-        if change.name not in [it.name for it in changes["edit"]]:
+        judge.try_all(changes)
+    edits = {it.name for it in changes if it.kind == "edit"}
+    for change in changes:
+        if change.name not in edits:
             judge.report(change, False, "no edit has its name")
     return judge
 
 
 def plan(crate, changes):
-    for kind, found in changes.items():
-        groups = grouped([it for it in found if it.is_grouped], crate.texts)
-        alone = [it.name for it in found if not it.is_grouped]
-        print(f"{crate.name}: {len(found)} {kind}s in groups of {[len(it) for it in groups]}, alone: {alone}")
+    groups = [len(it) for it in first_groups(changes, crate.texts)]
+    alone = [f"{it.kind} {it.name}" for it in changes if not it.is_grouped]
+    counts = [sum(it.kind == kind for it in changes) for kind in FOLDERS]
+    copies = sum(it.is_copied for it in changes)
+    told = f"{counts[0]} edits, {counts[1]} controls, {copies} in copies, in groups of {groups}, alone: {alone}"
+    print(f"{crate.name}: {told}")
 
 
 def try_crates(crates, logs):
@@ -318,8 +287,8 @@ def main():
     for name in asked.crates or read_crates():
         folder = os.path.join(ROOT, "crates", name)
         crate = Crate(name, folder, toolchain, os.path.abspath(asked.proved))
-        changes = {kind: list(changes_of(crate, folder, kind)) for kind in FOLDERS}
-        if any(changes.values()):
+        changes = [it for kind in FOLDERS for it in changes_of(crate, folder, kind)]
+        if changes:
             crates.append((crate, changes))
     if asked.plan:
         for crate, changes in crates:

@@ -103,6 +103,42 @@ def functions(text):
             yield Function(found[1], owner, trait, found.start(), *body)
 
 
+def begin_of(text, function):
+    """Where a function begins, with its attributes and its docstring."""
+    at = text.rfind("\n", 0, function.start) + 1
+    while at:
+        before = text.rfind("\n", 0, at - 1) + 1
+        line = text[before:at].strip()
+        if not line or line[-1] in "{};" and not line.startswith("//"):
+            break
+        at = before
+    return at
+
+
+def is_marked(text, function, attribute):
+    """Whether an attribute of a function begins so."""
+    return f"#[{attribute}" in text[begin_of(text, function) : function.start]
+
+
+def emptied(text, names):
+    """The text with bodies that never end in place of those of these functions."""
+    made, at = [], 0
+    for function in functions(text):
+        if named(function) in names and function.body >= at:
+            made += [text[at : function.body], "{ loop {} }"]
+            at = function.end
+    return "".join([*made, text[at:]])
+
+
+def named(function):
+    return function.owner, function.trait, function.name
+
+
+def function_named(text, name):
+    """The function of this name."""
+    return next(it for it in functions(text) if named(it) == name)
+
+
 def module_of(path):
     """The module of a source below src, as a check names it."""
     words = re.sub(r"\.rt$", "", path).split("/")[1:]

@@ -12,7 +12,8 @@ import unittest
 
 from support import SCRIPTS, Folder
 
-FILES = ("build.py", "crates.py", "edit_checks.py", "edits.py", "library.py", "places.py", "rust_places.py")
+FILES = ("build.py", "crates.py", "edit_checks.py", "edit_steps.py", "edits.py", "library.py", "places.py")
+FILES += ("rust_places.py",)
 
 CODE = """pub const SIDE: u32 = 8;
 pub const DEPTH: u32 = 4;
@@ -21,6 +22,15 @@ fn low(x: u32) -> u32 ensures { result ≡ x } { is_low(x) }
 pub fn high(x: u32) -> u32 ensures { result ≡ x } { low(x) }
 pub fn side(x: u32) -> u32 ensures { result ≡ x } { is_side(x, SIDE) }
 pub fn answered(x: u32) -> u32 ensures { result ≡ x } { is_answered(x) }
+"""
+# (no copies can be made of the functions whose goals these name)
+STEPS = """use Rattle.one.proofs.low.Goals.{in-Ok}
+use Rattle.one.proofs.high.Goals.{in-Ok}
+"""
+ANSWERS = """use Rattle.one.proofs.answered.Goals as goal
+
+returns : goal.returns
+returns c = tt
 """
 LAWS = """pub fn limits_are() ensures side { SIDE ≡ 8 } ensures depth { DEPTH ≡ 4 } {}
 pub fn words_hold() ensures { WordsHold } {}
@@ -46,6 +56,10 @@ MESSAGES = {
 with open("src/lib.rt") as code, open("src/laws.rt") as laws, open("specs/Words.antt") as words:
     code, laws, words = code.read(), laws.read(), words.read()
 bodies = dict(re.findall(r"fn (\w+)\(.*\{(.*)\}\n", code))
+for name in bodies:
+    if name.startswith("answered_"):
+        with open(f"proofs/{name}/Answers.antt") as answers:
+            assert f".proofs.{name}.Goals as goal" in answers.read()
 tried = [it for it in bodies if not os.path.exists(f"proofs/{it}/Proof.antt")]
 is_holed = lambda law: os.path.exists(f"proofs/laws/{law}/Proof.antt")
 tried += [it for it in ("limits_are", "words_hold") if not is_holed(it)]
@@ -89,6 +103,7 @@ class Edits(Folder):
         for file in FILES:
             shutil.copy(os.path.join(SCRIPTS, file), self.path("root/scripts"))
         crate = {"src/lib.rt": CODE, "src/laws.rt": LAWS, "specs/Words.antt": "word = right\n"}
+        crate |= {"proofs/CallSteps.antt": STEPS, "proofs/answered/Answers.antt": ANSWERS}
         for file, text in [("crates.txt", "one:\n"), *((f"crates/one/{it}", text) for it, text in crate.items())]:
             self.write(f"root/{file}", text.encode())
         self.write("bin/rt", RT.encode(), 0o755)
@@ -122,12 +137,53 @@ class Edits(Folder):
         self.edit("low_is_wrong", ("is_low(x)", "WRONG(x)"))
         self.edit("answer_differs", ("is_answered(x)", "DIFFERS(x)"))
         status, said, checks = self.tried()
-        self.assertEqual((status, checks), (0, ["low answered"]))
+        self.assertEqual((status, checks), (0, ["low answered_tried_0"]))
         self.assertEqual(said["must-fail/low_is_wrong"], "refused at `returns` of low: a goal that doesn't follow")
         differs = "refused at `returns-in-Ok` of answered: a type that differs"
         self.assertEqual(said["must-fail/answer_differs"], differs)
 
-    def test_edits_of_one_function_are_refused_one_by_one(self):
+    def test_changes_of_one_function_are_tried_in_copies_in_one_check(self):
+        self.edit("side_is_wrong", ("is_side(x", "WRONG(x"))
+        self.edit("side_differs", ("is_side(x, SIDE)", "DIFFERS(x)"))
+        self.edit("side_is_wrong", ("is_side(x, SIDE)", "is_side(x, { SIDE })"), kind="controls")
+        self.edit("side_differs", ("is_side(x, SIDE)", "is_side({ x }, SIDE)"), kind="controls")
+        self.edit("answer_differs", ("is_answered(x)", "DIFFERS(x)"))
+        self.edit("answer_differs", ("is_answered(x)", "is_answered({ x })"), kind="controls")
+        status, said, checks = self.tried()
+        self.assertEqual((status, len(checks), len(said)), (0, 1, 6))
+        tried = [it.rpartition("_")[0] for it in checks[0].split()]
+        self.assertEqual(tried, 4 * ["side_tried"] + 2 * ["answered_tried"])
+        self.assertEqual(said["must-fail/side_is_wrong"], "refused at `returns` of side: a goal that doesn't follow")
+        self.assertEqual(said["must-fail/side_differs"], "refused at `returns-in-Ok` of side: a type that differs")
+        self.assertEqual(said["controls/side_differs"], "proved as it must be")
+
+    def test_edits_and_controls_of_one_check_are_judged_each_for_itself(self):
+        # (what isn't well in a copy is tried where the function stands)
+        names = {"copied": ("is_side(x, SIDE)", "side"), "placed": ("is_low(x)", "low")}
+        for name, (old, _) in names.items():
+            self.edit(f"{name}_is_wrong", (old, old.replace("is_", "WRONG_")))
+            self.edit(f"{name}_is_kept", (old, f"{{ {old} }}"))
+            self.edit(f"{name}_is_wrong", (old, f"{{ {old} }}"), kind="controls")
+            self.edit(f"{name}_is_kept", (old, old.replace("is_", "DEEP_")), kind="controls")
+        status, said, checks = self.tried()
+        self.assertEqual((status, len(said), len(checks)), (1, 8, 6))
+        for name, (_, function) in names.items():
+            why = f"refused at `returns` of {function}: a goal that doesn't follow"
+            self.assertEqual(said[f"must-fail/{name}_is_wrong"], why)
+            self.assertEqual(said[f"must-fail/{name}_is_kept"], "NOT REFUSED: no goal of its own is open")
+            self.assertEqual(said[f"controls/{name}_is_wrong"], "proved as it must be")
+            why = f"NOT PROVED: at `returns` of {function}: a limit of the search"
+            self.assertEqual(said[f"controls/{name}_is_kept"], why)
+
+    def test_a_control_whose_callee_is_edited_is_tried_again(self):
+        self.edit("low_is_wrong", ("is_low(x)", "WRONG(x)"))
+        self.edit("high_is_wrong", ("{ low(x) }", "{ WRONG(x) }"))
+        self.edit("high_is_wrong", ("{ low(x) }", "{ { low(x) } }"), kind="controls")
+        self.edit("low_is_wrong", ("is_low(x)", "{ is_low(x) }"), kind="controls")
+        status, said, _ = self.tried()
+        self.assertEqual((status, len(said)), (0, 4))
+
+    def test_edits_of_one_function_without_copies_are_refused_one_by_one(self):
         self.edit("low_is_wrong", ("is_low(x)", "WRONG(x)"))
         self.edit("low_differs", ("is_low(x)", "DIFFERS(x)"))
         status, said, checks = self.tried()
