@@ -206,11 +206,21 @@ class Crate:
                 emptied_of[place[0]].add(place[1])
         return {path: emptied(text, emptied_of[path]) if path in emptied_of else text for path, text in texts.items()}
 
-    def check(self, texts, places, kept):
-        """What a check of these texts tells of these functions, over what the folder keeps of earlier ones."""
+    def paths(self, places):
+        """The names by which a check is asked for these functions alone: the module of a trait's method that has no
+        folder to tell its name. None if one has none."""
+        paths = []
+        for file, (*of, name) in places:
+            found = self.proof_folders(file, Function(name, *of, 0, 0, 0)) or ["/".join(module_of(file))]
+            paths += [it.replace("/", "::") for it in found]
+        return paths if all(paths) else []
+
+    def check(self, texts, places, copies, kept):
+        """What a check of these texts tells of these functions and copies, over what earlier checks have kept."""
         texts = self.with_holes(texts, places)
         words = self.toolchain.words("check", self.name, 1, self.proved)
         words += ["--incremental", kept, "--allow-holes"]
+        words += [word for path in self.paths(sorted(places | copies)) for word in ("--only", path)]
         with tempfile.TemporaryDirectory(prefix="pnmpipe-edits-") as room, tempfile.TemporaryFile() as out:
             for path, text in texts.items():
                 os.makedirs(os.path.dirname(os.path.join(room, path)), exist_ok=True)

@@ -191,7 +191,8 @@ class Judge:
             return None
         for number, change in enumerate(it for it in changes if it.is_copied):
             texts, places[change] = copied(self.crate, texts, change, number)
-        told = self.crate.check(texts, frozenset().union(*(it.places for it in in_place)), self.kept)
+        stood = frozenset().union(*(it.places for it in in_place))
+        told = self.crate.check(texts, stood, frozenset().union(*places.values()), self.kept)
         if self.logs:
             with open(os.path.join(self.logs, f"{self.crate.name}.{what}.log"), "w", encoding="utf-8") as file:
                 file.write(told.text)

@@ -63,6 +63,8 @@ for name in bodies:
 tried = [it for it in bodies if not os.path.exists(f"proofs/{it}/Proof.antt")]
 is_holed = lambda law: os.path.exists(f"proofs/laws/{law}/Proof.antt")
 tried += [it for it in ("limits_are", "words_hold") if not is_holed(it)]
+asked = {path.rpartition("::")[2] for word, path in zip(sys.argv, sys.argv[1:]) if word == "--only"}
+assert not asked or asked == set(tried), (asked, tried)
 with open(os.environ["NOTES"], "a") as notes:
     notes.write(" ".join(tried) + "\n")
 time.sleep(float(os.environ.get("SECONDS", "0")))
