@@ -13,6 +13,7 @@ import tempfile
 import threading
 import typing
 
+from build import LIBRARY, PROGRAM
 from crates import Ended
 from rust_places import Function, emptied, functions, is_marked, is_name_of, module_of, modules_of_types, named
 
@@ -166,6 +167,8 @@ class Crate:
             for function in functions(self.texts[file])
             if not is_marked(self.texts[file], function, "cfg(test)")
         }
+        # whether a check sees all functions, and not only those that are reached from others
+        self.sees_all = name not in (PROGRAM, LIBRARY)
         self.types = modules_of_types(self.texts)
         self.known = set()
         self.checks = self.seconds = 0
@@ -203,13 +206,14 @@ class Crate:
                     texts.pop(f"proofs/{path}/{it}.antt", None)
                 words = {"crate": self.name, "path": path.replace("/", "."), "name": function.name}
                 texts[f"proofs/{path}/Proof.antt"] = HOLE.format(**words)
-                emptied_of[place[0]].add(place[1])
+                if self.sees_all:
+                    emptied_of[place[0]].add(place[1])
         return {path: emptied(text, emptied_of[path]) if path in emptied_of else text for path, text in texts.items()}
 
     def paths(self, places):
         """The names by which a check is asked for these functions alone: the module of a trait's method that has no
-        folder to tell its name. None if one has none."""
-        paths = []
+        folder to tell its name. None if one has none, or if a check sees only what is reached."""
+        paths = [] if self.sees_all else [""]
         for file, (*of, name) in places:
             found = self.proof_folders(file, Function(name, *of, 0, 0, 0)) or ["/".join(module_of(file))]
             paths += [it.replace("/", "::") for it in found]

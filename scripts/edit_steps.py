@@ -4,7 +4,6 @@ that one check tells of all changes of a function."""
 import os
 import re
 
-from build import LIBRARY, PROGRAM
 from rust_places import begin_of, blanked, function_named, functions, is_marked, named
 
 # how the name of a copy ends, before its number
@@ -72,10 +71,10 @@ def functions_of(texts, steps):
 
 def may_be_copied(crate, place):
     """Whether a copy beside a function is checked as the function is. It isn't if a trait has it, if it is proved with
-    others that call it, if a check sees only what is reached, or if a lemma speaks of its goals."""
+    others that call it, if a check sees only what is reached, or if a lemma names its goals."""
     file, (owner, trait, _) = place
     function = crate.functions[place]
-    if trait or owner and owner not in crate.types or crate.name in (PROGRAM, LIBRARY):
+    if trait or owner and owner not in crate.types or not crate.sees_all:
         return False
     (folder,) = crate.proof_folders(file, function)
     own, goals = f"proofs/{folder}/", f"proofs.{folder.replace('/', '.')}."

@@ -274,7 +274,7 @@ class Edits(Folder):
         self.edit("low_differs", ("is_low(x)", "DIFFERS(x)"))
         child = self.start(SECONDS="30")
         for _ in range(600):
-            if os.path.exists(self.path("notes")):
+            if os.path.exists(self.path("notes")) and os.path.getsize(self.path("notes")):
                 break
             time.sleep(0.05)
         child.send_signal(signal.SIGTERM)
