@@ -1,7 +1,8 @@
 use denote.Ref.{Bor}
-use Rattle.std.proofs.Common.{◌≡◌, ◌+◌, ◌-◌, ◌*◌, ◌<◌, ◌∙◌, ℕ, Vec, List, [], ap, length, map, refl, subst, sym, get_or, arith}
+use Rattle.std.proofs.Common.{◌≡◌, ◌+◌, ◌-◌, ◌*◌, ◌<◌, ◌≤◌, ◌∙◌, ℕ, Vec, List, [], ap, length, map, refl, subst, sym, get_or, arith}
 use Rattle.std.specs.Global.{Global}
 use Rattle.std.proofs.lemmas.List.{length-map}
+use Rattle.std.proofs.lemmas.Grind.{common_steps}
 use Rattle.pnm_samples.specs.Blocks.{bits_of}
 use Rattle.pnm_samples.specs.Columns.{HavePairs}
 use Rattle.pnm_samples.proofs.ColumnLaws.{HoldEight, HoldsGroups, eight_more, sixteen_hold, written_whole}
@@ -35,3 +36,7 @@ loop-beside-preserved c =
     (omega (arith, c.min-beside-end.ensures)) c.requires.width c.loop-beside.invariant in
     subst (HoldsGroups c.args.byte c.args.width c.div_ceil-groups.result rows g (n + 1)) (sym (written_whole old.len new old.items (old.ok.0 ∙ sym put.many)))
     more
+
+pub returns : goal.returns
+returns c =
+    let _all : length c.args.rows.now ≤ 16 * c.div_ceil-groups.result = omega (arith, c.len.ensures, c.div_ceil-groups.ensures) in grind (arith, common_steps)

@@ -1,9 +1,11 @@
-use Rattle.std.proofs.Common.{arith, rules}
-use Rattle.std.proofs.lemmas.Grind.{common_steps}
+use Rattle.std.proofs.Common.{◌∙◌, ℕ, List, ap, subst, sym, take}
+use Rattle.pnm_samples.specs.Pixels.{all_pixels, ArePacked}
 use Rattle.pnm_samples.proofs.bits.Bits.copy.Goals as goal
 
 pub invariant_of-result : goal.invariant_of-result
-invariant_of-result c = search rules
+invariant_of-result c =
+    subst (ArePacked c.self.inside.count) (sym (c.in_ok-from_slice.ensures.items ∙ c.as_slice.ensures.value)) c.self.invariant
 
 pub returns : goal.returns
-returns c = grind (arith, common_steps)
+returns c =
+    ap (λ (bytes : List ℕ). take c.self.inside.count (all_pixels bytes)) (c.in_ok-from_slice.ensures.items ∙ c.as_slice.ensures.value) ∙ c.self.view_is

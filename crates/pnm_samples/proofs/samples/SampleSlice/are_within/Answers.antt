@@ -1,5 +1,6 @@
 use Rattle.std.proofs.Common.{rules}
-use Rattle.std.proofs.Common.{◌≤◌, All, sym, subst, arith}
+use Rattle.std.proofs.Common.{◌≤◌, ◌↔◌, All, IsTrue, take, sym, subst, arith}
+use Rattle.pnm_samples.specs.Pixels.{all_pixels}
 use Rattle.pnm_samples.specs.SampleVecs.{slice_samples}
 use Rattle.pnm_samples.proofs.PixelRowLaws.{byte_pixels_within}
 use Rattle.pnm_samples.proofs.samples.SampleSlice.are_within.Goals as goal
@@ -10,3 +11,8 @@ returns-then-most-gt0 c = (
       (byte_pixels_within c.in-Bits.count c.args.most c.in-Bits.bytes.now (omega arith)),
   λ _. search rules,
 )
+
+pub returns-else-most-gt0 : goal.returns-else-most-gt0
+returns-else-most-gt0 c =
+    let pixels = take c.in-Bits.count (all_pixels c.in-Bits.bytes.now) in
+    let _asked : IsTrue c.are_black.result ↔ All (λ sample. sample ≤ 0) pixels = c.are_black.ensures in search rules
