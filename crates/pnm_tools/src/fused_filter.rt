@@ -47,8 +47,8 @@ impl<F: Filter + Drop> FusedFilter<F> {
             → FilterBusy F.at F.stopped self.new tool (l ++ message ∷ []) g }
     {
         if let FusedFilter::AtWork(filter) = self {
-            if let Err(fault) = filter.feed(message) {
-                self.refuse(fault);
+            if let Err(refusal) = filter.feed(message) {
+                self.refuse(refusal);
             }
         }
     }
