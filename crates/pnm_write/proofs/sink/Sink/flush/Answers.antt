@@ -3,7 +3,7 @@ use Rattle.pnm_image.proofs.Written.{fails}
 use Rattle.pnm_write.proofs.sink.Sink.flush.Goals as goal
 
 pub returns-in-Err-clause-sound : goal.returns-in-Err-clause-sound
-returns-in-Err-clause-sound g c = cc
+returns-in-Err-clause-sound g c = refl
 
 pub returns-in-Err-clause-flush : goal.returns-in-Err-clause-flush
 returns-in-Err-clause-flush g c =
