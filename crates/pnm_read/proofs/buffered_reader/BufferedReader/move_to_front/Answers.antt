@@ -1,6 +1,10 @@
-use Rattle.std.proofs.Common.{arith}
+use Rattle.std.proofs.Common.{◌≡◌, ◌-◌, arith}
+use Rattle.std.specs.List.{slice_range}
 use Rattle.std.proofs.lemmas.Grind.{common_steps}
+use Rattle.pnm_read.specs.BufferedReaders.{held_of}
 use Rattle.pnm_read.proofs.buffered_reader.BufferedReader.move_to_front.Goals as goal
 
 pub returns-then-self-gt0-clause-held : goal.returns-then-self-gt0-clause-held
-returns-then-self-gt0-clause-held g c = grind (arith, common_steps)
+returns-then-self-gt0-clause-held g c =
+    let old = c.args.self.now in
+    let moved : slice_range c.copy_within.new.self.items 0 (old.end - old.at) ≡ held_of old = grind (arith, common_steps) in moved
