@@ -88,7 +88,8 @@ impl SampleRows {
         if self.prefers_strips(shape) {
             return self.push_each(alloc, last_first, shape, rows);
         }
-        if self.push_rows(rows)? {
+        let are_added = self.push_rows(rows)?;
+        if are_added {
             return Ok(());
         }
         self.push_each(alloc, last_first, shape, rows)

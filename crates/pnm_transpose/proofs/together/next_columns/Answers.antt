@@ -1,4 +1,4 @@
-use Rattle.std.proofs.Common.{rules, ◌≡◌, ◌++◌, ◌∷◌, [], Some, ap, ◌∙◌, List, ℕ, Option, option_to_list}
+use Rattle.std.proofs.Common.{rules, arith, ◌≡◌, ◌++◌, ◌∷◌, [], Some, ap, ◌∙◌, List, ℕ, Option, option_to_list}
 use Rattle.pnm_transpose.proofs.RowsTogetherLaws.{first_held}
 use Rattle.pnm_transpose.proofs.together.next_columns.Goals as goal
 
@@ -15,4 +15,13 @@ loop-count-init c =
       some = c.into_parts-held.ensures.some;
       held = known.0;
       all = known.1;
+    }
+
+pub loop-count-preserved : goal.loop-count-preserved
+loop-count-preserved c =
+    let taken = c.in_ok-take_next.ensures.taken c.if-not-branch.false c.loop-count.count c.loop-count.invariant.held in
+    record {
+      some = omega arith;
+      held = taken.1;
+      all = c.loop-count.invariant.all ∙ taken.0;
     }
