@@ -1,5 +1,6 @@
 #!/usr/bin/env python3
-"""Wants runs to do with little room: a stack of few KiB, and the memory of what `pnmtile` shows.
+"""Wants runs to do with little room: a stack of few KiB, and the memory of what `pnmtile` shows; and small PAM images
+to take no more time if their headers are written in another way.
 
 Each command of `refused.py` has to end as it does with room enough, in a stack of 32 KiB for one tool, of the main
 thread and of each thread that the program starts, and of some more for each further tool, which is started within the
@@ -9,11 +10,14 @@ refused here. The system takes up to 8 KiB of the main thread's stack, at random
 each command in place of that.
 
 `pnmtile` keeps the columns that it shows, and no whole rows of an image that is larger than what fits beside them.
+
+Whether a header is held whole is asked before each image, so the search for its last line must not go beyond that.
 """
 
 import argparse
 import collections
 import os
+import resource
 import shlex
 import subprocess
 import sys
@@ -37,6 +41,13 @@ MOST = 8192
 WIDE, HIGH = 10_000, 8_000
 SHOWN = 5
 RESIDENT = 10
+
+# so many images of a pixel, with the last line of the header as the program writes it, and in other ways; how many
+# times as much time these may take, and the seconds that don't count
+PIXELS = 20_000
+LINES = b"WIDTH 1\nHEIGHT 1\nDEPTH 1\nMAXVAL 255\n"
+EXACT, OTHERS = b"ENDHDR\n", (b"ENDHDR \n", b"ENDHDR\r\n", b" ENDHDR x\n")
+MOST_TIMES, LITTLE = 4, 0.3
 
 
 def tools_of(command):
@@ -140,6 +151,31 @@ def check_tiles(args):
     return 0 if is_right and child.returncode == 0 and resident < RESIDENT else 1
 
 
+def seconds_of_pixels(args, last_line):
+    """The processor's time for images whose header has this last line."""
+    before = resource.getrusage(resource.RUSAGE_CHILDREN)
+    given = (b"P7\n" + LINES + last_line + b"\x01") * PIXELS
+    made = subprocess.run([args.program, "pnminvert"], input=given, capture_output=True, timeout=600, check=True)
+    after = resource.getrusage(resource.RUSAGE_CHILDREN)
+    if made.stdout != (b"P7\n" + LINES + EXACT + b"\xfe") * PIXELS:
+        raise Fault("other pixels were written")
+    return after.ru_utime + after.ru_stime - before.ru_utime - before.ru_stime
+
+
+def check_headers(args):
+    """How many ways to write the last line of a PAM header take more time than they may, in two tries."""
+    failed = 0
+    for other in OTHERS:
+        for _ in range(2):
+            exact, seconds = (seconds_of_pixels(args, line) for line in (EXACT, other))
+            if seconds <= MOST_TIMES * exact + LITTLE:
+                break
+        else:
+            failed += 1
+            print(f"room: {PIXELS} headers with {other!r} took {seconds:.2f} s, and {exact:.2f} s with {EXACT!r}")
+    return failed
+
+
 def main():
     parser = argparse.ArgumentParser(description=__doc__.split("\n\n")[0])
     parser.add_argument("--program", default=os.path.join(ROOT, "bin/pnmpipe"))
@@ -152,9 +188,10 @@ def main():
         tell_least(args)
         return
     count, failed = check_stacks(args)
-    tiles = check_tiles(args)
+    tiles, headers = check_tiles(args), check_headers(args)
     print(f"room: {count} commands, {failed} of them failed in their stack, {tiles} in their memory")
-    sys.exit(1 if failed or tiles or not count else 0)
+    print(f"room: {headers} of {len(OTHERS)} headers took more time")
+    sys.exit(1 if failed or tiles or headers or not count else 0)
 
 
 if __name__ == "__main__":

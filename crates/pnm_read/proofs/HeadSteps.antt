@@ -96,14 +96,14 @@ shape_of_three Pam sizes depth held found e s d n = rw s (shape_of_all Pam depth
 -- ---- the head of a text
 
 -- what the head of a text is after its piece
-abbrev head_after : Kind → Result (List ℕ × List ℕ) InputFault → Result (HeadValue × List ℕ) InputFault
+abbrev pub head_after : Kind → Result (List ℕ × List ℕ) InputFault → Result (HeadValue × List ℕ) InputFault
 head_after kind piece = piece >>= λ p. numbers_item kind (numbers_in p.0) >>= λ head. Ok (head, p.1)
 
-head_at_is : (kind : Kind) (text : List ℕ) → pnm_head_at kind text ≡ head_after kind (piece_from (header_item (number_count kind)) header_end [] text)
+pub head_at_is : (kind : Kind) (text : List ℕ) → pnm_head_at kind text ≡ head_after kind (piece_from (header_item (number_count kind)) header_end [] text)
 unfolding pnm_head_at
 head_at_is kind text = refl
 
-abbrev head_with : List ℕ → Result HeadValue InputFault → Result (HeadValue × List ℕ) InputFault
+abbrev pub head_with : List ℕ → Result HeadValue InputFault → Result (HeadValue × List ℕ) InputFault
 head_with after read = read >>= λ head. Ok (head, after)
 
 -- the head of the numbers of a piece
@@ -125,7 +125,7 @@ count_is kind text piece rest e =
     let end = ended (number_count kind) body.body body.delimiter body.ends in
     ap (λ (l : List ℕ). length (numbers_in l)) body.piece_is ∙ ap length (numbers-white body.body body.delimiter end.outside end.white) ∙ end.all
 
-few_numbers : (kind : Kind) → number_count kind ≤ 3
+pub few_numbers : (kind : Kind) → number_count kind ≤ 3
 few_numbers Bit = omega arith
 few_numbers Gray = omega arith
 few_numbers Color = omega arith
@@ -143,7 +143,7 @@ fresh_scans kind wanted old now result text after fresh count three scans =
     (scans [] (header_fresh wanted old fresh (omega arith) (omega arith) three))
 
 -- the numbers that a scanner found
-numbers_found : (kind : Kind) (now : HeaderScanner) (text piece after : List ℕ) → IsHeaderWhole now piece
+pub numbers_found : (kind : Kind) (now : HeaderScanner) (text piece after : List ℕ) → IsHeaderWhole now piece
     → piece_from (header_item (number_count kind)) header_end [] text ≡ Ok (piece, after) → IsNumbers (number_count kind) (numbers_in piece) now.numbers
 numbers_found kind now text piece after whole p = record { count = count_is kind text piece after p; most = few_numbers kind; last = whole.last }
 

@@ -59,3 +59,5 @@ pub mod GivenLaws
 pub mod RowsInTurn
 pub mod FirstRows
 pub mod FaultPrefixes
+pub mod HeldHeads
+pub mod SizeSteps

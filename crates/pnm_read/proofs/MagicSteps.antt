@@ -37,13 +37,13 @@ unfolding format_at first_magic_item second_magic_item
 magic_cut is_first text rest e f = ap (format_at is_first) (e ∙ ap (λ (l : List ℕ). 80 ∷ l) f)
 
 -- the second byte
-abbrev second_as : Bool → List ℕ → Option Format → Result (Format × List ℕ) InputFault
+abbrev pub second_as : Bool → List ℕ → Option Format → Result (Format × List ℕ) InputFault
 second_as is_first after found = elim found [
   | Some format ↦ if is_plain_form format.form && not is_first then Err PlainInStream else Ok (format, after)
   | None ↦ Err BadMagic
 ]
 
-second_is : (is_first : Bool) (b : ℕ) (after : List ℕ) → format_at is_first (80 ∷ b ∷ after) ≡ second_as is_first after (format_of b)
+pub second_is : (is_first : Bool) (b : ℕ) (after : List ℕ) → format_at is_first (80 ∷ b ∷ after) ≡ second_as is_first after (format_of b)
 unfolding format_at first_magic_item second_magic_item
 second_is is_first b after = refl
 

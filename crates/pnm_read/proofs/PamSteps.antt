@@ -95,20 +95,20 @@ pam_feed old new b line j lt e l is none judges = subst (λ (b : ℕ). JudgesByt
 -- ---- the head
 
 -- the head of a text after its LF
-abbrev head_after : Result (List ℕ × List ℕ) InputFault → Result (HeadValue × List ℕ) InputFault
+abbrev pub head_after : Result (List ℕ × List ℕ) InputFault → Result (HeadValue × List ℕ) InputFault
 head_after piece = piece >>= λ p. lines_item (ended_lines p.0) >>= λ head. Ok (head, p.1)
 
 -- the head of a text from its LF on
-abbrev head_from : Result (List ℕ) InputFault → Result (HeadValue × List ℕ) InputFault
+abbrev pub head_from : Result (List ℕ) InputFault → Result (HeadValue × List ℕ) InputFault
 head_from rest = rest >>= λ text. head_after (piece_from pam_item header_end [] text)
 
 -- the head of a text, step by step
-head_at_is : (text : List ℕ) → pam_head_at text ≡ head_from (line_feed_item text)
+pub head_at_is : (text : List ℕ) → pam_head_at text ≡ head_from (line_feed_item text)
 unfolding pam_head_at
 head_at_is text = refl
 
 -- a head, and what is left after it
-abbrev head_with : List ℕ → Result HeadValue InputFault → Result (HeadValue × List ℕ) InputFault
+abbrev pub head_with : List ℕ → Result HeadValue InputFault → Result (HeadValue × List ℕ) InputFault
 head_with after read = read >>= λ head. Ok (head, after)
 
 -- no LF follows the magic

@@ -16,6 +16,7 @@ pub mod Scans
 pub mod Leading
 pub mod Saturation
 pub mod Scanners
+pub mod ImageSizes
 pub mod PamScanners
 pub mod RawParts
 pub mod Awaiting

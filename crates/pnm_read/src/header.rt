@@ -11,6 +11,7 @@ ghost use Rattle.pnm_read.specs.Items.{fault_of_head, numbers_item};
 ghost use Rattle.pnm_read.specs.Said.{format_at, pnm_head_at, head_at};
 ghost use Rattle.pnm_read.specs.BufferedReaders.{ReadCall, Finds};
 ghost use Rattle.pnm_read.specs.Magics.{format_named};
+ghost use Rattle.pnm_read.specs.ImageSizes.{FindsIn};
 ghost use Rattle.pnm_read.specs.Saturation.{IsNumbers, GivesInMemory};
 
 use crate::buffered_reader::BufferedReader;
@@ -49,7 +50,7 @@ pub fn read_format<R: BytesIn>(
 }
 
 /// The format that the second byte of a magic names. A plain format may only come first.
-fn format_named(byte: u8, is_first: bool) -> Result<Format, InputFault>
+pub fn format_named(byte: u8, is_first: bool) -> Result<Format, InputFault>
     ensures { result ≡ format_named is_first byte }
 {
     let Some(format) = Format::of(byte) else {
@@ -73,6 +74,33 @@ pub fn read_head<R: BytesIn>(
         Kind::Bit | Kind::Gray | Kind::Color => read_pnm_head(input, format.kind),
         Kind::Pam => pam::read_head(input),
     }
+}
+
+/// The head whose header these bytes begin with, which follow the magic, and how many of them the header takes; or
+/// `None` if it goes on after them. A fault of the header is that of any text which begins so.
+pub fn head_in(
+    alloc: Global,
+    format: Format,
+    bytes: &[u8],
+) -> Result<Option<(Head, usize)>, InputFault>
+    ensures { FindsIn (head_at format) bytes.now result }
+{
+    match format.kind {
+        Kind::Bit | Kind::Gray | Kind::Color => pnm_head_in(alloc, format.kind, bytes),
+        Kind::Pam => pam::head_in(alloc, bytes),
+    }
+}
+
+/// The same of PBM, PGM or PPM.
+fn pnm_head_in(alloc: Global, kind: Kind, bytes: &[u8]) -> Result<Option<(Head, usize)>, InputFault>
+    ensures { FindsIn (pnm_head_at kind) bytes.now result }
+{
+    let mut header = HeaderScanner::new(number_count(kind));
+    let Some(taken) = feed(&mut header, bytes)? else {
+        return Ok(None);
+    };
+    let head = head_of(alloc, kind, header.numbers)?;
+    Ok(Some((head, taken)))
 }
 
 /// Whether these bytes, with which the image begins, determine its header, or the fault there, without any more bytes.

@@ -22,11 +22,13 @@ mod raster;
 mod raw;
 mod scan;
 mod scan_status;
+mod sizes;
 mod source;
 mod spare_rows;
 mod units;
 
 pub use buffered_reader::ReadBuffer;
 pub use fault::InputFault;
+pub use sizes::{ImageSize, image_size};
 pub use source::Source;
 pub use spare_rows::SpareRows;

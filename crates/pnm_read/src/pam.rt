@@ -4,13 +4,15 @@ ghost use Rattle.std.specs.Prelude.{◌≤◌, ◌-◌, []};
 ghost use Rattle.pnm_read.specs.declared.pam.TheConstants.{PAM_LIMIT};
 ghost use Rattle.pnm_read.specs.Items.{line_feed_item};
 ghost use Rattle.pnm_read.specs.Said.{pam_head_at};
+ghost use Rattle.pnm_read.specs.ImageSizes.{FindsIn};
 ghost use Rattle.pnm_read.specs.BufferedReaders.{ReadCall, Finds, Passes};
 
 use crate::buffered_reader::BufferedReader;
 use crate::fault::InputFault;
 use crate::fields::{Fields, head_of};
 use crate::header::MAX_HEADER_LENGTH;
-use crate::scan::{Scanner, scan};
+use crate::line::{LineKind, split_token};
+use crate::scan::{Scanner, feed, scan};
 use crate::scan_status::ScanStatus;
 use pnm_image::{BytesIn, Head};
 use std::alloc::Global;
@@ -30,12 +32,38 @@ pub fn read_head<R: BytesIn>(input: &mut BufferedReader<R>) -> Result<Head, Inpu
     head_of(input.allocator(), header.fields)
 }
 
-/// The last line of a header as it is mostly written, with the LF before it.
-const LAST_LINE: &[u8] = b"\nENDHDR\n";
+/// The head whose header these bytes begin with, which follow the magic, and how many of them the header takes; or
+/// `None` if it goes on after them.
+pub fn head_in(alloc: Global, bytes: &[u8]) -> Result<Option<(Head, usize)>, InputFault>
+    ensures { FindsIn pam_head_at bytes.now result }
+{
+    let [first, lines @ ..] = bytes else {
+        return Ok(None);
+    };
+    if *first != b'\n' {
+        return Err(InputFault::BadPamLine);
+    }
+    let mut header = PamScanner::new(alloc);
+    let Some(taken) = feed(&mut header, lines)? else {
+        return Ok(None);
+    };
+    let head = head_of(alloc, header.fields)?;
+    Ok(Some((head, 1 + taken)))
+}
 
-/// Whether these bytes contain the last line of a header as it is mostly written.
+/// Whether a header ends within these bytes, which follow its magic, by its last line or by one that none can have.
 pub fn has_last_line(bytes: &[u8]) -> bool {
-    bytes.windows(LAST_LINE.len()).any(|part| part == LAST_LINE)
+    let mut start = 0;
+    for (end, byte) in bytes.iter().enumerate() {
+        if *byte == b'\n' {
+            let (token, _) = split_token(&bytes[start..end]);
+            if matches!(LineKind::of(token), LineKind::End | LineKind::Unknown) {
+                return true;
+            }
+            start = end + 1;
+        }
+    }
+    false
 }
 
 /// The LF after the magic.
