@@ -61,3 +61,5 @@ pub mod FirstRows
 pub mod FaultPrefixes
 pub mod HeldHeads
 pub mod SizeSteps
+pub mod DecidedSteps
+pub mod AloneLaws

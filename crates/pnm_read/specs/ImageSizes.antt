@@ -1,16 +1,17 @@
 -- What the first bytes of an image tell of its size.
-use Rattle.std.specs.Prelude.{◌≡◌, ◌⊎◌, ℕ, ◌+◌, ◌*◌, ◌≤◌, Bool, true, false, List, ◌++◌, drop, length, Option, Some}
+use Rattle.std.specs.Prelude.{◌≡◌, ◌⊎◌, ℕ, ◌+◌, ◌*◌, ◌≤◌, Bool, true, false, List, ◌++◌, take, drop, length, Option, Some}
 use Rattle.std.specs.Prelude.{None, Result, Ok, Err}
 use Rattle.pnm_image.specs.Formats.{is_plain_form}
 use Rattle.pnm_image.specs.Heads.{HeadValue}
 use Rattle.pnm_image.specs.declared.format.Format.{Format}
+use Rattle.pnm_image.specs.declared.message.Message.{Message}
 use Rattle.pnm_read.specs.declared.fault.InputFault.{InputFault}
 use Rattle.pnm_read.specs.declared.fault.InputFault.TheVariants.{EmptyInput, HeaderCut as CutFault, Memory}
 use Rattle.pnm_read.specs.declared.sizes.ImageSize.{ImageSize}
 use Rattle.pnm_read.specs.declared.sizes.ImageSize.TheVariants.{HeaderCut, Raw, Plain}
 use Rattle.pnm_read.specs.Headers.{SpellsHeader}
 use Rattle.pnm_read.specs.Rasters.{bytes_in_row}
-use Rattle.pnm_read.specs.Said.{says_fault, image_said, later_said, head_at}
+use Rattle.pnm_read.specs.Said.{Said, says_fault, says_nothing, image_said, later_said, head_at}
 
 -- the bytes begin with the header of an image, plain or raw
 pub record BeginsWithHeader (is_plain : Bool) (bytes : List ℕ) : Type 0 where
@@ -42,6 +43,24 @@ TellsSize is_first bytes (Ok HeaderCut) = IsCutInHeader is_first bytes
 TellsSize is_first bytes (Ok (Raw size)) = HasRawSize bytes size
 TellsSize is_first bytes (Ok Plain) = (is_first ≡ true) × BeginsWithHeader true bytes
 TellsSize is_first bytes (Err fault) = IsFaultOfAll is_first bytes fault ⊎ (fault ≡ Memory)
+
+-- ---- an image by itself
+
+-- what is said first, and where that has no fault, what is said after it
+abbrev pub joined : List Message → Option InputFault → Said → Said
+joined messages (Some fault) next = record { messages = messages; fault = Some fault }
+joined messages None next = record { messages = messages ++ next.messages; fault = next.fault }
+
+abbrev pub followed_by : Said → Said → Said
+followed_by first next = joined first.messages first.fault next
+
+-- Of a text that begins with the header of a raw image and has all bytes of its raster, what is said of the image alone
+-- is said, and then, if that has no fault, what is said of what follows it.
+abbrev pub FirstImageStandsAlone : Type 0
+FirstImageStandsAlone =
+    (text : List ℕ) (size : ℕ) (is_first : Bool) → HasRawSize text size → size ≤ length text
+    → image_said later_said is_first text
+    ≡ followed_by (image_said (λ rest. says_nothing) is_first (take size text)) (later_said (drop size text))
 
 -- ---- steps
 

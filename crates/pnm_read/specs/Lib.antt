@@ -17,6 +17,7 @@ pub mod Leading
 pub mod Saturation
 pub mod Scanners
 pub mod ImageSizes
+pub mod ImageEnds
 pub mod PamScanners
 pub mod RawParts
 pub mod Awaiting

@@ -5,6 +5,7 @@ ghost use Rattle.pnm_read.specs.TextLaws.{SpelledIsSaid, SaidIsSpelled, SpelledA
 ghost use Rattle.pnm_read.specs.TextLaws.{OneStreamOrOneFault};
 ghost use Rattle.pnm_read.specs.TextLaws.{SaidBeforeFaultIsSpelled, SaidIsLawful, SaidAreMessages};
 ghost use Rattle.pnm_read.specs.TextLaws.{EndIsSaidWithoutFault, FaultsAreOfTexts};
+ghost use Rattle.pnm_read.specs.ImageSizes.{FirstImageStandsAlone};
 ghost use Rattle.pnm_read.specs.declared.decimal.TheConstants.{GAP_LIMIT};
 ghost use Rattle.pnm_read.specs.declared.header.TheConstants.{MAX_HEADER_LENGTH};
 ghost use Rattle.std.specs.Prelude.{◌≡◌};
@@ -38,6 +39,12 @@ pub fn one_stream_or_one_fault()
 /// and then, by the rest, nothing, or the header of an image and its first rows, as many as there are.
 pub fn what_is_said_before_a_fault_is_spelled()
     ensures { SaidBeforeFaultIsSpelled }
+{}
+
+/// What is said of a text that begins with a raw image is what is said of the image alone, as many bytes as its header
+/// and its raster have; and then, if that has no fault, what is said of what follows it.
+pub fn first_image_stands_alone()
+    ensures { FirstImageStandsAlone }
 {}
 
 /// What is said of any text, also before a fault, may come in turn, and each head in it keeps the

@@ -7,6 +7,7 @@
 mod buffered_reader;
 mod comments;
 mod decimal;
+mod ends;
 mod fault;
 mod fields;
 mod header;
@@ -15,6 +16,7 @@ mod held_words;
 pub mod laws;
 mod leading;
 mod line;
+mod open_reader;
 mod pam;
 mod pixel;
 mod plain;
@@ -28,7 +30,7 @@ mod spare_rows;
 mod units;
 
 pub use buffered_reader::ReadBuffer;
+pub use ends::image_end;
 pub use fault::InputFault;
-pub use sizes::{ImageSize, image_size};
 pub use source::Source;
 pub use spare_rows::SpareRows;
