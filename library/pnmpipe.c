@@ -14,6 +14,7 @@ uint32_t pnm_c_run(const uint8_t *chain, size_t chain_length, uint32_t form, con
                    uint8_t *room, size_t room_length, struct pnmpipe_answer *answer);
 uint32_t pnm_c_run_new(const uint8_t *chain, size_t chain_length, uint32_t form, const uint8_t *input,
                        size_t input_length, struct pnmpipe_bytes *results, struct pnmpipe_answer *answer);
+uint32_t pnm_c_image_end(const uint8_t *text, size_t text_length, uint32_t is_first, size_t *end);
 
 /* The bytes of the block whose freeing has the heap keep more. */
 enum { KEPT = 1 << 20 };
@@ -96,150 +97,97 @@ uint32_t pnmpipe_run_new(const char *chain, size_t chain_length, uint32_t form, 
 
 /* ---- between descriptors
  *
- * Whole raw images are run as they come, some at a time, so that a stream takes no more memory than its largest images.
- * Where an image ends is guessed from its header, and a wrong guess costs memory alone: what was run counts only if the
- * proved functions say that it was whole raw images and nothing else, none of which a tool refuses. These are then the
- * stream's own, since nothing stands before, between or after them. The rest is read to its end and run behind the part
- * before it, whose results were written, so that a fault is the one that the stream has: a tool's comes after all of
- * the input, and a plain image may come first alone. For plain output, which has one image, all is such a rest. */
+ * Images are run as they come, small ones several at a time. A proved function, pnm_c_image_end, says of the bytes that
+ * are held where their first image ends; how many bytes it has at least, if it isn't whole; or which fault its header
+ * has, whatever follows. So what is run are whole images of the stream, and their faults are the stream's. The call
+ * ends at the first fault of the input. Of other faults that of the first tool in the chain counts, and a tool's before
+ * one of the output, so that the call reads on after them, but it writes no more. */
 
-/* How many bytes of images are run at a time, unless one has more; where a longer header is no longer guessed at. */
-enum { PART = 1 << 18, HEADER = 1 << 16 };
-
-/* The most that the tools take of a width and of a height, and of a depth. */
-enum { MOST = 1 << 24, MOST_DEPTH = 1 << 8 };
-
-struct text {
-    const uint8_t *at, *end;
-};
-
-static int is_blank(uint8_t byte) {
-    return byte == ' ' || byte == '\t' || byte == '\r' || byte == '\n';
-}
-
-static int is_digit(uint8_t byte) {
-    return byte >= '0' && byte <= '9';
-}
-
-/* The next number of a header, behind white space and comments; 0 where there is none that the tools take, or where it
- * may go on. */
-static size_t next_number(struct text *text) {
-    size_t number = 0;
-    int is_comment = 0;
-    for (; text->at < text->end && (is_comment || !is_digit(*text->at)); text->at++) {
-        is_comment = (is_comment || *text->at == '#') && *text->at != '\n' && *text->at != '\r';
-        if (!is_comment && !is_blank(*text->at))
-            return 0;
-    }
-    for (; text->at < text->end && is_digit(*text->at) && number <= MOST; text->at++)
-        number = 10 * number + (size_t)(*text->at - '0');
-    return text->at < text->end && number <= MOST ? number : 0;
-}
-
-static size_t raster_size(size_t width, size_t height, size_t depth, size_t maxval) {
-    if (depth > MOST_DEPTH)
-        return 0;
-    /* (below 2^58) */
-    return width * height * depth * (maxval < 256 ? 1 : 2);
-}
-
-/* The bytes of the raster behind a header of PAM, or 0. */
-static size_t pam_raster(struct text *text) {
-    static const char *const names[] = {"WIDTH ", "HEIGHT ", "DEPTH ", "MAXVAL "};
-    size_t fields[] = {0, 0, 0, 0}, at;
-    for (;;) {
-        const uint8_t *end = memchr(text->at, '\n', (size_t)(text->end - text->at));
-        struct text line = {text->at, end ? end + 1 : NULL};
-        if (end == NULL)
-            return 0;
-        text->at = line.end;
-        if (line.end - line.at == 7 && memcmp(line.at, "ENDHDR", 6) == 0)
-            return raster_size(fields[0], fields[1], fields[2], fields[3]);
-        for (at = 0; at < 4; at++) {
-            size_t length = strlen(names[at]);
-            if ((size_t)(line.end - line.at) > length && memcmp(line.at, names[at], length) == 0) {
-                line.at += length;
-                fields[at] = next_number(&line);
-            }
-        }
-    }
-}
-
-/* The bytes of the raw image that begins here, by its header; 0 where they aren't known. */
-static size_t image_size(const uint8_t *at, size_t length) {
-    struct text text = {at + 2, at + (length < HEADER ? length : HEADER)};
-    size_t width, height, maxval, raster;
-    if (length < 3 || at[0] != 'P' || at[1] < '4' || at[1] > '7')
-        return 0;
-    if (at[1] == '7') {
-        raster = pam_raster(&text);
-    } else {
-        width = next_number(&text);
-        height = next_number(&text);
-        maxval = at[1] == '4' ? 1 : next_number(&text);
-        raster = raster_size(at[1] == '4' ? (width + 7) / 8 : width, height, at[1] == '6' ? 3 : 1, maxval);
-        /* (a byte of white space stands before it) */
-        if (text.at < text.end)
-            text.at++;
-        raster = maxval ? raster : 0;
-    }
-    return raster ? (size_t)(text.at - at) + raster : 0;
-}
-
-/* The bytes of the whole raw images that come first, as many as make a part. */
-static size_t whole_images(const uint8_t *at, size_t length) {
-    size_t size, done = 0;
-    while (done < PART && (size = image_size(at + done, length - done)) > 0 && size <= length - done)
-        done += size;
-    return done;
-}
+/* How many bytes of images are run at a time, unless one has more; those of the smallest buffer, and of any header. */
+enum { PART = 1 << 18, ROOM = 1 << 19, HEADER = 1 << 16 };
 
 struct stream {
     const uint8_t *chain;
     size_t chain_length;
     uint32_t form;
     int from, to;
-    /* what was read: the part that was run last, and what came after it */
-    uint8_t *at;
-    size_t room, length, part;
-    /* what was answered to that part, and the images and rows before it */
-    struct pnmpipe_answer last;
-    uint64_t images, rows;
-    /* whether all was read, and why no more could be; whether a write failed */
-    int is_read, is_lost;
+    /* what was read and isn't run: the bytes of the buffer from `at` up to `end` */
+    uint8_t *buffer;
+    size_t room, at, end;
+    /* how many of them there have to be before it is asked again where the first image ends */
+    size_t wanted;
+    /* whether an image was run; whether no more is read, and why no more could be; whether a write failed */
+    int is_begun, is_read, is_lost;
     uint32_t reading;
 };
 
-/* Reads once, as soon as there is room for it. A known image is given no more than it has. */
+static size_t held(const struct stream *stream) {
+    return stream->end - stream->at;
+}
+
+/* Finds the whole images that are held first, as many as make a part, and the fault of the header behind them. */
+static uint32_t find_part(struct stream *stream, size_t *part) {
+    size_t left, end;
+    for (*part = 0; *part < PART && (left = held(stream) - *part) >= stream->wanted; *part += end) {
+        const uint8_t *first = stream->buffer + stream->at + *part;
+        uint32_t code = pnm_c_image_end(first, left, !stream->is_begun && *part == 0, &end);
+        if (code != PNMPIPE_OK)
+            return code;
+        if (end > left) {
+            /* (what is longer than a header and still unknown is a plain image) */
+            stream->wanted = end == left + 1 && left > HEADER ? 2 * left : end;
+            return code;
+        }
+        stream->wanted = 1;
+    }
+    return PNMPIPE_OK;
+}
+
+/* Makes room behind what is held, for an image of so many bytes as are wanted where it can be. A header may promise
+ * what doesn't come, so the buffer has at most twice as much as was read. */
+static int make_room(struct stream *stream) {
+    size_t room = stream->room > 0 ? 2 * stream->room : ROOM;
+    uint8_t *more;
+    if (stream->end < stream->room && stream->room - stream->at >= stream->wanted)
+        return 1;
+    if (stream->at > 0) {
+        stream->end = held(stream);
+        memmove(stream->buffer, stream->buffer + stream->at, stream->end);
+        stream->at = 0;
+    }
+    if (stream->end < stream->room)
+        return 1;
+    if (stream->room > 0 && stream->wanted < room)
+        room = stream->wanted;
+    more = stream->room <= SIZE_MAX / 2 ? realloc(stream->buffer, room) : NULL;
+    if (more == NULL)
+        return 0;
+    stream->buffer = more;
+    stream->room = room;
+    return 1;
+}
+
+/* Reads once, as soon as there is room for it. */
 static void read_more(struct stream *stream) {
     ssize_t count;
-    if (stream->length == stream->room) {
-        size_t size = image_size(stream->at + stream->part, stream->length - stream->part);
-        size_t room = stream->room > SIZE_MAX / 2 ? stream->room : stream->room ? 2 * stream->room : 2 * PART;
-        uint8_t *more;
-        if (size > stream->length - stream->part && size < room - stream->part)
-            room = stream->part + size;
-        more = room > stream->room ? realloc(stream->at, room) : NULL;
-        if (more == NULL) {
-            stream->is_read = 1;
-            stream->reading = PNMPIPE_INPUT_MEMORY;
-            return;
-        }
-        stream->at = more;
-        stream->room = room;
+    if (!make_room(stream)) {
+        stream->is_read = 1;
+        stream->reading = PNMPIPE_INPUT_MEMORY;
+        return;
     }
     do
-        count = read(stream->from, stream->at + stream->length, stream->room - stream->length);
+        count = read(stream->from, stream->buffer + stream->end, stream->room - stream->end);
     while (count < 0 && errno == EINTR);
     if (count > 0)
-        stream->length += (size_t)count;
+        stream->end += (size_t)count;
     stream->is_read = count <= 0;
     if (count < 0)
         stream->reading = PNMPIPE_INPUT_READ_FAILED;
 }
 
-/* Writes what is behind so many bytes of the results, and frees them. After a failed write nothing more is written. */
-static void write_all(struct stream *stream, const struct pnmpipe_bytes *results, size_t at) {
+/* Writes the results. After a failed write nothing more is written. */
+static void write_all(struct stream *stream, const struct pnmpipe_bytes *results) {
+    size_t at = 0;
     while (at < results->length && !stream->is_lost) {
         ssize_t count = write(stream->to, results->at + at, results->length - at);
         if (count > 0)
@@ -247,43 +195,18 @@ static void write_all(struct stream *stream, const struct pnmpipe_bytes *results
         else if (count == 0 || errno != EINTR)
             stream->is_lost = 1;
     }
-    free(results->at);
 }
 
-/* Runs the next part, and writes its results if it is whole raw images to which nothing objects. */
-static uint32_t run_part(struct stream *stream, size_t part, struct pnmpipe_answer *answer) {
-    struct pnmpipe_bytes results = {NULL, 0};
-    uint32_t code = pnm_c_run_new(stream->chain, stream->chain_length, stream->form, stream->at + stream->part, part,
-                                  &results, answer);
-    if (code != PNMPIPE_OK) {
-        free(results.at);
-        return code;
-    }
-    write_all(stream, &results, 0);
-    stream->images += stream->last.images;
-    stream->rows += stream->last.rows;
-    stream->last = *answer;
-    stream->length -= stream->part;
-    memmove(stream->at, stream->at + stream->part, stream->length);
-    stream->part = part;
-    return code;
+static int is_of_input(uint32_t code) {
+    return code / 100 == 2;
 }
 
-/* Runs what is left behind the part that was run last. */
-static uint32_t run_rest(struct stream *stream, struct pnmpipe_answer *answer) {
-    struct pnmpipe_bytes results = {NULL, 0};
-    if (stream->part > 0 && stream->length == stream->part) {
-        *answer = stream->last;
-    } else {
-        pnm_c_run_new(stream->chain, stream->chain_length, stream->form, bytes_of(stream->at), stream->length, &results,
-                      answer);
-        write_all(stream, &results, stream->last.size);
-    }
-    if (answer->code == PNMPIPE_OK) {
-        answer->images += stream->images;
-        answer->rows += stream->rows;
-    }
-    return answer->code;
+static int is_of_tool(uint32_t code) {
+    return code / 100 == 3;
+}
+
+static int is_of_memory(uint32_t code) {
+    return code / 100 == 5;
 }
 
 /* Whether a code is of the output, which comes after the input's faults and the tools'. */
@@ -291,28 +214,76 @@ static int is_of_output(uint32_t code) {
     return code == PNMPIPE_OK || code / 100 == 4 || code == PNMPIPE_OUTPUT_MEMORY;
 }
 
-static int is_of_memory(uint32_t code) {
-    return code / 100 == 5;
+/* Whether a fault ends the call: what comes after it in the input can't change that. */
+static int is_last(uint32_t code) {
+    return is_of_input(code) || is_of_memory(code);
 }
 
-static uint32_t run_stream(struct stream *stream, struct pnmpipe_answer *answer) {
-    uint32_t code = PNMPIPE_OK;
-    while (!stream->is_read) {
-        size_t part = 0;
-        read_more(stream);
-        while (code == PNMPIPE_OK && stream->form == PNMPIPE_RAW &&
-               (part = whole_images(stream->at + stream->part, stream->length - stream->part)) > 0)
-            code = run_part(stream, part, answer);
-        if (is_of_memory(code) || stream->reading == PNMPIPE_INPUT_MEMORY)
-            return is_of_memory(code) ? code : tell(answer, stream->reading);
+/* Adds what was answered of the next images to what the stream is to be answered. */
+static void add_answer(struct pnmpipe_answer *answer, const struct pnmpipe_answer *next) {
+    if (answer->code == PNMPIPE_OK && next->code == PNMPIPE_OK) {
+        answer->images += next->images;
+        answer->rows += next->rows;
+    } else if (answer->code == PNMPIPE_OK || (is_last(next->code) && !is_of_output(next->code)) ||
+               (is_of_tool(next->code) && (!is_of_tool(answer->code) || next->number < answer->number))) {
+        *answer = *next;
     }
-    code = run_rest(stream, answer);
+}
+
+/* Runs the next bytes, which are whole images or all that is left, and writes their results. A plain file has one
+ * image, so if there was one, the others are run for the faults of the input and of tools alone. */
+static void run_part(struct stream *stream, size_t part, struct pnmpipe_answer *answer) {
+    struct pnmpipe_bytes results = {NULL, 0};
+    struct pnmpipe_answer next;
+    int is_second = stream->form == PNMPIPE_PLAIN && answer->images > 0;
+    uint32_t form = is_second ? (uint32_t)PNMPIPE_RAW : stream->form;
+    /* (only a plain image has nothing behind it that counts) */
+    int is_plain = !stream->is_begun && part > 1 && stream->buffer[stream->at + 1] < '4';
+    uint32_t code = pnm_c_run_new(stream->chain, stream->chain_length, form,
+                                  part > 0 ? stream->buffer + stream->at : bytes_of(NULL), part, &results, &next);
+    if (answer->code == PNMPIPE_OK && !is_second)
+        write_all(stream, &results);
+    free(results.at);
+    if (is_second && (code == PNMPIPE_OK || code == PNMPIPE_OUTPUT_MEMORY))
+        tell(&next, PNMPIPE_OUTPUT_SECOND_PLAIN);
+    add_answer(answer, &next);
+    stream->at += part;
+    stream->is_begun = 1;
+    stream->is_read = stream->is_read || is_plain;
+}
+
+/* Runs all that is read, to the end of the input or its first fault, which is left in the answer. */
+static void run_images(struct stream *stream, struct pnmpipe_answer *answer) {
+    while (!is_last(answer->code)) {
+        size_t part;
+        uint32_t code = find_part(stream, &part);
+        if (part > 0)
+            run_part(stream, part, answer);
+        else if (code != PNMPIPE_OK)
+            tell(answer, code);
+        else if (!stream->is_read)
+            read_more(stream);
+        else
+            break;
+    }
+}
+
+/* The code of what a stream came to; the answer has it, too. */
+static uint32_t run_stream(struct stream *stream, struct pnmpipe_answer *answer) {
+    tell(answer, PNMPIPE_OK);
+    stream->wanted = 1;
+    run_images(stream, answer);
+    if (stream->reading == PNMPIPE_INPUT_MEMORY)
+        return tell(answer, stream->reading);
+    if (!is_last(answer->code) && (held(stream) > 0 || !stream->is_begun))
+        run_part(stream, held(stream), answer);
     /* (a failed read comes before all other faults) */
     if (stream->reading != PNMPIPE_OK)
         return tell(answer, stream->reading);
-    if (stream->is_lost && is_of_output(code))
+    /* (and a failed write after those of the input and of tools) */
+    if (stream->is_lost && is_of_output(answer->code))
         return tell(answer, PNMPIPE_OUTPUT_WRITE_FAILED);
-    return code;
+    return answer->code;
 }
 
 uint32_t pnmpipe_run_fd(const char *chain, size_t chain_length, uint32_t form, int from, int to,
@@ -336,7 +307,7 @@ uint32_t pnmpipe_run_fd(const char *chain, size_t chain_length, uint32_t form, i
     stream.to = to;
     code = run_stream(&stream, answer);
     answer->size = 0;
-    free(stream.at);
+    free(stream.buffer);
     return code;
 }
 

@@ -122,10 +122,10 @@ uint32_t pnmpipe_run(const char *chain, size_t chain_length, uint32_t form, cons
 uint32_t pnmpipe_run_new(const char *chain, size_t chain_length, uint32_t form, const void *input, size_t input_length,
                          struct pnmpipe_bytes *results, struct pnmpipe_answer *answer);
 
-/* The same from one open descriptor to another; both stay open. Raw images are run as they come, so the call takes
- * memory for a few of the largest, with their results, and for 2 MiB. It takes memory for all that follows an image
- * that is refused or isn't raw, and for all input where the form is plain. A read or write that a signal interrupts is
- * made again. Where `to` is a pipe or a socket, ignore SIGPIPE. */
+/* The same from one open descriptor to another; both stay open. Images are run as they come, so the call takes memory
+ * for the largest, or for small ones of 256 KiB, with their results, and for 1 MiB. The results of images that come
+ * before a fault are written. A read or write that a signal interrupts is made again. Where `to` is a pipe or a socket,
+ * ignore SIGPIPE. */
 uint32_t pnmpipe_run_fd(const char *chain, size_t chain_length, uint32_t form, int from, int to,
                         struct pnmpipe_answer *answer);
 

@@ -5,6 +5,7 @@ does that is made of the static library of pnm_c.
 The header, its map and the names of its codes are compared with the sources of pnm_memory and pnm_c, field by field.
 The library is linked, and exports the functions of its header alone. Each stored command of crates/pnmpipe/commands
 that names a run is run through it, in memory and between descriptors, and has to be answered as the program answers it.
+Streams take little memory and time, and are answered at once (library_streams.py).
 Rows of all sizes go through each tool (test_rows.py). Each allocation is refused in turn; threads make calls at once,
 on a small stack; a C++ file and the examples are built; valgrind, where it is there, finds nothing; and the Python
 module passes its tests, where pytest is there. mypy judges its types and those of a caller. `--archive` names the
@@ -14,7 +15,6 @@ static library, and `--program` a program beside which random cases are tried.
 import argparse
 import os
 import re
-import resource
 import shutil
 import subprocess
 import sys
@@ -26,6 +26,7 @@ sys.dont_write_bytecode = True
 import support  # first, since it finds the others
 
 import library
+import library_streams
 import refused
 import test_commands
 import wheel
@@ -63,16 +64,8 @@ WATCHED = [
 # what a thread's stack has, as the manual page says
 STACK = 128 << 10
 
-# streams of so many images of so many columns and rows go from descriptor to descriptor in so much memory
-IMAGES, SIDE, MEMORY = 600, 300, 16 << 20
-
-# the headers of images of each raw kind, and the bytes of a row
-RAW_KINDS = [
-    (f"P4\n{8 * SIDE} {SIDE}\n", SIDE),
-    (f"P5\n{SIDE} {SIDE}\n255\n", SIDE),
-    (f"P6\n{SIDE} {SIDE}\n65535\n", 6 * SIDE),
-    (f"P7\nWIDTH {SIDE}\nHEIGHT {SIDE}\nDEPTH 2\nMAXVAL 255\nENDHDR\n", 2 * SIDE),
-]
+# columns and rows of a page
+SIDE = 300
 
 # random cases that are tried beside the program
 CASES = 1000
@@ -210,11 +203,11 @@ def faults_of_header():
     if len(wanted) != exports.count("no_mangle") or not wanted:
         yield "an export isn't read"
     given = functions_of_c(header, "pnmpipe_")
-    # (descriptors are pnmpipe.c's own matter)
-    if given.pop("run_fd", None) is None or given != wanted:
-        yield f"the header has other functions or parameters: {given}, {wanted}"
     if functions_of_c(code, "pnm_c_") != wanted:
         yield f"pnmpipe.c has other functions or parameters: {functions_of_c(code, 'pnm_c_')}, {wanted}"
+    # (descriptors are pnmpipe.c's own matter, and where an image ends is told to it alone)
+    if given.pop("run_fd", None) is None or wanted.pop("image_end", None) is None or given != wanted:
+        yield f"the header has other functions or parameters: {given}, {wanted}"
     declared = sorted(set(re.findall(r"(pnmpipe_\w+)\(", header)))
     if declared != sorted(library.exports()):
         yield f"pnmpipe.map has {library.exports()}, the header {declared}"
@@ -320,16 +313,6 @@ def faults_of_memory(built):
     yield from ended_well(f"refused: {chain}", [program, "raw", chain], refused.STREAM)
     yield from ended_well("refused, plain", [program, "plain", "pnminvert"], refused.gray(300, [1, 2], [3, 300]))
     yield from ended_well("refused, cut", [program, "raw", "pamflip -tb"], refused.STREAM[:-1])
-
-
-def faults_of_streams(driver):
-    """Streams that are longer than the memory that there is for them, between descriptors."""
-    little = {"preexec_fn": lambda: resource.setrlimit(resource.RLIMIT_AS, (MEMORY, MEMORY))}
-    words = [driver, "fd", "raw", "pamflip -r180 | pnminvert"]
-    for header, row in RAW_KINDS:
-        count = IMAGES * SIDE // row
-        image, due = (header.encode() + it * (row * SIDE) for it in (b"\x00", b"\xff"))
-        yield from written_by(f"a long stream of {header[:2]}", words, image * count, due * count, **little)
 
 
 def faults_of_heap(built):
@@ -457,7 +440,7 @@ def faults_of_library(folder, program):
     yield from faults_of_examples(built)
     yield from faults_of_commands(driver)
     yield from faults_of_memory(built)
-    yield from faults_of_streams(driver)
+    yield from library_streams.faults_of_streams(driver)
     yield from faults_of_heap(built)
     if os.path.exists(program):
         yield from faults_of_cases(program, os.path.join(folder, SHARED))

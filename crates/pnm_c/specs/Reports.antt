@@ -1,8 +1,9 @@
 -- What a call reports to C.
-use Rattle.std.specs.Prelude.{◌≡◌, ℕ, List}
+use Rattle.std.specs.Prelude.{◌≡◌, ◌⊎◌, ℕ, ◌==◌, not, List, Ok, Err}
 use Rattle.pnm_memory.specs.declared.answer.Answer.{Answer}
 use Rattle.pnm_memory.specs.declared.run.Made.{Made}
-use Rattle.pnm_memory.specs.CallAnswers.{IsChecked, IsMade}
+use Rattle.pnm_memory.specs.CallAnswers.{IsChecked, IsMade, IsEndTold}
+use Rattle.pnm_memory.specs.declared.codes.TheConstants.{WELL}
 use Rattle.pnm_c.specs.declared.bytes.Bytes.{Bytes}
 use Rattle.pnm_c.specs.HandedOut.{IsHandedOut}
 
@@ -20,3 +21,8 @@ pub record IsReportedNew (chain : List ℕ) (number : ℕ) (input : List ℕ) (b
     pub is_made : IsMade chain number input made
     pub handed : IsHandedOut made.results bytes
     pub reported_is : reported ≡ made.answer
+
+-- what is told of the end of the first image: where that is, with the code of no fault, or the code of its fault
+abbrev pub IsReportedEnd : List ℕ → ℕ → ℕ → ℕ → Type 0
+IsReportedEnd text number code end = ((code ≡ WELL) × IsEndTold (not (number == 0)) text (Ok end))
+    ⊎ IsEndTold (not (number == 0)) text (Err code)

@@ -2,10 +2,10 @@
 
 ghost use Rattle.std.specs.Prelude.{◌≡◌};
 ghost use Rattle.pnm_memory.specs.CallAnswers.{IsReported};
-ghost use Rattle.pnm_c.specs.Reports.{IsCodeOf, IsReportedNew};
+ghost use Rattle.pnm_c.specs.Reports.{IsCodeOf, IsReportedNew, IsReportedEnd};
 
 use crate::bytes::{Bytes, hand_out};
-use pnm_memory::{Answer, check, run_into, run_new};
+use pnm_memory::{Answer, WELL, check, image_end, run_into, run_new};
 use std::alloc::Global;
 
 /// Checks the text of a chain.
@@ -52,4 +52,22 @@ pub extern "C" fn pnm_c_run_new(
     *answer = made.answer;
     *results = hand_out(made.results);
     answer.code
+}
+
+/// Where the image ends that a text begins with, of which more may follow. Returns 0 or the number of a fault that the
+/// header has, whatever follows. If the end is beyond the text, so many bytes have to be there before more can be said.
+#[unsafe(no_mangle)]
+pub extern "C" fn pnm_c_image_end(alloc: Global, text: &[u8], is_first: u32, end: &mut usize) -> u32
+    ensures { IsReportedEnd text.now is_first result end.new }
+{
+    match image_end(alloc, text, is_first != 0) {
+        Ok(found) => {
+            *end = found;
+            WELL
+        }
+        Err(code) => {
+            *end = 0;
+            code
+        }
+    }
 }

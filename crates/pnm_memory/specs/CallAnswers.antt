@@ -8,13 +8,15 @@ use Rattle.pnm_tools.specs.declared.tool.Tool.{Tool}
 use Rattle.pnm_chain.specs.declared.chain_text.ChainFault.{ChainFault}
 use Rattle.pnm_chain.specs.declared.chain_text.ChainKind.TheVariants.{Memory}
 use Rattle.pnm_chain.specs.ChainText.{SpellsChain, chain_fault_of, whole_fault}
+use Rattle.pnm_read.specs.declared.fault.InputFault.{InputFault}
+use Rattle.pnm_read.specs.ImageEnds.{TellsEnd}
 use Rattle.pnm_serial.specs.declared.fault.RunFault.{RunFault}
 use Rattle.pnm_serial.specs.declared.summary.Summary.{Summary}
 use Rattle.pnm_serial.specs.Jobs.{job_of}
 use Rattle.pnm_memory.specs.declared.answer.Answer.{Answer}
 use Rattle.pnm_memory.specs.declared.run.Made.{Made}
 use Rattle.pnm_memory.specs.declared.codes.TheConstants.{WELL, BAD_FORM, BAD_TEXT, ROOM}
-use Rattle.pnm_memory.specs.Codes.{chain_code, code_of, number_of}
+use Rattle.pnm_memory.specs.Codes.{chain_code, input_code, code_of, number_of}
 use Rattle.pnm_memory.specs.Conversions.{HasConverted}
 
 abbrev pub form_of : ℕ → Option Form
@@ -113,3 +115,11 @@ pub record HasMadeByChain (chain : List ℕ) (number : ℕ) (input : List ℕ) (
 abbrev pub IsMade : List ℕ → ℕ → List ℕ → Made → Type 0
 IsMade chain number input made = (IsRefusedCall chain number made.answer × (made.results.items ≡ []))
     ⊎ HasMadeByChain chain number input made
+
+-- ---- the end of an image
+
+-- what is told of where the first image of a text ends, with the number of a fault
+abbrev pub IsEndTold : Bool → List ℕ → Result ℕ ℕ → Type 0
+IsEndTold is_first text (Ok end) = TellsEnd is_first text (Ok end)
+IsEndTold is_first text (Err code) =
+    (fault : InputFault) × TellsEnd is_first text (Err fault) × (code ≡ input_code fault)

@@ -67,7 +67,8 @@ pub(crate) fn run_number(fault: RunFault) -> usize
     }
 }
 
-fn input_code(fault: InputFault) -> u32
+/// The number of a fault of the input.
+pub(crate) fn input_code(fault: InputFault) -> u32
     ensures { result ≡ code_of_input fault }
 {
     match fault {

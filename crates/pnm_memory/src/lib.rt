@@ -7,10 +7,13 @@ mod chain;
 mod codes;
 mod conversion;
 mod devices;
+mod ends;
 mod run;
 
 pub use answer::Answer;
 pub use chain::check;
+pub use codes::WELL;
 pub use conversion::{Converted, convert};
 pub use devices::{TextReader, VecWriter};
+pub use ends::image_end;
 pub use run::{Made, run_into, run_new};
