@@ -190,6 +190,7 @@ bench-waits:
 # and libvips: a table, for a quiet machine
 bench-library:
 	python3 bench/bench.py library
+	python3 bench/bench.py streams
 
 # the program that make has left with 1, 2, 4 and 8 lanes: a table, for a quiet machine
 lanes:
@@ -231,7 +232,7 @@ help:
 	@echo "make bench-sweep     all tools by kinds of images and by options, and which take more processor time than Netpbm's"
 	@echo "make bench-files     times many files in each way, beside Netpbm's own tools"
 	@echo "make bench-waits     times the program that make has left beside busy processes on its processors, and Netpbm's own tools"
-	@echo "make bench-library   times calls of the C library in C and in Python, beside a process a file, Pillow, numpy and libvips"
+	@echo "make bench-library   times calls of the C library beside a process a file, Pillow, numpy and libvips, and its streams"
 	@echo "make lanes           times the program that make has left with 1, 2, 4 and 8 lanes"
 	@echo "make long-stream     passes a stream of 4 GiB through the program that make has left, and wants less than 32 MB of memory"
 	@echo "make refused         refuses each allocation and each start of a thread in turn, of the program that make has left and of tests"

@@ -4,8 +4,8 @@
 
 The tables: `tools`, `turns` and `plain`, each tool beside Netpbm's own; `narrow`, chains over narrow rows and small
 images; `curves`, rows of other widths and chains of more tools; `waits`, beside busy processes; `files`, many files in
-each way; `library`, calls of the C library; `lanes`, numbers of lanes; and `sweep`, all tools by kinds of images and by
-options.
+each way; `library`, calls of the C library; `streams`, its streams; `lanes`, numbers of lanes; and `sweep`, all
+tools by kinds of images and by options.
 """
 
 import argparse
@@ -19,6 +19,7 @@ import lanes
 import library_calls
 import measure
 import narrow
+import streams
 import sweep
 import tools
 import waits
@@ -32,6 +33,7 @@ TABLES = {
     "waits": waits,
     "files": files,
     "library": library_calls,
+    "streams": streams,
     "lanes": lanes,
     "sweep": sweep,
 }

@@ -114,10 +114,10 @@ def stream_kinds(size):
     tiny = b"P6\n3 3\n255\n" + bytes(27)
     side = b"P5 %d 1000 255\n" % (size // 2000)
     yield "images behind a large one", side + bytes(size // 2000 * 1000) + page * (size // 2 // len(page))
-    yield "small images", tiny * (size // 8 // len(tiny))
+    yield "small images", tiny * (size // len(tiny))
     odd = b"P7\nWIDTH\t100\nHEIGHT 100\nDEPTH 1\nMAXVAL 255\nENDHDR \n" + bytes(10_000)
     yield "PAM images", odd * (size // len(odd))
-    yield "a plain image", b"P2 1000 %d 255\n" % (size // 16_000) + b"  1  22 133   0\n" * (size // 16_000 * 250)
+    yield "a plain image", b"P2 1000 %d 255\n" % (size // 4000) + b"  1  22 133   0\n" * (size // 4000 * 250)
     yield "images of many sizes", b"".join(
         b"P5 %d 1000 255\n" % it + bytes(1000 * it) for it in range(1, int((size / 500) ** 0.5))
     )
