@@ -125,6 +125,11 @@ static size_t held(const struct stream *stream) {
     return stream->end - stream->at;
 }
 
+/* Whether an image is plain, of which a magic is there. It is the only one, and nothing behind it counts. */
+static int is_plain(const uint8_t *image) {
+    return image[1] < '4';
+}
+
 /* Finds the whole images that are held first, as many as make a part, and the fault of the header behind them. */
 static uint32_t find_part(struct stream *stream, size_t *part) {
     size_t left, end;
@@ -134,8 +139,8 @@ static uint32_t find_part(struct stream *stream, size_t *part) {
         if (code != PNMPIPE_OK)
             return code;
         if (end > left) {
-            /* (what is longer than a header and still unknown is a plain image) */
-            stream->wanted = end == left + 1 && left > HEADER ? 2 * left : end;
+            /* (of a plain image no length is known) */
+            stream->wanted = left > HEADER && is_plain(first) ? 2 * left : end;
             return code;
         }
         stream->wanted = 1;
@@ -237,8 +242,7 @@ static void run_part(struct stream *stream, size_t part, struct pnmpipe_answer *
     struct pnmpipe_answer next;
     int is_second = stream->form == PNMPIPE_PLAIN && answer->images > 0;
     uint32_t form = is_second ? (uint32_t)PNMPIPE_RAW : stream->form;
-    /* (only a plain image has nothing behind it that counts) */
-    int is_plain = !stream->is_begun && part > 1 && stream->buffer[stream->at + 1] < '4';
+    int is_only = !stream->is_begun && part > 1 && is_plain(stream->buffer + stream->at);
     uint32_t code = pnm_c_run_new(stream->chain, stream->chain_length, form,
                                   part > 0 ? stream->buffer + stream->at : bytes_of(NULL), part, &results, &next);
     if (answer->code == PNMPIPE_OK && !is_second)
@@ -249,7 +253,7 @@ static void run_part(struct stream *stream, size_t part, struct pnmpipe_answer *
     add_answer(answer, &next);
     stream->at += part;
     stream->is_begun = 1;
-    stream->is_read = stream->is_read || is_plain;
+    stream->is_read = stream->is_read || is_only;
 }
 
 /* Runs all that is read, to the end of the input or its first fault, which is left in the answer. */

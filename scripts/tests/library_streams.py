@@ -29,8 +29,8 @@ RAW_KINDS = [
 # seconds that don't count
 SHORT, TIMES, MOST_TIMES, LITTLE = 16 << 20, 8, 16, 0.1
 
-# the longest that an answer is waited for, which comes at once
-PATIENCE = 30
+# the longest that an answer is waited for, which comes at once; and how long the input pauses behind a packet
+PATIENCE, PAUSE = 30, 0.1
 
 
 def gray(*rows):
@@ -170,6 +170,7 @@ def answered_open(what, words, packets, due, line):
             for packet in packets:
                 process.stdin.write(packet)
                 process.stdin.flush()
+                time.sleep(PAUSE)
             taken = read_within(process, len(due))
             if taken != due:
                 yield f"{what}: {taken[:200]!r} came of {due[:200]!r}, while the input stayed open"
@@ -194,6 +195,7 @@ def faults_of_open_input(driver):
     runs = [
         ("an image", words, [GOOD], INVERTED, None),
         ("a large image", words, [large, GOOD], inverted + INVERTED, None),
+        ("the last byte of a large image", words, [large[:-1], large[-1:]], inverted, None),
         ("an image, byte by byte", words, [GOOD[at : at + 1] for at in range(len(GOOD))], INVERTED, None),
         ("an image and one that is refused", cut, [GOOD + NARROW], CUT_GOOD, None),
         ("images behind one that is refused", cut, [GOOD + NARROW, GOOD, b"x"], CUT_GOOD, "input: BadMagic"),
