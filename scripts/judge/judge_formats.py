@@ -2,7 +2,7 @@
 it tells of rows)."""
 
 import slow_rows
-from case_text import Sweep, Together, changes, handed_in, numbers_in, text_of
+from case_text import Sweep, changes, handed_in, numbers_in, one_by_one, text_of
 from slow_reader import FORMATS, answers, answers_to_all, tell, tell_text
 from slow_reading import Reading, needs
 from slow_writer import Sink, Writer, lines_of
@@ -153,9 +153,10 @@ def want_of_stream(sink, handed, is_flushed):
     """The faults of a sink that gets these messages, and how it ends. It may be flushed after each image."""
     told = ""
     for it in handed:
-        fault = sink.put(*(it if isinstance(it, Together) else [it]))
+        messages = one_by_one([it])
+        fault = sink.put(*messages)
         told += f" {fault}" if fault else ""
-        fault = sink.flush() if is_flushed and it == "ImageEnd" else None
+        fault = sink.flush() if is_flushed and messages[-1] == "ImageEnd" else None
         told += f" flush {fault}" if fault else ""
     fault = sink.flush()
     return f"{told} end{f' {fault}' if fault else ''}"

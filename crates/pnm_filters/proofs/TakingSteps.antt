@@ -10,7 +10,7 @@ use Rattle.pnm_image.specs.declared.place.Place.{Place}
 use Rattle.pnm_image.specs.declared.place.Place.TheVariants.{Between, Inside, After}
 use Rattle.pnm_image.specs.Places.{IsLawfulFrom, place_after, place_of}
 use Rattle.pnm_image.specs.Rows.{row_messages}
-use Rattle.pnm_image.proofs.Places.{place_of-append, place_of-rows}
+use Rattle.pnm_image.proofs.Places.{lawful_append, place_of-append, place_of-rows}
 use Rattle.pnm_tools.specs.declared.fault.ToolFault.{ToolFault}
 use Rattle.pnm_tools.specs.declared.tool.Tool.{Tool}
 use Rattle.pnm_tools.specs.Answers.{RowsMayCome}
@@ -26,10 +26,6 @@ use Rattle.pnm_filters.specs.States.{StateValue, state_value, IsAt, IsReadyFor, 
 use Rattle.pnm_filters.specs.Steps.{AreTakenRows}
 
 -- ---- messages that follow others
-
-lawful_append : (place : Place) (a b : List Message) → IsLawfulFrom place a → IsLawfulFrom (place_of place a) b → IsLawfulFrom place (a ++ b)
-lawful_append place [] b first then = then
-lawful_append place (m ∷ a) b first then = (first.0, lawful_append (place_after place m) a b first.1 then)
 
 come_append : (rows : List (List ℕ)) (a b : List Message) → rows_come rows (a ++ b) ≡ rows_come (rows_come rows a) b
 come_append rows [] b = refl

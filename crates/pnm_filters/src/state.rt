@@ -2,7 +2,7 @@
 
 ghost use Rattle.std.specs.Prelude.{ℕ, ◌≡◌, ◌≤◌, true, false, Option, Some, None, List, [], length, OnOk, IfErr};
 ghost use Rattle.pnm_image.specs.declared.message.Message.{Message as MessageValue};
-ghost use Rattle.pnm_image.specs.Places.{IsLawfulFrom};
+ghost use Rattle.pnm_image.specs.Places.{LeadsTo};
 ghost use Rattle.pnm_image.specs.Rows.{row_messages};
 ghost use Rattle.pnm_tools.specs.declared.fault.ToolFault.TheVariants.{Memory};
 ghost use Rattle.pnm_filters.specs.Pendings.{AllGiven, NothingPending, pending_of, after_one, is_idle};
@@ -116,10 +116,13 @@ impl<T: ImageTool> Filter for State<T> {
     }
 
     fn feed_rows(&mut self, rows: Rows) -> Result<Result<(), ToolFault>, Rows> {
-        if self.fault.is_some() || !is_idle(self.phase) || !self.place.accepts_rows(&rows) {
+        if self.fault.is_some() || !is_idle(self.phase) {
             return Err(rows);
         }
-        match take_rows(self.alloc, &mut self.work, &mut self.place, rows) {
+        let Some(after) = self.place.after_rows(&rows, 1) else {
+            return Err(rows);
+        };
+        match take_rows(self.alloc, &mut self.work, &mut self.place, after, rows) {
             Ok(()) => {
                 self.phase = Phase::Rest;
                 Ok(Ok(()))
@@ -154,17 +157,18 @@ impl<T: ImageTool> State<T> {
     }
 }
 
-/// Takes rows that may come at this place. The rows of the result that answer them are then due. The only fault is
-/// `Memory`.
+/// Takes rows that may come at this place, and lead to the place `after` them. The rows of the result that answer them
+/// are then due. The only fault is `Memory`.
 fn take_rows<T: ImageTool>(
     alloc: Global,
     work: &mut T,
     place: &mut Place,
+    after: Place,
     rows: Rows,
 ) -> Result<(), ToolFault>
     requires lawful { IsLawfulTool (T.tool work.old) }
     requires ready { (come : List (List ℕ)) × IsReadyFor T.ready work.old place.old come }
-    requires accepted { IsLawfulFrom place.old (row_messages rows) }
+    requires accepted { LeadsTo place.old (row_messages rows) (Some after) }
     ensures some { 1 ≤ length rows }
     ensures taken { OnOk result (AreTakenRows T.tool T.ready T.due work.old place.old rows work.new place.new) }
     ensures refused { IfErr result (λ fault. (fault ≡ Memory) × (T.tool work.new ≡ T.tool work.old)) }
@@ -174,7 +178,7 @@ fn take_rows<T: ImageTool>(
     let Place::Inside(shape, y) = *place else {
         unreachable!();
     };
-    place.step_rows(&rows);
+    *place = after;
     work.take(alloc, shape, y, rows)
 }
 

@@ -1,11 +1,11 @@
 -- Lawful lists of messages: the place after them, their prefixes, and one message more.
-use Rattle.std.proofs.Common.{◌≡◌, ◌≤◌, ◌+◌, ℕ, List, [], ◌∷◌, ◌++◌, length, refl, ap, ◌∙◌, arith}
+use Rattle.std.proofs.Common.{◌≡◌, ◌≤◌, ◌+◌, ℕ, List, [], ◌∷◌, ◌++◌, length, refl, ap, ◌∙◌, arith, Option, Some, None, subst, sym}
 use Rattle.std.specs.List.{AllByRecursion}
 use Rattle.pnm_image.specs.declared.shape.Shape.{Shape}
 use Rattle.pnm_image.specs.declared.message.Message.{Message}
 use Rattle.pnm_image.specs.declared.place.Place.{Place}
 use Rattle.pnm_image.specs.declared.place.Place.TheVariants.{Between, Inside, After}
-use Rattle.pnm_image.specs.Places.{Accepts, IsLawfulFrom, IsRowOf, place_after, place_of}
+use Rattle.pnm_image.specs.Places.{Accepts, IsLawfulFrom, IsRowOf, LeadsTo, place_after, place_of}
 use Rattle.pnm_image.specs.Rows.{row_messages}
 
 -- a prefix of a lawful list
@@ -57,3 +57,36 @@ rows_lie_inside place [] some lawful = let no : ⊥ = omega (arith, some) in abs
 rows_lie_inside Between (row ∷ rows) some lawful = absurd lawful.0
 rows_lie_inside (Inside s y) (row ∷ rows) some lawful = (s, y, refl)
 rows_lie_inside After (row ∷ rows) some lawful = absurd lawful.0
+
+-- the rest of a lawful list
+pub lawful_suffix : (place : Place) (a b : List Message) → IsLawfulFrom place (a ++ b) → IsLawfulFrom (place_of place a) b
+lawful_suffix place [] b lawful = lawful
+lawful_suffix place (m ∷ a) b lawful = lawful_suffix (place_after place m) a b lawful.1
+
+-- two lists one after another
+pub lawful_append : (place : Place) (a b : List Message) → IsLawfulFrom place a → IsLawfulFrom (place_of place a) b → IsLawfulFrom place (a ++ b)
+lawful_append place [] b first then = then
+lawful_append place (m ∷ a) b first then = (first.0, lawful_append (place_after place m) a b first.1 then)
+
+-- messages lead on from the place to which the messages before them lead
+pub leads_on : (place inside : Place) (a b : List Message) (end : Option Place) → LeadsTo place a (Some inside) → LeadsTo inside b end → LeadsTo place (a ++ b) end
+leads_on place inside a b (Some end) first then =
+    let lawful = subst (λ (p : Place). IsLawfulFrom p b) first.1 then.0 in
+    (lawful_append place a b first.0 lawful, then.1 ∙ ap (λ (p : Place). place_of p b) first.1 ∙ sym (place_of-append place a b))
+leads_on place inside a b None first then =
+    λ lawful. then (subst (λ (p : Place). IsLawfulFrom p b) (sym first.1) (lawful_suffix place a b lawful))
+
+-- and nowhere if these lead nowhere
+pub leads_nowhere : (place : Place) (a b : List Message) → LeadsTo place a None → LeadsTo place (a ++ b) None
+leads_nowhere place a b first = λ lawful. first (lawful_prefix place a b lawful)
+
+-- rows lead on by as many, where the image has so many more
+pub rows_lead : (s : Shape) (y end : ℕ) (rows : List (List ℕ)) → end ≡ y + length rows → end ≤ s.height → AllByRecursion (IsRowOf s) rows
+    → LeadsTo (Inside s y) (row_messages rows) (Some (Inside s end))
+rows_lead s y end rows is below are = (lawful_rows s y rows (omega (arith, is, below)) are, ap (Inside s) is ∙ sym (place_of-rows s y rows))
+
+-- and nowhere else
+pub rows_lead_nowhere : (s : Shape) (y end : ℕ) (rows : List (List ℕ)) → end ≡ y + length rows → 1 ≤ length rows
+    → (end ≤ s.height → AllByRecursion (IsRowOf s) rows → ⊥) → LeadsTo (Inside s y) (row_messages rows) None
+rows_lead_nowhere s y end rows is some not = λ lawful.
+    let are = rows_are_lawful s y rows some lawful in not (omega (arith, is, are.0)) are.1

@@ -1,5 +1,7 @@
 -- Lists that are repeated.
 use Rattle.std.proofs.Common.{◌≡◌, ◌∙◌, ℕ, zero, suc, ◌+◌, ◌-◌, ◌≤◌, List, [], ◌∷◌, ◌++◌, ◌*◌, All, get_or, length, refl, ap, sym, subst, arith}
+use Rattle.std.specs.List.{AllByRecursion}
+use Rattle.pnm_image.proofs.Lists.{all_of_prefix}
 use Rattle.std.proofs.lemmas.List.{append-nil, append_assoc, length-append, map-append}
 use Rattle.std.proofs.lemmas.List.Elements.{All-append, All-nil}
 use Rattle.pnm_image.specs.declared.message.Message.TheVariants.{Row}
@@ -75,3 +77,17 @@ messages_from n times rows within =
     let parts : times ≡ n + (times - n) = omega (arith, within) in
     ap (λ (k : ℕ). row_messages (repeated k rows)) parts ∙ ap row_messages (repeated_parts n (times - n) rows)
     ∙ map-append Row (repeated n rows) (repeated (times - n) rows)
+
+-- ---- what holds of each element, each time
+
+each_append : {A : Type 0} (P : A → Type 0) (a b : List A) → AllByRecursion P a → AllByRecursion P b → AllByRecursion P (a ++ b)
+each_append P [] b first then = then
+each_append P (x ∷ a) b first then = (first.0, each_append P a b first.1 then)
+
+pub each_of_repeated : {A : Type 0} (P : A → Type 0) (n : ℕ) (l : List A) → AllByRecursion P l → AllByRecursion P (repeated n l)
+each_of_repeated P zero l each = tt
+each_of_repeated P (suc n) l each = each_append P l (repeated n l) each (each_of_repeated P n l each)
+
+pub each_once : {A : Type 0} (P : A → Type 0) (n : ℕ) (l : List A) → 1 ≤ n → AllByRecursion P (repeated n l) → AllByRecursion P l
+each_once P zero l times each = absurd (omega (arith, times))
+each_once P (suc n) l times each = all_of_prefix P l (repeated n l) each

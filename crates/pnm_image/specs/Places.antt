@@ -1,5 +1,5 @@
 -- The place in a stream of messages, and which messages may come there.
-use Rattle.std.specs.Prelude.{◌≡◌, ℕ, ◌+◌, ◌<◌, ◌≤◌, List, [], ◌∷◌, length, All}
+use Rattle.std.specs.Prelude.{◌≡◌, ℕ, ◌+◌, ◌<◌, ◌≤◌, List, [], ◌∷◌, length, All, Option, Some, None}
 use Rattle.pnm_image.specs.declared.shape.Shape.{Shape}
 use Rattle.pnm_image.specs.declared.message.Message.{Message}
 use Rattle.pnm_image.specs.declared.message.Message.TheVariants.{Begin, Row, ImageEnd, StreamEnd, Stop}
@@ -49,3 +49,8 @@ IsLawful l = IsLawfulFrom Between l
 abbrev pub place_of : Place → List Message → Place
 place_of place [] = place
 place_of place (m ∷ ms) = place_of (place_after place m) ms
+
+-- the place after messages, if each may come where it stands
+abbrev pub LeadsTo : Place → List Message → Option Place → Type 0
+LeadsTo place ms (Some after) = IsLawfulFrom place ms × (after ≡ place_of place ms)
+LeadsTo place ms None = IsLawfulFrom place ms → ⊥

@@ -1,11 +1,16 @@
 //! The place in a stream, and which message may come there.
 
-ghost use Rattle.std.specs.Prelude.{◌≡◌, ◌↔◌, IsTrue};
+ghost use Rattle.std.specs.Prelude.{◌≡◌, ◌≤◌, ◌↔◌, [], ◌∷◌, ◌++◌, IsTrue};
 ghost use Rattle.std.specs.List.{AllByRecursion};
-ghost use Rattle.pnm_image.specs.Places.{Accepts, IsRowOf, IsLawfulFrom, place_after, place_of};
+ghost use Rattle.pnm_image.specs.declared.message.Message.TheVariants.{Begin, ImageEnd};
+ghost use Rattle.pnm_image.specs.Packets.{messages_in};
+ghost use Rattle.pnm_image.specs.Places.{Accepts, IsRowOf, LeadsTo, place_after};
+ghost use Rattle.pnm_image.specs.Repeats.{repeated};
 ghost use Rattle.pnm_image.specs.Rows.{row_messages};
 
+use crate::head::Head;
 use crate::message::Message;
+use crate::packet::Packet;
 use crate::rows::Rows;
 use crate::shape::Shape;
 use pnm_samples::Samples;
@@ -26,7 +31,7 @@ impl Place {
     pub fn new() -> Place
         ensures { result ≡ Place.Between }
     {
-        Place::Between
+        Self::Between
     }
 
     /// Whether the message may come here. An image begins, or the stream ends, between images; an
@@ -48,27 +53,80 @@ impl Place {
         }
     }
 
-    /// Whether the rows may come here, one after another.
-    pub fn accepts_rows(&self, rows: &Rows) -> bool
-        ensures { IsTrue result ↔ IsLawfulFrom self.now (row_messages rows.now) }
+    /// The place after the packet, or `None` if one of its messages can't come where it stands.
+    #[inline(always)]
+    pub fn after(&self, packet: &Packet) -> Option<Place>
+        ensures { LeadsTo self.now (messages_in packet.now) result }
     {
-        let count = u64::from(rows.count());
-        if let Place::Inside(shape, y) = self {
-            u64::from(*y) + count <= u64::from(shape.height) && are_rows_of(shape, rows)
-        } else {
-            false
+        match packet {
+            Packet::Begin(head) => self.after_head(head),
+            Packet::Rows(rows) => {
+                let (held, times) = rows.parts();
+                self.after_rows(held, times)
+            }
+            Packet::Image(head, rows) => self.after_image(head, rows),
+            Packet::ImageEnd => self.after_end(),
+            Packet::StreamEnd => match self {
+                Place::Between => Some(Place::After),
+                Place::Inside(_, _) | Place::After => None,
+            },
+            Packet::Stop => match self {
+                Place::Between | Place::Inside(_, _) => Some(Place::After),
+                Place::After => None,
+            },
         }
     }
 
-    /// Goes on to the place after the rows.
-    pub fn step_rows(&mut self, rows: &Rows)
-        requires { IsLawfulFrom self.old (row_messages rows.now) }
-        ensures { self.new ≡ place_of self.old (row_messages rows.now) }
+    /// The place after a whole image, or `None` if it can't come here, or has other rows than its head says.
+    fn after_image(&self, head: &Head, rows: &Rows) -> Option<Place>
+        ensures { LeadsTo self.now (Begin head.now ∷ row_messages rows.now ++ ImageEnd ∷ []) result }
     {
-        let count = rows.count();
-        if let Place::Inside(shape, y) = self {
-            prove!(*y < shape.height);
-            *y += count;
+        let Some(inside) = self.after_head(head) else {
+            return None;
+        };
+        match inside.after_rows(rows, 1) {
+            Some(behind) => behind.after_end(),
+            None => None,
+        }
+    }
+
+    /// The place after the head of an image, or `None` if none can begin here.
+    #[inline(always)]
+    fn after_head(&self, head: &Head) -> Option<Place>
+        ensures { LeadsTo self.now (Begin head.now ∷ []) result }
+    {
+        match self {
+            Place::Between => Some(Place::Inside(head.shape(), 0)),
+            Place::Inside(_, _) | Place::After => None,
+        }
+    }
+
+    /// The place after the rows, which come `times` times, one after another, or `None` if one of them can't come
+    /// here.
+    pub fn after_rows(&self, rows: &Rows, times: u32) -> Option<Place>
+        requires some { 1 ≤ times }
+        ensures { LeadsTo self.now (row_messages (repeated times rows.now)) result }
+    {
+        let count = u64::from(rows.count()) * u64::from(times);
+        let Place::Inside(shape, y) = self else {
+            return None;
+        };
+        let end = u64::from(*y) + count;
+        if *y < shape.height && end <= u64::from(shape.height) && are_rows_of(shape, rows) {
+            Some(Place::Inside(*shape, end as u32))
+        } else {
+            None
+        }
+    }
+
+    /// The place after the end of an image, or `None` if none can end here.
+    #[inline(always)]
+    fn after_end(&self) -> Option<Place>
+        ensures { LeadsTo self.now (ImageEnd ∷ []) result }
+    {
+        match self {
+            Place::Inside(shape, y) if *y == shape.height => Some(Place::Between),
+            _ => None,
         }
     }
 

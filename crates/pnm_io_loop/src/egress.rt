@@ -1,6 +1,6 @@
 //! What comes behind the tools of a run: the ring that their results come from, and what is written of them.
 
-ghost use Rattle.std.specs.Prelude.{◌≡◌, ◌⊎◌, [], ◌∷◌, ◌++◌, List, true, false};
+ghost use Rattle.std.specs.Prelude.{◌≡◌, ◌⊎◌, [], ◌++◌, List, true, false};
 ghost use Rattle.pnm_image.specs.Packets.{messages_in};
 ghost use Rattle.pnm_stages.specs.Rings.{received, sent, known_items, IsPair, SameSender, SameReceiver};
 ghost use Rattle.pnm_image.specs.declared.format.Form.{Form as FormValue};
@@ -9,7 +9,7 @@ ghost use Rattle.pnm_io_loop.specs.Egresses.{HasReceived};
 ghost use Rattle.pnm_serial.specs.FusedSinks.{output_of};
 
 use crate::image_count::count_image;
-use pnm_image::{BytesOut, Ending, Form, Message, Packet, Rows, Several};
+use pnm_image::{BytesOut, Ending, Form, Packet};
 use pnm_read::SpareRows;
 use pnm_serial::FusedSink;
 use pnm_stages::{Receiver, Sender};
@@ -79,7 +79,8 @@ impl<W: BytesOut + Drop> Egress<W> {
         true
     }
 
-    /// Takes the messages that were seen in the ring, up to one that ends the stream, and writes them.
+    /// Takes the packets that were seen in the ring, up to one that ends the stream, and writes them. Each is written
+    /// while it lies in the ring, and is taken out of it only then.
     fn take_seen(&mut self, spares: &mut SpareRows)
         ensures receiving { (form : FormValue) (start : W) (before : List MessageValue)
             → IsEgress W.held W.failures form start before self.old
@@ -88,16 +89,10 @@ impl<W: BytesOut + Drop> Egress<W> {
         ensures same_device { W.same (output_of self.old.fused_sink) (output_of self.new.fused_sink) }
     {
         while !self.has_ended && self.input.has_seen_message() {
-            if let Packet::Rows(rows) = self.input.peek_known() {
-                // They are written while they lie in the ring, and are taken out of it only then.
-                self.fused_sink.put_repeated(rows);
-                recycle(self.input.receive_known(), spares);
-                continue;
-            }
-            let packet = self.input.receive_known();
+            let packet = self.input.peek_known();
             count_image(&mut self.images, packet.ends_image());
-            let rows = put(&mut self.fused_sink, &mut self.has_ended, packet);
-            keep_some(rows, spares);
+            put(&mut self.fused_sink, &mut self.has_ended, packet);
+            recycle(self.input.receive_known(), spares);
         }
     }
 
@@ -133,11 +128,9 @@ impl<W: BytesOut + Drop> Egress<W> {
     {
         self.input.look_beside(sender);
         while !self.has_ended && self.input.has_seen_message() {
-            drop(put(
-                &mut self.fused_sink,
-                &mut self.has_ended,
-                self.input.receive_known(),
-            ));
+            let packet = self.input.receive_known();
+            put(&mut self.fused_sink, &mut self.has_ended, &packet);
+            drop(packet);
         }
     }
 
@@ -149,69 +142,30 @@ impl<W: BytesOut + Drop> Egress<W> {
     }
 }
 
-/// Writes the packet, unless it is Stop, and sets `has_ended` if it ends the stream. Returns the rows that came
-/// together, which are no longer wanted.
+/// Writes the packet, unless it is Stop, and sets `has_ended` if it ends the stream.
 #[inline(always)]
-fn put<W: BytesOut + Drop>(
-    fused_sink: &mut FusedSink<W>,
-    has_ended: &mut bool,
-    packet: Packet,
-) -> Option<Rows>
+fn put<W: BytesOut + Drop>(fused_sink: &mut FusedSink<W>, has_ended: &mut bool, packet: &Packet)
     requires going { has_ended.old ≡ false }
     ensures put { (form : FormValue) (start : W) (l : List MessageValue)
         → HasReceived W.held W.failures form start l has_ended.old fused_sink.old
-        → HasReceived W.held W.failures form start (l ++ messages_in packet) has_ended.new fused_sink.new }
+        → HasReceived W.held W.failures form start (l ++ messages_in packet.now) has_ended.new fused_sink.new }
     ensures same_device { W.same (output_of fused_sink.old) (output_of fused_sink.new) }
 {
-    match packet.into_message() {
-        Ok(message) => {
-            put_message(fused_sink, has_ended, &message);
-            None
-        }
-        Err(Several::Rows(rows)) => {
-            fused_sink.put_repeated(&rows);
-            Some(rows.into_parts().0)
-        }
-        Err(Several::Image(head, rows)) => {
-            fused_sink.put_image(head, &rows);
-            Some(rows)
-        }
-    }
-}
-
-/// Writes the message, unless it is Stop, and sets `has_ended` if it ends the stream.
-#[inline(always)]
-fn put_message<W: BytesOut + Drop>(
-    fused_sink: &mut FusedSink<W>,
-    has_ended: &mut bool,
-    message: &Message,
-)
-    requires going { has_ended.old ≡ false }
-    ensures put { (form : FormValue) (start : W) (l : List MessageValue)
-        → HasReceived W.held W.failures form start l has_ended.old fused_sink.old
-        → HasReceived W.held W.failures form start (l ++ message.now ∷ []) has_ended.new fused_sink.new }
-    ensures same_device { W.same (output_of fused_sink.old) (output_of fused_sink.new) }
-{
-    match message.ending() {
-        Ending::More => fused_sink.put(message),
+    match packet.ending() {
+        Ending::More => fused_sink.put(packet),
         Ending::Whole => {
-            fused_sink.put(message);
+            fused_sink.put(packet);
             *has_ended = true;
         }
         Ending::BrokenOff => *has_ended = true,
     }
 }
 
-/// Keeps rows as a spare row, if there are some.
-fn keep_some(rows: Option<Rows>, spares: &mut SpareRows) {
-    if let Some(rows) = rows {
-        spares.keep_rows(rows);
-    }
-}
-
-/// Drops the packet, but keeps rows as a spare row.
+/// Drops the packet, but keeps its rows as a spare row.
 fn recycle(packet: Packet, spares: &mut SpareRows) {
-    if let Packet::Rows(rows) = packet {
-        spares.keep_rows(rows.into_parts().0);
+    match packet {
+        Packet::Rows(rows) => spares.keep_rows(rows.into_parts().0),
+        Packet::Image(_, rows) => spares.keep_rows(rows),
+        Packet::Begin(_) | Packet::ImageEnd | Packet::StreamEnd | Packet::Stop => {}
     }
 }

@@ -1,4 +1,4 @@
--- A message that is put into the sink.
+-- Messages that are put into the sink together.
 use Rattle.std.proofs.Common.{◌≡◌, ℕ, Bool, true, false, List, [], ◌∷◌, ◌++◌, Option, Result, Some, None, Ok, Err, OnOk, OnErr, sym, ap, subst, ◌∙◌}
 use Rattle.std.specs.Result.{is_ok, IfErr}
 use Rattle.pnm_image.specs.Devices.{Failed, AppendsPrefix, FailsIn}
@@ -11,46 +11,45 @@ use Rattle.pnm_write.specs.declared.fault.SinkFault.{SinkFault}
 use Rattle.pnm_write.specs.declared.fault.SinkFault.TheVariants.{WriteFailed, OutOfOrder, Broken, SecondPlain, PlainPam}
 use Rattle.std.specs.Io.KnownBytes.{Appends, Keeps}
 use Rattle.std.proofs.KnownBytes.{Appends-kept}
-use Rattle.pnm_write.specs.Encoding.{bytes_at, bytes_of, written_of}
-use Rattle.pnm_write.specs.Forms.{has_begun_by, form_fault, form_fault_of}
-use Rattle.pnm_write.specs.Sinks.{writer_of, form_of, has_begun, next_place, has_failed, IsInOrder, IsWritable, HasWritten, Refuses}
-use Rattle.pnm_write.proofs.FormLaws.{form_fault-more}
-use Rattle.pnm_write.proofs.MessageLaws.{bytes_of_more, written_all, written_prefix}
+use Rattle.pnm_write.specs.Encoding.{bytes_from, bytes_of, written_of}
+use Rattle.pnm_write.specs.Forms.{has_begun_by, form_fault_from, form_fault_of, RefusesFirst}
+use Rattle.pnm_write.specs.Sinks.{writer_of, form_of, has_begun, next_place, has_failed, AreInOrderFrom, AreWritable, HasWritten, Refuses}
+use Rattle.pnm_write.proofs.FormLaws.{form_fault-more, refused_before, refused_next}
+use Rattle.pnm_write.proofs.MessageLaws.{bytes_from-append, written_all, written_prefix}
 use Rattle.pnm_image.proofs.Written.{fails_again, prefix-more, then_prefix}
 use Rattle.pnm_serial.specs.declared.fused_sink.FusedSink.{FusedSink}
 use Rattle.pnm_serial.specs.declared.summary.Summary.{Summary}
-use Rattle.pnm_serial.specs.Counts.{image_count_after, row_count_after}
+use Rattle.pnm_serial.specs.Counts.{images_in, rows_in}
 use Rattle.pnm_serial.specs.FusedSinks.{output_of, AreInOrder, CountsFlushes, AreWritten, CutsOff, HasTakenWith}
-use Rattle.pnm_serial.proofs.FormSteps.{refused_last, refused_before}
-use Rattle.pnm_serial.proofs.MessageSteps.{images_in-push, rows_in-push, prefix_is_writable, last_is_in_order}
+use Rattle.pnm_serial.proofs.MessageSteps.{images_in-append, rows_in-append, prefix_is_writable, last_are_in_order}
 
 -- a failure after flushes is one since the start
 pub failed_since : (flush_failed : Bool) (start old new : ℕ) → CountsFlushes flush_failed start old → Failed old new → Failed start new
 failed_since false start old new count failed = subst (λ (n : ℕ). Failed n new) count failed
 failed_since true start old new count failed = fails_again start old new count failed
 
--- ---- a message that was written
+-- ---- messages that were written
 
--- it was written after those before it
-pub put_written : {W : Type 0} (held : W → Option (List ℕ)) (failures : W → ℕ) (form : Form) (start : W) (messages : List Message) (m : Message)
+-- they were written after those before them
+pub put_written : {W : Type 0} (held : W → Option (List ℕ)) (failures : W → ℕ) (form : Form) (start : W) (messages more : List Message)
     (old new : FusedSink W) (o r : Result (Unit {0}) SinkFault) → is_ok o ≡ true → is_ok r ≡ true
     → HasTakenWith held failures form start messages old o
-    → OnOk r ((s : Option (List ℕ)) (ms : List Message) → HasWritten held s old.sink ms → HasWritten held s new.sink (ms ++ m ∷ []))
-    → OnOk r (IsWritable (form_of old.sink) (has_begun old.sink) (next_place old.sink) m × (failures (output_of new) ≡ failures (output_of old)))
+    → OnOk r ((s : Option (List ℕ)) (ms : List Message) → HasWritten held s old.sink ms → HasWritten held s new.sink (ms ++ more))
+    → OnOk r (AreWritable (form_of old.sink) (has_begun old.sink) (next_place old.sink) more × (failures (output_of new) ≡ failures (output_of old)))
     → OnOk r ((has_failed old.sink ≡ false) × (has_failed new.sink ≡ false))
     → form_of new.sink ≡ form_of old.sink
-    → new.summary.images ≡ image_count_after old.summary.images m → new.summary.rows ≡ row_count_after old.summary.rows m → new.flush_failed ≡ old.flush_failed
-    → HasTakenWith held failures form start (messages ++ m ∷ []) new r
-put_written held failures form start messages m old new (Err fault) r o-is r-is was bytes taken sound same images rows flushes = absurd cc
-put_written held failures form start messages m old new (Ok x) (Err fault) o-is r-is was bytes taken sound same images rows flushes = absurd cc
-put_written held failures form start messages m old new (Ok x) (Ok y) o-is r-is was bytes taken sound same images rows flushes = record {
+    → new.summary.images ≡ images_in old.summary.images more → new.summary.rows ≡ rows_in old.summary.rows more → new.flush_failed ≡ old.flush_failed
+    → HasTakenWith held failures form start (messages ++ more) new r
+put_written held failures form start messages more old new (Err fault) r o-is r-is was bytes taken sound same images rows flushes = absurd cc
+put_written held failures form start messages more old new (Ok x) (Err fault) o-is r-is was bytes taken sound same images rows flushes = absurd cc
+put_written held failures form start messages more old new (Ok x) (Ok y) o-is r-is was bytes taken sound same images rows flushes = record {
   in_form = same ∙ was.in_form;
   written = bytes (held start) messages was.written;
   count = subst (λ (b : Bool). CountsFlushes b (failures start) (failures (output_of new))) (sym flushes)
       (subst (CountsFlushes old.flush_failed (failures start)) (sym taken.1) was.count);
   sound = sound.1;
-  images = images ∙ ap (λ (k : ℕ). image_count_after k m) was.images ∙ sym (images_in-push 0 messages m);
-  rows = rows ∙ ap (λ (k : ℕ). row_count_after k m) was.rows ∙ sym (rows_in-push 0 messages m);
+  images = images ∙ ap (λ (k : ℕ). images_in k more) was.images ∙ sym (images_in-append 0 messages more);
+  rows = rows ∙ ap (λ (k : ℕ). rows_in k more) was.rows ∙ sym (rows_in-append 0 messages more);
 }
 
 -- it stays so where only what is kept back is told anew
@@ -76,7 +75,7 @@ put_passed_on held failures form start messages old new (Ok x) r-is was passed i
     (passed was)
 put_passed_on held failures form start messages old new (Err fault) r-is was passed is = absurd cc
 
--- ---- a message that was refused
+-- ---- messages that were refused
 
 -- how a sink stands that has written messages
 pub record Stands (sink_form form : Form) (begun : Bool) (place : Place) (messages : List Message) : Type 0 where
@@ -94,11 +93,16 @@ stands held failures form start messages d was = record {
   here = was.written.put.place was.sound;
 }
 
--- why the form refuses the message, or doesn't
-fault_is : (sink_form form : Form) (begun : Bool) (place : Place) (messages : List Message) (m : Message) (found : Option SinkFault)
-    → Stands sink_form form begun place messages → form_fault sink_form begun m ≡ found → form_fault form (has_begun_by false messages) m ≡ found
-fault_is sink_form form begun place messages m found is fault =
-    sym (ap (λ (f : Form). form_fault f begun m) is.in_form ∙ ap (λ (b : Bool). form_fault form b m) is.has_begun) ∙ fault
+-- why the form refuses the messages, or doesn't
+fault_is : (sink_form form : Form) (begun : Bool) (place : Place) (messages more : List Message) → Stands sink_form form begun place messages
+    → form_fault_from sink_form begun more ≡ None → form_fault_from form (has_begun_by false messages) more ≡ None
+fault_is sink_form form begun place messages more is none =
+    sym (ap (λ (f : Form). form_fault_from f begun more) is.in_form ∙ ap (λ (b : Bool). form_fault_from form b more) is.has_begun) ∙ none
+
+refuses_first : (sink_form form : Form) (begun : Bool) (place : Place) (messages more : List Message) (fault : SinkFault)
+    → Stands sink_form form begun place messages → RefusesFirst sink_form begun more fault → RefusesFirst form (has_begun_by false messages) more fault
+refuses_first sink_form form begun place messages more fault is refuses =
+    subst (λ (b : Bool). RefusesFirst form b more fault) is.has_begun (subst (λ (f : Form). RefusesFirst f begun more fault) is.in_form refuses)
 
 -- the messages that were written, in the form
 pub written_in_form : {W : Type 0} (held : W → Option (List ℕ)) (failures : W → ℕ) (form : Form) (start : W) (messages : List Message) (d : FusedSink W)
@@ -106,96 +110,96 @@ pub written_in_form : {W : Type 0} (held : W → Option (List ℕ)) (failures : 
 written_in_form held failures form start messages d was = subst (λ (f : Form). Appends (held start) (held (output_of d)) (bytes_of f messages)) was.in_form
     was.written.bytes
 
--- the writer failed in the last message
-fails_in_last : {W : Type 0} (held : W → Option (List ℕ)) (failures : W → ℕ) (form : Form) (start : W) (messages : List Message) (m : Message)
+-- the writer failed in the last of them
+fails_in_last : {W : Type 0} (held : W → Option (List ℕ)) (failures : W → ℕ) (form : Form) (start : W) (messages more : List Message)
     (old new : FusedSink W) → AreWritten held failures form start messages old
-    → IsWritable (form_of old.sink) (has_begun old.sink) (next_place old.sink) m
-    → FailsIn (bytes_at (form_of old.sink) (next_place old.sink) m) (held (output_of old)) (held (output_of new)) (failures (output_of old))
+    → AreWritable (form_of old.sink) (has_begun old.sink) (next_place old.sink) more
+    → FailsIn (bytes_from (form_of old.sink) (next_place old.sink) more) (held (output_of old)) (held (output_of new)) (failures (output_of old))
     (failures (output_of new))
-    → FailsIn (written_of form (messages ++ m ∷ [])) (held start) (held (output_of new)) (failures start) (failures (output_of new))
-fails_in_last held failures form start messages m old new was takes fails =
+    → FailsIn (written_of form (messages ++ more)) (held start) (held (output_of new)) (failures start) (failures (output_of new))
+fails_in_last held failures form start messages more old new was takes fails =
     let is = stands held failures form start messages old was in
-    let none = form_fault-more form messages m is.none
-    (fault_is (form_of old.sink) form (has_begun old.sink) (next_place old.sink) messages m None is takes.1) in
-    let last : bytes_at (form_of old.sink) (next_place old.sink) m ≡ bytes_at form (place_of Between messages) m =
-    ap (λ (f : Form). bytes_at f (next_place old.sink) m) is.in_form ∙ ap (λ (p : Place). bytes_at form p m) is.here in
-    let all : bytes_of form messages ++ bytes_at (form_of old.sink) (next_place old.sink) m ≡ written_of form (messages ++ m ∷ []) =
-    ap (λ (l : List ℕ). bytes_of form messages ++ l) last ∙ sym (bytes_of_more form Between messages m) ∙ sym (written_all form (messages ++ m ∷ []) none) in (
+    let none = form_fault-more form messages more is.none
+    (fault_is (form_of old.sink) form (has_begun old.sink) (next_place old.sink) messages more is takes.1) in
+    let last : bytes_from (form_of old.sink) (next_place old.sink) more ≡ bytes_from form (place_of Between messages) more =
+    ap (λ (f : Form). bytes_from f (next_place old.sink) more) is.in_form ∙ ap (λ (p : Place). bytes_from form p more) is.here in
+    let all : bytes_of form messages ++ bytes_from (form_of old.sink) (next_place old.sink) more ≡ written_of form (messages ++ more) =
+    ap (λ (l : List ℕ). bytes_of form messages ++ l) last ∙ sym (bytes_from-append form Between messages more) ∙ sym (written_all form (messages ++ more) none) in (
       subst (AppendsPrefix (held start) (held (output_of new))) all
-          (then_prefix (held start) (held (output_of old)) (held (output_of new)) (bytes_of form messages) (bytes_at (form_of old.sink) (next_place old.sink) m)
+          (then_prefix (held start) (held (output_of old)) (held (output_of new)) (bytes_of form messages) (bytes_from (form_of old.sink) (next_place old.sink) more)
           (written_in_form held failures form start messages old was) fails.0),
       failed_since old.flush_failed (failures start) (failures (output_of old)) (failures (output_of new)) was.count fails.1,
     )
 
--- the form refused it, and nothing was written of it
-refused_by_form : {W : Type 0} (held : W → Option (List ℕ)) (failures : W → ℕ) (form : Form) (start : W) (messages : List Message) (m : Message)
+-- the form refused the first, and nothing was written of them
+refused_by_form : {W : Type 0} (held : W → Option (List ℕ)) (failures : W → ℕ) (form : Form) (start : W) (messages more : List Message)
     (old new : FusedSink W) (fault : SinkFault) → AreWritten held failures form start messages old
-    → form_fault (form_of old.sink) (has_begun old.sink) m ≡ Some fault → Keeps (held (output_of old)) (held (output_of new))
-    → (form_fault_of form (messages ++ m ∷ []) ≡ Some fault) × Appends (held start) (held (output_of new)) (written_of form (messages ++ m ∷ []))
-refused_by_form held failures form start messages m old new fault was refuses kept =
+    → RefusesFirst (form_of old.sink) (has_begun old.sink) more fault → Keeps (held (output_of old)) (held (output_of new))
+    → (form_fault_of form (messages ++ more) ≡ Some fault) × Appends (held start) (held (output_of new)) (written_of form (messages ++ more))
+refused_by_form held failures form start messages more old new fault was refuses kept =
     let is = stands held failures form start messages old was in
-    let last = refused_last form messages m fault is.none
-    (fault_is (form_of old.sink) form (has_begun old.sink) (next_place old.sink) messages m (Some fault) is refuses) in (
+    let last = refused_next form messages more fault is.none
+    (refuses_first (form_of old.sink) form (has_begun old.sink) (next_place old.sink) messages more fault is refuses) in (
       last.0,
-      subst (Appends (held start) (held (output_of new))) (sym last.1)
+      subst (Appends (held start) (held (output_of new))) (sym (ap (bytes_of form) last.1))
           (Appends-kept (held start) (held (output_of old)) (held (output_of new)) (bytes_of form messages)
           (written_in_form held failures form start messages old was) kept),
     )
 
 -- the sink takes what comes in order
-takes_last : {W : Type 0} (held : W → Option (List ℕ)) (failures : W → ℕ) (form : Form) (start : W) (messages : List Message) (m : Message) (d : FusedSink W)
-    → AreWritten held failures form start messages d → AreInOrder (messages ++ m ∷ []) → IsInOrder (next_place d.sink) m
-takes_last held failures form start messages m d was writable = subst (λ (p : Place). IsInOrder p m) (sym (was.written.put.place was.sound))
-    (last_is_in_order messages m writable)
+takes_last : {W : Type 0} (held : W → Option (List ℕ)) (failures : W → ℕ) (form : Form) (start : W) (messages more : List Message) (d : FusedSink W)
+    → AreWritten held failures form start messages d → AreInOrder (messages ++ more) → AreInOrderFrom (next_place d.sink) more
+takes_last held failures form start messages more d was writable = subst (λ (p : Place). AreInOrderFrom p more) (sym (was.written.put.place was.sound))
+    (last_are_in_order messages more writable)
 
-pub put_refused : {W : Type 0} (held : W → Option (List ℕ)) (failures : W → ℕ) (form : Form) (start : W) (messages : List Message) (m : Message)
+pub put_refused : {W : Type 0} (held : W → Option (List ℕ)) (failures : W → ℕ) (form : Form) (start : W) (messages more : List Message)
     (old new : FusedSink W) (o r : Result (Unit {0}) SinkFault) → is_ok o ≡ true → is_ok r ≡ false
     → HasTakenWith held failures form start messages old o
     → (has_failed old.sink ≡ false
-    → IfErr r (λ fault. Refuses (form_of old.sink) (has_begun old.sink) (next_place old.sink) m fault (held (output_of old)) (held (output_of new))
+    → IfErr r (λ fault. Refuses (form_of old.sink) (has_begun old.sink) (next_place old.sink) more fault (held (output_of old)) (held (output_of new))
     (failures (output_of old)) (failures (output_of new))))
     → OnErr r (has_failed new.sink ≡ true)
-    → HasTakenWith held failures form start (messages ++ m ∷ []) new r
-put_refused held failures form start messages m old new (Err fault) r o-is r-is was refuses failed = absurd cc
-put_refused held failures form start messages m old new (Ok x) (Ok y) o-is r-is was refuses failed = absurd cc
-put_refused held failures form start messages m old new (Ok x) (Err WriteFailed) o-is r-is was refuses failed =
+    → HasTakenWith held failures form start (messages ++ more) new r
+put_refused held failures form start messages more old new (Err fault) r o-is r-is was refuses failed = absurd cc
+put_refused held failures form start messages more old new (Ok x) (Ok y) o-is r-is was refuses failed = absurd cc
+put_refused held failures form start messages more old new (Ok x) (Err WriteFailed) o-is r-is was refuses failed =
     let refused = refuses was.sound in
-    record { failed = failed; prefix = λ writable. fails_in_last held failures form start messages m old new was refused.0 refused.1 }
-put_refused held failures form start messages m old new (Ok x) (Err OutOfOrder) o-is r-is was refuses failed = record {
+    record { failed = failed; prefix = λ writable. fails_in_last held failures form start messages more old new was refused.0 refused.1 }
+put_refused held failures form start messages more old new (Ok x) (Err OutOfOrder) o-is r-is was refuses failed = record {
   failed = failed;
-  prefix = λ writable. absurd ((refuses was.sound).0 (takes_last held failures form start messages m old was writable));
+  prefix = λ writable. absurd ((refuses was.sound).0 (takes_last held failures form start messages more old was writable));
 }
-put_refused held failures form start messages m old new (Ok x) (Err Broken) o-is r-is was refuses failed = absurd (refuses was.sound)
-put_refused held failures form start messages m old new (Ok x) (Err SecondPlain) o-is r-is was refuses failed =
+put_refused held failures form start messages more old new (Ok x) (Err Broken) o-is r-is was refuses failed = absurd (refuses was.sound)
+put_refused held failures form start messages more old new (Ok x) (Err SecondPlain) o-is r-is was refuses failed =
     let refused = refuses was.sound in
-    record { failed = failed; prefix = λ writable. refused_by_form held failures form start messages m old new SecondPlain was refused.1 refused.2 }
-put_refused held failures form start messages m old new (Ok x) (Err PlainPam) o-is r-is was refuses failed =
+    record { failed = failed; prefix = λ writable. refused_by_form held failures form start messages more old new SecondPlain was refused.1 refused.2 }
+put_refused held failures form start messages more old new (Ok x) (Err PlainPam) o-is r-is was refuses failed =
     let refused = refuses was.sound in
-    record { failed = failed; prefix = λ writable. refused_by_form held failures form start messages m old new PlainPam was refused.1 refused.2 }
+    record { failed = failed; prefix = λ writable. refused_by_form held failures form start messages more old new PlainPam was refused.1 refused.2 }
 
--- ---- a message that was dropped
+-- ---- messages that were dropped
 
 -- after a fault nothing more is written
-cut_before : (fault : SinkFault) (form : Form) (messages : List Message) (m : Message) (old new : Option (List ℕ)) (failures_old failures_new : ℕ)
-    → CutsOff fault form messages old new failures_old failures_new → CutsOff fault form (messages ++ m ∷ []) old new failures_old failures_new
-cut_before WriteFailed form messages m old new failures_old failures_new cut =
-    let more = written_prefix form messages (m ∷ []) in
-    (subst (AppendsPrefix old new) (sym more.1) (prefix-more old new (written_of form messages) more.0 cut.0), cut.1)
-cut_before OutOfOrder form messages m old new failures_old failures_new cut = absurd cut
-cut_before Broken form messages m old new failures_old failures_new cut = absurd cut
-cut_before SecondPlain form messages m old new failures_old failures_new cut =
-    let refused = refused_before form messages m SecondPlain cut.0 in
-    (refused.0, subst (Appends old new) (sym refused.1) cut.1)
-cut_before PlainPam form messages m old new failures_old failures_new cut =
-    let refused = refused_before form messages m PlainPam cut.0 in
-    (refused.0, subst (Appends old new) (sym refused.1) cut.1)
+cut_before : (fault : SinkFault) (form : Form) (messages more : List Message) (old new : Option (List ℕ)) (failures_old failures_new : ℕ)
+    → CutsOff fault form messages old new failures_old failures_new → CutsOff fault form (messages ++ more) old new failures_old failures_new
+cut_before WriteFailed form messages more old new failures_old failures_new cut =
+    let rest = written_prefix form messages more in
+    (subst (AppendsPrefix old new) (sym rest.1) (prefix-more old new (written_of form messages) rest.0 cut.0), cut.1)
+cut_before OutOfOrder form messages more old new failures_old failures_new cut = absurd cut
+cut_before Broken form messages more old new failures_old failures_new cut = absurd cut
+cut_before SecondPlain form messages more old new failures_old failures_new cut =
+    let refused = refused_before form messages more SecondPlain cut.0 in
+    (refused.0, subst (Appends old new) (sym (ap (bytes_of form) refused.1)) cut.1)
+cut_before PlainPam form messages more old new failures_old failures_new cut =
+    let refused = refused_before form messages more PlainPam cut.0 in
+    (refused.0, subst (Appends old new) (sym (ap (bytes_of form) refused.1)) cut.1)
 
-pub put_dropped : {W : Type 0} (held : W → Option (List ℕ)) (failures : W → ℕ) (form : Form) (start : W) (messages : List Message) (m : Message)
+pub put_dropped : {W : Type 0} (held : W → Option (List ℕ)) (failures : W → ℕ) (form : Form) (start : W) (messages more : List Message)
     (d : FusedSink W) (o : Result (Unit {0}) SinkFault) → is_ok o ≡ false → HasTakenWith held failures form start messages d o
-    → HasTakenWith held failures form start (messages ++ m ∷ []) d o
-put_dropped held failures form start messages m d (Ok x) o-is was = absurd cc
-put_dropped held failures form start messages m d (Err fault) o-is was = record {
+    → HasTakenWith held failures form start (messages ++ more) d o
+put_dropped held failures form start messages more d (Ok x) o-is was = absurd cc
+put_dropped held failures form start messages more d (Err fault) o-is was = record {
   failed = was.failed;
-  prefix = λ writable. cut_before fault form messages m (held start) (held (output_of d)) (failures start) (failures (output_of d))
-      (was.prefix (prefix_is_writable messages (m ∷ []) writable));
+  prefix = λ writable. cut_before fault form messages more (held start) (held (output_of d)) (failures start) (failures (output_of d))
+      (was.prefix (prefix_is_writable messages more writable));
 }

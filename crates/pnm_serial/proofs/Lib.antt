@@ -1,7 +1,5 @@
 pub mod MessageSteps
-pub mod FormSteps
 pub mod FusedSinkSteps
-pub mod RowSteps
 pub mod SoundSteps
 pub mod PassingSteps
 pub mod FaultSteps

@@ -1,24 +1,41 @@
--- Lists of messages, and one message more.
-use Rattle.std.proofs.Common.{◌≡◌, ℕ, List, [], ◌∷◌, ◌++◌, refl}
+-- Lists of messages, and more messages.
+use Rattle.std.proofs.Common.{◌≡◌, ◌≤◌, ℕ, ◌+◌, List, [], ◌∷◌, ◌++◌, length, refl, ap, ◌∙◌, arith}
+use Rattle.std.specs.List.{AllByRecursion}
 use Rattle.pnm_image.specs.declared.format.Form.{Form}
 use Rattle.pnm_image.specs.declared.message.Message.{Message}
 use Rattle.pnm_image.specs.declared.place.Place.TheVariants.{Between}
 use Rattle.pnm_image.specs.Places.{place_of}
-use Rattle.pnm_image.proofs.Places.{lawful_prefix, next_may_come}
-use Rattle.pnm_image.proofs.Lists.{all_of_prefix, each-middle}
+use Rattle.pnm_image.proofs.Places.{lawful_prefix, lawful_suffix}
+use Rattle.pnm_image.proofs.Lists.{all_of_prefix}
+use Rattle.pnm_image.specs.Rows.{row_messages}
 use Rattle.pnm_write.specs.Encoding.{bytes_from, bytes_of}
-use Rattle.pnm_write.specs.Sinks.{HasRows, IsInOrder}
+use Rattle.pnm_write.specs.Sinks.{HasRows, AreInOrderFrom}
 use Rattle.pnm_write.proofs.MessageLaws.{bytes_from-append}
-use Rattle.pnm_serial.specs.Counts.{image_count_after, row_count_after, images_in, rows_in}
+use Rattle.pnm_serial.specs.Counts.{saturate_u64, image_count_after, row_count_after, images_in, rows_in}
 use Rattle.pnm_serial.specs.FusedSinks.{AreInOrder}
 
-pub images_in-push : (images : ℕ) (ms : List Message) (m : Message) → images_in images (ms ++ m ∷ []) ≡ image_count_after (images_in images ms) m
-images_in-push images [] m = refl
-images_in-push images (n ∷ ms) m = images_in-push (image_count_after images n) ms m
+pub images_in-append : (images : ℕ) (ms more : List Message) → images_in images (ms ++ more) ≡ images_in (images_in images ms) more
+images_in-append images [] more = refl
+images_in-append images (m ∷ ms) more = images_in-append (image_count_after images m) ms more
 
-pub rows_in-push : (rows : ℕ) (ms : List Message) (m : Message) → rows_in rows (ms ++ m ∷ []) ≡ row_count_after (rows_in rows ms) m
-rows_in-push rows [] m = refl
-rows_in-push rows (n ∷ ms) m = rows_in-push (row_count_after rows n) ms m
+pub rows_in-append : (rows : ℕ) (ms more : List Message) → rows_in rows (ms ++ more) ≡ rows_in (rows_in rows ms) more
+rows_in-append rows [] more = refl
+rows_in-append rows (m ∷ ms) more = rows_in-append (row_count_after rows m) ms more
+
+-- rows are counted, and no images
+pub images_in-rows : (images : ℕ) (rows : List (List ℕ)) → images_in images (row_messages rows) ≡ images
+images_in-rows images [] = refl
+images_in-rows images (row ∷ rows) = images_in-rows images rows
+
+rows_in-saturated : (n : ℕ) (rows : List (List ℕ)) → rows_in (saturate_u64 n) (row_messages rows) ≡ saturate_u64 (n + length rows)
+rows_in-saturated n [] = omega arith
+rows_in-saturated n (row ∷ rows) =
+    let one : saturate_u64 (saturate_u64 n + 1) ≡ saturate_u64 (n + 1) = omega arith in
+    ap (λ (k : ℕ). rows_in k (row_messages rows)) one ∙ rows_in-saturated (n + 1) rows ∙ ap saturate_u64 (omega arith)
+
+pub rows_in-rows : (n : ℕ) (rows : List (List ℕ)) → 1 ≤ length rows → rows_in n (row_messages rows) ≡ saturate_u64 (n + length rows)
+rows_in-rows n [] some = absurd (omega (arith, some))
+rows_in-rows n (row ∷ rows) some = rows_in-saturated (n + 1) rows ∙ ap saturate_u64 (omega arith)
 
 -- the bytes of messages are a prefix of the bytes of these and more
 pub bytes_of-append : (form : Form) (ms ns : List Message) → (more : List ℕ) × (bytes_of form (ms ++ ns) ≡ bytes_of form ms ++ more)
@@ -27,6 +44,10 @@ bytes_of-append form ms ns = (bytes_from form (place_of Between ms) ns, bytes_fr
 pub prefix_is_writable : (ms ns : List Message) → AreInOrder (ms ++ ns) → AreInOrder ms
 prefix_is_writable ms ns writable = (lawful_prefix Between ms ns writable.0, all_of_prefix HasRows ms ns writable.1)
 
--- the last of messages that may be written comes in order where those before it lead
-pub last_is_in_order : (ms : List Message) (m : Message) → AreInOrder (ms ++ m ∷ []) → IsInOrder (place_of Between ms) m
-last_is_in_order ms m writable = (next_may_come Between ms m [] writable.0, each-middle HasRows ms m [] writable.1)
+-- the rest of messages that come in order does so where those before it lead
+each_after : (ms more : List Message) → AllByRecursion HasRows (ms ++ more) → AllByRecursion HasRows more
+each_after [] more all = all
+each_after (m ∷ ms) more all = each_after ms more all.1
+
+pub last_are_in_order : (ms more : List Message) → AreInOrder (ms ++ more) → AreInOrderFrom (place_of Between ms) more
+last_are_in_order ms more writable = (lawful_suffix Between ms more writable.0, each_after ms more writable.1)

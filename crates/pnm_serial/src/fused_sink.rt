@@ -1,18 +1,16 @@
 //! What comes behind the tools of a run: the sink, and the count of what it wrote.
 
-ghost use Rattle.std.specs.Prelude.{◌≡◌, [], ◌∷◌, ◌++◌, List, Ok, Err};
+ghost use Rattle.std.specs.Prelude.{◌≡◌, [], ◌++◌, List, Ok, Err};
 ghost use Rattle.std.specs.Result.{is_err};
 ghost use Rattle.std.specs.Io.KnownBytes.{Keeps};
 ghost use Rattle.pnm_image.specs.declared.format.Form.{Form as FormValue};
 ghost use Rattle.pnm_image.specs.declared.message.Message.{Message as MessageValue};
 ghost use Rattle.pnm_image.specs.Packets.{messages_in};
-ghost use Rattle.pnm_image.specs.Rows.{row_messages};
-ghost use Rattle.pnm_image.specs.declared.message.Message.TheVariants.{Begin, ImageEnd};
 ghost use Rattle.pnm_write.specs.declared.fault.SinkFault.{SinkFault as Fault};
 ghost use Rattle.pnm_write.specs.Sinks.{has_failed};
 
 use crate::summary::Summary;
-use pnm_image::{BytesOut, Form, Head, Message, Packet, RepeatedRows, Rows, Several};
+use pnm_image::{BytesOut, Form, Packet};
 use pnm_write::{Sink, SinkFault, WriteBuffer};
 
 /// The sink, and what came of it so far.
@@ -49,92 +47,33 @@ impl<W: BytesOut + Drop> FusedSink<W> {
         }
     }
 
-    /// Writes the packet as `put`, `put_repeated` or `put_image` does, unless the output had a fault before.
-    pub fn put_packet(&mut self, packet: Packet)
-        ensures taken { (form : FormValue) (start : W) (messages : List MessageValue)
-            → HasTaken W.held W.failures form start messages self.old
-            → HasTaken W.held W.failures form start (messages ++ messages_in packet) self.new }
-        ensures same_device { W.same (output_of self.old) (output_of self.new) }
-    {
-        match packet.into_message() {
-            Ok(message) => self.put(&message),
-            Err(Several::Rows(rows)) => self.put_repeated(&rows),
-            Err(Several::Image(head, rows)) => self.put_image(head, &rows),
-        }
-    }
-
-    /// Writes the image as if its head, each of its rows, and its end were put as messages of their own, unless the
-    /// output had a fault before.
-    #[inline(never)]
-    pub fn put_image(&mut self, head: Head, rows: &Rows)
-        ensures taken { (form : FormValue) (start : W) (messages : List MessageValue)
-            → HasTaken W.held W.failures form start messages self.old
-            → HasTaken W.held W.failures form start (messages ++ (Begin head ∷ row_messages rows.now ++ ImageEnd ∷ []))
-            self.new }
-        ensures same_device { W.same (output_of self.old) (output_of self.new) }
-    {
-        self.put(&Message::Begin(head));
-        self.put_rows(rows);
-        self.put(&Message::ImageEnd);
-    }
-
-    /// Writes the message, unless the output had a fault before. If the writer keeps back some of an image that has
+    /// Writes the packet, unless the output had a fault before. If the writer keeps back some of an image that has
     /// ended, `flush_images` passes that on; in plain form it is passed on at once.
-    pub fn put(&mut self, message: &Message)
+    #[inline(never)]
+    pub fn put(&mut self, packet: &Packet)
         ensures taken { (form : FormValue) (start : W) (messages : List MessageValue)
             → HasTaken W.held W.failures form start messages self.old
-            → HasTaken W.held W.failures form start (messages ++ message.now ∷ []) self.new }
+            → HasTaken W.held W.failures form start (messages ++ messages_in packet.now) self.new }
         ensures same_device { W.same (output_of self.old) (output_of self.new) }
     {
         if self.output.is_ok() {
-            self.output = self.sink.put(message);
+            self.output = self.sink.put(packet);
             if self.output.is_ok() {
-                self.summary.count(message);
-                self.pass_on(message);
+                self.summary.count(packet);
+                self.pass_on(packet);
             }
         }
     }
 
-    /// Writes the rows each time that they come, as `put_rows` does.
-    #[inline(never)]
-    pub fn put_repeated(&mut self, rows: &RepeatedRows)
-        ensures taken { (form : FormValue) (start : W) (messages : List MessageValue)
-            → HasTaken W.held W.failures form start messages self.old
-            → HasTaken W.held W.failures form start (messages ++ row_messages rows.now) self.new }
-        ensures same_device { W.same (output_of self.old) (output_of self.new) }
-    {
-        let (held, times) = rows.parts();
-        for _time in 0..times {
-            self.put_rows(held);
-        }
-    }
-
-    /// Writes the rows as if each were put as a message of its own, unless the output had a fault before.
-    #[inline(never)]
-    pub fn put_rows(&mut self, rows: &Rows)
-        ensures taken { (form : FormValue) (start : W) (messages : List MessageValue)
-            → HasTaken W.held W.failures form start messages self.old
-            → HasTaken W.held W.failures form start (messages ++ row_messages rows.now) self.new }
-        ensures same_device { W.same (output_of self.old) (output_of self.new) }
-    {
-        if self.output.is_ok() {
-            self.output = self.sink.put_rows(rows);
-            if self.output.is_ok() {
-                let count = u64::from(rows.count());
-                self.summary.rows = self.summary.rows.saturating_add(count);
-            }
-        }
-    }
-
-    /// If the message has ended an image, notes that, and in plain form flushes the writer.
-    fn pass_on(&mut self, message: &Message)
+    /// If the packet has ended an image, notes that, and in plain form flushes the writer.
+    fn pass_on(&mut self, packet: &Packet)
         ensures written { (form : FormValue) (start : W) (messages : List MessageValue)
             → AreWritten W.held W.failures form start messages self.old
             → AreWritten W.held W.failures form start messages self.new }
         ensures output { self.new.output ≡ self.old.output }
         ensures same_device { W.same (output_of self.old) (output_of self.new) }
     {
-        if message.ends_image() {
+        if packet.ends_image() {
             self.keeps_image = true;
             if self.is_plain {
                 self.flush();

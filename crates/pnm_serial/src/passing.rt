@@ -25,7 +25,7 @@ pub fn feed_through<F: Filter + Drop, W: BytesOut + Drop>(
     ensures same_device { W.same (output_of fused_sink.old) (output_of fused_sink.new) }
 {
     if stages.is_empty() {
-        fused_sink.put_packet(packet);
+        fused_sink.put(&packet);
         return;
     }
     match packet.into_message() {

@@ -89,7 +89,7 @@ extends_by_packet P l now new packet extends added are holds = record {
   holds = holds;
 }
 
-ends_as_packet : (e : Ending) (l : List Message) (packet : Packet) → EndsBy More l → ending_of_packet packet ≡ e → EndsBy e (l ++ messages_in packet)
+pub ends_as_packet : (e : Ending) (l : List Message) (packet : Packet) → EndsBy More l → ending_of_packet packet ≡ e → EndsBy e (l ++ messages_in packet)
 ends_as_packet e l packet more same = subst (λ (x : Ending). EndsBy x (l ++ messages_in packet)) same (ends_with_packet l packet more)
 
 pub packet_goes_on : (l now new : List Message) (packet : Packet) → Extends l now (EndsBy More) → new ≡ now ++ messages_in packet

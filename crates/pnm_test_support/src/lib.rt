@@ -22,7 +22,5 @@ pub use sweep::Sweep;
 pub use telling::{
     width_of, write_all, write_change, write_head, write_message, write_row, write_text,
 };
-pub use together::{
-    Handed, cut_into, handed_of, packets_of, rows_of, write_each_row, write_packet, write_rows,
-};
+pub use together::{cut_into, packets_of, rows_of, write_each_row, write_packet, write_rows};
 pub use writing::{cut_at, cut_number, cut_pair, cut_word, named, text_of};

@@ -11,39 +11,9 @@ use pnm_image::{
 };
 use std::alloc::{AllocError, Global};
 
-/// What is handed over at once.
-#[derive(Drop)]
-pub enum Handed {
-    /// A message.
-    Message(Message),
-    /// Rows that are handed over together.
-    Rows(Rows),
-}
-
-/// What is handed over by messages that are written one after another. Rows between braces are handed over at once.
-/// Rows are held in as few bits as hold their samples, or in words.
-pub fn handed_of(alloc: Global, text: &[u8], is_narrow: bool) -> Result<Vec<Handed>, Unmade> {
-    let mut handed = Vec::new(alloc);
-    let mut rest = text;
-    for _ in 0..text.len() {
-        if rest.is_empty() {
-            break;
-        }
-        let (alone, after) = cut_at(rest, b'{');
-        for message in messages_of(alloc, alone, is_narrow)? {
-            handed.push(Handed::Message(message))?;
-        }
-        let (together, after) = cut_at(after, b'}');
-        if !together.is_empty() {
-            handed.push(Handed::Rows(rows_of(alloc, together, is_narrow)?))?;
-        }
-        rest = after;
-    }
-    Ok(handed)
-}
-
 /// The packets of messages that are written one after another. Rows between braces are one packet, and so is a whole
-/// image between braces. A number before rows is the number of times that they come. Rows are held as `handed_of` says.
+/// image between braces. A number before rows is the number of times that they come. Rows are held in as few bits as hold
+/// their samples, or in words.
 pub fn packets_of(alloc: Global, text: &[u8], is_narrow: bool) -> Result<Vec<Packet>, Unmade> {
     let mut packets = Vec::new(alloc);
     let mut rest = text;

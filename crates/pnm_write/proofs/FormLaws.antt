@@ -1,4 +1,4 @@
--- What a form refuses of messages, one message more at a time.
+-- What a form refuses of messages and of more.
 use Rattle.std.proofs.Common.{◌≡◌, ℕ, Bool, true, false, List, [], ◌∷◌, ◌++◌, map, Option, Some, None, refl, ap, append_assoc, ◌∙◌}
 use Rattle.pnm_image.specs.declared.format.Form.{Form}
 use Rattle.pnm_image.specs.declared.format.Form.TheVariants.{Raw, Plain}
@@ -7,14 +7,14 @@ use Rattle.pnm_image.specs.declared.message.Message.TheVariants.{Row, ImageEnd, 
 use Rattle.pnm_image.specs.Images.{Image, rows_of, messages_of_stream}
 use Rattle.pnm_write.specs.declared.fault.SinkFault.TheVariants.{SecondPlain}
 use Rattle.pnm_write.specs.declared.fault.SinkFault.{SinkFault}
-use Rattle.pnm_write.specs.Forms.{plain_kind_fault, images_fault, has_begun_after, has_begun_by, form_fault, form_fault_of, plain_fault, plain_fault_from}
+use Rattle.pnm_write.specs.Forms.{plain_kind_fault, images_fault, has_begun_after, has_begun_by, form_fault_from, form_fault_of, plain_fault, plain_fault_from, RefusesFirst}
 use Rattle.pnm_write.specs.Forms.{plain_taken_from, taken_by}
 
--- whether an image has begun, after one message more
-pub has_begun_by-more : (begun : Bool) (messages : List Message) (m : Message)
-    → has_begun_by begun (messages ++ m ∷ []) ≡ has_begun_after (has_begun_by begun messages) m
-has_begun_by-more begun [] m = refl
-has_begun_by-more begun (first ∷ messages) m = has_begun_by-more (has_begun_after begun first) messages m
+-- whether an image has begun, after more messages
+pub has_begun_by-append : (begun : Bool) (messages more : List Message)
+    → has_begun_by begun (messages ++ more) ≡ has_begun_by (has_begun_by begun messages) more
+has_begun_by-append begun [] more = refl
+has_begun_by-append begun (m ∷ messages) more = has_begun_by-append (has_begun_after begun m) messages more
 
 -- ---- the first fault
 
@@ -22,33 +22,25 @@ has_begun_by-more begun (first ∷ messages) m = has_begun_by-more (has_begun_af
 abbrev pub first_of_two : Option SinkFault → Option SinkFault → Option SinkFault
 first_of_two first second = elim first [ Some fault ↦ Some fault | None ↦ second ]
 
-first_alone : (first : Option SinkFault) → first_of_two first None ≡ first
-first_alone None = refl
-first_alone (Some fault) = refl
-
 first_of_three : (a b c d : Option SinkFault) → d ≡ first_of_two b c → first_of_two a d ≡ first_of_two (first_of_two a b) c
 first_of_three None b c d e = e
 first_of_three (Some fault) b c d e = refl
 
--- the first fault of messages and one more is theirs, and else that of the last
-plain_fault_from-more : (begun : Bool) (messages : List Message) (m : Message)
-    → plain_fault_from begun (messages ++ m ∷ []) ≡ first_of_two (plain_fault_from begun messages) (plain_fault (has_begun_by begun messages) m)
-plain_fault_from-more begun [] m = first_alone (plain_fault begun m)
-plain_fault_from-more begun (first ∷ messages) m =
-    let now : Bool = has_begun_after begun first in
-    first_of_three (plain_fault begun first) (plain_fault_from now messages) (plain_fault (has_begun_by now messages) m)
-    (plain_fault_from now (messages ++ m ∷ [])) (plain_fault_from-more now messages m)
+-- the first fault of messages and more is theirs, and else that of the others
+plain_fault_from-append : (begun : Bool) (messages more : List Message)
+    → plain_fault_from begun (messages ++ more) ≡ first_of_two (plain_fault_from begun messages) (plain_fault_from (has_begun_by begun messages) more)
+plain_fault_from-append begun [] more = refl
+plain_fault_from-append begun (m ∷ messages) more =
+    let now : Bool = has_begun_after begun m in
+    first_of_three (plain_fault begun m) (plain_fault_from now messages) (plain_fault_from (has_begun_by now messages) more)
+    (plain_fault_from now (messages ++ more)) (plain_fault_from-append now messages more)
 
-pub form_fault_of-more : (form : Form) (messages : List Message) (m : Message)
-    → form_fault_of form (messages ++ m ∷ []) ≡ first_of_two (form_fault_of form messages) (form_fault form (has_begun_by false messages) m)
-form_fault_of-more Raw messages m = refl
-form_fault_of-more Plain messages m = plain_fault_from-more false messages m
-
--- one message more without a fault, after messages without one
-pub form_fault-more : (form : Form) (messages : List Message) (m : Message) → form_fault_of form messages ≡ None
-    → form_fault form (has_begun_by false messages) m ≡ None → form_fault_of form (messages ++ m ∷ []) ≡ None
-form_fault-more form messages m before now = form_fault_of-more form messages m
-    ∙ ap (λ (o : Option SinkFault). first_of_two o (form_fault form (has_begun_by false messages) m)) before ∙ now
+-- more messages without a fault, after messages without one
+pub form_fault-more : (form : Form) (messages more : List Message) → form_fault_of form messages ≡ None
+    → form_fault_from form (has_begun_by false messages) more ≡ None → form_fault_of form (messages ++ more) ≡ None
+form_fault-more Raw messages more before now = refl
+form_fault-more Plain messages more before now = plain_fault_from-append false messages more
+    ∙ ap (λ (o : Option SinkFault). first_of_two o (plain_fault_from (has_begun_by false messages) more)) before ∙ now
 
 -- where the first of two faults isn't there, and where neither is
 pub no_first_fault : (first second : Option SinkFault) → first_of_two first second ≡ None → first ≡ None
@@ -65,34 +57,52 @@ no_last_fault (Some fault) second e = cc
 abbrev taken_behind : Option SinkFault → Message → List Message → List Message
 taken_behind first m taken = elim first [ Some fault ↦ [] | None ↦ m ∷ taken ]
 
--- what is taken of messages: those before the last where there is a fault, and else all
-abbrev pub taken_if : Option SinkFault → List Message → List Message → List Message
-taken_if first before all = elim first [ Some fault ↦ before | None ↦ all ]
+-- one that is refused is so before others, too, and what is taken is what comes before it
+before_step : (first rest more : Option SinkFault) (m : Message) (taken all : List Message) (fault : SinkFault) → first_of_two first rest ≡ Some fault
+    → (rest ≡ Some fault → (more ≡ Some fault) × (all ≡ taken))
+    → (first_of_two first more ≡ Some fault) × (taken_behind first m all ≡ taken_behind first m taken)
+before_step None rest more m taken all fault is later = let found = later is in (found.0, ap (λ (l : List Message). m ∷ l) found.1)
+before_step (Some first) rest more m taken all fault is later = (is, refl)
 
-taken_last : (first : Option SinkFault) (m : Message) → taken_behind first m [] ≡ taken_if (first_of_two first None) [] (m ∷ [])
-taken_last None m = refl
-taken_last (Some fault) m = refl
+plain_refused_before : (begun : Bool) (messages more : List Message) (fault : SinkFault) → plain_fault_from begun messages ≡ Some fault
+    → (plain_fault_from begun (messages ++ more) ≡ Some fault) × (plain_taken_from begun (messages ++ more) ≡ plain_taken_from begun messages)
+plain_refused_before begun [] more fault is = absurd cc
+plain_refused_before begun (m ∷ messages) more fault is =
+    let now : Bool = has_begun_after begun m in
+    before_step (plain_fault begun m) (plain_fault_from now messages) (plain_fault_from now (messages ++ more)) m (plain_taken_from now messages)
+    (plain_taken_from now (messages ++ more)) fault is (plain_refused_before now messages more fault)
 
-taken_step : (first rest : Option SinkFault) (m : Message) (taken all : List Message)
-    → taken_behind first m (taken_if rest taken all) ≡ taken_if (first_of_two first rest) (taken_behind first m taken) (m ∷ all)
-taken_step None None m taken all = refl
-taken_step None (Some fault) m taken all = refl
-taken_step (Some fault) rest m taken all = refl
+pub refused_before : (form : Form) (messages more : List Message) (fault : SinkFault) → form_fault_of form messages ≡ Some fault
+    → (form_fault_of form (messages ++ more) ≡ Some fault) × (taken_by form (messages ++ more) ≡ taken_by form messages)
+refused_before Raw messages more fault is = absurd cc
+refused_before Plain messages more fault is = plain_refused_before false messages more fault is
 
--- one message more is taken, where neither it nor one before it is refused
-plain_taken_from-more : (begun : Bool) (messages : List Message) (m : Message)
-    → plain_taken_from begun (messages ++ m ∷ []) ≡ taken_if (plain_fault_from begun (messages ++ m ∷ [])) (plain_taken_from begun messages)
-    (messages ++ m ∷ [])
-plain_taken_from-more begun [] m = taken_last (plain_fault begun m) m
-plain_taken_from-more begun (first ∷ messages) m =
-    let now : Bool = has_begun_after begun first in
-    ap (taken_behind (plain_fault begun first) first) (plain_taken_from-more now messages m)
-    ∙ taken_step (plain_fault begun first) (plain_fault_from now (messages ++ m ∷ [])) first (plain_taken_from now messages) (messages ++ m ∷ [])
+-- the first of more messages is the first that is refused
+next_step : (first rest more : Option SinkFault) (m : Message) (all messages : List Message) (fault : SinkFault) → first_of_two first rest ≡ None
+    → (rest ≡ None → (more ≡ Some fault) × (all ≡ messages))
+    → (first_of_two first more ≡ Some fault) × (taken_behind first m all ≡ m ∷ messages)
+next_step None rest more m all messages fault none later = let found = later none in (found.0, ap (λ (l : List Message). m ∷ l) found.1)
+next_step (Some first) rest more m all messages fault none later = absurd cc
 
-pub taken_by-more : (form : Form) (messages : List Message) (m : Message)
-    → taken_by form (messages ++ m ∷ []) ≡ taken_if (form_fault_of form (messages ++ m ∷ [])) (taken_by form messages) (messages ++ m ∷ [])
-taken_by-more Raw messages m = refl
-taken_by-more Plain messages m = plain_taken_from-more false messages m
+plain_refused_next : (begun : Bool) (messages more : List Message) (fault : SinkFault) → plain_fault_from begun messages ≡ None
+    → RefusesFirst Plain (has_begun_by begun messages) more fault
+    → (plain_fault_from begun (messages ++ more) ≡ Some fault) × (plain_taken_from begun (messages ++ more) ≡ messages)
+plain_refused_next begun [] [] fault none refuses = absurd refuses
+plain_refused_next begun [] (m ∷ more) fault none refuses = (
+  ap (λ (o : Option SinkFault). first_of_two o (plain_fault_from (has_begun_after begun m) more)) refuses,
+  ap (λ (o : Option SinkFault). taken_behind o m (plain_taken_from (has_begun_after begun m) more)) refuses,
+)
+plain_refused_next begun (m ∷ messages) more fault none refuses =
+    let now : Bool = has_begun_after begun m in
+    next_step (plain_fault begun m) (plain_fault_from now messages) (plain_fault_from now (messages ++ more)) m (plain_taken_from now (messages ++ more))
+    messages fault none (λ rest. plain_refused_next now messages more fault rest refuses)
+
+pub refused_next : (form : Form) (messages more : List Message) (fault : SinkFault) → form_fault_of form messages ≡ None
+    → RefusesFirst form (has_begun_by false messages) more fault
+    → (form_fault_of form (messages ++ more) ≡ Some fault) × (taken_by form (messages ++ more) ≡ messages)
+refused_next Raw messages [] fault none refuses = absurd refuses
+refused_next Raw messages (m ∷ more) fault none refuses = absurd cc
+refused_next Plain messages more fault none refuses = plain_refused_next false messages more fault none refuses
 
 -- where none is refused, all are taken
 all_step : (first rest : Option SinkFault) (m : Message) (taken messages : List Message) → first_of_two first rest ≡ None → (rest ≡ None → taken ≡ messages)

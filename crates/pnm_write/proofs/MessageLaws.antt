@@ -1,24 +1,29 @@
 -- The bytes of lists of messages, and the messages that were put into a sink.
-use Rattle.std.proofs.Common.{◌≡◌, ℕ, ◌+◌, Bool, false, List, [], ◌∷◌, ◌++◌, map, Option, None, Result, Ok, Err, OnOk, refl, sym, ap, ◌∙◌, append_assoc, subst}
-use Rattle.std.specs.List.{flat_map}
+use Rattle.std.proofs.Common.{◌≡◌, ℕ, ◌+◌, Bool, true, false, List, [], ◌∷◌, ◌++◌, map, Option, None, Result, Ok, Err, OnOk, refl, sym, ap, ◌∙◌, append_assoc, subst}
+use Rattle.std.specs.List.{flat_map, AllByRecursion}
 use Rattle.std.proofs.lemmas.List.{append-nil}
 use Rattle.std.proofs.KnownBytes.{Appends-trans}
-use Rattle.std.specs.Io.KnownBytes.{Appends}
+use Rattle.std.specs.Io.KnownBytes.{Appends, Keeps}
 use Rattle.pnm_image.specs.declared.shape.Shape.{Shape}
 use Rattle.pnm_image.specs.declared.format.Form.{Form}
+use Rattle.pnm_image.specs.declared.format.Form.TheVariants.{Raw, Plain}
+use Rattle.pnm_image.specs.Heads.{HeadValue}
+use Rattle.pnm_image.specs.Rows.{row_messages}
+use Rattle.pnm_write.specs.declared.fault.SinkFault.{SinkFault}
+use Rattle.pnm_write.specs.declared.fault.SinkFault.TheVariants.{WriteFailed, OutOfOrder, Broken, SecondPlain, PlainPam}
 use Rattle.pnm_image.specs.declared.message.Message.{Message}
-use Rattle.pnm_image.specs.declared.message.Message.TheVariants.{Row, ImageEnd}
+use Rattle.pnm_image.specs.declared.message.Message.TheVariants.{Begin, Row, ImageEnd, StreamEnd, Stop}
 use Rattle.pnm_image.specs.declared.place.Place.{Place}
 use Rattle.pnm_image.specs.declared.place.Place.TheVariants.{Between, Inside}
 use Rattle.pnm_image.specs.Images.{Image, rows_of, messages_of_stream}
-use Rattle.pnm_image.specs.Places.{Accepts, place_after, place_of}
-use Rattle.pnm_image.proofs.Places.{lawful_more, place_of-append}
-use Rattle.pnm_image.proofs.Lists.{each-push}
+use Rattle.pnm_image.specs.Places.{IsLawfulFrom, place_after, place_of}
+use Rattle.pnm_image.proofs.Places.{lawful_append, place_of-append}
 use Rattle.pnm_write.specs.declared.sink.Sink.{Sink}
 use Rattle.pnm_write.specs.Encoding.{header_text, row_bytes, encoding_of, bytes_at, bytes_from, bytes_of, written_of}
-use Rattle.pnm_write.specs.Forms.{has_begun_after, has_begun_by, form_fault, form_fault_of, taken_by}
-use Rattle.pnm_write.specs.Sinks.{writer_of, next_place, form_of, has_begun, has_failed, HasRows, IsWritable, HasPut, HasWritten}
-use Rattle.pnm_write.proofs.FormLaws.{has_begun_by-more, form_fault-more, IsPrefixOf, taken_prefix, taken_by-all}
+use Rattle.pnm_write.specs.Forms.{has_begun_by, form_fault, form_fault_from, form_fault_of, plain_fault, plain_fault_from, taken_by}
+use Rattle.pnm_write.specs.Sinks.{writer_of, next_place, form_of, has_begun, has_failed, HasRows, HasPut, HasWritten}
+use Rattle.pnm_write.specs.Sinks.{AreWritable, BeginsNone, BeginsWith, IsHeadRefused, Refuses}
+use Rattle.pnm_write.proofs.FormLaws.{has_begun_by-append, form_fault-more, first_of_two, IsPrefixOf, taken_prefix, taken_by-all}
 
 -- the bytes of rows, and of what comes after the image
 bytes_of_rows : (form : Form) (s : Shape) (y : ℕ) (rows : List (List ℕ)) (rest : List Message)
@@ -67,48 +72,105 @@ written_prefix form messages more =
 pub written_all : (form : Form) (messages : List Message) → form_fault_of form messages ≡ None → written_of form messages ≡ bytes_of form messages
 written_all form messages none = ap (bytes_from form Between) (taken_by-all form messages none)
 
--- ---- one message more
+-- ---- more messages
 
--- what a sink is after it took a message
-pub record TakesOn {W : Type 0} (old new : Sink W) (m : Message) : Type 0 where
-  pub takes : IsWritable (form_of old) (has_begun old) (next_place old) m
+-- what a sink is after it took messages
+pub record TakesOn {W : Type 0} (old new : Sink W) (more : List Message) : Type 0 where
+  pub takes : AreWritable (form_of old) (has_begun old) (next_place old) more
   pub sound : has_failed old ≡ false
   pub form : form_of new ≡ form_of old
-  pub place : next_place new ≡ place_after (next_place old) m
-  pub begun : has_begun new ≡ has_begun_after (has_begun old) m
+  pub place : next_place new ≡ place_of (next_place old) more
+  pub begun : has_begun new ≡ has_begun_by (has_begun old) more
 
--- a message was put
-pub put_more : {W : Type 0} (old new : Sink W) (messages : List Message) (m : Message) → HasPut old messages → TakesOn old new m
-    → HasPut new (messages ++ m ∷ [])
-put_more old new messages m put on =
+all_append : {A : Type 0} (P : A → Type 0) (a b : List A) → AllByRecursion P a → AllByRecursion P b → AllByRecursion P (a ++ b)
+all_append P [] b first then = then
+all_append P (x ∷ a) b first then = (first.0, all_append P a b first.1 then)
+
+-- messages were put
+pub puts : {W : Type 0} (old new : Sink W) (messages more : List Message) → HasPut old messages → TakesOn old new more → HasPut new (messages ++ more)
+puts old new messages more put on =
     let here : next_place old ≡ place_of Between messages = put.place on.sound in
     let begun : has_begun old ≡ has_begun_by false messages = put.begun on.sound in
-    let none : form_fault (form_of old) (has_begun_by false messages) m ≡ None = subst (λ (b : Bool). form_fault (form_of old) b m ≡ None) begun on.takes.1 in
+    let none : form_fault_from (form_of old) (has_begun_by false messages) more ≡ None =
+    subst (λ (b : Bool). form_fault_from (form_of old) b more ≡ None) begun on.takes.1 in
     record {
-      lawful = lawful_more Between messages m put.lawful (subst (λ (p : Place). Accepts p m) here on.takes.0.0);
-      rows = each-push HasRows messages m put.rows on.takes.0.1;
-      form = subst (λ (f : Form). form_fault_of f (messages ++ m ∷ []) ≡ None) (sym on.form) (form_fault-more (form_of old) messages m put.form none);
-      begun = λ still. on.begun ∙ ap (λ (b : Bool). has_begun_after b m) begun ∙ sym (has_begun_by-more false messages m);
-      place = λ still. on.place ∙ ap (λ (p : Place). place_after p m) here ∙ sym (place_of-append Between messages (m ∷ []));
+      lawful = lawful_append Between messages more put.lawful (subst (λ (p : Place). IsLawfulFrom p more) here on.takes.0.0);
+      rows = all_append HasRows messages more put.rows on.takes.0.1;
+      form = subst (λ (f : Form). form_fault_of f (messages ++ more) ≡ None) (sym on.form) (form_fault-more (form_of old) messages more put.form none);
+      begun = λ still. on.begun ∙ ap (λ (b : Bool). has_begun_by b more) begun ∙ sym (has_begun_by-append false messages more);
+      place = λ still. on.place ∙ ap (λ (p : Place). place_of p more) here ∙ sym (place_of-append Between messages more);
     }
 
--- a message was put, and its bytes were written
-pub written_more : {W : Type 0} (held : W → Option (List ℕ)) (start : Option (List ℕ)) (old new : Sink W) (messages : List Message) (m : Message)
-    → HasWritten held start old messages → TakesOn old new m
-    → Appends (held (writer_of old)) (held (writer_of new)) (bytes_at (form_of old) (next_place old) m) → HasWritten held start new (messages ++ m ∷ [])
-written_more held start old new messages m written on added =
+-- messages were put, and their bytes were written
+pub writes : {W : Type 0} (held : W → Option (List ℕ)) (start : Option (List ℕ)) (old new : Sink W) (messages more : List Message)
+    → HasWritten held start old messages → TakesOn old new more
+    → Appends (held (writer_of old)) (held (writer_of new)) (bytes_from (form_of old) (next_place old) more) → HasWritten held start new (messages ++ more)
+writes held start old new messages more written on added =
     let form : Form = form_of old in
     let here : next_place old ≡ place_of Between messages = written.put.place on.sound in
-    let bytes : Appends (held (writer_of old)) (held (writer_of new)) (bytes_at form (place_of Between messages) m) =
-    subst (λ (p : Place). Appends (held (writer_of old)) (held (writer_of new)) (bytes_at form p m)) here added in
-    let all : Appends start (held (writer_of new)) (bytes_from form Between (messages ++ m ∷ [])) =
-    subst (Appends start (held (writer_of new))) (sym (bytes_of_more form Between messages m))
-    (Appends-trans start (held (writer_of old)) (held (writer_of new)) (bytes_from form Between messages) (bytes_at form (place_of Between messages) m)
+    let bytes : Appends (held (writer_of old)) (held (writer_of new)) (bytes_from form (place_of Between messages) more) =
+    subst (λ (p : Place). Appends (held (writer_of old)) (held (writer_of new)) (bytes_from form p more)) here added in
+    let all : Appends start (held (writer_of new)) (bytes_from form Between (messages ++ more)) =
+    subst (Appends start (held (writer_of new))) (sym (bytes_from-append form Between messages more))
+    (Appends-trans start (held (writer_of old)) (held (writer_of new)) (bytes_from form Between messages) (bytes_from form (place_of Between messages) more)
     written.bytes bytes) in
     record {
-      put = put_more old new messages m written.put on;
-      bytes = subst (λ (f : Form). Appends start (held (writer_of new)) (bytes_from f Between (messages ++ m ∷ []))) (sym on.form) all;
+      put = puts old new messages more written.put on;
+      bytes = subst (λ (f : Form). Appends start (held (writer_of new)) (bytes_from f Between (messages ++ more))) (sym on.form) all;
     }
+
+-- ---- whether an image begins in messages
+
+pub begins_none : (form : Form) (begun : Bool) (messages : List Message) → BeginsNone messages
+    → AllByRecursion HasRows messages × (form_fault_from form begun messages ≡ None) × (begun ≡ has_begun_by begun messages)
+begins_none Raw begun [] none = (tt, refl, refl)
+begins_none Plain begun [] none = (tt, refl, refl)
+begins_none form begun (Begin head ∷ messages) none = absurd none
+begins_none Raw begun (Row row ∷ messages) none = let rest = begins_none Raw begun messages none in ((tt, rest.0), refl, rest.2)
+begins_none Plain begun (Row row ∷ messages) none = let rest = begins_none Plain begun messages none in ((tt, rest.0), rest.1, rest.2)
+begins_none Raw begun (ImageEnd ∷ messages) none = let rest = begins_none Raw begun messages none in ((tt, rest.0), refl, rest.2)
+begins_none Plain begun (ImageEnd ∷ messages) none = let rest = begins_none Plain begun messages none in ((tt, rest.0), rest.1, rest.2)
+begins_none Raw begun (StreamEnd ∷ messages) none = let rest = begins_none Raw begun messages none in ((tt, rest.0), refl, rest.2)
+begins_none Plain begun (StreamEnd ∷ messages) none = let rest = begins_none Plain begun messages none in ((tt, rest.0), rest.1, rest.2)
+begins_none Raw begun (Stop ∷ messages) none = let rest = begins_none Raw begun messages none in ((tt, rest.0), refl, rest.2)
+begins_none Plain begun (Stop ∷ messages) none = let rest = begins_none Plain begun messages none in ((tt, rest.0), rest.1, rest.2)
+
+-- one does with the first of them
+first_plain : (begun : Bool) (head : HeadValue) (rest : Option SinkFault) → plain_fault begun (Begin head) ≡ None
+    → first_of_two (plain_fault begun (Begin head)) rest ≡ rest
+first_plain begun head rest none = ap (λ (o : Option SinkFault). first_of_two o rest) none
+
+pub begins_with : (form : Form) (begun : Bool) (head : HeadValue) (messages : List Message) → HasRows (Begin head)
+    → form_fault form begun (Begin head) ≡ None → BeginsNone messages
+    → AllByRecursion HasRows (Begin head ∷ messages) × (form_fault_from form begun (Begin head ∷ messages) ≡ None)
+    × (true ≡ has_begun_by begun (Begin head ∷ messages))
+begins_with Raw begun head messages rows none nothing = let rest = begins_none Raw true messages nothing in ((rows, rest.0), refl, rest.2)
+begins_with Plain begun head messages rows none nothing =
+    let rest = begins_none Plain true messages nothing in ((rows, rest.0), first_plain begun head (plain_fault_from true messages) none ∙ rest.1, rest.2)
+
+-- rows begin none, nor do rows and an image's end
+pub rows_begin_none : (rows : List (List ℕ)) → BeginsNone (row_messages rows)
+rows_begin_none [] = tt
+rows_begin_none (row ∷ rows) = rows_begin_none rows
+
+pub rest_begins_none : (rows : List (List ℕ)) → BeginsNone (row_messages rows ++ ImageEnd ∷ [])
+rest_begins_none [] = tt
+rest_begins_none (row ∷ rows) = rest_begins_none rows
+
+-- why messages are refused that begin with a head
+pub refused_with : (form : Form) (begun : Bool) (place : Place) (messages : List Message) (fault : SinkFault) (head : HeadValue)
+    (old : Option (List ℕ)) (failures : ℕ) → BeginsWith head messages → IsHeadRefused form begun head fault → IsLawfulFrom place messages
+    → Keeps old old → Refuses form begun place messages fault old old failures failures
+refused_with form begun place messages OutOfOrder head old failures (rest, is, none) refused lawful keeps =
+    (λ order. refused (subst (AllByRecursion HasRows) is order.1).0, keeps)
+refused_with form begun place messages SecondPlain head old failures (rest, is, none) refused lawful keeps =
+    subst (λ (l : List Message). Refuses form begun place l SecondPlain old old failures failures) (sym is)
+    ((subst (IsLawfulFrom place) is lawful, (refused.0, (begins_none form begun rest none).0)), refused.1, keeps)
+refused_with form begun place messages PlainPam head old failures (rest, is, none) refused lawful keeps =
+    subst (λ (l : List Message). Refuses form begun place l PlainPam old old failures failures) (sym is)
+    ((subst (IsLawfulFrom place) is lawful, (refused.0, (begins_none form begun rest none).0)), refused.1, keeps)
+refused_with form begun place messages WriteFailed head old failures begins refused lawful keeps = absurd refused
+refused_with form begun place messages Broken head old failures begins refused lawful keeps = absurd refused
 
 -- what follows from two facts where there is no error
 pub on_ok_both : {T E P Q R : Type 0} (r : Result T E) → (P → Q → R) → OnOk r P → OnOk r Q → OnOk r R

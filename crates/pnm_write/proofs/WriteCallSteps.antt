@@ -1,8 +1,8 @@
 -- How a call ends that writes bytes part by part.
-use Rattle.std.proofs.Common.{◌≡◌, ℕ, List, [], ◌++◌, Option, Result, Ok, Err, IsErr}
+use Rattle.std.proofs.Common.{◌≡◌, ℕ, List, [], ◌++◌, Option, Result, Ok, Err, IsErr, refl, sym, append-nil}
 use Rattle.pnm_image.specs.Devices.{FailsIn}
 use Rattle.pnm_image.specs.declared.device.DeviceFailed.{DeviceFailed}
-use Rattle.pnm_image.proofs.Written.{Sending, sending_part_failed}
+use Rattle.pnm_image.proofs.Written.{Sending, sending_part, sending_part_failed}
 use Rattle.pnm_write.specs.WriteCalls.{WriteCall}
 use Rattle.pnm_write.proofs.PartLaws.{all_written}
 
@@ -27,3 +27,13 @@ call_done held failures same old now bytes rest sending none = record {
   count = sending.count;
   same_device = sending.same_device;
 }
+
+-- and then the rest was written, or failed
+pub call_on : {W : Type 0} (held : W → Option (List ℕ)) (failures : W → ℕ) (same : W → W → Type 0) (old now new : W) (bytes rest : List ℕ)
+    (result : Result (Unit {0}) DeviceFailed) → Sending held failures same old now bytes rest → WriteCall held failures same now new result rest
+    → same old new → WriteCall held failures same old new result bytes
+call_on held failures same old now new bytes rest (Ok done) sending call device =
+    call_done held failures same old new bytes []
+    (sending_part held failures same old now new bytes rest rest [] (sym (append-nil rest)) sending call.written call.count device) refl
+call_on held failures same old now new bytes rest (Err fault) sending call device =
+    call_failed held failures same old now new bytes rest rest [] (Err fault) refl (sym (append-nil rest)) sending call.failed device

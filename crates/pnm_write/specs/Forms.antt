@@ -1,5 +1,5 @@
 -- What a form has no place for: a plain file holds one image, which isn't PAM. From pbm(5), pgm(5) and ppm(5).
-use Rattle.std.specs.Prelude.{Bool, true, false, List, [], ◌∷◌, Option, Some, None}
+use Rattle.std.specs.Prelude.{◌≡◌, Bool, true, false, List, [], ◌∷◌, Option, Some, None}
 use Rattle.pnm_image.specs.declared.format.Form.{Form}
 use Rattle.pnm_image.specs.declared.format.Form.TheVariants.{Raw, Plain}
 use Rattle.pnm_image.specs.declared.message.Message.{Message}
@@ -57,9 +57,17 @@ plain_fault_from begun (m ∷ ms) = elim (plain_fault begun m) [
   | None ↦ plain_fault_from (has_begun_after begun m) ms
 ]
 
+abbrev pub form_fault_from : Form → Bool → List Message → Option SinkFault
+form_fault_from Raw begun messages = None
+form_fault_from Plain begun messages = plain_fault_from begun messages
+
 abbrev pub form_fault_of : Form → List Message → Option SinkFault
-form_fault_of Raw messages = None
-form_fault_of Plain messages = plain_fault_from false messages
+form_fault_of form messages = form_fault_from form false messages
+
+-- the form refuses the first message for this reason, where an image has begun before it or not
+abbrev pub RefusesFirst : Form → Bool → List Message → SinkFault → Type 0
+RefusesFirst form begun [] fault = ⊥
+RefusesFirst form begun (m ∷ ms) fault = form_fault form begun m ≡ Some fault
 
 -- the messages before it, or all of them
 abbrev pub plain_taken_from : Bool → List Message → List Message

@@ -1,5 +1,5 @@
 -- Which messages were put into a sink, and which messages it refuses.
-use Rattle.std.specs.Prelude.{◌≡◌, ℕ, ◌<◌, Bool, true, false, List, Option, Some, None}
+use Rattle.std.specs.Prelude.{◌≡◌, ℕ, ◌<◌, Bool, true, false, List, [], ◌∷◌, Option, Some, None}
 use Rattle.std.specs.List.{AllByRecursion}
 use Rattle.std.specs.Io.KnownBytes.{Appends, Keeps}
 use Rattle.pnm_image.specs.declared.format.Form.{Form}
@@ -7,13 +7,13 @@ use Rattle.pnm_image.specs.declared.message.Message.{Message}
 use Rattle.pnm_image.specs.declared.message.Message.TheVariants.{Begin, Row, ImageEnd, StreamEnd, Stop}
 use Rattle.pnm_image.specs.declared.place.Place.{Place}
 use Rattle.pnm_image.specs.declared.place.Place.TheVariants.{Between}
-use Rattle.pnm_image.specs.Places.{Accepts, IsLawful, IsLawfulFrom, place_of}
-use Rattle.pnm_image.specs.Rows.{row_messages}
+use Rattle.pnm_image.specs.Places.{IsLawful, IsLawfulFrom, place_of}
+use Rattle.pnm_image.specs.Heads.{HeadValue}
 use Rattle.pnm_write.specs.declared.fault.SinkFault.{SinkFault}
 use Rattle.pnm_write.specs.declared.fault.SinkFault.TheVariants.{WriteFailed, OutOfOrder, Broken, SecondPlain, PlainPam}
 use Rattle.pnm_write.specs.declared.sink.Sink.{Sink}
-use Rattle.pnm_write.specs.Encoding.{bytes_at, bytes_from, bytes_of}
-use Rattle.pnm_write.specs.Forms.{has_begun_by, form_fault, form_fault_of}
+use Rattle.pnm_write.specs.Encoding.{bytes_from, bytes_of}
+use Rattle.pnm_write.specs.Forms.{has_begun_by, form_fault, form_fault_from, form_fault_of, RefusesFirst}
 use Rattle.pnm_image.specs.Devices.{FailsIn}
 
 abbrev pub writer_of : {W : Type 0} → Sink W → W
@@ -43,13 +43,34 @@ form_of sink = sink.form
 abbrev pub has_begun : {W : Type 0} → Sink W → Bool
 has_begun sink = sink.has_begun
 
--- the message may come at this place of the stream, and begins no image of height 0
-abbrev pub IsInOrder : Place → Message → Type 0
-IsInOrder place m = Accepts place m × HasRows m
+-- the messages come in order from this place on, and begin no image of height 0
+abbrev pub AreInOrderFrom : Place → List Message → Type 0
+AreInOrderFrom place messages = IsLawfulFrom place messages × AllByRecursion HasRows messages
 
--- a sink takes the message at this place, where an image has begun or not
-abbrev pub IsWritable : Form → Bool → Place → Message → Type 0
-IsWritable form begun place m = IsInOrder place m × (form_fault form begun m ≡ None)
+-- a sink takes the messages from this place on, where an image has begun or not
+abbrev pub AreWritable : Form → Bool → Place → List Message → Type 0
+AreWritable form begun place messages = AreInOrderFrom place messages × (form_fault_from form begun messages ≡ None)
+
+-- no image begins in the messages
+abbrev pub BeginsNone : List Message → Type 0
+BeginsNone [] = Unit {0}
+BeginsNone (Begin head ∷ messages) = ⊥
+BeginsNone (Row row ∷ messages) = BeginsNone messages
+BeginsNone (ImageEnd ∷ messages) = BeginsNone messages
+BeginsNone (StreamEnd ∷ messages) = BeginsNone messages
+BeginsNone (Stop ∷ messages) = BeginsNone messages
+
+-- an image begins with the first of the messages, and no other does
+abbrev pub BeginsWith : HeadValue → List Message → Type 0
+BeginsWith head messages = (rest : List Message) × (messages ≡ Begin head ∷ rest) × BeginsNone rest
+
+-- why no image begins with a head, where an image has begun before or not
+abbrev pub IsHeadRefused : Form → Bool → HeadValue → SinkFault → Type 0
+IsHeadRefused form begun head OutOfOrder = HasRows (Begin head) → ⊥
+IsHeadRefused form begun head SecondPlain = HasRows (Begin head) × (form_fault form begun (Begin head) ≡ Some SecondPlain)
+IsHeadRefused form begun head PlainPam = HasRows (Begin head) × (form_fault form begun (Begin head) ≡ Some PlainPam)
+IsHeadRefused form begun head WriteFailed = ⊥
+IsHeadRefused form begun head Broken = ⊥
 
 -- these are the messages that were put into the sink without a fault
 pub record HasPut {W : Type 0} (sink : Sink W) (messages : List Message) : Type 0 where
@@ -65,36 +86,14 @@ pub record HasWritten {W : Type 0} (held : W → Option (List ℕ)) (start : Opt
   pub put : HasPut sink messages
   pub bytes : Appends start (held (writer_of sink)) (bytes_of (form_of sink) messages)
 
--- why a sink refuses a message, whatever its writer does: there was a fault before; the message doesn't come in order;
--- or the form refuses it
-abbrev pub IsRefusedBySink : {W : Type 0} → Sink W → Message → SinkFault → Type 0
-IsRefusedBySink sink m Broken = has_failed sink ≡ true
-IsRefusedBySink sink m OutOfOrder = (has_failed sink ≡ false) × (IsInOrder (next_place sink) m → ⊥)
-IsRefusedBySink sink m SecondPlain = (has_failed sink ≡ false) × IsInOrder (next_place sink) m
-    × (form_fault (form_of sink) (has_begun sink) m ≡ Some SecondPlain)
-IsRefusedBySink sink m PlainPam = (has_failed sink ≡ false) × IsInOrder (next_place sink) m
-    × (form_fault (form_of sink) (has_begun sink) m ≡ Some PlainPam)
-IsRefusedBySink sink m WriteFailed = ⊥
-
--- Why a message isn't written, where there was no fault before: it doesn't come in order; the form refuses it; or the
--- writer failed. But for the last nothing is written.
-abbrev pub Refuses : Form → Bool → Place → Message → SinkFault → Option (List ℕ) → Option (List ℕ) → ℕ → ℕ → Type 0
-Refuses form begun place m OutOfOrder old new failures_old failures_new = (IsInOrder place m → ⊥) × Keeps old new
-Refuses form begun place m SecondPlain old new failures_old failures_new = IsInOrder place m
-    × (form_fault form begun m ≡ Some SecondPlain) × Keeps old new
-Refuses form begun place m PlainPam old new failures_old failures_new = IsInOrder place m
-    × (form_fault form begun m ≡ Some PlainPam) × Keeps old new
-Refuses form begun place m WriteFailed old new failures_old failures_new = IsWritable form begun place m
-    × FailsIn (bytes_at form place m) old new failures_old failures_new
-Refuses form begun place m Broken old new failures_old failures_new = ⊥
-
--- Why rows that are handed over together aren't written, where there was no fault before: they don't come in order, and
--- nothing is written; or the writer failed. No form refuses a row.
-abbrev pub RefusesRows : Form → Place → List (List ℕ) → SinkFault → Option (List ℕ) → Option (List ℕ) → ℕ → ℕ → Type 0
-RefusesRows form place rows OutOfOrder old new failures_old failures_new = (IsLawfulFrom place (row_messages rows) → ⊥)
-    × Keeps old new
-RefusesRows form place rows WriteFailed old new failures_old failures_new = IsLawfulFrom place (row_messages rows)
-    × FailsIn (bytes_from form place (row_messages rows)) old new failures_old failures_new
-RefusesRows form place rows Broken old new failures_old failures_new = ⊥
-RefusesRows form place rows SecondPlain old new failures_old failures_new = ⊥
-RefusesRows form place rows PlainPam old new failures_old failures_new = ⊥
+-- Why messages that are handed over together aren't written, where there was no fault before: they don't come in order;
+-- the form refuses the first of them; or the writer failed. But for the last nothing is written.
+abbrev pub Refuses : Form → Bool → Place → List Message → SinkFault → Option (List ℕ) → Option (List ℕ) → ℕ → ℕ → Type 0
+Refuses form begun place ms OutOfOrder old new failures_old failures_new = (AreInOrderFrom place ms → ⊥) × Keeps old new
+Refuses form begun place ms SecondPlain old new failures_old failures_new = AreInOrderFrom place ms
+    × RefusesFirst form begun ms SecondPlain × Keeps old new
+Refuses form begun place ms PlainPam old new failures_old failures_new = AreInOrderFrom place ms
+    × RefusesFirst form begun ms PlainPam × Keeps old new
+Refuses form begun place ms WriteFailed old new failures_old failures_new = AreWritable form begun place ms
+    × FailsIn (bytes_from form place ms) old new failures_old failures_new
+Refuses form begun place ms Broken old new failures_old failures_new = ⊥

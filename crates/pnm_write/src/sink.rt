@@ -1,23 +1,25 @@
 //! The sink: messages to bytes.
 
-ghost use Rattle.std.specs.Prelude.{◌≡◌, ◌↔◌, List, [], ◌∷◌, ◌++◌, IsTrue, MatchResult, MatchOption, IfErr};
-ghost use Rattle.std.specs.Prelude.{OnOk, OnErr, IfOk, Err, true, false};
+ghost use Rattle.std.specs.Prelude.{◌≡◌, List, [], ◌++◌, MatchResult, MatchOption, IfErr, OnOk, OnErr, IfOk, Err, None};
+ghost use Rattle.std.specs.Prelude.{true, false, IfSome, IfNone};
+ghost use Rattle.std.specs.List.{AllByRecursion};
 ghost use Rattle.std.specs.Io.KnownBytes.{Appends, Keeps};
 ghost use Rattle.pnm_image.specs.Devices.{Failed};
-ghost use Rattle.pnm_image.specs.Places.{Accepts, IsLawfulFrom, place_after, place_of};
-ghost use Rattle.pnm_image.specs.Rows.{row_messages};
-ghost use Rattle.pnm_write.specs.Encoding.{bytes_at, bytes_from};
-ghost use Rattle.pnm_write.specs.Forms.{form_fault, has_begun_after};
-ghost use Rattle.pnm_write.specs.Sinks.{writer_of, form_of, has_begun, next_place, has_failed, HasRows, IsWritable};
-ghost use Rattle.pnm_write.specs.Sinks.{IsRefusedBySink, HasPut, HasWritten, Refuses, RefusesRows};
+ghost use Rattle.pnm_image.specs.Heads.{HeadValue};
+ghost use Rattle.pnm_image.specs.declared.message.Message.TheVariants.{Begin};
+ghost use Rattle.pnm_image.specs.Packets.{messages_in};
+ghost use Rattle.pnm_image.specs.Places.{IsLawfulFrom, place_of};
+ghost use Rattle.pnm_write.specs.Encoding.{bytes_from};
+ghost use Rattle.pnm_write.specs.Forms.{form_fault, form_fault_from, has_begun_by};
+ghost use Rattle.pnm_write.specs.Sinks.{writer_of, form_of, has_begun, next_place, has_failed, HasRows, HasPut, HasWritten};
+ghost use Rattle.pnm_write.specs.Sinks.{AreWritable, BeginsNone, BeginsWith, IsHeadRefused, Refuses};
 ghost use Rattle.pnm_write.specs.WriteCalls.{WriteCall};
 
 use crate::fault::SinkFault;
 use crate::header::write_header;
-use crate::row::write_samples;
-use crate::rows::write_rows;
+use crate::rows::{write_image, write_repeated};
 use crate::write_buffer::WriteBuffer;
-use pnm_image::{BytesOut, DeviceFailed, Form, Kind, Message, Place, Rows};
+use pnm_image::{BytesOut, DeviceFailed, Form, Head, Kind, Packet, Place};
 use std::alloc::{AllocError, Global};
 
 /// Writes the messages of a stream of images as Netpbm images of one form: PBM, PGM, PPM and PAM, by
@@ -71,84 +73,47 @@ impl<W: BytesOut> Sink<W> {
         }
     }
 
-    /// Writes all bytes of the message: at the beginning of an image its header, and for a row its samples, as pbm(5),
-    /// pgm(5), ppm(5) and pam(5) lay them out. The other messages have none. `flush`, which `put` doesn't call, passes
-    /// on what the writer keeps back of them.
+    /// Writes all bytes of the messages that the packet stands for: at the beginning of an image its header, and for a
+    /// row its samples, as pbm(5), pgm(5), ppm(5) and pam(5) lay them out. The other messages have none. `flush`, which
+    /// `put` doesn't call, passes on what the writer keeps back of them.
     ///
     /// In plain form each row begins a line, a line has at most 70 bytes before its LF, and as many
     /// samples as it can hold, with one blank between each two.
     ///
-    /// The faults, in order: `Broken` after an earlier fault; `OutOfOrder` if the message can't come at this place of
-    /// the stream, or begins an image of height 0; in plain form `SecondPlain` if the message begins a second image,
+    /// The faults, in order: `Broken` after an earlier fault; `OutOfOrder` if a message can't come at its place in the
+    /// stream, or begins an image of height 0; in plain form `SecondPlain` if the packet begins a second image,
     /// and `PlainPam` if it begins a PAM image; `WriteFailed` if the writer fails, with a prefix of the bytes written.
     /// For the others nothing is written.
-    pub fn put(&mut self, message: &Message) -> Result<(), SinkFault>
+    pub fn put(&mut self, packet: &Packet) -> Result<(), SinkFault>
         ensures written { OnOk result
             (Appends (W.held (writer_of self.old)) (W.held (writer_of self.new))
-            (bytes_at (form_of self.old) (next_place self.old) message.now)) }
+            (bytes_from (form_of self.old) (next_place self.old) (messages_in packet.now))) }
         ensures taken { OnOk result
-            (IsWritable (form_of self.old) (has_begun self.old) (next_place self.old) message.now
+            (AreWritable (form_of self.old) (has_begun self.old) (next_place self.old) (messages_in packet.now)
             × (W.failures (writer_of self.new) ≡ W.failures (writer_of self.old))) }
         ensures sound { OnOk result ((has_failed self.old ≡ false) × (has_failed self.new ≡ false)) }
         ensures form { form_of self.new ≡ form_of self.old }
 
-        // The messages that were put are one more, or the same after a fault.
-        ensures more { OnOk result
-            ((messages : List _) → HasPut self.old messages → HasPut self.new (messages ++ message.now ∷ [])) }
+        // The messages that were put are more by those of the packet, or the same after a fault.
+        ensures more { OnOk result ((messages : List _) → HasPut self.old messages
+            → HasPut self.new (messages ++ messages_in packet.now)) }
         ensures same { OnErr result ((messages : List _) → HasPut self.old messages → HasPut self.new messages) }
 
         // All that was written is the bytes of the messages that were put.
         ensures bytes { OnOk result ((start : _) (messages : List _) → HasWritten W.held start self.old messages
-            → HasWritten W.held start self.new (messages ++ message.now ∷ [])) }
+            → HasWritten W.held start self.new (messages ++ messages_in packet.now)) }
 
         // After a fault nothing more is written.
         ensures stays { OnErr result (has_failed self.new ≡ true) }
         ensures broken { has_failed self.old ≡ true → (result ≡ Err SinkFault.Broken) × (self.new ≡ self.old) }
         ensures refused { has_failed self.old ≡ false
             → IfErr result (λ fault. Refuses (form_of self.old) (has_begun self.old) (next_place self.old)
-            message.now fault
+            (messages_in packet.now) fault
             (W.held (writer_of self.old)) (W.held (writer_of self.new))
             (W.failures (writer_of self.old)) (W.failures (writer_of self.new))) }
         ensures same_device { W.same (writer_of self.old) (writer_of self.new) }
     {
-        let written = self.write(message);
-        self.has_failed = written.is_err();
-        written
-    }
-
-    /// Writes all bytes of the rows, as if each were put as a message of its own, one after another.
-    ///
-    /// The faults, in order: `Broken` after an earlier fault; `OutOfOrder` if the rows can't all come at this place of
-    /// the stream, and nothing is written; `WriteFailed` if the writer fails, with a prefix of their bytes written.
-    pub fn put_rows(&mut self, rows: &Rows) -> Result<(), SinkFault>
-        ensures written { OnOk result
-            (Appends (W.held (writer_of self.old)) (W.held (writer_of self.new))
-            (bytes_from (form_of self.old) (next_place self.old) (row_messages rows.now))) }
-        ensures taken { OnOk result
-            (IsLawfulFrom (next_place self.old) (row_messages rows.now)
-            × (W.failures (writer_of self.new) ≡ W.failures (writer_of self.old))) }
-        ensures sound { OnOk result ((has_failed self.old ≡ false) × (has_failed self.new ≡ false)) }
-        ensures form { form_of self.new ≡ form_of self.old }
-
-        // The messages that were put are more by the rows, or the same after a fault.
-        ensures more { OnOk result ((messages : List _) → HasPut self.old messages
-            → HasPut self.new (messages ++ row_messages rows.now)) }
-        ensures same { OnErr result ((messages : List _) → HasPut self.old messages → HasPut self.new messages) }
-
-        // All that was written is the bytes of the messages that were put.
-        ensures bytes { OnOk result ((start : _) (messages : List _) → HasWritten W.held start self.old messages
-            → HasWritten W.held start self.new (messages ++ row_messages rows.now)) }
-
-        // After a fault nothing more is written.
-        ensures stays { OnErr result (has_failed self.new ≡ true) }
-        ensures broken { has_failed self.old ≡ true → (result ≡ Err SinkFault.Broken) × (self.new ≡ self.old) }
-        ensures refused { has_failed self.old ≡ false
-            → IfErr result (λ fault. RefusesRows (form_of self.old) (next_place self.old) rows.now fault
-            (W.held (writer_of self.old)) (W.held (writer_of self.new))
-            (W.failures (writer_of self.old)) (W.failures (writer_of self.new))) }
-        ensures same_device { W.same (writer_of self.old) (writer_of self.new) }
-    {
-        let written = self.write_rows(rows);
+        let written = self.write(packet);
         self.has_failed = written.is_err();
         written
     }
@@ -197,69 +162,20 @@ impl<W: BytesOut> Sink<W> {
         (sink.writer, flushed)
     }
 
-    /// Why the message isn't written, whatever the writer does.
-    fn refusal(&self, message: &Message) -> Option<SinkFault>
-        ensures { MatchOption result
-            ((has_failed self.now ≡ false)
-            × IsWritable (form_of self.now) (has_begun self.now) (next_place self.now) message.now)
-            (IsRefusedBySink self.now message.now) }
-    {
-        if self.has_failed {
-            Some(SinkFault::Broken)
-        } else if !self.place.accepts(message) || !has_rows(message) {
-            Some(SinkFault::OutOfOrder)
-        } else {
-            form_fault(self.form, self.has_begun, message)
-        }
-    }
-
-    /// Writes the message as `put` does. It doesn't note a fault.
-    fn write(&mut self, message: &Message) -> Result<(), SinkFault>
+    /// Writes the packet as `put` does. It doesn't note a fault.
+    fn write(&mut self, packet: &Packet) -> Result<(), SinkFault>
         ensures written { OnOk result
             (Appends (W.held (writer_of self.old)) (W.held (writer_of self.new))
-            (bytes_at (form_of self.old) (next_place self.old) message.now)) }
+            (bytes_from (form_of self.old) (next_place self.old) (messages_in packet.now))) }
         ensures taken { OnOk result
-            (IsWritable (form_of self.old) (has_begun self.old) (next_place self.old) message.now
+            (AreWritable (form_of self.old) (has_begun self.old) (next_place self.old) (messages_in packet.now)
             × (has_failed self.old ≡ false)
-            × (next_place self.new ≡ place_after (next_place self.old) message.now)
-            × (has_begun self.new ≡ has_begun_after (has_begun self.old) message.now)) }
+            × (next_place self.new ≡ place_of (next_place self.old) (messages_in packet.now))
+            × (has_begun self.new ≡ has_begun_by (has_begun self.old) (messages_in packet.now))) }
         ensures broken { has_failed self.old ≡ true → (result ≡ Err SinkFault.Broken) × (self.new ≡ self.old) }
         ensures refused { has_failed self.old ≡ false
             → IfErr result (λ fault. Refuses (form_of self.old) (has_begun self.old) (next_place self.old)
-            message.now fault
-            (W.held (writer_of self.old)) (W.held (writer_of self.new))
-            (W.failures (writer_of self.old)) (W.failures (writer_of self.new))) }
-        ensures form { form_of self.new ≡ form_of self.old }
-        ensures sound { has_failed self.new ≡ has_failed self.old }
-        ensures count { OnOk result (W.failures (writer_of self.new) ≡ W.failures (writer_of self.old)) }
-        ensures same_device { W.same (writer_of self.old) (writer_of self.new) }
-    {
-        if let Some(fault) = self.refusal(message) {
-            return Err(fault);
-        }
-        let (writer, buffer) = (&mut self.writer, &mut self.buffer);
-        let written = write_message(writer, buffer, self.form, self.place, message);
-        if written.is_err() {
-            return Err(SinkFault::WriteFailed);
-        }
-        self.place.step(message);
-        self.has_begun = has_begun_after(self.has_begun, message);
-        Ok(())
-    }
-
-    /// Writes the rows as `put_rows` does. It doesn't note a fault.
-    fn write_rows(&mut self, rows: &Rows) -> Result<(), SinkFault>
-        ensures written { OnOk result
-            (Appends (W.held (writer_of self.old)) (W.held (writer_of self.new))
-            (bytes_from (form_of self.old) (next_place self.old) (row_messages rows.now))) }
-        ensures taken { OnOk result
-            (IsLawfulFrom (next_place self.old) (row_messages rows.now)
-            × (has_failed self.old ≡ false)
-            × (next_place self.new ≡ place_of (next_place self.old) (row_messages rows.now))
-            × (has_begun self.new ≡ has_begun self.old)) }
-        ensures broken { has_failed self.old ≡ true → (result ≡ Err SinkFault.Broken) × (self.new ≡ self.old) }
-        ensures refused { has_failed self.old ≡ false
-            → IfErr result (λ fault. RefusesRows (form_of self.old) (next_place self.old) rows.now fault
+            (messages_in packet.now) fault
             (W.held (writer_of self.old)) (W.held (writer_of self.new))
             (W.failures (writer_of self.old)) (W.failures (writer_of self.new))) }
         ensures form { form_of self.new ≡ form_of self.old }
@@ -270,88 +186,98 @@ impl<W: BytesOut> Sink<W> {
         if self.has_failed {
             return Err(SinkFault::Broken);
         }
-        if !self.place.accepts_rows(rows) {
+        let Some(after) = self.place.after(packet) else {
             return Err(SinkFault::OutOfOrder);
-        }
+        };
+        let begun = match begins(self.form, self.has_begun, packet) {
+            Ok(begun) => begun,
+            Err(fault) => return Err(fault),
+        };
         let (writer, buffer) = (&mut self.writer, &mut self.buffer);
-        let written = write_row_messages(writer, buffer, self.form, self.place, rows);
-        if written.is_ok() {
-            self.place.step_rows(rows);
-            Ok(())
-        } else {
-            Err(SinkFault::WriteFailed)
+        let written = write_packet(writer, buffer, self.form, self.place, packet);
+        if written.is_err() {
+            return Err(SinkFault::WriteFailed);
         }
+        self.place = after;
+        self.has_begun = begun;
+        Ok(())
     }
 }
 
-/// False for a message that begins an image of height 0, and true for any other.
-fn has_rows(message: &Message) -> bool
-    ensures { IsTrue result ↔ HasRows message.now }
+/// Whether an image has begun after the packet, where one had begun before it or not.
+///
+/// # Errors
+///
+/// If the packet begins an image of height 0, or one that the form has no place for.
+fn begins(form: Form, has_begun: bool, packet: &Packet) -> Result<bool, SinkFault>
+    ensures begun { IfOk result (λ begun. AllByRecursion HasRows (messages_in packet.now)
+        × (form_fault_from form has_begun (messages_in packet.now) ≡ None)
+        × (begun ≡ has_begun_by has_begun (messages_in packet.now))) }
+    ensures refused { IfErr result (λ fault. (head : HeadValue) × BeginsWith head (messages_in packet.now)
+        × IsHeadRefused form has_begun head fault) }
 {
-    match message {
-        Message::Begin(head) => head.shape().height > 0,
-        Message::Row(_) | Message::ImageEnd | Message::StreamEnd | Message::Stop => true,
+    let Some(head) = head_of(packet) else {
+        return Ok(has_begun);
+    };
+    match head_fault(form, has_begun, head) {
+        Some(fault) => Err(fault),
+        None => Ok(true),
     }
 }
 
-/// Whether an image has begun after the message. `has_begun` says whether one had begun before it.
-fn has_begun_after(has_begun: bool, message: &Message) -> bool
-    ensures { result ≡ has_begun_after has_begun message.now }
+/// The head of the image that the packet begins, if it begins one.
+fn head_of(packet: &Packet) -> Option<&Head>
+    ensures some { IfSome result (λ head. BeginsWith head.now (messages_in packet.now)) }
+    ensures none { IfNone result (BeginsNone (messages_in packet.now)) }
 {
-    match message {
-        Message::Begin(_) => true,
-        Message::Row(_) | Message::ImageEnd | Message::StreamEnd | Message::Stop => has_begun,
+    match packet {
+        Packet::Begin(head) => Some(head),
+        Packet::Image(head, _) => Some(head),
+        Packet::Rows(_) => None,
+        Packet::ImageEnd | Packet::StreamEnd | Packet::Stop => None,
     }
 }
 
-/// Why the form refuses the message. `has_begun` says whether an image had begun before it.
-fn form_fault(form: Form, has_begun: bool, message: &Message) -> Option<SinkFault>
-    ensures { result ≡ form_fault form has_begun message.now }
+/// Why no image begins with this head. `has_begun` says whether one had begun before it.
+fn head_fault(form: Form, has_begun: bool, head: &Head) -> Option<SinkFault>
+    ensures { MatchOption result
+        (HasRows (Begin head.now) × (form_fault form has_begun (Begin head.now) ≡ None))
+        (IsHeadRefused form has_begun head.now) }
 {
-    match (form, message) {
-        (Form::Plain, Message::Begin(_)) if has_begun => Some(SinkFault::SecondPlain),
-        (Form::Plain, Message::Begin(head)) if head.shape().kind == Kind::Pam => Some(
-            SinkFault::PlainPam,
-        ),
-        _ => None,
+    let shape = head.shape();
+    if shape.height == 0 {
+        return Some(SinkFault::OutOfOrder);
+    }
+    match form {
+        Form::Raw => None,
+        Form::Plain if has_begun => Some(SinkFault::SecondPlain),
+        Form::Plain if shape.kind == Kind::Pam => Some(SinkFault::PlainPam),
+        Form::Plain => None,
     }
 }
 
-/// Writes the bytes of a message that comes at this place.
-fn write_message<W: BytesOut>(
+/// Writes the bytes of a packet that comes at this place.
+fn write_packet<W: BytesOut>(
     writer: &mut W,
     buffer: &mut WriteBuffer,
     form: Form,
     place: Place,
-    message: &Message,
+    packet: &Packet,
 ) -> Result<(), DeviceFailed>
-    requires { Accepts place message.now }
-    ensures { WriteCall W.held W.failures W.same writer.old writer.new result (bytes_at form place message.now) }
-{
-    match message {
-        Message::Begin(head) => write_header(writer, buffer, form, head),
-        Message::Row(row) => match place {
-            Place::Inside(shape, _) => write_samples(writer, buffer, form, shape, row.as_slice()),
-            Place::Between | Place::After => Ok(()),
-        },
-        Message::ImageEnd | Message::StreamEnd | Message::Stop => Ok(()),
-    }
-}
-
-/// Writes the bytes of rows that come at this place.
-fn write_row_messages<W: BytesOut>(
-    writer: &mut W,
-    buffer: &mut WriteBuffer,
-    form: Form,
-    place: Place,
-    rows: &Rows,
-) -> Result<(), DeviceFailed>
-    requires { IsLawfulFrom place (row_messages rows.now) }
+    requires { IsLawfulFrom place (messages_in packet.now) }
     ensures { WriteCall W.held W.failures W.same writer.old writer.new result
-        (bytes_from form place (row_messages rows.now)) }
+        (bytes_from form place (messages_in packet.now)) }
 {
-    match place {
-        Place::Inside(shape, _) => write_rows(writer, buffer, form, shape, rows),
-        Place::Between | Place::After => Ok(()),
+    match packet {
+        Packet::Begin(head) => write_header(writer, buffer, form, head),
+        Packet::Rows(rows) => {
+            let (held, times) = rows.parts();
+            match place {
+                Place::Inside(shape, _) => write_repeated(writer, buffer, form, shape, held, times),
+                Place::Between | Place::After => Ok(()),
+            }
+        }
+        Packet::Image(head, rows) => write_image(writer, buffer, form, head, rows),
+        Packet::ImageEnd | Packet::StreamEnd | Packet::Stop => Ok(()),
     }
 }

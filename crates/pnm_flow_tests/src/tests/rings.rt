@@ -3,8 +3,8 @@
 
 use super::is_so;
 use pnm_flow::{Packet, Receiver, Sender, StageEnd, new_ring};
-use pnm_image::{Kind, Message, RepeatedRows, Rows, Several};
-use pnm_test_support::{Handed, Part, handed_of, is_made_of, message};
+use pnm_image::{Kind, Message, Rows, Several};
+use pnm_test_support::{Part, is_made_of, message, packets_of};
 use std::alloc::Global;
 use std::process::Abort;
 use std::thread;
@@ -87,24 +87,21 @@ pub fn holding(
 /// A ring of capacity 8 that holds what is written, with the rows between braces together, and its sending end. Returns
 /// `None` if there is no memory.
 pub fn holding_written(alloc: Global, text: &[u8]) -> Option<(Sender, Receiver)> {
-    let written = handed_of(alloc, text, true).ok()?;
+    let written = packets_of(alloc, text, true).ok()?;
     let mut ends = new_ring(alloc, 8)?;
     let mut are_sent = true;
-    for handed in written {
-        are_sent = send_handed(&mut ends.0, handed) && are_sent;
+    for packet in written {
+        are_sent = send_packet(&mut ends.0, packet) && are_sent;
     }
     are_sent.then_some(ends)
 }
 
-/// Sends what is handed over. Returns whether there was room for it.
-fn send_handed(output: &mut Sender, handed: Handed) -> bool {
+/// Sends the packet. Returns whether there was room for it.
+fn send_packet(output: &mut Sender, packet: Packet) -> bool {
     if !output.has_room() {
         return false;
     }
-    match handed {
-        Handed::Message(message) => output.send_reserved(message),
-        Handed::Rows(rows) => output.send_packet_reserved(Packet::Rows(RepeatedRows::once(rows))),
-    }
+    output.send_packet_reserved(packet);
     true
 }
 

@@ -1,9 +1,9 @@
 //! Plain images of one made row, of many widths.
 
 use super::sinks::write_stream;
-use pnm_image::{Device, Kind, Message, SampleWidth, Shape};
+use pnm_image::{Device, Kind, Message, Packet, SampleWidth, Shape};
 use pnm_test_support::{
-    Handed, Sweep, Unmade, cut_number, cut_pair, cut_word, head_of, held, number_of, write_text,
+    Sweep, Unmade, cut_number, cut_pair, cut_word, head_of, held, number_of, write_text,
 };
 use pnm_write::Form;
 use std::alloc::{AllocError, Global};
@@ -116,7 +116,7 @@ fn add_image(
     row: &[u16],
     sample_width: SampleWidth,
 ) -> Result<(), Unmade> {
-    let all = messages_of(alloc, shape, row, sample_width)?;
+    let all = packets_of(alloc, shape, row, sample_width)?;
     let mut out = String::new(alloc);
     let writer = Device::new(Vec::new(alloc));
     let writer = write_stream(alloc, writer, Form::Plain, all.as_slice(), false, &mut out)?;
@@ -125,17 +125,17 @@ fn add_image(
     Ok(())
 }
 
-/// The messages of an image of this one row, held in this width.
-fn messages_of(
+/// The packets of an image of this one row, held in this width.
+fn packets_of(
     alloc: Global,
     shape: Shape,
     row: &[u16],
     sample_width: SampleWidth,
-) -> Result<Vec<Handed>, Unmade> {
+) -> Result<Vec<Packet>, Unmade> {
     let mut all = Vec::new(alloc);
-    all.push(Handed::Message(Message::Begin(head_of(alloc, shape, b"")?)))?;
-    all.push(Handed::Message(Message::Row(held(alloc, row, sample_width)?)))?;
-    all.push(Handed::Message(Message::ImageEnd))?;
-    all.push(Handed::Message(Message::StreamEnd))?;
+    all.push(Packet::from(Message::Begin(head_of(alloc, shape, b"")?)))?;
+    all.push(Packet::from(Message::Row(held(alloc, row, sample_width)?)))?;
+    all.push(Packet::from(Message::ImageEnd))?;
+    all.push(Packet::from(Message::StreamEnd))?;
     Ok(all)
 }

@@ -1,26 +1,24 @@
 //! What a sink answers and writes.
 
 use super::form_of;
-use pnm_image::{BytesOut, Device, Message};
-use pnm_test_support::{
-    FailsOnce, Handed, Sips, Unmade, cut_number, cut_word, handed_of, write_text,
-};
+use pnm_image::{BytesOut, Device, Packet};
+use pnm_test_support::{FailsOnce, Sips, Unmade, cut_number, cut_word, packets_of, write_text};
 use pnm_write::{Form, Sink, SinkFault, WriteBuffer};
 use std::alloc::{AllocError, Global};
 
-/// Adds the faults of a sink over the writer that gets messages and rows, and how the stream ends. If `is_flushed`, the
+/// Adds the faults of a sink over the writer that gets packets, and how the stream ends. If `is_flushed`, the
 /// sink is flushed after each image. Returns the writer.
 pub fn write_stream<W: BytesOut + Drop>(
     alloc: Global,
     writer: W,
     form: Form,
-    all: &[Handed],
+    all: &[Packet],
     is_flushed: bool,
     out: &mut String,
 ) -> Result<W, Unmade> {
     let mut sink = Sink::with_buffer(WriteBuffer::new(alloc)?, writer, form);
-    for handed in all {
-        write_put(&mut sink, handed, is_flushed, out)?;
+    for packet in all {
+        write_put(&mut sink, packet, is_flushed, out)?;
     }
     let (writer, end) = sink.finish();
     out.push_str(" end")?;
@@ -28,19 +26,15 @@ pub fn write_stream<W: BytesOut + Drop>(
     Ok(writer)
 }
 
-/// Adds the fault of a sink that gets a message or rows, and, if `is_flushed`, that of a flush after an image.
+/// Adds the fault of a sink that gets a packet, and, if `is_flushed`, that of a flush after an image.
 fn write_put<W: BytesOut>(
     sink: &mut Sink<W>,
-    handed: &Handed,
+    packet: &Packet,
     is_flushed: bool,
     out: &mut String,
 ) -> Result<(), AllocError> {
-    let answer = match handed {
-        Handed::Message(message) => sink.put(message),
-        Handed::Rows(rows) => sink.put_rows(rows),
-    };
-    write_fault(out, "", answer)?;
-    if is_flushed && matches!(handed, Handed::Message(Message::ImageEnd)) {
+    write_fault(out, "", sink.put(packet))?;
+    if is_flushed && packet.ends_image() {
         return write_fault(out, " flush", sink.flush());
     }
     Ok(())
@@ -84,7 +78,7 @@ fn write_held(
     is_narrow: bool,
     out: &mut String,
 ) -> Result<(), Unmade> {
-    let all = handed_of(alloc, text, is_narrow)?;
+    let all = packets_of(alloc, text, is_narrow)?;
     let writer = Device::new(Vec::new(alloc));
     let writer = write_stream(alloc, writer, form, all.as_slice(), false, out)?;
     Ok(write_text(out, writer.into_inner().as_slice())?)
@@ -108,7 +102,7 @@ pub fn write_sips(alloc: Global, text: &[u8], out: &mut String) -> Result<(), Un
     let (most, rest) = cut_number(rest);
     let (writes, rest) = cut_failing(rest);
     let (flushes, rest) = cut_failing(rest);
-    let all = handed_of(alloc, rest, true)?;
+    let all = packets_of(alloc, rest, true)?;
     let sips = Device::new(Sips::new(alloc, most, writes, flushes));
     let sips = write_stream(alloc, sips, form_of(form), all.as_slice(), true, out)?;
     Ok(write_sipped(&sips.into_inner(), out)?)

@@ -9,10 +9,10 @@ use Rattle.pnm_filters.proofs.state.take_rows.Goals as goal
 pub unreachable-requires : goal.unreachable-requires
 unreachable-requires g c =
     let some : 1 ≤ length c.args.rows = omega (arith, c.count.ensures.rows, c.count.ensures.some) in
-    only_inside c.args.place.now c.args.rows some c.requires.accepted c.in_default.not-Inside
+    only_inside c.args.place.now c.args.rows some c.requires.accepted.0 c.in_default.not-Inside
 
 pub take-requires-clause-rows : goal.take-requires-clause-rows
 take-requires-clause-rows g c =
     let some = subst (λ (n : ℕ). 1 ≤ n) c.count.ensures.rows c.count.ensures.some in
-    let lawful = subst (λ (place : Place). IsLawfulFrom place (row_messages c.args.rows)) c.in-Inside.is c.requires.accepted in
+    let lawful = subst (λ (place : Place). IsLawfulFrom place (row_messages c.args.rows)) c.in-Inside.is c.requires.accepted.0 in
     rows_are_lawful c.in-Inside.shape c.in-Inside.y c.args.rows some lawful

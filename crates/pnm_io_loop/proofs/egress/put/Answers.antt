@@ -1,20 +1,40 @@
-use Rattle.std.proofs.Common.{List, ◌++◌, sym, subst}
+use Rattle.std.proofs.Common.{List, ◌++◌, inl, inr, sym, subst, ◌∙◌}
 use Rattle.pnm_image.specs.declared.message.Message.{Message}
-use Rattle.pnm_io_loop.specs.Egresses.{HasReceived}
-use Rattle.pnm_io_loop.proofs.EgressSteps.{collects_rows, collects_image}
+use Rattle.pnm_image.specs.Messages.{without_stop}
+use Rattle.pnm_image.specs.declared.message.Ending.TheVariants.{More, Whole, BrokenOff}
+use Rattle.pnm_serial.specs.FusedSinks.{HasTaken}
+use Rattle.pnm_io_loop.specs.Egresses.{EndedBy}
+use Rattle.pnm_io_loop.proofs.EgressSteps.{ends_by, keeps_packet, cuts_stop}
 use Rattle.pnm_io_loop.proofs.egress.put.Goals as goal
 
-pub returns-in-Err-Rows-clause-put : goal.returns-in-Err-Rows-clause-put
-returns-in-Err-Rows-clause-put g c = λ form start l was. let is = rw c.in-Err-Rows.field-0-is at c.in-Err-Rows.ensures.several.0 in
-    rw is (collects_rows g.W.BytesOut.held g.W.BytesOut.failures form start l c.in-Err-Rows.rows c.args.has_ended.now
-    c.args.fused_sink.now c.put_repeated.new.self c.requires.going c.put_repeated.ensures.taken (record { ended = was.ended; taken = was.taken }))
+pub returns-in-More-clause-put : goal.returns-in-More-clause-put
+returns-in-More-clause-put g c = λ form start l was.
+    let same = sym c.ending.ensures ∙ c.in-More.is in
+    let packet = c.args.packet.now in
+    record {
+      ended = rw (c.requires.going) (ends_by More c.args.has_ended.now l packet c.requires.going was.ended same);
+      taken = subst (λ (x : List Message). HasTaken g.W.BytesOut.held g.W.BytesOut.failures form start x c.put.new.self)
+          (keeps_packet More c.args.has_ended.now l packet tt c.requires.going was.ended same)
+          (c.put.ensures.taken form start (without_stop l) was.taken);
+    }
 
-pub returns-in-Err-Image-clause-put : goal.returns-in-Err-Image-clause-put
-returns-in-Err-Image-clause-put g c = λ form start l was. let is = rw c.in-Err-Image.field-0-is at c.in-Err-Image.ensures.several.0 in
-    rw is (collects_image g.W.BytesOut.held g.W.BytesOut.failures form start l c.in-Err-Image.head c.in-Err-Image.rows c.args.has_ended.now
-    c.args.fused_sink.now c.put_image.new.self c.requires.going c.put_image.ensures.taken (record { ended = was.ended; taken = was.taken }))
+pub returns-in-Whole-clause-put : goal.returns-in-Whole-clause-put
+returns-in-Whole-clause-put g c = λ form start l was.
+    let same = sym c.ending.ensures ∙ c.in-Whole.is in
+    let packet = c.args.packet.now in
+    record {
+      ended = inl (ends_by Whole c.args.has_ended.now l packet c.requires.going was.ended same);
+      taken = subst (λ (x : List Message). HasTaken g.W.BytesOut.held g.W.BytesOut.failures form start x c.put-in-Whole.new.self)
+          (keeps_packet Whole c.args.has_ended.now l packet tt c.requires.going was.ended same)
+          (c.put-in-Whole.ensures.taken form start (without_stop l) was.taken);
+    }
 
-pub returns-in-Ok-clause-put : goal.returns-in-Ok-clause-put
-returns-in-Ok-clause-put g c = λ form start l was.
-    subst (λ (more : List Message). HasReceived g.W.BytesOut.held g.W.BytesOut.failures form start (l ++ more) c.put_message.new.has_ended
-    c.put_message.new.fused_sink) (sym c.in-Ok.ensures.one) (c.put_message.ensures.put form start l (record { ended = was.ended; taken = was.taken }))
+pub returns-in-BrokenOff-clause-put : goal.returns-in-BrokenOff-clause-put
+returns-in-BrokenOff-clause-put g c = λ form start l was.
+    let same = sym c.ending.ensures ∙ c.in-BrokenOff.is in
+    let packet = c.args.packet.now in
+    record {
+      ended = inr (ends_by BrokenOff c.args.has_ended.now l packet c.requires.going was.ended same);
+      taken = subst (λ (x : List Message). HasTaken g.W.BytesOut.held g.W.BytesOut.failures form start x c.args.fused_sink.now)
+          (cuts_stop c.args.has_ended.now l packet c.requires.going was.ended same) was.taken;
+    }

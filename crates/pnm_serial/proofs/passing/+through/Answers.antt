@@ -14,7 +14,7 @@ use Rattle.pnm_serial.proofs.passing.+through.Goals as goal
 
 pub feed_through-returns-then-is_empty-clause-fed : goal.feed_through-returns-then-is_empty-clause-fed
 feed_through-returns-then-is_empty-clause-fed g t c = passes_on g.F.Filter.at g.F.Filter.all_given g.F.Filter.stopped g.W.BytesOut.held g.W.BytesOut.failures
-    c.args.stages.now _ c.args.fused_sink.now c.put_packet.new.self (sym c.is_empty.ensures ∙ c.if-is_empty.true) c.put_packet.ensures.taken
+    c.args.stages.now _ c.args.fused_sink.now c.put.new.self (sym c.is_empty.ensures ∙ c.if-is_empty.true) c.put.ensures.taken
 
 pub feed_through-returns-in-Ok-clause-fed : goal.feed_through-returns-in-Ok-clause-fed
 feed_through-returns-in-Ok-clause-fed g t c =

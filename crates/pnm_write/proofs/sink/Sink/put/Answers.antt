@@ -1,11 +1,12 @@
 use Rattle.std.proofs.lemmas.Result.{on_ok_weaker}
-use Rattle.pnm_write.proofs.MessageLaws.{on_ok_both, put_more, written_more}
+use Rattle.pnm_image.specs.Packets.{messages_in}
+use Rattle.pnm_write.proofs.MessageLaws.{on_ok_both, puts, writes}
 use Rattle.pnm_write.proofs.sink.Sink.put.Goals as goal
 
 pub returns-clause-more : goal.returns-clause-more
 returns-clause-more g c =
     on_ok_weaker c.write-written.result
-    (λ taken messages put. put_more c.args.self.now _ messages c.args.message.now put
+    (λ taken messages put. puts c.args.self.now _ messages (messages_in c.args.packet.now) put
     (record { takes = taken.0; sound = taken.1; form = c.write-written.ensures.form; place = taken.2; begun = taken.3 }))
     c.write-written.ensures.taken
 
@@ -13,6 +14,6 @@ pub returns-clause-bytes : goal.returns-clause-bytes
 returns-clause-bytes g c =
     on_ok_both c.write-written.result
     (λ taken added start messages written.
-    written_more g.W.BytesOut.held start c.args.self.now _ messages c.args.message.now written
+    writes g.W.BytesOut.held start c.args.self.now _ messages (messages_in c.args.packet.now) written
     (record { takes = taken.0; sound = taken.1; form = c.write-written.ensures.form; place = taken.2; begun = taken.3 }) added)
     c.write-written.ensures.taken c.write-written.ensures.written

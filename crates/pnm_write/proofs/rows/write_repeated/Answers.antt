@@ -1,0 +1,51 @@
+use Rattle.std.proofs.Common.{◌≡◌, ◌<◌, ◌+◌, ◌-◌, ◌∙◌, ◌++◌, ℕ, suc, List, [], ap, arith}
+use Rattle.std.proofs.lemmas.Grind.{flat_map-append}
+use Rattle.pnm_image.specs.Repeats.{repeated}
+use Rattle.pnm_image.specs.declared.shape.Shape.{Shape}
+use Rattle.pnm_image.specs.declared.format.Form.{Form}
+use Rattle.pnm_image.proofs.Written.{sending_part}
+use Rattle.pnm_write.specs.Encoding.{row_bytes, rows_bytes}
+use Rattle.pnm_write.proofs.WriteCallSteps.{call_failed, call_done}
+use Rattle.pnm_write.proofs.rows.write_repeated.Goals as goal
+
+-- the rows that are written now, and those that come again
+once_and_rest : (form : Form) (s : Shape) (time times : ℕ) (rows : List (List ℕ)) → time < times
+    → rows_bytes form s (repeated (times - time) rows) ≡ rows_bytes form s rows ++ rows_bytes form s (repeated (times - (time + 1)) rows)
+once_and_rest form s time times rows lt =
+    let more : times - time ≡ suc (times - (time + 1)) = omega (arith, lt) in
+    ap (λ (n : ℕ). rows_bytes form s (repeated n rows)) more ∙ flat_map-append (row_bytes form s) rows (repeated (times - (time + 1)) rows)
+
+pub returns-in_err-write_rows : goal.returns-in_err-write_rows
+returns-in_err-write_rows g c =
+    let form = c.args.form in
+    let s = c.args.shape in
+    let rows = c.args.rows.now in
+    let times = c.args.times in
+    let time = c.loop-time._time in
+    call_failed g.W.BytesOut.held g.W.BytesOut.failures g.W.BytesOut.same c.args.writer.now c.loop-time.writer c.write_rows.new.writer
+    (rows_bytes form s (repeated times rows)) (rows_bytes form s (repeated (times - time) rows)) (rows_bytes form s rows)
+    (rows_bytes form s (repeated (times - (time + 1)) rows)) c.from_residual.result c.from_residual.ensures.0
+    (once_and_rest form s time times rows (omega arith)) c.loop-time.invariant c.in_err-write_rows.ensures.failed
+    (g.met.W.BytesOut.same_later _ _ _ c.loop-time.invariant.same_device c.in_err-write_rows.ensures.same_device)
+
+pub loop-time-preserved : goal.loop-time-preserved
+loop-time-preserved g c =
+    let form = c.args.form in
+    let s = c.args.shape in
+    let rows = c.args.rows.now in
+    let times = c.args.times in
+    let time = c.loop-time._time in
+    sending_part g.W.BytesOut.held g.W.BytesOut.failures g.W.BytesOut.same c.args.writer.now c.loop-time.writer c.write_rows.new.writer
+    (rows_bytes form s (repeated times rows)) (rows_bytes form s (repeated (times - time) rows)) (rows_bytes form s rows)
+    (rows_bytes form s (repeated (times - (time + 1)) rows)) (once_and_rest form s time times rows (omega arith)) c.loop-time.invariant
+    c.in_ok-write_rows.ensures.written c.in_ok-write_rows.ensures.count
+    (g.met.W.BytesOut.same_later _ _ _ c.loop-time.invariant.same_device c.in_ok-write_rows.ensures.same_device)
+
+pub returns : goal.returns
+returns g c =
+    let rows = c.args.rows.now in
+    let none : c.args.times - c.loop-time._time ≡ 0 = omega arith in
+    call_done g.W.BytesOut.held g.W.BytesOut.failures g.W.BytesOut.same c.args.writer.now c.loop-time.writer
+    (rows_bytes c.args.form c.args.shape (repeated c.args.times rows))
+    (rows_bytes c.args.form c.args.shape (repeated (c.args.times - c.loop-time._time) rows)) c.loop-time.invariant
+    (ap (λ (n : ℕ). rows_bytes c.args.form c.args.shape (repeated n rows)) none)

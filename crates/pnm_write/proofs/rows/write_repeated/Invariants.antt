@@ -1,0 +1,11 @@
+use Rattle.std.proofs.Common.{◌-◌}
+use Rattle.pnm_image.specs.Repeats.{repeated}
+use Rattle.pnm_image.proofs.Written.{Sending}
+use Rattle.pnm_write.specs.Encoding.{rows_bytes}
+use Rattle.pnm_write.proofs.rows.write_repeated.Given as goal
+
+-- the rows are still to be written as often as this says
+abbrev pub invariant-loop-time : goal.invariant-loop-time
+invariant-loop-time g l =
+    Sending g.W.BytesOut.held g.W.BytesOut.failures g.W.BytesOut.same l.initial.writer l.writer
+    (rows_bytes l.form l.shape (repeated l.times l.rows)) (rows_bytes l.form l.shape (repeated (l.times - l._time) l.rows))
