@@ -69,7 +69,8 @@ lawful_append place [] b first then = then
 lawful_append place (m ∷ a) b first then = (first.0, lawful_append (place_after place m) a b first.1 then)
 
 -- messages lead on from the place to which the messages before them lead
-pub leads_on : (place inside : Place) (a b : List Message) (end : Option Place) → LeadsTo place a (Some inside) → LeadsTo inside b end → LeadsTo place (a ++ b) end
+pub leads_on : (place inside : Place) (a b : List Message) (end : Option Place) → LeadsTo place a (Some inside) → LeadsTo inside b end
+    → LeadsTo place (a ++ b) end
 leads_on place inside a b (Some end) first then =
     let lawful = subst (λ (p : Place). IsLawfulFrom p b) first.1 then.0 in
     (lawful_append place a b first.0 lawful, then.1 ∙ ap (λ (p : Place). place_of p b) first.1 ∙ sym (place_of-append place a b))

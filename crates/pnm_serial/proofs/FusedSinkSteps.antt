@@ -124,10 +124,11 @@ fails_in_last held failures form start messages more old new was takes fails =
     let last : bytes_from (form_of old.sink) (next_place old.sink) more ≡ bytes_from form (place_of Between messages) more =
     ap (λ (f : Form). bytes_from f (next_place old.sink) more) is.in_form ∙ ap (λ (p : Place). bytes_from form p more) is.here in
     let all : bytes_of form messages ++ bytes_from (form_of old.sink) (next_place old.sink) more ≡ written_of form (messages ++ more) =
-    ap (λ (l : List ℕ). bytes_of form messages ++ l) last ∙ sym (bytes_from-append form Between messages more) ∙ sym (written_all form (messages ++ more) none) in (
+    ap (λ (l : List ℕ). bytes_of form messages ++ l) last ∙ sym (bytes_from-append form Between messages more)
+    ∙ sym (written_all form (messages ++ more) none) in (
       subst (AppendsPrefix (held start) (held (output_of new))) all
-          (then_prefix (held start) (held (output_of old)) (held (output_of new)) (bytes_of form messages) (bytes_from (form_of old.sink) (next_place old.sink) more)
-          (written_in_form held failures form start messages old was) fails.0),
+          (then_prefix (held start) (held (output_of old)) (held (output_of new)) (bytes_of form messages)
+          (bytes_from (form_of old.sink) (next_place old.sink) more) (written_in_form held failures form start messages old was) fails.0),
       failed_since old.flush_failed (failures start) (failures (output_of old)) (failures (output_of new)) was.count fails.1,
     )
 

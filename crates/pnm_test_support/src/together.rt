@@ -12,8 +12,8 @@ use pnm_image::{
 use std::alloc::{AllocError, Global};
 
 /// The packets of messages that are written one after another. Rows between braces are one packet, and so is a whole
-/// image between braces. A number before rows is the number of times that they come. Rows are held in as few bits as hold
-/// their samples, or in words.
+/// image between braces. A number before rows is the number of times that they come. Rows are held in as few bits as
+/// hold their samples, or in words.
 pub fn packets_of(alloc: Global, text: &[u8], is_narrow: bool) -> Result<Vec<Packet>, Unmade> {
     let mut packets = Vec::new(alloc);
     let mut rest = text;

@@ -7,7 +7,8 @@ use Rattle.pnm_image.specs.declared.message.Message.TheVariants.{Row, ImageEnd, 
 use Rattle.pnm_image.specs.Images.{Image, rows_of, messages_of_stream}
 use Rattle.pnm_write.specs.declared.fault.SinkFault.TheVariants.{SecondPlain}
 use Rattle.pnm_write.specs.declared.fault.SinkFault.{SinkFault}
-use Rattle.pnm_write.specs.Forms.{plain_kind_fault, images_fault, has_begun_after, has_begun_by, form_fault_from, form_fault_of, plain_fault, plain_fault_from, RefusesFirst}
+use Rattle.pnm_write.specs.Forms.{plain_kind_fault, images_fault, has_begun_after, has_begun_by, form_fault_from, form_fault_of, plain_fault}
+use Rattle.pnm_write.specs.Forms.{plain_fault_from, RefusesFirst}
 use Rattle.pnm_write.specs.Forms.{plain_taken_from, taken_by}
 
 -- whether an image has begun, after more messages

@@ -67,7 +67,8 @@ BeginsWith head messages = (rest : List Message) × (messages ≡ Begin head ∷
 -- why no image begins with a head, where an image has begun before or not
 abbrev pub IsHeadRefused : Form → Bool → HeadValue → SinkFault → Type 0
 IsHeadRefused form begun head OutOfOrder = HasRows (Begin head) → ⊥
-IsHeadRefused form begun head SecondPlain = HasRows (Begin head) × (form_fault form begun (Begin head) ≡ Some SecondPlain)
+IsHeadRefused form begun head SecondPlain = HasRows (Begin head)
+    × (form_fault form begun (Begin head) ≡ Some SecondPlain)
 IsHeadRefused form begun head PlainPam = HasRows (Begin head) × (form_fault form begun (Begin head) ≡ Some PlainPam)
 IsHeadRefused form begun head WriteFailed = ⊥
 IsHeadRefused form begun head Broken = ⊥

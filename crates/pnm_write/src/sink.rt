@@ -11,8 +11,8 @@ ghost use Rattle.pnm_image.specs.Packets.{messages_in};
 ghost use Rattle.pnm_image.specs.Places.{IsLawfulFrom, place_of};
 ghost use Rattle.pnm_write.specs.Encoding.{bytes_from};
 ghost use Rattle.pnm_write.specs.Forms.{form_fault, form_fault_from, has_begun_by};
-ghost use Rattle.pnm_write.specs.Sinks.{writer_of, form_of, has_begun, next_place, has_failed, HasRows, HasPut, HasWritten};
-ghost use Rattle.pnm_write.specs.Sinks.{AreWritable, BeginsNone, BeginsWith, IsHeadRefused, Refuses};
+ghost use Rattle.pnm_write.specs.Sinks.{writer_of, form_of, has_begun, next_place, has_failed, HasRows, HasPut};
+ghost use Rattle.pnm_write.specs.Sinks.{HasWritten, AreWritable, BeginsNone, BeginsWith, IsHeadRefused, Refuses};
 ghost use Rattle.pnm_write.specs.WriteCalls.{WriteCall};
 
 use crate::fault::SinkFault;

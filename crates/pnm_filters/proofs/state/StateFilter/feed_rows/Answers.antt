@@ -30,7 +30,8 @@ returns-in-Ok-clause-come g c = λ t l given at.
     subst (λ (z : StateValue _). RowsMayCome (is_all_given z.pending) l c.args.rows) c.self.view_is
     (rows_may_come g.T.ImageTool.tool g.T.ImageTool.ready g.T.ImageTool.due g.T.ImageTool.kept
     (state_value s.work s.place (pending_of s.phase s.waiting) s.fault) c.args.rows t l given is_at
-    (nothing_pending s.phase s.waiting (sym c.if-not-is_idle.ensures)) c.in-Ok.ensures.some (once c.args.rows c.self.inside.place c.in-Some.after c.in-Some.ensures).0)
+    (nothing_pending s.phase s.waiting (sym c.if-not-is_idle.ensures)) c.in-Ok.ensures.some
+    (once c.args.rows c.self.inside.place c.in-Some.after c.in-Some.ensures).0)
 
 pub returns-in-Err-clause-come : goal.returns-in-Err-clause-come
 returns-in-Err-clause-come g c = λ t l given at.
@@ -39,7 +40,8 @@ returns-in-Err-clause-come g c = λ t l given at.
     subst (λ (z : StateValue _). RowsMayCome (is_all_given z.pending) l c.args.rows) c.self.view_is
     (rows_may_come g.T.ImageTool.tool g.T.ImageTool.ready g.T.ImageTool.due g.T.ImageTool.kept
     (state_value s.work s.place (pending_of s.phase s.waiting) s.fault) c.args.rows t l given is_at
-    (nothing_pending s.phase s.waiting (sym c.if-not-is_idle.ensures)) c.in-Err.ensures.some (once c.args.rows c.self.inside.place c.in-Some.after c.in-Some.ensures).0)
+    (nothing_pending s.phase s.waiting (sym c.if-not-is_idle.ensures)) c.in-Err.ensures.some
+    (once c.args.rows c.self.inside.place c.in-Some.after c.in-Some.ensures).0)
 
 pub invariant_of-self : goal.invariant_of-self
 invariant_of-self g c =

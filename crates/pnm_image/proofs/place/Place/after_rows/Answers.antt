@@ -5,7 +5,8 @@ use Rattle.pnm_image.specs.Repeats.{repeated}
 use Rattle.pnm_image.proofs.Places.{rows_lead, rows_lead_nowhere, rows_lie_inside}
 use Rattle.pnm_image.proofs.RepeatLaws.{each_of_repeated, each_once, length_of_repeated, repeated_some}
 use Rattle.pnm_image.proofs.place.Place.after_rows.Goals as goal
-use Rattle.pnm_image.proofs.place.Place.after_rows.Goals.{else-y-shape-via-then-y-shape+then-end-from+else-are_rows_of, else-y-shape-via-then-y-shape+else-end-from, else-y-shape-via-else-y-shape}
+use Rattle.pnm_image.proofs.place.Place.after_rows.Goals.{else-y-shape-via-then-y-shape+then-end-from+else-are_rows_of}
+use Rattle.pnm_image.proofs.place.Place.after_rows.Goals.{else-y-shape-via-then-y-shape+else-end-from, else-y-shape-via-else-y-shape}
 
 pub returns-in_default : goal.returns-in_default
 returns-in_default c =
