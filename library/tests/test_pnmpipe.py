@@ -164,6 +164,22 @@ def test_interrupted(side):
             running.kill()
 
 
+SIGNALED = """
+import threading
+threading.Timer(0.5, lambda: signal.pthread_kill(threading.get_ident(), signal.SIGINT)).start()
+"""
+
+
+def test_interrupted_by_a_signal_to_another_thread():
+    """SIGINT ends a call, whichever thread it came to."""
+    code = INTERRUPTED.replace("try:", SIGNALED.strip() + "\ntry:", 1)
+    with subprocess.Popen([sys.executable, "-c", code], stdin=subprocess.PIPE, stdout=subprocess.PIPE) as running:
+        try:
+            assert running.wait(20) == 7
+        finally:
+            running.kill()
+
+
 def test_interrupted_before_it_begins(tmp_path, monkeypatch):
     """A call whose thread begins after it was interrupted touches no file, whoever has its descriptors by then."""
     late, start = [], threading.Thread.start

@@ -265,10 +265,30 @@ def _duplicate(descriptor: int) -> int:
         return -1
 
 
+class _End:
+    """The end of a thread's work, which another thread awaits. One that is interrupted may wait again, which it can't at
+    an Event: that has a lock, which an interrupted thread may leave locked."""
+
+    def __init__(self) -> None:
+        self.lock, self.is_there = threading.Lock(), False
+        self.lock.acquire()
+
+    def tell(self) -> None:
+        """The work has ended."""
+        self.is_there = True
+        self.lock.release()
+
+    def wait(self) -> None:
+        """Waits, and wakes at times, since a signal that another thread has taken, or that came just before the wait,
+        wakes nobody."""
+        while not self.is_there:
+            self.lock.acquire(timeout=0.2)
+
+
 def _beside(work: typing.Callable[[int, int], None], files: list[int]) -> None:
     """Works over files in another thread, while handlers of signals run in this one."""
     own = [_duplicate(it) for it in files]
-    ended, left = threading.Event(), threading.Event()
+    ended, left = _End(), _End()
     # whether the thread began before this one was interrupted: the first that is said counts
     has_begun: list[bool] = []
 
@@ -278,7 +298,7 @@ def _beside(work: typing.Callable[[int, int], None], files: list[int]) -> None:
             if has_begun[0]:
                 work(*own)
         finally:
-            ended.set()
+            ended.tell()
             # (it is there as long as a signal may be sent to it)
             left.wait()
 
@@ -292,13 +312,13 @@ def _beside(work: typing.Callable[[int, int], None], files: list[int]) -> None:
             _end(thread.ident, own, ended)
         raise
     finally:
-        left.set()
+        left.tell()
         for it in own:
             if it >= 0:
                 os.close(it)
 
 
-def _end(thread: int, files: list[int], ended: threading.Event) -> None:
+def _end(thread: int, files: list[int], ended: _End) -> None:
     """Ends a thread's work over files: reads find the end from now on, writes fail, and a signal interrupts the one that
     waits."""
     null = os.open(os.devnull, os.O_RDONLY)
