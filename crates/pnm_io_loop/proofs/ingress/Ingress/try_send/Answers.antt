@@ -1,9 +1,13 @@
-use Rattle.std.proofs.Common.{arith}
+use Rattle.std.proofs.Common.{◌∙◌, arith}
 use Rattle.std.proofs.lemmas.Grind.{common_steps}
 use Rattle.pnm_io_loop.proofs.ingress.Ingress.try_send.Goals as goal
 
 pub returns-then-not-has_room-clause-sending : goal.returns-then-not-has_room-clause-sending
-returns-then-not-has_room-clause-sending g c = grind (arith, common_steps)
+returns-then-not-has_room-clause-sending g c = λ first before was. record {
+  given = was.given;
+  asked = was.asked;
+  passed = c.is_abandoned-self.ensures.sent ∙ c.has_room.ensures.sent ∙ was.passed;
+}
 
 pub returns-clause-same_device : goal.returns-clause-same_device
 returns-clause-same_device g c = grind (arith, common_steps)
