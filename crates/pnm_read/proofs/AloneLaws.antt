@@ -1,6 +1,6 @@
 -- What is said of a text that begins with a raw image is what is said of that alone, and then of what follows it.
 use Rattle.std.proofs.Common.{◌≡◌, ℕ, zero, suc, ◌+◌, ◌*◌, ◌≤◌, Bool, true, false, if◌then◌else◌, List, [], ◌∷◌, ◌++◌, length, take, drop, Option, Some, None}
-use Rattle.std.proofs.Common.{Result, Ok, Err, refl, sym, ap, ap₂, ◌∙◌, append_assoc, arith, zero-mul, suc-mul}
+use Rattle.std.proofs.Common.{Result, refl, sym, ap, ap₂, ◌∙◌, append_assoc, arith, zero-mul, suc-mul}
 use Rattle.std.proofs.lemmas.List.{take_at, drop_at, take-append-le, drop-append-le, take-append-drop, length-take-le, length-drop, length-append}
 use Rattle.std.proofs.lemmas.List.{nil_from_length}
 use Rattle.std.proofs.lemmas.Bool.{both_ways}
@@ -14,7 +14,7 @@ use Rattle.pnm_read.specs.declared.fault.InputFault.{InputFault}
 use Rattle.pnm_read.specs.Headers.{SpellsHeader}
 use Rattle.pnm_read.specs.Rasters.{bytes_in_row, raw_samples}
 use Rattle.pnm_read.specs.Said.{Said, raw_row, then_said, says_nothing, ends_stream, rows_said, head_said, format_said, image_said, later_said}
-use Rattle.pnm_read.specs.ImageSizes.{BeginsWithHeader, HasRawSize, joined, followed_by, FirstImageStandsAlone}
+use Rattle.pnm_read.specs.ImageSizes.{BeginsWithHeader, joined, followed_by, FirstImageStandsAlone}
 use Rattle.pnm_read.proofs.RawLaws.{IsPackable, sample_width_in, packable, row_read, row_at_raw}
 use Rattle.pnm_read.proofs.ReadHeaderLaws.{spelled_head}
 use Rattle.pnm_read.proofs.RowsInTurn.{said_from}

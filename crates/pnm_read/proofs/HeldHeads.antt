@@ -7,7 +7,7 @@ use Rattle.pnm_image.specs.declared.shape.Kind.{Kind}
 use Rattle.pnm_image.specs.Heads.{HeadValue, IsTupleType}
 use Rattle.pnm_image.proofs.Lists.{first_and_rest}
 use Rattle.pnm_read.specs.declared.fault.InputFault.{InputFault}
-use Rattle.pnm_read.specs.declared.fault.InputFault.TheVariants.{HeaderCut, BadPamLine}
+use Rattle.pnm_read.specs.declared.fault.InputFault.TheVariants.{BadPamLine}
 use Rattle.pnm_read.specs.declared.header.HeaderScanner.{HeaderScanner}
 use Rattle.pnm_read.specs.declared.pam.PamScanner.{PamScanner}
 use Rattle.pnm_read.specs.HeaderTexts.{numbers_in}

@@ -1,7 +1,7 @@
 -- What the first bytes of an image tell of its size, step by step.
-use Rattle.std.proofs.Common.{◌≡◌, inl, inr, ℕ, ◌+◌, ◌*◌, ◌≤◌, Bool, true, false, not, ◌&&◌, List, [], ◌∷◌, ◌++◌, length, get_or, drop, Option, Some, None}
-use Rattle.std.proofs.Common.{Result, Ok, Err, refl, sym, ap, subst, ◌∙◌, append-nil, arith, length-append, length-drop}
-use Rattle.std.proofs.lemmas.Bool.{both_ways, ne_eqb}
+use Rattle.std.proofs.Common.{◌≡◌, inl, inr, ℕ, ◌+◌, ◌≤◌, Bool, true, false, not, ◌&&◌, List, [], ◌∷◌, ◌++◌, length, get_or, drop, Option, Some, None}
+use Rattle.std.proofs.Common.{Result, Ok, Err, refl, sym, ap, ◌∙◌, append-nil, arith, length-append, length-drop}
+use Rattle.std.proofs.lemmas.Bool.{both_ways}
 use Rattle.std.specs.Prelude.{if◌then◌else◌}
 use Rattle.pnm_image.specs.Formats.{format_of, is_plain_form}
 use Rattle.pnm_image.specs.Heads.{HeadValue}
@@ -12,8 +12,8 @@ use Rattle.pnm_read.specs.declared.sizes.ImageSize.{ImageSize}
 use Rattle.pnm_read.specs.declared.sizes.ImageSize.TheVariants.{HeaderCut, Raw, Plain}
 use Rattle.pnm_read.specs.Headers.{SpellsHeader}
 use Rattle.pnm_read.specs.Magics.{format_allowed, format_named}
-use Rattle.pnm_read.specs.Said.{Said, format_at, head_at, format_said, head_said, image_said, later_said, says_fault}
-use Rattle.pnm_read.specs.ImageSizes.{BeginsWithHeader, HasRawSize, TellsSize, FindsIn, FindsHead, FindsRaw, TellsSizeAfter}
+use Rattle.pnm_read.specs.Said.{format_at, head_at, format_said, head_said, image_said, later_said, says_fault}
+use Rattle.pnm_read.specs.ImageSizes.{TellsSize, FindsIn, FindsHead, TellsSizeAfter}
 use Rattle.pnm_read.proofs.MagicSteps.{magic_none, magic_wrong, magic_cut, magic_found, second_as, second_is}
 use Rattle.pnm_read.proofs.LaterLaws.{later_is_raw}
 use Rattle.pnm_read.proofs.ReadHeaderLaws.{read_header_is_spelled}
