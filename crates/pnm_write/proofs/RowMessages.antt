@@ -1,24 +1,15 @@
 -- Rows as messages, and their bytes.
-use Rattle.std.proofs.Common.{◌≡◌, ℕ, ◌+◌, ◌⊎◌, inl, inr, Bool, false, List, [], ◌∷◌, ◌++◌, Option, refl, sym, ap, subst, ◌∙◌}
+use Rattle.std.proofs.Common.{◌≡◌, ℕ, ◌+◌, ◌⊎◌, inl, inr, List, [], ◌∷◌, ◌++◌, refl, ap, ◌∙◌}
 use Rattle.std.specs.List.{AllByRecursion}
-use Rattle.std.specs.Io.KnownBytes.{Appends}
-use Rattle.std.proofs.KnownBytes.{Appends-trans}
 use Rattle.pnm_image.specs.declared.format.Form.{Form}
-use Rattle.pnm_image.specs.declared.format.Form.TheVariants.{Raw, Plain}
 use Rattle.pnm_image.specs.declared.message.Message.{Message}
 use Rattle.pnm_image.specs.declared.message.Message.TheVariants.{ImageEnd}
 use Rattle.pnm_image.specs.declared.place.Place.{Place}
 use Rattle.pnm_image.specs.declared.place.Place.TheVariants.{Between, Inside, After}
 use Rattle.pnm_image.specs.declared.shape.Shape.{Shape}
-use Rattle.pnm_image.specs.Places.{IsRowOf, IsLawfulFrom, place_after, place_of}
+use Rattle.pnm_image.specs.Places.{IsRowOf, IsLawfulFrom}
 use Rattle.pnm_image.specs.Rows.{row_messages}
-use Rattle.pnm_image.proofs.Places.{place_of-append}
-use Rattle.pnm_write.specs.declared.sink.Sink.{Sink}
 use Rattle.pnm_write.specs.Encoding.{row_bytes, rows_bytes, bytes_from}
-use Rattle.pnm_write.specs.Forms.{has_begun_after, has_begun_by, form_fault_of, plain_fault, plain_fault_from}
-use Rattle.pnm_write.specs.Sinks.{writer_of, next_place, form_of, has_begun, has_failed, HasRows, HasPut, HasWritten}
-use Rattle.pnm_write.proofs.FormLaws.{first_of_two}
-use Rattle.pnm_write.proofs.MessageLaws.{bytes_from-append}
 
 -- ---- their bytes
 

@@ -1,4 +1,4 @@
-use Rattle.std.proofs.Common.{◌++◌, ◌∷◌, [], refl, ap}
+use Rattle.std.proofs.Common.{◌++◌, ◌∷◌, [], ap}
 use Rattle.pnm_image.specs.Packets.{messages_in}
 use Rattle.pnm_image.specs.Rows.{row_messages}
 use Rattle.pnm_image.specs.declared.message.Message.TheVariants.{ImageEnd}
