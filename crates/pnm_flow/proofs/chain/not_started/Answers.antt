@@ -1,5 +1,5 @@
-use Rattle.std.proofs.Common.{rules}
+use Rattle.std.proofs.Common.{refl, rules}
 use Rattle.pnm_flow.proofs.chain.not_started.Goals as goal
 
 pub returns : goal.returns
-returns c = search rules
+returns c = (search rules, refl, search rules, refl)
