@@ -2,6 +2,7 @@
 use Rattle.std.proofs.Common.{◌≡◌, ◌≢◌, ◌⊎◌, inl, inr, ℕ, zero, suc, ◌<◌, ◌≤◌, Bool, true, false, List, [], ◌∷◌, ◌++◌, Option, Some, None, Result, Ok, Err}
 use Rattle.std.proofs.Common.{refl, sym, ap, subst, ◌∙◌, append-nil, arith}
 use Rattle.pnm_image.specs.declared.format.Form.{Form}
+use Rattle.pnm_image.specs.declared.format.Form.TheVariants.{Raw, Plain}
 use Rattle.pnm_image.specs.declared.message.Message.{Message}
 use Rattle.pnm_image.specs.declared.message.Message.TheVariants.{Begin, Row, ImageEnd, StreamEnd, Stop}
 use Rattle.pnm_image.specs.declared.message.Ending.TheVariants.{More, Whole, BrokenOff}
@@ -27,8 +28,8 @@ use Rattle.pnm_tools.proofs.SoundLaws.{EndsUnbroken}
 use Rattle.pnm_tools.proofs.ToolLaws.{tool_answers_images}
 use Rattle.pnm_write.specs.declared.fault.SinkFault.{SinkFault}
 use Rattle.pnm_write.specs.Encoding.{bytes_of, written_of}
-use Rattle.pnm_write.specs.Forms.{form_fault, form_fault_of, has_begun_by, taken_by}
-use Rattle.pnm_write.proofs.FormLaws.{form_fault_of-more, no_first_fault, taken_by-all, taken_by-more, taken_if}
+use Rattle.pnm_write.specs.Forms.{form_fault_from, form_fault_of, has_begun_by}
+use Rattle.pnm_write.proofs.FormLaws.{form_fault-more, refused_before, taken_by-all}
 use Rattle.pnm_write.proofs.MessageLaws.{bytes_of_more}
 use Rattle.pnm_serial.proofs.LastRefusals.{FirstRefused, first_refused, due_of_one, due_of_others}
 use Rattle.pnm_serial.proofs.ResultSteps.{are_results}
@@ -258,17 +259,20 @@ failed_somehow lanes tool fault is lawful images fails =
 -- ---- what was written of it
 
 -- the end of the stream adds no byte
-end_by_fault : (form : Form) (l : List Message) (found : Option SinkFault) → form_fault_of form (l ++ StreamEnd ∷ []) ≡ found
+end_is_taken : (form : Form) (begun : Bool) → form_fault_from form begun (StreamEnd ∷ []) ≡ None
+end_is_taken Raw begun = refl
+end_is_taken Plain begun = refl
+
+end_by_fault : (form : Form) (l : List Message) (found : Option SinkFault) → form_fault_of form l ≡ found
     → written_of form (l ++ StreamEnd ∷ []) ≡ written_of form l
-end_by_fault form l (Some fault) is = ap (bytes_of form) (taken_by-more form l StreamEnd
-    ∙ ap (λ (f : Option SinkFault). taken_if f (taken_by form l) (l ++ StreamEnd ∷ [])) is)
+end_by_fault form l (Some fault) is = ap (bytes_of form) (refused_before form l (StreamEnd ∷ []) fault is).1
 end_by_fault form l None is =
-    let none = no_first_fault (form_fault_of form l) (form_fault form (has_begun_by false l) StreamEnd) (sym (form_fault_of-more form l StreamEnd) ∙ is) in
-    ap (bytes_of form) (taken_by-all form (l ++ StreamEnd ∷ []) is) ∙ bytes_of_more form Between l StreamEnd ∙ append-nil (bytes_of form l)
-    ∙ ap (bytes_of form) (sym (taken_by-all form l none))
+    let none = form_fault-more form l (StreamEnd ∷ []) is (end_is_taken form (has_begun_by false l)) in
+    ap (bytes_of form) (taken_by-all form (l ++ StreamEnd ∷ []) none) ∙ bytes_of_more form Between l StreamEnd ∙ append-nil (bytes_of form l)
+    ∙ ap (bytes_of form) (sym (taken_by-all form l is))
 
 end_adds_nothing : (form : Form) (l : List Message) → written_of form (l ++ StreamEnd ∷ []) ≡ written_of form l
-end_adds_nothing form l = end_by_fault form l (form_fault_of form (l ++ StreamEnd ∷ [])) refl
+end_adds_nothing form l = end_by_fault form l (form_fault_of form l) refl
 
 -- the messages of a list before the end of the stream
 record BeforeEnd (l : List Message) : Type 0 where
