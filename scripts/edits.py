@@ -8,9 +8,8 @@ the same name in crates/NAME/controls, has its shape and keeps the meaning, and 
 they stand, and so one check tells of many changes: each is made in a copy of its function, which stands beside that one
 and has its contract and its answers, with holes for the proofs of the functions as they stand. An edit is refused where
 a goal of the very function stays open that it changes: a type that differs, or a goal that doesn't follow. What stops
-at a limit of the search alone might hold, so such an edit counts as a fault, unless it has a line `limit:` that says
-so: then it is counted, and is a fault once the line isn't true any more. A control has no goal open in the functions
-that it changes.
+at a limit of the search alone might hold, so such an edit counts as a fault. A control has no goal open in the
+functions that it changes.
 
 A function of a trait and a few others have no copies (`may_be_copied`), and are changed where they stand, those of
 different functions in one check. So is what a copy doesn't show to be well. What a group can't judge, since a function
@@ -44,7 +43,7 @@ ITEM = re.compile(r"^(?:pub(?:\([a-z]+\))? )?([a-z]+)\b(?: (\w+))?", re.M)
 class Change(typing.NamedTuple):
     """An edit or a control: its name, its steps (file, old text, new text), the functions whose goals tell of it, the
     clause of the law on limits that does so, if one does, whether it can be tried with others, and whether in copies of
-    its functions, and whether it says that the search stops at a limit."""
+    its functions."""
 
     kind: str
     name: str
@@ -53,7 +52,6 @@ class Change(typing.NamedTuple):
     clause: str
     is_grouped: bool
     is_copied: bool = False
-    is_at_limit: bool = False
 
     def meets(self, other):
         """Whether both are told of by the same goals."""
@@ -112,9 +110,7 @@ def changes_of(crate, folder, kind):
     for name in sorted(os.listdir(at)) if os.path.isdir(at) else ():
         if name.endswith(".edit"):
             with open(os.path.join(at, name), encoding="utf-8") as file:
-                text = file.read()
-            change = change_of(crate, kind, name[:-5], steps_of(text))
-            yield change._replace(is_at_limit="\nlimit:" in text)
+                yield change_of(crate, kind, name[:-5], steps_of(file.read()))
 
 
 def grouped(changes, texts):
@@ -167,7 +163,7 @@ def judged(crate, change, told):
     goals = open_goals(crate, change, told)
     if goals:
         ways = sorted(goals, key=lambda it: goals[it] == LIMIT)
-        is_refused = change.kind == "edit" and (goals[ways[0]] == LIMIT) == change.is_at_limit
+        is_refused = change.kind == "edit" and goals[ways[0]] != LIMIT
         return is_refused, f"at {ways[0]}: {goals[ways[0]]}"
     own = [it for place in change.places for it in crate.symbols(place) if it in told.lines]
     if not own or not all(told.lines[it].startswith(WHOLE) for it in own):
@@ -181,7 +177,7 @@ class Judge:
     def __init__(self, crate, kept, logs):
         self.crate, self.kept, self.logs = crate, kept, logs
         self.told = []
-        self.failed = self.at_limit = 0
+        self.failed = 0
 
     def check(self, changes, what):
         """How a check with these changes judges each; None if they can't be made together, or it came to no verdict."""
@@ -222,7 +218,6 @@ class Judge:
 
     def report(self, change, is_well, why):
         self.failed += not is_well
-        self.at_limit += change.is_at_limit
         verdict = " ".join([WORDS[change.kind][0], why]) if is_well else f"{WORDS[change.kind][1]}: {why}"
         self.told.append(f"{self.crate.name}/{FOLDERS[change.kind]}/{change.name}: {verdict}")
 
@@ -257,7 +252,7 @@ def plan(crate, changes):
 
 def try_crates(crates, logs):
     """Tries the edits and controls of the crates, and tells of each. Gives the status."""
-    total = failed = at_limit = checks = seconds = 0
+    total = failed = checks = seconds = 0
     # the largest first: what a crate's edits take goes by its size
     crates = sorted(crates, key=lambda it: -sum(len(text) for text in it[0].texts.values()))
     with concurrent.futures.ThreadPoolExecutor(most_checks()) as pool:
@@ -266,13 +261,12 @@ def try_crates(crates, logs):
                 crate, count = judge.crate, len(judge.told)
                 told = f"{count} tried, {judge.failed} failed, {crate.checks} checks, {crate.seconds:.0f} CPU s"
                 print("\n".join([*judge.told, f"{crate.name}: {told}"]), flush=True)
-                total, failed, at_limit = total + count, failed + judge.failed, at_limit + judge.at_limit
+                total, failed = total + count, failed + judge.failed
                 checks, seconds = checks + crate.checks, seconds + crate.seconds
         except Ended as ended:
             CHECKS.end(ended.args[0])
             raise
-    told = f"{at_limit} refused at a limit of the search alone" if at_limit else "none refused at a limit alone"
-    print(f"edits: {total} tried, {failed} failed, {told}, {checks} checks, {seconds:.0f} CPU s")
+    print(f"edits: {total} tried, {failed} failed, {checks} checks, {seconds:.0f} CPU s")
     return 1 if failed else 0
 
 

@@ -211,15 +211,6 @@ class Edits(Folder):
         told = {"must-fail/low_is_deep": "NOT REFUSED: at `returns` of low: a limit of the search"}
         self.assertEqual((status, said), (1, told))
 
-    def test_an_edit_may_say_that_a_limit_alone_refuses_it(self):
-        self.edit("low_is_deep", ("is_low(x)", "DEEP(x)\nlimit: so"))
-        status, said, _ = self.tried()
-        told = {"must-fail/low_is_deep": "refused at `returns` of low: a limit of the search"}
-        self.assertEqual((status, said), (0, told))
-        self.edit("low_is_deep", ("is_low(x)", "WRONG(x)\nlimit: so"))
-        status, said, _ = self.tried()
-        self.assertEqual((status, said["must-fail/low_is_deep"][:11]), (1, "NOT REFUSED"))
-
     def test_an_edit_that_takes_a_name_from_an_answer_is_a_fault(self):
         self.edit("low_is_renamed", ("is_low(x)", "RENAMED(x)"))
         status, said, _ = self.tried()
