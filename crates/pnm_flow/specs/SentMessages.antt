@@ -1,4 +1,4 @@
--- What the tools of a run over threads have sent to one another: a law that follows of the promise of a run.
+-- What the tools of a run over threads may have sent to one another: a law that follows from the promise of a run.
 use Rattle.std.specs.Prelude.{◌≡◌, ◌≢◌, ℕ, List, [], ◌∷◌, Option, Some, None, Result, Err}
 use Rattle.std.specs.Io.KnownBytes.{Appends}
 use Rattle.pnm_image.specs.Devices.{Failed}

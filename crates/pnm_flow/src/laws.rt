@@ -2,9 +2,10 @@
 
 ghost use Rattle.pnm_flow.specs.SentMessages.{WhatTheToolsSent};
 
-/// What the tools of a run over threads have sent, if its answer is neither of the input nor of a ring's end and the
-/// writer didn't fail: each tool has ended as a stage does, or as a stage of lanes, for what the one before it sent,
-/// and what the last one sent was written. The first fault of their ends is the one that is answered.
+/// What the tools of a run over threads may have sent, by its answer alone. If that is neither of the input nor of a
+/// ring's end, and the writer didn't fail, there are messages with which each tool ends as a stage does, or as a stage
+/// of lanes, for those of the one before it, and those of the last one were written. The first fault of these ends is
+/// the one that is answered.
 pub fn what_the_tools_sent()
     ensures { WhatTheToolsSent }
 {}
