@@ -19,8 +19,10 @@ import typing
 
 if typing.TYPE_CHECKING:
     import numpy
+    from typing_extensions import TypeAlias
 
-    Array = numpy.ndarray[typing.Any, typing.Any]
+    # (an alias that says so is one where numpy isn't installed, too)
+    Array: TypeAlias = numpy.ndarray[typing.Any, typing.Any]
 
     def __getattr__(name: str) -> type[Fault]:
         """The class of a fault: they are made of what the library has."""
