@@ -19,10 +19,11 @@ cp -R "$1" "$work/test"
 chmod +x "$work"/test/*.test "$work/test/Execute-Tests" "$work/test/Available-Testprog"
 (cd "$work/test" && ls -- *.test > Test-Order)
 mkdir "$work/shims"
-stand_ins=$(sed -n 's/^SHIMS := //p' "$root/Makefile")
+stand_ins="$(python3 "$root/scripts/tool_table.py") $(sed -n 's/^SHIMS = .*) //p' "$root/Makefile")"
 for name in $stand_ins; do
     ln -s "$root/helpers/netpbm-shim" "$work/shims/$name"
 done
+[ -e "$work/shims/pnmcut" ] || { echo "netpbm_suite.sh: there are no stand-ins" >&2; exit 2; }
 
 # suite NAME PATH: runs all tests, and leaves a line for each in $work/NAME
 suite() {
