@@ -3,7 +3,7 @@
  *
  * The source says any stream: rows, by themselves or (BLOCKS) together, ends of images (MOST_IMAGES at most),
  * the end of the stream or a fault; whether it would have to wait for its reader is told anew after each
- * message. SLOW: there the reader may keep the caller until no tool can go on.
+ * packet. SLOW: there the reader may keep the caller until no tool can go on.
  *
  * OUTER_THREADS: run_chain between two other threads, one of which may drop its end at any time, in place of a
  * caller.
@@ -106,7 +106,7 @@ active proctype Outer_receiver() {
 #define ALL_REST (RESTS(0) && RESTS(1) && RESTS(2))
 #endif
 
-/* Ingress::send_next, send_rows, send_message */
+/* Ingress::send_next */
 inline send_next() {
     /* The source may wait for its reader: the first tool is woken for all, and each result of an image sent is taken. */
 #ifndef UNASSERTED
@@ -135,7 +135,7 @@ inline send_next() {
     if :: would_read = 0 :: would_read = 1 fi
 }
 
-/* Ingress::try_send, send_held; a call for 64 messages at most is one that may stop after each */
+/* Ingress::try_send, send_held; a call for 64 packets at most is one that may stop after each */
 inline ingress_try_send() {
     has_room(0);
     if

@@ -37,7 +37,7 @@ next:
     :: else
     fi;
     take(i, m);
-    /* pass: send_answers, pass_rows, pass_each */
+    /* pass: feed_next, send_answers */
     k = 0;
     do
     :: !ENDS(m) && MAY_ANSWER(m, k) ->

@@ -4,9 +4,8 @@
    REFUSED_GROWTH   the number of the call of malloc or realloc, from 1
    REFUSED_START    the number of the call of pthread_create, from 1
    REFUSED_FOR_GOOD where it is set, all calls of that kind after it are refused too
-   REFUSED_REPORT   the number of the file that is told of each refusal, with the number of the thread, 0 for the
-                    first, and that of the call among the thread's own; and at the end of how many threads are left,
-                    and of how many starts came if REFUSED_START is set
+   REFUSED_REPORT   the number of the file that is told of each refusal, with the number of the call; and at the end of
+                    how many threads are left, and of how many starts came if REFUSED_START is set
 
    What the C library asks for on its own, for a thread's stack say, isn't the program's and is never refused. */
 
@@ -26,9 +25,6 @@
 extern void *__libc_malloc(size_t);
 extern void *__libc_realloc(void *, size_t);
 
-/* The number of this thread in the order of their starts, and how many of its calls could have been refused. */
-static _Thread_local unsigned long thread_number, own_calls;
-
 /* One kind of call: which is refused, if not 0, and how many came. */
 struct calls {
     unsigned long refused;
@@ -39,7 +35,6 @@ static struct calls growth, start;
 static int is_for_good, report;
 static uintptr_t code_start, code_end;
 static atomic_long threads;
-static atomic_ulong started;
 
 static unsigned long number_of(const char *name) {
     const char *text = getenv(name);
@@ -94,10 +89,9 @@ static int is_refused(struct calls *calls, const void *caller) {
     uintptr_t place = (uintptr_t)caller;
     if (!calls->refused || place < code_start || place >= code_end) return 0;
     unsigned long number = atomic_fetch_add(&calls->count, 1) + 1;
-    own_calls++;
     if (number != calls->refused && !(is_for_good && number > calls->refused)) return 0;
     char line[100];
-    tell(line, snprintf(line, sizeof line, "refused %lu-%lu\n", thread_number, own_calls));
+    tell(line, snprintf(line, sizeof line, "refused %lu\n", number));
     return 1;
 }
 
@@ -121,13 +115,11 @@ void *realloc(void *old, size_t size) {
 struct work {
     void *(*run)(void *);
     void *given;
-    unsigned long number;
 };
 
 static void *run_counted(void *box) {
     struct work work = *(struct work *)box;
     free(box);
-    thread_number = work.number;
     void *result = work.run(work.given);
     atomic_fetch_sub(&threads, 1);
     return result;
@@ -138,7 +130,7 @@ int pthread_create(pthread_t *thread, const pthread_attr_t *attributes, void *(*
     if (is_refused(&start, __builtin_return_address(0))) return EAGAIN;
     struct work *work = __libc_malloc(sizeof *work);
     if (!create || !work) return EAGAIN;
-    *work = (struct work){run, given, atomic_fetch_add(&started, 1) + 1};
+    *work = (struct work){run, given};
     atomic_fetch_add(&threads, 1);
     int status = create(thread, attributes, run_counted, work);
     if (status) {

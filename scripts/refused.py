@@ -4,11 +4,10 @@
 `scripts/refused.c`, compiled here and loaded before the program, refuses the Nth one that the program itself asks for;
 N goes upward from 1, once with that one alone refused and once with all after it too. A run that met a refusal has to
 say so by the line that fits and to have written a prefix of the whole output: nothing if the status is 2 or a thread
-couldn't be started. It has to end in time, and with no thread left. Some runs do without one allocation that is refused
-alone, since rows that come together are taken one by one then, and an image goes on in parts. Where the input is silent
-(`silent`), each refused start has to be answered before the silence ends. Tests of crates are refused each allocation
-too, since they reach what no command does. Where there is no C compiler, the stored run alone is refused, by the
-toolchain, which builds the program anew for each turn, and starts of threads by the room that the process may take.
+couldn't be started. It has to end in time, and with no thread left. Where the input is silent (`silent`), each refused
+start has to be answered before the silence ends. Tests of crates are refused each allocation too, since they reach what
+no command does. Where there is no C compiler, the stored run alone is refused, by the toolchain, which builds the
+program anew for each turn, and starts of threads by the room that the process may take.
 """
 
 import argparse
@@ -51,21 +50,19 @@ PROMPT = 10.0
 
 
 class Command(typing.NamedTuple):
-    """A call of the program, what it writes and prints if nothing is refused, how many threads it starts at least,
-    and how many allocations it has at most without any one of which it ends well."""
+    """A call of the program, what it writes and prints if nothing is refused, and how many threads it starts at
+    least."""
 
     words: list
     given: bytes
     whole: bytes
     starts: int
     line: str = ""
-    spared: int = 0
 
 
 class Answer(typing.NamedTuple):
     """How a run ended, what it wrote and printed, and what the loaded code told: refusals, at the end threads that are
-    left, how many starts of threads it has counted, and of the first call that was refused which thread's it was and
-    which of that thread's calls."""
+    left, and how many starts of threads it has counted."""
 
     status: int
     written: bytes
@@ -73,7 +70,6 @@ class Answer(typing.NamedTuple):
     refusals: int
     left: typing.Optional[int]
     starts: int = 0
-    place: str = ""
 
 
 class Fault(Exception):
@@ -107,28 +103,26 @@ RASTERS += [(("Gray", 2, 2, 1, 300, b""), raster_of(300, [[1, 2], [3, 300]]))]
 IMAGES = [Image(*it) for it in RASTERS]
 STREAM = answer([], IMAGES)[0]
 
-# the tools, and how many calls each makes at most to copy or keep rows of these images that come together: each row is
-# taken by itself if one of them is refused. One that isn't named here makes none
-EACH = {
-    "pnminvert": 0,
-    "pamdepth 18": 1,
-    "pamchannel 0 0 -tupletype T": 4,
-    "pamenlarge -xscale 2": 5,
-    "pamflip -null": 0,
-    "pamflip -lr": 0,
-    "pamcut -left 1": 1,
-    "pamcut -top 1 -height 1": 1,
-    "pamenlarge 2": 8,
-    "pamenlarge -yscale 2": 3,
-    "pamflip -tb": 3,
-    # of each image the list of its rows
-    "pamflip -xy": 3,
-    "pamflip -r90": 3,
-    "pamflip -r180": 3,
-    "pamflip -r270": 3,
-    "pnmtile 3 3": 3,
-}
-EACH.update(dict.fromkeys(untried(EACH), 0))
+# the tools
+EACH = [
+    "pnminvert",
+    "pamdepth 18",
+    "pamchannel 0 0 -tupletype T",
+    "pamenlarge -xscale 2",
+    "pamflip -null",
+    "pamflip -lr",
+    "pamcut -left 1",
+    "pamcut -top 1 -height 1",
+    "pamenlarge 2",
+    "pamenlarge -yscale 2",
+    "pamflip -tb",
+    "pamflip -xy",
+    "pamflip -r90",
+    "pamflip -r180",
+    "pamflip -r270",
+    "pnmtile 3 3",
+]
+EACH += untried(EACH)
 
 # rows of eight pixels, and what is made of them
 EIGHT = bits("00110101", "11110000", "01000001")
@@ -149,45 +143,43 @@ def threads_of(row_wise, others, lanes):
 def commands_over(lanes):
     """The commands that stand at each number of lanes."""
 
-    def command(chain, given, whole, row_wise, others, ring=1, line="", form=(), spared=0):
+    def command(chain, given, whole, row_wise, others, ring=1, line="", form=()):
         words = ["--ring", str(ring), "--lanes", str(lanes), *form, chain]
-        return Command(words, given, whole, threads_of(row_wise, others, lanes), line, spared)
+        return Command(words, given, whole, threads_of(row_wise, others, lanes), line)
 
     def plain(*facts, **options):
         return command(*facts, form=["--plain"], **options)
 
-    for chain, spared in EACH.items():
+    for chain in EACH:
         tool = named_tool(*read_chain(chain))
         if lanes > LANES[1] and not is_row_wise(tool):
             continue
         whole, _ = answer([tool], IMAGES)
-        # the rows of an image that goes on whole are one call more
-        spared += len(IMAGES)
-        yield command(chain, STREAM, whole, is_row_wise(tool), not is_row_wise(tool), spared=spared)
-    yield command("pamflip -lr", EIGHT, TURNED, 1, 0, spared=1)
-    yield command("pamcut -left 3 | pamflip -lr", EIGHT, CUT_AND_TURNED, 1, 1, spared=2)
-    yield command("pamenlarge 2 | pnminvert", gray(9, [7]), gray(9, [2, 2], [2, 2]), 1, 1, spared=1)
+        yield command(chain, STREAM, whole, is_row_wise(tool), not is_row_wise(tool))
+    yield command("pamflip -lr", EIGHT, TURNED, 1, 0)
+    yield command("pamcut -left 3 | pamflip -lr", EIGHT, CUT_AND_TURNED, 1, 1)
+    yield command("pamenlarge 2 | pnminvert", gray(9, [7]), gray(9, [2, 2], [2, 2]), 1, 1)
     # a long row that the first tool gives once, with the number of its copies, which the second tool's thread makes,
     # two at a time, and the dealer one by one
     often = gray(9, *[[2] * 30000] * 5)
-    yield command("pamenlarge -xscale 30000 -yscale 5 | pnminvert", gray(9, [7]), often, 1, 1, spared=1)
+    yield command("pamenlarge -xscale 30000 -yscale 5 | pnminvert", gray(9, [7]), often, 1, 1)
     if lanes <= LANES[1]:
-        yield command("pamflip -xy", gray(9, [1, 2], [3, 4], [5, 6]), gray(9, [1, 3, 5], [2, 4, 6]), 0, 1, spared=2)
-    yield command("pamflip -null", TYPED, pam(1, 1, b"A B", [1]), 1, 0, spared=1)
-    yield command("pnminvert", gray(9, [1], [2]), gray(9, [8], [7]), 1, 0, ring=64, spared=1)
+        yield command("pamflip -xy", gray(9, [1, 2], [3, 4], [5, 6]), gray(9, [1, 3, 5], [2, 4, 6]), 0, 1)
+    yield command("pamflip -null", TYPED, pam(1, 1, b"A B", [1]), 1, 0)
+    yield command("pnminvert", gray(9, [1], [2]), gray(9, [8], [7]), 1, 0, ring=64)
     pixel, picked = b"P3 1 1 255 10 20 30", pam(255, 2, b"RGB", [30, 10])
     inverted = pam(255, 2, b"RGB", [225, 245])
     yield command("pamchannel 2 0 -tupletype RGB", pixel, picked, 1, 0)
     yield command("pamchannel 2 0 -tupletype RGB | pamflip -tb | pnminvert", pixel, inverted, 2, 1)
     # over lanes the most tools start so many threads that refusing each would take too long
     count = MOST_TOOLS if lanes == 1 else 16
-    yield command(" | ".join(["pnminvert"] * count), STREAM, STREAM, count, 0, spared=len(IMAGES))
+    yield command(" | ".join(["pnminvert"] * count), STREAM, STREAM, count, 0)
     # an input that is cut, after whose fault no tool's want of memory is answered, and one that the second tool refuses
     cut = bits("11", "10") + gray(9, [2, 1], [4, 3]) + gray(300, [2, 1], [0, 0])[:-4]
     yield command("pamflip -lr | pamflip -lr | pamflip -lr", STREAM[:-1], cut, 3, 0, line="pnmpipe: input: RasterCut\n")
     yield command("pnminvert | pamcut -left 2 | pnminvert", STREAM, b"", 2, 1, line="pnmpipe: tool 2: CutOutside\n")
     # plain text, of which a stream's second image is none, nor is PAM
-    yield plain("pnminvert", gray(300, [1, 2], [3, 300]), b"P2\n2 2\n300\n299 298\n297 0\n", 1, 0, spared=1)
+    yield plain("pnminvert", gray(300, [1, 2], [3, 300]), b"P2\n2 2\n300\n299 298\n297 0\n", 1, 0)
     yield plain("pamflip -tb | pnminvert", STREAM, b"P1\n2 2\n1 0\n0 0\n", 1, 1, line="pnmpipe: output: SecondPlain\n")
     yield plain("pamchannel 0", gray(9, [1], [2]), b"", 1, 0, line="pnmpipe: output: PlainPam\n")
 
@@ -195,7 +187,7 @@ def commands_over(lanes):
 def stored_run():
     """The run that is stored beside the program."""
     with open(os.path.join(PROGRAM, "stdin"), "rb") as given, open(os.path.join(PROGRAM, "stdout"), "rb") as whole:
-        return Command(["pnminvert"], given.read(), whole.read(), 1, spared=1)
+        return Command(["pnminvert"], given.read(), whole.read(), 1)
 
 
 def commands(program):
@@ -250,7 +242,7 @@ def run(words, given, seconds, loaded, variables):
     counts = dict(line.split() for line in reversed(lines) if " " in line)
     refusals = sum(line.startswith("refused ") for line in lines)
     left = int(counts["left"]) if "left" in counts else None
-    told = refusals, left, int(counts.get("starts", 0)), counts.get("refused", "")
+    told = refusals, left, int(counts.get("starts", 0))
     return Answer(ran.returncode, ran.stdout, ran.stderr.decode(errors="replace"), *told)
 
 
@@ -271,15 +263,11 @@ def judge(command, answer):
         raise Fault(f"threads are left: {answer.left}; status {answer.status}, {answer.printed!r}")
     if not command.whole.startswith(answer.written):
         raise Fault(f"what is written is no prefix of the output: {answer.written!r}")
-    made = (answer.status, answer.written, answer.printed)
-    is_whole = made == (1 if command.line else 0, command.whole, command.line)
     if not answer.refusals:
-        if not is_whole:
+        if (answer.status, answer.written, answer.printed) != (1 if command.line else 0, command.whole, command.line):
             raise Fault(f"nothing is refused, and status {answer.status}, {answer.printed!r}, {answer.written!r}")
         return
     if command.line and answer.printed == command.line and answer.status == 1:
-        return
-    if command.spared and is_whole and answer.refusals == 1:
         return
     if not MEMORY.fullmatch(answer.printed):
         raise Fault(f"no line that names want of memory: status {answer.status}, {answer.printed!r}")
@@ -330,11 +318,6 @@ def refuse_command(program, command, kinds, seconds, loaded):
             met = refuse_each(kind, is_for_good, run_once)
             if len(met) < least:
                 raise Fault(f"{kind.lower()}: only {len(met)} were refused, of {least} at least")
-            most = command.spared if kind == "GROWTH" and not is_for_good else 0
-            # threads take other turns in each run, so one call may be met at two numbers
-            spared = len({answer.place for answer in met if answer.status == 0})
-            if spared > most:
-                raise Fault(f"{kind.lower()}: {spared} calls were spared, of {most} at most")
             counts.append((kind, len(met)))
             lines.update(shown(answer) for answer in met)
     return counts, lines

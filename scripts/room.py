@@ -1,6 +1,6 @@
 #!/usr/bin/env python3
-"""Wants runs to do with little room: a stack of few KiB, and the memory of what `pnmtile` shows; and small PAM images
-to take no more time if their headers are written in another way.
+"""Wants runs to do with little room: a stack of few KiB, the memory of what `pnmtile` shows, and that of a plain
+image's rows; and small PAM images to take no more time if their headers are written in another way.
 
 Each command of `refused.py` has to end as it does with room enough, in a stack of 32 KiB for one tool, of the main
 thread and of each thread that the program starts, and of some more for each further tool, which is started within the
@@ -9,7 +9,8 @@ too small ends a run by a signal, which no line names, so a frame that grows, as
 refused here. The system takes up to 8 KiB of the main thread's stack, at random. `--least` finds the least stack of
 each command in place of that.
 
-`pnmtile` keeps the columns that it shows, and no whole rows of an image that is larger than what fits beside them.
+`pnmtile` keeps the columns that it shows, and no whole rows of an image that is larger than what fits beside them. The
+rows of a plain bitmap of one column are held as those of a raw one, eight pixels a byte, by what turns it upside down.
 
 Whether a header is held whole is asked before each image, so the search for its last line must not go beyond that.
 """
@@ -41,6 +42,9 @@ MOST = 8192
 WIDE, HIGH = 10_000, 8_000
 SHOWN = 5
 RESIDENT = 10
+
+# a plain bitmap of one column and the greatest height, and the most MB that may be resident: a byte a row are 16
+TALL, RESIDENT_OF_TALL = 16_777_216, 40
 
 # so many images of a pixel, with the last line of the header as the program writes it, and in other ways; how many
 # times as much time these may take, and the seconds that don't count
@@ -151,6 +155,28 @@ def check_tiles(args):
     return 0 if is_right and child.returncode == 0 and resident < RESIDENT else 1
 
 
+def check_column(args):
+    """Whether a plain column is turned upside down in little memory. Gives 1 where not."""
+    digits = "".join(f"{byte:08b}" for byte in range(256)).encode() * (TALL // 2048)
+    want = b"P4\n1 %d\n" % TALL + digits[::-1].translate(bytes.maketrans(b"01", b"\x00\x80"))
+    words = [args.program, "pamflip -tb"]
+    with subprocess.Popen(words, stdin=subprocess.PIPE, stdout=subprocess.PIPE) as child:
+
+        def give():
+            child.stdin.write(b"P1\n1 %d\n" % TALL + digits)
+            child.stdin.close()
+
+        giver = threading.Thread(target=give)
+        giver.start()
+        # the rest is more than a pipe holds, so the program hasn't ended yet
+        written = child.stdout.read(TALL // 2)
+        resident = peak_of(child)
+        written += child.stdout.read()
+        giver.join()
+    print(f"room: {resident} MB for a plain column of {TALL}")
+    return 0 if written == want and child.returncode == 0 and resident <= RESIDENT_OF_TALL else 1
+
+
 def seconds_of_pixels(args, last_line):
     """The processor's time for images whose header has this last line."""
     before = resource.getrusage(resource.RUSAGE_CHILDREN)
@@ -188,10 +214,10 @@ def main():
         tell_least(args)
         return
     count, failed = check_stacks(args)
-    tiles, headers = check_tiles(args), check_headers(args)
-    print(f"room: {count} commands, {failed} of them failed in their stack, {tiles} in their memory")
+    memory, headers = check_tiles(args) + check_column(args), check_headers(args)
+    print(f"room: {count} commands, {failed} of them failed in their stack, {memory} runs in their memory")
     print(f"room: {headers} of {len(OTHERS)} headers took more time")
-    sys.exit(1 if failed or tiles or headers or not count else 0)
+    sys.exit(1 if failed or memory or headers or not count else 0)
 
 
 if __name__ == "__main__":

@@ -2,8 +2,8 @@
 it tells of rows)."""
 
 import slow_rows
-from case_text import Sweep, changes, handed_in, numbers_in, one_by_one, text_of
-from slow_reader import FORMATS, answers, answers_to_all, tell, tell_text
+from case_text import Apart, Sweep, changes, handed_in, numbers_in, one_by_one, text_of
+from slow_reader import FORMATS, MOST, answers, answers_to_all, tell, tell_text
 from slow_reading import Reading, needs
 from slow_writer import Sink, Writer, lines_of
 
@@ -91,17 +91,8 @@ def want_of_source(word, rest):
     if word == "fails":
         text = text_of(rest)
         return changes([said_until(text, count) for count in range(len(text) + 1)])
-    first = word.removesuffix("_by")
-    if first in ("reads", "together", "rows_ahead", "whole"):
-        size = 4096
-        if first != word:
-            number, _, rest = rest.partition(" ")
-            size = max(size, int(number))
-        most, failing, written = rest.split(" ", 2)
-        reading = Reading(text_of(written), size, int(most), int(failing))
-        told = reading.read(first)
-        calls = "".join(f" {asked}:{got}" for asked, got in reading.calls)
-        return f"{told} by{calls}" if first in ("reads", "rows_ahead") else told
+    if word.removesuffix("_by") in ("reads", "together"):
+        return want_of_reading(word, rest)
     if word == "width":
         return width_of(text_of(rest))
     if word not in ("ahead", "held"):
@@ -114,6 +105,29 @@ def want_of_source(word, rest):
     return " 0" + "".join(f" {needed[min(number, len(needed) - 1)]}" for number in range(int(count)))
 
 
+def want_of_reading(word, rest):
+    """What is answered, and what each read asked for and got."""
+    size, most_rows = 4096, 1 if word.startswith("reads") else MOST
+    if word.endswith("_by"):
+        number, _, rest = rest.partition(" ")
+        size = max(size, int(number))
+    most, failing, written = rest.split(" ", 2)
+    text = text_of(written)
+    reading = Reading(text, size, int(most), int(failing), most_rows)
+    told = reading.read() + " by" + "".join(f" {asked}:{got}" for asked, got in reading.calls)
+    is_plain = text[:1] == b"P" and FORMATS.get(text[1:2], ("", False))[1]
+    return PlainApart(told) if is_plain and most_rows > 1 else told
+
+
+class PlainApart(Apart):
+    """What a line tells of a plain image, but for the braces around rows, of which none stand around the last one."""
+
+    OPEN = "where braces stand around plain rows, since those that are held may come together or one by one"
+
+    def allows(self, told):
+        return "ImageEnd }" not in told and "} ImageEnd" not in told and super().allows(told)
+
+
 def said_until(text, count):
     """What is answered where a read fails after so many that gave a byte each."""
     given, is_read_on = answers_to_all(text[:count])
@@ -123,10 +137,8 @@ def said_until(text, count):
 
 
 def width_of(text):
-    """How the samples of the first row are held: as they lie in a raw file, and those of a plain one as words."""
+    """How the samples of the first row are held: as they lie in a raw file, whether it is one or plain."""
     kind, _, _, _, maxval, _ = answers(text)[0]
-    if FORMATS[text[1:2]][1]:
-        return " words"
     return " bits" if kind == "Bit" else " bytes" if maxval < 256 else " words"
 
 

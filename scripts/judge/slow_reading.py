@@ -5,11 +5,12 @@ from bisect import bisect_right
 
 from slow_reader import answers, answers_to_all, tell
 
-# a row of bytes that wants so many more is read past the buffer
+# a row of bytes that wants so many more is read past the buffer; but if it has no more than these in all and fits in
+# the buffer, a read goes there first
 STRAIGHT = 16_384
 
-# the most bytes of a row that comes together with others, and of all that come so
-MOST_ROW, MOST_ROWS = 16_384, 65_536
+# how many bytes the program reads at a time at most
+BUFFER = 65_536
 
 
 def raw_row(head):
@@ -22,13 +23,15 @@ class Known:
     """How many answers are known by each front of a text."""
 
     def __init__(self, text):
-        self.text = text
+        self.text, self.counts = text, {}
 
     def __len__(self):
         return len(self.text) + 1
 
     def __getitem__(self, length):
-        return len(answers_to_all(self.text[:length])[0])
+        if length not in self.counts:
+            self.counts[length] = len(answers_to_all(self.text[:length])[0])
+        return self.counts[length]
 
 
 def needs(text):
@@ -39,71 +42,73 @@ def needs(text):
 
 class Reading:
     """What a source answers that reads a text through a buffer of this size, a read giving some bytes at most and the
-    one with a number failing, 0 for none."""
+    one with a number failing, 0 for none; so many rows come together at most. Those of a plain image are told one by
+    one."""
 
-    def __init__(self, text, size, most, failing):
-        self.text, self.size, self.most, self.failing = text, size, most, failing
+    def __init__(self, text, size, most, failing, most_rows):
+        self.text, self.size, self.most, self.failing, self.most_rows = text, size, most, failing, most_rows
         self.whole, self.needs = answers(text), needs(text)
         # the bytes that have come; what each read asked for, and what it got
         self.come, self.calls = 0, []
-        # of a raw image's rows the bytes of each, of a sample in it, the maxval, none for bits, and how many are
-        # left
-        self.row, self.sample, self.maxval, self.rows = 0, 1, None, 0
+        # of a raw image where the next row begins, the bytes of a row, of a sample in it, the maxval, none for bits,
+        # and how many rows are left
+        self.start, self.row, self.sample, self.maxval, self.rows = 0, 0, 1, None, 0
 
-    def read(self, first):
-        """Tells all answers, where before each message rows together are asked for, or the rest of an image, or
-        nothing; rows that come so stand between braces. Where rows are to be read ahead, that is asked for before."""
-        count_of = {"together": self.together, "rows_ahead": self.together, "whole": self.image_at_once}
-        count_of = count_of.get(first, lambda number: 0)
+    def read(self):
+        """Tells all answers. Rows that come together stand between braces, and so does an image that comes at once,
+        unless rows come one by one."""
         told, number = "", 0
         while number < len(self.whole):
-            if first == "rows_ahead" and not self.read_ahead(number):
+            count = self.fetch(number)
+            if not count:
                 return f"{told} ReadFailed"
-            count = count_of(number)
-            if not count and not self.wait(number):
-                return f"{told} ReadFailed"
-            given = self.whole[number : number + max(count, 1)]
-            told += f" {{{tell(given)} }}" if count else tell(given)
-            if isinstance(given[0], tuple):
-                self.begin(given[0], number)
-            self.rows -= len(given) if isinstance(given[0], list) else 0
-            number += len(given)
+            given = self.whole[number : number + count]
+            told += f" {{{tell(given)} }}" if count > 1 and self.most_rows > 1 else tell(given)
+            passed = sum(isinstance(it, list) for it in given) if self.rows else 0
+            self.rows, self.start = self.rows - passed, self.start + passed * self.row
+            number += count
         return told
 
-    def begin(self, head, number):
-        """Begins an image, whose header ends where its head is known."""
-        start = self.needs[number - 1] if number else 0
-        self.row, self.sample = raw_row(head), 2 if head[4] > 255 else 1
-        self.maxval = None if head[0] == "Bit" else head[4]
-        self.rows = head[2] if self.text[start + 1 : start + 2] in b"4567" else 0
-
-    def held_whole(self, number):
-        """How many of the next rows of a raw image can come together, none if one of them is at fault."""
-        if not self.rows or not isinstance(self.whole[number], list) or self.row > MOST_ROW:
+    def fetch(self, number):
+        """Reads what an answer takes. How many come at once: rows that are held whole, an image that is, or one; none
+        where a read fails."""
+        if self.rows:
+            if not self.read_first():
+                return 0
+            return self.held_rows(number) or int(self.wait(number))
+        if not self.wait(number):
             return 0
-        held = self.come - (self.needs[number] - self.row)
-        count = min(self.rows, held // self.row, MOST_ROWS // self.row)
-        are_rows = all(isinstance(it, list) for it in self.whole[number : number + count])
-        return count if are_rows else 0
+        if isinstance(self.whole[number], tuple):
+            self.begin(number)
+            if 0 < self.rows <= self.most_rows and self.held_rows(number + 1) == self.rows:
+                return self.rows + 2
+        return 1
 
-    def together(self, number):
-        """How many rows come together, none for a row by itself."""
-        count = self.held_whole(number)
-        return count if count > 1 else 0
+    def begin(self, number):
+        """Begins an image, whose header ends where its head is known."""
+        head, before = self.whole[number], self.needs[number - 1] if number else 0
+        self.start, self.row, self.sample = self.needs[number], raw_row(head), 2 if head[4] > 255 else 1
+        self.maxval = None if head[0] == "Bit" else head[4]
+        self.rows = head[2] if self.text[before + 1 : before + 2] in b"4567" else 0
 
-    def image_at_once(self, number):
-        """How many rows come with the end of their image, none if these aren't all of its rows."""
-        has_begun = number > 0 and isinstance(self.whole[number - 1], tuple)
-        count = self.held_whole(number) if has_begun else 0
-        return count if count == self.rows else 0
+    def held(self):
+        """The bytes of the next rows that have come."""
+        return self.text[self.start : self.come]
 
-    def read_ahead(self, number):
-        """Reads once if the next row may come with others, isn't held whole, and shows no fault in what is held of it.
-        Whether that read doesn't fail."""
-        if not self.rows or not self.row <= min(MOST_ROW, self.size) or self.come > len(self.text):
-            return True
-        part = self.text[self.needs[number - 1] : self.come]
-        if len(part) >= self.row or self.is_at_fault(part):
+    def held_rows(self, number):
+        """How many of the next rows of a raw image are held whole; if one of them is at fault half of them are taken,
+        and so on."""
+        count = min(self.rows, self.most_rows, len(self.held()) // self.row)
+        while not all(isinstance(it, list) for it in self.whole[number : number + count]):
+            count //= 2
+        return count
+
+    def read_first(self):
+        """Reads once if the next row is short, isn't held whole, and shows no fault in what is held of it. Whether that
+        read doesn't fail."""
+        part = self.held()
+        is_short = self.row <= min(STRAIGHT, self.size)
+        if not is_short or len(part) >= self.row or self.come > len(self.text) or self.is_at_fault(part):
             return True
         return self.call(self.size - len(part))
 
@@ -124,15 +129,14 @@ class Reading:
         return not is_failing
 
     def wait(self, number):
-        """Reads until an answer is known; whether no read fails."""
-        is_row = isinstance(self.whole[number], list) and self.rows
+        """Reads until an answer is known, part by part; whether no read fails."""
         while self.come < self.needs[number]:
-            left = self.needs[number] - self.come
+            left = self.start + self.row - self.come
             asked = self.size
-            if is_row and self.sample == 1 and left >= STRAIGHT:
+            if self.rows and self.sample == 1 and left >= STRAIGHT:
                 asked = left
-            elif is_row and self.sample == 2:
-                asked -= (self.row - left) % 2
+            elif self.rows and self.sample == 2:
+                asked -= left % 2
             if not self.call(asked):
                 return False
         return True

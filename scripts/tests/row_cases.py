@@ -1,10 +1,10 @@
 """The cases of test_rows.py: streams of images whose rows have critical sizes, chains of tools, and ways to run them.
 
-Rows travel together in blocks: those that lie whole in what was read, of 65,536 bytes at most. A row of more than
-16,384 bytes travels by itself. So the rows of cases have the sizes around a byte, a power of two and these limits.
-Images are so high that a block ends inside the image, that the image fills a block, or that it has one row more. A
-comment makes a header longer if its raster has to begin with a read. Samples are random; their seed is the name of the
-group."""
+Rows travel together in blocks: those that lie whole in what was read, which are 65,536 bytes at most. A row of more
+than 16,384 bytes that doesn't is read to its end and travels by itself. So the rows of cases have the sizes around a
+byte, a power of two and these limits. Images are so high that a block ends inside the image, that the image fills a
+block, or that it has one row more. A comment makes a header longer if its raster has to begin with a read. Samples are
+random; their seed is the name of the group."""
 
 import itertools
 import random
@@ -14,7 +14,7 @@ from functools import lru_cache
 from chain_text import read_chain
 from slow_rasters import Image, answer, unpacked, written
 from slow_reader import MOST_HEADER, Fault
-from slow_reading import MOST_ROW, MOST_ROWS, raw_row
+from slow_reading import BUFFER, STRAIGHT, raw_row
 from slow_tools import named_tool, result_head
 from slow_writer import header
 from tool_examples import untried
@@ -61,17 +61,16 @@ class Part(typing.NamedTuple):
     def header(self, start=0, form="raw"):
         """The header of the image if it starts there in the stream."""
         plain = header(form, self.image.head)
-        missing = -(start + len(plain)) % MOST_ROWS if self.is_aligned else 0
+        missing = -(start + len(plain)) % BUFFER if self.is_aligned else 0
         if len(plain) + missing > MOST_HEADER:
             raise ValueError("no header is so long that the raster begins with a read")
         comment = b"\n" if missing == 1 else b"#" + b"." * (missing - 2) + b"\n" if missing else b""
         return plain[:3] + comment + plain[3:]
 
     def block(self, start=0):
-        """How many rows the first block has if the image starts there; 0 if each travels by itself."""
-        row = raw_row(self.image.head)
-        come = MOST_ROWS - (start + len(self.header(start))) % MOST_ROWS
-        return come // row if row <= MOST_ROW else 0
+        """How many rows lie whole in the first read if the image starts there."""
+        come = BUFFER - (start + len(self.header(start))) % BUFFER
+        return come // raw_row(self.image.head)
 
 
 class Way(typing.NamedTuple):
@@ -143,7 +142,7 @@ def parts_of(numbers, form, size, heights):
     parts, turns = [], itertools.cycle(widths(form, size))
     for turn, (height, is_aligned) in enumerate(heights):
         width = next(turns)
-        rows = height(MOST_ROWS // raw_row(form.head(width))) if callable(height) else height
+        rows = height(BUFFER // raw_row(form.head(width))) if callable(height) else height
         parts.append(part(numbers, form, width, rows, turn, is_aligned))
     return parts
 
@@ -268,7 +267,7 @@ class Group:
         parts = parts_of(self.numbers, self.form, self.size, SOME if self.size <= SHORT else FEW)
         row = raw_row(parts[0].image.head)
         pieces = {row - 1, 7 * row // 2, 1 if row < 10 else row - 1} - {0}
-        return self.each(single_tools(parts), parts, [min(it, MOST_ROWS) for it in sorted(pieces)])
+        return self.each(single_tools(parts), parts, [min(it, BUFFER) for it in sorted(pieces)])
 
     def tall(self):
         """Rows for more than a block."""
@@ -282,7 +281,7 @@ class Group:
 
     def pairs(self):
         """Some of all pairs of tools, others in each group; every other one is run in a second way alone."""
-        heights = [(5, False), *(TALL[:2] if self.size <= MOST_ROW else [(2, True)])]
+        heights = [(5, False), *(TALL[:2] if 2 * self.size <= BUFFER else [(2, True)])]
         parts = parts_of(self.numbers, self.form, self.size, heights)
         for case in self.each(self.numbers.sample(list(pairs_of_tools(parts)), 12), parts):
             yield case._replace(ways=case.ways[-1:])
@@ -290,7 +289,7 @@ class Group:
     def bad(self):
         """A sample above the maxval, or a raster that ends too soon, at the ends of a block and inside it."""
         form = self.form._replace(maxvals=self.form.maxvals[-1:])
-        heights = [(2, False), ((lambda block: 2 * block + 1) if self.size <= MOST_ROW else 5, True)]
+        heights = [(2, False), ((lambda block: 2 * block + 1) if 2 * self.size <= BUFFER else 5, True)]
         for is_aligned in (False, True):
             good, bad = parts_of(self.numbers, form, self.size, heights)
             bad = bad._replace(is_aligned=is_aligned)
@@ -325,10 +324,11 @@ class Group:
     def plain(self):
         """Plain images, and raw ones of which plain results are wanted, one in a stream."""
         parts = parts_of(self.numbers, self.form, self.size, [(5 if self.size <= SHORT else 1, False)])
-        for case in self.each(self.numbers.sample(single_tools(parts), 12), parts):
-            yield case._replace(text=plain_text(parts[0], self.numbers))
         if 1 < self.size <= SHORT:
             parts += parts_of(self.numbers, self.form, self.size, [(INSIDE, False)])
+        for it, count in zip(parts, (12, 3)):
+            for case in self.each(self.numbers.sample(single_tools([it]), count), [it]):
+                yield case._replace(text=plain_text(it, self.numbers))
         for it in parts:
             chains = [chain for chain in single_tools([it]) if "pamchannel" not in chain]
             for case in self.each(self.numbers.sample(chains, 6), [it]):
@@ -371,9 +371,9 @@ def group_names():
         for size in SIZES:
             kinds = ["few"]
             kinds += ["pairs"] if size not in (65_535, 65_537) else []
-            kinds += ["tall"] if size <= MOST_ROW else []
+            kinds += ["tall"] if 2 * size <= BUFFER else []
             kinds += ["turned"] if size < 10 or size <= SHORT and form.maxvals[0] == 255 else []
-            kinds += ["bad"] if size in (7, 9, 513, MOST_ROW, 65_537) or (name, size) == ("bytes", 1) else []
-            kinds += ["plain"] if form.kind != "Pam" and size in (1, 9, 512, MOST_ROW, 65_536) else []
+            kinds += ["bad"] if size in (7, 9, 513, STRAIGHT, 65_537) or (name, size) == ("bytes", 1) else []
+            kinds += ["plain"] if form.kind != "Pam" and size in (1, 9, 512, STRAIGHT, 65_536) else []
             yield from (f"{kind} {name} {size}" for kind in kinds)
     yield from ("mixed 1", "mixed 2", "mixed 3", "refused")

@@ -122,7 +122,7 @@ WANTED = {
     "pnm_format_cases": {
         "text long": "number row messages fault digest shorter longer",
         "cuts fails": "number row messages fault shorter longer",
-        "together together_by rows_ahead rows_ahead_by whole whole_by": "number row messages shorter longer",
+        "together together_by": "number row messages shorter longer",
         "reads reads_by": "number shorter longer",
         "changes inserts streams after": "number digest shorter longer",
         "ahead held": "number shorter longer",

@@ -14,13 +14,12 @@ sys.dont_write_bytecode = True
 import support  # first, since it finds the others
 
 from slow_reader import magic, read_head
-from slow_reading import MOST_ROW, MOST_ROWS, raw_row
+from slow_reading import BUFFER, raw_row
 
 
 @dataclasses.dataclass
 class Written:
-    """An image that was written: its header, its head, its rows, and how many of them a block has; 0: each goes by
-    itself."""
+    """An image that was written: its header, its head, its rows, and how many of them a block has at most."""
 
     header: bytes
     head: tuple
@@ -46,7 +45,7 @@ def images_of(text):
         row = raw_row(head)
         raster = text[length : length + row * head[2]]
         rows = [raster[at : at + row] for at in range(0, len(raster), row)]
-        images.append(Written(text[:length], head, rows, MOST_ROWS // row if row <= MOST_ROW else 0))
+        images.append(Written(text[:length], head, rows, BUFFER // row))
         text = text[length + len(raster) :]
     return images
 

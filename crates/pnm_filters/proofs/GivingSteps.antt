@@ -13,7 +13,7 @@ use Rattle.pnm_image.specs.declared.place.Place.TheVariants.{Between, Inside, Af
 use Rattle.pnm_image.specs.Places.{IsLawfulFrom, place_after, place_of}
 use Rattle.pnm_image.proofs.Places.{place_of-append}
 use Rattle.pnm_tools.specs.declared.fault.ToolFault.{ToolFault}
-use Rattle.pnm_filters.specs.Pendings.{Pending, AllGiven, Waiting, Rows, RowsAndEnd, Nothing, NothingPending}
+use Rattle.pnm_filters.specs.Pendings.{Pending, AllGiven, Waiting, Rows, RowsAndEnd, Nothing}
 use Rattle.pnm_tools.specs.declared.tool.Tool.{Tool}
 use Rattle.pnm_image.specs.declared.message.Ending.TheVariants.{More, BrokenOff}
 use Rattle.pnm_image.specs.Messages.{EndsBy}
@@ -52,34 +52,6 @@ ended tool_at ready_for due kept old new before ending none same gone = record {
   none = λ place keeps. none_kept kept old new place gone (subst (KeepsNone kept old place) ending keeps);
 }
 
--- nothing waited, and the caller knows
-none_is_due : {W : Type 0} (kept : W → List (List ℕ)) (work : W) (place : Place) (before : Pending) → NothingPending before → KeepsNone kept work place before
-    → KeepsNone kept work place AllGiven
-none_is_due kept work place AllGiven not_done keeps = keeps
-none_is_due kept work place (Waiting message) not_done keeps = absurd not_done
-none_is_due kept work place Rows not_done keeps = absurd not_done
-none_is_due kept work place RowsAndEnd not_done keeps = absurd not_done
-none_is_due kept work Between Nothing not_done keeps = keeps
-none_is_due kept work (Inside s y) Nothing not_done keeps = keeps
-none_is_due kept work After Nothing not_done keeps = keeps
-
-nothing_waits : (before : Pending) (due : List (List ℕ)) → NothingPending before → waiting_in before due ≡ []
-nothing_waits AllGiven due not_done = refl
-nothing_waits (Waiting message) due not_done = absurd not_done
-nothing_waits Rows due not_done = absurd not_done
-nothing_waits RowsAndEnd due not_done = absurd not_done
-nothing_waits Nothing due not_done = refl
-
-pub none_due_given : {W : Type 0} (tool_at : W → Tool) (ready_for : W → Shape → List (List ℕ) → Type 0) (due kept : W → List (List ℕ)) (work : W)
-    (before after : Pending) → NothingPending before → after ≡ AllGiven → IsGiven tool_at ready_for due kept work before work after None
-none_due_given tool_at ready_for due kept work before after not_done none_due = record {
-  waits = nothing_waits before (due work) not_done ∙ sym (ap (λ (p : Pending). waiting_in p (due work)) none_due);
-  none_due = none_due;
-  tool = refl;
-  ready = λ place rows keeps r. r;
-  none = λ place keeps. subst (KeepsNone kept work place) (sym none_due) (none_is_due kept work place before not_done keeps);
-}
-
 -- the first of the messages that waited are given
 pub gave : {W : Type 0} (tool_at : W → Tool) (ready_for : W → Shape → List (List ℕ) → Type 0) (due kept : W → List (List ℕ)) (old : StateValue W) (new : W)
     (after : Pending) (fault : Option ToolFault) (p : Packet) (t : Tool) (l g : List Message)
@@ -103,11 +75,11 @@ gave tool_at ready_for due kept old new after fault p t l g at gives =
     }
 
 -- none waited
-pub is_done : {W : Type 0} (tool_at : W → Tool) (ready_for : W → Shape → List (List ℕ) → Type 0) (due kept : W → List (List ℕ)) (old : StateValue W) (new : W)
+is_full : {W : Type 0} (tool_at : W → Tool) (ready_for : W → Shape → List (List ℕ) → Type 0) (due kept : W → List (List ℕ)) (old : StateValue W) (new : W)
     (after : Pending) (fault : Option ToolFault) (t : Tool) (l g : List Message)
     → IsAt tool_at ready_for due kept old t l g → IsGiven tool_at ready_for due kept old.work old.pending new after None
     → IsAt tool_at ready_for due kept (state_value new old.place after fault) t l g × AnswersInFull t l g
-is_done tool_at ready_for due kept old new after fault t l g at gives =
+is_full tool_at ready_for due kept old new after fault t l g at gives =
     let none : waiting_in after (due new) ≡ [] = ap (λ (p : Pending). waiting_in p (due new)) gives.none_due in
     let all : IsAnswering t l g [] = subst (IsAnswering t l g) (gives.waits ∙ none) at.answering in (
       record {
@@ -200,7 +172,7 @@ pub full_by : {W : Type 0} (tool_at : W → Tool) (ready_for : W → Shape → L
     × ((t : Tool) (l g : List Message) → IsAt tool_at ready_for due kept old t l g
     → IsAt tool_at ready_for due kept (state_value new old.place after fault) t l g × AnswersInFull t l g))
 full_by tool_at ready_for due kept old new after fault None gives =
-    (ap is_all_given gives.none_due, λ t l g at. is_done tool_at ready_for due kept old new after fault t l g at gives)
+    (ap is_all_given gives.none_due, λ t l g at. is_full tool_at ready_for due kept old new after fault t l g at gives)
 full_by tool_at ready_for due kept old new after fault (Some p) gives = tt
 
 -- ---- want of memory

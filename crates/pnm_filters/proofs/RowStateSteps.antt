@@ -1,5 +1,5 @@
 -- A row-wise tool at work in a lane takes and gives messages as the tool does.
-use Rattle.std.proofs.Common.{◌≡◌, ℕ, Bool, true, List, [], ◌∷◌, ◌++◌, Option, Some, None, Result, Ok, Err, OnOk, IfOk, IfSome, IfNone}
+use Rattle.std.proofs.Common.{◌≡◌, ℕ, true, List, [], ◌∷◌, ◌++◌, Option, Some, None, Result, Ok, Err, OnOk, IfOk, IfSome, IfNone}
 use Rattle.std.specs.Prelude.{OnErr}
 use Rattle.pnm_image.specs.declared.message.Message.{Message}
 use Rattle.pnm_image.specs.declared.packet.Packet.{Packet}
@@ -40,19 +40,6 @@ pub lane_stops : (r : Result (Option Packet) ToolFault) (old : StateValue AnyToo
 lane_stops (Ok (Some p)) old P stops = λ t l g at ends. stops t l g at.state ends
 lane_stops (Ok None) old P stops = stops
 lane_stops (Err fault) old P stops = stops
-
--- all was given, as far as a look shows
-pub lane_none_due : (r : Bool) (old new : StateValue AnyTool)
-    → (r ≡ true → (is_all_given new.pending ≡ true) × ((t : Tool) (l g : List Message) → IsToolAt old t l g → IsToolAt new t l g × AnswersInFull t l g))
-    → (r ≡ true → (is_all_given new.pending ≡ true)
-    × ((t : Tool) (l g : List Message) → IsRowWiseAt (lane_of old) t l g → IsRowWiseAt (lane_of new) t l g × AnswersInFull t l g))
-lane_none_due r old new full = λ e. (
-  (full e).0,
-  λ t l g at. let both = (full e).1 t l g at.state in (
-    record { state = both.0; row_wise = at.row_wise },
-    both.1,
-  ),
-)
 
 -- all was given
 pub lane_is_full : (r : Result (Option Packet) ToolFault) (old new : StateValue AnyTool)

@@ -13,14 +13,6 @@ pub data Pending : Type 0 where
   RowsAndEnd : Pending
   Nothing : Pending
 
--- no message waits, and no row could
-abbrev pub NothingPending : Pending → Type 0
-NothingPending AllGiven = Unit {0}
-NothingPending (Waiting message) = ⊥
-NothingPending Rows = ⊥
-NothingPending RowsAndEnd = ⊥
-NothingPending Nothing = Unit {0}
-
 -- what is due, where this message waits
 abbrev pub pending_of : Phase → Option Message → Pending
 pending_of Idle waiting = AllGiven

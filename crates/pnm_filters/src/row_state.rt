@@ -46,10 +46,6 @@ impl Filter for RowState {
         self.state.next()
     }
 
-    fn is_done(&mut self) -> bool {
-        self.state.is_done()
-    }
-
     fn feed_rows(&mut self, rows: Rows) -> Result<Result<(), ToolFault>, Rows> {
         self.state.feed_rows(rows)
     }

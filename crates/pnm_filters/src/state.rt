@@ -1,11 +1,10 @@
 //! A tool at work on a stream: the place, what is still to be given, and the fault that stays.
 
-ghost use Rattle.std.specs.Prelude.{ℕ, ◌≡◌, ◌≤◌, true, false, Option, Some, None, List, [], length, OnOk, IfErr};
-ghost use Rattle.pnm_image.specs.declared.message.Message.{Message as MessageValue};
+ghost use Rattle.std.specs.Prelude.{ℕ, ◌≡◌, ◌≤◌, Option, Some, None, List, [], length, OnOk, IfErr};
 ghost use Rattle.pnm_image.specs.Places.{LeadsTo};
 ghost use Rattle.pnm_image.specs.Rows.{row_messages};
 ghost use Rattle.pnm_tools.specs.declared.fault.ToolFault.TheVariants.{Memory};
-ghost use Rattle.pnm_filters.specs.Pendings.{AllGiven, NothingPending, pending_of, after_one, is_idle};
+ghost use Rattle.pnm_filters.specs.Pendings.{AllGiven, pending_of, after_one, is_idle};
 ghost use Rattle.pnm_filters.specs.States.{waiting_in, is_all_given, IsReadyFor};
 ghost use Rattle.pnm_tools.specs.Tools.{IsLawfulTool};
 ghost use Rattle.pnm_filters.specs.Steps.{Answered, AreTakenRows, Gave};
@@ -109,10 +108,6 @@ impl<T: ImageTool> Filter for State<T> {
                 Err(fault)
             }
         }
-    }
-
-    fn is_done(&mut self) -> bool {
-        settle(&mut self.phase)
     }
 
     fn feed_rows(&mut self, rows: Rows) -> Result<Result<(), ToolFault>, Rows> {
@@ -299,22 +294,6 @@ fn give_one(phase: &mut Phase, waiting: &mut Option<Message>) -> Option<Message>
         Phase::Idle
     };
     message
-}
-
-/// Whether nothing is due, as far as a look shows; the caller knows then.
-fn settle(phase: &mut Phase) -> bool
-    ensures none_due { result ≡ true → (waiting : Option MessageValue)
-        → NothingPending (pending_of phase.old waiting) × (pending_of phase.new waiting ≡ AllGiven) }
-    ensures unknown { result ≡ false → phase.new ≡ phase.old }
-{
-    match *phase {
-        Phase::Idle => true,
-        Phase::Done => {
-            *phase = Phase::Idle;
-            true
-        }
-        Phase::One | Phase::Rest | Phase::RestAndEnd => false,
-    }
 }
 
 /// Whether nothing is still to be given, and the caller knows.

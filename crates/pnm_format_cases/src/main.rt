@@ -18,23 +18,18 @@
 //! - `samples WIDTH FIRST-LAST`, `parts WIDTH`: a sweep over made rows of bits, bytes or words, and over parts of one
 //!   of 20 samples
 //!
-//! Of what a source answers (`read`):
+//! Of what a source answers (`read`), where rows come one by one unless it says otherwise:
 //!
 //! - `text TEXT`: the answers, which are the same however few bytes a read gives, and no read follows one that gave
 //!   none
 //! - `long TEXT`: the answers to a long text, whole and 4,097 bytes a read
 //! - `cuts TEXT`: the answers to each prefix of the text, by the length from which on they stay the same
 //! - `fails TEXT`: the answers if one of the reads of a byte each fails, by the number of reads before it
-//! - `reads MOST FAILING TEXT`: the answers, and what each read asked for and got: at most MOST bytes, and nothing at
-//!   read FAILING
-//! - `together MOST FAILING TEXT`: the answers where the source is asked for rows together before each message, between
-//!   braces those that come so: a read gives at most MOST bytes, and read FAILING fails, none for 0
-//! - `rows_ahead MOST FAILING TEXT`: the same where it is asked to read ahead before that, and what each read asked for
-//!   and got
-//! - `whole MOST FAILING TEXT`: the same where it is asked for the rest of an image before each message, whose end
-//!   stands behind the braces
-//! - `reads_by SIZE MOST FAILING TEXT`, `together_by ..`, `rows_ahead_by ..`, `whole_by ..`: the same through a buffer
-//!   of SIZE bytes
+//! - `reads MOST FAILING TEXT`: the answers, and what each read asked for and got: a read gives at most MOST bytes, and
+//!   read FAILING fails, none for 0
+//! - `together MOST FAILING TEXT`: the same where as many rows come together as may: those that come so stand between
+//!   braces, and so does an image that comes at once
+//! - `reads_by SIZE MOST FAILING TEXT`, `together_by ..`: the same through a buffer of SIZE bytes
 //! - `ahead COUNT TEXT`: how many reads of a byte each were made before the first answer, and after each
 //! - `held COUNT TEXT`: for each number of bytes a read, for how many of COUNT answers the source rightly tells
 //!   whether it will make a read

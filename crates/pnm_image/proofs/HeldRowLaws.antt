@@ -39,18 +39,7 @@ one_length each other rows some long also =
     let first : 0 < length rows = omega (arith, some) in
     sym (also 0 [] first) ∙ long 0 [] first
 
--- a row of those that are cut
-pub row_of_cut : (count each at : ℕ) (samples : List ℕ) → at < count → take each (drop (at * each) samples) ≡ get_or (cut_rows count each samples) at []
-row_of_cut zero each at samples lt = absurd (omega (arith, lt))
-row_of_cut (suc count) each zero samples lt =
-    let none : 0 * each ≡ 0 = omega (arith, zero-mul each) in
-    ap (λ (n : ℕ). take each (drop n samples)) none
-row_of_cut (suc count) each (suc at) samples lt =
-    let place : suc at * each ≡ each + at * each = omega (arith, suc-mul at each) in
-    ap (λ (n : ℕ). take each (drop n samples)) place ∙ ap (take each) (sym (drop-drop (at * each) each samples))
-    ∙ row_of_cut count each at (drop each samples) (omega (arith, lt))
-
--- where it lies
+-- where a row lies
 pub row_places : (count each at long : ℕ) → long ≡ count * each → at < count → (at * each + each ≤ long) × ((at + 1) * each ≡ at * each + each)
 row_places count each at long is lt = (omega (arith, row_ends_within count each at lt, is), omega arith)
 

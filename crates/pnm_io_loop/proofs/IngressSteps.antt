@@ -1,19 +1,16 @@
--- What an ingress has sent, once it has asked its source for one message more.
-use Rattle.std.proofs.Common.{◌≡◌, ◌⊎◌, ℕ, Bool, List, [], ◌∷◌, ◌++◌, Option, Some, None, Ok, Err, refl, sym, ap, subst, ◌∙◌, append_assoc, append-nil}
+-- What an ingress has sent, once it has asked its source for one packet more.
+use Rattle.std.proofs.Common.{◌≡◌, ◌⊎◌, ℕ, List, [], ◌∷◌, ◌++◌, Option, Some, None, Ok, Err, refl, sym, ap, subst, ◌∙◌, append_assoc, append-nil}
 use Rattle.pnm_stages.specs.Rings.{sent}
 use Rattle.pnm_stages.specs.declared.sender.Sender.{Sender}
 use Rattle.pnm_image.specs.Devices.{Failed}
 use Rattle.pnm_image.specs.declared.message.Message.{Message}
 use Rattle.pnm_image.specs.declared.message.Message.TheVariants.{Stop}
-use Rattle.std.specs.Io.KnownBytes.{Consumes}
-use Rattle.pnm_image.specs.Rows.{row_messages}
 use Rattle.pnm_image.specs.declared.packet.Packet.{Packet}
 use Rattle.pnm_image.specs.Packets.{messages_in}
-use Rattle.pnm_serial.specs.Feeding.{HasMore}
 use Rattle.pnm_read.specs.declared.fault.InputFault.{InputFault}
-use Rattle.pnm_read.specs.declared.fault.InputFault.TheVariants.{Memory, ReadFailed}
+use Rattle.pnm_read.specs.declared.fault.InputFault.TheVariants.{ReadFailed}
 use Rattle.pnm_read.specs.declared.source.Source.{Source}
-use Rattle.pnm_read.specs.Sources.{reader_of, stopped_by, HasGiven, MayGive, SeesEnd, Tells, TellsNothing, TellsRows}
+use Rattle.pnm_read.specs.Sources.{reader_of, stopped_by, MayGive, SeesEnd, Tells}
 use Rattle.pnm_read.proofs.Consumed.{consumes_then}
 use Rattle.pnm_read.proofs.ReadCalls.{no_fault}
 use Rattle.pnm_io_loop.specs.declared.ingress.Ingress.{Ingress}
@@ -22,15 +19,15 @@ use Rattle.pnm_serial.proofs.FeedingSteps.{may_give, IsUnreadAfter, unread_after
 
 -- ---- the source
 
--- one message more was given
-asked_more : {R : Type 0} (left : R → Option (List ℕ)) (failures : R → ℕ) (first source next : Source R) (given : List Message) (m : Message)
+-- a packet more was given
+asked_more : {R : Type 0} (left : R → Option (List ℕ)) (failures : R → ℕ) (first source next : Source R) (given : List Message) (packet : Packet)
     → HasAsked left failures first source given
-    → Tells left source (Ok (Some m)) next
+    → Tells left source (Ok (Some packet)) next
     → (SeesEnd left source → SeesEnd left next)
     → IsUnreadAfter left source next
     → failures (reader_of next) ≡ failures (reader_of source)
-    → HasAsked left failures first next (given ++ m ∷ [])
-asked_more left failures first source next given m asked t end unread count = record {
+    → HasAsked left failures first next (given ++ messages_in packet)
+asked_more left failures first source next given packet asked t end unread count = record {
   read = asked.read ++ t.more;
   consumed = consumes_then (left (reader_of first)) (left (reader_of source)) (left (reader_of next)) asked.read t.more asked.consumed t.consumed;
   told = t.told asked.read given asked.told;
@@ -38,45 +35,6 @@ asked_more left failures first source next given m asked t end unread count = re
   unread = unread_after left source next asked.end unread;
   count = count ∙ asked.count;
 }
-
--- bytes were read, and nothing was given
-asked_ahead : {R : Type 0} (left : R → Option (List ℕ)) (failures : R → ℕ) (first source next : Source R) (given : List Message)
-    → HasAsked left failures first source given
-    → TellsNothing left source next
-    → (SeesEnd left source → SeesEnd left next)
-    → IsUnreadAfter left source next
-    → failures (reader_of next) ≡ failures (reader_of source)
-    → HasAsked left failures first next given
-asked_ahead left failures first source next given asked t end unread count = record {
-  read = asked.read ++ t.more;
-  consumed = consumes_then (left (reader_of first)) (left (reader_of source)) (left (reader_of next)) asked.read t.more asked.consumed t.consumed;
-  told = t.told asked.read given asked.told;
-  end = end asked.end;
-  unread = unread_after left source next asked.end unread;
-  count = count ∙ asked.count;
-}
-
--- other messages were given in place of the last ones, for which nothing was read
-asked_beside : {R : Type 0} (left : R → Option (List ℕ)) (failures : R → ℕ) (first source next : Source R) (given all : List Message)
-    → HasAsked left failures first source given → ((read : List ℕ) → HasGiven source read given → HasGiven next read all)
-    → reader_of next ≡ reader_of source → (SeesEnd left source → SeesEnd left next) → ((rest : List ℕ) → MayGive source rest → MayGive next rest)
-    → HasAsked left failures first next all
-asked_beside left failures first source next given all asked tells same end comes = record {
-  read = asked.read;
-  consumed = subst (λ r. Consumes (left (reader_of first)) (left r) asked.read) (sym same) asked.consumed;
-  told = tells asked.read asked.told;
-  end = end asked.end;
-  unread = λ has rest. comes rest (asked.unread (subst (λ r. HasMore (left r)) same has) rest);
-  count = ap failures same ∙ asked.count;
-}
-
--- rows were given, for which nothing was read
-asked_rows : {R : Type 0} (left : R → Option (List ℕ)) (failures : R → ℕ) (first source next : Source R) (given : List Message) (rows : List (List ℕ))
-    → HasAsked left failures first source given → TellsRows source next rows → reader_of next ≡ reader_of source
-    → (SeesEnd left source → SeesEnd left next) → ((rest : List ℕ) → MayGive source rest → MayGive next rest)
-    → HasAsked left failures first next (given ++ row_messages rows)
-asked_rows left failures first source next given rows asked tells same end comes =
-    asked_beside left failures first source next given (given ++ row_messages rows) asked (λ read told. tells read given told) same end comes
 
 -- the end of the stream
 asked_all : {R : Type 0} (left : R → Option (List ℕ)) (failures : R → ℕ) (first source next : Source R) (given : List Message)
@@ -135,68 +93,27 @@ asked_of : {R : Type 0} (left : R → Option (List ℕ)) (failures : R → ℕ) 
     → f.input ≡ None → (sending : IsIngress left failures first before f) → HasAsked left failures first f.source sending.given
 asked_of left failures first before f input sending = subst (HasAskedBy left failures first f.source sending.given) input sending.asked
 
--- nothing was given, and nothing sent
-pub feeds_nothing : {R : Type 0} (left : R → Option (List ℕ)) (failures : R → ℕ) (first : Source R) (before : List Message) (f : Ingress R) (next : Source R)
+-- a packet was given, and sent
+pub feeds_packet : {R : Type 0} (left : R → Option (List ℕ)) (failures : R → ℕ) (first : Source R) (before : List Message) (f : Ingress R)
+    (next : Source R) (packet : Packet) (output : Sender) (images : ℕ)
     → f.input ≡ None
-    → TellsNothing left f.source next
+    → sent output ≡ sent f.output ++ messages_in packet
+    → Tells left f.source (Ok (Some packet)) next
     → (SeesEnd left f.source → SeesEnd left next)
     → IsUnreadAfter left f.source next
     → failures (reader_of next) ≡ failures (reader_of f.source)
     → IsIngress left failures first before f
-    → IsIngress left failures first before (record f { source = next })
-feeds_nothing left failures first before f next input t end unread count sending = record {
-  given = sending.given;
-  asked = subst (HasAskedBy left failures first next sending.given) (sym input)
-      (asked_ahead left failures first f.source next sending.given (asked_of left failures first before f input sending) t end unread count);
-  passed = sending.passed;
-}
-
--- a message was given, or a whole image that it begins, and sent in one packet
-pub feeds_packet : {R : Type 0} (left : R → Option (List ℕ)) (failures : R → ℕ) (first : Source R) (before : List Message) (f : Ingress R)
-    (now next : Source R) (m : Message) (packet : Packet) (output : Sender) (images : ℕ) (may_be_together : Bool)
-    → f.input ≡ None
-    → sent output ≡ sent f.output ++ messages_in packet
-    → Tells left f.source (Ok (Some m)) now
-    → (SeesEnd left f.source → SeesEnd left now)
-    → IsUnreadAfter left f.source now
-    → failures (reader_of now) ≡ failures (reader_of f.source)
-    → ((read : List ℕ) (given : List Message) → HasGiven now read (given ++ m ∷ []) → HasGiven next read (given ++ messages_in packet))
-    → reader_of next ≡ reader_of now → (SeesEnd left now → SeesEnd left next) → ((rest : List ℕ) → MayGive now rest → MayGive next rest)
-    → IsIngress left failures first before f
-    → IsIngress left failures first before (record f { source = next; output = output; images = images; may_be_together = may_be_together })
-feeds_packet left failures first before f now next m packet output images may_be_together input added t end unread count told same stays comes sending =
+    → IsIngress left failures first before (record f { source = next; output = output; images = images })
+feeds_packet left failures first before f next packet output images input added t end unread count sending =
     let all : List Message = sending.given ++ messages_in packet in
     let asked : HasAsked left failures first next all =
-    asked_beside left failures first now next (sending.given ++ m ∷ []) all
-    (asked_more left failures first f.source now sending.given m (asked_of left failures first before f input sending) t end unread count)
-    (λ read has. told read sending.given has) same stays comes in
+    asked_more left failures first f.source next sending.given packet (asked_of left failures first before f input sending) t end unread count in
     record {
       given = all;
       asked = subst (HasAskedBy left failures first next all) (sym input) asked;
       passed = added ∙ ap (λ s. s ++ messages_in packet) (sent_so_far left failures first before f input sending)
           ∙ append_assoc before sending.given (messages_in packet)
           ∙ ap (λ g. before ++ g) (sym (append-nil all)) ∙ ap (λ i. before ++ (all ++ closing_messages i)) (sym input);
-    }
-
--- rows were given, and sent together
-pub feeds_rows : {R : Type 0} (left : R → Option (List ℕ)) (failures : R → ℕ) (first : Source R) (before : List Message) (f : Ingress R) (next : Source R)
-    (rows : List (List ℕ)) (output : Sender)
-    → f.input ≡ None
-    → sent output ≡ sent f.output ++ row_messages rows
-    → TellsRows f.source next rows → reader_of next ≡ reader_of f.source
-    → (SeesEnd left f.source → SeesEnd left next) → ((rest : List ℕ) → MayGive f.source rest → MayGive next rest)
-    → IsIngress left failures first before f
-    → IsIngress left failures first before (record f { source = next; output = output })
-feeds_rows left failures first before f next rows output input added tells same end comes sending =
-    let asked : HasAsked left failures first next (sending.given ++ row_messages rows) =
-    asked_rows left failures first f.source next sending.given rows (asked_of left failures first before f input sending) tells same end comes in
-    record {
-      given = sending.given ++ row_messages rows;
-      asked = subst (HasAskedBy left failures first next (sending.given ++ row_messages rows)) (sym input) asked;
-      passed = added ∙ ap (λ s. s ++ row_messages rows) (sent_so_far left failures first before f input sending)
-          ∙ append_assoc before sending.given (row_messages rows)
-          ∙ ap (λ g. before ++ g) (sym (append-nil (sending.given ++ row_messages rows)))
-          ∙ ap (λ i. before ++ ((sending.given ++ row_messages rows) ++ closing_messages i)) (sym input);
     }
 
 -- the stream has ended
@@ -231,19 +148,3 @@ feeds_until left failures first before f next fault output input added t unread 
       count;
   passed = added ∙ ap (λ s. s ++ Stop ∷ []) (sent_so_far left failures first before f input sending) ∙ append_assoc before sending.given (Stop ∷ []);
 }
-
--- there was no memory for rows, and Stop was sent
-pub feeds_until_rows : {R : Type 0} (left : R → Option (List ℕ)) (failures : R → ℕ) (first : Source R) (before : List Message) (f : Ingress R) (next : Source R)
-    (fault : InputFault) (output : Sender)
-    → f.input ≡ None
-    → sent output ≡ sent f.output ++ Stop ∷ []
-    → fault ≡ Memory → Tells left f.source (Err fault) next → reader_of next ≡ reader_of f.source
-    → ((rest : List ℕ) → MayGive f.source rest → MayGive next rest)
-    → IsIngress left failures first before f
-    → IsIngress left failures first before (record f { source = next; output = output; input = Some (Err fault) })
-feeds_until_rows left failures first before f next fault output input added memory t same comes sending =
-    let asked = asked_of left failures first before f input sending in
-    let no : fault ≡ ReadFailed → ⊥ = λ failed. let e : Memory ≡ ReadFailed = sym memory ∙ failed in absurd cc in
-    feeds_until left failures first before f next fault output input added t
-    (λ sees byte more is rest. comes rest (asked.unread (subst (λ r. HasMore (left r)) same (subst HasMore (sym is) tt)) rest))
-    (λ failed. absurd (no failed)) (λ failed. absurd (no failed)) (λ not. ap failures same) sending

@@ -1,5 +1,6 @@
 -- What the source of a run has given, and what was sent of it into the ring before the first tool.
-use Rattle.std.specs.Prelude.{◌≡◌, ℕ, Bool, true, false, List, [], ◌∷◌, ◌++◌, Option, Some, None, Result, Ok, Err}
+use Rattle.std.specs.Prelude.{◌≡◌, ◌<◌, ◌⊎◌, ℕ, Bool, true, false, List, [], ◌∷◌, ◌++◌, length, Option, Some, None}
+use Rattle.std.specs.Prelude.{Result, Ok, Err}
 use Rattle.std.specs.Io.KnownBytes.{Consumes}
 use Rattle.pnm_stages.specs.Rings.{sent}
 use Rattle.pnm_image.specs.Devices.{Failed}
@@ -62,3 +63,7 @@ sending_is_over false (Some result) = true
 
 abbrev pub ingress_is_over : {R : Type 0} → Ingress R → Bool
 ingress_is_over f = sending_is_over f.is_gone f.input
+
+-- a message more was sent, or how the source has ended is noted
+abbrev pub HasGoneOn : {R : Type 0} → Ingress R → Ingress R → Type 0
+HasGoneOn old new = (length (sent old.output) < length (sent new.output)) ⊎ (new.input ≡ None → ⊥)

@@ -1,27 +1,25 @@
 //! What comes before the tools of a run: the source, and the ring that its messages go into.
 
-ghost use Rattle.std.specs.Prelude.{◌≡◌, ◌<◌, ℕ, List, [], ◌∷◌, ◌++◌, IsTrue, IsFalse, true, false, Some, None};
-ghost use Rattle.pnm_image.specs.Packets.{messages_in};
+ghost use Rattle.std.specs.Prelude.{◌≡◌, ◌<◌, ◌⊎◌, List, length, IsTrue, true, false, Some, None};
 ghost use Rattle.pnm_stages.specs.Rings.{sent, known_free, SameSender};
 ghost use Rattle.pnm_image.specs.declared.message.Message.{Message as MessageValue};
-ghost use Rattle.pnm_read.specs.Sources.{reader_of, has_ended, stopped_by, HasGiven, MayGive, SeesEnd};
+ghost use Rattle.pnm_read.specs.Sources.{reader_of, has_ended, stopped_by};
 ghost use Rattle.pnm_read.specs.Sources.{IsFreshSource as IsUnread};
 ghost use Rattle.pnm_read.specs.declared.fault.InputFault.{InputFault as Fault};
 
 use crate::image_count::count_image;
-use pnm_image::{BytesIn, Message, Packet, RepeatedRows};
+use pnm_image::{BytesIn, Message};
 use pnm_read::{InputFault, Source, SpareRows};
-use pnm_serial::go_together;
 use pnm_stages::Sender;
 use std::sync::Wait;
 
-/// So many messages are sent at once at most, beside the first.
-const MOST_MESSAGES: u32 = 64;
+/// So many packets are sent at once at most, beside the first.
+const MOST_PACKETS: u32 = 64;
 
 /// The source of a run, and the ring that its messages go into.
 #[derive(Drop)]
 pub struct Ingress<R> {
-    /// The source, which is asked for one message after another.
+    /// The source, which is asked for one packet after another.
     pub source: Source<R>,
     /// The end of the ring that the messages are sent on.
     pub output: Sender,
@@ -31,18 +29,16 @@ pub struct Ingress<R> {
     is_gone: bool,
     /// How many images have had their end sent, up to `u64::MAX`.
     images: u64,
-    /// Whether rows that the source gives together are sent together.
-    rows_together: bool,
-    /// Whether the source may give the next rows together.
-    may_be_together: bool,
+    /// How many rows are sent together at most.
+    most_rows: u32,
 }
 
 impl<R: BytesIn + Drop> Ingress<R> {
-    ghost use Rattle.pnm_io_loop.specs.Ingresses.{IsIngress, ingress_is_over};
+    ghost use Rattle.pnm_io_loop.specs.Ingresses.{IsIngress, HasGoneOn, ingress_is_over};
 
-    /// An ingress that has sent nothing yet. Of short messages it sends a few before it wakes the
-    /// first tool (`wake_receiver`). If rows may go together, it sends those so that the source gives so.
-    pub fn new(source: Source<R>, output: Sender, rows_together: bool) -> Ingress<R>
+    /// An ingress that has sent nothing yet, and sends at most `most_rows` rows together. Of short packets it sends a
+    /// few before it wakes the first tool (`wake_receiver`).
+    pub fn new(source: Source<R>, output: Sender, most_rows: u32) -> Ingress<R>
         requires { IsUnread (reader_of source) source }
         ensures sending { IsIngress R.left R.failures source (sent output) result }
         ensures parts { (result.source ≡ source) × SameSender output result.output
@@ -56,8 +52,7 @@ impl<R: BytesIn + Drop> Ingress<R> {
             input: None,
             is_gone: false,
             images: 0,
-            rows_together,
-            may_be_together: false,
+            most_rows,
         }
     }
 
@@ -74,7 +69,7 @@ impl<R: BytesIn + Drop> Ingress<R> {
         self.images
     }
 
-    /// Whether the source may have to wait for its reader if it is asked for the next message.
+    /// Whether the source may have to wait for its reader if it is asked for the next packet.
     pub fn would_read(&self) -> bool
         // After the end and after a fault nothing is read.
         ensures ended { has_ended self.now.source ≡ true → result ≡ false }
@@ -106,9 +101,9 @@ impl<R: BytesIn + Drop> Ingress<R> {
         self.output.wait(rt);
     }
 
-    /// Asks the source for its next message, or for rows, and sends that, if there is room for it in the ring; and
-    /// so on, while there is and the source holds the next one, for as many as are sent at once. Short rows are made of
-    /// spare ones. Returns false if there is no room for the first, and the ring's other end wasn't seen dropped.
+    /// Asks the source for its next packet and sends it, if there is room for it in the ring; and so on, while there is
+    /// and the source holds the next one, for as many as are sent at once. Short rows are made of spare ones. Returns
+    /// false if there is no room for the first, and the ring's other end wasn't seen dropped.
     pub fn try_send(&mut self, spares: &mut SpareRows) -> bool
         requires going { ingress_is_over self.old ≡ false }
         ensures sending { (first : Source R) (before : List MessageValue)
@@ -116,6 +111,9 @@ impl<R: BytesIn + Drop> Ingress<R> {
             → IsIngress R.left R.failures first before self.new }
         ensures ring { SameSender self.old.output self.new.output }
         ensures same_device { R.same (reader_of self.old.source) (reader_of self.new.source) }
+        // A message more was sent, or there is nothing more to send.
+        ensures goes_on { IsTrue result
+            → (length (sent self.old.output) < length (sent self.new.output)) ⊎ (ingress_is_over self.new ≡ true) }
     {
         if !self.output.has_room() {
             self.is_gone = self.output.is_abandoned();
@@ -133,8 +131,9 @@ impl<R: BytesIn + Drop> Ingress<R> {
             → IsIngress R.left R.failures first before self.new }
         ensures ring { SameSender self.old.output self.new.output }
         ensures same_device { R.same (reader_of self.old.source) (reader_of self.new.source) }
+        ensures goes_on { (start : Ingress R) → HasGoneOn start self.old → HasGoneOn start self.new }
     {
-        for _ in 0..MOST_MESSAGES {
+        for _ in 0..MOST_PACKETS {
             if self.input.is_some() || self.would_read() {
                 return;
             }
@@ -145,8 +144,8 @@ impl<R: BytesIn + Drop> Ingress<R> {
         }
     }
 
-    /// Asks the source for rows that it holds whole, or that one read brings, if they are to go together, or else for
-    /// its next message, and sends that, for which there is room. After the source's fault Stop is sent.
+    /// Asks the source for its next packet and sends it; there has to be room for it. After the source's fault Stop is
+    /// sent.
     fn send_next(&mut self, spares: &mut SpareRows)
         requires going { self.old.input ≡ None }
         requires room { 0 < known_free self.old.output }
@@ -155,80 +154,11 @@ impl<R: BytesIn + Drop> Ingress<R> {
             → IsIngress R.left R.failures first before self.new }
         ensures ring { SameSender self.old.output self.new.output }
         ensures same_device { R.same (reader_of self.old.source) (reader_of self.new.source) }
+        ensures goes_on { HasGoneOn self.old self.new }
     {
-        if self.rows_together && self.may_be_together {
-            if !self.read_ahead() || self.send_rows(spares) {
-                return;
-            }
-        }
-        self.send_message(spares);
-    }
-
-    /// Has the source read once, if the next row isn't held whole and may go together with others. Returns false if
-    /// the reader failed; Stop is sent then.
-    fn read_ahead(&mut self) -> bool
-        requires going { self.old.input ≡ None }
-        requires room { 0 < known_free self.old.output }
-        ensures sending { (first : Source R) (before : List MessageValue)
-            → IsIngress R.left R.failures first before self.old
-            → IsIngress R.left R.failures first before self.new }
-        ensures ring { SameSender self.old.output self.new.output }
-        ensures same_device { R.same (reader_of self.old.source) (reader_of self.new.source) }
-        ensures going { IsTrue result → self.new.input ≡ None }
-        ensures room { IsTrue result → self.new.output ≡ self.old.output }
-    {
-        match self.source.read_ahead() {
-            Ok(()) => true,
-            Err(failure) => {
-                self.output.send_packet_reserved(Packet::Stop);
-                self.input = Some(Err(failure));
-                false
-            }
-        }
-    }
-
-    /// Asks the source for rows that it holds whole, and sends them together. Returns false, and changes nothing, if
-    /// the source gives no rows. After the source's fault Stop is sent.
-    fn send_rows(&mut self, spares: &mut SpareRows) -> bool
-        requires going { self.old.input ≡ None }
-        requires room { 0 < known_free self.old.output }
-        ensures sending { IsTrue result → (first : Source R) (before : List MessageValue)
-            → IsIngress R.left R.failures first before self.old
-            → IsIngress R.left R.failures first before self.new }
-        ensures ring { SameSender self.old.output self.new.output }
-        ensures reader { reader_of self.new.source ≡ reader_of self.old.source }
-        ensures none { IsFalse result → self.new ≡ self.old }
-    {
-        match self.source.next_rows(spares) {
-            Ok(Some(rows)) => self
-                .output
-                .send_packet_reserved(Packet::Rows(RepeatedRows::once(rows))),
-            Ok(None) => return false,
-            Err(refusal) => {
-                self.input = Some(Err(refusal));
-                self.output.send_reserved(Message::Stop)
-            }
-        }
-        true
-    }
-
-    /// Asks the source for its next message and sends it; there has to be room for it. If rows may go together, and an
-    /// image begins that the source holds whole, that is sent at once. After the source's fault Stop is sent.
-    fn send_message(&mut self, spares: &mut SpareRows)
-        requires going { self.old.input ≡ None }
-        requires room { 0 < known_free self.old.output }
-        ensures sending { (first : Source R) (before : List MessageValue)
-            → IsIngress R.left R.failures first before self.old
-            → IsIngress R.left R.failures first before self.new }
-        ensures ring { SameSender self.old.output self.new.output }
-        ensures same_device { R.same (reader_of self.old.source) (reader_of self.new.source) }
-    {
-        match self.source.next(spares) {
-            Ok(Some(message)) => {
-                let goes_on = go_together(self.may_be_together, &message);
-                let packet = packet_of(&mut self.source, message, self.rows_together, spares);
+        match self.source.next(spares, self.most_rows) {
+            Ok(Some(packet)) => {
                 let is_end = packet.ends_image();
-                self.may_be_together = goes_on & !is_end;
                 self.output.send_packet_reserved(packet);
                 count_image(&mut self.images, is_end);
             }
@@ -252,32 +182,5 @@ impl<R: BytesIn + Drop> Ingress<R> {
             ..
         } = self;
         (source.into_reader(), output, input)
-    }
-}
-
-/// What is sent for a message that the source has given: if rows may go together, and the message begins an image that
-/// the source holds whole, the image; else the message alone.
-#[inline(always)]
-fn packet_of<R: BytesIn + Drop>(
-    source: &mut Source<R>,
-    message: Message,
-    rows_together: bool,
-    spares: &mut SpareRows,
-) -> Packet
-    ensures told { (read : List ℕ) (given : List MessageValue) → HasGiven source.old read (given ++ message ∷ [])
-        → HasGiven source.new read (given ++ messages_in result) }
-    ensures reader { reader_of source.new ≡ reader_of source.old }
-    ensures end { SeesEnd R.left source.old → SeesEnd R.left source.new }
-    ensures comes { (rest : List ℕ) → MayGive source.old rest → MayGive source.new rest }
-{
-    if !rows_together {
-        return Packet::from(message);
-    }
-    match message {
-        Message::Begin(head) => match source.rest_of_image(spares) {
-            Some(rows) => Packet::Image(head, rows),
-            None => Packet::Begin(head),
-        },
-        other => Packet::from(other),
     }
 }

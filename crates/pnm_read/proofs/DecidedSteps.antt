@@ -5,11 +5,13 @@ use Rattle.std.specs.Prelude.{IfOk}
 use Rattle.std.specs.Io.KnownBytes.{Consumes}
 use Rattle.std.proofs.lemmas.List.{append_cancel_right}
 use Rattle.pnm_image.specs.declared.message.Message.{Message}
+use Rattle.pnm_image.specs.declared.packet.Packet.{Packet}
+use Rattle.pnm_image.specs.Packets.{messages_in}
 use Rattle.pnm_read.specs.declared.fault.InputFault.{InputFault}
 use Rattle.pnm_read.specs.declared.source.Source.{Source}
 use Rattle.pnm_read.specs.BufferedReaders.{IsOutsideFault}
 use Rattle.pnm_read.specs.Said.{said_of, fault_of}
-use Rattle.pnm_read.specs.Sources.{reader_of, MayGive, MayGiveMore, SeesEnd, HasGiven, Tells, IsFreshSource}
+use Rattle.pnm_read.specs.Sources.{reader_of, MayGive, MayGiveMore, SeesEnd, HasGiven, Tells}
 use Rattle.pnm_read.proofs.Consumed.{consumes_then}
 use Rattle.pnm_read.specs.declared.open_reader.OpenReader.{OpenReader}
 use Rattle.pnm_read.specs.ImageEnds.{IsDecided}
@@ -26,22 +28,12 @@ pub record Reading (text : List ℕ) (s : Source OpenReader) : Type 0 where
   pub has_given : HasGiven s read given
   pub end : SeesEnd left_of s
 
--- nothing was read
-pub reading_begins : (text : List ℕ) (reader : OpenReader) (s : Source OpenReader) → reader.rest.now ≡ text → IsFreshSource reader s → Reading text s
-reading_begins text reader s is fresh = record {
-  read = [];
-  given = [];
-  consumed = ap (λ (t : List ℕ). t ++ 0 ∷ []) (sym is) ∙ ap (λ (r : OpenReader). r.rest.now ++ 0 ∷ []) (sym fresh.reader_is);
-  has_given = fresh.nothing_given;
-  end = fresh.end left_of;
-}
-
--- a message was given
-pub reading_more : (text : List ℕ) (old new : Source OpenReader) (m : Message) → Reading text old → Tells left_of old (Ok (Some m)) new
+-- a packet was given
+pub reading_more : (text : List ℕ) (old new : Source OpenReader) (packet : Packet) → Reading text old → Tells left_of old (Ok (Some packet)) new
     → (SeesEnd left_of old → SeesEnd left_of new) → Reading text new
-reading_more text old new m r tells end = record {
+reading_more text old new packet r tells end = record {
   read = r.read ++ tells.more;
-  given = r.given ++ m ∷ [];
+  given = r.given ++ messages_in packet;
   consumed = consumes_then (Some (text ++ 0 ∷ [])) (left_of (reader_of old)) (left_of (reader_of new)) r.read tells.more r.consumed tells.consumed;
   has_given = tells.told r.read r.given r.has_given;
   end = end r.end;

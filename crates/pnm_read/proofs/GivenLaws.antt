@@ -1,8 +1,7 @@
 -- What is said after messages that were given.
 use Rattle.std.proofs.Common.{◌≡◌, List, [], ◌∷◌, ◌++◌, refl, ap}
 use Rattle.pnm_image.specs.declared.message.Message.{Message}
-use Rattle.pnm_read.specs.Said.{Said}
-use Rattle.pnm_read.specs.Sources.{after_messages}
+use Rattle.pnm_read.specs.Said.{Said, then_said, after_messages}
 
 pub messages_after : (given : List Message) (s : Said) → (after_messages given s).messages ≡ given ++ s.messages
 messages_after [] s = refl
@@ -11,3 +10,8 @@ messages_after (m ∷ given) s = ap (λ (l : List Message). m ∷ l) (messages_a
 pub fault_after : (given : List Message) (s : Said) → (after_messages given s).fault ≡ s.fault
 fault_after [] s = refl
 fault_after (m ∷ given) s = fault_after given s
+
+-- messages after messages
+pub after-append : (given more : List Message) (s : Said) → after_messages (given ++ more) s ≡ after_messages given (after_messages more s)
+after-append [] more s = refl
+after-append (m ∷ given) more s = ap (then_said m) (after-append given more s)

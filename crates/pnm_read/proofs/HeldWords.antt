@@ -1,6 +1,8 @@
 -- Rows of samples of two bytes that are held whole, and are taken together.
-use Rattle.std.proofs.Common.{◌≡◌, ℕ, zero, suc, ◌+◌, ◌*◌, ◌≤◌, List, [], ◌∷◌, ◌++◌, All, length, take, drop, Result, Ok, refl, sym, ap, ap₂, subst, ◌∙◌}
+use Rattle.std.proofs.Common.{◌≡◌, ℕ, zero, suc, ◌+◌, ◌-◌, ◌*◌, ◌<◌, ◌≤◌, min, List, [], ◌∷◌, ◌++◌, All, length, take, drop, Result, Ok}
+use Rattle.std.proofs.Common.{refl, sym, ap, ap₂, subst, ◌∙◌}
 use Rattle.std.proofs.Common.{append_assoc, arith, zero-mul, suc-mul, zero-add, suc-add}
+use Rattle.std.proofs.Math.Nat.{mul_assoc}
 use Rattle.std.specs.List.{concat}
 use Rattle.std.proofs.lemmas.List.{take_all, take_at, drop_at, take-append-drop, length-take-le, length-drop, nil_from_length}
 use Rattle.std.proofs.lemmas.List.Elements.{All-take, All-drop}
@@ -77,6 +79,15 @@ wide_rows_in_turn s (suc count) bytes rest is_width size within =
     (wide_rows_in_turn s count later rest is_width size_later within_others)
     ∙ ap₂ (λ (row : List ℕ) (l : List ℕ). items_of (row ∷ cut_rows count each l) rest) (sym (take_at row others each long)) (sym (drop_at row others each long))
     ∙ ap (λ (l : List ℕ). items_of (cut_rows (suc count) each l) rest) (sym both)
+
+-- so many rows lie in the bytes, where the size of one doesn't go past what can be counted
+pub wide_lie : (count units size most : ℕ) (bytes : List ℕ) → size ≡ min (units * 2) (most - 1) → length bytes < most - 1 → count * size ≤ length bytes
+    → count * units * 2 ≤ length bytes
+wide_lie zero units size most bytes is few lie = omega (arith, zero-mul units)
+wide_lie (suc count) units size most bytes is few lie =
+    let two : size ≡ units * 2 = omega (arith, suc-mul count size) in
+    let all : suc count * units * 2 ≡ suc count * size = mul_assoc (suc count) units 2 ∙ ap (λ (n : ℕ). suc count * n) (sym two) in
+    omega (arith, all)
 
 -- the bytes of rows that are held
 abbrev pub wide_held : Raster → ℕ → List ℕ → List ℕ

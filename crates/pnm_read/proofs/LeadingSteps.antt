@@ -1,10 +1,11 @@
 -- How samples that the bytes which are held tell are read from an input.
 use Rattle.std.proofs.Common.{◌≡◌, ℕ, ◌+◌, ◌-◌, ◌≤◌, List, ◌++◌, length, drop, Option, Ok, Err, inr, refl, sym, ap, ap₂, subst, ◌∙◌, length-append, arith}
+use Rattle.std.specs.Global.{Vec}
 use Rattle.pnm_image.specs.declared.shape.Shape.{Shape}
 use Rattle.pnm_read.specs.declared.fault.InputFault.TheVariants.{ReadFailed, Memory}
 use Rattle.pnm_read.specs.declared.buffered_reader.BufferedReader.{BufferedReader}
 use Rattle.pnm_read.specs.Said.{in_turn, plain_row}
-use Rattle.pnm_read.specs.BufferedReaders.{ReadCall, Finds, held_of}
+use Rattle.pnm_read.specs.BufferedReaders.{ReadCall, FindsWords, held_of}
 use Rattle.pnm_read.specs.Leading.{TakesSamples}
 use Rattle.pnm_read.proofs.UnitLaws.{and_items}
 use Rattle.pnm_read.proofs.PartLaws.{part_is_read}
@@ -15,8 +16,8 @@ use Rattle.pnm_read.proofs.PlainSteps.{sample_of, ReadingSamples}
 pub reading_no_memory : {R : Type 0} {left : R → Option (List ℕ)} {failures : R → ℕ} {same : R → R → Type 0} {s : Shape} {all more : ℕ} {samples : List ℕ}
     {old now : BufferedReader R}
     → ReadingSamples left failures same s all more samples old now
-    → ReadCall {A = List ℕ} left failures same old now (Err Memory) (Finds (plain_row s) (Err Memory))
-reading_no_memory r = call_ok_so {A = Unit {0}} {B = List ℕ} tt (Err Memory) (λ e. absurd cc) (λ b a o. inr (inr refl)) r.call
+    → ReadCall {A = Vec ℕ} left failures same old now (Err Memory) (FindsWords (plain_row s) (Err Memory))
+reading_no_memory r = call_ok_so {A = Unit {0}} {B = Vec ℕ} tt (Err Memory) (λ e. absurd cc) (λ b a o. inr (inr refl)) r.call
 
 -- samples more were taken of the bytes that are held
 pub samples_taken : {R : Type 0} {left : R → Option (List ℕ)} {failures : R → ℕ} {same : R → R → Type 0} {s : Shape} {all more : ℕ} {samples : List ℕ}

@@ -24,10 +24,8 @@ pub mod RawPartLaws
 pub mod DecimalSteps
 pub mod HeaderSteps
 pub mod MagicSteps
-pub mod HeldRows
 pub mod RowsTogether
 pub mod HeldWords
-pub mod RowsGiven
 pub mod HeldShapes
 pub mod HeadSteps
 pub mod LineSteps
@@ -38,6 +36,7 @@ pub mod PamSteps
 pub mod FeedSteps
 pub mod ScanSteps
 pub mod PlainLaws
+pub mod PlainRows
 pub mod UnitLaws
 pub mod RawLaws
 pub mod LaterLaws
@@ -54,7 +53,6 @@ pub mod LeadingLaws
 pub mod PlainSteps
 pub mod LeadingSteps
 pub mod SourceSteps
-pub mod AheadSteps
 pub mod GivenLaws
 pub mod RowsInTurn
 pub mod FirstRows

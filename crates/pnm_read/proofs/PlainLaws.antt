@@ -21,7 +21,7 @@ use Rattle.pnm_read.specs.Rasters.{SpellsPiece, MayFollowSample, SpellsPlainSamp
 use Rattle.pnm_read.specs.Items.{◌>>=◌, plain_sample, after_last_item}
 use Rattle.pnm_read.specs.Said.{Said, then_said, in_turn, plain_row, last_plain_row, row_in_form, row_at, rows_said}
 use Rattle.pnm_read.proofs.EndSaid.{end_said}
-use Rattle.pnm_read.specs.Sources.{after_messages}
+use Rattle.pnm_read.specs.Said.{after_messages}
 use Rattle.pnm_read.proofs.RowsInTurn.{RowsRead, rows_count, read_rows_are_said, all_read, no_more_to_come}
 use Rattle.pnm_read.proofs.PieceLaws.{bind_ok, done, ok_is, if_ok}
 use Rattle.pnm_read.proofs.SampleLaws.{IsInRange, spelled_piece_is_read, read_piece_is_spelled}
@@ -112,7 +112,7 @@ nothing_left : (kind : Kind) (text samples : List ℕ) → samples ≡ [] → Sp
 nothing_left kind text samples e s = subst (SpellsPlainSamples kind text) e s
 
 -- a row of a plain raster is a plain one
-row_at_plain : (format : Format) (s : Shape) (n : ℕ) (text : List ℕ) → is_plain_form format.form ≡ true → row_at format s n text ≡ row_in_form true s n text
+pub row_at_plain : (format : Format) (s : Shape) (n : ℕ) (text : List ℕ) → is_plain_form format.form ≡ true → row_at format s n text ≡ row_in_form true s n text
 row_at_plain format s n text plain = ap (λ (b : Bool). row_in_form b s n text) plain
 
 -- a plain row whose samples are read in turn
@@ -194,7 +194,7 @@ pub record IsRead (kind : Kind) (maxval n : ℕ) (text : List ℕ) (found : List
   pub range : All (IsInRange kind maxval) found.0
   pub spelled : SpellsOn kind text found.0 found.1
 
-read_samples_are_spelled : (kind : Kind) (maxval n : ℕ) (text : List ℕ) (found : List ℕ × List ℕ) → in_turn (plain_sample kind maxval) n text ≡ Ok found
+pub read_samples_are_spelled : (kind : Kind) (maxval n : ℕ) (text : List ℕ) (found : List ℕ × List ℕ) → in_turn (plain_sample kind maxval) n text ≡ Ok found
     → IsRead kind maxval n text found
 unfolding in_turn
 read_samples_are_spelled kind maxval zero text found e =
@@ -216,7 +216,7 @@ read_samples_are_spelled kind maxval (suc n) text found e =
 
 -- ---- rows that are said are spelled
 
-read_row : (s : Shape) (text : List ℕ) (row : List ℕ × List ℕ) → plain_row s text ≡ Ok row → IsRead s.kind s.maxval (row_length s) text row
+pub read_row : (s : Shape) (text : List ℕ) (row : List ℕ × List ℕ) → plain_row s text ≡ Ok row → IsRead s.kind s.maxval (row_length s) text row
 unfolding plain_row
 read_row s text row e = read_samples_are_spelled s.kind s.maxval (row_length s) text row e
 
@@ -231,7 +231,7 @@ read_last_row s text row e =
     (subst (IsRead s.kind s.maxval (row_length s) text) same (read_row s text a.0 a.1), subst (λ (f : List ℕ × List ℕ). begins_apart f.1 ≡ true) same c.0)
 
 -- a plain row that was read, and what follows the last one
-plain_row_is_read : (s : Shape) (n : ℕ) (text : List ℕ) (found : List ℕ × List ℕ) → row_in_form true s n text ≡ Ok found
+pub plain_row_is_read : (s : Shape) (n : ℕ) (text : List ℕ) (found : List ℕ × List ℕ) → row_in_form true s n text ≡ Ok found
     → IsRead s.kind s.maxval (row_length s) text found × (n ≡ 0 → begins_apart found.1 ≡ true)
 plain_row_is_read s zero text found e = let r = read_last_row s text found e in (r.0, λ last. r.1)
 plain_row_is_read s (suc n) text found e = (read_row s text found e, λ last. absurd (omega arith))

@@ -3,6 +3,7 @@ use Rattle.std.proofs.Common.{◌≡◌, ℕ, zero, suc, ◌-◌, ◌<◌, ◌�
 use Rattle.std.proofs.Common.{[], ◌∷◌, ◌++◌, Option, Some, None, Result, Ok, Err, inl, inr, refl}
 use Rattle.std.proofs.Common.{sym, ap, ap₂, subst, ◌∙◌, arith}
 use Rattle.std.specs.Prelude.{slice_get}
+use Rattle.std.specs.Global.{Vec}
 use Rattle.std.proofs.lemmas.Bool.{le-leb, lt-leb}
 use Rattle.pnm_image.specs.declared.limits.TheConstants.{MAX_MAXVAL}
 use Rattle.pnm_image.specs.declared.shape.Shape.{Shape}
@@ -19,7 +20,7 @@ use Rattle.pnm_read.specs.Items.{after_last_item}
 use Rattle.pnm_read.specs.Said.{in_turn, plain_row, last_plain_row, row_in_form}
 use Rattle.pnm_read.specs.Scans.{Scans, ScansAfter}
 use Rattle.pnm_read.specs.Scanners.{IsPixelAfter, IsPixelWhole, IsDecimalAfter, IsDecimalWhole}
-use Rattle.pnm_read.specs.BufferedReaders.{ReadCall, Finds, Fills, Passes, held_of, HoldsEnough}
+use Rattle.pnm_read.specs.BufferedReaders.{ReadCall, Finds, FindsWords, Fills, Passes, held_of, HoldsEnough}
 use Rattle.pnm_read.proofs.UnitLaws.{and_items}
 use Rattle.pnm_read.proofs.PartLaws.{all_are_left, part_is_read, part_fails, none_are_left, one_is_read, one_fails}
 use Rattle.pnm_read.proofs.ReadCalls.{no_fault, call_then, call_ok_so, call_err_so, call_taken, call_seen, nothing_left}
@@ -184,7 +185,7 @@ samples_begin s all more samples input at_once is_all none = record {
 
 no_sample : (s : Shape) (more : ℕ) (samples : List ℕ) (k : InputFault) (b m a : List ℕ) → 0 < more → SamplesFrom s (row_length s) more samples b m
     → Finds (sample_of s) (Err k) m a
-    → Finds (plain_row s) (Err k) b a
+    → FindsWords (plain_row s) (Err k) b a
 unfolding plain_row
 no_sample s more samples k b m a some known (inl e) =
     inl (part_fails (sample_of s) (row_length s) more 1 samples b m k some (one_fails (sample_of s) m k e) known)
@@ -196,9 +197,9 @@ pub samples_fault : {R : Type 0} {left : R → Option (List ℕ)} {failures : R 
     (k : InputFault) → ((a b c : R) → same a b → same b c → same a c) → ReadingSamples left failures same s all more samples old now → all ≡ row_length s
     → 0 < more
     → ReadCall {A = ℕ} left failures same now new (Err k) (Finds (sample_of s) (Err k))
-    → ReadCall {A = List ℕ} left failures same old new (Err k) (Finds (plain_row s) (Err k))
+    → ReadCall {A = Vec ℕ} left failures same old new (Err k) (FindsWords (plain_row s) (Err k))
 samples_fault {s = s} {more = more} {samples = samples} k later r is_all some t =
-    call_err_so {A = ℕ} {B = List ℕ} k
+    call_err_so {A = ℕ} {B = Vec ℕ} k
     (λ b a o. no_sample s more samples k b o.0 a some (subst (λ (n : ℕ). SamplesFrom s n more samples b o.0) is_all o.1) o.2)
     (call_then {A = Unit {0}} {B = ℕ} tt later r.call t)
 
@@ -207,8 +208,8 @@ pub samples_no_memory : {R : Type 0} {left : R → Option (List ℕ)} {failures 
     {old now new : BufferedReader R}
     (sample : ℕ) → ((a b c : R) → same a b → same b c → same a c) → ReadingSamples left failures same s all more samples old now
     → ReadCall {A = ℕ} left failures same now new (Ok sample) (Finds (sample_of s) (Ok sample))
-    → ReadCall {A = List ℕ} left failures same old new (Err Memory) (Finds (plain_row s) (Err Memory))
-samples_no_memory sample later r t = call_ok_so {A = ℕ} {B = List ℕ} sample (Err Memory) (λ e. absurd cc) (λ b a o. inr (inr refl))
+    → ReadCall {A = Vec ℕ} left failures same old new (Err Memory) (FindsWords (plain_row s) (Err Memory))
+samples_no_memory sample later r t = call_ok_so {A = ℕ} {B = Vec ℕ} sample (Err Memory) (λ e. absurd cc) (λ b a o. inr (inr refl))
     (call_then {A = Unit {0}} {B = ℕ} tt later r.call t)
 
 -- a sample more was read
@@ -228,14 +229,14 @@ samples_more {s = s} {all = all} {more = more} {samples = samples} sample fewer 
 -- all samples were read
 pub samples_read : {R : Type 0} {left : R → Option (List ℕ)} {failures : R → ℕ} {same : R → R → Type 0} {s : Shape} {all more : ℕ} {samples : List ℕ}
     {old now : BufferedReader R}
-    (row : List ℕ) → ReadingSamples left failures same s all more samples old now → all ≡ row_length s → more ≡ 0 → row ≡ samples
-    → ReadCall {A = List ℕ} left failures same old now (Ok row) (Finds (plain_row s) (Ok row))
+    (row : Vec ℕ) → ReadingSamples left failures same s all more samples old now → all ≡ row_length s → more ≡ 0 → row.items ≡ samples
+    → ReadCall {A = Vec ℕ} left failures same old now (Ok row) (FindsWords (plain_row s) (Ok row))
 unfolding plain_row
 samples_read {s = s} row r is_all none is_row =
-    call_ok_so {A = Unit {0}} {B = List ℕ} tt (Ok row) (no_fault row ReadFailed)
+    call_ok_so {A = Unit {0}} {B = Vec ℕ} tt (Ok row) (no_fault row ReadFailed)
     (λ b a o.
     ap (λ (n : ℕ). in_turn (sample_of s) n b) (sym is_all) ∙ o ∙ ap₂ (λ (n : ℕ) (l : List ℕ). and_items (sample_of s) n l a) none (sym is_row)
-    ∙ none_are_left (sample_of s) row a)
+    ∙ none_are_left (sample_of s) row.items a)
     r.call
 
 -- ---- a row, and the end after the last one
@@ -260,7 +261,7 @@ unfolding last_plain_row
 last_row s zero text none = refl
 last_row s (suc more) text none = absurd (omega arith)
 
-earlier_row : (s : Shape) (more : ℕ) (text : List ℕ) → 0 < more → row_in_form true s more text ≡ plain_row s text
+pub earlier_row : (s : Shape) (more : ℕ) (text : List ℕ) → 0 < more → row_in_form true s more text ≡ plain_row s text
 earlier_row s zero text some = absurd (omega arith)
 earlier_row s (suc more) text some = refl
 
@@ -272,9 +273,16 @@ no_row s more k b a (inr outside) = inr outside
 
 pub row_fault : {R : Type 0} {left : R → Option (List ℕ)} {failures : R → ℕ} {same : R → R → Type 0} {old new : BufferedReader R} (s : Shape) (more : ℕ)
     (k : InputFault)
-    → ReadCall {A = List ℕ} left failures same old new (Err k) (Finds (plain_row s) (Err k))
+    → ReadCall {A = Vec ℕ} left failures same old new (Err k) (FindsWords (plain_row s) (Err k))
     → ReadCall {A = List ℕ} left failures same old new (Err k) (Finds (row_in_form true s more) (Err k))
-row_fault s more k t = call_err_so {A = List ℕ} {B = List ℕ} k (no_row s more k) t
+row_fault s more k t = call_err_so {A = Vec ℕ} {B = List ℕ} k (no_row s more k) t
+
+-- a row as words
+pub words_found : {R : Type 0} {left : R → Option (List ℕ)} {failures : R → ℕ} {same : R → R → Type 0} {old new : BufferedReader R}
+    {reading : List ℕ → Result (List ℕ × List ℕ) InputFault}
+    (words : Vec ℕ) → ReadCall {A = Vec ℕ} left failures same old new (Ok words) (FindsWords reading (Ok words))
+    → ReadCall {A = List ℕ} left failures same old new (Ok words.items) (Finds reading (Ok words.items))
+words_found words t = call_ok_so {A = Vec ℕ} {B = List ℕ} words (Ok words.items) (no_fault words.items ReadFailed) (λ b a o. o) t
 
 no_end : (s : Shape) (more : ℕ) (row : List ℕ) (k : InputFault) (b m a : List ℕ) → more ≡ 0 → plain_row s b ≡ row_done row m
     → Passes after_last_item (Err k) m a → Finds (row_in_form true s more) (Err k) b a
@@ -298,9 +306,3 @@ pub last_row_found : {R : Type 0} {left : R → Option (List ℕ)} {failures : R
 last_row_found s more row later none r t =
     call_ok_so {A = Unit {0}} {B = List ℕ} tt (Ok row) (no_fault row ReadFailed) (λ b a o. last_row s more b none ∙ ap last_of o.1 ∙ ap (row_then row) o.2)
     (call_then {A = List ℕ} {B = Unit {0}} row later r t)
-
-pub earlier_row_found : {R : Type 0} {left : R → Option (List ℕ)} {failures : R → ℕ} {same : R → R → Type 0} {old new : BufferedReader R} (s : Shape) (more : ℕ)
-    (row : List ℕ) → 0 < more
-    → ReadCall {A = List ℕ} left failures same old new (Ok row) (Finds (plain_row s) (Ok row))
-    → ReadCall {A = List ℕ} left failures same old new (Ok row) (Finds (row_in_form true s more) (Ok row))
-earlier_row_found s more row some t = call_ok_so {A = List ℕ} {B = List ℕ} row (Ok row) (no_fault row ReadFailed) (λ b a o. earlier_row s more b some ∙ o) t

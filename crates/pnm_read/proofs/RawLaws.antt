@@ -27,7 +27,7 @@ use Rattle.pnm_read.proofs.PieceLaws.{bind_ok}
 use Rattle.pnm_read.proofs.UnitLaws.{unit_bytes, ItemsRead, single, concat_singles, concat_pixels, are_within, are_within_all, all_are_within, unit_if}
 use Rattle.pnm_read.proofs.UnitLaws.{units_if}
 use Rattle.pnm_read.proofs.UnitLaws.{packed_units, narrow_units, wide_units}
-use Rattle.pnm_read.specs.Sources.{after_messages}
+use Rattle.pnm_read.specs.Said.{after_messages}
 use Rattle.pnm_read.proofs.RowsInTurn.{RowsRead, rows_count, read_rows_are_said, ended_fault, all_read, no_more_to_come}
 
 -- ---- the bytes of a row

@@ -119,6 +119,23 @@ call_seen t =
 pub nothing_left : {R : Type 0} (input : BufferedReader R) (left : List ℕ) → held_of input ≡ [] → input.ended ≡ true → IsLeft input left → left ≡ []
 nothing_left input left held ended s = s.2 ∙ ap (λ (l : List ℕ). l ++ s.0) held ∙ s.1 ended
 
+-- after a call nothing was read, and what is held tells more
+pub call_held : {R A B : Type 0} {left : R → Option (List ℕ)} {failures : R → ℕ} {same : R → R → Type 0} {old mid new : BufferedReader R}
+    {o q : List ℕ → List ℕ → Type 0}
+    (x : A) (result : Result B InputFault) → (result ≡ Err ReadFailed → ⊥) → new.reader ≡ mid.reader → new.ended ≡ mid.ended
+    → ((b rest : List ℕ) → CanCome mid rest → o b (held_of mid ++ rest) → q b (held_of new ++ rest))
+    → ReadCall left failures same old mid (Ok x) o → ReadCall left failures same old new result q
+call_held {left = left} {failures = failures} {same = same} {old = old} x result f reader ended g t = record {
+  read = t.read;
+  consumed = subst (λ r. Consumes (left old.reader) (left r) t.read) (sym reader) t.consumed;
+  comes = λ rest c. t.comes rest (λ e. c (ended ∙ e));
+  told = λ rest c. g _ rest (λ e. c (ended ∙ e)) (t.told rest (λ e. c (ended ∙ e)));
+  end = λ h e. subst (λ r. IsAtEnd (left r)) (sym reader) (t.end h (sym ended ∙ e));
+  same_device = subst (λ r. same old.reader r) (sym reader) t.same_device;
+  count = λ _. ap failures reader ∙ t.count (no_fault x ReadFailed);
+  read_failed = λ e. absurd (f e);
+}
+
 -- so many bytes of what is held were taken after a call
 pub call_advance : {R A B : Type 0} {left : R → Option (List ℕ)} {failures : R → ℕ} {same : R → R → Type 0} {old mid new : BufferedReader R}
     {o q : List ℕ → List ℕ → Type 0}
@@ -126,17 +143,8 @@ pub call_advance : {R A B : Type 0} {left : R → Option (List ℕ)} {failures :
     → held_of new ≡ drop n (held_of mid)
     → ((b rest : List ℕ) → CanCome mid rest → o b (held_of mid ++ rest) → q b (drop n (held_of mid) ++ rest))
     → ReadCall left failures same old mid (Ok x) o → ReadCall left failures same old new result q
-call_advance {left = left} {failures = failures} {same = same} {old = old} {mid = mid} {new = new} {q = q} x result n f reader ended held g t = record {
-  read = t.read;
-  consumed = subst (λ r. Consumes (left old.reader) (left r) t.read) (sym reader) t.consumed;
-  comes = λ rest c. t.comes rest (λ e. c (ended ∙ e));
-  told = λ rest c. subst (λ (l : List ℕ). q (held_of old ++ (t.read ++ rest)) (l ++ rest)) (sym held)
-      (g _ rest (λ e. c (ended ∙ e)) (t.told rest (λ e. c (ended ∙ e))));
-  end = λ h e. subst (λ r. IsAtEnd (left r)) (sym reader) (t.end h (sym ended ∙ e));
-  same_device = subst (λ r. same old.reader r) (sym reader) t.same_device;
-  count = λ _. ap failures reader ∙ t.count (no_fault x ReadFailed);
-  read_failed = λ e. absurd (f e);
-}
+call_advance {q = q} x result n f reader ended held g t =
+    call_held x result f reader ended (λ b rest c o. subst (λ (l : List ℕ). q b (l ++ rest)) (sym held) (g b rest c o)) t
 
 -- the text goes on where a byte is held
 pub some_left : {R : Type 0} (input : BufferedReader R) (bytes left : List ℕ) → bytes ≡ held_of input → (length bytes == 0) ≡ false → IsLeft input left

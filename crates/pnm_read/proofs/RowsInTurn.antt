@@ -7,7 +7,7 @@ use Rattle.pnm_read.specs.declared.fault.InputFault.{InputFault}
 use Rattle.pnm_image.specs.declared.format.Format.{Format}
 use Rattle.pnm_read.specs.Said.{Said, then_said, says_fault, row_at, rows_said}
 use Rattle.pnm_read.proofs.EndSaid.{end_said}
-use Rattle.pnm_read.specs.Sources.{after_messages}
+use Rattle.pnm_read.specs.Said.{after_messages}
 use Rattle.pnm_read.proofs.GivenLaws.{messages_after, fault_after}
 
 -- these rows are read in turn of a text, where n are to come; after them some more are, and a rest is left
@@ -46,6 +46,12 @@ pub read_rows_come_first : (later : List ℕ → Said) (format : Format) (s : Sh
 read_rows_come_first later format s rows n text more rest read =
     ap (λ (x : Said). x.messages) (read_rows_are_said later format s rows n text more rest read)
     ∙ messages_after (map Row rows) (rows_said later format s more rest)
+
+-- a row at fault is said
+pub fault_is_said : (later : List ℕ → Said) (format : Format) (s : Shape) (n more : ℕ) (text : List ℕ) (fault : InputFault) → n ≡ suc more
+    → row_at format s more text ≡ Err fault → rows_said later format s n text ≡ says_fault fault
+unfolding rows_said
+fault_is_said later format s n more text fault all e = ap (λ (n : ℕ). rows_said later format s n text) all ∙ ap (said_from later format s more) e
 
 -- where the next row is at fault, the messages are those of the rows that were read
 pub stopped_messages : (later : List ℕ → Said) (format : Format) (s : Shape) (rows : List (List ℕ)) (n : ℕ) (text : List ℕ) (more : ℕ) (rest : List ℕ)

@@ -1,6 +1,7 @@
 -- Rows of a raw raster that are held whole, and are taken together.
 use Rattle.pnm_image.specs.Formats.{is_plain_form}
-use Rattle.std.proofs.Common.{◌≡◌, ℕ, zero, suc, ◌+◌, ◌*◌, ◌≤◌, List, [], ◌∷◌, ◌++◌, length, take, drop, Result, Ok, refl, sym, ap, ap₂, subst, ◌∙◌}
+use Rattle.std.proofs.Common.{◌≡◌, ℕ, zero, suc, ◌+◌, ◌-◌, ◌*◌, ◌<◌, ◌≤◌, List, [], ◌∷◌, ◌++◌, length, take, drop, Option, Some, None, Result, Ok, Err}
+use Rattle.std.proofs.Common.{IfOk, IfSome, refl, sym, ap, ap₂, subst, ◌∙◌}
 use Rattle.std.proofs.Common.{false, append_assoc, arith, zero-mul, suc-mul}
 use Rattle.std.specs.List.{concat}
 use Rattle.std.proofs.lemmas.List.{take-append-drop, take-take, length-take-le, length-drop}
@@ -22,16 +23,19 @@ use Rattle.pnm_image.specs.Images.{cut_rows}
 use Rattle.pnm_image.specs.Rows.{row_messages}
 use Rattle.pnm_read.specs.declared.fault.InputFault.{InputFault}
 use Rattle.pnm_read.specs.Items.{◌>>=◌}
-use Rattle.pnm_read.specs.Said.{Said, in_turn, units_in_row, raw_row, rows_said}
+use Rattle.pnm_read.specs.Said.{Said, in_turn, units_in_row, raw_row, rows_said, later_said, after_messages}
 use Rattle.pnm_read.specs.Units.{samples_of_bytes, AreBytesWithin}
 use Rattle.pnm_read.specs.declared.raster.Raster.{Raster}
-use Rattle.pnm_read.specs.RasterRows.{FitsBytes, AreHeld, TakesRows, rows_held}
-use Rattle.pnm_read.specs.Sources.{after_messages}
+use Rattle.pnm_read.specs.RasterRows.{FitsBytes, AreHeld, TakesRows, FindsRows, rows_held}
+use Rattle.pnm_read.specs.declared.fault.InputFault.TheVariants.{ReadFailed}
+use Rattle.pnm_read.specs.declared.buffered_reader.BufferedReader.{BufferedReader}
+use Rattle.pnm_read.specs.BufferedReaders.{ReadCall, Fills, Finds}
+use Rattle.pnm_read.proofs.ReadCalls.{no_fault, call_ok_so, call_err_so, call_then}
 use Rattle.pnm_read.proofs.PieceLaws.{bind_ok}
 use Rattle.pnm_read.proofs.UnitLaws.{items_of, bytes_are_units}
 use Rattle.pnm_read.proofs.RawSteps.{units_as}
 use Rattle.pnm_read.proofs.RawLaws.{row_at_raw}
-use Rattle.pnm_read.proofs.RowsInTurn.{RowsRead, read_rows_are_said}
+use Rattle.pnm_read.proofs.RowsInTurn.{RowsRead, read_rows_are_said, fault_is_said}
 
 -- ---- samples of bytes
 
@@ -144,6 +148,10 @@ size_held : (raster : Raster) (count : ℕ) (held : List ℕ) → AreHeld raster
     → length (bytes_held raster count held) ≡ count * units_in_row raster.sample_width raster.shape
 size_held raster count held h = length-take-le (count * raster.units) held h.long ∙ ap (λ (n : ℕ). count * n) raster.count
 
+pub length-rows_held : (p : SampleWidth) (s : Shape) (count : ℕ) (bytes : List ℕ) → length (rows_held p s count bytes) ≡ count
+length-rows_held p s zero bytes = refl
+length-rows_held p s (suc count) bytes = ap suc (length-rows_held p s count (drop (units_in_row p s) bytes))
+
 -- they are taken
 pub rows_taken : (raster : Raster) (count : ℕ) (held after : List ℕ) (rows : List (List ℕ)) → AreHeld raster count held
     → rows ≡ rows_held raster.sample_width raster.shape count (bytes_held raster count held)
@@ -188,3 +196,61 @@ pub rows_are_said : (later : List ℕ → Said) (format : Format) (s : Shape) (c
     → rows_said later format s n text ≡ after_messages (row_messages rows) (rows_said later format s more rest)
 rows_are_said later format s count n more text rest rows raw all e =
     read_rows_are_said later format s rows n text more rest (rows_read format s count n more text (rows, rest) raw all e)
+
+-- rows that are as many as an image has, at least and at most
+pub all_taken : (least height y : ℕ) (result : Result (Option (List (List ℕ))) InputFault) → height ≤ least → y ≡ 0
+    → IfOk result (λ r. IfSome r (λ rows. least ≤ length rows)) → IfOk result (λ r. IfSome r (λ rows. length rows ≤ height - y))
+    → IfOk result (λ r. IfSome r (λ rows. length rows ≡ height))
+all_taken least height y (Ok (Some rows)) all start low high = omega (arith, all, start, low, high)
+all_taken least height y (Ok None) all start low high = tt
+all_taken least height y (Err k) all start low high = tt
+
+-- ---- what a call finds
+
+-- rows that were taken come next of the raster
+pub rows_found : (raster : Raster) (rows : List (List ℕ)) (b a : List ℕ) → is_plain_form raster.format.form ≡ false → 1 ≤ length rows
+    → length rows ≤ raster.shape.height - raster.y → in_turn (raw_row raster.shape) (length rows) b ≡ Ok (rows, a) → FindsRows raster (Ok rows) b a
+rows_found raster rows b a raw some left e =
+    let n : ℕ = raster.shape.height - raster.y in
+    let all : n ≡ length rows + (n - length rows) = omega (arith, left) in
+    (some, left, rows_are_said later_said raster.format raster.shape (length rows) n (n - length rows) b a rows raw all e)
+
+-- so does a row that was read
+row_comes : (raster : Raster) (row b m a : List ℕ) → is_plain_form raster.format.form ≡ false → raster.y < raster.shape.height
+    → b ≡ m → Finds (raw_row raster.shape) (Ok row) m a → FindsRows raster (Ok (row ∷ [])) b a
+row_comes raster row b m a raw lt is e =
+    rows_found raster (row ∷ []) b a raw (omega arith) (omega (arith, lt))
+    (row_before (raw_row raster.shape) zero b a a row [] (ap (raw_row raster.shape) is ∙ e) (no_rows (raw_row raster.shape) [] a refl))
+
+-- a row at fault
+row_stops : (raster : Raster) (k : InputFault) (b m a : List ℕ) → is_plain_form raster.format.form ≡ false → raster.y < raster.shape.height
+    → b ≡ m → Finds (raw_row raster.shape) (Err k) m a → FindsRows raster (Err k) b a
+row_stops raster k b m a raw lt is (inl e) =
+    let s : Shape = raster.shape in
+    let more : ℕ = s.height - raster.y - 1 in
+    inl (fault_is_said later_said raster.format s (s.height - raster.y) more b k (omega (arith, lt))
+    (row_at_raw raster.format s more b raw ∙ ap (raw_row s) is ∙ e))
+row_stops raster k b m a raw lt is (inr o) = inr o
+
+-- a row was read, behind bytes that were
+pub row_read : {R : Type 0} {left : R → Option (List ℕ)} {failures : R → ℕ} {same : R → R → Type 0} {old mid now new : BufferedReader R} (raster : Raster)
+    (row : List ℕ) (rows : List (List ℕ)) → ((a b c : R) → same a b → same b c → same a c) → is_plain_form raster.format.form ≡ false
+    → raster.y < raster.shape.height → now ≡ mid → rows ≡ row ∷ []
+    → ReadCall {A = Unit {0}} left failures same old mid (Ok tt) (Fills (Ok tt))
+    → ReadCall {A = List ℕ} left failures same now new (Ok row) (Finds (raw_row raster.shape) (Ok row))
+    → ReadCall {A = List (List ℕ)} left failures same old new (Ok rows) (FindsRows raster (Ok rows))
+row_read {left = left} {failures = failures} {same = same} {mid = mid} {new = new} raster row rows later raw lt kept is s t =
+    let then : ReadCall {A = List ℕ} left failures same mid new (Ok row) (Finds (raw_row raster.shape) (Ok row)) = rw (← kept) t in
+    call_ok_so {A = List ℕ} row (Ok rows) (no_fault rows ReadFailed)
+    (λ b a o. subst (λ (rows : List (List ℕ)). FindsRows raster (Ok rows) b a) (sym is) (row_comes raster row b o.0 a raw lt o.1 o.2))
+    (call_then tt later s then)
+
+pub row_unread : {R : Type 0} {left : R → Option (List ℕ)} {failures : R → ℕ} {same : R → R → Type 0} {old mid now new : BufferedReader R} (raster : Raster)
+    (k : InputFault) → ((a b c : R) → same a b → same b c → same a c) → is_plain_form raster.format.form ≡ false
+    → raster.y < raster.shape.height → now ≡ mid
+    → ReadCall {A = Unit {0}} left failures same old mid (Ok tt) (Fills (Ok tt))
+    → ReadCall {A = List ℕ} left failures same now new (Err k) (Finds (raw_row raster.shape) (Err k))
+    → ReadCall {A = List (List ℕ)} left failures same old new (Err k) (FindsRows raster (Err k))
+row_unread {left = left} {failures = failures} {same = same} {mid = mid} {new = new} raster k later raw lt kept s t =
+    let then : ReadCall {A = List ℕ} left failures same mid new (Err k) (Finds (raw_row raster.shape) (Err k)) = rw (← kept) t in
+    call_err_so k (λ b a o. row_stops raster k b o.0 a raw lt o.1 o.2) (call_then tt later s then)

@@ -15,6 +15,7 @@ use Rattle.pnm_image.specs.declared.shape.Kind.TheVariants.{Bit, Gray, Color, Pa
 use Rattle.pnm_read.specs.HeaderTexts.{is_apart, begins_apart, ends_by, commented, ends_in_comment, uncommented_from, uncommented, number_in}
 use Rattle.pnm_image.specs.Texts.{is_white, is_digit, decimal_value}
 use Rattle.pnm_image.proofs.BoolLaws.{not_and_parts}
+use Rattle.pnm_read.specs.RasterRows.{greatest_in}
 use Rattle.pnm_read.specs.Rasters.{IsGap, SpellsDecimal, SpellsSample, SpellsPiece, MayFollowSample}
 use Rattle.pnm_read.specs.Items.{◌>>=◌, piece_from, ends_in_digit, is_complete, decimal_item, decimal_end, is_pixel, pixel_item, pixel_end, pixel_in}
 use Rattle.pnm_read.specs.Items.{plain_pixel, sample_item, plain_decimal, plain_sample}
@@ -324,10 +325,7 @@ no_bytes_yet = record { white = All-nil (λ x. is_white x ≡ true); ends = noth
 
 -- the range of a sample that was read
 abbrev pub IsInRange : Kind → ℕ → ℕ → Type 0
-IsInRange Bit maxval sample = sample ≤ 1
-IsInRange Gray maxval sample = sample ≤ maxval
-IsInRange Color maxval sample = sample ≤ maxval
-IsInRange Pam maxval sample = sample ≤ maxval
+IsInRange kind maxval sample = sample ≤ greatest_in kind maxval
 
 -- a text that begins with a sample's piece, and goes on with what may follow it
 abbrev pub BeginsWithPiece : Kind → ℕ → List ℕ → ℕ × List ℕ → Type 0

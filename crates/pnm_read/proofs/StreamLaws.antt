@@ -6,7 +6,7 @@ use Rattle.std.proofs.Common.{◌∙◌}
 use Rattle.std.specs.List.{AllByRecursion}
 use Rattle.std.specs.Io.KnownBytes.{IsAtEnd}
 use Rattle.pnm_image.specs.declared.message.Message.{Message}
-use Rattle.pnm_image.specs.declared.message.Message.TheVariants.{Begin, Row, ImageEnd, StreamEnd, Stop}
+use Rattle.pnm_image.specs.declared.message.Message.TheVariants.{Begin, Row, ImageEnd, StreamEnd}
 use Rattle.pnm_image.specs.Heads.{HeadValue}
 use Rattle.pnm_image.specs.Completion.{IsPrefixOf}
 use Rattle.pnm_image.specs.Messages.{IsMessage}
@@ -145,13 +145,6 @@ holds_of_said Claim h text = holds_of_image Claim h later_said true text (holds_
 -- ---- heads that are said
 
 -- an image that begins has rows
-abbrev pub BeginsRows : Message → Type 0
-BeginsRows (Begin head) = 0 < head.shape.height
-BeginsRows (Row row) = Unit {0}
-BeginsRows ImageEnd = Unit {0}
-BeginsRows StreamEnd = Unit {0}
-BeginsRows Stop = Unit {0}
-
 pub read_head_has_rows : (is_first : Bool) (text : List ℕ) (found : Format × List ℕ) (head : HeadValue × List ℕ) → format_at is_first text ≡ Ok found
     → head_at found.0 found.1 ≡ Ok head → 0 < head.0.shape.height
 read_head_has_rows is_first text found head e h =

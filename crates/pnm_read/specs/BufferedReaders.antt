@@ -2,6 +2,7 @@
 use Rattle.std.specs.Prelude.{◌≡◌, ℕ, ◌≤◌, ◌⊎◌, true, false, List, [], ◌∷◌, ◌++◌, take, length, Option, Some, None}
 use Rattle.std.specs.Prelude.{Result, Ok, Err}
 use Rattle.std.specs.List.{slice_range}
+use Rattle.std.specs.Global.{Vec}
 use Rattle.std.specs.Io.KnownBytes.{Consumes, IsAtEnd}
 use Rattle.pnm_image.specs.Devices.{Failed}
 use Rattle.pnm_read.specs.declared.fault.InputFault.{InputFault}
@@ -63,6 +64,12 @@ abbrev pub Finds : {X : Type 0} → (List ℕ → Result (X × List ℕ) InputFa
     → Type 0
 Finds reading (Ok x) before after = reading before ≡ Ok (x, after)
 Finds reading (Err fault) before after = (reading before ≡ Err fault) ⊎ IsOutsideFault fault
+
+-- the same of words
+abbrev pub FindsWords : (List ℕ → Result (List ℕ × List ℕ) InputFault) → Result (Vec ℕ) InputFault → List ℕ → List ℕ
+    → Type 0
+FindsWords reading (Ok words) before after = reading before ≡ Ok (words.items, after)
+FindsWords reading (Err fault) before after = (reading before ≡ Err fault) ⊎ IsOutsideFault fault
 
 -- the text goes on as it may, and so much of it was taken; or it is at fault
 abbrev pub Passes : (List ℕ → Result (List ℕ) InputFault) → Result (Unit {0}) InputFault → List ℕ → List ℕ → Type 0

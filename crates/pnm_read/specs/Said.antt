@@ -111,6 +111,11 @@ pub record Said : Type 0 where
 abbrev pub then_said : Message → Said → Said
 then_said m s = record { messages = m ∷ s.messages; fault = s.fault }
 
+-- messages, and then what is said
+abbrev pub after_messages : List Message → Said → Said
+after_messages [] s = s
+after_messages (m ∷ ms) s = then_said m (after_messages ms s)
+
 abbrev pub says_fault : InputFault → Said
 says_fault fault = record { messages = []; fault = Some fault }
 

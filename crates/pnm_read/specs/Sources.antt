@@ -2,14 +2,14 @@
 use Rattle.std.specs.Prelude.{◌≡◌, ℕ, ◌⊎◌, Bool, List, [], ◌∷◌, ◌++◌, Option, Some, None, Result, Ok, Err}
 use Rattle.std.specs.Io.KnownBytes.{Consumes}
 use Rattle.pnm_image.specs.declared.message.Message.{Message}
-use Rattle.pnm_image.specs.declared.message.Message.TheVariants.{ImageEnd}
+use Rattle.pnm_image.specs.declared.packet.Packet.{Packet}
+use Rattle.pnm_image.specs.Packets.{messages_in}
 use Rattle.pnm_image.specs.Completion.{IsPrefixOf}
-use Rattle.pnm_image.specs.Rows.{row_messages}
 use Rattle.pnm_read.specs.declared.fault.InputFault.{InputFault}
 use Rattle.pnm_read.specs.declared.source.Source.{Source}
-use Rattle.pnm_read.specs.Said.{Said, text_said, said_of, fault_of, then_said}
+use Rattle.pnm_read.specs.Said.{Said, text_said, said_of, fault_of, after_messages}
 use Rattle.pnm_read.specs.BufferedReaders.{IsOutsideFault, held_of, CanCome, EndsRightly}
-use Rattle.pnm_read.specs.Awaiting.{state_due, state_fault, is_ended, AwaitsFirstRow}
+use Rattle.pnm_read.specs.Awaiting.{state_due, state_fault, is_ended}
 
 abbrev pub reader_of : {R : Type 0} → Source R → R
 reader_of s = s.input.reader
@@ -21,10 +21,6 @@ stopped_by s = state_fault s.state
 -- the end of the stream was given
 abbrev pub has_ended : {R : Type 0} → Source R → Bool
 has_ended s = is_ended s.state
-
--- an image has just begun: no row of it was given
-abbrev pub HasJustBegun : {R : Type 0} → Source R → Type 0
-HasJustBegun s = AwaitsFirstRow s.state
 
 -- what a source has still to say, where its reader still gives these bytes
 unfoldable pub due : {R : Type 0} → Source R → List ℕ → Said
@@ -43,11 +39,6 @@ abbrev pub MayGiveMore : {R : Type 0} → (R → Option (List ℕ)) → Source R
 MayGiveMore left s = (byte : ℕ) (more : List ℕ) → left (reader_of s) ≡ Some (byte ∷ more) → (rest : List ℕ)
     → MayGive s rest
 
--- messages, and then what is said
-abbrev pub after_messages : List Message → Said → Said
-after_messages [] s = s
-after_messages (m ∷ ms) s = then_said m (after_messages ms s)
-
 -- A source has read these bytes and given these messages: whatever the reader gives after them, these are said
 -- of the text first, and then what the source has still to say.
 unfoldable pub HasGiven : {R : Type 0} → Source R → List ℕ → List Message → Type 0
@@ -61,11 +52,11 @@ pub record IsFreshSource {R : Type 0} (reader : R) (s : Source R) : Type 0 where
   pub end : (left : R → Option (List ℕ)) → SeesEnd left s
   pub going : stopped_by s ≡ None
 
--- what an answer tells of a text, of which this is read, after the messages that were given: the next message;
--- that they are all, and there is no fault; or that they are all before this fault. Before a fault from outside
+-- what an answer tells of a text, of which this is read, after the messages that were given: the next ones; that they
+-- are all, and there is no fault; or that they are all before this fault. Before a fault from outside
 -- they are a prefix of what is said.
-abbrev pub AnswerTells : {R : Type 0} → Source R → List ℕ → List Message → Result (Option Message) InputFault → Type 0
-AnswerTells new read given (Ok (Some m)) = HasGiven new read (given ++ m ∷ [])
+abbrev pub AnswerTells : {R : Type 0} → Source R → List ℕ → List Message → Result (Option Packet) InputFault → Type 0
+AnswerTells new read given (Ok (Some packet)) = HasGiven new read (given ++ messages_in packet)
 AnswerTells new read given (Ok None) =
     HasGiven new read given
     × ((rest : List ℕ) → MayGive new rest → (said_of (read ++ rest) ≡ given) × (fault_of (read ++ rest) ≡ None))
@@ -75,24 +66,8 @@ AnswerTells new read given (Err fault) =
 
 -- A call read some bytes; and whatever was read and given before it, its answer tells what is said of the text.
 pub record Tells {R : Type 0} (left : R → Option (List ℕ)) (old : Source R)
-    (result : Result (Option Message) InputFault) (new : Source R) : Type 0 where
+    (result : Result (Option Packet) InputFault) (new : Source R) : Type 0 where
   pub more : List ℕ
   pub consumed : Consumes (left (reader_of old)) (left (reader_of new)) more
   pub told : (read : List ℕ) (given : List Message) → HasGiven old read given
       → AnswerTells new (read ++ more) given result
-
--- A call read some bytes, and gave nothing: what the source has still to say of the text is as before.
-pub record TellsNothing {R : Type 0} (left : R → Option (List ℕ)) (old new : Source R) : Type 0 where
-  pub more : List ℕ
-  pub consumed : Consumes (left (reader_of old)) (left (reader_of new)) more
-  pub told : (read : List ℕ) (given : List Message) → HasGiven old read given → HasGiven new (read ++ more) given
-
--- Rows were given that came next of what was to be said, and nothing was read for them.
-abbrev pub TellsRows : {R : Type 0} → Source R → Source R → List (List ℕ) → Type 0
-TellsRows old new rows = (read : List ℕ) (given : List Message) → HasGiven old read given
-    → HasGiven new read (given ++ row_messages rows)
-
--- Rows were given that came next of what was to be said, and then the end of their image; nothing was read for them.
-abbrev pub TellsImage : {R : Type 0} → Source R → Source R → List (List ℕ) → Type 0
-TellsImage old new rows = (read : List ℕ) (given : List Message) → HasGiven old read given
-    → HasGiven new read (given ++ (row_messages rows ++ ImageEnd ∷ []))

@@ -1,24 +1,22 @@
 //! The rows of a raw raster that are held whole.
 
-ghost use Rattle.std.specs.Prelude.{◌≡◌, ◌≤◌, ◌<◌, ◌*◌, ◌-◌, ◌↔◌, IfOk, OnOk, IfErr, IsTrue, [], length};
+ghost use Rattle.std.specs.Prelude.{◌≡◌, ◌≤◌, ◌*◌, ◌-◌, false, IfOk, IfErr, IfSome, IsTrue, Ok, None, length};
+ghost use Rattle.pnm_image.specs.Formats.{is_plain_form};
 ghost use Rattle.pnm_read.specs.declared.fault.InputFault.TheVariants.{Memory};
 ghost use Rattle.pnm_read.specs.BufferedReaders.{held_of};
-ghost use Rattle.pnm_read.specs.RasterRows.{FitsBytes, AreHeld, TakesRows, rows_held};
+ghost use Rattle.pnm_read.specs.RasterRows.{FitsBytes, AreHeld, AreHeldWide, TakesRows, rows_held};
 ghost use Rattle.pnm_read.specs.Units.{AreBytesWithin};
 
 use crate::buffered_reader::BufferedReader;
 use crate::fault::InputFault;
 use crate::raster::Raster;
-use crate::raw;
 use crate::spare_rows::SpareRows;
-use crate::units::are_units_within;
+use crate::units::{append_wide, are_units_within};
 use pnm_image::{BitRows, BytesIn, RowVec, Rows, SampleWidth};
 
-/// The most bytes of a row that is handed over together with others. A longer one is mostly read past the buffer.
+/// The most bytes of a row for which a read goes into the buffer first, so that the rows behind it come with it. What
+/// is missing of a longer one goes straight into the row.
 const MOST_ROW_BYTES: usize = 16_384;
-
-/// The most bytes of rows that are handed over together.
-const MOST_BYTES: usize = 65_536;
 
 /// The sample of a white pixel, which none is above.
 const GREATEST_PIXEL: u32 = 1;
@@ -30,45 +28,126 @@ pub fn holds_row<R: BytesIn>(input: &BufferedReader<R>, raster: &Raster) -> bool
     } else if raster.format.is_plain() {
         input.holds(usize::MAX)
     } else {
-        input.holds(raw::bytes_of(raster.units, raster.sample_width))
+        input.holds(raster.row_bytes())
     }
 }
 
-/// How many bytes have to be held before rows are taken together, where `bytes` are held: those of the next row, if it
-/// is short enough to go together with others, isn't held whole, and has no sample above the maxval in `bytes`.
-/// Otherwise 0.
+/// How many bytes have to be held before rows are taken, where `bytes` are held: those of the next row, if it is short,
+/// isn't held whole, and has no sample above the maxval in `bytes`. Otherwise 0.
 pub fn wanted_ahead(bytes: &[u8], raster: &Raster) -> usize {
-    let wanted = raw::bytes_of(raster.units, raster.sample_width);
-    if raster.y == raster.shape.height || wanted > MOST_ROW_BYTES || bytes.len() >= wanted {
+    let wanted = raster.row_bytes();
+    if wanted > MOST_ROW_BYTES || bytes.len() >= wanted {
         return 0;
     }
-    if raw::are_within(bytes, raster.sample_width, raster.shape.maxval) {
-        wanted
-    } else {
-        0
+    let maxval = raster.shape.maxval;
+    let are_within = match raster.sample_width {
+        SampleWidth::Bits | SampleWidth::Bytes => {
+            are_units_within(bytes, raster.sample_width, maxval)
+        }
+        SampleWidth::Words => bytes.chunks_exact(2).all(|pair| u32::from(u16::from_be_bytes([
+            pair[0], pair[1],
+        ])) <= maxval),
+    };
+    if are_within { wanted } else { 0 }
+}
+
+/// All rows of a raster of which none has passed, if it is raw, has at most `most` rows, and these are held whole.
+/// `None` otherwise, and if a sample is above the maxval; nothing is taken then.
+///
+/// # Errors
+///
+/// `Memory` if there is none for them. Nothing is taken then.
+pub fn take_all<R: BytesIn>(
+    input: &mut BufferedReader<R>,
+    spares: &mut SpareRows,
+    raster: &Raster,
+    most: u32,
+) -> Result<Option<Rows>, InputFault>
+    requires start { raster.now.y ≡ 0 }
+    ensures raw { IfOk result (λ r. IfSome r (λ _. is_plain_form raster.now.format.form ≡ false)) }
+    ensures all { IfOk result (λ r. IfSome r (λ rows. length rows ≡ raster.now.shape.height)) }
+    ensures rows { IfOk result (λ r. IfSome r (λ rows. TakesRows raster.now.shape (length rows) rows
+        (held_of input.old) (held_of input.new))) }
+    ensures none { result ≡ Ok None → input.new ≡ input.old }
+    ensures reader { input.new.reader ≡ input.old.reader }
+    ensures ended { input.new.ended ≡ input.old.ended }
+    ensures refused { IfErr result (λ fault. (fault ≡ Memory) × (input.new ≡ input.old)) }
+{
+    if raster.format.is_plain() {
+        return Ok(None);
+    }
+    take(input, spares, raster, raster.shape.height.max(1), most)
+}
+
+/// The next rows of a raw raster together: as many as are held whole, `most` at most, of which those from a sample
+/// above the maxval on stay behind, and maybe some before them. `None`, and nothing is taken, if these are fewer than
+/// `least`.
+///
+/// # Errors
+///
+/// `Memory` if there is none for them. Nothing is taken then.
+pub fn take<R: BytesIn>(
+    input: &mut BufferedReader<R>,
+    spares: &mut SpareRows,
+    raster: &Raster,
+    least: u32,
+    most: u32,
+) -> Result<Option<Rows>, InputFault>
+    requires some { 1 ≤ least }
+    ensures least { IfOk result (λ r. IfSome r (λ rows. least ≤ length rows)) }
+    ensures left { IfOk result (λ r. IfSome r (λ rows. length rows ≤ raster.now.shape.height - raster.now.y)) }
+    ensures rows { IfOk result (λ r. IfSome r (λ rows. TakesRows raster.now.shape (length rows) rows
+        (held_of input.old) (held_of input.new))) }
+    ensures none { result ≡ Ok None → input.new ≡ input.old }
+    ensures reader { input.new.reader ≡ input.old.reader }
+    ensures ended { input.new.ended ≡ input.old.ended }
+    ensures refused { IfErr result (λ fault. (fault ≡ Memory) × (input.new ≡ input.old)) }
+{
+    let most = most.min(raster.shape.height - raster.y);
+    let count = count_whole(input.bytes(), raster.row_bytes(), most);
+    match raster.sample_width {
+        SampleWidth::Bits | SampleWidth::Bytes => {
+            let count = count_within(input.bytes(), raster, count);
+            if count < least {
+                return Ok(None);
+            }
+            let rows = take_rows(input, spares, raster, count)?;
+            Ok(Some(rows))
+        }
+        SampleWidth::Words => take_wide(input, raster, least, count),
     }
 }
 
-/// How many of the next rows can be handed over together: all rows left in the image that are held whole, up to
-/// `MOST_BYTES`. 0 if these are fewer than `least`, if one of them has a sample above the maxval, or if they are too
-/// long or have samples of two bytes.
-pub fn count_held<R: BytesIn>(input: &BufferedReader<R>, raster: &Raster, least: u32) -> u32
-    ensures left { result ≤ raster.now.shape.height - raster.now.y }
-    ensures least { 1 ≤ result → least ≤ result }
-    ensures held { 1 ≤ result → AreHeld raster.now result (held_of input.now) }
+/// How many rows of `row_bytes` bytes lie in `bytes`, at most `most`.
+fn count_whole(bytes: &[u8], row_bytes: usize, most: u32) -> u32
+    ensures most { result ≤ most }
+    ensures held { result * row_bytes ≤ length bytes.now }
+{
+    if row_bytes == 0 {
+        return 0;
+    }
+    (bytes.len() / row_bytes).min(most as usize) as u32
+}
+
+/// `count`, or fewer rows if one of so many has a sample above the maxval. 0 if the samples of a row aren't the first
+/// of its bytes.
+fn count_within(bytes: &[u8], raster: &Raster, count: u32) -> u32
+    requires { count * raster.now.units ≤ length bytes.now }
+    ensures most { result ≤ count }
+    ensures held { 1 ≤ result → AreHeld raster.now result bytes.now }
 {
     if !fits_bytes(raster) {
         return 0;
     }
-    let most = raster.shape.height - raster.y;
-    let count = count_whole(input, raster.units, least, most);
-    let size = count as usize * raster.units;
-    let bytes = &input.bytes()[..size];
-    if are_units_within(bytes, raster.sample_width, raster.shape.maxval) {
-        count
-    } else {
-        0
+    let mut count = count;
+    while count > 0 {
+        let size = count as usize * raster.units;
+        if are_units_within(&bytes[..size], raster.sample_width, raster.shape.maxval) {
+            return count;
+        }
+        count /= 2;
     }
+    0
 }
 
 /// Whether the samples of a row of the raster are the first of its bytes, and there is no byte more. False for samples
@@ -83,32 +162,12 @@ fn fits_bytes(raster: &Raster) -> bool
     }
 }
 
-/// How many rows of `row_bytes` bytes are held whole and can be handed over together, at most `most`. 0 if there are
-/// fewer than `least`, or if the rows are too long.
-pub fn count_whole<R: BytesIn>(
-    input: &BufferedReader<R>,
-    row_bytes: usize,
-    least: u32,
-    most: u32,
-) -> u32
-    ensures most { result ≤ most }
-    ensures least { 1 ≤ result → least ≤ result }
-    ensures held { result * row_bytes ≤ length (held_of input.now) }
-    ensures size { result * row_bytes ≤ MOST_BYTES }
-{
-    if row_bytes == 0 || row_bytes > MOST_ROW_BYTES {
-        return 0;
-    }
-    let count = (input.bytes().len().min(MOST_BYTES) / row_bytes).min(most as usize) as u32;
-    if count >= least { count } else { 0 }
-}
-
 /// The next `count` rows, which are held: in the memory of a spare row, if they fit in it.
 ///
 /// # Errors
 ///
 /// `Memory` if there is none for them.
-pub fn take_rows<R: BytesIn>(
+fn take_rows<R: BytesIn>(
     input: &mut BufferedReader<R>,
     spares: &mut SpareRows,
     raster: &Raster,
@@ -116,14 +175,15 @@ pub fn take_rows<R: BytesIn>(
 ) -> Result<Rows, InputFault>
     requires some { 1 ≤ count }
     requires held { AreHeld raster.now count (held_of input.old) }
+    ensures count { IfOk result (λ rows. length rows ≡ count) }
     ensures rows { IfOk result (λ rows. TakesRows raster.now.shape count rows
         (held_of input.old) (held_of input.new)) }
     ensures reader { input.new.reader ≡ input.old.reader }
     ensures ended { input.new.ended ≡ input.old.ended }
     ensures refused { IfErr result (λ fault. (fault ≡ Memory) × (input.new ≡ input.old)) }
 {
-    let size = count as usize * raster.units;
     let held = input.bytes();
+    let size = count as usize * raster.units;
     let Ok(copy) = spares.copy_of(input.allocator(), &held[..size]) else {
         return Err(InputFault::Memory);
     };
@@ -150,4 +210,75 @@ fn rows_of(bytes: Vec<u8>, raster: &Raster, count: u32) -> Rows
             Rows::new(RowVec::Bytes(bytes), raster.shape.maxval, count, each)
         }
     }
+}
+
+/// The next rows of samples of two bytes, as `take` gives them, of `count` that are held whole.
+///
+/// # Errors
+///
+/// `Memory` if there is none for them.
+fn take_wide<R: BytesIn>(
+    input: &mut BufferedReader<R>,
+    raster: &Raster,
+    least: u32,
+    count: u32,
+) -> Result<Option<Rows>, InputFault>
+    requires some { 1 ≤ least }
+    requires held { AreHeldWide raster.now count (held_of input.old) }
+    ensures least { IfOk result (λ r. IfSome r (λ rows. (least ≤ length rows) × (length rows ≤ count))) }
+    ensures rows { IfOk result (λ r. IfSome r (λ rows. TakesRows raster.now.shape (length rows) rows
+        (held_of input.old) (held_of input.new))) }
+    ensures none { result ≡ Ok None → input.new ≡ input.old }
+    ensures reader { input.new.reader ≡ input.old.reader }
+    ensures ended { input.new.ended ≡ input.old.ended }
+    ensures refused { IfErr result (λ fault. (fault ≡ Memory) × (input.new ≡ input.old)) }
+{
+    let mut count = count;
+    while count >= least {
+        match take_words(input, raster, count) {
+            Ok(Some(rows)) => return Ok(Some(rows)),
+            Ok(None) => {}
+            Err(fault) => return Err(fault),
+        }
+        count /= 2;
+    }
+    Ok(None)
+}
+
+/// The next `count` rows of samples of two bytes, which are held. `None` if one of them has a sample above the maxval;
+/// nothing has changed then.
+///
+/// # Errors
+///
+/// `Memory` if there is none for them.
+fn take_words<R: BytesIn>(
+    input: &mut BufferedReader<R>,
+    raster: &Raster,
+    count: u32,
+) -> Result<Option<Rows>, InputFault>
+    requires some { 1 ≤ count }
+    requires held { AreHeldWide raster.now count (held_of input.old) }
+    ensures count { IfOk result (λ r. IfSome r (λ rows. length rows ≡ count)) }
+    ensures rows { IfOk result (λ r. IfSome r (λ rows. TakesRows raster.now.shape count rows
+        (held_of input.old) (held_of input.new))) }
+    ensures none { result ≡ Ok None → input.new ≡ input.old }
+    ensures reader { input.new.reader ≡ input.old.reader }
+    ensures ended { input.new.ended ≡ input.old.ended }
+    ensures refused { IfErr result (λ fault. (fault ≡ Memory) × (input.new ≡ input.old)) }
+{
+    let held = input.bytes();
+    let size = count as usize * raster.units * 2;
+    let Ok(mut samples) = Vec::with_capacity(input.allocator(), count as usize * raster.units)
+    else {
+        return Err(InputFault::Memory);
+    };
+    match append_wide(&held[..size], raster.shape.maxval, &mut samples) {
+        Ok(()) => {}
+        Err(InputFault::SampleAboveMaxval) => return Ok(None),
+        Err(_) => return Err(InputFault::Memory),
+    }
+    let maxval = raster.shape.maxval;
+    let rows = Rows::new(RowVec::Words(samples), maxval, count, raster.units);
+    input.advance(size);
+    Ok(Some(rows))
 }

@@ -1,6 +1,6 @@
-//! The bytes of Netpbm images as messages.
+//! The bytes of Netpbm images as packets.
 //!
-//! `Source` reads a stream of images of `P1` to `P7`, raw or plain, and gives its messages in turn, or
+//! `Source` reads a stream of images of `P1` to `P7`, raw or plain, and gives its packets in turn, or
 //! the one fault of the text. The formats are those of pbm(5), pgm(5), ppm(5) and pam(5).
 #![tactic(auto)]
 
@@ -12,7 +12,6 @@ mod fault;
 mod fields;
 mod header;
 mod held_rows;
-mod held_words;
 pub mod laws;
 mod leading;
 mod line;

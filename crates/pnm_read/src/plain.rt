@@ -1,11 +1,15 @@
 //! The rows of a plain raster.
 
-ghost use Rattle.std.specs.Prelude.{◌≤◌, true};
+ghost use Rattle.std.specs.Prelude.{◌≡◌, ◌<◌, ◌≤◌, ◌*◌, All, IfOk, IfErr, length, true};
+ghost use Rattle.pnm_samples.specs.Cuts.{cut_rows};
 ghost use Rattle.pnm_image.specs.declared.limits.TheConstants.{MAX_MAXVAL};
+ghost use Rattle.pnm_image.specs.Formats.{is_plain_form};
 ghost use Rattle.pnm_image.specs.Heads.{row_length};
+ghost use Rattle.pnm_read.specs.declared.fault.InputFault.TheVariants.{Memory};
 ghost use Rattle.pnm_read.specs.Items.{plain_pixel, plain_decimal, plain_sample, after_last_item};
-ghost use Rattle.pnm_read.specs.Said.{plain_row, row_in_form};
-ghost use Rattle.pnm_read.specs.BufferedReaders.{ReadCall, Finds, Passes};
+ghost use Rattle.pnm_read.specs.Said.{plain_row};
+ghost use Rattle.pnm_read.specs.BufferedReaders.{ReadCall, Finds, FindsWords, Passes, held_of};
+ghost use Rattle.pnm_read.specs.RasterRows.{FindsRows, TakesPlain, greatest_in};
 
 use crate::buffered_reader::BufferedReader;
 use crate::comments::is_apart;
@@ -13,34 +17,48 @@ use crate::decimal::DecimalScanner;
 use crate::fault::InputFault;
 use crate::leading::take_samples;
 use crate::pixel::PixelScanner;
+use crate::raster::Raster;
 use crate::scan::scan;
-use pnm_image::{BytesIn, Kind, SampleVec, Samples, Shape};
-use pnm_samples::greatest;
+use pnm_image::{BitRows, BytesIn, Kind, RowVec, Rows, SampleWidth, Shape};
+use pnm_samples::words_to_bytes;
+use std::alloc::Global;
 
-/// The next row, which `more` others follow, or the text's fault there, `ReadFailed` or `Memory`.
-pub fn read_row<R: BytesIn>(
+/// The sample of a white pixel, which none is above.
+const GREATEST_PIXEL: u32 = 1;
+
+/// How many bytes a sample usually takes, with the white space before it.
+const USUAL_BYTES: usize = 4;
+
+/// The next row, and those behind it that the held bytes determine then, `most` rows at most; or the text's fault
+/// there, `ReadFailed` or `Memory`. The last row of an image comes alone, since what follows it is looked at.
+pub fn read_rows<R: BytesIn>(
     input: &mut BufferedReader<R>,
-    shape: Shape,
-    more: u32,
-) -> Result<Samples, InputFault>
-    requires { shape.maxval ≤ MAX_MAXVAL }
-    ensures { ReadCall R.left R.failures R.same input.old input.new result
-        (Finds (row_in_form true shape more) result) }
+    raster: &Raster,
+    most: u32,
+) -> Result<Rows, InputFault>
+    requires row { raster.now.y < raster.now.shape.height }
+    requires plain { is_plain_form raster.now.format.form ≡ true }
+    requires some { 1 ≤ most }
+    ensures { ReadCall R.left R.failures R.same input.old input.new result (FindsRows raster.now result) }
 {
-    let row = read_samples(input, shape)?;
+    let mut samples = read_samples(input, raster.shape)?;
+    let more = raster.shape.height - raster.y - 1;
     if more == 0 {
         check_end(input)?;
+        return rows_of(input.allocator(), samples, raster, 1);
     }
-    Ok(row)
+    let others = take_held(input, raster.shape, most.min(more) - 1, &mut samples)?;
+    rows_of(input.allocator(), samples, raster, others + 1)
 }
 
 /// The samples of the next row. The held bytes alone determine some of them; each of the others takes a scanner.
 fn read_samples<R: BytesIn>(
     input: &mut BufferedReader<R>,
     shape: Shape,
-) -> Result<Samples, InputFault>
+) -> Result<Vec<u16>, InputFault>
     requires { shape.maxval ≤ MAX_MAXVAL }
-    ensures { ReadCall R.left R.failures R.same input.old input.new result (Finds (plain_row shape) result) }
+    ensures { ReadCall R.left R.failures R.same input.old input.new result
+        (FindsWords (plain_row shape) result) }
 {
     let length = shape.row_length() as usize;
     let Ok(mut row) = Vec::with_capacity(input.allocator(), length) else {
@@ -59,8 +77,86 @@ fn read_samples<R: BytesIn>(
             return Err(InputFault::Memory);
         }
     }
-    let bound = u32::from(greatest(row.as_slice()));
-    Ok(Samples::within(SampleVec::Words(row), bound))
+    Ok(row)
+}
+
+/// Takes the next rows that the held bytes determine, `most` at most, and appends their samples. Returns how many
+/// rows these are. A row isn't looked at if fewer bytes are held than the one before it took, or the first one
+/// usually takes.
+///
+/// # Errors
+///
+/// `Memory` if there is none for the samples.
+fn take_held<R: BytesIn>(
+    input: &mut BufferedReader<R>,
+    shape: Shape,
+    most: u32,
+    samples: &mut Vec<u16>,
+) -> Result<u32, InputFault>
+    requires { shape.maxval ≤ MAX_MAXVAL }
+    ensures most { IfOk result (λ count. count ≤ most) }
+    ensures taken { IfOk result (λ count. TakesPlain shape count (held_of input.old) (held_of input.new)
+        samples.old.items samples.new.items) }
+    ensures reader { input.new.reader ≡ input.old.reader }
+    ensures ended { input.new.ended ≡ input.old.ended }
+    ensures refused { IfErr result (λ fault. fault ≡ Memory) }
+{
+    let each = shape.row_length() as usize;
+    let mut size = each.saturating_mul(USUAL_BYTES);
+    for count in 0..most {
+        if input.bytes().len() < size {
+            return Ok(count);
+        }
+        let before = samples.len();
+        let wanted = before.saturating_add(each);
+        let Ok(row_size) = take_samples(input.bytes(), shape, wanted, samples) else {
+            return Err(InputFault::Memory);
+        };
+        if samples.len() < wanted {
+            samples.truncate(before);
+            return Ok(count);
+        }
+        input.advance(row_size);
+        size = row_size;
+    }
+    Ok(most)
+}
+
+/// `count` rows of these samples, held as those of a raw raster are.
+///
+/// # Errors
+///
+/// `Memory` if there is none for them.
+fn rows_of(
+    alloc: Global,
+    samples: Vec<u16>,
+    raster: &Raster,
+    count: u32,
+) -> Result<Rows, InputFault>
+    requires some { 1 ≤ count }
+    requires size { length samples.items ≡ count * row_length raster.now.shape }
+    requires within { All (λ sample. sample ≤ greatest_in raster.now.shape.kind raster.now.shape.maxval) samples.items }
+    ensures rows { IfOk result (λ rows. rows ≡ cut_rows count (row_length raster.now.shape) samples.items) }
+    ensures refused { IfErr result (λ fault. fault ≡ Memory) }
+{
+    let each = raster.shape.row_length() as usize;
+    let maxval = raster.shape.maxval;
+    match raster.sample_width {
+        SampleWidth::Bits => {
+            let Ok(rows) = BitRows::from_pixels(alloc, samples.as_slice(), count as usize, each)
+            else {
+                return Err(InputFault::Memory);
+            };
+            Ok(Rows::new(RowVec::Bits(rows), GREATEST_PIXEL, count, each))
+        }
+        SampleWidth::Bytes => {
+            let Ok(bytes) = words_to_bytes(alloc, samples.as_slice()) else {
+                return Err(InputFault::Memory);
+            };
+            Ok(Rows::new(RowVec::Bytes(bytes), maxval, count, each))
+        }
+        SampleWidth::Words => Ok(Rows::new(RowVec::Words(samples), maxval, count, each)),
+    }
 }
 
 /// The next sample.

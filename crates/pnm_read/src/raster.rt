@@ -1,7 +1,8 @@
 //! How far a raster was read.
 
-ghost use Rattle.std.specs.Prelude.{◌≡◌, ◌≤◌, ◌<◌, ◌+◌, ◌-◌};
+ghost use Rattle.std.specs.Prelude.{◌≡◌, ◌≤◌, ◌+◌, ◌-◌, ◌*◌, ◌^◌, min};
 ghost use Rattle.pnm_image.specs.declared.limits.TheConstants.{MAX_MAXVAL, MAX_SIDE};
+ghost use Rattle.pnm_image.specs.declared.sample_width.SampleWidth.TheVariants.{Words};
 ghost use Rattle.pnm_image.specs.SampleWidths.{sample_width_of};
 ghost use Rattle.pnm_read.specs.Said.{units_in_row};
 
@@ -43,19 +44,14 @@ impl Raster {
         }
     }
 
-    /// The raster after one more row.
-    pub fn after_row(self) -> Raster
-        requires { self.y < self.shape.height }
-        ensures format { result.format ≡ self.format }
-        ensures shape { result.shape ≡ self.shape }
-        ensures y { result.y ≡ self.y + 1 }
+    /// How many bytes a row takes, if the raster is raw.
+    pub fn row_bytes(&self) -> usize
+        ensures narrow { (self.now.sample_width ≡ Words → ⊥) → result ≡ self.now.units }
+        ensures wide { self.now.sample_width ≡ Words → result ≡ min (self.now.units * 2) (2 ^ 64 - 1) }
     {
-        Raster {
-            format: self.format,
-            shape: self.shape,
-            y: self.y + 1,
-            sample_width: self.sample_width,
-            units: self.units,
+        match self.sample_width {
+            SampleWidth::Bits | SampleWidth::Bytes => self.units,
+            SampleWidth::Words => self.units.saturating_mul(2),
         }
     }
 

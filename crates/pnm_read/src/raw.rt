@@ -1,25 +1,47 @@
 //! The rows of a raw raster.
 
-ghost use Rattle.std.specs.Prelude.{◌≡◌, ◌≤◌, ◌<◌, [], All, IfOk, OnOk, length, take};
+ghost use Rattle.std.specs.Prelude.{◌≡◌, ◌≤◌, ◌<◌, [], false, All, IfOk, OnOk, length, take};
 ghost use Rattle.pnm_image.specs.declared.limits.TheConstants.{MAX_SIDE};
+ghost use Rattle.pnm_image.specs.Formats.{is_plain_form};
 ghost use Rattle.pnm_image.specs.SampleWidths.{sample_width_of};
 ghost use Rattle.pnm_image.specs.declared.sample_width.SampleWidth.TheVariants.{Words};
 ghost use Rattle.pnm_read.specs.Said.{raw_row, units_in_row};
-ghost use Rattle.pnm_read.specs.BufferedReaders.{ReadCall, Finds, held_of};
+ghost use Rattle.pnm_read.specs.BufferedReaders.{ReadCall, Finds};
 ghost use Rattle.pnm_read.specs.RawParts.{FindsUnits, FindsPart};
+ghost use Rattle.pnm_read.specs.RasterRows.{FindsRows};
 ghost use Rattle.pnm_read.specs.Units.{samples_of_bytes, AreBytesWithin};
 
 use crate::buffered_reader::BufferedReader;
 use crate::fault::InputFault;
+use crate::held_rows;
+use crate::raster::Raster;
 use crate::spare_rows::SpareRows;
 use crate::units::{append_wide, are_units_within, units_in_row};
-use pnm_image::{Bits, BytesIn, SampleVec, SampleWidth, Samples, Shape};
+use pnm_image::{Bits, BytesIn, Rows, SampleVec, SampleWidth, Samples, Shape};
 
-/// The next row. If its bytes are held already, they are copied, bits and bytes into the memory of a spare row if they
-/// fit in it. What is still to be read of bits and bytes goes straight into the row. No sample is above the maxval.
-pub fn read_row<R: BytesIn>(
+/// The next rows: those that are held whole, `most` at most, after one read if none is; or one row, which is read to
+/// its end. No sample is above the maxval.
+pub fn read_rows<R: BytesIn>(
     input: &mut BufferedReader<R>,
     spares: &mut SpareRows,
+    raster: &Raster,
+    most: u32,
+) -> Result<Rows, InputFault>
+    requires row { raster.now.y < raster.now.shape.height }
+    requires raw { is_plain_form raster.now.format.form ≡ false }
+    requires some { 1 ≤ most }
+    ensures { ReadCall R.left R.failures R.same input.old input.new result (FindsRows raster.now result) }
+{
+    input.read_towards(held_rows::wanted_ahead(input.bytes(), raster))?;
+    match held_rows::take(input, spares, raster, 1, most)? {
+        Some(rows) => Ok(rows),
+        None => Ok(Rows::one(read_row(input, raster.shape, raster.units, raster.sample_width)?)),
+    }
+}
+
+/// The next row, part by part: what is still to be read of bits and bytes goes straight into it.
+fn read_row<R: BytesIn>(
+    input: &mut BufferedReader<R>,
     shape: Shape,
     units: usize,
     sample_width: SampleWidth,
@@ -32,12 +54,12 @@ pub fn read_row<R: BytesIn>(
     let length = shape.row_length() as usize;
     match sample_width {
         SampleWidth::Bits => {
-            let bytes = read_bytes(input, spares, units, shape, SampleWidth::Bits)?;
+            let bytes = read_bytes(input, units, shape, SampleWidth::Bits)?;
             let bits = Bits::new(bytes, length);
             Ok(Samples::from_vec(SampleVec::Bits(bits)))
         }
         SampleWidth::Bytes => {
-            let mut bytes = read_bytes(input, spares, units, shape, SampleWidth::Bytes)?;
+            let mut bytes = read_bytes(input, units, shape, SampleWidth::Bytes)?;
             bytes.truncate(length);
             Ok(Samples::within(SampleVec::Bytes(bytes), shape.maxval))
         }
@@ -49,50 +71,9 @@ pub fn read_row<R: BytesIn>(
     }
 }
 
-/// How many bytes `units` units of a row take.
-pub fn bytes_of(units: usize, sample_width: SampleWidth) -> usize {
-    match sample_width {
-        SampleWidth::Bits | SampleWidth::Bytes => units,
-        SampleWidth::Words => units.saturating_mul(2),
-    }
-}
-
-/// Whether no sample that lies whole in `bytes`, the first bytes of a row, is above the maxval.
-pub fn are_within(bytes: &[u8], sample_width: SampleWidth, maxval: u32) -> bool {
-    match sample_width {
-        SampleWidth::Bits | SampleWidth::Bytes => are_units_within(bytes, sample_width, maxval),
-        SampleWidth::Words => bytes.chunks_exact(2).all(|pair| u32::from(u16::from_be_bytes([
-            pair[0], pair[1],
-        ])) <= maxval),
-    }
-}
-
-/// The bytes of the next row, each of them a unit.
-#[inline(always)]
-fn read_bytes<R: BytesIn>(
-    input: &mut BufferedReader<R>,
-    spares: &mut SpareRows,
-    count: usize,
-    shape: Shape,
-    sample_width: SampleWidth,
-) -> Result<Vec<u8>, InputFault>
-    requires count { count ≡ units_in_row sample_width shape }
-    requires sample_width { sample_width ≡ sample_width_of shape.kind shape.maxval }
-    requires bytes { sample_width ≡ Words → ⊥ }
-    ensures found { ReadCall R.left R.failures R.same input.old input.new result
-        (FindsUnits (λ row. samples_of_bytes sample_width row.items) shape result) }
-    ensures within { IfOk result (λ row. AreBytesWithin sample_width shape.maxval row.items) }
-{
-    if input.bytes().len() >= count {
-        take_bytes(input, spares, count, shape, sample_width)
-    } else {
-        read_parts(input, count, shape, sample_width)
-    }
-}
-
 /// The bytes of the next row, `count` units, part by part.
 #[inline(never)]
-fn read_parts<R: BytesIn>(
+fn read_bytes<R: BytesIn>(
     input: &mut BufferedReader<R>,
     count: usize,
     shape: Shape,
@@ -113,32 +94,6 @@ fn read_parts<R: BytesIn>(
         let target = &mut row.as_mut_slice()[filled..];
         filled += read_part(input, target, sample_width, shape.maxval)?;
     }
-    Ok(row)
-}
-
-/// The bytes of the next row, `count` units that are held: in the memory of a spare row, if they fit in it.
-fn take_bytes<R: BytesIn>(
-    input: &mut BufferedReader<R>,
-    spares: &mut SpareRows,
-    count: usize,
-    shape: Shape,
-    sample_width: SampleWidth,
-) -> Result<Vec<u8>, InputFault>
-    requires held { count ≤ length (held_of input.old) }
-    requires count { count ≡ units_in_row sample_width shape }
-    requires sample_width { sample_width ≡ sample_width_of shape.kind shape.maxval }
-    requires bytes { sample_width ≡ Words → ⊥ }
-    ensures found { ReadCall R.left R.failures R.same input.old input.new result
-        (FindsUnits (λ row. samples_of_bytes sample_width row.items) shape result) }
-    ensures within { IfOk result (λ row. AreBytesWithin sample_width shape.maxval row.items) }
-{
-    let Ok(row) = spares.copy_of(input.allocator(), &input.bytes()[..count]) else {
-        return Err(InputFault::Memory);
-    };
-    if !are_units_within(row.as_slice(), sample_width, shape.maxval) {
-        return Err(InputFault::SampleAboveMaxval);
-    }
-    input.advance(count);
     Ok(row)
 }
 

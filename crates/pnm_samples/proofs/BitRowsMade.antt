@@ -1,19 +1,22 @@
 -- Rows of packed pixels that are made of others.
 use Rattle.std.proofs.Common.{◌≡◌, ℕ, zero, suc, ◌+◌, ◌-◌, ◌*◌, ◌%◌, ◌<◌, ◌≤◌, List, [], ◌∷◌, ◌++◌, get_or, length, take, drop, map, replicate, reverse}
-use Rattle.std.proofs.Common.{refl, sym, ap, ap₂, subst, ◌∙◌, arith, suc-mul, zero-mul, mul-le-mul, inl, inr}
+use Rattle.std.proofs.Common.{refl, sym, ap, ap₂, subst, ◌∙◌, arith, suc-mul, zero-mul, mul-le-mul, inl, inr, All}
 use Rattle.std.proofs.lemmas.Bool.{cases_lt}
 use Rattle.std.proofs.lemmas.List.{append_assoc, drop-append-le, drop_at, ext_get_or, get_or-drop, get_or-map, get_or-reverse, get_or-take, length-append}
 use Rattle.std.proofs.lemmas.List.{length-drop, length-map, length-replicate, length-reverse, length-take, length-take-le, reverse-append, take-append-drop}
 use Rattle.std.proofs.lemmas.List.{take-append-le, take-take, take_all, take_at, take_more, drop_all, append-nil}
+use Rattle.std.proofs.lemmas.List.Elements.{All-take, All-drop}
 use Rattle.std.proofs.Math.Seq.{drop-append-add, take-append-add}
 use borrow.Rule.Slice.PartMut.{put_mid}
 use Rattle.std.specs.List.{concat}
 use Rattle.pnm_samples.specs.BitRows.{row_bytes, ArePackedRows}
-use Rattle.pnm_samples.specs.Cuts.{last_first}
+use Rattle.pnm_samples.specs.Cuts.{cut_rows, last_first}
 use Rattle.pnm_samples.specs.PixelRows.{bytes_for, rows_of_bytes}
-use Rattle.pnm_samples.specs.Pixels.{all_pixels, ArePacked}
+use Rattle.pnm_samples.specs.Pixels.{all_pixels, packed_bytes, ArePacked}
 use Rattle.pnm_samples.proofs.BitRowLaws.{changed_row, length_of_row_bytes, pixels_of_row, row_before, row_within}
+use Rattle.pnm_samples.proofs.CutLaws.{length-cut_rows, row_of_cut}
 use Rattle.pnm_samples.proofs.MirrorLaws.{turned_parts}
+use Rattle.pnm_samples.proofs.PackedAgain.{packed_again}
 use Rattle.pnm_samples.proofs.PixelLaws.{drop-all_pixels, length-all_pixels, take-all_pixels}
 use Rattle.pnm_samples.proofs.PixelRowsLaws.{length_of_rows, row_lies}
 use Rattle.pnm_samples.proofs.RepeatLaws.{repeated, take_repeated}
@@ -172,19 +175,18 @@ samples_of_all count each row total bytes samples all most is known =
 
 -- ---- rows that are filled one by one
 
--- the rows that have passed have these pixels
-pub record AreFilled (pixels : ℕ → List ℕ) (passed count each : ℕ) (bytes : List ℕ) : Type 0 where
-  pub long : length bytes ≡ count * bytes_for each
-  pub rows : (row : ℕ) → row < passed → take each (all_pixels (row_bytes (bytes_for each) row bytes)) ≡ pixels row
+-- this holds of the bytes of the rows that have passed
+pub record AreFilled (Holds : ℕ → List ℕ → Type 0) (passed count size : ℕ) (bytes : List ℕ) : Type 0 where
+  pub long : length bytes ≡ count * size
+  pub rows : (row : ℕ) → row < passed → Holds row (row_bytes size row bytes)
 
 -- a row more
-pub one_more_filled : (pixels : ℕ → List ℕ) (row count each n : ℕ) (now part new : List ℕ) → AreFilled pixels row count each now → row < count
-    → n ≡ bytes_for each → length part ≡ bytes_for each → new ≡ put_mid (row * bytes_for each) n now part → take each (all_pixels part) ≡ pixels row
-    → AreFilled pixels (row + 1) count each new
-one_more_filled pixels row count each n now part new known lt fits long is made =
-    let size = bytes_for each in
+pub one_more_filled : (Holds : ℕ → List ℕ → Type 0) (row count size : ℕ) (now part new : List ℕ) → AreFilled Holds row count size now → row < count
+    → length part ≡ size → new ≡ put_mid (row * size) size now part → Holds row part
+    → AreFilled Holds (row + 1) count size new
+one_more_filled Holds row count size now part new known lt long is made =
     let within : row * size + size ≤ length now = row_within count size row (length now) known.long lt in
-    let prefix = take (row * size) now in let rest = drop n (drop (row * size) now) in
+    let prefix = take (row * size) now in let rest = drop size (drop (row * size) now) in
     record {
       long = omega (
         arith,
@@ -192,21 +194,53 @@ one_more_filled pixels row count each n now part new known lt fits long is made 
         length-append prefix (part ++ rest),
         length-append part rest,
         length-take-le (row * size) now (omega (arith, within)),
-        length-drop n (drop (row * size) now),
+        length-drop size (drop (row * size) now),
         length-drop (row * size) now,
         within,
-        fits,
         long,
         known.long,
       );
       rows = λ k below. elim (cases_lt k row) [
-        | inl before ↦ ap (λ (l : List ℕ). take each (all_pixels l)) (row_before size row k n now part new before within is) ∙ known.rows k before
+        | inl before ↦ subst (Holds k) (sym (row_before size row k size now part new before within is)) (known.rows k before)
         | inr after ↦
             let same : row ≡ k = omega (arith, below, after) in
-            subst (λ (j : ℕ). take each (all_pixels (row_bytes size j new)) ≡ pixels j) same
-            (ap (λ (l : List ℕ). take each (all_pixels l)) (changed_row size row n now part new fits long within is) ∙ made)
+            subst (λ (j : ℕ). Holds j (row_bytes size j new)) same
+            (subst (Holds row) (sym (changed_row size row size now part new refl long within is)) made)
       ];
     }
+
+-- ---- rows that are packed one by one
+
+-- they fit where their pixels do
+pub packed_fit : (count each size long : ℕ) → long ≡ count * each → size ≡ bytes_for each → count * size ≤ long
+packed_fit count each size long is fits =
+    let most : count * size ≤ count * each = mul-le-mul {n₁ = count} {m₁ = size} {n₂ = count} {m₂ = each} (omega arith) (omega (arith, fits)) in
+    omega (arith, most, is)
+
+-- the bytes of a row of these pixels
+abbrev pub IsPacked : ℕ → List ℕ → ℕ → List ℕ → Type 0
+IsPacked each pixels row bytes = bytes ≡ packed_bytes (take each (drop (row * each) pixels))
+
+module _ (count each passed : ℕ) (pixels bytes : List ℕ) (long : length pixels ≡ count * each) (fit : All (λ sample. sample ≤ 1) pixels) (all : count ≤ passed)
+    (known : AreFilled (IsPacked each pixels) passed count (bytes_for each) bytes) where
+  row_packed : (row : ℕ) → row < count → ArePacked each (row_bytes (bytes_for each) row bytes)
+      × (take each (all_pixels (row_bytes (bytes_for each) row bytes)) ≡ take each (drop (row * each) pixels))
+  row_packed row lt =
+      let part = take each (drop (row * each) pixels) in
+      let size = length_of_row_bytes each row pixels (row_within count each row (length pixels) long lt) in
+      let packed = packed_again each part size (All-take (λ sample. sample ≤ 1) each (drop (row * each) pixels)
+      (All-drop (λ sample. sample ≤ 1) (row * each) pixels fit)) in
+      subst (λ (l : List ℕ). ArePacked each l × (take each (all_pixels l) ≡ part)) (sym (known.rows row (omega (arith, lt, all)))) packed
+
+  pub rows_are_packed : ArePackedRows count each bytes
+  rows_are_packed = record {
+    enough = known.long;
+    packed = λ row lt. (row_packed row lt).0;
+  }
+
+  pub rows_of_packed : rows_of_bytes count each bytes ≡ cut_rows count each pixels
+  rows_of_packed = rows_are count each bytes (cut_rows count each pixels) (length-cut_rows count each pixels) (λ row lt.
+      (row_packed row lt).1 ∙ row_of_cut count each row pixels lt)
 
 -- ---- rows that come together of others' bytes
 
@@ -262,9 +296,13 @@ part_fits held whole top (suc count) left each bytes rows is long within inside 
     mul-le-mul {n₁ = suc count} {m₁ = bytes_for each} {n₂ = held} {m₂ = bytes_for whole} fewer wide in
     omega (arith, most, long)
 
+-- the bytes of a row of them
+abbrev pub HasPixels : ℕ → (ℕ → List ℕ) → ℕ → List ℕ → Type 0
+HasPixels each pixels row bytes = take each (all_pixels bytes) ≡ pixels row
+
 -- all of them
 pub part_is : (top count left each passed : ℕ) (bytes : List ℕ) (rows : List (List ℕ)) → top + count ≤ length rows → count ≤ passed
-    → AreFilled (λ (k : ℕ). take each (drop left (get_or rows (top + k) []))) passed count each bytes
+    → AreFilled (HasPixels each (λ (k : ℕ). take each (drop left (get_or rows (top + k) [])))) passed count (bytes_for each) bytes
     → rows_of_bytes count each bytes ≡ map (λ row. take each (drop left row)) (take count (drop top rows))
 part_is top count left each passed bytes rows within all known =
     let those = take count (drop top rows) in

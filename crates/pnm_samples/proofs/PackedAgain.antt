@@ -3,11 +3,15 @@ use Rattle.std.proofs.Common.{◌≡◌, ℕ, zero, suc, ◌+◌, ◌-◌, ◌*�
 use Rattle.std.proofs.Common.{refl, sym, ap, ap₂, ◌∙◌, arith}
 use Rattle.std.proofs.Math.Seq.{take-append-add}
 use Rattle.std.proofs.lemmas.Bool.{cases_lt}
-use Rattle.std.proofs.lemmas.List.{take_at, take-append-le, take-append-drop, take_all, length-append, length-replicate, length-drop, length-take}
-use Rattle.std.proofs.lemmas.List.{nil_from_length}
+use Rattle.std.proofs.lemmas.List.{drop_at, take_at, take-append-le, take-append-drop, take_all, length-append, length-replicate, length-drop, length-take}
+use Rattle.std.proofs.lemmas.List.{length-map, nil_from_length}
 use Rattle.std.proofs.lemmas.List.Elements.{All-take, All-drop, All-append, All-replicate}
-use Rattle.pnm_samples.specs.Pixels.{pixels, packed_byte}
-use Rattle.pnm_samples.proofs.PackedBytes.{packed_groups, bits_before_white}
+use Rattle.pnm_samples.specs.Cuts.{cut_rows}
+use Rattle.pnm_samples.specs.Pixels.{pixels, all_pixels, packed_byte, packed_bytes, ArePacked}
+use Rattle.pnm_samples.proofs.CutLaws.{length-cut_rows}
+use Rattle.pnm_samples.proofs.PackLaws.{length-packed_bytes}
+use Rattle.pnm_samples.proofs.PackedBytes.{packed_groups, bits_before_white, groups_before_white}
+use Rattle.pnm_samples.proofs.PixelLaws.{length-all_pixels}
 
 -- ---- the pixels of a byte
 
@@ -149,3 +153,31 @@ pixels_of_groups (suc count) xs few p = elim (cases_lt (length xs) 8) [
       whole_group (length (drop 8 xs)) xs (flat_map pixels (packed_groups count (drop 8 xs))) (omega arith) p
       (pixels_of_groups count (drop 8 xs) few_left (All-drop (λ sample. sample ≤ 1) 8 xs p))
 ]
+
+-- the pixels of all their bytes: these, and white ones
+pub packed_again : (each : ℕ) (xs : List ℕ) → length xs ≡ each → ArePixels xs
+    → ArePacked each (packed_bytes xs) × (take each (all_pixels (packed_bytes xs)) ≡ xs)
+packed_again each xs long p =
+    let count = (length xs + 7) / 8 in
+    let spare = 8 * count - length xs in
+    let white : List ℕ = replicate spare 1 in
+    let whole : length (xs ++ white) ≡ 8 * count = omega (arith, length-append xs white, length-replicate {A = ℕ} spare 1) in
+    let bytes : length (packed_bytes xs) ≡ count = length-packed_bytes xs in
+    let all : all_pixels (packed_bytes xs) ≡ xs ++ white =
+    ap all_pixels (sym (groups_before_white count spare xs))
+    ∙ sym (take_all (length (xs ++ white)) (all_pixels (packed_groups count (xs ++ white)))
+    (omega (
+      arith,
+      whole,
+      length-all_pixels (packed_groups count (xs ++ white)),
+      length-map (cut_rows count 8 (xs ++ white)) packed_byte,
+      length-cut_rows count 8 (xs ++ white),
+    )))
+    ∙ pixels_of_groups count (xs ++ white) (omega (arith, whole))
+    (All-append (λ sample. sample ≤ 1) xs white p (All-replicate (λ sample. sample ≤ 1) spare 1 (omega arith))) in (
+      record {
+        enough = omega (arith, bytes, long);
+        spare = ap (drop each) all ∙ drop_at xs white each long ∙ ap (λ (k : ℕ). replicate k 1) (omega (arith, bytes, long));
+      },
+      ap (take each) all ∙ take_at xs white each long,
+    )

@@ -53,7 +53,7 @@ drop_white (suc k) (suc n) [] = let later = drop_white k n [] in
     (later.0, later.1 ∙ ap (λ (l : List ℕ). l ++ replicate later.0 1) (drop_all k [] (omega arith)))
 drop_white (suc k) n (s ∷ p) = drop_white k n p
 
-groups_before_white : (count n : ℕ) (p : List ℕ) → packed_groups count (p ++ replicate n 1) ≡ packed_groups count p
+pub groups_before_white : (count n : ℕ) (p : List ℕ) → packed_groups count (p ++ replicate n 1) ≡ packed_groups count p
 groups_before_white zero n p = refl
 groups_before_white (suc count) n p =
     let prefix = take_white 8 n p in let rest = drop_white 8 n p in

@@ -1,15 +1,17 @@
 //! Rows of pixels of one bit, as they lie one after another in a raw file.
 
 ghost use Rattle.std.specs.Prelude.{ℕ, ◌≡◌, ◌+◌, ◌-◌, ◌*◌, ◌/◌, ◌%◌, ◌<◌, ◌≤◌, ◌∷◌, ◌++◌, [], drop, get_or, length};
-ghost use Rattle.std.specs.Prelude.{map, replicate, reverse, take, IfOk, IsTrue, IsFalse, OnOk, OnErr};
+ghost use Rattle.std.specs.Prelude.{All, map, replicate, reverse, take, IfOk, IsTrue, IsFalse, OnOk, OnErr};
 ghost use Rattle.std.specs.List.{concat, flat_map};
 ghost use Rattle.pnm_samples.specs.PixelRows.{bytes_for, rows_of_bytes};
 ghost use Rattle.pnm_samples.specs.BitRows.{ArePackedRows, row_bytes};
+ghost use Rattle.pnm_samples.specs.Cuts.{cut_rows};
 ghost use Rattle.pnm_samples.specs.Pixels.{all_pixels, packed_bytes, ArePacked};
 
 use crate::bits::{
     Bits, bytes_of, clear_spare, complement, fill_run, move_to_end, store_pixels, turn_round,
 };
+use crate::packing::pack;
 use crate::row_order::reverse_rows;
 use std::alloc::{AllocError, Global};
 use std::marker::Model;
@@ -48,6 +50,30 @@ impl BitRows {
         let mut bytes = bytes;
         clear_spare_of_each(bytes.as_mut_slice(), count, each);
         BitRows { bytes, count, each }
+    }
+
+    /// `count` rows of `each` pixels, which are these samples.
+    ///
+    /// # Errors
+    ///
+    /// If there is no memory for them.
+    pub fn from_pixels(
+        alloc: Global,
+        pixels: &[u16],
+        count: usize,
+        each: usize,
+    ) -> Result<BitRows, AllocError>
+        requires whole { length pixels.now ≡ count * each }
+        requires pixels { All (λ sample. sample ≤ 1) pixels.now }
+        ensures { IfOk result (λ rows. rows ≡ cut_rows count each pixels.now) }
+    {
+        let size = each.div_ceil(8);
+        let mut bytes = Vec::from_elem(alloc, 0, count * size)?;
+        for row in 0..count {
+            let buffer = &mut bytes.as_mut_slice()[row * size..(row + 1) * size];
+            pack(&pixels[row * each..(row + 1) * each], buffer);
+        }
+        Ok(BitRows { bytes, count, each })
     }
 
     /// A single row, without a copy.

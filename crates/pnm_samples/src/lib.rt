@@ -26,4 +26,4 @@ pub use row_order::reverse_rows;
 pub use sample::Sample;
 pub use samples::{SampleSlice, SampleVec, Samples};
 pub use transpose::{columns, lanes_beside};
-pub use widths::bytes_to_words;
+pub use widths::{bytes_to_words, words_to_bytes};

@@ -3,18 +3,18 @@ use Rattle.std.proofs.Common.{◌≡◌, ◌⊎◌, ℕ, ◌+◌, ◌-◌, ◌^�
 use Rattle.std.proofs.Common.{subst, ◌∙◌, arith, inl, inr}
 use Rattle.std.specs.Io.KnownBytes.{Consumes}
 use Rattle.std.specs.List.{AllByRecursion}
-use Rattle.std.proofs.lemmas.List.{append-nil, length-append, length-map}
+use Rattle.std.proofs.lemmas.List.{append-nil, length-append}
 use Rattle.pnm_image.specs.Devices.{Failed}
 use Rattle.pnm_image.specs.declared.format.Form.{Form}
 use Rattle.pnm_image.specs.declared.message.Message.{Message}
-use Rattle.pnm_image.specs.declared.message.Message.TheVariants.{Row}
+use Rattle.pnm_image.specs.declared.packet.Packet.{Packet}
 use Rattle.pnm_image.specs.Completion.{IsPrefixOf}
-use Rattle.pnm_image.specs.Rows.{row_messages}
+use Rattle.pnm_image.specs.Packets.{messages_in}
 use Rattle.pnm_read.specs.declared.fault.InputFault.{InputFault}
-use Rattle.pnm_read.specs.declared.fault.InputFault.TheVariants.{Memory, ReadFailed}
+use Rattle.pnm_read.specs.declared.fault.InputFault.TheVariants.{ReadFailed}
 use Rattle.pnm_read.specs.declared.source.Source.{Source}
 use Rattle.pnm_read.specs.Said.{said_of}
-use Rattle.pnm_read.specs.Sources.{reader_of, stopped_by, MayGive, MayGiveMore, SeesEnd, HasGiven, Tells, TellsRows, IsFreshSource as IsUnread}
+use Rattle.pnm_read.specs.Sources.{reader_of, stopped_by, MayGive, MayGiveMore, SeesEnd, HasGiven, Tells, IsFreshSource as IsUnread}
 use Rattle.pnm_read.proofs.Consumed.{consumes_nothing, consumes_then}
 use Rattle.pnm_read.proofs.ReadCalls.{no_fault}
 use Rattle.pnm_read.proofs.SaidLaws.{said_is_lawful}
@@ -68,7 +68,7 @@ pub read_failure : {A : Type 0} (fault : InputFault) (answer : Result A InputFau
 read_failure fault answer is e = cc
 
 -- a fault that a source answers
-abbrev pub fault_answer : InputFault → Result (Option Message) InputFault
+abbrev pub fault_answer : InputFault → Result (Option Packet) InputFault
 fault_answer fault = Err fault
 
 -- what is said of a text, and a prefix of it, are messages of images that have rows
@@ -115,104 +115,77 @@ going_none left reader_failures at all_given stopped held writer_failures source
 }
 
 -- more has passed
-have_taken_more : {F W : Type 0} (at : F → Tool → List Message → List Message → Type 0) (all_given : F → Bool) (stopped : F → Option ToolFault)
-    (held : W → Option (List ℕ)) (failures : W → ℕ) (given passed : List Message) (old now next : List (FusedFilter F)) (before d after : FusedSink W)
+have_taken_more : {F W : Type 0} {at : F → Tool → List Message → List Message → Type 0} {all_given : F → Bool} {stopped : F → Option ToolFault}
+    {held : W → Option (List ℕ)} {failures : W → ℕ} {given passed : List Message} {old now next : List (FusedFilter F)} {before d after : FusedSink W}
     → AreSound (given ++ passed) → HaveTaken at all_given stopped held failures given old now before d
     → FeedsThrough at all_given stopped held failures now passed next d after
     → HaveTaken at all_given stopped held failures (given ++ passed) old next before after
-have_taken_more at all_given stopped held failures given passed old now next before d after sound was passes = record {
+have_taken_more {given} sound was passes = record {
   out = was.out ++ passes.more;
   stages = λ tools lawful is. passes.stages tools given was.out lawful sound (was.stages tools lawful is);
   taken = λ form start is. passes.taken form start was.out (was.taken form start is);
 }
 
--- one message more has passed
-pub going_more : {R F W : Type 0} (left : R → Option (List ℕ)) (reader_failures : R → ℕ) (at : F → Tool → List Message → List Message → Type 0)
-    (all_given : F → Bool) (stopped : F → Option ToolFault) (held : W → Option (List ℕ)) (writer_failures : W → ℕ) (first source next : Source R)
-    (old now after : List (FusedFilter F)) (start d new : FusedSink W) (count : ℕ) (m : Message)
+-- a packet more has passed
+pub going_more : {R F W : Type 0} {left : R → Option (List ℕ)} {reader_failures : R → ℕ} {at : F → Tool → List Message → List Message → Type 0}
+    {all_given : F → Bool} {stopped : F → Option ToolFault} {held : W → Option (List ℕ)} {writer_failures : W → ℕ} {first source next : Source R}
+    {old now after : List (FusedFilter F)} {start d new : FusedSink W} {count : ℕ} {packet : Packet}
     → (going : Going left reader_failures at all_given stopped held writer_failures first source old now start d count)
-    → Tells left source (Ok (Some m)) next
+    → Tells left source (Ok (Some packet)) next
+    → 1 ≤ length (messages_in packet)
     → (SeesEnd left source → SeesEnd left next)
     → IsUnreadAfter left source next
     → reader_failures (reader_of next) ≡ reader_failures (reader_of source)
-    → FeedsThrough at all_given stopped held writer_failures now (m ∷ []) after d new
+    → FeedsThrough at all_given stopped held writer_failures now (messages_in packet) after d new
     → Going left reader_failures at all_given stopped held writer_failures first next old after start new (count + 1)
-going_more left reader_failures at all_given stopped held writer_failures first source next old now after start d new count m going t end unread sound passes =
-    record {
-      read = going.read ++ t.more;
-      given = going.given ++ m ∷ [];
-      consumed = consumes_then (left (reader_of first)) (left (reader_of source)) (left (reader_of next)) going.read t.more going.consumed t.consumed;
-      told = t.told going.read going.given going.told;
-      end = end going.end;
-      unread = unread_after left source next going.end unread;
-      many = let before = going.many in omega (arith, length-append going.given (m ∷ []));
-      sound = sound ∙ going.sound;
-      output = have_taken_more at all_given stopped held writer_failures going.given (m ∷ []) old now after start d new
-          (given_is_sound next (going.read ++ t.more) (going.given ++ m ∷ []) (t.told going.read going.given going.told)) going.output passes;
-    }
+going_more {left} {first} {source} {next} {packet} going t some end unread sound passes = record {
+  read = going.read ++ t.more;
+  given = going.given ++ messages_in packet;
+  consumed = consumes_then (left (reader_of first)) (left (reader_of source)) (left (reader_of next)) going.read t.more going.consumed t.consumed;
+  told = t.told going.read going.given going.told;
+  end = end going.end;
+  unread = unread_after left source next going.end unread;
+  many = omega (arith, going.many, some, length-append going.given (messages_in packet));
+  sound = sound ∙ going.sound;
+  output = have_taken_more (given_is_sound next (going.read ++ t.more) (going.given ++ messages_in packet) (t.told going.read going.given going.told))
+      going.output passes;
+}
 
--- rows have passed together, for which nothing was read
-pub going_rows : {R F W : Type 0} (left : R → Option (List ℕ)) (reader_failures : R → ℕ) (at : F → Tool → List Message → List Message → Type 0)
-    (all_given : F → Bool) (stopped : F → Option ToolFault) (held : W → Option (List ℕ)) (writer_failures : W → ℕ) (first source next : Source R)
-    (old now after : List (FusedFilter F)) (start d new : FusedSink W) (count : ℕ) (rows : List (List ℕ))
-    → (going : Going left reader_failures at all_given stopped held writer_failures first source old now start d count)
-    → 1 ≤ length rows
-    → TellsRows source next rows → reader_of next ≡ reader_of source
-    → (SeesEnd left source → SeesEnd left next) → ((rest : List ℕ) → MayGive source rest → MayGive next rest)
-    → FeedsThrough at all_given stopped held writer_failures now (row_messages rows) after d new
-    → Going left reader_failures at all_given stopped held writer_failures first next old after start new (count + 1)
-going_rows left reader_failures at all_given stopped held writer_failures first source next old now after start d new count rows going some tells same end comes
-    passes = record {
-      read = going.read;
-      given = going.given ++ row_messages rows;
-      consumed = subst (λ r. Consumes (left (reader_of first)) (left r) going.read) (sym same) going.consumed;
-      told = tells going.read going.given going.told;
-      end = end going.end;
-      unread = λ has rest. comes rest (going.unread (subst (λ r. HasMore (left r)) same has) rest);
-      many = omega (arith, going.many, some, length-append going.given (row_messages rows), length-map rows Row);
-      sound = ap reader_failures same ∙ going.sound;
-      output = have_taken_more at all_given stopped held writer_failures going.given (row_messages rows) old now after start d new
-          (given_is_sound next going.read (going.given ++ row_messages rows) (tells going.read going.given going.told)) going.output passes;
-    }
-
--- what has passed stays so where the sink has taken what it had, and the source is the same
-pub going_flushed : {R F W : Type 0} (left : R → Option (List ℕ)) (reader_failures : R → ℕ) (at : F → Tool → List Message → List Message → Type 0)
-    (all_given : F → Bool) (stopped : F → Option ToolFault) (held : W → Option (List ℕ)) (writer_failures : W → ℕ) (first source source_now : Source R)
-    (old now : List (FusedFilter F)) (start d new : FusedSink W) (count : ℕ)
-    → source_now ≡ source
+-- what has passed stays so where the sink has taken what it had
+pub going_flushed : {R F W : Type 0} {left : R → Option (List ℕ)} {reader_failures : R → ℕ} {at : F → Tool → List Message → List Message → Type 0}
+    {all_given : F → Bool} {stopped : F → Option ToolFault} {held : W → Option (List ℕ)} {writer_failures : W → ℕ} {first source : Source R}
+    {old now : List (FusedFilter F)} {start d new : FusedSink W} {count : ℕ}
     → Going left reader_failures at all_given stopped held writer_failures first source old now start d count
     → ((form : Form) (begun : W) (messages : List Message) → HasTaken held writer_failures form begun messages d
     → HasTaken held writer_failures form begun messages new)
-    → Going left reader_failures at all_given stopped held writer_failures first source_now old now start new count
-going_flushed left reader_failures at all_given stopped held writer_failures first source source_now old now start d new count same going flushes =
-    subst (λ (s : Source _). Going left reader_failures at all_given stopped held writer_failures first s old now start new count) (sym same)
-    (record {
-      read = going.read;
-      given = going.given;
-      consumed = going.consumed;
-      told = going.told;
-      end = going.end;
-      unread = going.unread;
-      many = going.many;
-      sound = going.sound;
-      output = record {
-        out = going.output.out;
-        stages = going.output.stages;
-        taken = λ form begun was. flushes form begun going.output.out (going.output.taken form begun was);
-      };
-    })
+    → Going left reader_failures at all_given stopped held writer_failures first source old now start new count
+going_flushed going flushes = record {
+  read = going.read;
+  given = going.given;
+  consumed = going.consumed;
+  told = going.told;
+  end = going.end;
+  unread = going.unread;
+  many = going.many;
+  sound = going.sound;
+  output = record {
+    out = going.output.out;
+    stages = going.output.stages;
+    taken = λ form begun was. flushes form begun going.output.out (going.output.taken form begun was);
+  };
+}
 
 -- the end of the stream
-pub fed_all : {R F W : Type 0} (left : R → Option (List ℕ)) (reader_failures : R → ℕ) (at : F → Tool → List Message → List Message → Type 0)
-    (all_given : F → Bool) (stopped : F → Option ToolFault) (held : W → Option (List ℕ)) (writer_failures : W → ℕ) (first source next : Source R)
-    (old new : List (FusedFilter F)) (start now : FusedSink W) (count : ℕ)
+pub fed_all : {R F W : Type 0} {left : R → Option (List ℕ)} {reader_failures : R → ℕ} {at : F → Tool → List Message → List Message → Type 0}
+    {all_given : F → Bool} {stopped : F → Option ToolFault} {held : W → Option (List ℕ)} {writer_failures : W → ℕ} {first source next : Source R}
+    {old new : List (FusedFilter F)} {start now : FusedSink W} {count : ℕ}
     → Going left reader_failures at all_given stopped held writer_failures first source old new start now count
     → Tells left source (Ok None) next
     → (SeesEnd left source → SeesEnd left next)
     → IsUnreadAfter left source next
     → reader_failures (reader_of next) ≡ reader_failures (reader_of source)
     → HasFed left reader_failures at all_given stopped held writer_failures first next (Ok tt) old new start now
-fed_all left reader_failures at all_given stopped held writer_failures first source next old new start now count going t end unread sound = record {
+fed_all {left} {reader_failures} {first} {source} {next} going t end unread sound = record {
   read = going.read ++ t.more;
   consumed = consumes_then (left (reader_of first)) (left (reader_of source)) (left (reader_of next)) going.read t.more going.consumed t.consumed;
   given = going.given;
@@ -239,9 +212,9 @@ failed_in_call s read given old new first h e (inl stopped) = absurd (not_stoppe
 failed_in_call s read given old new first h e (inr failed) = subst (λ (k : ℕ). Failed k new) e failed
 
 -- a fault of the input
-pub fed_until : {R F W : Type 0} (left : R → Option (List ℕ)) (reader_failures : R → ℕ) (at : F → Tool → List Message → List Message → Type 0)
-    (all_given : F → Bool) (stopped : F → Option ToolFault) (held : W → Option (List ℕ)) (writer_failures : W → ℕ) (first source next : Source R)
-    (old new : List (FusedFilter F)) (start now : FusedSink W) (messages : ℕ) (fault : InputFault)
+pub fed_until : {R F W : Type 0} {left : R → Option (List ℕ)} {reader_failures : R → ℕ} {at : F → Tool → List Message → List Message → Type 0}
+    {all_given : F → Bool} {stopped : F → Option ToolFault} {held : W → Option (List ℕ)} {writer_failures : W → ℕ} {first source next : Source R}
+    {old new : List (FusedFilter F)} {start now : FusedSink W} {messages : ℕ} {fault : InputFault}
     → Going left reader_failures at all_given stopped held writer_failures first source old new start now messages
     → Tells left source (Err fault) next
     → (SeesEnd left source → SeesEnd left next)
@@ -250,36 +223,21 @@ pub fed_until : {R F W : Type 0} (left : R → Option (List ℕ)) (reader_failur
     → (fault ≡ ReadFailed → (stopped_by source ≡ Some ReadFailed) ⊎ Failed (reader_failures (reader_of source)) (reader_failures (reader_of next)))
     → ((fault_answer fault ≡ Err ReadFailed → ⊥) → reader_failures (reader_of next) ≡ reader_failures (reader_of source))
     → HasFed left reader_failures at all_given stopped held writer_failures first next (Err fault) old new start now
-fed_until left reader_failures at all_given stopped held writer_failures first source next old new start now messages fault going t end unread anything failed
-    count = record {
-      read = going.read ++ t.more;
-      consumed = consumes_then (left (reader_of first)) (left (reader_of source)) (left (reader_of next)) going.read t.more going.consumed t.consumed;
-      given = going.given;
-      sound = given_is_sound source going.read going.given going.told;
-      told = λ rest may.
-          let still = may_give left reader_failures first next (Err fault) rest (unread_after left source next going.end unread)
-          (λ is. open_in_call source next going.read going.given going.told (anything (read_failure fault _ refl is.0))) may in
-          t.told going.read going.given going.told rest still;
-      count = λ not. count (λ e. not (ap Err (read_failure fault _ refl e))) ∙ going.sound;
-      read_failed =
-          λ e. inl (failed_in_call source going.read going.given (reader_failures (reader_of source)) (reader_failures (reader_of next))
-          (reader_failures (reader_of first)) going.told going.sound (failed cc));
-      output = going.output;
-    }
-
--- there was no memory for rows
-pub fed_until_rows : {R F W : Type 0} (left : R → Option (List ℕ)) (reader_failures : R → ℕ) (at : F → Tool → List Message → List Message → Type 0)
-    (all_given : F → Bool) (stopped : F → Option ToolFault) (held : W → Option (List ℕ)) (writer_failures : W → ℕ) (first source next : Source R)
-    (old new : List (FusedFilter F)) (start now : FusedSink W) (messages : ℕ) (fault : InputFault)
-    → Going left reader_failures at all_given stopped held writer_failures first source old new start now messages
-    → fault ≡ Memory → Tells left source (Err fault) next → reader_of next ≡ reader_of source
-    → (SeesEnd left source → SeesEnd left next) → ((rest : List ℕ) → MayGive source rest → MayGive next rest)
-    → HasFed left reader_failures at all_given stopped held writer_failures first next (Err fault) old new start now
-fed_until_rows left reader_failures at all_given stopped held writer_failures first source next old new start now messages fault going memory t same end comes =
-    let no : fault ≡ ReadFailed → ⊥ = λ failed. let e : Memory ≡ ReadFailed = sym memory ∙ failed in absurd cc in
-    fed_until left reader_failures at all_given stopped held writer_failures first source next old new start now messages fault going t end
-    (λ sees byte more is rest. comes rest (going.unread (subst (λ r. HasMore (left r)) same (subst HasMore (sym is) tt)) rest))
-    (λ failed. absurd (no failed)) (λ failed. absurd (no failed)) (λ not. ap reader_failures same)
+fed_until {left} {reader_failures} {first} {source} {next} {fault} going t end unread anything failed count = record {
+  read = going.read ++ t.more;
+  consumed = consumes_then (left (reader_of first)) (left (reader_of source)) (left (reader_of next)) going.read t.more going.consumed t.consumed;
+  given = going.given;
+  sound = given_is_sound source going.read going.given going.told;
+  told = λ rest may.
+      let still = may_give left reader_failures first next (Err fault) rest (unread_after left source next going.end unread)
+      (λ is. open_in_call source next going.read going.given going.told (anything (read_failure fault _ refl is.0))) may in
+      t.told going.read going.given going.told rest still;
+  count = λ not. count (λ e. not (ap Err (read_failure fault _ refl e))) ∙ going.sound;
+  read_failed =
+      λ e. inl (failed_in_call source going.read going.given (reader_failures (reader_of source)) (reader_failures (reader_of next))
+      (reader_failures (reader_of first)) going.told going.sound (failed cc));
+  output = going.output;
+}
 
 -- a prefix is at most as long
 prefix_is_shorter : (given whole : List Message) (count : ℕ) → count ≤ length given → IsPrefixOf given whole → count ≤ length whole
@@ -291,12 +249,12 @@ not_failed same outlasts (inl rose) = absurd (omega arith)
 not_failed same outlasts (inr fewer) = fewer outlasts
 
 -- as many messages as a run takes
-pub fed_too_many : {R F W : Type 0} (left : R → Option (List ℕ)) (reader_failures : R → ℕ) (at : F → Tool → List Message → List Message → Type 0)
-    (all_given : F → Bool) (stopped : F → Option ToolFault) (held : W → Option (List ℕ)) (writer_failures : W → ℕ) (first source : Source R)
-    (old new : List (FusedFilter F)) (start now : FusedSink W) (count : ℕ)
+pub fed_too_many : {R F W : Type 0} {left : R → Option (List ℕ)} {reader_failures : R → ℕ} {at : F → Tool → List Message → List Message → Type 0}
+    {all_given : F → Bool} {stopped : F → Option ToolFault} {held : W → Option (List ℕ)} {writer_failures : W → ℕ} {first source : Source R}
+    {old new : List (FusedFilter F)} {start now : FusedSink W} {count : ℕ}
     → Going left reader_failures at all_given stopped held writer_failures first source old new start now count → 2 ^ 64 - 1 ≤ count
     → HasFed left reader_failures at all_given stopped held writer_failures first source (Err ReadFailed) old new start now
-fed_too_many left reader_failures at all_given stopped held writer_failures first source old new start now count going enough =
+fed_too_many {left} {reader_failures} {first} {source} {count} going enough =
     let of_read : IsPrefixOf going.given (said_of going.read) =
     subst (λ (l : List ℕ). IsPrefixOf going.given (said_of l)) (append-nil going.read)
     (given_is_prefix source going.read going.given [] going.told (nothing_may_come source)) in

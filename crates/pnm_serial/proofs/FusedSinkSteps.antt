@@ -1,5 +1,5 @@
 -- Messages that are put into the sink together.
-use Rattle.std.proofs.Common.{◌≡◌, ℕ, Bool, true, false, List, [], ◌∷◌, ◌++◌, Option, Result, Some, None, Ok, Err, OnOk, OnErr, sym, ap, subst, ◌∙◌}
+use Rattle.std.proofs.Common.{◌≡◌, ℕ, Bool, true, false, List, ◌++◌, Option, Result, Some, None, Ok, Err, OnOk, OnErr, sym, ap, subst, ◌∙◌}
 use Rattle.std.specs.Result.{is_ok, IfErr}
 use Rattle.pnm_image.specs.Devices.{Failed, AppendsPrefix, FailsIn}
 use Rattle.pnm_image.specs.declared.format.Form.{Form}

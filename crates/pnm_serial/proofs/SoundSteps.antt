@@ -1,5 +1,5 @@
 -- What a stage has given so far for sound messages is sound; and sound messages don't end the stream before the last.
-use Rattle.std.proofs.Common.{◌≡◌, ◌<◌, List, [], ◌∷◌, ◌++◌, ℕ, Option, length, refl, sym, ap, subst, arith}
+use Rattle.std.proofs.Common.{◌≡◌, ◌≤◌, List, [], ◌∷◌, ◌++◌, Option, length, refl, sym, ap, subst, arith}
 use Rattle.std.specs.List.{AllByRecursion}
 use Rattle.pnm_image.specs.declared.message.Message.{Message}
 use Rattle.pnm_image.specs.declared.message.Message.TheVariants.{Begin, Row, ImageEnd, StreamEnd, Stop}
@@ -9,7 +9,6 @@ use Rattle.pnm_image.specs.declared.place.Place.TheVariants.{Between}
 use Rattle.pnm_image.specs.Messages.{ending_of, EndsBy, without_stop}
 use Rattle.pnm_image.specs.Places.{IsLawfulFrom, place_after}
 use Rattle.pnm_image.specs.Completion.{IsPrefixOf}
-use Rattle.pnm_image.specs.Rows.{row_messages}
 use Rattle.pnm_tools.specs.declared.fault.ToolFault.{ToolFault}
 use Rattle.pnm_tools.specs.declared.tool.Tool.{Tool}
 use Rattle.pnm_tools.specs.declared.fused_filter.FusedFilter.{FusedFilter}
@@ -84,7 +83,7 @@ goes_on place (n ∷ []) m rest lawful = before_another place n m rest lawful
 goes_on place (n ∷ o ∷ l) m rest lawful =
     (before_another place n o (l ++ m ∷ rest) lawful, goes_on (place_after place n) (o ∷ l) m rest lawful.1)
 
--- rows come next
-pub goes_on_by_rows : (l : List Message) (rows : List (List ℕ)) → 0 < length rows → AreSound (l ++ row_messages rows) → EndsBy More l
-goes_on_by_rows l [] some sound = absurd (omega (arith, some))
-goes_on_by_rows l (row ∷ rows) some sound = goes_on Between l (Row row) (row_messages rows) sound.lawful
+-- more comes next
+pub goes_on_before : (l rest : List Message) → AreSound (l ++ rest) → 1 ≤ length rest → EndsBy More l
+goes_on_before l [] sound some = absurd (omega (arith, some))
+goes_on_before l (m ∷ rest) sound some = goes_on Between l m rest sound.lawful

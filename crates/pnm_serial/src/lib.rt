@@ -9,11 +9,9 @@ pub mod laws;
 mod passing;
 mod serial;
 mod summary;
-mod together;
 
 pub use buffers::Buffers;
 pub use fault::RunFault;
 pub use fused_sink::FusedSink;
 pub use serial::run_filters;
 pub use summary::Summary;
-pub use together::go_together;

@@ -18,17 +18,15 @@ use crate::fault::RunFault;
 use crate::fused_sink::FusedSink;
 use crate::passing::feed_through;
 use crate::summary::Summary;
-use crate::together::go_together;
-use pnm_image::{BytesIn, BytesOut, Form, Packet, RepeatedRows};
+use pnm_image::{BytesIn, BytesOut, Form};
 use pnm_read::{InputFault, Source, SpareRows};
 use pnm_tools::{Filter, FusedFilter, ToolFault};
 use pnm_write::SinkFault;
 use std::alloc::Global;
 
 /// Reads the images of the reader, passes them through the tools that these filters are, each before its first message,
-/// and writes what comes out in the form, as `run_serial` does once it has made the filters. It passes on together the
-/// rows that the source gives together. `length` is the input's length, or `usize::MAX` if that isn't known: if it is
-/// small, so is the buffer that is read into.
+/// and writes what comes out in the form, as `run_serial` does once it has made the filters. `length` is the input's
+/// length, or `usize::MAX` if that isn't known: if it is small, so is the buffer that is read into.
 pub fn run_filters<R: BytesIn, F: Filter + Drop, W: BytesOut>(
     alloc: Global,
     reader: &mut R,
@@ -87,8 +85,8 @@ fn first_fault<F: Filter + Drop>(stages: &[FusedFilter<F>]) -> Option<(usize, To
     None
 }
 
-/// Passes on all messages of the source, through to its end or its fault; rows that it gives together are passed on
-/// together. Returns `ReadFailed` after it has asked for `u64::MAX` messages or rows together.
+/// Passes on all packets of the source, through to its end or its fault. Returns `ReadFailed` after it has asked for
+/// `u64::MAX` packets.
 fn feed_all<R: BytesIn, F: Filter + Drop, W: BytesOut + Drop>(
     alloc: Global,
     source: &mut Source<R>,
@@ -102,23 +100,11 @@ fn feed_all<R: BytesIn, F: Filter + Drop, W: BytesOut + Drop>(
     ensures same_writer { W.same (output_of fused_sink.old) (output_of fused_sink.new) }
 {
     let mut spares = SpareRows::none(alloc);
-    let mut may_be_together = false;
     for _ in 0..u64::MAX {
         flush_before_read(source, fused_sink);
-        if may_be_together {
-            if let Some(rows) = source.next_rows(&mut spares)? {
-                // Each iteration passes something on.
-                prove!(rows.count() > 0);
-                let rows = Packet::Rows(RepeatedRows::once(rows));
-                feed_through(alloc, stages, rows, fused_sink);
-                continue;
-            }
-        }
-        match source.next(&mut spares)? {
-            Some(message) => {
-                may_be_together = go_together(may_be_together, &message);
-                feed_through(alloc, stages, Packet::from(message), fused_sink);
-            }
+        let next = source.next(&mut spares, u32::MAX)?;
+        match next {
+            Some(packet) => feed_through(alloc, stages, packet, fused_sink),
             None => return Ok(()),
         }
     }

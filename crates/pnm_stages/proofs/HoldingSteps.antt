@@ -1,43 +1,34 @@
 -- What a stage holds back of an image, and what it has sent, step by step.
 use Rattle.std.specs.Prelude.{IsTrue, IsFalse}
-use Rattle.std.proofs.Common.{◌≡◌, ◌⊎◌, inl, inr, ℕ, Bool, true, false, List, [], ◌∷◌, ◌++◌, Option, refl, sym, ap, subst, ◌∙◌, append_assoc, append-nil}
-use Rattle.std.specs.List.{AllByRecursion}
+use Rattle.std.proofs.Common.{◌≡◌, ◌⊎◌, inl, inr, ◌≤◌, Bool, true, false, List, [], ◌∷◌, ◌++◌, length, Option, refl, sym, ap, subst, ◌∙◌, append_assoc}
+use Rattle.std.proofs.Common.{append-nil, arith}
 use Rattle.pnm_image.specs.declared.message.Message.{Message}
-use Rattle.pnm_image.specs.declared.message.Message.TheVariants.{Begin, Row, ImageEnd, StreamEnd, Stop}
-use Rattle.pnm_image.specs.declared.message.Ending.TheVariants.{More, BrokenOff}
-use Rattle.pnm_image.specs.Messages.{EndsBy, ending_of, without_stop}
+use Rattle.pnm_image.specs.declared.message.Message.TheVariants.{Stop}
+use Rattle.pnm_image.specs.declared.message.Ending.{Ending}
+use Rattle.pnm_image.specs.declared.message.Ending.TheVariants.{More}
+use Rattle.pnm_image.specs.Messages.{EndsBy, without_stop}
 use Rattle.pnm_image.specs.Completion.{IsPrefixOf}
-use Rattle.pnm_image.specs.Rows.{row_messages}
 use Rattle.pnm_image.specs.declared.packet.Packet.{Packet}
-use Rattle.pnm_image.specs.declared.packet.Packet.TheVariants.{Begin as Begins, Rows, Image, ImageEnd as EndsImage, StreamEnd as EndsStream, Stop as Stops}
-use Rattle.pnm_image.specs.Packets.{messages_in}
-use Rattle.pnm_image.proofs.Lists.{all_of_prefix, each-middle, each-push, same_first, same_rest}
+use Rattle.pnm_image.specs.Packets.{messages_in, ending_of_packet}
+use Rattle.pnm_image.proofs.Lists.{same_first, same_rest}
 use Rattle.pnm_tools.specs.declared.fault.ToolFault.{ToolFault}
 use Rattle.pnm_tools.specs.declared.tool.Tool.{Tool}
 use Rattle.pnm_tools.specs.declared.fused_filter.FusedFilter.{FusedFilter}
-use Rattle.pnm_tools.specs.declared.fused_filter.FusedFilter.TheVariants.{AtWork, Refused}
-use Rattle.pnm_tools.specs.declared.fault.ToolFault.TheVariants.{Memory}
-use Rattle.pnm_tools.specs.Answers.{AnswersInFull}
-use Rattle.pnm_tools.specs.ChainAnswers.{IsRefusedNext}
 use Rattle.pnm_tools.specs.FusedFilters.{FilterAt, FilterBusy}
+use Rattle.pnm_tools.specs.Unfed.{HasFedNext}
 use Rattle.pnm_tools.proofs.FullLaws.{prefix_of_prefix}
 use Rattle.pnm_tools.proofs.InFullLaws.{ends_after}
-use Rattle.pnm_tools.proofs.SoundLaws.{both_all}
 use Rattle.pnm_stages.specs.StageParts.{HasAnsweredPart, HasPassed}
 use Rattle.pnm_stages.specs.declared.held_image.HeldImage.{HeldImage}
-use Rattle.pnm_stages.specs.HeldImages.{held_messages, HasSentOrHeld, HasHeldAnswers, HasPassedOrHeld}
-use Rattle.pnm_stages.proofs.EndingLaws.{prefix_goes_on, one_ending}
-use Rattle.pnm_stages.proofs.PassingSteps.{part_of_more}
+use Rattle.pnm_stages.specs.HeldImages.{held_messages, EachPartAnswers, HasSentOrHeld, HasHeldAnswers}
+use Rattle.pnm_stages.proofs.EndingLaws.{prefix_goes_on}
+use Rattle.pnm_stages.proofs.PacketLaws.{ends_with_packet}
 use Rattle.pnm_stages.proofs.PrefixLaws.{prefix_without_stop}
 use Rattle.pnm_stages.proofs.RingSteps.{ends_nothing}
 use Rattle.pnm_stages.proofs.SendingSteps.{GivesAnswers, part_of}
 use Rattle.pnm_stages.proofs.StagedSteps.{part_at}
 
 -- ---- what is held
-
--- what comes is held, too
-pub holds : (held came s : List Message) → HasSentOrHeld true held came (held ++ came) s s
-holds held came s = record { more = []; rest = held ++ came; added = sym (append-nil s); parts = refl; kept = λ all. refl }
 
 -- nothing came
 abbrev pub holds_on : (held s : List Message) → HasSentOrHeld true held [] held s s
@@ -86,111 +77,88 @@ lost_then held now new first second s s1 before = record {
 pub held_before : (all : Bool) (held came new s s1 : List Message) → HasSentOrHeld all [] (held ++ came) new s s1 → HasSentOrHeld all held came new s s1
 held_before all held came new s s1 on = record { more = on.more; rest = on.rest; added = on.added; parts = on.parts; kept = on.kept }
 
--- ---- no Stop
+-- ---- each part of what was given
 
-abbrev pub GoesOn : Message → Type 0
-GoesOn m = m ≡ Stop → ⊥
-
-goes_on : (m : Message) → ending_of m ≡ More → GoesOn m
-goes_on m more same = let broken : ending_of m ≡ BrokenOff = ap ending_of same in absurd cc
-
-all_go_on : (l : List Message) → EndsBy More l → AllByRecursion GoesOn l
-all_go_on [] ends = tt
-all_go_on (m ∷ []) ends = (goes_on m ends, tt)
-all_go_on (m ∷ n ∷ l) ends = (goes_on m ends.0, all_go_on (n ∷ l) ends.1)
-
-first_ends : (a b : List Message) → EndsBy More (a ++ b) → EndsBy More a
-first_ends a [] ends = subst (EndsBy More) (append-nil a) ends
-first_ends a (m ∷ b) ends = prefix_goes_on More a m b ends
-
-last_goes_on : (a b : List Message) → AllByRecursion GoesOn (a ++ b) → AllByRecursion GoesOn b
-last_goes_on [] b all = all
-last_goes_on (m ∷ a) b all = last_goes_on a b all.1
-
-rows_go_on : (rows : List (List ℕ)) → AllByRecursion GoesOn (row_messages rows)
-rows_go_on [] = tt
-rows_go_on (row ∷ rows) = (λ e. absurd cc, rows_go_on rows)
-
-packet_goes_on : (packet : Packet) → (messages_in packet ≡ Stop ∷ []) ⊎ AllByRecursion GoesOn (messages_in packet)
-packet_goes_on (Begins head) = inr (λ e. absurd cc, tt)
-packet_goes_on (Rows rows) = inr (rows_go_on rows)
-packet_goes_on (Image head rows) = inr (λ e. absurd cc, each-push GoesOn (row_messages rows) ImageEnd (rows_go_on rows) (λ e. absurd cc))
-packet_goes_on EndsImage = inr (λ e. absurd cc, tt)
-packet_goes_on EndsStream = inr (λ e. absurd cc, tt)
-packet_goes_on Stops = inl refl
-
-none_left : (g more : List Message) → g ++ more ≡ [] → g ≡ []
-none_left [] more same = refl
-none_left (x ∷ g) more same = absurd cc
-
-abbrev IsLastIn : List Message → List Message → List Message → Type 0
-IsLastIn g more prefix = ((r : List Message) × (more ≡ r ++ Stop ∷ [])) ⊎ (g ≡ prefix ++ Stop ∷ [])
-
-later : (x y : Message) (g more prefix : List Message) → x ≡ y → IsLastIn g more prefix → IsLastIn (x ∷ g) more (y ∷ prefix)
-later x y g more prefix same (inl within) = inl within
-later x y g more prefix same (inr before) = inr (ap (λ (l : List Message). x ∷ l) before ∙ ap (λ (m : Message). m ∷ (prefix ++ Stop ∷ [])) same)
-
--- the last Stop of two lists is in the second, or the second is empty
-stop_in : (g more prefix : List Message) → g ++ more ≡ prefix ++ Stop ∷ []
-    → IsLastIn g more prefix
-stop_in [] more prefix same = inl (prefix, same)
-stop_in (x ∷ g) more [] same = inr (ap (λ (l : List Message). x ∷ l) (none_left g more (same_rest x Stop (g ++ more) [] same))
-    ∙ ap (λ (m : Message). m ∷ []) (same_first x Stop (g ++ more) [] same))
-stop_in (x ∷ g) more (y ∷ prefix) same =
-    later x y g more prefix (same_first x y (g ++ more) (prefix ++ Stop ∷ []) same)
-    (stop_in g more prefix (same_rest x y (g ++ more) (prefix ++ Stop ∷ []) same))
-
-not_broken : (accepted rest : List Message) → EndsBy More (accepted ++ rest) → EndsBy BrokenOff accepted → ⊥
-not_broken accepted rest ends broken = let same = one_ending More BrokenOff accepted (first_ends accepted rest ends) broken in absurd cc
-
--- what a tool gave for messages that go on has no last Stop
-no_last_stop : (tool : Tool) (l g prefix : List Message) → HasAnsweredPart tool l g → EndsBy More l → g ≡ prefix ++ Stop ∷ [] → ⊥
-no_last_stop tool l g prefix part ends same = let broken = part.answers.stop prefix same in
-    not_broken part.accepted part.rest (subst (EndsBy More) part.parts ends) broken
-
-whole : (g given more rest : List Message) → given ≡ more ++ rest → (g ++ more) ++ rest ≡ g ++ given
-whole g given more rest parts = append_assoc g more rest ∙ ap (λ (x : List Message). g ++ x) (sym parts)
-
-no_stop_in : (g more prefix : List Message) → ((before : List Message) → g ≡ before ++ Stop ∷ [] → ⊥) → AllByRecursion GoesOn more
-    → IsLastIn g more prefix → ⊥
-no_stop_in g more prefix none go (inl within) = each-middle GoesOn within.0 Stop [] (subst (AllByRecursion GoesOn) within.1 go) refl
-no_stop_in g more prefix none go (inr before) = none prefix before
-
--- the first of what it gave answers a part as well
-first_answered : (tool : Tool) (l g given more rest : List Message) → HasAnsweredPart tool l (g ++ given) → given ≡ more ++ rest
-    → AllByRecursion GoesOn given → ((prefix : List Message) → g ≡ prefix ++ Stop ∷ [] → ⊥) → HasAnsweredPart tool l (g ++ more)
-first_answered tool l g given more rest part parts go none = record {
+-- a part that was answered, where more was passed
+part_of_more : (tool : Tool) (l g more : List Message) → HasAnsweredPart tool l g → HasAnsweredPart tool (l ++ more) g
+part_of_more tool l g more part = record {
   accepted = part.accepted;
-  rest = part.rest;
-  parts = part.parts;
-  answers = record {
-    lawful = part.answers.lawful;
-    prefix = λ is completes. prefix_of_prefix _ _ _
-        (subst (λ (x : List Message). IsPrefixOf (without_stop (g ++ more)) (without_stop x)) (whole g given more rest parts)
-        (prefix_without_stop (g ++ more) rest))
-        (part.answers.prefix is completes);
-    stop = λ prefix same.
-        absurd (no_stop_in g more prefix none (all_of_prefix GoesOn more rest (subst (AllByRecursion GoesOn) parts go)) (stop_in g more prefix same));
-  };
+  rest = part.rest ++ more;
+  parts = ap (λ (x : List Message). x ++ more) part.parts ∙ append_assoc part.accepted part.rest more;
+  answers = part.answers;
 }
 
--- a tool that has given all has given nothing that ends the stream, if nothing that it took does
-unbroken_by : (tool : Tool) (fault : ToolFault) (accepted rest g : List Message) → EndsBy More (accepted ++ rest)
-    → ((fault ≡ Memory) × EndsBy More g) ⊎ (AnswersInFull tool accepted g × IsRefusedNext tool fault accepted rest) → EndsBy More g
-unbroken_by tool fault accepted rest g ends (inl early) = early.1
-unbroken_by tool fault accepted rest g ends (inr full) = full.0.ends More (first_ends accepted rest ends)
+no_part : (more rest : List Message) → [] ≡ more ++ rest → [] ≡ more
+no_part [] rest same = refl
+no_part (x ∷ more) rest same = absurd cc
 
-idle_unbroken : {F : Type 0} (at : F → Tool → List Message → List Message → Type 0) (all_given : F → Bool) (stopped : F → Option ToolFault)
-    (stage : FusedFilter F) (tool : Tool) (l g : List Message) → EndsBy More l → FilterAt at all_given stopped stage tool l g → EndsBy More g
-idle_unbroken at all_given stopped (AtWork filter) tool l g ends idle = idle.full.ends More ends
-idle_unbroken at all_given stopped (Refused fault) tool l g ends has =
-    unbroken_by tool fault has.accepted has.rest g (subst (EndsBy More) has.parts ends) has.refused
+-- nothing was given since
+none_since : (tool : Tool) (l g : List Message) → HasAnsweredPart tool l g → EachPartAnswers tool l g []
+none_since tool l g part more rest same =
+    subst (HasAnsweredPart tool l) (sym (append-nil g) ∙ ap (λ (x : List Message). g ++ x) (no_part more rest same)) part
 
--- some of what it gave answers a part, if that comes first
-part_of_given : (tool : Tool) (l g given more rest : List Message) → HasAnsweredPart tool l (g ++ given) → given ≡ more ++ rest
-    → AllByRecursion GoesOn given → AllByRecursion GoesOn g → HasAnsweredPart tool l (g ++ more)
-part_of_given tool l g given more rest part parts go before = first_answered tool l g given more rest part parts go
-    (λ prefix same. each-middle GoesOn prefix Stop [] (subst (AllByRecursion GoesOn) same before) refl)
+all_of : (tool : Tool) (l g given : List Message) → EachPartAnswers tool l g given → HasAnsweredPart tool l (g ++ given)
+all_of tool l g given parts = parts given [] (sym (append-nil given))
+
+-- a first part of two lists: one of the first list, or all of that and one of the second
+abbrev IsPartOfBoth : List Message → List Message → List Message → List Message → Type 0
+IsPartOfBoth a b more rest = ((left : List Message) × (a ≡ more ++ left)) ⊎ ((front : List Message) × (more ≡ a ++ front) × (b ≡ front ++ rest))
+
+one_before : (x y : Message) (a b more rest : List Message) → x ≡ y → IsPartOfBoth a b more rest → IsPartOfBoth (x ∷ a) b (y ∷ more) rest
+one_before x y a b more rest same (inl first) = inl (first.0, ap (λ (m : Message). m ∷ a) same ∙ ap (λ (l : List Message). y ∷ l) first.1)
+one_before x y a b more rest same (inr both) =
+    inr (both.0, ap (λ (m : Message). m ∷ more) (sym same) ∙ ap (λ (l : List Message). x ∷ l) both.1, both.2)
+
+part_of_both : (a b more rest : List Message) → a ++ b ≡ more ++ rest → IsPartOfBoth a b more rest
+part_of_both [] b more rest same = inr (more, refl, same)
+part_of_both (x ∷ a) b [] rest same = inl (x ∷ a, refl)
+part_of_both (x ∷ a) b (y ∷ more) rest same =
+    one_before x y a b more rest (same_first x y (a ++ b) (more ++ rest) same) (part_of_both a b more rest (same_rest x y (a ++ b) (more ++ rest) same))
+
+part_by : (tool : Tool) (l g first second more rest : List Message) → EachPartAnswers tool l g first → EachPartAnswers tool l (g ++ first) second
+    → IsPartOfBoth first second more rest → HasAnsweredPart tool l (g ++ more)
+part_by tool l g first second more rest before after (inl within) = before more within.0 within.1
+part_by tool l g first second more rest before after (inr past) =
+    subst (HasAnsweredPart tool l) (append_assoc g first past.0 ∙ ap (λ (x : List Message). g ++ x) (sym past.1)) (after past.0 rest past.2)
+
+-- and then more was given
+then_given : (tool : Tool) (l g first second : List Message) → EachPartAnswers tool l g first → EachPartAnswers tool l (g ++ first) second
+    → EachPartAnswers tool l g (first ++ second)
+then_given tool l g first second before after more rest same =
+    part_by tool l g first second more rest before after (part_of_both first second more rest same)
+
+no_stop : (prefix : List Message) → EndsBy More (prefix ++ Stop ∷ []) → ⊥
+no_stop [] ends = absurd cc
+no_stop (x ∷ []) ends = absurd cc
+no_stop (x ∷ y ∷ prefix) ends = no_stop (y ∷ prefix) ends.1
+
+goes_on : (g front : List Message) (x : Message) (prefix : List Message) → EndsBy More (x ∷ front) → g ++ x ∷ front ≡ prefix ++ Stop ∷ [] → ⊥
+goes_on [] front x prefix ends same = no_stop prefix (subst (EndsBy More) same ends)
+goes_on (y ∷ []) front x [] ends same = absurd cc
+goes_on (y ∷ z ∷ g) front x [] ends same = absurd cc
+goes_on (y ∷ g) front x (z ∷ prefix) ends same = goes_on g front x prefix ends (same_rest y z (g ++ x ∷ front) (prefix ++ Stop ∷ []) same)
+
+-- a packet answers, and so does each part of it, since only its last message may be Stop
+parts_of_packet : (tool : Tool) (l g : List Message) (packet : Packet) → HasAnsweredPart tool l g → HasAnsweredPart tool l (g ++ messages_in packet)
+    → EachPartAnswers tool l g (messages_in packet)
+parts_of_packet tool l g packet before after [] rest same = subst (HasAnsweredPart tool l) (sym (append-nil g)) before
+parts_of_packet tool l g packet before after (x ∷ front) [] same =
+    subst (λ (p : List Message). HasAnsweredPart tool l (g ++ p)) (same ∙ append-nil (x ∷ front)) after
+parts_of_packet tool l g packet before after (x ∷ front) (y ∷ rest) same = record {
+  accepted = after.accepted;
+  rest = after.rest;
+  parts = after.parts;
+  answers = record {
+    lawful = after.answers.lawful;
+    prefix = λ is completes. prefix_of_prefix _ _ _
+        (subst (λ (p : List Message). IsPrefixOf (without_stop (g ++ x ∷ front)) (without_stop p))
+        (append_assoc g (x ∷ front) (y ∷ rest) ∙ ap (λ (p : List Message). g ++ p) (sym same))
+        (prefix_without_stop (g ++ x ∷ front) (y ∷ rest)))
+        (after.answers.prefix is completes);
+    stop = λ prefix stops. absurd (goes_on g front x prefix (prefix_goes_on (ending_of_packet packet) (x ∷ front) y rest
+        (subst (EndsBy (ending_of_packet packet)) same (ends_with_packet [] packet refl))) stops);
+  };
+}
 
 -- ---- answer by answer
 
@@ -200,23 +168,16 @@ pub record IsHolding {F : Type 0} (at : F → Tool → List Message → List Mes
   pub given : List Message
   pub on : HasSentOrHeld all held_old given held_now sent_old sent_now
   pub busy : (tool : Tool) (l g : List Message) → FilterBusy at stopped old tool l g → FilterBusy at stopped now tool l (g ++ given)
-  pub unbroken : (tool : Tool) (l g : List Message) → EndsBy More l → FilterBusy at stopped old tool l g → AllByRecursion GoesOn given
+  pub parts : (tool : Tool) (l g : List Message) → FilterBusy at stopped old tool l g → EachPartAnswers tool l g given
 
-pub holds_nothing_yet : {F : Type 0} (at : F → Tool → List Message → List Message → Type 0) (stopped : F → Option ToolFault) (stage : FusedFilter F)
-    (held s : List Message) → IsHolding at stopped true stage stage held held s s
-holds_nothing_yet at stopped stage held s = record {
+pub holds_nothing_yet : {F : Type 0} (at : F → Tool → List Message → List Message → Type 0) (stopped : F → Option ToolFault) → GivesAnswers at
+    → (stage : FusedFilter F) (held s : List Message) → IsHolding at stopped true stage stage held held s s
+holds_nothing_yet at stopped law stage held s = record {
   given = [];
   on = holds_on held s;
   busy = λ tool l g busy. subst (FilterBusy at stopped stage tool l) (sym (append-nil g)) busy;
-  unbroken = λ tool l g ends busy. tt;
+  parts = λ tool l g busy. none_since tool l g (part_of at stopped law stage tool l g busy);
 }
-
-answer_goes_on : {F : Type 0} (at : F → Tool → List Message → List Message → Type 0) (stopped : F → Option ToolFault) → GivesAnswers at
-    → (next : FusedFilter F) (packet : Packet) (tool : Tool) (l g : List Message) → EndsBy More l → FilterBusy at stopped next tool l (g ++ messages_in packet)
-    → (messages_in packet ≡ Stop ∷ []) ⊎ AllByRecursion GoesOn (messages_in packet) → AllByRecursion GoesOn (messages_in packet)
-answer_goes_on at stopped law next packet tool l g ends busy (inr go) = go
-answer_goes_on at stopped law next packet tool l g ends busy (inl stop) = absurd (no_last_stop tool l (g ++ messages_in packet) g
-    (part_of at stopped law next tool l (g ++ messages_in packet) busy) ends (ap (λ (x : List Message). g ++ x) stop))
 
 -- an answer more was sent or held back, or it was lost
 pub holds_more : {F : Type 0} (at : F → Tool → List Message → List Message → Type 0) (stopped : F → Option ToolFault) → GivesAnswers at → (all : Bool)
@@ -230,183 +191,122 @@ holds_more at stopped law all old now next packet held held_now held_new s s_now
   on = sent_then all held held_now held_new holding.given (messages_in packet) s s_now s_new holding.on on;
   busy = λ tool l g busy. subst (FilterBusy at stopped next tool l) (append_assoc g holding.given (messages_in packet))
       (gives tool l (g ++ holding.given) (holding.busy tool l g busy));
-  unbroken = λ tool l g ends busy. both_all GoesOn holding.given (messages_in packet) (holding.unbroken tool l g ends busy)
-      (answer_goes_on at stopped law next packet tool l (g ++ holding.given) ends (gives tool l (g ++ holding.given) (holding.busy tool l g busy))
-      (packet_goes_on packet));
+  parts = λ tool l g busy. then_given tool l g holding.given (messages_in packet) (holding.parts tool l g busy)
+      (parts_of_packet tool l (g ++ holding.given) packet (all_of tool l g holding.given (holding.parts tool l g busy))
+      (part_of at stopped law next tool l ((g ++ holding.given) ++ messages_in packet) (gives tool l (g ++ holding.given) (holding.busy tool l g busy))));
 }
 
--- an answer was lost, since the other end is gone
-pub loses_held : {F : Type 0} (at : F → Tool → List Message → List Message → Type 0) (all_given : F → Bool) (stopped : F → Option ToolFault) → GivesAnswers at
-    → (old now : FusedFilter F) (held held_now s s_now : List Message) → IsHolding at stopped false old now held held_now s s_now
-    → HasHeldAnswers at all_given stopped false old now held held_now s s_now
-loses_held at all_given stopped law old now held held_now s s_now holding = record {
+-- all was given and sent or held back, or the other end is gone
+pub holds_all : {F : Type 0} (at : F → Tool → List Message → List Message → Type 0) (all_given : F → Bool) (stopped : F → Option ToolFault) (all : Bool)
+    (old now next : FusedFilter F) (held held_now s s_now : List Message) → IsHolding at stopped all old now held held_now s s_now
+    → (all ≡ true → (tool : Tool) (l g : List Message) → FilterBusy at stopped now tool l g → FilterAt at all_given stopped next tool l g)
+    → HasHeldAnswers at all_given stopped all old next held held_now s s_now
+holds_all at all_given stopped all old now next held held_now s s_now holding full = record {
   given = holding.given;
   on = holding.on;
-  full = λ all. absurd cc;
-  part = λ none tool l g ends unbroken busy.
-      let go : AllByRecursion GoesOn (g ++ held) = all_go_on (g ++ held) unbroken in
-      part_of_given tool l g (held ++ holding.given) holding.on.more holding.on.rest
-      (subst (HasAnsweredPart tool l) (append_assoc g held holding.given)
-      (part_of at stopped law now tool l ((g ++ held) ++ holding.given) (holding.busy tool l (g ++ held) busy)))
-      (sym holding.on.parts)
-      (both_all GoesOn held holding.given (last_goes_on g held go) (holding.unbroken tool l (g ++ held) ends busy))
-      (all_of_prefix GoesOn g held go);
+  full = λ is tool l g busy. full is tool l (g ++ holding.given) (holding.busy tool l g busy);
+  parts = holding.parts;
 }
 
--- all was sent or held back
-pub holds_all : {F : Type 0} (at : F → Tool → List Message → List Message → Type 0) (all_given : F → Bool) (stopped : F → Option ToolFault)
-    (old now next : FusedFilter F) (held held_now s s_now : List Message) → IsHolding at stopped true old now held held_now s s_now
-    → ((tool : Tool) (l g : List Message) → FilterBusy at stopped now tool l g → FilterAt at all_given stopped next tool l g)
-    → HasHeldAnswers at all_given stopped true old next held held_now s s_now
-holds_all at all_given stopped old now next held held_now s s_now holding full = record {
-  given = holding.given;
-  on = holding.on;
-  full = λ all tool l g busy. full tool l (g ++ holding.given) (holding.busy tool l g busy);
-  part = λ none. absurd cc;
-}
+-- ---- a packet, part by part
 
--- ---- message by message
+-- what a tool was fed of a packet so far, and its answers, which were sent or held back
+pub record IsFeeding {F : Type 0} (at : F → Tool → List Message → List Message → Type 0) (all_given : F → Bool) (stopped : F → Option ToolFault) (all : Bool)
+    (old now : FusedFilter F) (packet left held sent_old sent_now : List Message) : Type 0 where
+  pub fed : List Message
+  pub given : List Message
+  pub parts : packet ≡ fed ++ left
+  pub on : HasSentOrHeld all [] given held sent_old sent_now
+  pub full : all ≡ true → (tool : Tool) (l g : List Message) → FilterAt at all_given stopped old tool l g
+      → FilterAt at all_given stopped now tool (l ++ fed) (g ++ given)
+  pub answers : (tool : Tool) (l g : List Message) → FilterAt at all_given stopped old tool l g → EachPartAnswers tool (l ++ fed) g given
 
--- a message was fed, or rows together, and the answers were sent or held back
-pub held_fed : {F : Type 0} (at : F → Tool → List Message → List Message → Type 0) (all_given : F → Bool) (stopped : F → Option ToolFault) (all : Bool)
-    (old fed new : FusedFilter F) (passed held held_new s s1 : List Message)
-    → ((tool : Tool) (l g : List Message) → FilterAt at all_given stopped old tool l g → FilterBusy at stopped fed tool (l ++ passed) g)
-    → HasHeldAnswers at all_given stopped all fed new held held_new s s1 → HasPassedOrHeld at all_given stopped all old new passed held held_new s s1
-held_fed at all_given stopped all old fed new passed held held_new s s1 feeds answers = record {
-  given = answers.given;
-  on = answers.on;
-  full = λ is tool l g ends idle. answers.full is tool (l ++ passed) g (feeds tool l g idle);
-  part = λ none tool l g ends goes idle. answers.part none tool (l ++ passed) g (ends_after More l passed (ends_nothing l ends) goes)
-      (idle_unbroken at all_given stopped old tool l (g ++ held) ends idle) (feeds tool l (g ++ held) idle);
-}
-
--- what a tool has given: what was sent of it, and what is held back now
-given_so_far : (g held held_now given : List Message) {s s1 : List Message} (on : HasSentOrHeld true held given held_now s s1)
-    → (g ++ held) ++ given ≡ (g ++ on.more) ++ held_now
-given_so_far g held held_now given on = append_assoc g held given
-    ∙ ap (λ (x : List Message). g ++ x) (sym on.parts ∙ ap (λ (x : List Message). on.more ++ x) (on.kept refl))
-    ∙ sym (append_assoc g on.more held_now)
-
--- and then more
-pub held_then : {F : Type 0} (at : F → Tool → List Message → List Message → Type 0) (all_given : F → Bool) (stopped : F → Option ToolFault) (all : Bool)
-    (old now new : FusedFilter F) (first second held held_now held_new s s1 s2 : List Message) → EndsBy More first → EndsBy More second
-    → HasPassedOrHeld at all_given stopped true old now first held held_now s s1
-    → HasPassedOrHeld at all_given stopped all now new second held_now held_new s1 s2
-    → HasPassedOrHeld at all_given stopped all old new (first ++ second) held held_new s s2
-held_then at all_given stopped all old now new first second held held_now held_new s s1 s2 goes then before after = record {
-  given = before.given ++ after.given;
-  on = sent_then all held held_now held_new before.given after.given s s1 s2 before.on after.on;
-  full = λ is tool l g ends idle.
-      subst (λ (x : List Message). FilterAt at all_given stopped new tool x (g ++ (before.given ++ after.given))) (append_assoc l first second)
-      (subst (FilterAt at all_given stopped new tool ((l ++ first) ++ second)) (append_assoc g before.given after.given)
-      (after.full is tool (l ++ first) (g ++ before.given) (ends_after More l first (ends_nothing l ends) goes) (before.full refl tool l g ends idle)));
-  part = λ none tool l g ends both idle.
-      subst (λ (x : List Message). HasAnsweredPart tool x (g ++ (before.on.more ++ after.on.more))) (append_assoc l first second)
-      (subst (HasAnsweredPart tool ((l ++ first) ++ second)) (append_assoc g before.on.more after.on.more)
-      (after.part none tool (l ++ first) (g ++ before.on.more) (ends_after More l first (ends_nothing l ends) goes) then
-      (subst (FilterAt at all_given stopped now tool (l ++ first)) (given_so_far g held held_now before.given before.on)
-      (before.full refl tool l (g ++ held) ends idle))));
-}
-
--- the rest was lost, since the other end is gone
-pub held_lost : {F : Type 0} (at : F → Tool → List Message → List Message → Type 0) (all_given : F → Bool) (stopped : F → Option ToolFault)
-    (old new : FusedFilter F) (first second held held_new s s1 : List Message) → EndsBy More first
-    → HasPassedOrHeld at all_given stopped false old new first held held_new s s1
-    → HasPassedOrHeld at all_given stopped false old new (first ++ second) held held_new s s1
-held_lost at all_given stopped old new first second held held_new s s1 goes has = record {
-  given = has.given;
-  on = has.on;
-  full = λ is. absurd cc;
-  part = λ none tool l g ends both idle. subst (λ (x : List Message). HasAnsweredPart tool x (g ++ has.on.more)) (append_assoc l first second)
-      (part_of_more tool (l ++ first) (g ++ has.on.more) second (has.part none tool l g ends goes idle));
-}
-
--- ---- what was held was sent
-
-all_sent : (held : List Message) {s s1 : List Message} (sends : HasSentOrHeld true held [] [] s s1) → held ≡ sends.more
-all_sent held sends = sym (append-nil held) ∙ sym sends.parts ∙ ap (λ (x : List Message). sends.more ++ x) (sends.kept refl) ∙ append-nil sends.more
-
--- and what the tool gives then is sent at once
-pub held_sent : {F : Type 0} (at : F → Tool → List Message → List Message → Type 0) (all_given : F → Bool) (stopped : F → Option ToolFault) (all : Bool)
-    (old new : FusedFilter F) (passed held s s1 s2 : List Message) → HasSentOrHeld true held [] [] s s1
-    → HasPassed at all_given stopped all old new passed s1 s2 → HasPassedOrHeld at all_given stopped all old new passed held [] s s2
-held_sent at all_given stopped all old new passed held s s1 s2 sends has = record {
-  given = has.more;
-  on = sent_then all held [] [] [] has.more s s1 s2 sends (sends_more all has.more s1 s2 has.added);
-  full = has.full;
-  part = λ none tool l g ends goes idle.
-      subst (HasAnsweredPart tool (l ++ passed)) (append_assoc g held has.more ∙ ap (λ (x : List Message). g ++ (x ++ has.more)) (all_sent held sends))
-      (has.part tool l (g ++ held) ends idle);
-}
-
--- or not all of it, since the other end is gone
-pub held_gone : {F : Type 0} (at : F → Tool → List Message → List Message → Type 0) (all_given : F → Bool) (stopped : F → Option ToolFault)
-    (stage : FusedFilter F) (passed held s s1 : List Message) → HasSentOrHeld false held [] [] s s1
-    → HasPassedOrHeld at all_given stopped false stage stage passed held [] s s1
-held_gone at all_given stopped stage passed held s s1 sends = record {
+pub feeds_nothing_yet : {F : Type 0} (at : F → Tool → List Message → List Message → Type 0) (all_given : F → Bool) (stopped : F → Option ToolFault)
+    (stage : FusedFilter F) (packet left s : List Message) → left ≡ packet → IsFeeding at all_given stopped true stage stage packet left [] s s
+feeds_nothing_yet at all_given stopped stage packet left s same = record {
+  fed = [];
   given = [];
-  on = sends;
-  full = λ is. absurd cc;
-  part = λ none tool l g ends goes idle.
-      let go : AllByRecursion GoesOn (g ++ held) = all_go_on (g ++ held) (idle_unbroken at all_given stopped stage tool l (g ++ held) ends idle) in
-      part_of_more tool l (g ++ sends.more) passed
-      (part_of_given tool l g held sends.more sends.rest (part_at at all_given stopped stage tool l (g ++ held) idle)
-      (sym (append-nil held) ∙ sym sends.parts) (last_goes_on g held go) (all_of_prefix GoesOn g held go));
+  parts = sym same;
+  on = holds_on [] s;
+  full = λ all tool l g idle. subst (λ (x : List Message). FilterAt at all_given stopped stage tool x (g ++ [])) (sym (append-nil l))
+      (subst (FilterAt at all_given stopped stage tool l) (sym (append-nil g)) idle);
+  answers = λ tool l g idle. none_since tool (l ++ []) g (part_of_more tool l g [] (part_at at all_given stopped stage tool l g idle));
 }
 
--- the same of rows that came back, since not all of them may come
-pub held_each : {F : Type 0} (at : F → Tool → List Message → List Message → Type 0) (all_given : F → Bool) (stopped : F → Option ToolFault) (all : Bool)
-    (old same new : FusedFilter F) (rows back : List (List ℕ)) (held held_new s s1 s2 : List Message) → (back ≡ rows) × (same ≡ old) → held_new ≡ []
-    → HasSentOrHeld true held [] [] s s1 → HasPassed at all_given stopped all same new (row_messages back) s1 s2
-    → HasPassedOrHeld at all_given stopped all old new (row_messages rows) held held_new s s2
-held_each at all_given stopped all old same new rows back held held_new s s1 s2 kept none sends has =
-    subst (λ (h : List Message). HasPassedOrHeld at all_given stopped all old new (row_messages rows) held h s s2) (sym none)
-    (subst (λ (f : FusedFilter _). HasPassedOrHeld at all_given stopped all f new (row_messages rows) held [] s s2) kept.1
-    (subst (λ (r : List (List ℕ)). HasPassedOrHeld at all_given stopped all same new (row_messages r) held [] s s2) kept.0
-    (held_sent at all_given stopped all same new (row_messages back) held s s1 s2 sends has)))
+-- the next part was fed, and its answers were sent or held back
+pub feeds_more : {F : Type 0} (at : F → Tool → List Message → List Message → Type 0) (all_given : F → Bool) (stopped : F → Option ToolFault) (all : Bool)
+    (old now busy next : FusedFilter F) (packet left rest held held_new s s_now s_new : List Message)
+    → IsFeeding at all_given stopped true old now packet left held s s_now → HasFedNext at all_given stopped now busy left rest
+    → HasHeldAnswers at all_given stopped all busy next held held_new s_now s_new
+    → IsFeeding at all_given stopped all old next packet rest held_new s s_new
+feeds_more at all_given stopped all old now busy next packet left rest held held_new s s_now s_new feeding fed held_answers =
+    let is_busy : (tool : Tool) (l g : List Message) → FilterAt at all_given stopped old tool l g
+    → FilterBusy at stopped busy tool (l ++ (feeding.fed ++ fed.fed)) (g ++ feeding.given) = λ tool l g idle.
+    subst (λ (x : List Message). FilterBusy at stopped busy tool x (g ++ feeding.given)) (append_assoc l feeding.fed fed.fed)
+    (fed.busy tool (l ++ feeding.fed) (g ++ feeding.given) (feeding.full refl tool l g idle)) in
+    record {
+      fed = feeding.fed ++ fed.fed;
+      given = feeding.given ++ held_answers.given;
+      parts = feeding.parts ∙ ap (λ (x : List Message). feeding.fed ++ x) fed.parts ∙ sym (append_assoc feeding.fed fed.fed rest);
+      on = sent_then all [] held held_new feeding.given held_answers.given s s_now s_new feeding.on held_answers.on;
+      full = λ is tool l g idle. subst (FilterAt at all_given stopped next tool (l ++ (feeding.fed ++ fed.fed)))
+          (append_assoc g feeding.given held_answers.given)
+          (held_answers.full is tool (l ++ (feeding.fed ++ fed.fed)) (g ++ feeding.given) (is_busy tool l g idle));
+      answers = λ tool l g idle. then_given tool (l ++ (feeding.fed ++ fed.fed)) g feeding.given held_answers.given
+          (λ more behind same. subst (λ (x : List Message). HasAnsweredPart tool x (g ++ more)) (append_assoc l feeding.fed fed.fed)
+          (part_of_more tool (l ++ feeding.fed) (g ++ more) fed.fed (feeding.answers tool l g idle more behind same)))
+          (held_answers.parts tool (l ++ (feeding.fed ++ fed.fed)) (g ++ feeding.given) (is_busy tool l g idle));
+    }
 
-pub lost_each : {F : Type 0} (at : F → Tool → List Message → List Message → Type 0) (all_given : F → Bool) (stopped : F → Option ToolFault)
-    (old same : FusedFilter F) (rows : List (List ℕ)) (held held_new s s1 : List Message) → same ≡ old → held_new ≡ []
-    → HasSentOrHeld false held [] [] s s1 → HasPassedOrHeld at all_given stopped false old same (row_messages rows) held held_new s s1
-lost_each at all_given stopped old same rows held held_new s s1 kept none sends =
-    subst (λ (h : List Message). HasPassedOrHeld at all_given stopped false old same (row_messages rows) held h s s1) (sym none)
-    (subst (λ (f : FusedFilter _). HasPassedOrHeld at all_given stopped false f same (row_messages rows) held [] s s1) kept
-    (held_gone at all_given stopped same (row_messages rows) held s s1 sends))
+goes_before : (e : Ending) (l fed left : List Message) → EndsBy e (fed ++ left) → EndsBy More l → 1 ≤ length left → EndsBy More (l ++ fed)
+goes_before e l fed [] ends goes some = absurd (omega (arith, some))
+goes_before e l fed (m ∷ left) ends goes some = ends_after More l fed (ends_nothing l goes) (prefix_goes_on e fed m left ends)
 
--- ---- a whole image
+-- what was sent answers a part
+sent_part : {F : Type 0} (at : F → Tool → List Message → List Message → Type 0) (all_given : F → Bool) (stopped : F → Option ToolFault) (all : Bool)
+    (old now : FusedFilter F) (packet left held s s1 : List Message) (feeding : IsFeeding at all_given stopped all old now packet left held s s1)
+    (more rest : List Message) → feeding.given ≡ more ++ rest
+    → (tool : Tool) (l g : List Message) → FilterAt at all_given stopped old tool l g → HasAnsweredPart tool (l ++ packet) (g ++ more)
+sent_part at all_given stopped all old now packet left held s s1 feeding more rest same tool l g idle =
+    subst (λ (x : List Message). HasAnsweredPart tool x (g ++ more)) (append_assoc l feeding.fed left ∙ ap (λ (x : List Message). l ++ x) (sym feeding.parts))
+    (part_of_more tool (l ++ feeding.fed) (g ++ more) left (feeding.answers tool l g idle more rest same))
 
--- all was passed, and what is held is sent in the end
-pub passes_held : {F : Type 0} (at : F → Tool → List Message → List Message → Type 0) (all_given : F → Bool) (stopped : F → Option ToolFault) (all : Bool)
-    (old new : FusedFilter F) (passed held s s1 s2 : List Message) → EndsBy More passed
-    → HasPassedOrHeld at all_given stopped true old new passed [] held s s1 → HasSentOrHeld all held [] [] s1 s2
-    → HasPassed at all_given stopped all old new passed s s2
-passes_held at all_given stopped all old new passed held s s1 s2 goes has sends =
-    let on : HasSentOrHeld all [] (has.given ++ []) [] s s2 = sent_then all [] held [] has.given [] s s1 s2 has.on sends in
-    let parts : has.given ≡ on.more ++ on.rest = sym (append-nil has.given) ∙ sym on.parts in
+-- the other end is gone, so the rest of the packet wasn't fed
+pub loses_rest : {F : Type 0} (at : F → Tool → List Message → List Message → Type 0) (all_given : F → Bool) (stopped : F → Option ToolFault)
+    (old now : FusedFilter F) (packet left held s s1 : List Message) → IsFeeding at all_given stopped false old now packet left held s s1
+    → HasPassed at all_given stopped false old now packet s s1
+loses_rest at all_given stopped old now packet left held s s1 feeding = record {
+  more = feeding.on.more;
+  added = feeding.on.added;
+  full = λ is. absurd cc;
+  part = λ tool l g ends. sent_part at all_given stopped false old now packet left held s s1 feeding feeding.on.more feeding.on.rest
+      (sym feeding.on.parts) tool l g;
+}
+
+-- the whole packet was fed, or the tool refused and the rest was dropped; and what is held was sent
+pub sends_rest : {F : Type 0} (at : F → Tool → List Message → List Message → Type 0) (all_given : F → Bool) (stopped : F → Option ToolFault) (all : Bool)
+    (old now last : FusedFilter F) (packet : Packet) (left held s s1 s2 : List Message)
+    → IsFeeding at all_given stopped true old now (messages_in packet) left held s s1
+    → ((tool : Tool) (l g : List Message) → FilterAt at all_given stopped now tool l g → (1 ≤ length left → EndsBy More l)
+    → FilterAt at all_given stopped last tool (l ++ left) g)
+    → HasSentOrHeld all held [] [] s1 s2 → HasPassed at all_given stopped all old last (messages_in packet) s s2
+sends_rest at all_given stopped all old now last packet left held s s1 s2 feeding drops sends =
+    let on : HasSentOrHeld all [] (feeding.given ++ []) [] s s2 = sent_then all [] held [] feeding.given [] s s1 s2 feeding.on sends in
+    let parts : feeding.given ≡ on.more ++ on.rest = sym (append-nil feeding.given) ∙ sym on.parts in
+    let ends : EndsBy (ending_of_packet packet) (feeding.fed ++ left) = subst (EndsBy (ending_of_packet packet)) feeding.parts
+    (ends_with_packet [] packet refl) in
     record {
       more = on.more;
       added = on.added;
-      full = λ is tool l g ends idle.
-          subst (λ (x : List Message). FilterAt at all_given stopped new tool (l ++ passed) (g ++ x))
-          (parts ∙ ap (λ (x : List Message). on.more ++ x) (on.kept is) ∙ append-nil on.more) (has.full refl tool l g ends idle);
-      part = λ tool l g ends idle.
-          let now : FilterAt at all_given stopped new tool (l ++ passed) (g ++ has.given) = has.full refl tool l g ends idle in
-          let go : AllByRecursion GoesOn (g ++ has.given) = all_go_on (g ++ has.given)
-          (idle_unbroken at all_given stopped new tool (l ++ passed) (g ++ has.given) (ends_after More l passed (ends_nothing l ends) goes) now) in
-          part_of_given tool (l ++ passed) g has.given on.more on.rest (part_at at all_given stopped new tool (l ++ passed) (g ++ has.given) now) parts
-          (last_goes_on g has.given go) (all_of_prefix GoesOn g has.given go);
+      full = λ is tool l g goes idle.
+          subst (λ (x : List Message). FilterAt at all_given stopped last tool x (g ++ on.more))
+          (append_assoc l feeding.fed left ∙ ap (λ (x : List Message). l ++ x) (sym feeding.parts))
+          (subst (λ (x : List Message). FilterAt at all_given stopped last tool ((l ++ feeding.fed) ++ left) (g ++ x))
+          (parts ∙ ap (λ (x : List Message). on.more ++ x) (on.kept is) ∙ append-nil on.more)
+          (drops tool (l ++ feeding.fed) (g ++ feeding.given) (feeding.full refl tool l g idle)
+          (goes_before (ending_of_packet packet) l feeding.fed left ends goes)));
+      part = λ tool l g goes. sent_part at all_given stopped true old now (messages_in packet) left held s s1 feeding on.more on.rest parts tool l g;
     }
-
--- not all was passed, since the other end is gone
-pub loses_image : {F : Type 0} (at : F → Tool → List Message → List Message → Type 0) (all_given : F → Bool) (stopped : F → Option ToolFault)
-    (old new : FusedFilter F) (passed held s s1 : List Message) → EndsBy More passed
-    → HasPassedOrHeld at all_given stopped false old new passed [] held s s1 → HasPassed at all_given stopped false old new passed s s1
-loses_image at all_given stopped old new passed held s s1 goes has = record {
-  more = has.on.more;
-  added = has.on.added;
-  full = λ is. absurd cc;
-  part = λ tool l g ends idle. has.part refl tool l g ends goes (subst (FilterAt at all_given stopped old tool l) (sym (append-nil g)) idle);
-}
 
 -- ---- as it is held
 

@@ -5,5 +5,4 @@ pub mod PrefixLaws
 mod LongestPrefixes
 pub mod SendingSteps
 pub mod StagedSteps
-pub mod PassingSteps
 pub mod HoldingSteps

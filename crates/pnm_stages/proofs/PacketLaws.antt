@@ -59,9 +59,6 @@ pub image_is_messages : (head : HeadValue) (rows : List (List ℕ)) → IsMessag
     → AllByRecursion IsMessage (Begin head ∷ row_messages rows ++ ImageEnd ∷ [])
 image_is_messages head rows is = (is, each-push IsMessage (row_messages rows) ImageEnd (rows_are_messages rows) tt)
 
-pub rest_ends_nothing : (rows : List (List ℕ)) → EndsBy More (row_messages rows ++ ImageEnd ∷ [])
-rest_ends_nothing rows = ends_with (row_messages rows) ImageEnd (rows_end_nothing rows)
-
 head_and_rows_end_nothing : (head : HeadValue) (rows : List (List ℕ)) → EndsBy More (Begin head ∷ row_messages rows)
 head_and_rows_end_nothing head [] = refl
 head_and_rows_end_nothing head (row ∷ rows) = (refl, rows_end_nothing (row ∷ rows))

@@ -2,8 +2,6 @@
 use Rattle.std.specs.Prelude.{◌≡◌, Bool, true, false, List, [], ◌∷◌, ◌++◌, Option}
 use Rattle.pnm_image.specs.declared.message.Message.{Message}
 use Rattle.pnm_image.specs.declared.message.Message.TheVariants.{Begin}
-use Rattle.pnm_image.specs.declared.message.Ending.TheVariants.{More}
-use Rattle.pnm_image.specs.Messages.{EndsBy}
 use Rattle.pnm_image.specs.Rows.{row_messages}
 use Rattle.pnm_tools.specs.declared.fault.ToolFault.{ToolFault}
 use Rattle.pnm_tools.specs.declared.tool.Tool.{Tool}
@@ -28,8 +26,12 @@ pub record HasSentOrHeld (all : Bool) (held_old came held_new sent_old sent_new 
   pub parts : more ++ rest ≡ held_old ++ came
   pub kept : all ≡ true → rest ≡ held_new
 
--- a tool has given answers, which were sent or held back: all that was due; or until the other end was seen dropped,
--- and then what was sent answers a part. Before that it had given what was sent, and what was held back.
+-- each first part of what was given after other messages answers a part of what was received
+abbrev pub EachPartAnswers : Tool → List Message → List Message → List Message → Type 0
+EachPartAnswers tool received before given =
+    (more rest : List Message) → given ≡ more ++ rest → HasAnsweredPart tool received (before ++ more)
+
+-- a tool has given answers, which were sent or held back: all that was due, or until the other end was seen dropped
 pub record HasHeldAnswers {F : Type 0} (at : F → Tool → List Message → List Message → Type 0) (all_given : F → Bool)
     (stopped : F → Option ToolFault) (all : Bool) (old new : FusedFilter F)
     (held_old held_new sent_old sent_new : List Message) : Type 0 where
@@ -37,18 +39,4 @@ pub record HasHeldAnswers {F : Type 0} (at : F → Tool → List Message → Lis
   pub on : HasSentOrHeld all held_old given held_new sent_old sent_new
   pub full : all ≡ true → (tool : Tool) (l g : List Message) → FilterBusy at stopped old tool l g
       → FilterAt at all_given stopped new tool l (g ++ given)
-  pub part : all ≡ false → (tool : Tool) (l g : List Message) → EndsBy More l → EndsBy More (g ++ held_old)
-      → FilterBusy at stopped old tool l (g ++ held_old) → HasAnsweredPart tool l (g ++ on.more)
-
--- a tool was passed these messages, and its answers were sent or held back: all of them; or until the other end was
--- seen dropped, and then what was sent answers a part
-pub record HasPassedOrHeld {F : Type 0} (at : F → Tool → List Message → List Message → Type 0) (all_given : F → Bool)
-    (stopped : F → Option ToolFault) (all : Bool) (old new : FusedFilter F)
-    (passed held_old held_new sent_old sent_new : List Message) : Type 0 where
-  pub given : List Message
-  pub on : HasSentOrHeld all held_old given held_new sent_old sent_new
-  pub full : all ≡ true → (tool : Tool) (l g : List Message) → EndsBy More l
-      → FilterAt at all_given stopped old tool l g
-      → FilterAt at all_given stopped new tool (l ++ passed) (g ++ given)
-  pub part : all ≡ false → (tool : Tool) (l g : List Message) → EndsBy More l → EndsBy More passed
-      → FilterAt at all_given stopped old tool l (g ++ held_old) → HasAnsweredPart tool (l ++ passed) (g ++ on.more)
+  pub parts : (tool : Tool) (l g : List Message) → FilterBusy at stopped old tool l g → EachPartAnswers tool l g given

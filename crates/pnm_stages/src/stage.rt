@@ -1,21 +1,19 @@
 //! A stage of a chain: a tool in a thread of its own, between two rings.
 
-ghost use Rattle.std.specs.Prelude.{◌≡◌, ◌<◌, [], ◌∷◌, ◌++◌, length, IsTrue, IsFalse};
-ghost use Rattle.pnm_image.specs.Rows.{row_messages};
-ghost use Rattle.pnm_image.specs.declared.message.Message.TheVariants.{Begin, ImageEnd};
+ghost use Rattle.std.specs.Prelude.{◌≡◌, ◌<◌, [], length, IsTrue, IsFalse};
 ghost use Rattle.pnm_tools.specs.declared.tool.Tool.{Tool as ToolValue};
 ghost use Rattle.pnm_image.specs.Packets.{messages_in};
 ghost use Rattle.pnm_stages.specs.Rings.{sent, received, known_items, known_packets, SameSender, SameReceiver};
 ghost use Rattle.pnm_tools.specs.FusedFilters.{FilterAt};
 ghost use Rattle.pnm_stages.specs.Stages.{HasRunStage};
-ghost use Rattle.pnm_stages.specs.StageParts.{HasPassed, HasSentAnswers, HasBrokenOffAfter};
-ghost use Rattle.pnm_stages.specs.HeldImages.{held_messages, HasHeldAnswers, HasPassedOrHeld};
+ghost use Rattle.pnm_stages.specs.StageParts.{HasPassed, HasBrokenOffAfter};
+ghost use Rattle.pnm_stages.specs.HeldImages.{held_messages, HasHeldAnswers};
 
 use crate::held_image::HeldImage;
 use crate::receiver::Receiver;
 use crate::sender::Sender;
-use pnm_image::{Ending, Head, Message, Packet, RepeatedRows, Rows, Several};
-use pnm_tools::{Filter, FusedFilter, ToolFault};
+use pnm_image::{Ending, Message, Packet};
+use pnm_tools::{Filter, FusedFilter, ToolFault, Unfed};
 use std::alloc::Global;
 use std::sync::Wait;
 
@@ -154,9 +152,8 @@ fn wait<R: Wait>(rt: &R, input: &mut Receiver, output: &mut Sender) -> bool
     input.has_message() || input.wait_for_message(rt)
 }
 
-/// Passes a packet through the tool, and sends what the tool makes of it. Returns false if the output's other end was
-/// seen dropped before all was sent.
-#[inline(always)]
+/// Passes a packet through the tool, and sends what the tool makes of it, as one packet where that is a whole image
+/// (`HeldImage`). Returns false if the output's other end was seen dropped before all was sent.
 fn pass<R: Wait, F: Filter + Drop>(
     rt: &R,
     alloc: Global,
@@ -168,110 +165,19 @@ fn pass<R: Wait, F: Filter + Drop>(
     ensures passed { HasPassed F.at F.all_given F.stopped result stage.old stage.new (messages_in packet)
         (sent output.old) (sent output.new) }
 {
-    match packet.into_message() {
-        Ok(message) => {
-            stage.feed(message);
-            send_answers(rt, stage, output)
-        }
-        Err(Several::Rows(rows)) => pass_repeated(rt, alloc, stage, rows, output),
-        Err(Several::Image(head, rows)) => pass_image(rt, alloc, stage, head, rows, output),
-    }
-}
-
-/// Passes a whole image through the tool, and sends what the tool makes of it, as one packet if that is a whole image
-/// again (`HeldImage`). Returns false if the output's other end was seen dropped before all was sent.
-#[inline(never)]
-fn pass_image<R: Wait, F: Filter + Drop>(
-    rt: &R,
-    alloc: Global,
-    stage: &mut FusedFilter<F>,
-    head: Head,
-    rows: Rows,
-    output: &mut Sender,
-) -> bool
-    ensures output { SameSender output.old output.new }
-    ensures passed { HasPassed F.at F.all_given F.stopped result stage.old stage.new
-        (Begin head ∷ row_messages rows ++ ImageEnd ∷ []) (sent output.old) (sent output.new) }
-{
+    let mut unfed = Unfed::of(packet);
     let mut held = HeldImage::Nothing;
-    if !hold_image(rt, alloc, stage, head, rows, &mut held, output) {
-        return false;
+    while stage.feed_next(alloc, &mut unfed) {
+        if !send_answers(rt, stage, &mut held, output) {
+            return false;
+        }
     }
     held.send_held(rt, output)
 }
 
-/// Passes a whole image through the tool, all rows at once, and sends or holds what the tool makes of it. If not all
-/// rows may come, passes each by itself. Returns false if the output's other end was seen dropped before all was sent
-/// or held.
-fn hold_image<R: Wait, F: Filter + Drop>(
-    rt: &R,
-    alloc: Global,
-    stage: &mut FusedFilter<F>,
-    head: Head,
-    rows: Rows,
-    held: &mut HeldImage,
-    output: &mut Sender,
-) -> bool
-    ensures output { SameSender output.old output.new }
-    ensures passed { HasPassedOrHeld F.at F.all_given F.stopped result stage.old stage.new
-        (Begin head ∷ row_messages rows ++ ImageEnd ∷ []) (held_messages held.old) (held_messages held.new)
-        (sent output.old) (sent output.new) }
-{
-    if !hold_message(rt, stage, Message::Begin(head), held, output) {
-        return false;
-    }
-    if !hold_rows(rt, alloc, stage, rows, held, output) {
-        return false;
-    }
-    hold_message(rt, stage, Message::ImageEnd, held, output)
-}
-
-/// Passes a message through the tool, and sends or holds what the tool makes of it. Returns false if the output's other
-/// end was seen dropped before all was sent or held.
-fn hold_message<R: Wait, F: Filter + Drop>(
-    rt: &R,
-    stage: &mut FusedFilter<F>,
-    message: Message,
-    held: &mut HeldImage,
-    output: &mut Sender,
-) -> bool
-    ensures output { SameSender output.old output.new }
-    ensures passed { HasPassedOrHeld F.at F.all_given F.stopped result stage.old stage.new (message ∷ [])
-        (held_messages held.old) (held_messages held.new) (sent output.old) (sent output.new) }
-{
-    stage.feed(message);
-    hold_answers(rt, stage, held, output)
-}
-
-/// Passes rows through the tool, all at once, and sends or holds what the tool makes of them. If not all of them may
-/// come, sends what is held, and passes each by itself. Returns false if the output's other end was seen dropped before
-/// all was sent or held.
-fn hold_rows<R: Wait, F: Filter + Drop>(
-    rt: &R,
-    alloc: Global,
-    stage: &mut FusedFilter<F>,
-    rows: Rows,
-    held: &mut HeldImage,
-    output: &mut Sender,
-) -> bool
-    ensures output { SameSender output.old output.new }
-    ensures passed { HasPassedOrHeld F.at F.all_given F.stopped result stage.old stage.new (row_messages rows)
-        (held_messages held.old) (held_messages held.new) (sent output.old) (sent output.new) }
-{
-    match stage.feed_rows(rows) {
-        Ok(()) => hold_answers(rt, stage, held, output),
-        Err(rows) => {
-            if !held.send_held(rt, output) {
-                return false;
-            }
-            pass_each(rt, alloc, stage, &rows, output)
-        }
-    }
-}
-
 /// Sends or holds what the tool gives, until it has given all, or refused. Returns false if the output's other end was
 /// seen dropped before that.
-fn hold_answers<R: Wait, F: Filter + Drop>(
+fn send_answers<R: Wait, F: Filter + Drop>(
     rt: &R,
     stage: &mut FusedFilter<F>,
     held: &mut HeldImage,
@@ -284,123 +190,6 @@ fn hold_answers<R: Wait, F: Filter + Drop>(
     while let Some(answer) = stage.next() {
         if !held.send(rt, answer, output) {
             return false;
-        }
-        if stage.is_done() {
-            return true;
-        }
-    }
-    true
-}
-
-/// Passes rows that came together through the tool, all at once, and sends what the tool makes of them. If not all of
-/// them may come, passes each by itself. Returns false if the output's other end was seen dropped before all was sent.
-#[inline(never)]
-fn pass_rows<R: Wait, F: Filter + Drop>(
-    rt: &R,
-    alloc: Global,
-    stage: &mut FusedFilter<F>,
-    rows: Rows,
-    output: &mut Sender,
-) -> bool
-    ensures output { SameSender output.old output.new }
-    ensures passed { HasPassed F.at F.all_given F.stopped result stage.old stage.new (row_messages rows)
-        (sent output.old) (sent output.new) }
-{
-    match stage.feed_rows(rows) {
-        Ok(()) => send_answers(rt, stage, output),
-        Err(rows) => pass_each(rt, alloc, stage, &rows, output),
-    }
-}
-
-/// Passes rows through the tool, as often as they come, and sends what the tool makes of them. Returns false if the
-/// output's other end was seen dropped before all was sent.
-#[inline(always)]
-fn pass_repeated<R: Wait, F: Filter + Drop>(
-    rt: &R,
-    alloc: Global,
-    stage: &mut FusedFilter<F>,
-    rows: RepeatedRows,
-    output: &mut Sender,
-) -> bool
-    ensures output { SameSender output.old output.new }
-    ensures passed { HasPassed F.at F.all_given F.stopped result stage.old stage.new (row_messages rows)
-        (sent output.old) (sent output.new) }
-{
-    match rows.into_once() {
-        Ok(rows) => pass_rows(rt, alloc, stage, rows, output),
-        Err(rows) => pass_copies(rt, alloc, stage, rows, output),
-    }
-}
-
-/// Passes copies of the rows through the tool, as often as they come, several together. The copies behind a refused one
-/// aren't made. If there is no memory for copies, the tool refuses by `Memory`. Returns false if the output's other end
-/// was seen dropped before all was sent.
-#[inline(never)]
-fn pass_copies<R: Wait, F: Filter + Drop>(
-    rt: &R,
-    alloc: Global,
-    stage: &mut FusedFilter<F>,
-    rows: RepeatedRows,
-    output: &mut Sender,
-) -> bool
-    ensures output { SameSender output.old output.new }
-    ensures passed { HasPassed F.at F.all_given F.stopped result stage.old stage.new (row_messages rows)
-        (sent output.old) (sent output.new) }
-{
-    let mut left = Some(rows);
-    while let Some(copies) = stage.next_copies(alloc, &mut left) {
-        if !pass_rows(rt, alloc, stage, copies, output) {
-            return false;
-        }
-    }
-    true
-}
-
-/// Passes a copy of each row through the tool by itself. The copies behind the one that is refused are dropped. If
-/// there is no memory for a copy, the tool refuses by `Memory`. Returns false if the output's other end was seen
-/// dropped before all was sent.
-fn pass_each<R: Wait, F: Filter + Drop>(
-    rt: &R,
-    alloc: Global,
-    stage: &mut FusedFilter<F>,
-    rows: &Rows,
-    output: &mut Sender,
-) -> bool
-    ensures output { SameSender output.old output.new }
-    ensures passed { HasPassed F.at F.all_given F.stopped result stage.old stage.new (row_messages rows.now)
-        (sent output.old) (sent output.new) }
-{
-    for at in 0..rows.count() {
-        let Ok(row) = rows.row(alloc, at) else {
-            stage.refuse_for_memory();
-            return true;
-        };
-        stage.feed(Message::Row(row));
-        if !send_answers(rt, stage, output) {
-            return false;
-        }
-    }
-    true
-}
-
-/// Sends what the tool gives, until it has given all, or refused. Returns false if the output's other end was seen
-/// dropped before that.
-#[inline(always)]
-fn send_answers<R: Wait, F: Filter + Drop>(
-    rt: &R,
-    stage: &mut FusedFilter<F>,
-    output: &mut Sender,
-) -> bool
-    ensures output { SameSender output.old output.new }
-    ensures sent { HasSentAnswers F.at F.all_given F.stopped result stage.old stage.new (sent output.old)
-        (sent output.new) }
-{
-    while let Some(answer) = stage.next() {
-        if !output.send_packet(rt, answer) {
-            return false;
-        }
-        if stage.is_done() {
-            return true;
         }
     }
     true

@@ -70,21 +70,21 @@ refuses_rows at all_given stopped old rows fault tool l g idle is come = record 
 
 -- ---- a stage that refused
 
--- it drops the message
-drops_next : (tool : Tool) (fault : ToolFault) (accepted rest : List Message) (m : Message) → IsRefusedNext tool fault accepted rest
-    → IsRefusedNext tool fault accepted (rest ++ m ∷ [])
-drops_next tool fault accepted [] m r = absurd r
-drops_next tool fault accepted (n ∷ rest) m r = r
+-- it drops what comes
+drops_next : (tool : Tool) (fault : ToolFault) (accepted rest more : List Message) → IsRefusedNext tool fault accepted rest
+    → IsRefusedNext tool fault accepted (rest ++ more)
+drops_next tool fault accepted [] more r = absurd r
+drops_next tool fault accepted (n ∷ rest) more r = r
 
-pub drops : (tool : Tool) (fault : ToolFault) (m : Message) (l g : List Message) → HasRefused tool fault l g → HasRefused tool fault (l ++ m ∷ []) g
-drops tool fault m l g has = record {
+pub drops : (tool : Tool) (fault : ToolFault) (more l g : List Message) → HasRefused tool fault l g → HasRefused tool fault (l ++ more) g
+drops tool fault more l g has = record {
   accepted = has.accepted;
-  rest = has.rest ++ m ∷ [];
-  parts = ap (λ (x : List Message). x ++ m ∷ []) has.parts ∙ append_assoc has.accepted has.rest (m ∷ []);
+  rest = has.rest ++ more;
+  parts = ap (λ (x : List Message). x ++ more) has.parts ∙ append_assoc has.accepted has.rest more;
   taken = has.taken;
   answers = has.answers;
   refused = elim has.refused [
     | inl memory ↦ inl memory
-    | inr refused ↦ inr (refused.0, drops_next tool fault has.accepted has.rest m refused.1)
+    | inr refused ↦ inr (refused.0, drops_next tool fault has.accepted has.rest more refused.1)
   ];
 }

@@ -37,3 +37,4 @@ pub mod DealingLaws
 pub mod RowWiseLaws
 pub mod FlippedHeadLaws
 pub mod FusedSteps
+pub mod UnfedSteps

@@ -19,3 +19,4 @@ pub mod ChainAnswers
 pub mod Laws
 pub mod Dealing
 pub mod FusedFilters
+pub mod Unfed

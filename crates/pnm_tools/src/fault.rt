@@ -18,9 +18,8 @@ pub enum ToolFault {
     /// The result is beyond the limits.
     #[error("TooLarge")]
     TooLarge,
-    /// The message can't come at this place in the stream; or neither `Filter::next` has returned `None` nor
-    /// `Filter::is_done` true since the message before it; or an image of height 0 begins, and the tool isn't
-    /// row-wise.
+    /// The message can't come at this place in the stream; or `Filter::next` hasn't returned `None` since the message
+    /// before it; or an image of height 0 begins, and the tool isn't row-wise.
     #[error("OutOfOrder")]
     OutOfOrder,
     /// Memory ran out.

@@ -19,7 +19,7 @@ use pnm_image::{Message, Packet, Rows};
 /// A tool at work: it takes the messages of images, one by one or several rows together, and gives the messages of
 /// their results.
 ///
-/// After each `feed` or `feed_rows`, the caller calls `next` until it returns `None`, or until `is_done` returns true.
+/// After each `feed` or `feed_rows`, the caller calls `next` until it returns `None`.
 /// The tool gives the result's head as soon as an image begins, and all that is left of the result once the image has
 /// ended. How early it gives a row in between is open. For the end of the stream it gives the end of the stream, and
 /// for Stop it gives Stop alone. It gives nothing after either.
@@ -28,8 +28,7 @@ pub trait Filter {
     /// second.
     ghost at: { Self → ToolValue → List MessageValue → List MessageValue → Type 0 };
 
-    /// `next` has returned `None`, or `is_done` true, since the filter last accepted a message, or it has accepted
-    /// none.
+    /// `next` has returned `None` since the filter last accepted a message, or it has accepted none.
     ghost all_given: { Self → Bool };
 
     /// The fault that stopped the filter, if any.
@@ -45,9 +44,8 @@ pub trait Filter {
     /// The first of these faults. The filter drops the message, and `feed` and `next` return this fault from then on.
     ///
     /// - the earlier fault, if there was one;
-    /// - `OutOfOrder` if neither `next` has returned `None` nor `is_done` true since the last message that was
-    ///   accepted, if the message can't come at its place in the stream, or if an image of height 0 begins and the tool
-    ///   isn't row-wise;
+    /// - `OutOfOrder` if `next` hasn't returned `None` since the last message that was accepted, if the message can't
+    ///   come at its place in the stream, or if an image of height 0 begins and the tool isn't row-wise;
     /// - `CutOutside` or `ChannelOutside` if the image that begins lacks the part that the tool picks;
     /// - `TooLarge` if the result of that image is beyond the limits;
     /// - `Memory`.
@@ -86,15 +84,6 @@ pub trait Filter {
         ensures stops { IfErr result (λ k. stopped self.new ≡ Some k) }
         ensures goes_on { OnOk result ((stopped self.old ≡ None) × (stopped self.new ≡ None)) }
         ensures stays { (k : Fault) → stopped self.old ≡ Some k → result ≡ Err k };
-
-    /// Whether all that is due was given, as far as a look shows; the caller knows then, as by a `None`
-    /// of `next`. If it returns false, nothing has changed, and the caller has to call `next`.
-    fn is_done(&mut self) -> bool
-        ensures full { result ≡ true → (all_given self.new ≡ true)
-            × ((t : ToolValue) (l g : List MessageValue)
-            → at self.old t l g → at self.new t l g × AnswersInFull t l g) }
-        ensures unknown { result ≡ false → self.new ≡ self.old }
-        ensures same { stopped self.new ≡ stopped self.old };
 
     /// Takes the next rows of an image together, as `feed` would take each of them. The only fault is `Memory`.
     ///

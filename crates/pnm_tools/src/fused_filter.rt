@@ -1,20 +1,19 @@
 //! A tool at work: what it is fed, what it gives, and its refusal.
 
-ghost use Rattle.std.specs.Prelude.{◌≡◌, ◌<◌, ◌≤◌, ◌∷◌, ◌++◌, [], List, length, true, IfSome, IfNone, IsNone};
-ghost use Rattle.std.specs.Prelude.{IsTrue, IsFalse, OnOk, OnErr, IfErr, Some, None};
+ghost use Rattle.std.specs.Prelude.{◌≡◌, ◌<◌, ◌≤◌, ◌∷◌, ◌++◌, [], List, length, drop, IfSome, IfNone};
+ghost use Rattle.std.specs.Prelude.{IsTrue, IsFalse, None};
 ghost use Rattle.pnm_image.specs.declared.message.Ending.TheVariants.{More};
 ghost use Rattle.pnm_image.specs.declared.message.Message.{Message as MessageValue};
 ghost use Rattle.pnm_image.specs.Messages.{EndsBy};
 ghost use Rattle.pnm_image.specs.Packets.{messages_in};
-ghost use Rattle.pnm_image.specs.Rows.{row_messages, rows_list};
-ghost use Rattle.pnm_tools.specs.Answers.{RowsMayCome};
-ghost use Rattle.pnm_tools.specs.declared.fault.ToolFault.{ToolFault as Fault};
-ghost use Rattle.pnm_tools.specs.declared.fault.ToolFault.TheVariants.{Memory};
+ghost use Rattle.pnm_image.specs.Rows.{row_messages};
 ghost use Rattle.pnm_tools.specs.declared.tool.Tool.{Tool as ToolValue};
 ghost use Rattle.pnm_tools.specs.FusedFilters.{refusal_in, waiting_at, FilterAt, FilterBusy};
+ghost use Rattle.pnm_tools.specs.Unfed.{behind_each, end_in, unfed_in, HasFedNext};
 
 use crate::fault::ToolFault;
 use crate::filter::Filter;
+use crate::unfed::Unfed;
 use pnm_image::{Message, Packet, RepeatedRows, Rows};
 use std::alloc::Global;
 use std::mem;
@@ -39,10 +38,46 @@ impl<F: Filter + Drop> FusedFilter<F> {
         }
     }
 
+    /// Feeds the tool what comes next of a packet: a message; or rows together, several copies of them if they repeat,
+    /// or by themselves if not all of them may come. Returns false if nothing is left, or if the tool has refused, so
+    /// that it drops the rest. If there is no memory for a copy of rows, the tool refuses by `Memory`.
+    ///
+    /// After each call that returns true, call `next` until it returns `None`.
+    pub fn feed_next(&mut self, alloc: Global, unfed: &mut Unfed) -> bool
+        ensures fed { IsTrue result → HasFedNext F.at F.all_given F.stopped self.old self.new
+            (unfed_in unfed.old) (unfed_in unfed.new) }
+        ensures fewer { IsTrue result → length (unfed_in unfed.new) < length (unfed_in unfed.old) }
+        ensures dropped { IsFalse result → (tool : ToolValue) (l g : List MessageValue)
+            → FilterAt F.at F.all_given F.stopped self.old tool l g
+            → (1 ≤ length (unfed_in unfed.old) → EndsBy More l)
+            → FilterAt F.at F.all_given F.stopped self.new tool (l ++ unfed_in unfed.old) g }
+    {
+        if self.fault().is_some() {
+            return false;
+        }
+        if let Some(message) = mem::replace(&mut unfed.first, None) {
+            self.feed(message);
+            return true;
+        }
+        if let Some((rows, at)) = unfed.take_each() {
+            return self.feed_row(alloc, rows, at, unfed);
+        }
+        if let Some(rows) = mem::replace(&mut unfed.rows, None) {
+            // No effect at run time: from this, a proof learns that there is a row.
+            let _ = rows.are_several();
+            return self.feed_rows(alloc, rows, unfed);
+        }
+        if unfed.ends_image {
+            unfed.ends_image = false;
+            self.feed(Message::ImageEnd);
+            return true;
+        }
+        false
+    }
+
     /// Feeds the tool a message. Drops the message if the tool has refused.
-    // `feed`, `next` and `is_done` are inlined, so that their values stay in registers in a stage's loop.
     #[inline(always)]
-    pub fn feed(&mut self, message: Message)
+    fn feed(&mut self, message: Message)
         ensures { (tool : ToolValue) (l g : List MessageValue) → FilterAt F.at F.all_given F.stopped self.old tool l g
             → FilterBusy F.at F.stopped self.new tool (l ++ message ∷ []) g }
     {
@@ -50,6 +85,65 @@ impl<F: Filter + Drop> FusedFilter<F> {
             if let Err(refusal) = filter.feed(message) {
                 self.refuse(refusal);
             }
+        }
+    }
+
+    /// Feeds the tool a copy of one of these rows by itself; those behind it are left.
+    #[inline(never)]
+    fn feed_row(&mut self, alloc: Global, rows: Rows, at: u32, unfed: &mut Unfed) -> bool
+        requires going { refusal_in self.old ≡ None }
+        requires some { at < length rows }
+        requires first { unfed.old.first ≡ None }
+        ensures fed { IsTrue result → HasFedNext F.at F.all_given F.stopped self.old self.new
+            (row_messages (drop at rows) ++ behind_each unfed.old) (unfed_in unfed.new) }
+        ensures fewer { IsTrue result
+            → length (unfed_in unfed.new) < length (row_messages (drop at rows) ++ behind_each unfed.old) }
+        ensures dropped { IsFalse result → (tool : ToolValue) (l g : List MessageValue)
+            → FilterAt F.at F.all_given F.stopped self.old tool l g → EndsBy More l
+            → FilterAt F.at F.all_given F.stopped self.new tool
+            (l ++ (row_messages (drop at rows) ++ behind_each unfed.old)) g }
+    {
+        let Ok(row) = rows.row(alloc, at) else {
+            self.refuse(ToolFault::Memory);
+            return false;
+        };
+        // From this, a proof learns that the next number fits.
+        prove!(at < rows.count());
+        unfed.each = Some((rows, at + 1));
+        self.feed(Message::Row(row));
+        true
+    }
+
+    /// Feeds the tool rows together, or the next copies of them; the others are left. If not all of these may come,
+    /// feeds it the first by itself.
+    fn feed_rows(&mut self, alloc: Global, rows: RepeatedRows, unfed: &mut Unfed) -> bool
+        requires going { refusal_in self.old ≡ None }
+        requires first { unfed.old.first ≡ None }
+        requires each { unfed.old.each ≡ None }
+        ensures fed { IsTrue result → HasFedNext F.at F.all_given F.stopped self.old self.new
+            (row_messages rows ++ end_in unfed.old.ends_image) (unfed_in unfed.new) }
+        ensures fewer { IsTrue result
+            → length (unfed_in unfed.new) < length (row_messages rows ++ end_in unfed.old.ends_image) }
+        ensures dropped { IsFalse result → (tool : ToolValue) (l g : List MessageValue)
+            → FilterAt F.at F.all_given F.stopped self.old tool l g → EndsBy More l
+            → FilterAt F.at F.all_given F.stopped self.new tool
+            (l ++ (row_messages rows ++ end_in unfed.old.ends_image)) g }
+    {
+        let FusedFilter::AtWork(filter) = self else {
+            return false;
+        };
+        let Ok((copies, rest)) = rows.next_copies(alloc) else {
+            self.refuse(ToolFault::Memory);
+            return false;
+        };
+        unfed.rows = rest;
+        match filter.feed_rows(copies) {
+            Ok(Ok(())) => true,
+            Ok(Err(fault)) => {
+                self.refuse(fault);
+                true
+            }
+            Err(copies) => self.feed_row(alloc, copies, 0, unfed),
         }
     }
 
@@ -84,87 +178,5 @@ impl<F: Filter + Drop> FusedFilter<F> {
         ensures { self.new ≡ FusedFilter.Refused fault }
     {
         *self = FusedFilter::Refused(fault);
-    }
-
-    /// Returns true if the tool has given all, or has refused, as far as a look shows. If it returns false, call `next`
-    /// to find out.
-    #[inline(always)]
-    pub fn is_done(&mut self) -> bool
-        ensures full { IsTrue result → (tool : ToolValue) (l g : List MessageValue)
-            → FilterBusy F.at F.stopped self.old tool l g → FilterAt F.at F.all_given F.stopped self.new tool l g }
-        ensures unknown { IsFalse result → self.new ≡ self.old }
-    {
-        match self {
-            FusedFilter::AtWork(filter) => filter.is_done(),
-            FusedFilter::Refused(_) => true,
-        }
-    }
-
-    /// Feeds the tool the next rows of an image together, as `feed` would feed each of them.
-    ///
-    /// # Errors
-    ///
-    /// Returns the rows, and changes nothing, if not all of them may come, as after a refusal.
-    pub fn feed_rows(&mut self, rows: Rows) -> Result<(), Rows>
-        ensures fed { OnOk result ((tool : ToolValue) (l g : List MessageValue)
-            → FilterAt F.at F.all_given F.stopped self.old tool l g
-            → FilterBusy F.at F.stopped self.new tool (l ++ row_messages rows) g) }
-        ensures kept { IfErr result (λ same. (same ≡ rows) × (self.new ≡ self.old)) }
-        ensures back { OnErr result ((tool : ToolValue) (l g : List MessageValue)
-            → FilterAt F.at F.all_given F.stopped self.old tool l g → refusal_in self.old ≡ None
-            → RowsMayCome true l rows → ⊥) }
-    {
-        match self {
-            FusedFilter::AtWork(filter) => {
-                if let Err(fault) = filter.feed_rows(rows)? {
-                    self.refuse(fault);
-                }
-                Ok(())
-            }
-            FusedFilter::Refused(_) => Err(rows),
-        }
-    }
-
-    /// Makes the next of the copies that are left, several together, for the tool to take. Returns `None` once all are
-    /// made. If the tool has refused, makes none. If there is no memory for them, the tool refuses by `Memory`.
-    pub fn next_copies(&mut self, alloc: Global, left: &mut Option<RepeatedRows>) -> Option<Rows>
-        ensures made { IfSome result (λ copies. rows_list left.old ≡ copies ++ rows_list left.new) }
-        ensures fewer { IfSome result (λ _. length (rows_list left.new) < length (rows_list left.old)) }
-        ensures same { IfSome result (λ _. self.new ≡ self.old) }
-        ensures dropped { IfNone result ((tool : ToolValue) (l g : List MessageValue)
-            → FilterAt F.at F.all_given F.stopped self.old tool l g
-            → (1 ≤ length (rows_list left.old) → EndsBy More l)
-            → FilterAt F.at F.all_given F.stopped self.new tool (l ++ row_messages (rows_list left.old)) g) }
-        ensures memory { IfNone result (1 ≤ length (rows_list left.old) → refusal_in self.old ≡ None
-            → refusal_in self.new ≡ Some Memory) }
-        ensures stays { (k : Fault) → refusal_in self.old ≡ Some k → (IsNone result × (self.new ≡ self.old)) }
-    {
-        let Some(rows) = mem::replace(left, None) else {
-            return None;
-        };
-        // No effect at run time: from this, a proof learns that there is a row.
-        let _ = rows.are_several();
-        if self.fault().is_none() {
-            if let Ok((copies, rest)) = rows.next_copies(alloc) {
-                *left = rest;
-                return Some(copies);
-            }
-        }
-        // A tool that has refused keeps its fault.
-        self.refuse_for_memory();
-        None
-    }
-
-    /// Refuses what comes next, since there is no memory to feed it. A tool that has refused keeps its fault.
-    pub fn refuse_for_memory(&mut self)
-        ensures dropped { (tool : ToolValue) (l g rest : List MessageValue)
-            → FilterAt F.at F.all_given F.stopped self.old tool l g → EndsBy More l
-            → FilterAt F.at F.all_given F.stopped self.new tool (l ++ rest) g }
-        ensures memory { refusal_in self.old ≡ None → refusal_in self.new ≡ Some Memory }
-        ensures stays { (k : Fault) → refusal_in self.old ≡ Some k → self.new ≡ self.old }
-    {
-        if let FusedFilter::AtWork(_) = self {
-            self.refuse(ToolFault::Memory);
-        }
     }
 }

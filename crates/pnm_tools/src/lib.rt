@@ -17,6 +17,7 @@ pub mod laws;
 mod limits;
 mod together;
 mod tool;
+mod unfed;
 
 pub use buffer::store;
 pub use channel::Planes;
@@ -31,3 +32,4 @@ pub use image_tool::ImageTool;
 pub use limits::{MAX_EXTENT, MAX_TOOLS};
 pub use together::count_together;
 pub use tool::Tool;
+pub use unfed::Unfed;

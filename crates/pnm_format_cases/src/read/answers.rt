@@ -1,34 +1,18 @@
 //! What a source answers to a text, and to each prefix of it.
 
 use super::reads::{Reading, write_recorded};
-use pnm_image::{BytesIn, Device, Message, Rows};
+use pnm_image::{BytesIn, Device, Head, Packet, RepeatedRows, Rows};
 use pnm_read::{InputFault, ReadBuffer, Source, SpareRows};
-use pnm_test_support::{width_of, write_change, write_message, write_rows};
+use pnm_test_support::{
+    width_of, write_change, write_each_row, write_head, write_packet, write_rows,
+};
 use std::alloc::{AllocError, Global};
 
 /// More answers than there are to any case.
 const MOST_ANSWERS: usize = 100_000;
 
-/// What a source is asked for before each message.
-#[derive(Clone, Copy)]
-pub enum First {
-    Nothing,
-    /// The next rows together (`next_rows`).
-    Rows,
-    /// To read ahead (`read_ahead`), and then the next rows together.
-    RowsAhead,
-    /// The rows and the end of an image (`rest_of_image`).
-    Image,
-}
-
-/// What a source gives at once.
-#[derive(Drop)]
-enum Given {
-    Message(Message),
-    Rows(Rows),
-    /// All rows of an image, and its end.
-    Image(Rows),
-}
+/// What is told in place of a width if no row comes.
+const NO_ROW: &str = " no row";
 
 /// A source over the reader, through a buffer of `size` bytes, 4,096 at least. If `size` is `None`, it makes its own.
 pub fn source_by<R: BytesIn + Drop>(
@@ -49,125 +33,116 @@ pub fn source_by<R: BytesIn + Drop>(
     }
 }
 
-/// Adds all that a source answers up to its end, and a word if it doesn't stay there. Each row that was told becomes a
-/// spare one. The source is asked for `first` before each message. Rows that come together stand between braces, and
-/// behind them the end of their image, if it came with them.
+/// Adds all that a source answers up to its end, and a word if it doesn't stay there. Rows that come together, at most
+/// `most_rows`, and whole images stand between braces; where rows come one by one, an image of one row doesn't. All
+/// rows that were told become spare ones.
 pub fn write_answers<R: BytesIn>(
     alloc: Global,
     source: &mut Source<R>,
-    first: First,
+    most_rows: u32,
     out: &mut String,
 ) -> Result<(), AllocError> {
     let mut spares = SpareRows::new(alloc)?;
     for _ in 0..MOST_ANSWERS {
-        match next_of(source, first, &mut spares) {
-            Ok(Some(given)) => {
-                let is_end = matches!(&given, Given::Message(Message::StreamEnd));
-                write_given(alloc, given, out, &mut spares)?;
+        match source.next(&mut spares, most_rows) {
+            Ok(Some(packet)) => {
+                let is_end = matches!(&packet, Packet::StreamEnd);
+                write_given(alloc, packet, most_rows, out, &mut spares)?;
                 if is_end {
-                    return write_stays(source, None, out, &mut spares);
+                    return write_stays(source, None, most_rows, out, &mut spares);
                 }
             }
             Ok(None) => return out.push_str(" nothing"),
             Err(fault) => {
                 write!(out, " {fault}")?;
-                return write_stays(source, Some(fault), out, &mut spares);
+                return write_stays(source, Some(fault), most_rows, out, &mut spares);
             }
         }
     }
     out.push_str(" and more")
 }
 
-/// What the source gives next, if it is asked for `first` before the next message.
-fn next_of<R: BytesIn>(
-    source: &mut Source<R>,
-    first: First,
-    spares: &mut SpareRows,
-) -> Result<Option<Given>, InputFault> {
-    let together = match first {
-        First::Nothing => None,
-        First::Rows => source.next_rows(spares)?.map(Given::Rows),
-        First::RowsAhead => {
-            source.read_ahead()?;
-            source.next_rows(spares)?.map(Given::Rows)
-        }
-        First::Image => source.rest_of_image(spares).map(Given::Image),
-    };
-    match together {
-        Some(given) => Ok(Some(given)),
-        None => Ok(source.next(spares)?.map(Given::Message)),
-    }
-}
-
-/// Adds what was given, rows that came together between braces, and drops it; rows become spare ones.
+/// Adds what was given at once, and drops it; rows become spare ones.
 fn write_given(
     alloc: Global,
-    given: Given,
+    packet: Packet,
+    most_rows: u32,
     out: &mut String,
     spares: &mut SpareRows,
 ) -> Result<(), AllocError> {
-    match given {
-        Given::Message(message) => {
-            let outcome = write_message(out, &message);
-            recycle(message, spares);
+    match packet {
+        Packet::Rows(rows) => write_together(alloc, rows, out, spares),
+        Packet::Image(head, rows) => {
+            let outcome = write_image(alloc, &head, &rows, most_rows, out);
+            spares.keep_rows(rows);
             outcome
         }
-        Given::Rows(rows) => write_together(alloc, rows, out, spares),
-        Given::Image(rows) => {
-            write_together(alloc, rows, out, spares)?;
-            write_message(out, &Message::ImageEnd)
-        }
+        other => write_packet(alloc, out, other),
     }
 }
 
-/// Adds rows between braces; they become spare ones.
+/// Adds rows, between braces if they are several; they become spare ones.
 fn write_together(
     alloc: Global,
-    rows: Rows,
+    rows: RepeatedRows,
     out: &mut String,
     spares: &mut SpareRows,
 ) -> Result<(), AllocError> {
-    let outcome = write_rows(alloc, out, &rows);
-    spares.keep_rows(rows);
-    outcome
-}
-
-/// Drops the message; a row becomes a spare one.
-fn recycle(message: Message, spares: &mut SpareRows) {
-    match message {
-        Message::Row(row) => spares.keep(row),
-        other => drop(other),
+    match rows.into_once() {
+        Ok(rows) => {
+            let outcome = if rows.count() == 1 {
+                write_each_row(alloc, out, &rows)
+            } else {
+                write_rows(alloc, out, &rows)
+            };
+            spares.keep_rows(rows);
+            outcome
+        }
+        Err(repeated) => write_packet(alloc, out, Packet::Rows(repeated)),
     }
 }
 
-/// Adds a word if rows or an image come, or a fault comes of reading ahead, or if the source answers anything but the
-/// fault, or anything but `None` if there is no fault.
+/// Adds a whole image, between braces unless it has one row and rows come one by one.
+fn write_image(
+    alloc: Global,
+    head: &Head,
+    rows: &Rows,
+    most_rows: u32,
+    out: &mut String,
+) -> Result<(), AllocError> {
+    let are_one_by_one = most_rows == 1 && rows.count() == 1;
+    let (before, after) = if are_one_by_one {
+        ("", "")
+    } else {
+        (" {", " }")
+    };
+    out.push_str(before)?;
+    write_head(out, head)?;
+    write_each_row(alloc, out, rows)?;
+    out.push_str(" ImageEnd")?;
+    out.push_str(after)
+}
+
+/// Adds a word if the source answers anything but the fault, or anything but `None` if there is no fault.
 fn write_stays<R: BytesIn>(
     source: &mut Source<R>,
     fault: Option<InputFault>,
+    most_rows: u32,
     out: &mut String,
     spares: &mut SpareRows,
 ) -> Result<(), AllocError> {
     for _ in 0..3 {
-        let have_come = source.read_ahead().is_err()
-            || have_come(source.next_rows(spares))
-            || source.rest_of_image(spares).is_some();
-        if have_come || !is_same(source.next(spares), fault) {
+        if !is_same(source.next(spares, most_rows), fault) {
             out.push_str(" and another answer")?;
         }
     }
     Ok(())
 }
 
-/// Whether the answer is rows, or a fault.
-fn have_come(answer: Result<Option<Rows>, InputFault>) -> bool {
-    !matches!(answer, Ok(None))
-}
-
 /// Whether the answer is the fault, or `None` if there is no fault.
-fn is_same(answer: Result<Option<Message>, InputFault>, fault: Option<InputFault>) -> bool {
+fn is_same(answer: Result<Option<Packet>, InputFault>, fault: Option<InputFault>) -> bool {
     match answer {
-        Ok(message) => message.is_none() && fault.is_none(),
+        Ok(packet) => packet.is_none() && fault.is_none(),
         Err(other) => fault == Some(other),
     }
 }
@@ -175,7 +150,7 @@ fn is_same(answer: Result<Option<Message>, InputFault>, fault: Option<InputFault
 /// Adds the answers to a text that comes at once.
 pub fn write_whole(alloc: Global, text: &[u8], out: &mut String) -> Result<(), AllocError> {
     let mut source = source_by(alloc, None, Device::new(text))?;
-    write_answers(alloc, &mut source, First::Nothing, out)
+    write_answers(alloc, &mut source, 1, out)
 }
 
 /// Whether the answers are `whole` if a read gives up to `most` bytes, and no read follows one that gave none.
@@ -234,14 +209,23 @@ pub fn write_width(alloc: Global, text: &[u8], out: &mut String) -> Result<(), A
 /// How the samples of the first row are held.
 fn first_width<R: BytesIn>(alloc: Global, source: &mut Source<R>) -> &'static str {
     let mut spares = SpareRows::none(alloc);
-    let _head = source.next(&mut spares);
-    held_width(source.next(&mut spares))
+    match source.next(&mut spares, 1) {
+        Ok(Some(Packet::Image(_, rows))) => held_width(rows),
+        Ok(Some(Packet::Begin(_))) => width_of_next(source, &mut spares),
+        _ => NO_ROW,
+    }
 }
 
-/// How the samples of a row are held, if the answer is a row.
-fn held_width(answer: Result<Option<Message>, InputFault>) -> &'static str {
-    match answer {
-        Ok(Some(Message::Row(row))) => width_of(row.as_slice()),
-        _ => " no row",
+/// How the samples of a row are held, which the source gives next.
+fn width_of_next<R: BytesIn>(source: &mut Source<R>, spares: &mut SpareRows) -> &'static str {
+    match source.next(spares, 1) {
+        Ok(Some(Packet::Rows(rows))) => held_width(rows.into_parts().0),
+        _ => NO_ROW,
     }
+}
+
+/// How the samples of the first of these rows are held.
+fn held_width(rows: Rows) -> &'static str {
+    let row = rows.into_first();
+    width_of(row.as_slice())
 }

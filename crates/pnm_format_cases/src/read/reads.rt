@@ -1,7 +1,7 @@
 //! When a source reads, how much it asks for, and what it answers if a read fails.
 
 use super::How;
-use super::answers::{First, source_by, write_answers};
+use super::answers::{source_by, write_answers};
 use pnm_image::Device;
 use pnm_read::SpareRows;
 use pnm_test_support::{Drips, FailsOnce, Recorded, cut_number, cut_pair, write_change};
@@ -20,19 +20,19 @@ pub struct Reading<'a> {
     failing: usize,
     /// How many bytes the buffer has; `None` if the source makes its own.
     size: Option<usize>,
-    /// What the source is asked for before each message.
-    first: First,
+    /// How many rows come together at most.
+    most_rows: u32,
 }
 
 impl<'a> Reading<'a> {
-    /// A reading of up to `most` bytes a read, in which no read fails.
+    /// A reading of up to `most` bytes a read, in which no read fails and rows come one by one.
     pub fn of(text: &'a [u8], most: usize) -> Reading<'a> {
         Reading {
             text,
             most,
             failing: 0,
             size: None,
-            first: First::Nothing,
+            most_rows: 1,
         }
     }
 }
@@ -54,14 +54,14 @@ pub fn write_recorded(
     let drips = Drips::new(reading.text, reading.most, failing_at(reading.failing));
     let mut reader = Recorded::new(alloc, drips);
     let mut source = source_by(alloc, reading.size, Device::new(&mut reader))?;
-    write_answers(alloc, &mut source, reading.first, out)?;
+    write_answers(alloc, &mut source, reading.most_rows, out)?;
     let _ = source.into_reader();
     Vec::from_slice(alloc, reader.calls())
 }
 
-/// Adds the answers to a text, and what each read asked for and got, unless rows that are held or images are asked for.
-/// The line says how many bytes a read gives at most, and which read fails, counted from 1. If `how` says so, the line
-/// begins with the size of the buffer that the source reads through.
+/// Adds the answers to a text, and what each read asked for and got. The line says how many bytes a read gives at most,
+/// and which read fails, counted from 1. `how` says whether rows come together, and whether the line begins with the
+/// size of the buffer that the source reads through.
 pub fn write_reads(
     alloc: Global,
     how: How,
@@ -69,31 +69,26 @@ pub fn write_reads(
     out: &mut String,
 ) -> Result<(), AllocError> {
     let (size, rest) = match how {
-        How::ReadsBy | How::TogetherBy | How::RowsAheadBy | How::WholeBy => {
+        How::ReadsBy | How::TogetherBy => {
             let (size, rest) = cut_number(line);
             (Some(size), rest)
         }
         _ => (None, line),
     };
     let (most, failing, text) = cut_pair(rest);
-    let first = match how {
-        How::Together | How::TogetherBy => First::Rows,
-        How::RowsAhead | How::RowsAheadBy => First::RowsAhead,
-        How::Whole | How::WholeBy => First::Image,
-        _ => First::Nothing,
+    let most_rows = match how {
+        How::Together | How::TogetherBy => u32::MAX,
+        _ => 1,
     };
     let reading = Reading {
         text,
         most,
         failing,
         size,
-        first,
+        most_rows,
     };
     let calls = write_recorded(alloc, reading, out)?;
-    match first {
-        First::Nothing | First::RowsAhead => write_calls(calls.as_slice(), out),
-        First::Rows | First::Image => Ok(()),
-    }
+    write_calls(calls.as_slice(), out)
 }
 
 /// Adds what each read asked for and got.
@@ -147,7 +142,7 @@ fn reads_of(
     let mut source = source_by(alloc, None, Device::new(&mut reader))?;
     let mut spares = SpareRows::none(alloc);
     for _ in 0..count {
-        let _ = source.next(&mut spares);
+        let _ = source.next(&mut spares, 1);
     }
     let is_held = source.holds_next();
     let _ = source.into_reader();

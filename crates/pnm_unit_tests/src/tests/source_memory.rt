@@ -1,9 +1,9 @@
-//! Want of memory in a source that is asked for the rest of an image. `scripts/refused.py tests` refuses each
-//! allocation of these tests in turn.
+//! Want of memory in a source that gives an image at once, or some of its rows together. `scripts/refused.py tests`
+//! refuses each allocation of these tests in turn.
 
 use super::rows_memory::are_wanted;
 use super::{holds, same};
-use pnm_image::{BytesIn, Device, Kind};
+use pnm_image::{BytesIn, Device, Kind, Message, Packet, Several};
 use pnm_read::{InputFault, Source, SpareRows};
 use pnm_test_support::{Part, is_made_of};
 use std::alloc::Global;
@@ -21,83 +21,80 @@ const PARTS: &[Part<'static>] = &[
     Part::StreamEnd,
 ];
 
-/// Asserts that the source gives the next of the parts, or answers `Memory`. Returns false in the latter case.
-fn gives_next<R: BytesIn>(
-    rt: &impl Abort,
-    source: &mut Source<R>,
-    spares: &mut SpareRows,
-    given: &mut usize,
-) -> bool {
-    match source.next(spares) {
-        Ok(answer) => {
-            let is_next = match (&answer, PARTS.get(*given)) {
-                (Some(message), Some(part)) => is_made_of(message, *part),
-                _ => false,
-            };
-            holds(rt, is_next, &answer, &"the next part", given);
-            *given = given.wrapping_add(1);
-            true
-        }
-        Err(fault) => {
-            same(rt, &fault, &InputFault::Memory, given);
-            false
+/// The plain form of the image. Its rows come together, and the last one alone.
+const PLAIN: &[u8] = b"P2\n2 3\n9\n1 2\n3 4\n5 6\n";
+
+/// How many packets the parts come in: the image and the end of the stream.
+const AT_ONCE: usize = 2;
+
+/// How many packets those of the plain image come in: the head, two rows, the last one, and the two ends.
+const IN_PARTS: usize = 5;
+
+/// Asserts that the message is the next of the parts.
+fn is_next(rt: &impl Abort, message: &Message, given: &mut usize) {
+    let want = PARTS.get(*given);
+    let is_wanted = match want {
+        Some(part) => is_made_of(message, *part),
+        None => false,
+    };
+    holds(rt, is_wanted, message, &want, given);
+    *given = given.wrapping_add(1);
+}
+
+/// Asserts that what the packet stands for are the next of the parts.
+fn are_next(rt: &impl Abort, packet: Packet, given: &mut usize) {
+    match packet.into_message() {
+        Ok(message) => is_next(rt, &message, given),
+        Err(Several::Rows(rows)) => match rows.into_once() {
+            Ok(rows) => are_wanted(rt, &rows, PARTS, given),
+            Err(_rows) => holds(rt, false, &"rows", &"come once", given),
+        },
+        Err(Several::Image(head, rows)) => {
+            is_next(rt, &Message::Begin(head), given);
+            are_wanted(rt, &rows, PARTS, given);
+            is_next(rt, &Message::ImageEnd, given);
         }
     }
 }
 
-/// Asks for the rest of the image that has just begun, and asserts that what comes are its rows. Returns true if they
-/// come.
-fn gives_rest<R: BytesIn>(
-    rt: &impl Abort,
-    source: &mut Source<R>,
-    spares: &mut SpareRows,
-    given: &mut usize,
-) -> bool {
-    let Some(rows) = source.rest_of_image(spares) else {
-        return false;
-    };
-    are_wanted(rt, &rows, PARTS, given);
-    let want = PARTS.get(*given);
-    holds(
-        rt,
-        matches!(want, Some(Part::ImageEnd)),
-        &rows,
-        &want,
-        given,
-    );
-    *given = given.wrapping_add(1);
-    true
-}
-
-/// Asserts that the source gives the parts, or answers `Memory` in the place of one. Returns true if all rows of the
-/// image come at once.
-fn gives_parts<R: BytesIn>(rt: &impl Abort, alloc: Global, source: &mut Source<R>) -> bool {
+/// Asserts that the source gives the parts, or answers `Memory` in the place of those that are left. Returns how many
+/// packets it has given.
+fn gives_parts<R: BytesIn>(rt: &impl Abort, alloc: Global, source: &mut Source<R>) -> usize {
     let mut spares = SpareRows::none(alloc);
     let mut given = 0;
-    if !gives_next(rt, source, &mut spares, &mut given) {
-        return false;
-    }
-    let is_at_once = gives_rest(rt, source, &mut spares, &mut given);
-    for _ in given..PARTS.len() {
-        if !gives_next(rt, source, &mut spares, &mut given) {
-            break;
+    for packets in 0..PARTS.len() {
+        if given == PARTS.len() {
+            return packets;
+        }
+        match source.next(&mut spares, u32::MAX) {
+            Ok(Some(packet)) => are_next(rt, packet, &mut given),
+            Ok(None) => holds(rt, false, &"an end", &"the next part", &given),
+            Err(fault) => {
+                same(rt, &fault, &InputFault::Memory, &given);
+                return packets;
+            }
         }
     }
-    is_at_once
+    same(rt, &given, &PARTS.len(), &"the parts");
+    PARTS.len()
 }
 
-/// If there is no memory for the rows together, they come one by one.
+/// If there is no memory for what comes next, the answer is `Memory`.
 #[test]
-fn gives_rest_of_image_or_rows(rt: HostRuntime) {
-    if let Ok(mut source) = Source::new(rt.alloc(), Device::new(TEXT)) {
-        let _ = gives_parts(&rt, rt.alloc(), &mut source);
+fn gives_rows_or_runs_out(rt: HostRuntime) {
+    for text in [TEXT, PLAIN] {
+        if let Ok(mut source) = Source::new(rt.alloc(), Device::new(text)) {
+            let _ = gives_parts(&rt, rt.alloc(), &mut source);
+        }
     }
 }
 
-/// If nothing is refused, they come together.
+/// If nothing is refused, the image comes at once, and of the plain one the rows that are held.
 #[test]
-fn gives_rest_of_image_with_memory(rt: HostRuntime) {
-    let mut source = Source::new(rt.alloc(), Device::new(TEXT)).expect(&rt, "a source");
-    let is_at_once = gives_parts(&rt, rt.alloc(), &mut source);
-    same(&rt, &is_at_once, &true, &"the rest");
+fn gives_rows_with_memory(rt: HostRuntime) {
+    for (text, wanted) in [(TEXT, AT_ONCE), (PLAIN, IN_PARTS)] {
+        let mut source = Source::new(rt.alloc(), Device::new(text)).expect(&rt, "a source");
+        let packets = gives_parts(&rt, rt.alloc(), &mut source);
+        same(&rt, &packets, &wanted, &"packets");
+    }
 }

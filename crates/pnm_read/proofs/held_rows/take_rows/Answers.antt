@@ -1,8 +1,13 @@
-use Rattle.std.proofs.Common.{ℕ, ◌*◌, List, take, ap, ◌∙◌}
+use Rattle.std.proofs.Common.{ℕ, ◌*◌, List, length, take, ap, ◌∙◌}
 use Rattle.pnm_read.specs.BufferedReaders.{held_of}
 use Rattle.pnm_read.specs.RasterRows.{rows_held}
-use Rattle.pnm_read.proofs.RowsTogether.{rows_taken}
+use Rattle.pnm_read.proofs.RowsTogether.{rows_taken, length-rows_held}
 use Rattle.pnm_read.proofs.held_rows.take_rows.Goals as goal
+
+pub returns-clause-count : goal.returns-clause-count
+returns-clause-count g c =
+    ap (λ (l : List (List ℕ)). length l) c.rows_of-rows.ensures
+    ∙ length-rows_held c.args.raster.now.sample_width c.args.raster.now.shape c.args.count c.in-Ok.copy.items
 
 pub returns-clause-rows : goal.returns-clause-rows
 returns-clause-rows g c =

@@ -43,17 +43,14 @@ loop-taken-preserved g c =
       most = omega arith;
     }
 
-pub within-requires : goal.within-requires
-within-requires g c = rw (c.from-bound.ensures, ← c.as_slice.ensures.value) ((c.greatest.ensures c.greatest.result).0 (omega arith))
-
 pub returns : goal.returns
 returns g c =
     let most : length c.take_samples.new.row.items ≤ c.row_length-length.result = c.in-Ok-take_samples.ensures.most c.loop-taken.invariant.most in
-    samples_read c.within.result
+    samples_read c.take_samples.new.row
     (samples_taken c.bytes.result.now c.take_samples.new.row.items c.in-Ok-take_samples.taken (c.row_length-length.result - vec_len c.take_samples.new.row)
     c.loop-taken.invariant.reading c.bytes.ensures c.in-Ok-take_samples.ensures.taken (omega arith) c.advance.ensures.reader c.advance.ensures.ended
     c.advance.ensures.held)
-    c.row_length-length.ensures (omega arith) c.within.ensures
+    c.row_length-length.ensures (omega arith) refl
 
 pub loop-taken-init : goal.loop-taken-init
 loop-taken-init g c =

@@ -3,7 +3,7 @@ use Rattle.pnm_serial.specs.FusedSinks.{output_of}
 use Rattle.pnm_serial.proofs.FeedingSteps.{Going}
 use Rattle.pnm_serial.proofs.serial.feed_all.Given as goal
 
--- what has passed so far: a message an iteration, or rows
+-- what has passed so far: a packet an iteration
 abbrev pub invariant-loop : goal.invariant-loop
 invariant-loop g l =
     Going g.R.BytesIn.left g.R.BytesIn.failures g.F.Filter.at g.F.Filter.all_given g.F.Filter.stopped g.W.BytesOut.held g.W.BytesOut.failures l.initial.source

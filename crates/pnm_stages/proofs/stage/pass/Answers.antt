@@ -1,33 +1,49 @@
-use Rattle.std.proofs.Common.{◌∷◌, [], List, sym, subst}
-use Rattle.pnm_image.specs.declared.message.Message.{Message}
-use Rattle.pnm_image.specs.declared.packet.Packet.{Packet}
+use Rattle.std.proofs.Common.{true, false, refl}
 use Rattle.pnm_image.specs.Packets.{messages_in}
+use Rattle.pnm_tools.specs.Unfed.{unfed_in}
 use Rattle.pnm_stages.specs.Rings.{sent}
-use Rattle.pnm_stages.specs.StageParts.{HasPassed}
-use Rattle.pnm_stages.proofs.PassingSteps.{passes_fed}
+use Rattle.pnm_stages.specs.HeldImages.{held_messages}
+use Rattle.pnm_stages.proofs.RingSteps.{itself_output, same_output}
+use Rattle.pnm_stages.proofs.HoldingSteps.{feeds_nothing_yet, feeds_more, loses_rest, sends_rest}
 use Rattle.pnm_stages.proofs.stage.pass.Goals as goal
 
-pub returns-in-Ok : goal.returns-in-Ok
-returns-in-Ok g c = record {
-  output = c.send_answers.ensures.output;
-  passed = subst (λ (l : List Message). HasPassed g.F.Filter.at g.F.Filter.all_given g.F.Filter.stopped c.send_answers.result c.args.stage.now
-      c.send_answers.new.stage l (sent c.args.output.now) (sent c.send_answers.new.output)) (sym c.in-Ok.ensures.one)
-      (passes_fed g.F.Filter.at g.F.Filter.all_given g.F.Filter.stopped c.send_answers.result c.args.stage.now c.feed.new.self c.send_answers.new.stage
-      (c.in-Ok.message ∷ []) (sent c.args.output.now) (sent c.send_answers.new.output) c.feed.ensures c.send_answers.ensures.sent);
-}
+pub loop-alloc-init : goal.loop-alloc-init
+loop-alloc-init g c = (
+  itself_output c.args.output.now,
+  feeds_nothing_yet g.F.Filter.at g.F.Filter.all_given g.F.Filter.stopped c.args.stage.now (messages_in c.args.packet) (unfed_in c.of-unfed.result)
+      (sent c.args.output.now) c.of-unfed.ensures,
+)
 
-pub returns-in-Err-Rows : goal.returns-in-Err-Rows
-returns-in-Err-Rows g c = let is = rw c.in-Err-Rows.field-0-is at c.in-Err-Rows.ensures.several.0 in record {
-  output = c.pass_repeated.ensures.output;
-  passed = subst (λ (p : Packet). HasPassed g.F.Filter.at g.F.Filter.all_given g.F.Filter.stopped c.pass_repeated.result c.args.stage.now
-      c.pass_repeated.new.stage (messages_in p) (sent c.args.output.now) (sent c.pass_repeated.new.output)) (sym is)
-      c.pass_repeated.ensures.passed;
-}
+pub loop-alloc-smaller : goal.loop-alloc-smaller
+loop-alloc-smaller g c = c.loop-alloc-test.ensures.fewer refl
 
-pub returns-in-Err-Image : goal.returns-in-Err-Image
-returns-in-Err-Image g c = let is = rw c.in-Err-Image.field-0-is at c.in-Err-Image.ensures.several.0 in record {
-  output = c.pass_image.ensures.output;
-  passed = subst (λ (p : Packet). HasPassed g.F.Filter.at g.F.Filter.all_given g.F.Filter.stopped c.pass_image.result c.args.stage.now
-      c.pass_image.new.stage (messages_in p) (sent c.args.output.now) (sent c.pass_image.new.output)) (sym is)
-      c.pass_image.ensures.passed;
-}
+pub loop-alloc-preserved : goal.loop-alloc-preserved
+loop-alloc-preserved g c = (
+  same_output c.args.output.now c.loop-alloc.output c.send_answers.new.output c.loop-alloc.invariant.0 c.send_answers.ensures.output,
+  feeds_more g.F.Filter.at g.F.Filter.all_given g.F.Filter.stopped true c.args.stage.now c.loop-alloc.stage c.feed_next.new.self c.send_answers.new.stage
+      (messages_in c.args.packet) (unfed_in c.loop-alloc.unfed) (unfed_in c.feed_next.new.unfed) (held_messages c.loop-alloc.held)
+      (held_messages c.send_answers.new.held) (sent c.args.output.now) (sent c.loop-alloc.output) (sent c.send_answers.new.output)
+      c.loop-alloc.invariant.1 (c.loop-alloc-test.ensures.fed refl) c.if-not-send_answers.ensures.held,
+)
+
+pub returns-then-not-send_answers-clause-output : goal.returns-then-not-send_answers-clause-output
+returns-then-not-send_answers-clause-output g c =
+    same_output c.args.output.now c.loop-alloc.output c.send_answers.new.output c.loop-alloc.invariant.0 c.send_answers.ensures.output
+
+pub returns-then-not-send_answers-clause-passed : goal.returns-then-not-send_answers-clause-passed
+returns-then-not-send_answers-clause-passed g c =
+    loses_rest g.F.Filter.at g.F.Filter.all_given g.F.Filter.stopped c.args.stage.now c.send_answers.new.stage (messages_in c.args.packet)
+    (unfed_in c.feed_next.new.unfed) (held_messages c.send_answers.new.held) (sent c.args.output.now) (sent c.send_answers.new.output)
+    (feeds_more g.F.Filter.at g.F.Filter.all_given g.F.Filter.stopped false c.args.stage.now c.loop-alloc.stage c.feed_next.new.self c.send_answers.new.stage
+    (messages_in c.args.packet) (unfed_in c.loop-alloc.unfed) (unfed_in c.feed_next.new.unfed) (held_messages c.loop-alloc.held)
+    (held_messages c.send_answers.new.held) (sent c.args.output.now) (sent c.loop-alloc.output) (sent c.send_answers.new.output)
+    c.loop-alloc.invariant.1 (c.loop-alloc-test.ensures.fed refl) c.if-not-send_answers.ensures.held)
+
+pub returns-clause-output : goal.returns-clause-output
+returns-clause-output g c = same_output c.args.output.now c.loop-alloc.output c.send_held.new.output c.loop-alloc.invariant.0 c.send_held.ensures.output
+
+pub returns-clause-passed : goal.returns-clause-passed
+returns-clause-passed g c =
+    sends_rest g.F.Filter.at g.F.Filter.all_given g.F.Filter.stopped c.send_held.result c.args.stage.now c.loop-alloc.stage c.feed_next.new.self c.args.packet
+    (unfed_in c.loop-alloc.unfed) (held_messages c.loop-alloc.held) (sent c.args.output.now) (sent c.loop-alloc.output) (sent c.send_held.new.output)
+    c.loop-alloc.invariant.1 (c.loop-alloc-test.ensures.dropped refl) c.send_held.ensures.sent

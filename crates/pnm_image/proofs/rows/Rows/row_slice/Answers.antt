@@ -1,7 +1,8 @@
 use Rattle.std.proofs.Common.{◌≡◌, ◌<◌, ◌+◌, ◌-◌, ◌*◌, ◌∙◌, ℕ, List, [], get_or, length, take, drop, ap, ap₂, sym, subst, arith}
 use Rattle.pnm_image.specs.declared.rows.RowVec.{RowVec}
 use Rattle.pnm_image.specs.HeldRows.{AreRows, row_lists}
-use Rattle.pnm_image.proofs.HeldRowLaws.{length_of_lists, row_of_cut, row_places}
+use Rattle.pnm_samples.proofs.CutLaws.{row_of_cut}
+use Rattle.pnm_image.proofs.HeldRowLaws.{length_of_lists, row_places}
 use Rattle.pnm_image.proofs.rows.Rows.row_slice.Goals as goal
 
 pub overflow_mul-result : goal.overflow_mul-result

@@ -1,5 +1,6 @@
-use Rattle.std.proofs.Common.{◌∙◌, arith}
+use Rattle.std.proofs.Common.{◌∙◌, Bool, ap, inr, arith}
 use Rattle.std.proofs.lemmas.Grind.{common_steps}
+use Rattle.pnm_io_loop.specs.Ingresses.{sending_is_over}
 use Rattle.pnm_io_loop.proofs.ingress.Ingress.try_send.Goals as goal
 
 pub returns-then-not-has_room-clause-sending : goal.returns-then-not-has_room-clause-sending
@@ -17,3 +18,7 @@ returns-then-not-has_room-clause-same_device g c = grind (arith, common_steps)
 
 pub send_next-requires-clause-room : goal.send_next-requires-clause-room
 send_next-requires-clause-room g c = grind (arith, common_steps)
+
+-- the other end is gone
+pub returns-then-not-has_room-clause-goes_on : goal.returns-then-not-has_room-clause-goes_on
+returns-then-not-has_room-clause-goes_on g c = λ gone. inr (ap (λ (b : Bool). sending_is_over b c.args.self.now.input) gone)

@@ -1,4 +1,19 @@
+use Rattle.std.proofs.Common.{Ok, [], refl}
+use Rattle.pnm_read.specs.declared.fault.InputFault.TheVariants.{ReadFailed}
+use Rattle.pnm_read.proofs.ReadCalls.{call_ok_so, call_taken, no_fault}
+use Rattle.pnm_read.proofs.AwaitedSteps.{first_call, plain_ends}
 use Rattle.pnm_read.proofs.source.Source.go_on.Goals as goal
 
-pub returns-then-has_row-clause-read_call : goal.returns-then-has_row-clause-read_call
-returns-then-has_row-clause-read_call g c = c.give_row.ensures.read_call c.args.awaited c.requires
+pub returns-in-FirstImage : goal.returns-in-FirstImage
+returns-in-FirstImage g c = rw c.in-FirstImage.is (first_call c.begin.result c.begin.new.self.state c.begin.ensures)
+
+pub returns-in-End : goal.returns-in-End
+returns-in-End g c =
+    let packet = c.end.result in
+    rw (c.in-End.is, c.end.ensures.input)
+    (call_ok_so tt (Ok packet) (no_fault packet ReadFailed)
+    (λ b a o. plain_ends packet c.end.new.self.state b a c.end.ensures.packet c.end.ensures.state)
+    (call_taken {A = Unit {0}} {result = Ok tt} [] g.met.R.BytesIn.same_at_once (no_fault tt ReadFailed) refl refl refl))
+
+pub returns-in-RowOrEnd : goal.returns-in-RowOrEnd
+returns-in-RowOrEnd g c = rw c.in-RowOrEnd.is c.give_rows.ensures

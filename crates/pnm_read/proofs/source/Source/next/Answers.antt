@@ -1,25 +1,49 @@
-use Rattle.std.proofs.Common.{inr}
-use Rattle.pnm_read.proofs.SourceSteps.{tells, tells_no_more, tells_again, ended_after, end_stays, never_stop, not_at_end, going_not_ended, going_not_stopped}
+use Rattle.std.proofs.Common.{◌≡◌, inr}
+use Rattle.pnm_read.specs.declared.fault.InputFault.TheVariants.{ReadFailed}
+use Rattle.pnm_read.proofs.SourceSteps.{tells_next, tells_fault, tells_no_more, tells_again, state_told, some_messages, ended_after, end_stays, never_stop}
+use Rattle.pnm_read.proofs.SourceSteps.{not_at_end}
 use Rattle.pnm_read.proofs.StreamLaws.{any_may_come}
 use Rattle.pnm_read.proofs.source.Source.next.Goals as goal
 
-pub returns-in-Awaits : goal.returns-in-Awaits
-returns-in-Awaits g c =
-    let awaited = c.in-Awaits.awaited in
-    record {
-      told = tells c.args.self.now c.go_on.new.self awaited c.go_on.result c.in-Awaits.is c.go_on.ensures.read_call;
-      no_stop = never_stop c.args.self.now c.go_on.new.self awaited c.go_on.result c.go_on.ensures.read_call;
-      end = end_stays c.args.self.now c.go_on.new.self c.go_on.ensures.read_call;
-      unread = λ seen. any_may_come g.R.BytesIn.left c.go_on.new.self (end_stays c.args.self.now c.go_on.new.self c.go_on.ensures.read_call seen);
-      ended = ended_after c.args.self.now c.go_on.new.self awaited c.go_on.result c.go_on.ensures.read_call;
-      for_good = λ e. absurd (going_not_ended c.args.self.now.state awaited c.in-Awaits.is e);
-      stopped = c.go_on.ensures.stopped;
-      stays = λ k e. absurd (going_not_stopped c.args.self.now.state awaited k c.in-Awaits.is e);
-      same_device = c.go_on.ensures.read_call.same_device;
-      count = c.go_on.ensures.read_call.count;
-      read_failed = λ e. inr (c.go_on.ensures.read_call.read_failed e).0;
-      not_at_end = λ e. inr (not_at_end c.args.self.now c.go_on.new.self c.go_on.ensures.read_call e);
-    }
+pub returns-in-Ok-clause-told : goal.returns-in-Ok-clause-told
+returns-in-Ok-clause-told g c =
+    tells_next c.args.self.now c.go_on.new.self c.in-Awaits.awaited c.in-Ok.packet c.in-Awaits.is c.in-Ok.ensures
+
+pub returns-in-Ok-clause-some : goal.returns-in-Ok-clause-some
+returns-in-Ok-clause-some g c =
+    let state = c.go_on.new.self.state in
+    some_messages c.in-Ok.packet state (state_told c.in-Awaits.awaited c.in-Ok.packet state c.in-Ok.ensures)
+
+pub returns-in-Ok-clause-no_stop : goal.returns-in-Ok-clause-no_stop
+returns-in-Ok-clause-no_stop g c =
+    let state = c.go_on.new.self.state in
+    never_stop c.in-Ok.packet state (state_told c.in-Awaits.awaited c.in-Ok.packet state c.in-Ok.ensures)
+
+pub returns-in-Ok-clause-end : goal.returns-in-Ok-clause-end
+returns-in-Ok-clause-end g c = end_stays c.args.self.now c.go_on.new.self c.in-Ok.ensures
+
+pub returns-in-Ok-clause-unread : goal.returns-in-Ok-clause-unread
+returns-in-Ok-clause-unread g c = λ seen. any_may_come g.R.BytesIn.left c.go_on.new.self (end_stays c.args.self.now c.go_on.new.self c.in-Ok.ensures seen)
+
+pub returns-in-Ok-clause-ended : goal.returns-in-Ok-clause-ended
+returns-in-Ok-clause-ended g c =
+    let state = c.go_on.new.self.state in
+    ended_after c.in-Ok.packet state (state_told c.in-Awaits.awaited c.in-Ok.packet state c.in-Ok.ensures)
+
+pub returns-in-Err-clause-told : goal.returns-in-Err-clause-told
+returns-in-Err-clause-told g c =
+    tells_fault c.args.self.now _ c.in-Awaits.awaited c.go_on.new.self.state c.in-Err.fault c.in-Awaits.is c.in-Err.ensures
+
+pub returns-in-Err-clause-end : goal.returns-in-Err-clause-end
+returns-in-Err-clause-end g c = end_stays c.args.self.now _ c.in-Err.ensures
+
+pub returns-in-Err-clause-unread : goal.returns-in-Err-clause-unread
+returns-in-Err-clause-unread g c = λ seen. any_may_come g.R.BytesIn.left _ (end_stays c.args.self.now _ c.in-Err.ensures seen)
+
+pub returns-in-Err-clause-not_at_end : goal.returns-in-Err-clause-not_at_end
+returns-in-Err-clause-not_at_end g c = λ e.
+    let same : c.in-Err.fault ≡ ReadFailed = cc in
+    inr (not_at_end c.args.self.now _ c.in-Err.fault c.in-Err.ensures same)
 
 pub returns-in-Ended-clause-told : goal.returns-in-Ended-clause-told
 returns-in-Ended-clause-told g c = tells_no_more g.R.BytesIn.left c.args.self.now c.in-Ended.is

@@ -1,4 +1,4 @@
-use Rattle.std.proofs.Common.{◌≡◌, ◌≤◌, ◌<◌, IfOk, ◌+◌, ◌-◌, ◌*◌, ◌∙◌, ℕ, List, [], get_or, length, take, drop, refl, sym, ap, ap₂, subst, arith}
+use Rattle.std.proofs.Common.{◌≡◌, ◌≤◌, ◌<◌, IfOk, ◌+◌, ◌-◌, ◌*◌, ◌∙◌, ℕ, List, [], get_or, length, take, drop, sym, ap, ap₂, subst, arith}
 use Rattle.std.proofs.lemmas.List.{length-drop, length-take, with_items_is}
 use Rattle.std.specs.Vec.{with_items}
 use borrow.Rule.Slice.PartMut.{put_mid, same_len_mid, mid_len}
@@ -7,7 +7,7 @@ use Rattle.pnm_samples.specs.PixelRows.{bytes_for}
 use Rattle.pnm_samples.specs.Pixels.{all_pixels}
 use Rattle.pnm_samples.proofs.BitRowLaws.{counted, length_of_row_bytes, row_within}
 use Rattle.pnm_samples.proofs.BitRowParts.{whole_rows}
-use Rattle.pnm_samples.proofs.BitRowsMade.{AreFilled, one_more_filled, part_fits, part_is, row_of_rows}
+use Rattle.pnm_samples.proofs.BitRowsMade.{AreFilled, HasPixels, one_more_filled, part_fits, part_is, row_of_rows}
 use Rattle.pnm_samples.proofs.PixelRowLaws.{run_of_row}
 use Rattle.pnm_samples.proofs.bit_rows.BitRows.part.Goals as goal
 
@@ -122,9 +122,9 @@ loop-row-preserved c =
     let place : taken ≡ r * bytes_for each = ap (λ (k : ℕ). r * k) step in
     let end : (r + 1) * c.div_ceil-size.result ≡ r * bytes_for each + bytes_for each = ap (λ (k : ℕ). (r + 1) * k) step ∙ omega arith in
     let wide : (r + 1) * c.div_ceil-size.result - taken ≡ bytes_for each = omega (arith, place, end) in
-    let before : AreFilled (λ (k : ℕ). take each (drop c.args.left (get_or c.args.self.now (c.args.top + k) []))) r c.args.count each now =
-    subst (λ (l : List ℕ). AreFilled (λ (k : ℕ). take each (drop c.args.left (get_or c.args.self.now (c.args.top + k) []))) r c.args.count each l)
-    (sym c.as_mut_slice.ensures.value) c.loop-row.invariant in
+    let holds = HasPixels each (λ (k : ℕ). take each (drop c.args.left (get_or c.args.self.now (c.args.top + k) []))) in
+    let before : AreFilled holds r c.args.count (bytes_for each) now =
+    subst (AreFilled holds r c.args.count (bytes_for each)) (sym c.as_mut_slice.ensures.value) c.loop-row.invariant in
     let room = row_within c.args.count (bytes_for each) r (length now) before.long (omega arith) in
     let long : length part ≡ bytes_for each = omega (
       arith,
@@ -139,8 +139,8 @@ loop-row-preserved c =
     let kept : length ws ≡ length now = same_len_mid taken ((r + 1) * c.div_ceil-size.result - taken) now part
     (omega (arith, long, wide, mid_len taken ((r + 1) * c.div_ceil-size.result) now (omega (arith, end, room)))) in
     let stored : (with_items c.loop-row.bytes ws).items ≡ ws = with_items_is c.loop-row.bytes ws (kept ∙ c.as_mut_slice.ensures.len) in
-    one_more_filled (λ (k : ℕ). take each (drop c.args.left (get_or c.args.self.now (c.args.top + k) []))) r c.args.count each (bytes_for each) now part _
-    before (omega arith) refl long (stored ∙ ap₂ (λ (n k : ℕ). put_mid k n now part) wide place) made
+    one_more_filled holds r c.args.count (bytes_for each) now part _ before (omega arith) long
+    (stored ∙ ap₂ (λ (n k : ℕ). put_mid k n now part) wide place) made
 
 pub returns-then-each-self : goal.returns-then-each-self
 returns-then-each-self c =

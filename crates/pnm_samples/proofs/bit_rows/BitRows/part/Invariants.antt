@@ -1,7 +1,9 @@
 use Rattle.std.proofs.Common.{ℕ, ◌+◌, [], drop, get_or, take}
-use Rattle.pnm_samples.proofs.BitRowsMade.{AreFilled}
+use Rattle.pnm_samples.specs.PixelRows.{bytes_for}
+use Rattle.pnm_samples.proofs.BitRowsMade.{AreFilled, HasPixels}
 use Rattle.pnm_samples.proofs.bit_rows.BitRows.part.Given as goal
 
 -- the rows that have passed have these pixels of those
 abbrev pub invariant-loop-row : goal.invariant-loop-row
-invariant-loop-row l = AreFilled (λ (k : ℕ). take l.each (drop l.left (get_or l.self (l.top + k) []))) l.row l.count l.each l.bytes.items
+invariant-loop-row l =
+    AreFilled (HasPixels l.each (λ (k : ℕ). take l.each (drop l.left (get_or l.self (l.top + k) [])))) l.row l.count (bytes_for l.each) l.bytes.items

@@ -1,11 +1,11 @@
-use Rattle.std.proofs.Common.{[], ◌∷◌, ◌++◌, List, ℕ, true, false, sym, subst, ◌∙◌, ap}
+use Rattle.std.proofs.Common.{[], ◌∷◌, List, ℕ, true, false, sym, subst, ◌∙◌}
 use Rattle.pnm_image.specs.Packets.{messages_in}
 use Rattle.pnm_image.specs.Rows.{row_messages}
 use Rattle.pnm_image.specs.declared.message.Message.{Message}
 use Rattle.pnm_image.specs.declared.message.Message.TheVariants.{Begin, ImageEnd}
 use Rattle.pnm_stages.specs.Rings.{sent}
 use Rattle.pnm_stages.specs.declared.held_image.HeldImage.TheVariants.{Nothing, Rows}
-use Rattle.pnm_stages.specs.HeldImages.{held_messages, HasSentOrHeld}
+use Rattle.pnm_stages.specs.HeldImages.{HasSentOrHeld}
 use Rattle.pnm_stages.proofs.RingSteps.{same_output}
 use Rattle.pnm_stages.proofs.HoldingSteps.{as_held, held_before, sends_out, sent_then, lost_then}
 use Rattle.pnm_stages.proofs.held_image.HeldImage.send.Goals as goal

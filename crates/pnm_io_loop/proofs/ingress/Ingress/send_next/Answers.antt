@@ -1,0 +1,38 @@
+use Rattle.std.proofs.Common.{List, Err, ap, arith, inl, length}
+use Rattle.std.proofs.lemmas.List.{length-append}
+use Rattle.pnm_image.specs.Packets.{messages_in}
+use Rattle.pnm_image.specs.declared.message.Message.{Message}
+use Rattle.pnm_stages.specs.Rings.{sent}
+use Rattle.pnm_read.specs.declared.fault.InputFault.TheVariants.{ReadFailed}
+use Rattle.pnm_read.proofs.ReadCalls.{no_fault}
+use Rattle.pnm_io_loop.proofs.IngressSteps.{feeds_packet, feeds_all, feeds_until}
+use Rattle.pnm_io_loop.proofs.ingress.Ingress.send_next.Goals as goal
+
+pub returns-in-Ok-Some-clause-sending : goal.returns-in-Ok-Some-clause-sending
+returns-in-Ok-Some-clause-sending g c first before =
+    let told = rw c.in-Ok-Some.field-0-is at c.in-Ok-Some.ensures.told in
+    feeds_packet g.R.BytesIn.left g.R.BytesIn.failures first before c.args.self.now c.next.new.self c.in-Ok-Some.packet c.send_packet_reserved.new.self _
+    c.requires.going c.send_packet_reserved.ensures.sent told c.next.ensures.end c.next.ensures.unread (c.in-Ok-Some.ensures.count (no_fault _ ReadFailed))
+
+pub returns-in-Ok-None-clause-sending : goal.returns-in-Ok-None-clause-sending
+returns-in-Ok-None-clause-sending g c first before =
+    let told = rw c.in-Ok-None.field-0-is at c.in-Ok-None.ensures.told in
+    feeds_all g.R.BytesIn.left g.R.BytesIn.failures first before c.args.self.now c.next.new.self c.requires.going
+    told c.next.ensures.unread (c.in-Ok-None.ensures.count (no_fault _ ReadFailed))
+
+pub returns-in-Err-clause-sending : goal.returns-in-Err-clause-sending
+returns-in-Err-clause-sending g c first before =
+    feeds_until g.R.BytesIn.left g.R.BytesIn.failures first before c.args.self.now c.next.new.self c.in-Err.fault c.send_reserved.new.self
+    c.requires.going c.send_reserved.ensures.sent
+    c.in-Err.ensures.told c.next.ensures.unread (λ e. c.in-Err.ensures.not_at_end (ap Err e)) (λ e. c.in-Err.ensures.read_failed (ap Err e))
+    c.in-Err.ensures.count
+
+pub returns-in-Ok-Some-clause-goes_on : goal.returns-in-Ok-Some-clause-goes_on
+returns-in-Ok-Some-clause-goes_on g c =
+    let some = rw c.in-Ok-Some.field-0-is at c.in-Ok-Some.ensures.some in
+    inl (omega (
+      arith,
+      some,
+      ap (λ (l : List Message). length l) c.send_packet_reserved.ensures.sent,
+      length-append (sent c.args.self.now.output) (messages_in c.in-Ok-Some.packet),
+    ))

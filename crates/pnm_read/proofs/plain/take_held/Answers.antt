@@ -1,0 +1,28 @@
+use Rattle.std.proofs.Common.{◌≡◌, ◌≤◌, ◌+◌, ℕ, length, refl, subst, ◌∙◌, arith}
+use Rattle.pnm_read.specs.BufferedReaders.{held_of}
+use Rattle.pnm_image.specs.Heads.{row_length}
+use Rattle.pnm_read.specs.RasterRows.{TakesPlain}
+use Rattle.pnm_read.proofs.PlainRows.{taken_none, taken_row}
+use Rattle.pnm_read.proofs.plain.take_held.Goals as goal
+
+pub loop-count-init : goal.loop-count-init
+loop-count-init g c = record { taken = taken_none c.args.shape (held_of c.args.input.now) c.args.samples.now.items; reader = refl; ended = refl }
+
+pub loop-count-preserved : goal.loop-count-preserved
+loop-count-preserved g c =
+    let t = c.in-Ok.ensures.taken in
+    let before : length c.loop-count.samples.items ≤ c.saturating_add-wanted.result = omega arith in
+    let most : length c.take_samples.new.row.items ≤ c.saturating_add-wanted.result = c.in-Ok.ensures.most before in
+    let long : length c.take_samples.new.row.items ≡ length c.loop-count.samples.items + row_length c.args.shape = omega (arith, most) in
+    record {
+      taken = taken_row c.args.shape c.loop-count.count c.in-Ok.row_size (held_of c.args.input.now) (held_of c.loop-count.input) (held_of c.advance.new.self)
+          c.args.samples.now.items c.loop-count.samples.items c.take_samples.new.row.items c.bytes-in-loop-count.result.now c.loop-count.invariant.taken t
+          c.bytes-in-loop-count.ensures c.advance.ensures.held long;
+      reader = c.advance.ensures.reader ∙ c.loop-count.invariant.reader;
+      ended = c.advance.ensures.ended ∙ c.loop-count.invariant.ended;
+    }
+
+pub returns-clause-taken : goal.returns-clause-taken
+returns-clause-taken g c =
+    subst (λ (k : ℕ). TakesPlain c.args.shape k (held_of c.args.input.now) (held_of c.loop-count.input) c.args.samples.now.items c.loop-count.samples.items)
+    (omega arith) c.loop-count.invariant.taken

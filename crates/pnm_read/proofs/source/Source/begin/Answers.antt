@@ -1,0 +1,45 @@
+use Rattle.std.proofs.Common.{Ok, ap, ◌∙◌}
+use Rattle.std.proofs.lemmas.Result.{err_from_is_err_and}
+use Rattle.pnm_read.specs.declared.fault.InputFault.TheVariants.{ReadFailed}
+use Rattle.pnm_read.proofs.ReadCalls.{call_then, call_held, call_ok_so, call_err_so, no_fault}
+use Rattle.pnm_read.proofs.AwaitedSteps.{no_format, no_head, no_memory, begins, begins_whole}
+use Rattle.pnm_read.proofs.source.Source.begin.Goals as goal
+
+pub returns-in_err-format : goal.returns-in_err-format
+returns-in_err-format g c =
+    let k = c.in_err-format.field-0.0 in
+    let p = err_from_is_err_and c.from_residual.result c.from_residual.ensures.1 in
+    rw (p.1, p.2) (call_err_so k (λ b a o. no_format c.args.is_first c.args.self.now.state k b a o) c.in_err-format.ensures)
+
+pub returns-in_err-head : goal.returns-in_err-head
+returns-in_err-head g c =
+    let k = c.in_err-head.field-0.0 in
+    let p = err_from_is_err_and c.from_residual-in_err-head.result c.from_residual-in_err-head.ensures.1 in
+    rw (p.1, p.2) (call_err_so k (λ b a o. no_head c.args.is_first c.args.self.now.state c.in_ok-format.format k b o.0 a o.1 o.2)
+    (call_then c.in_ok-format.format g.met.R.BytesIn.same_later c.in_ok-format.ensures c.in_err-head.ensures))
+
+pub returns-in_err-rows : goal.returns-in_err-rows
+returns-in_err-rows g c =
+    let refused = c.in_err-rows.ensures.refused in
+    let p = err_from_is_err_and c.from_residual-in_err-rows.result c.from_residual-in_err-rows.ensures.1 in
+    rw (p.1, p.2) (no_memory c.args.is_first c.args.self.now.state c.in_err-rows.field-0.0 c.in_ok-head.head refused.0 refused.1
+    (call_then c.in_ok-format.format g.met.R.BytesIn.same_later c.in_ok-format.ensures c.in_ok-head.ensures))
+
+pub returns-in-Some : goal.returns-in-Some
+returns-in-Some g c =
+    let rows = c.in-Some.rows in
+    let raw = rw c.in-Some.is at c.in_ok-rows.ensures.raw in
+    let all = rw c.in-Some.is at c.in_ok-rows.ensures.all in
+    let taken = rw c.in-Some.is at c.in_ok-rows.ensures.rows in
+    call_held c.in_ok-head.head (Ok _) (no_fault _ ReadFailed) c.in_ok-rows.ensures.reader c.in_ok-rows.ensures.ended
+    (λ b rest _ o. begins_whole c.args.is_first c.in_ok-format.format c.in_ok-head.head c.new-raster.result rows c.after_image.result b o.0 _ _ o.1 o.2
+    c.new-raster.ensures.format (c.new-raster.ensures.shape ∙ c.shape.ensures.shape) c.new-raster.ensures.y raw all c.after_image.ensures (taken rest))
+    (call_then c.in_ok-format.format g.met.R.BytesIn.same_later c.in_ok-format.ensures c.in_ok-head.ensures)
+
+pub returns-in-None : goal.returns-in-None
+returns-in-None g c =
+    rw (c.in_ok-rows.ensures.none (ap (λ r. Ok r) c.in-None.is))
+    (call_ok_so c.in_ok-head.head (Ok _) (no_fault _ ReadFailed)
+    (λ b a o. begins c.args.is_first c.in_ok-format.format c.in_ok-head.head c.new-raster.result b o.0 a o.1 o.2 c.new-raster.ensures.format
+    (c.new-raster.ensures.shape ∙ c.shape.ensures.shape) c.new-raster.ensures.y)
+    (call_then c.in_ok-format.format g.met.R.BytesIn.same_later c.in_ok-format.ensures c.in_ok-head.ensures))
