@@ -211,11 +211,14 @@ class Crate:
         return {path: emptied(text, emptied_of[path]) if path in emptied_of else text for path, text in texts.items()}
 
     def paths(self, places):
-        """The names by which a check is asked for these functions alone: the module of a trait's method that has no
-        folder to tell its name. None if one has none, or if a check sees only what is reached."""
+        """The names by which a check is asked for these functions alone: the module of a method of a trait that has
+        parameters. None if one has none, or if a check sees only what is reached."""
         paths = [] if self.sees_all else [""]
-        for file, (*of, name) in places:
-            found = self.proof_folders(file, Function(name, *of, 0, 0, 0)) or ["/".join(module_of(file))]
+        for file, (owner, trait, name) in places:
+            module = module_of(file)
+            has_parameters = trait and re.search(rf"^impl\b[^{{]*\b{trait}<", self.texts[file], re.M)
+            own = module if has_parameters else [*module, owner + trait, name]
+            found = self.proof_folders(file, Function(name, owner, trait, 0, 0, 0)) or ["/".join(own)]
             paths += [it.replace("/", "::") for it in found]
         return paths if all(paths) else []
 
