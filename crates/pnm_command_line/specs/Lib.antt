@@ -1,3 +1,5 @@
 pub mod CommandLine
 pub mod CommandLineExamples
 pub mod NamedRuns
+pub mod Streams
+pub mod ProgramFacts

@@ -1,5 +1,6 @@
 -- The run that the words of the command line name.
-use Rattle.std.specs.Prelude.{◌≡◌, ℕ, List, Result, Ok, Err}
+use Rattle.std.specs.Prelude.{◌≡◌, ◌⊎◌, ℕ, List, Option, Result, Ok, Err}
+use Rattle.std.specs.Io.KnownBytes.{Keeps}
 use Rattle.pnm_image.specs.declared.format.Form.{Form}
 use Rattle.pnm_tools.specs.declared.tool.Tool.{Tool}
 use Rattle.pnm_chain.specs.ChainText.{SpellsChain}
@@ -25,8 +26,33 @@ pub record HasRunTools (has_run : RunRelation) (lanes : ℕ) (job : Job) (status
   pub status_is : status ≡ status_of answer
   pub ran : has_run lanes job answer reader writer
 
+-- the known bytes of a stream, before and after: what a reader still gives, or what a writer was given
+pub record Known : Type 0 where
+  pub old : Option (List ℕ)
+  pub new : Option (List ℕ)
+
+abbrev pub known : Option (List ℕ) → Option (List ℕ) → Known
+known old new = record { old = old; new = new }
+
+-- a device over that stream, with so many failed calls since
+abbrev pub as_device : Known → ℕ → Change
+as_device bytes failures = record { old = bytes.old; new = bytes.new; failures_old = 0; failures_new = failures }
+
+-- Such a run over streams. What the writer was given is what it has taken and what was kept back before it. The status
+-- is that of the run; or it is 1 since the last bytes of a run that ended well couldn't be written.
+pub record HasRunOverStreams (has_run : RunRelation) (lanes : ℕ) (job : Job) (status : ℕ) (input output : Known)
+    : Type 0 where
+  pub ended : ℕ
+  pub failed_reads : ℕ
+  pub failed_writes : ℕ
+  pub given : Option (List ℕ)
+  pub run : HasRunTools has_run lanes job ended (as_device input failed_reads)
+      (as_device (known output.old given) failed_writes)
+  pub kept : Keeps given output.new
+  pub status_is : (status ≡ ended) ⊎ ((ended ≡ 0) × (status ≡ 1))
+
 -- the words give a chain, a number of lanes and a form, the chain spells tools, and a run over these in that form ended
-pub record HasRunWords (has_run : RunRelation) (words : List Text) (status : ℕ) (reader writer : Change) : Type 0 where
+pub record HasRunWords (has_run : RunRelation) (words : List Text) (status : ℕ) (input output : Known) : Type 0 where
   pub chain : Text
   pub tools : List Tool
   pub lanes : ℕ
@@ -35,4 +61,4 @@ pub record HasRunWords (has_run : RunRelation) (words : List Text) (status : ℕ
   pub lanes_given : GivesLanes words lanes
   pub form_given : GivesForm words form
   pub spelled : SpellsChain chain tools
-  pub run : HasRunTools has_run lanes (job_of tools form) status reader writer
+  pub run : HasRunOverStreams has_run lanes (job_of tools form) status input output

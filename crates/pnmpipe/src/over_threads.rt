@@ -1,8 +1,6 @@
 //! How the program runs the tools: a thread for each.
 
-ghost use Rattle.std.specs.Prelude.{◌≡◌, ◌⊎◌, Err};
-ghost use Rattle.pnm_serial.specs.declared.fault.RunFault.TheVariants.{NoStart};
-ghost use Rattle.pnm_serial.specs.Runs.{HasRun};
+ghost use Rattle.pnm_command_line.specs.ProgramFacts.{over_threads};
 
 use pnm_command_line::Runner;
 use pnm_flow::{OpenGate, RunFault, Summary, run};
@@ -16,9 +14,7 @@ use std::thread::Threads;
 pub struct OverThreads;
 
 impl Runner for OverThreads {
-    // the run couldn't be started, or all that is promised of it holds
-    ghost has_run = { λ lanes job answer reader writer.
-        (answer ≡ Err NoStart) ⊎ HasRun lanes ⊥ job answer reader writer };
+    ghost has_run = { over_threads };
 
     fn run<H: AllocGlobal + Threads + Wait + Sync, R: BytesIn, W: BytesOut>(
         &self,

@@ -1,7 +1,7 @@
 //! `pnm_chain` and `pnm_command_line`: the text of a chain, and the program.
 
 use super::same;
-use pnm_command_line::{Runner, command};
+use pnm_command_line::{Ended, Runner, command, print_text};
 use pnm_flow::{BytesIn, BytesOut, Form, OpenGate, RunFault, Summary, Tool, run};
 use pnm_image::Device;
 use std::alloc::{AllocError, Global};
@@ -49,29 +49,27 @@ fn words_of(alloc: Global, texts: &[&str]) -> Result<Vec<String>, AllocError> {
     Ok(words)
 }
 
-/// The status of the program with these words, what it writes and what it prints.
-fn answer_of<H: AllocGlobal + Threads + Wait + Abort + Sync>(
+/// How the program ends with these words, and what it prints.
+fn answer_of<'a, H: AllocGlobal + Threads + Wait + Abort + Sync>(
     rt: &H,
     texts: &[&str],
-    text: &[u8],
-) -> (u8, Vec<u8>, Vec<u8>) {
+    text: &'a [u8],
+) -> (Ended<&'a [u8], Vec<u8>>, Vec<u8>) {
     let words = words_of(rt.alloc(), texts).expect(rt, "words");
-    let words = words.as_slice();
-    let mut input = Device::new(text);
-    let mut output = Device::new(Vec::new(rt.alloc()));
+    let output = Vec::new(rt.alloc());
     let mut errors = Vec::new(rt.alloc());
-    let status = command(
+    let ended = command(
         rt,
         &OverThreads,
-        words,
-        &mut input,
-        &mut output,
+        words.as_slice(),
+        text,
+        output,
         &mut errors,
     );
-    (status, output.into_inner(), errors)
+    (ended, errors)
 }
 
-/// The program with these words answers so.
+/// The program with these words answers so, and keeps nothing back.
 fn answers<H: AllocGlobal + Threads + Wait + Abort + Sync>(
     rt: &H,
     texts: &[&str],
@@ -79,9 +77,11 @@ fn answers<H: AllocGlobal + Threads + Wait + Abort + Sync>(
     writes: &[u8],
     prints: &[u8],
 ) {
-    let (status, written, printed) = answer_of(rt, texts, b"P5\n2 1\n122\nAB");
-    same(rt, &status, &want, &texts);
+    let (ended, printed) = answer_of(rt, texts, b"P5\n2 1\n122\nAB");
+    let written = ended.output.expect(rt, "memory for the buffer");
+    same(rt, &ended.status, &want, &texts);
     same(rt, &written.as_slice(), &writes, &texts);
+    same(rt, &ended.unwritten.len(), &0, &texts);
     same(rt, &printed.as_slice(), &prints, &texts);
 }
 
@@ -94,4 +94,13 @@ fn commands_answer(rt: HostRuntime) {
     answers(&rt, &[name, "pamchannel 1"], 1, b"", line);
     let line = b"pnmpipe: chain: stage 1: UnknownTool\n".as_slice();
     answers(&rt, &[name, "x"], 2, b"", line);
+}
+
+/// A text goes to a device.
+#[test]
+fn texts_are_written(rt: HostRuntime) {
+    let mut output = Device::new(Vec::new(rt.alloc()));
+    print_text(&mut output, "text\n");
+    let written = output.into_inner();
+    same(&rt, &written.as_slice(), &b"text\n".as_slice(), &"a text");
 }

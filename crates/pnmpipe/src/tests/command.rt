@@ -3,76 +3,57 @@
 use super::help::HELP;
 use super::{IMAGE, INVERTED, words_of};
 use crate::over_threads::OverThreads;
-use pnm_command_line::command;
-use pnm_image::{BytesIn, BytesOut, Device};
+use pnm_command_line::{Ended, command};
+use std::io::{Read, Write};
 use std::process::Abort;
 use std::sync::Wait;
 use std::thread::Threads;
 
-/// The status of the program with these words over these devices, and the line that it prints.
-fn answer_of<H: AllocGlobal + Threads + Wait + Sync, R: BytesIn, W: BytesOut>(
+/// How the program ends with these words over these streams, and the line that it prints.
+fn answer_of<H: AllocGlobal + Threads + Wait + Sync, R: Read, W: Write + Drop>(
     rt: &H,
     words: &[String],
-    input: &mut R,
-    output: &mut W,
-) -> (u8, Vec<u8>) {
+    input: R,
+    output: W,
+) -> (Ended<R, W>, Vec<u8>) {
     let mut errors = Vec::new(rt.alloc());
-    let status = command(rt, &OverThreads, words, input, output, &mut errors);
-    (status, errors)
+    let ended = command(rt, &OverThreads, words, input, output, &mut errors);
+    (ended, errors)
 }
 
-/// Whether the program ends well with these words over these devices, and prints nothing.
-fn ends_well<H: AllocGlobal + Threads + Wait + Abort + Sync, R: BytesIn, W: BytesOut>(
+/// What is written to the output if the program ends well with these words, and prints nothing.
+fn written_by<H: AllocGlobal + Threads + Wait + Abort + Sync, W: Write + Drop>(
     rt: &H,
     texts: &[&str],
-    input: &mut R,
-    output: &mut W,
-) -> bool {
+    output: W,
+) -> Option<W> {
     let words = words_of(rt.alloc(), texts).expect(rt, "words");
-    let (status, errors) = answer_of(rt, words.as_slice(), input, output);
-    status == 0 && errors.is_empty()
+    let (ended, errors) = answer_of(rt, words.as_slice(), IMAGE, output);
+    if ended.status == 0 && errors.is_empty() {
+        ended.output
+    } else {
+        None
+    }
 }
 
-/// Without words the program is refused, and says how it is used.
-fn is_refused<H: AllocGlobal + Threads + Wait + Sync, R: BytesIn, W: BytesOut>(
-    rt: &H,
-    input: &mut R,
-    output: &mut W,
-) -> bool {
-    let (status, errors) = answer_of(rt, &[], input, output);
-    let usage = b"pnmpipe: usage: pnmpipe [--ring N] [--lanes K] [--plain] CHAIN\n".as_slice();
-    status == 2 && errors.as_slice() == usage
-}
-
-/// No words at all, not even the program's name, are no command line: nothing is read or written.
+/// No words at all, not even the program's name, are no command line: nothing is read or written, and the line says how
+/// the program is used.
 #[test]
 fn refuses_no_words(rt: HostRuntime) {
-    let mut input = Device::new(IMAGE);
-    let mut output = Device::new(Vec::new(rt.alloc()));
-    let is_refused = is_refused(&rt, &mut input, &mut output);
-    assert!(&rt; is_refused);
-    let (left, written) = (input.into_inner(), output.into_inner());
-    assert!(&rt; left == IMAGE && written.is_empty());
-}
-
-/// Whether a call for help ends well over this output, and a run after it.
-fn helps_and_runs<H: AllocGlobal + Threads + Wait + Abort + Sync, W: BytesOut>(
-    rt: &H,
-    output: &mut W,
-) -> bool {
-    let mut input = Device::new(IMAGE);
-    let helps = ends_well(rt, &["pnmpipe", "--help"], &mut input, output);
-    let runs = ends_well(rt, &["pnmpipe", "pnminvert"], &mut input, output);
-    helps && runs
+    let (ended, errors) = answer_of(&rt, &[], IMAGE, Vec::new(rt.alloc()));
+    let usage = b"pnmpipe: usage: pnmpipe [--ring N] [--lanes K] [--plain] CHAIN\n".as_slice();
+    assert!(&rt; ended.status == 2 && errors.as_slice() == usage);
+    let is_empty = ended.output.is_some_and(|written| written.is_empty());
+    assert!(&rt; ended.input == IMAGE && is_empty);
 }
 
 /// After a call for help the output still takes a run.
 #[test]
 fn helps_between_runs(rt: HostRuntime) {
-    let mut output = Device::new(Vec::new(rt.alloc()));
-    let are_well = helps_and_runs(&rt, &mut output);
-    let written = output.into_inner();
-    let written = written.as_slice();
+    let output = Vec::new(rt.alloc());
+    let helped = written_by(&rt, &["pnmpipe", "--help"], output).expect(&rt, "help");
+    let ran = written_by(&rt, &["pnmpipe", "pnminvert"], helped).expect(&rt, "a run");
+    let written = ran.as_slice();
     let is_whole = written.starts_with(HELP.as_bytes()) && written.ends_with(INVERTED);
-    assert!(&rt; are_well && is_whole);
+    assert!(&rt; is_whole);
 }

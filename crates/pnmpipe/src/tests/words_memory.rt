@@ -5,7 +5,6 @@ use super::help::HELP;
 use super::{IMAGE, INVERTED, is_so, words_of};
 use crate::over_threads::OverThreads;
 use pnm_command_line::command;
-use pnm_image::Device;
 use std::process::Abort;
 use std::sync::Wait;
 use std::thread::Threads;
@@ -69,18 +68,15 @@ fn run_into<H: AllocGlobal + Threads + Wait + Sync>(
     buffer: &mut [u8],
     line: &mut [u8],
 ) -> (u8, usize, usize) {
-    let mut output = Device::new(buffer);
-    let mut errors = line;
-    let mut input = Device::new(IMAGE);
-    let status = command(
-        rt,
-        &OverThreads,
-        words,
-        &mut input,
-        &mut output,
-        &mut errors,
-    );
-    (status, output.into_inner().len(), errors.len())
+    let mut errors = &mut *line;
+    let room = buffer.len();
+    let ended = command(rt, &OverThreads, words, IMAGE, &mut *buffer, &mut errors);
+    let (status, output) = (ended.status, ended.output);
+    let left = match output {
+        Some(left) => left.len(),
+        None => room,
+    };
+    (status, left, errors.len())
 }
 
 /// The words of a call for help, and those of a run.

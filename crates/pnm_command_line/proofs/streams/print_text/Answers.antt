@@ -2,7 +2,7 @@ use Rattle.std.proofs.Common.{inl, subst}
 use Rattle.std.specs.Io.KnownBytes.{Appends}
 use Rattle.pnm_image.specs.Devices.{AppendsPrefix}
 use Rattle.pnm_command_line.proofs.HelpSteps.{flushed_prefix, flushed_whole}
-use Rattle.pnm_command_line.proofs.named_run.print_text.Goals as goal
+use Rattle.pnm_command_line.proofs.streams.print_text.Goals as goal
 
 pub returns-in-Ok : goal.returns-in-Ok
 returns-in-Ok g c =
