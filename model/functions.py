@@ -97,6 +97,11 @@ def entries(text):
     return [line.split() for line in text.split("\n") if line and not line.startswith("#")]
 
 
+def models_gone(text):
+    """What a heading of the list names that is no model of this folder."""
+    return [name for name in re.findall(r"^# (\w+\.pml):", text, re.M) if not os.path.exists(os.path.join(HERE, name))]
+
+
 def compare(text, root):
     """The list with the sums of what stands below the root, and what differs from it."""
     anew, found, files = [], [], {}
@@ -131,11 +136,14 @@ def main():
         changed = len(found) - len(gone)
         print(f"model: the sums of {count - len(gone)} functions are written, of which {changed} have changed")
         found = gone
+    gone = models_gone(text)
+    for name in gone:
+        print(f"model: functions.txt names {name}, which isn't there")
     for line in found:
         print(f"model: {line}: compare the model with it (model/README.md), and run model/functions.py --accept")
-    if not found and not asked.accept:
+    if not found and not gone and not asked.accept:
         print(f"model: the {count} functions that it restates are as they were when it was compared with them")
-    return 1 if found else 0
+    return 1 if found or gone else 0
 
 
 if __name__ == "__main__":

@@ -238,11 +238,6 @@ inline drain_lane(lane) {
 #define ONE_IS_OPEN (state[0] == OPEN || state[1] == OPEN || state[2] == OPEN)
 #define FIRST_OPEN (state[0] == OPEN -> 0 : (state[1] == OPEN -> 1 : 2))
 #endif
-#ifdef M_SLEEPS_AT_THE_FIRST_OPEN_LANE
-#define SLEEPS_BY RP(FROM(FIRST_OPEN))
-#else
-#define SLEEPS_BY SP(LAST)
-#endif
 
 proctype Gatherer() {
     LOCALS
@@ -316,7 +311,12 @@ drain: /* drain_all */
         if
         :: !ONE_IS_OPEN -> break
         :: ONE_IS_OPEN && moved
-        :: ONE_IS_OPEN && !moved -> park(SLEEPS_BY) /* Sender::sleep, at the output */
+        :: ONE_IS_OPEN && !moved ->
+#ifdef M_SLEEPS_AT_THE_FIRST_OPEN_LANE
+            park(RP(FROM(FIRST_OPEN)))
+#else
+            STEP { sleep_at_sender(LAST) }
+#endif
         fi
     od;
 done:

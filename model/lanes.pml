@@ -1,6 +1,8 @@
 /* A row-wise tool over lanes, between a thread that sends images and one that takes what comes, or by itself
  * (BARE).
  *
+ * CALLER: one thread, the caller of a run, does both; it is woken at ring 0, too, by the gatherer.
+ *
  * The thread that sends may drop its end at any time, unless NO_FAULTS, and the one that takes may, with
  * TAKER_GOES.
  *
@@ -38,12 +40,19 @@
 #define LAST (1 + 2 * LANES)
 #define SP(r) (2 * (r))
 #define RP(r) (2 * (r) + 1)
+#if defined(CALLER) && !defined(M_NO_HOME_OF_THE_CALLER)
+#define HAS_HOME(r) ((r) > LANES)
+#define HOME(r) ((r) == LAST -> SP(0) : SP(LAST))
+#else
 #define HAS_HOME(r) ((r) > LANES && (r) < LAST)
-#define HOME SP(LAST)
+#define HOME(r) SP(LAST)
+#endif
 #include "rings.pml"
 #include "lane_threads.pml"
 
-#ifndef BARE
+#ifdef CALLER
+#include "caller.pml"
+#elif !defined(BARE)
 #ifdef AWAITS
 short owed; /* what was sent, and hasn't come out behind the lanes */
 #define OWES owed++

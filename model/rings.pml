@@ -12,7 +12,7 @@
  * Nothing times out: a sleep that no other thread ends is a state in which the search finds that thread stuck.
  *
  * The includer defines NR (rings), CAP (places of each), NP (parkers), SP(r) and RP(r) (those of the sending and
- * of the receiving end), and, where some rings have a home, HAS_HOME(r) and HOME, the parker there.
+ * of the receiving end), and, where some rings have a home, HAS_HOME(r) and HOME(r), the parker there.
  */
 #define EMPTY    0
 #define NOTIFIED 1
@@ -91,7 +91,7 @@ inline park(p) {
 /* SenderWaker::wake_home: whom a thread wakes besides, before it sleeps for want of room in a ring that HAS_HOME,
  * where it ends the stream, and where its end goes */
 #ifdef HAS_HOME
-#define WAKE_HOME(r) if :: HAS_HOME(r) -> WAKE(HOME) :: else fi
+#define WAKE_HOME(r) if :: HAS_HOME(r) -> WAKE(HOME(r)) :: else fi
 #endif
 
 /* Sender::has_room */
@@ -159,6 +159,14 @@ inline put(r, m, holds) {
     fi
 }
 
+/* Sender::sleep */
+inline sleep_at_sender(r) {
+#if defined(HAS_HOME) && !defined(M_NO_WAKE_AT_HOME_BEFORE_ROOM)
+    WAKE_HOME(r);
+#endif
+    park(SP(r))
+}
+
 /* Sender::wait: it wakes, and sleeps */
 #ifdef M_NO_WAKE_BEFORE_ROOM
 #define WAKE_BEFORE_ROOM(r) skip
@@ -167,10 +175,7 @@ inline put(r, m, holds) {
 #endif
 inline wait_at_sender(r) {
     WAKE_BEFORE_ROOM(r);
-#if defined(HAS_HOME) && !defined(M_NO_WAKE_AT_HOME_BEFORE_ROOM)
-    WAKE_HOME(r);
-#endif
-    park(SP(r))
+    sleep_at_sender(r)
 }
 
 /* Sender::send_packet, with wait_for_room; `ok` is its answer */

@@ -30,7 +30,7 @@
 #define LAST 6
 #define STARTED 7
 #define HAS_HOME(r) ((r) >= FROM(0) && (r) < LAST)
-#define HOME SP(LAST)
+#define HOME(r) SP(LAST)
 #else
 #ifndef TOOLS
 #define TOOLS 3

@@ -187,6 +187,16 @@ edit("lanes.pml", f"{BARE} MOST_ROWS=2 ONE_HEIGHT DRAINS NO_FAULTS M_NO_WAKE_AT_
 edit("lanes.pml", f"{GOES} MOST_ROWS=0 MOST_IMAGES=0 M_NO_WAKE_AT_HOME_AT_DROP",
      "a lane that goes doesn't wake the gatherer at home",
      "wakers.rt, drop of SenderWaker: without self.wake_home()", caught="pnm_flow_tests, wakes_its_home_at_the_end")
+CALLED = "a run of a tool over lanes: another thread ends each sleep"
+CALLER_ALONE = "CALLER RINGS_ALONE CAP=1 COARSE"
+holds("lanes.pml", "CALLER CAP=1 COARSE HOLDS=0 NO_FAULTS MOST_ROWS=0 MOST_IMAGES=0", CALLED)
+holds("lanes.pml", f"{CALLER_ALONE} HOLDS=0 NO_FAULTS MOST_ROWS=3 ONE_HEIGHT", f"{CALLED}; each lane a ring alone")
+for size in ("NO_FAULTS MOST_ROWS=1 ONE_HEIGHT", "LANES=3 HOLDS=0 NO_FAULTS MOST_ROWS=4 ONE_HEIGHT"):
+    holds("lanes.pml", f"{CALLER_ALONE} {size}", f"{CALLED}; each lane a ring alone", is_big=True)
+holds("lanes.pml", f"{CALLER_ALONE} HOLDS=0 MOST_ROWS=3 ONE_HEIGHT", f"{CALLED}; each lane a ring alone", is_long=True)
+edit("lanes.pml", f"{CALLER_ALONE} HOLDS=0 NO_FAULTS MOST_ROWS=3 ONE_HEIGHT M_NO_HOME_OF_THE_CALLER",
+     "a gatherer that sleeps for want of room doesn't wake the caller at home",
+     "threaded.rt, run: without output.set_home(..)")
 for size in ("MOST_ROWS=3 TAKER_GOES NO_FAULTS", "MOST_ROWS=1 TAKER_GOES"):
     holds("lanes.pml", f"{BARE} {size}", LANES, is_long=True)
 holds("lanes.pml", "CAP=1 COARSE HOLDS=0 MOST_ROWS=0 NO_FAULTS", f"{LANES}, between two threads", is_long=True)
