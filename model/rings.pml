@@ -118,7 +118,7 @@ inline wake_receiver(r) {
     fi
 }
 
-/* Sender::send_packet_reserved. Where `holds`, any message may be held back, however many were: so this stands for
+/* Sender::send_reserved. Where `holds`, any message may be held back, however many were: so this stands for
  * every messages_per_wake and every width of rows. */
 inline put(r, m, holds) {
 #ifdef M_WAKE_BEFORE_TAIL
@@ -178,7 +178,7 @@ inline wait_at_sender(r) {
     sleep_at_sender(r)
 }
 
-/* Sender::send_packet, with wait_for_room; `ok` is its answer */
+/* Sender::send, with wait_for_room; `ok` is its answer */
 inline send(r, m, holds, ok) {
     STEP {
     do

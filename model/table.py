@@ -60,10 +60,10 @@ edit("ends.pml", "CAP=1 M_NO_TOKEN", "a wake before the sleep is lost",
 edit("ends.pml", "CAP=1 M_NO_WAKE_BY_SENDER", "no wake by the sending end",
      "sender.rt, Sender::wake_receiver: without self.waker.wake_receiver()")
 edit("ends.pml", "CAP=1 M_NO_WAKE_AT_PUSH", "no wake after a message",
-     "sender.rt, Sender::send_packet_reserved: without self.wake_receiver()",
+     "sender.rt, Sender::send_reserved: without self.wake_receiver()",
      caught="scripts/waits.py, most runs")
 edit("ends.pml", "CAP=1 M_WAKE_BEFORE_TAIL", "the wake before the message is there",
-     "sender.rt, Sender::send_packet_reserved: self.waker.wake_receiver() before push_reserved, and none after it",
+     "sender.rt, Sender::send_reserved: self.waker.wake_receiver() before push_reserved, and none after it",
      is_big=True)
 edit("ends.pml", "CAP=1 M_HOLDS_END", "the end of the stream is held back",
      "sender.rt, bytes_of: Some(0) for StreamEnd and Stop")
@@ -134,7 +134,7 @@ edit("io_loop.pml", f"{SMALL} M_NO_WAKE_BEFORE_INPUT", "no wake before a stage w
      "stage.rt, wait: without output.wake_receiver()",
      caught="scripts/waits.py, pamflip -tb and a ring of 8")
 edit("io_loop.pml", f"{SMALL} M_NO_WAKE_AT_PUSH", "no wake after a message, in a run",
-     "sender.rt, Sender::send_packet_reserved: without self.wake_receiver()", is_big=True)
+     "sender.rt, Sender::send_reserved: without self.wake_receiver()", is_big=True)
 edit("io_loop.pml", f"{SMALL} M_NO_WAKE_AT_POP", "no wake after a message was taken, in a run",
      "receiver.rt, Receiver::receive_known: without self.waker.wake_sender()", is_big=True)
 edit("io_loop.pml", f"{SMALL} M_NO_WAKE_BEFORE_ROOM", "no wake before the wait for room, in a run",
@@ -182,7 +182,7 @@ edit("lanes.pml", f"{BARE} MOST_ROWS=2 ONE_HEIGHT DRAINS NO_FAULTS M_NO_WAKE_AT_
      caught="pnm_flow_tests, drains_whichever_lane_has_no_room")
 edit("lanes.pml", f"{BARE} MOST_ROWS=2 ONE_HEIGHT DRAINS NO_FAULTS M_NO_WAKE_AT_HOME_AT_END",
      "a lane whose stream ends doesn't wake the gatherer at home",
-     "sender.rt, Sender::send_packet_reserved: without self.waker.wake_home()",
+     "sender.rt, Sender::send_reserved: without self.waker.wake_home()",
      caught="pnm_flow_tests, wakes_its_home_at_the_end")
 edit("lanes.pml", f"{GOES} MOST_ROWS=0 MOST_IMAGES=0 M_NO_WAKE_AT_HOME_AT_DROP",
      "a lane that goes doesn't wake the gatherer at home",
@@ -223,7 +223,7 @@ edit("lanes.pml", "CAP=1 COARSE HOLDS=0 MOST_ROWS=1 M_NO_DRAIN_BY_DEALER",
 edit("lanes.pml", f"{BARE} MOST_ROWS=3 M_NO_WAKE_AT_POP", "no wake after a message was taken, in lanes",
      "receiver.rt, Receiver::receive_known: without self.waker.wake_sender()", is_big=True)
 edit("lanes.pml", f"{BARE} MOST_ROWS=3 M_NO_WAKE_AT_PUSH", "no wake after a message, in lanes",
-     "sender.rt, Sender::send_packet_reserved: without self.wake_receiver()", is_big=True)
+     "sender.rt, Sender::send_reserved: without self.wake_receiver()", is_big=True)
 
 # ---- starts ----------------------------------------------------------------------------------------------------------
 

@@ -10,7 +10,7 @@ ghost use Rattle.pnm_flow.specs.ChainRuns.{RunsInLanes, IsToolRun, IsLanesRun, I
 
 use crate::lanes::run_lanes_beside;
 use crate::stage::Stage;
-use pnm_image::Message;
+use pnm_image::Packet;
 use pnm_lanes::LaneRings;
 use pnm_stages::{Call, Gate, Receiver, Sender, StageDone, Task, new_ring, run_both};
 use pnm_tools::Tool;
@@ -69,7 +69,7 @@ impl<'a, R: Wait> Task for Notifier<'a, R> {
 
     fn run(self) {
         let Notifier { rt, mut notify } = self;
-        notify.send(rt, Message::StreamEnd);
+        notify.send(rt, Packet::StreamEnd);
     }
 }
 

@@ -33,7 +33,7 @@ fn holding<R: Wait>(
 ) -> Result<(Option<Sender>, Receiver), Unmade> {
     let (mut sender, receiver) = ring(alloc, CAPACITY)?;
     for packet in packets_of(alloc, text, true)? {
-        if !sender.has_room() || !sender.send_packet(rt, packet) {
+        if !sender.has_room() || !sender.send(rt, packet) {
             return Err(Unmade);
         }
     }

@@ -8,7 +8,7 @@ ghost use Rattle.pnm_read.specs.Sources.{IsFreshSource as IsUnread};
 ghost use Rattle.pnm_read.specs.declared.fault.InputFault.{InputFault as Fault};
 
 use crate::image_count::count_image;
-use pnm_image::{BytesIn, Message};
+use pnm_image::{BytesIn, Packet};
 use pnm_read::{InputFault, Source, SpareRows};
 use pnm_stages::Sender;
 use std::sync::Wait;
@@ -159,12 +159,12 @@ impl<R: BytesIn + Drop> Ingress<R> {
         match self.source.next(spares, self.most_rows) {
             Ok(Some(packet)) => {
                 let is_end = packet.ends_image();
-                self.output.send_packet_reserved(packet);
+                self.output.send_reserved(packet);
                 count_image(&mut self.images, is_end);
             }
             Ok(None) => self.input = Some(Ok(())),
             Err(fault) => {
-                self.output.send_reserved(Message::Stop);
+                self.output.send_reserved(Packet::Stop);
                 self.input = Some(Err(fault));
             }
         }

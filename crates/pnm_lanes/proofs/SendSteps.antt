@@ -53,14 +53,14 @@ next_lane next part unsent still new m old now same added (inr is) (same_now, in
 )
 
 -- the next lane was sent its part
-pub sends_next : (next : ℕ) (part : ℕ → List Message) (unsent : Option StageEnd) (olds nows : List Sender) (was new other : Sender) (m : Message)
+pub sends_next : (next : ℕ) (part : ℕ → List Message) (unsent : Option StageEnd) (olds nows : List Sender) (was new other : Sender) (m : List Message)
     → IsSending next part unsent olds nows → next < length nows
-    → was ≡ get_or nows next other → SameSender was new → sent new ≡ sent was ++ m ∷ [] → part next ≡ m ∷ []
+    → was ≡ get_or nows next other → SameSender was new → sent new ≡ sent was ++ m → part next ≡ m
     → IsSending (next + 1) part unsent olds (slice_set nows next new)
 sends_next next part unsent olds nows was new other m sending lt is same added part_is = record {
   lanes = each-set (IsSentBelow next part unsent) (IsSentBelow (next + 1) part unsent) next 0 next olds nows other new (omega arith) lt
       (λ lane old now differs sent_now. other_lane next part unsent unsent (λ x. x) lane old now differs sent_now)
-      (λ old sent_now. next_lane next part unsent unsent new (m ∷ []) old was same added (inl (sym part_is))
+      (λ old sent_now. next_lane next part unsent unsent new m old was same added (inl (sym part_is))
       (subst (λ (x : Sender). IsSentBelow next part unsent next old x) (sym is) sent_now)) sending.lanes;
   reason = sending.reason;
 }
@@ -118,10 +118,10 @@ no_row lane lanes y row other =
     let not_its : ((y % lanes) == lane) ≡ false = grind (arith, nat_tests) in
     ap (λ (b : Bool). map Row (if b then row ∷ [] else [])) not_its
 
-pub sends_row : (lane y : ℕ) (row : List ℕ) (outputs : List Sender) (was new other : Sender) → lane ≡ y % length outputs → lane < length outputs
-    → was ≡ get_or outputs lane other → SameSender was new → sent new ≡ sent was ++ Row row ∷ []
+pub sends_row : (lane y : ℕ) (row : List ℕ) (outputs : List Sender) (was new other : Sender) (m : List Message) → lane ≡ y % length outputs
+    → lane < length outputs → was ≡ get_or outputs lane other → SameSender was new → sent new ≡ sent was ++ m → m ≡ Row row ∷ []
     → HasSentParts (row_part (length outputs) y row) None outputs (slice_set outputs lane new)
-sends_row lane y row outputs was new other here lt is same added = record {
+sends_row lane y row outputs was new other m here lt is same added m_is = record {
   lanes = each-set IsSameEnd (IsSentPart (row_part (length outputs) y row) None) lane 0 lane outputs outputs other new (omega arith) lt
       (λ n old now differs unchanged. (
         unchanged.0,
@@ -131,8 +131,8 @@ sends_row lane y row outputs was new other here lt is same added = record {
       (λ old unchanged.
       let same_was : IsSameEnd lane old was = subst (λ (x : Sender). IsSameEnd lane old x) (sym is) unchanged in (
         same_output old was new same_was.0 same,
-        inl (added ∙ ap (λ (x : List Message). x ++ Row row ∷ []) same_was.1
-            ∙ ap (λ (x : List Message). sent old ++ x) (sym (its_row lane (length outputs) y row (sym here)))),
+        inl (added ∙ ap (λ (x : List Message). x ++ m) same_was.1
+            ∙ ap (λ (x : List Message). sent old ++ x) (m_is ∙ sym (its_row lane (length outputs) y row (sym here)))),
       ))
       (each-itself IsSameEnd 0 outputs (λ n x. (itself_output x, refl)));
   reason = tt;

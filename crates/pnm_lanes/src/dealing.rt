@@ -238,7 +238,7 @@ fn send_row<R: Wait>(rt: &R, y: u32, row: Samples, outputs: &mut [Sender]) -> Op
 {
     let lane = y as usize % outputs.len();
     wake_before_room(outputs, lane);
-    if outputs[lane].send(rt, Message::Row(row)) {
+    if outputs[lane].send(rt, Packet::from(Message::Row(row))) {
         None
     } else {
         Some(StageEnd::PeerGone)
@@ -258,7 +258,7 @@ fn send_each<R: Wait>(rt: &R, message: &Message, outputs: &mut [Sender]) -> Opti
             return Some(StageEnd::Fault(ToolFault::Memory));
         };
         wake_before_room(outputs, lane);
-        if !outputs[lane].send(rt, part) {
+        if !outputs[lane].send(rt, Packet::from(part)) {
             unsent = Some(StageEnd::PeerGone);
         }
     }

@@ -10,7 +10,7 @@ ghost use Rattle.pnm_lanes.specs.GatherParts.{HasBrokenOffAll, HasGatheredBy};
 use crate::drain::drain_all;
 use crate::lane::{LaneState, MAX_LANES};
 use crate::next::{OUT_OF_ORDER, receive_next};
-use pnm_image::{Ending, Message, Place};
+use pnm_image::{Ending, Packet, Place};
 use pnm_stages::{Receiver, Sender, StageEnd};
 use std::sync::Wait;
 
@@ -130,7 +130,7 @@ fn gather_all<R: Wait>(rt: &R, inputs: &mut [Receiver], output: &mut Sender) -> 
         };
         let ending = message.ending();
         place.step(&message);
-        if !output.send(rt, message) {
+        if !output.send(rt, Packet::from(message)) {
             drain_all(rt, inputs, states, output);
             return GatherEnd {
                 end: StageEnd::PeerGone,
@@ -170,7 +170,7 @@ fn break_off<R: Wait>(
         (sent output.old)
         (sent output.new) }
 {
-    let is_sent = output.send(rt, Message::Stop);
+    let is_sent = output.send(rt, Packet::Stop);
     let drained = drain_all(rt, inputs, states, output);
     if is_sent && drained {
         GatherEnd {

@@ -39,7 +39,7 @@ impl HeldImage {
         match replace(self, HeldImage::Nothing) {
             HeldImage::Nothing => match answer {
                 Packet::Begin(head) => *self = HeldImage::Head(head),
-                other => return output.send_packet(rt, other),
+                other => return output.send(rt, other),
             },
             HeldImage::Head(head) => match answer {
                 Packet::Rows(rows) => match rows.into_once() {
@@ -51,13 +51,13 @@ impl HeldImage {
                 other => return send_both(rt, Packet::Begin(head), other, output),
             },
             HeldImage::Rows(head, rows) => match answer {
-                Packet::ImageEnd => return output.send_packet(rt, Packet::Image(head, rows)),
+                Packet::ImageEnd => return output.send(rt, Packet::Image(head, rows)),
                 other => {
                     let rows = Packet::Rows(RepeatedRows::once(rows));
                     if !send_both(rt, Packet::Begin(head), rows, output) {
                         return false;
                     }
-                    return output.send_packet(rt, other);
+                    return output.send(rt, other);
                 }
             },
         }
@@ -73,7 +73,7 @@ impl HeldImage {
     {
         match replace(self, HeldImage::Nothing) {
             HeldImage::Nothing => true,
-            HeldImage::Head(head) => output.send_packet(rt, Packet::Begin(head)),
+            HeldImage::Head(head) => output.send(rt, Packet::Begin(head)),
             HeldImage::Rows(head, rows) => send_both(
                 rt,
                 Packet::Begin(head),
@@ -92,5 +92,5 @@ fn send_both<R: Wait>(rt: &R, first: Packet, second: Packet, output: &mut Sender
     ensures sent { HasSentOrHeld result [] (messages_in first ++ messages_in second) []
         (sent output.old) (sent output.new) }
 {
-    output.send_packet(rt, first) && output.send_packet(rt, second)
+    output.send(rt, first) && output.send(rt, second)
 }

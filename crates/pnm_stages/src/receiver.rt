@@ -61,6 +61,8 @@ impl Receiver {
         ensures some { IsTrue result → 0 < length (known_packets self.new) }
         ensures none { IsFalse result → known_items self.new ≡ [] }
         ensures empty { IsFalse result → known_packets self.new ≡ [] }
+        // If one was seen before, it is there.
+        ensures seen { IsFalse result → known_items self.old ≡ [] }
     {
         self.has_seen_message() || self.look()
     }

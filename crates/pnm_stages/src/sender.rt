@@ -1,12 +1,12 @@
 //! The sending end of a ring of messages.
 
-ghost use Rattle.std.specs.Prelude.{◌≡◌, ◌<◌, ◌≤◌, [], ◌∷◌, ◌++◌, IsTrue, IsFalse};
+ghost use Rattle.std.specs.Prelude.{◌≡◌, ◌<◌, ◌≤◌, ◌++◌, IsTrue, IsFalse};
 ghost use Rattle.pnm_image.specs.Packets.{messages_in};
 ghost use Rattle.pnm_stages.specs.Rings.{sent, known_free, kept_free, SameSender};
 
 use crate::ring::AnyMessage;
 use crate::wakers::SenderWaker;
-use pnm_image::{Message, Packet, RowSlice, Rows};
+use pnm_image::{Packet, RowSlice, Rows};
 use rtrb::Producer;
 use std::alloc::Global;
 use std::sync::Wait;
@@ -103,6 +103,8 @@ impl Sender {
         ensures sent { sent self.new ≡ sent self.old }
         ensures room { IsTrue result → 0 < known_free self.new }
         ensures none { IsFalse result → known_free self.new ≤ kept_free self.new }
+        // If this end knew of room, there is some.
+        ensures known { IsFalse result → known_free self.old ≤ kept_free self.old }
         ensures kept { kept_free self.new ≡ kept_free self.old }
     {
         let kept_free = self.kept_free as usize;
@@ -117,21 +119,10 @@ impl Sender {
         self.ring.is_abandoned()
     }
 
-    /// Sends the message, for which there has to be room, and wakes the thread at the receiving end, unless that wake
-    /// is held back (`coalesce_wakes`).
-    #[inline(always)]
-    pub fn send_reserved(&mut self, message: Message)
-        requires { 0 < known_free self.old }
-        ensures ring { SameSender self.old self.new }
-        ensures sent { sent self.new ≡ sent self.old ++ message ∷ [] }
-    {
-        self.send_packet_reserved(Packet::from(message));
-    }
-
     /// Sends the packet, for which there has to be room, and wakes the thread at the receiving end, unless that wake is
     /// held back (`coalesce_wakes`).
     #[inline(always)]
-    pub fn send_packet_reserved(&mut self, packet: Packet)
+    pub fn send_reserved(&mut self, packet: Packet)
         requires { 0 < known_free self.old }
         ensures ring { SameSender self.old self.new }
         ensures sent { sent self.new ≡ sent self.old ++ messages_in packet }
@@ -150,34 +141,23 @@ impl Sender {
         self.wake_receiver();
     }
 
-    /// Sends the message, once there is room. Returns false, and the message is lost, if there is none and the
-    /// receiving end was seen dropped.
-    #[inline(always)]
-    pub fn send<R: Wait>(&mut self, rt: &R, message: Message) -> bool
-        ensures ring { SameSender self.old self.new }
-        ensures given { IsTrue result → sent self.new ≡ sent self.old ++ message ∷ [] }
-        ensures gone { IsFalse result → sent self.new ≡ sent self.old }
-    {
-        self.send_packet(rt, Packet::from(message))
-    }
-
     /// Sends the packet, once there is room. Returns false, and the packet is lost, if there is none and the receiving
     /// end was seen dropped.
     #[inline(always)]
-    pub fn send_packet<R: Wait>(&mut self, rt: &R, packet: Packet) -> bool
+    pub fn send<R: Wait>(&mut self, rt: &R, packet: Packet) -> bool
         ensures ring { SameSender self.old self.new }
         ensures given { IsTrue result → sent self.new ≡ sent self.old ++ messages_in packet }
         ensures gone { IsFalse result → sent self.new ≡ sent self.old }
     {
         let room = self.has_room() || self.wait_for_room(rt);
         if room {
-            self.send_packet_reserved(packet);
+            self.send_reserved(packet);
         }
         room
     }
 
     /// Waits until there is room. Returns false if there is none and the receiving end was seen dropped. It is a
-    /// function of its own, since `send_packet` mostly finds room at once.
+    /// function of its own, since `send` mostly finds room at once.
     #[inline(never)]
     fn wait_for_room<R: Wait>(&mut self, rt: &R) -> bool
         ensures ring { SameSender self.old self.new }

@@ -12,7 +12,7 @@ ghost use Rattle.pnm_stages.specs.HeldImages.{held_messages, HasHeldAnswers};
 use crate::held_image::HeldImage;
 use crate::receiver::Receiver;
 use crate::sender::Sender;
-use pnm_image::{Ending, Message, Packet};
+use pnm_image::{Ending, Packet};
 use pnm_tools::{Filter, FusedFilter, ToolFault, Unfed};
 use std::alloc::Global;
 use std::sync::Wait;
@@ -102,7 +102,7 @@ fn pass_all<R: Wait, F: Filter + Drop>(
     }
     for _ in rt.forever() {
         if !has_next(rt, input, output) {
-            output.send(rt, Message::Stop);
+            output.send(rt, Packet::Stop);
             return StageEnd::PeerGone;
         }
         let packet = input.receive_known();
@@ -210,7 +210,7 @@ fn break_off<R: Wait>(
         (known_items input.new)
         (sent output.old) (sent output.new) }
 {
-    let is_sent = output.send(rt, Message::Stop);
+    let is_sent = output.send(rt, Packet::Stop);
     let drained = input.drain_after(rt, ending);
     if is_sent && drained {
         StageEnd::Fault(fault)

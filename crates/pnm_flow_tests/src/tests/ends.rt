@@ -80,7 +80,7 @@ fn sends_nothing_where_nobody_receives(rt: HostRuntime) {
     let (mut sender, receiver) = ring_of(&rt, rt.alloc(), 1, &PARTS[..1]);
     drop(receiver);
     let message = message(rt.alloc(), PARTS[1]).expect(&rt, "a message");
-    let is_sent = sender.send(&rt, message);
+    let is_sent = sender.send(&rt, Packet::from(message));
     assert!(rt; !is_sent);
 }
 
@@ -98,13 +98,13 @@ fn send_bytes(
         return false;
     }
     if !is_together || bytes == 0 {
-        sender.send_reserved(Message::Row(samples));
+        sender.send_reserved(Packet::from(Message::Row(samples)));
         return true;
     }
     let Ok(rows) = cut_into(alloc, samples, bytes as usize, 1) else {
         return false;
     };
-    sender.send_packet_reserved(Packet::Rows(RepeatedRows::once(rows)));
+    sender.send_reserved(Packet::Rows(RepeatedRows::once(rows)));
     true
 }
 

@@ -12,16 +12,21 @@ use std::thread;
 /// More turns of a wait than any wait of a test takes.
 pub const TURNS: u32 = 10_000_000;
 
-/// Sends this, if it can be made and there is room for it. Returns whether it was sent.
-fn send_one(alloc: Global, output: &mut Sender, part: Part<'_>) -> bool {
+/// Sends the packet. Returns whether there was room for it.
+fn send(output: &mut Sender, packet: Packet) -> bool {
     if !output.has_room() {
         return false;
     }
-    let Ok(message) = message(alloc, part) else {
-        return false;
-    };
-    output.send_reserved(message);
+    output.send_reserved(packet);
     true
+}
+
+/// Sends this, if it can be made and there is room for it. Returns whether it was sent.
+fn send_one(alloc: Global, output: &mut Sender, part: Part<'_>) -> bool {
+    match message(alloc, part) {
+        Ok(message) => send(output, Packet::from(message)),
+        Err(_) => false,
+    }
 }
 
 /// Sends these. Returns whether each could be made, and there was room for it.
@@ -91,18 +96,9 @@ pub fn holding_written(alloc: Global, text: &[u8]) -> Option<(Sender, Receiver)>
     let mut ends = new_ring(alloc, 8)?;
     let mut are_sent = true;
     for packet in written {
-        are_sent = send_packet(&mut ends.0, packet) && are_sent;
+        are_sent = send(&mut ends.0, packet) && are_sent;
     }
     are_sent.then_some(ends)
-}
-
-/// Sends the packet. Returns whether there was room for it.
-fn send_packet(output: &mut Sender, packet: Packet) -> bool {
-    if !output.has_room() {
-        return false;
-    }
-    output.send_packet_reserved(packet);
-    true
 }
 
 /// An image of one row, and the end of the stream.

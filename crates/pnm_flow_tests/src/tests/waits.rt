@@ -4,7 +4,7 @@ use super::is_so;
 use super::lanes::{gathered, rings};
 use super::rings::send_all;
 use pnm_flow::new_ring;
-use pnm_image::{Kind, Message, SampleVec, Samples};
+use pnm_image::{Kind, Message, Packet, SampleVec, Samples};
 use pnm_stages::{Receiver, Sender, StageEnd};
 use pnm_test_support::{Part, message};
 use std::alloc::Global;
@@ -90,7 +90,7 @@ fn send_slowly(
             return false;
         };
         thread::sleep(rt, Duration::from_millis(PAUSE));
-        if !sender.send(rt, message) {
+        if !sender.send(rt, Packet::from(message)) {
             return false;
         }
     }
@@ -148,7 +148,8 @@ fn drains_whichever_lane_has_no_room(rt: HostRuntime) {
 fn send_wide(rt: &impl Abort, alloc: Global, sender: &mut Sender) {
     let row = Vec::from_elem(alloc, 0, 40_000).expect(rt, "a row");
     if sender.has_room() {
-        sender.send_reserved(Message::Row(Samples::from_vec(SampleVec::Bytes(row))));
+        let row = Samples::from_vec(SampleVec::Bytes(row));
+        sender.send_reserved(Packet::from(Message::Row(row)));
     }
 }
 

@@ -1,7 +1,7 @@
 //! Rings that hold messages, and what comes out of them.
 
 use super::is_so;
-use pnm_flow::{AnyMessage, Message, Receiver, Sender, new_ring};
+use pnm_flow::{AnyMessage, Message, Packet, Receiver, Sender, new_ring};
 use pnm_test_support::{Part, is_made_of, message};
 use std::alloc::Global;
 use std::process::Abort;
@@ -14,7 +14,7 @@ pub fn ring(rt: &impl Abort, alloc: Global) -> (Sender, Receiver) {
 /// Sends the message, if there is room. Returns whether there was.
 fn send(sender: &mut Sender, message: Message) -> bool {
     if sender.has_room() {
-        sender.send_reserved(message);
+        sender.send_reserved(Packet::from(message));
         return true;
     }
     false

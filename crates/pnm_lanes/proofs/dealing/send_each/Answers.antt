@@ -39,8 +39,8 @@ loop-lane-preserved g c =
       | else-not-send w ↦ (
         count,
         subst (λ (unsent : Option StageEnd). IsSending (lane + 1) part unsent c.args.outputs.now (slice_set nows lane new)) (sym w.unsent-is)
-            (sends_next lane part c.loop-lane.unsent c.args.outputs.now nows _ new c.index-outputs-lane.result c.in-Some.part sending fits refl
-            c.send.ensures.ring (c.send.ensures.given w.if-not-send.false) c.in-Some.ensures),
+            (sends_next lane part c.loop-lane.unsent c.args.outputs.now nows _ new c.index-outputs-lane.result _ sending fits refl
+            c.send.ensures.ring (c.send.ensures.given w.if-not-send.false) (c.in-Some.ensures ∙ sym c.from.ensures)),
       )
     ]
 

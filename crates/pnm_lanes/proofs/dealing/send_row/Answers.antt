@@ -14,8 +14,8 @@ returns-then-send g c =
     let count : length nows ≡ lanes = woken_count c.args.outputs.now nows c.wake_before_room.ensures in
     let below : c.args.y % lanes < lanes = mod_below c.args.y lanes (omega (arith, c.requires.0)) in
     wakes_then_row c.args.y c.args.row None c.args.outputs.now nows _ c.wake_before_room.ensures
-    (sends_row (c.args.y % lanes) c.args.y c.args.row nows _ c.send.new.self c.index-outputs-lane.result (ap (λ (n : ℕ). c.args.y % n) (sym count))
-    (omega (arith, below, count)) refl c.send.ensures.ring (c.send.ensures.given c.if-send.true))
+    (sends_row (c.args.y % lanes) c.args.y c.args.row nows _ c.send.new.self c.index-outputs-lane.result _ (ap (λ (n : ℕ). c.args.y % n) (sym count))
+    (omega (arith, below, count)) refl c.send.ensures.ring (c.send.ensures.given c.if-send.true) c.from.ensures)
 
 pub returns-else-send : goal.returns-else-send
 returns-else-send g c =

@@ -1,5 +1,6 @@
-use Rattle.std.proofs.Common.{ℕ, length, refl, sym, subst, ◌∙◌, arith}
+use Rattle.std.proofs.Common.{ℕ, List, ◌++◌, length, refl, sym, ap, subst, ◌∙◌, arith}
 use Rattle.std.proofs.lemmas.List.{length-take-le}
+use Rattle.pnm_image.specs.declared.message.Message.{Message}
 use Rattle.pnm_stages.specs.Rings.{sent, received, known_items}
 use Rattle.pnm_lanes.specs.Gathers.{at_lane}
 use Rattle.pnm_lanes.specs.GatherParts.{HasBrokenOffAll, HasDrainedAll}
@@ -73,7 +74,7 @@ returns-in-Whole-clause-gathered g c =
     (at_lane received c.args.inputs.now) (at_lane received c.loop.inputs) (at_lane received c.receive_next.new.inputs)
     (at_lane known_items c.receive_next.new.inputs)
     (sent c.args.output.now) (sent c.loop.output) (sent c.send.new.self) c.loop.invariant.2 c.requires.some count c.in-Ok.ensures.taken
-    (c.if-not-send.ensures.given refl)
+    (c.if-not-send.ensures.given refl ∙ ap (λ (l : List Message). sent c.loop.output ++ l) c.from.ensures)
     (sym c.ending-ending.ensures ∙ c.in-Whole.is)
 
 pub loop-preserved : goal.loop-preserved
@@ -83,7 +84,8 @@ loop-preserved g c = (
   goes_further (length c.args.inputs.now) (length c.loop.inputs) c.loop.place c.step.new.self c.in-Ok.message c.receive_next.new.states
       (at_lane received c.args.inputs.now) (at_lane received c.loop.inputs) (at_lane received c.receive_next.new.inputs) (sent c.args.output.now)
       (sent c.loop.output) (sent c.send.new.self)
-      c.loop.invariant.2 (as_many c.args.inputs.now c.loop.inputs c.loop.invariant.0) c.in-Ok.ensures.taken (c.if-not-send.ensures.given refl) c.step.ensures
+      c.loop.invariant.2 (as_many c.args.inputs.now c.loop.inputs c.loop.invariant.0) c.in-Ok.ensures.taken
+      (c.if-not-send.ensures.given refl ∙ ap (λ (l : List Message). sent c.loop.output ++ l) c.from.ensures) c.step.ensures
       (says_more c.ending-ending.result c.in-Ok.message c.ending-ending.ensures c.in-More.is c.in-Ok.ensures.taken.is),
 )
 

@@ -9,7 +9,7 @@ use Rattle.pnm_stages.proofs.held_image.HeldImage.send_held.Goals as goal
 pub returns-in-Head-clause-sent : goal.returns-in-Head-clause-sent
 returns-in-Head-clause-sent g c =
     let before = sent c.args.output.now in
-    let after = sent c.send_packet.new.self in
-    subst (λ (held : HeldImage). HasSentOrHeld c.send_packet.result (held_messages held) [] [] before after)
+    let after = sent c.send.new.self in
+    subst (λ (held : HeldImage). HasSentOrHeld c.send.result (held_messages held) [] [] before after)
     (sym (sym c.replace.ensures.value ∙ c.in-Head.is))
-    (sends_out c.send_packet.result (Begin c.in-Head.head ∷ []) [] before after c.send_packet.ensures.given c.send_packet.ensures.gone)
+    (sends_out c.send.result (Begin c.in-Head.head ∷ []) [] before after c.send.ensures.given c.send.ensures.gone)

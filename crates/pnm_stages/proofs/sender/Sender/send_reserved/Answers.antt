@@ -3,7 +3,7 @@ use Rattle.std.proofs.lemmas.Grind.{common_steps}
 use Rattle.pnm_stages.proofs.PacketLaws.{one_more}
 use Rattle.pnm_stages.specs.RingPackets.{messages_of}
 use Rattle.rtrb.specs.Ring.{sent}
-use Rattle.pnm_stages.proofs.sender.Sender.send_packet_reserved.Goals as goal
+use Rattle.pnm_stages.proofs.sender.Sender.send_reserved.Goals as goal
 
 pub returns-then-self-clause-sent : goal.returns-then-self-clause-sent
 returns-then-self-clause-sent c = ap messages_of c.push_reserved.ensures.sent.0 ∙ one_more (sent c.args.self.now.ring) c.args.packet
