@@ -14,7 +14,7 @@ pub record IsCodeOf (chain : List ℕ) (code stage : ℕ) : Type 0 where
   pub code_is : code ≡ reported.code
   pub stage_is : stage ≡ reported.number
 
--- the results and the answer are those of a call, and the block of the results was given away
+-- the answer, and the length of the results, are those of a call; nothing is said of what lies at the pointer
 pub record IsReportedNew (chain : List ℕ) (number : ℕ) (input : List ℕ) (bytes : Bytes) (reported : Answer) : Type 0
   where
     pub made : Made
