@@ -1,17 +1,18 @@
--- A run of the program with status 0 has written all.
-use Rattle.std.proofs.Common.{◌≡◌, ◌⊎◌, inl, inr, ℕ, List, Option, Some, Result, Ok, Err, refl, sym, subst, ◌∙◌, arith}
+-- A run of the program with status 0 has written all, and any other a prefix of that.
+use Rattle.std.proofs.Common.{◌≡◌, ◌⊎◌, ◌≢◌, inl, inr, ℕ, List, Option, Some, Result, Ok, Err, take, refl, sym, subst, ◌∙◌, arith}
 use Rattle.std.specs.Io.KnownBytes.{Keeps}
 use Rattle.pnm_write.specs.Encoding.{encoding_of}
 use Rattle.pnm_tools.specs.Chains.{AreLawfulTools}
 use Rattle.pnm_chain.proofs.LawfulLaws.{spelled_chain_is_lawful}
-use Rattle.pnm_serial.specs.Jobs.{Job, job_of}
-use Rattle.pnm_serial.specs.RunFacts.{EndedWell}
+use Rattle.pnm_serial.specs.Jobs.{Job, bytes_due, job_of}
+use Rattle.pnm_serial.specs.RunFacts.{EndedWell, IsPrefixOfBytesDue}
 use Rattle.pnm_serial.specs.Runs.{Change}
 use Rattle.pnm_serial.specs.declared.fault.RunFault.{RunFault}
+use Rattle.pnm_serial.specs.declared.fault.RunFault.TheVariants.{NoStart}
 use Rattle.pnm_serial.specs.declared.summary.Summary.{Summary}
 use Rattle.pnm_serial.proofs.RunFactSteps.{run_tells}
 use Rattle.pnm_command_line.specs.NamedRuns.{status_of}
-use Rattle.pnm_command_line.specs.ProgramFacts.{Status0IsAllWritten, over_threads}
+use Rattle.pnm_command_line.specs.ProgramFacts.{GivenIsDue, Status0IsAllWritten, over_threads}
 use Rattle.pnm_command_line.proofs.HelpSteps.{flushed_whole}
 
 -- what was given to the output was kept
@@ -61,3 +62,21 @@ status_0_is_all_written words input output text known run =
       spelled = run.spelled;
       ended = kept_whole text (job_of run.tools run.form) output.old over.given output.new well.0 well.1 over.kept;
     }
+
+kept_prefix : (text : List ℕ) (job : Job) (old given new : Option (List ℕ)) → IsPrefixOfBytesDue text job old given → Keeps given new
+    → IsPrefixOfBytesDue text job old new
+kept_prefix text job old given new prefix kept = λ images completed.
+    let (n, appended) = prefix images completed in (n, flushed_whole old given new (take n (bytes_due job images)) appended kept)
+
+given_prefix : (lanes : ℕ) (job : Job) (answer : Result Summary RunFault) (reader writer : Change) (text : List ℕ) → AreLawfulTools job.tools
+    → reader.old ≡ Some text → answer ≢ Err NoStart → over_threads lanes job answer reader writer → IsPrefixOfBytesDue text job writer.old writer.new
+given_prefix lanes job answer reader writer text lawful known started (inl unstarted) = absurd (started unstarted)
+given_prefix lanes job answer reader writer text lawful known started (inr ran) = (run_tells lanes job answer reader writer lawful ran).run.prefix text known
+
+pub given_is_due : GivenIsDue
+given_is_due words status input output text known ran started =
+    let over = ran.run in
+    let job = job_of ran.tools ran.form in
+    let lawful = (spelled_chain_is_lawful ran.chain ran.tools ran.spelled).lawful in
+    kept_prefix text job output.old over.given output.new
+    (given_prefix ran.lanes job over.run.answer _ _ text lawful known started over.run.ran) over.kept

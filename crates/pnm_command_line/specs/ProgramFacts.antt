@@ -1,10 +1,10 @@
--- What a run of the program tells by its status 0, which follows of `HasRunWords` and of what `OverThreads` promises.
-use Rattle.std.specs.Prelude.{◌≡◌, ◌⊎◌, List, ℕ, Some, Err}
+-- What a run of the program tells, which follows of `HasRunWords` and of what `OverThreads` promises.
+use Rattle.std.specs.Prelude.{◌≡◌, ◌≢◌, ◌⊎◌, List, ℕ, Some, Err}
 use Rattle.pnm_image.specs.declared.format.Form.{Form}
 use Rattle.pnm_tools.specs.declared.tool.Tool.{Tool}
 use Rattle.pnm_chain.specs.ChainText.{SpellsChain}
 use Rattle.pnm_serial.specs.Jobs.{job_of}
-use Rattle.pnm_serial.specs.RunFacts.{EndedWell}
+use Rattle.pnm_serial.specs.RunFacts.{EndedWell, IsPrefixOfBytesDue}
 use Rattle.pnm_serial.specs.Runs.{HasRun}
 use Rattle.pnm_serial.specs.declared.fault.RunFault.TheVariants.{NoStart}
 use Rattle.pnm_serial.specs.declared.summary.Summary.{Summary}
@@ -30,3 +30,9 @@ pub record HasWrittenAll (words : List Text) (text : List ℕ) (output : Known) 
 abbrev pub Status0IsAllWritten : Type 0
 Status0IsAllWritten = (words : List Text) (input output : Known) (text : List ℕ) → input.old ≡ Some text
     → HasRunWords over_threads words 0 input output → HasWrittenAll words text output
+
+-- whatever the status is, the output was given a prefix of what is due, unless the run couldn't be started
+abbrev pub GivenIsDue : Type 0
+GivenIsDue = (words : List Text) (status : ℕ) (input output : Known) (text : List ℕ) → input.old ≡ Some text
+    → (ran : HasRunWords over_threads words status input output) → ran.run.run.answer ≢ Err NoStart
+    → IsPrefixOfBytesDue text (job_of ran.tools ran.form) output.old output.new

@@ -2,7 +2,7 @@
 //! does nothing.
 
 ghost use Rattle.pnm_command_line.specs.CommandLineExamples.{CommandLinesHold};
-ghost use Rattle.pnm_command_line.specs.ProgramFacts.{Status0IsAllWritten};
+ghost use Rattle.pnm_command_line.specs.ProgramFacts.{GivenIsDue, Status0IsAllWritten};
 
 /// A word alone is the chain unless it begins with a dash; no words ask for help and for the version; and small
 /// command lines, with what they give or why they are refused, as the definitions compute them.
@@ -14,4 +14,10 @@ pub fn command_lines_hold()
 /// them, the form that was asked for can hold their results, and the output was given the encoding of these.
 pub fn status_0_is_all_written()
     ensures { Status0IsAllWritten }
+{}
+
+/// Whatever status a run over threads gives that words name, the output was given a prefix of what is due for the
+/// input, unless the run couldn't be started.
+pub fn given_is_due()
+    ensures { GivenIsDue }
 {}
