@@ -69,7 +69,7 @@ inline ingress_try_send() {
     fi
 }
 
-/* Egress::try_receive, take_seen */
+/* Egress::try_receive, take_seen, take_next */
 inline egress_try_receive() {
     has_message(LAST);
     if

@@ -1,5 +1,5 @@
 -- A packet that is taken from the ring behind the last tool of a run, and put.
-use Rattle.std.proofs.Common.{◌≡◌, ℕ, Bool, true, false, inl, inr, List, [], ◌∷◌, ◌++◌, Option, length, refl, sym, ap, subst, ◌∙◌, append_assoc}
+use Rattle.std.proofs.Common.{◌≡◌, ℕ, Bool, true, false, List, [], ◌∷◌, ◌++◌, Option, length, refl, sym, ap, ◌∙◌, append_assoc}
 use Rattle.pnm_stages.specs.Rings.{received}
 use Rattle.pnm_image.specs.declared.format.Form.{Form}
 use Rattle.pnm_image.specs.declared.message.Message.{Message}
@@ -7,13 +7,13 @@ use Rattle.pnm_image.specs.declared.packet.Packet.TheVariants.{Begin as Begins, 
 use Rattle.pnm_image.specs.Packets.{messages_in, ending_of_packet}
 use Rattle.pnm_image.specs.Messages.{without_stop, EndsBy}
 use Rattle.pnm_image.specs.declared.message.Ending.{Ending}
-use Rattle.pnm_image.specs.declared.message.Ending.TheVariants.{More, Whole, BrokenOff}
+use Rattle.pnm_image.specs.declared.message.Ending.TheVariants.{More, BrokenOff}
 use Rattle.pnm_tools.proofs.SoundLaws.{IsUnbroken, unbroken_keeps_all}
 use Rattle.pnm_image.specs.declared.packet.Packet.{Packet}
 use Rattle.pnm_io_loop.specs.declared.egress.Egress.{Egress}
-use Rattle.pnm_serial.specs.declared.fused_sink.FusedSink.{FusedSink}
-use Rattle.pnm_serial.specs.FusedSinks.{HasTaken}
-use Rattle.pnm_io_loop.specs.Egresses.{EndedBy, HasReceived, IsEgress}
+use Rattle.pnm_serial.specs.Counts.{images_in}
+use Rattle.pnm_serial.proofs.MessageSteps.{images_in-append}
+use Rattle.pnm_io_loop.specs.Egresses.{EndedBy, HasReceived, IsEgress, receiving_is_over}
 use Rattle.pnm_stages.proofs.PacketLaws.{ends_as_packet}
 use Rattle.pnm_stages.proofs.PrefixLaws.{stop_is_cut}
 
@@ -49,11 +49,13 @@ pub collects_some : {W : Type 0} (held : W → Option (List ℕ)) (failures : W 
     → received new.input ≡ received old.input ++ some
     → ((l : List Message) → HasReceived held failures form start l old.has_ended old.fused_sink
     → HasReceived held failures form start (l ++ some) new.has_ended new.fused_sink)
+    → new.images ≡ images_in old.images some
     → IsEgress held failures form start before old → IsEgress held failures form start before new
-collects_some held failures form start before some old new added puts was = record {
+collects_some held failures form start before some old new added puts count was = record {
   took = was.took ++ some;
   came = added ∙ ap (λ (x : List Message). x ++ some) was.came ∙ append_assoc before was.took some;
   put = puts was.took was.put;
+  counted = count ∙ ap (λ (n : ℕ). images_in n some) was.counted ∙ sym (images_in-append 0 was.took some);
 }
 
 -- what was left came in part
@@ -73,3 +75,21 @@ first_is m n k l same = ap (first_or m) same
 pub none_left : (left : List Message) → length left ≡ 0 → left ≡ []
 none_left [] none = refl
 none_left (m ∷ left) none = absurd cc
+
+-- ---- whether it is over
+
+-- what is going on hasn't ended
+pub not_ended : (has_ended is_gone : Bool) → receiving_is_over has_ended is_gone ≡ false → has_ended ≡ false
+not_ended true is_gone going = going
+not_ended false is_gone going = refl
+
+-- it is over once the other end is gone
+pub over_if_gone : (has_ended : Bool) → receiving_is_over has_ended true ≡ true
+over_if_gone true = refl
+over_if_gone false = refl
+
+-- and goes on if it isn't
+pub still_going : (has_ended is_gone now : Bool) → receiving_is_over has_ended is_gone ≡ false → now ≡ false
+    → receiving_is_over has_ended now ≡ receiving_is_over has_ended is_gone
+still_going true is_gone now going same = refl
+still_going false is_gone now going same = same ∙ sym going

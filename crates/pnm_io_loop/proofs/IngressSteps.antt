@@ -15,6 +15,8 @@ use Rattle.pnm_read.proofs.Consumed.{consumes_then}
 use Rattle.pnm_read.proofs.ReadCalls.{no_fault}
 use Rattle.pnm_io_loop.specs.declared.ingress.Ingress.{Ingress}
 use Rattle.pnm_io_loop.specs.Ingresses.{HasAsked, HasAskedAll, HasAskedBy, IsIngress, closing_messages}
+use Rattle.pnm_serial.specs.Counts.{images_in}
+use Rattle.pnm_serial.proofs.MessageSteps.{images_in-append}
 use Rattle.pnm_serial.proofs.FeedingSteps.{may_give, IsUnreadAfter, unread_after, read_failure, fault_answer, given_is_sound, open_in_call, failed_in_call}
 
 -- ---- the source
@@ -102,9 +104,10 @@ pub feeds_packet : {R : Type 0} (left : R → Option (List ℕ)) (failures : R �
     → (SeesEnd left f.source → SeesEnd left next)
     → IsUnreadAfter left f.source next
     → failures (reader_of next) ≡ failures (reader_of f.source)
+    → images ≡ images_in f.images (messages_in packet)
     → IsIngress left failures first before f
     → IsIngress left failures first before (record f { source = next; output = output; images = images })
-feeds_packet left failures first before f next packet output images input added t end unread count sending =
+feeds_packet left failures first before f next packet output images input added t end unread count counted sending =
     let all : List Message = sending.given ++ messages_in packet in
     let asked : HasAsked left failures first next all =
     asked_more left failures first f.source next sending.given packet (asked_of left failures first before f input sending) t end unread count in
@@ -114,6 +117,7 @@ feeds_packet left failures first before f next packet output images input added 
       passed = added ∙ ap (λ s. s ++ messages_in packet) (sent_so_far left failures first before f input sending)
           ∙ append_assoc before sending.given (messages_in packet)
           ∙ ap (λ g. before ++ g) (sym (append-nil all)) ∙ ap (λ i. before ++ (all ++ closing_messages i)) (sym input);
+      counted = counted ∙ ap (λ (n : ℕ). images_in n (messages_in packet)) sending.counted ∙ sym (images_in-append 0 sending.given (messages_in packet));
     }
 
 -- the stream has ended
@@ -128,6 +132,7 @@ feeds_all left failures first before f next input t unread count sending = recor
   given = sending.given;
   asked = asked_all left failures first f.source next sending.given (asked_of left failures first before f input sending) t unread count;
   passed = sending.passed ∙ ap (λ i. before ++ (sending.given ++ closing_messages i)) input;
+  counted = sending.counted;
 }
 
 -- the input had a fault, and Stop was sent
@@ -147,4 +152,5 @@ feeds_until left failures first before f next fault output input added t unread 
   asked = asked_until left failures first f.source next sending.given fault (asked_of left failures first before f input sending) t unread anything failed
       count;
   passed = added ∙ ap (λ s. s ++ Stop ∷ []) (sent_so_far left failures first before f input sending) ∙ append_assoc before sending.given (Stop ∷ []);
+  counted = sending.counted;
 }

@@ -1,10 +1,14 @@
 -- The steps of the caller's loop in a run over threads, one after another.
-use Rattle.std.proofs.Common.{ℕ, List, Option}
+use Rattle.std.proofs.Common.{ℕ, ◌<◌, List, length, Option, ◌≡◌, inl, inr, sym, ap, subst, ◌∙◌}
 use Rattle.pnm_read.specs.Sources.{reader_of}
 use Rattle.pnm_io_loop.specs.declared.egress.Egress.{Egress}
 use Rattle.pnm_io_loop.specs.declared.ingress.Ingress.{Ingress}
+use Rattle.pnm_image.specs.declared.message.Message.{Message}
+use Rattle.pnm_io_loop.specs.Egresses.{HasTakenNothing}
 use Rattle.pnm_serial.specs.FusedSinks.{output_of}
-use Rattle.pnm_io_loop.specs.IoLoop.{HaveStepped}
+use Rattle.pnm_io_loop.specs.IoLoop.{HaveStepped, HaveMoved, CannotSend, CannotTake}
+use Rattle.pnm_stages.specs.Rings.{received, known_items}
+use Rattle.pnm_stages.specs.declared.receiver.Receiver.{Receiver}
 use Rattle.pnm_stages.proofs.RingSteps.{same_input, same_output}
 
 -- one step more
@@ -35,3 +39,21 @@ stepped_on left reader_failures same_reader held writer_failures same_writer rea
     stepped_more left reader_failures same_reader held writer_failures same_writer f f1 f2 c c1 c2 before stepped
     (reader_later (reader_of f.source) (reader_of f1.source) (reader_of f2.source) before.reader stepped.reader)
     (writer_later (output_of c.fused_sink) (output_of c1.fused_sink) (output_of c2.fused_sink) before.writer stepped.writer)
+
+-- ---- where nothing was taken
+
+-- what moves then has moved since before
+pub moves_later : {R W : Type 0} (f f2 : Ingress R) (c c1 c2 : Egress W) → HasTakenNothing c c1 → HaveMoved f c1 f2 c2 → HaveMoved f c f2 c2
+moves_later f f2 c c1 c2 none (inl sent) = inl sent
+moves_later f f2 c c1 c2 none (inr (inl more)) = inr (inl (subst (λ (l : List Message). length l < length (received c2.input)) none.received more))
+moves_later f f2 c c1 c2 none (inr (inr over)) = inr (inr (sym none.over ∙ over.0, over.1))
+
+-- what can't be sent then couldn't be before
+pub not_before : {R W : Type 0} (f : Ingress R) (c c1 : Egress W) → HasTakenNothing c c1 → CannotSend f c1 → CannotSend f c
+not_before f c c1 none (inl over) = inl over
+not_before f c c1 none (inr (inl full)) = inr (inl full)
+not_before f c c1 none (inr (inr later)) = inr (inr (sym none.over ∙ later.0, subst (λ (n : ℕ). n < f.images) none.images later.1))
+
+pub not_taken_before : {W : Type 0} (c c1 : Egress W) → HasTakenNothing c c1 → c1.input ≡ c.input → CannotTake c1 → CannotTake c
+not_taken_before c c1 none same (inl over) = inl (sym none.over ∙ over)
+not_taken_before c c1 none same (inr empty) = inr (ap (λ (r : Receiver). known_items r) (sym same) ∙ empty)

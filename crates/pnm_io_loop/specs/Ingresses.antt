@@ -12,6 +12,7 @@ use Rattle.pnm_read.specs.declared.source.Source.{Source}
 use Rattle.pnm_read.specs.Sources.{reader_of, MayGive, SeesEnd, HasGiven}
 use Rattle.pnm_tools.specs.ChainAnswers.{AreSound}
 use Rattle.pnm_io_loop.specs.declared.ingress.Ingress.{Ingress}
+use Rattle.pnm_serial.specs.Counts.{images_in}
 use Rattle.pnm_serial.specs.Feeding.{IsSaidOf, HasMore, MayFollowRead}
 use Rattle.pnm_serial.specs.Runs.{change}
 
@@ -48,12 +49,13 @@ closing_messages None = []
 closing_messages (Some (Ok _)) = []
 closing_messages (Some (Err fault)) = Stop ∷ []
 
--- what the source gave, and after its fault Stop, was sent after what had been sent before
+-- what the source gave, and after its fault Stop, was sent after what had been sent before, and its images were counted
 pub record IsIngress {R : Type 0} (left : R → Option (List ℕ)) (failures : R → ℕ) (first : Source R)
     (before : List Message) (f : Ingress R) : Type 0 where
   pub given : List Message
   pub asked : HasAskedBy left failures first f.source given f.input
   pub passed : sent f.output ≡ before ++ (given ++ closing_messages f.input)
+  pub counted : f.images ≡ images_in 0 given
 
 -- no more is to be sent, or can be
 abbrev pub sending_is_over : Bool → Option (Result (Unit {0}) InputFault) → Bool
@@ -67,3 +69,8 @@ ingress_is_over f = sending_is_over f.is_gone f.input
 -- a message more was sent, or how the source has ended is noted
 abbrev pub HasGoneOn : {R : Type 0} → Ingress R → Ingress R → Type 0
 HasGoneOn old new = (length (sent old.output) < length (sent new.output)) ⊎ (new.input ≡ None → ⊥)
+
+-- a message more was sent, or it is over now
+abbrev pub HasSentMore : {R : Type 0} → Ingress R → Ingress R → Type 0
+HasSentMore old new = (length (sent old.output) < length (sent new.output))
+    ⊎ ((ingress_is_over old ≡ false) × (ingress_is_over new ≡ true))

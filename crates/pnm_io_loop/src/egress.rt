@@ -1,8 +1,9 @@
 //! What comes behind the tools of a run: the ring that their results come from, and what is written of them.
 
-ghost use Rattle.std.specs.Prelude.{◌≡◌, ◌⊎◌, [], ◌++◌, List, true, false};
+ghost use Rattle.std.specs.Prelude.{◌≡◌, ◌<◌, ◌⊎◌, [], ◌++◌, List, length, IsTrue, IsFalse, true, false};
 ghost use Rattle.pnm_image.specs.Packets.{messages_in};
-ghost use Rattle.pnm_stages.specs.Rings.{received, sent, known_items, IsPair, SameSender, SameReceiver};
+ghost use Rattle.pnm_stages.specs.Rings.{received, sent, known_items, known_packets, IsPair};
+ghost use Rattle.pnm_stages.specs.Rings.{SameSender, SameReceiver};
 ghost use Rattle.pnm_image.specs.declared.format.Form.{Form as FormValue};
 ghost use Rattle.pnm_image.specs.declared.message.Message.{Message as MessageValue};
 ghost use Rattle.pnm_io_loop.specs.Egresses.{HasReceived};
@@ -32,7 +33,7 @@ pub struct Egress<W> {
 }
 
 impl<W: BytesOut + Drop> Egress<W> {
-    ghost use Rattle.pnm_io_loop.specs.Egresses.{IsEgress, egress_is_over};
+    ghost use Rattle.pnm_io_loop.specs.Egresses.{IsEgress, egress_is_over, HasTakenMore, HasTakenNothing};
 
     /// An egress that has taken nothing yet, and is to encode into this buffer and write in this form.
     pub fn new(input: Receiver, buffer: WriteBuffer, writer: W, form: Form) -> Egress<W>
@@ -57,7 +58,9 @@ impl<W: BytesOut + Drop> Egress<W> {
     }
 
     /// How many images have had their end taken, up to `u64::MAX`.
-    pub fn images(&self) -> u64 {
+    pub fn images(&self) -> u64
+        ensures { result ≡ self.now.images }
+    {
         self.images
     }
 
@@ -70,6 +73,8 @@ impl<W: BytesOut + Drop> Egress<W> {
             → IsEgress W.held W.failures form start before self.new }
         ensures ring { SameReceiver self.old.input self.new.input }
         ensures same_device { W.same (output_of self.old.fused_sink) (output_of self.new.fused_sink) }
+        ensures goes_on { IsTrue result → HasTakenMore self.old self.new }
+        ensures none { IsFalse result → HasTakenNothing self.old self.new × (known_items self.old.input ≡ []) }
     {
         if !self.input.has_message() {
             self.is_gone = self.input.is_abandoned();
@@ -82,18 +87,38 @@ impl<W: BytesOut + Drop> Egress<W> {
     /// Takes the packets that were seen in the ring, up to one that ends the stream, and writes them. Each is written
     /// while it lies in the ring, and is taken out of it only then.
     fn take_seen(&mut self, spares: &mut SpareRows)
+        requires going { self.old.has_ended ≡ false }
+        requires some { 0 < length (known_packets self.old.input) }
         ensures receiving { (form : FormValue) (start : W) (before : List MessageValue)
             → IsEgress W.held W.failures form start before self.old
             → IsEgress W.held W.failures form start before self.new }
         ensures ring { SameReceiver self.old.input self.new.input }
         ensures same_device { W.same (output_of self.old.fused_sink) (output_of self.new.fused_sink) }
+        ensures goes_on { length (received self.old.input) < length (received self.new.input) }
     {
+        self.take_next(spares);
         while !self.has_ended && self.input.has_seen_message() {
-            let packet = self.input.peek_known();
-            count_image(&mut self.images, packet.ends_image());
-            put(&mut self.fused_sink, &mut self.has_ended, packet);
-            recycle(self.input.receive_known(), spares);
+            self.take_next(spares);
         }
+    }
+
+    /// Writes the next packet that was seen in the ring, and takes it.
+    #[inline(always)]
+    fn take_next(&mut self, spares: &mut SpareRows)
+        requires going { self.old.has_ended ≡ false }
+        requires some { 0 < length (known_packets self.old.input) }
+        ensures receiving { (form : FormValue) (start : W) (before : List MessageValue)
+            → IsEgress W.held W.failures form start before self.old
+            → IsEgress W.held W.failures form start before self.new }
+        ensures ring { SameReceiver self.old.input self.new.input }
+        ensures same_device { W.same (output_of self.old.fused_sink) (output_of self.new.fused_sink) }
+        ensures goes_on { length (received self.old.input) < length (received self.new.input) }
+        ensures fewer { length (known_packets self.new.input) < length (known_packets self.old.input) }
+    {
+        let packet = self.input.peek_known();
+        count_image(&mut self.images, packet);
+        put(&mut self.fused_sink, &mut self.has_ended, packet);
+        recycle(self.input.receive_known(), spares);
     }
 
     /// Flushes the writer, if an image has ended since the last flush, so that no image is kept back while the source
@@ -102,6 +127,7 @@ impl<W: BytesOut + Drop> Egress<W> {
         ensures receiving { (form : FormValue) (start : W) (before : List MessageValue)
             → IsEgress W.held W.failures form start before self.old
             → IsEgress W.held W.failures form start before self.new }
+        ensures taken { HasTakenNothing self.old self.new × (self.new.input ≡ self.old.input) }
         ensures ring { SameReceiver self.old.input self.new.input }
         ensures same_device { W.same (output_of self.old.fused_sink) (output_of self.new.fused_sink) }
     {
@@ -129,6 +155,7 @@ impl<W: BytesOut + Drop> Egress<W> {
         self.input.look_beside(sender);
         while !self.has_ended && self.input.has_seen_message() {
             let packet = self.input.receive_known();
+            count_image(&mut self.images, &packet);
             put(&mut self.fused_sink, &mut self.has_ended, &packet);
             drop(packet);
         }

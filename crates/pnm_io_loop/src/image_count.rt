@@ -1,8 +1,19 @@
 //! How many images have passed.
 
-/// Counts an image, if the message that has passed ended it. At any other message it doesn't store the count.
-pub fn count_image(images: &mut u64, is_end: bool) {
-    if is_end {
-        *images = images.saturating_add(1);
+ghost use Rattle.std.specs.Prelude.{◌≡◌};
+ghost use Rattle.pnm_image.specs.Packets.{messages_in};
+ghost use Rattle.pnm_serial.specs.Counts.{images_in};
+
+use pnm_image::Packet;
+
+/// Counts an image, if the packet ends one. At any other packet it doesn't store the count.
+pub fn count_image(images: &mut u64, packet: &Packet)
+    ensures { images.new ≡ images_in images.old (messages_in packet.now) }
+{
+    match packet {
+        Packet::Image(_, _) => *images = images.saturating_add(1),
+        Packet::ImageEnd => *images = images.saturating_add(1),
+        Packet::Rows(_) => {}
+        Packet::Begin(_) | Packet::StreamEnd | Packet::Stop => {}
     }
 }

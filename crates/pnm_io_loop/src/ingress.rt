@@ -1,7 +1,7 @@
 //! What comes before the tools of a run: the source, and the ring that its messages go into.
 
-ghost use Rattle.std.specs.Prelude.{◌≡◌, ◌<◌, ◌⊎◌, List, length, IsTrue, true, false, Some, None};
-ghost use Rattle.pnm_stages.specs.Rings.{sent, known_free, SameSender};
+ghost use Rattle.std.specs.Prelude.{◌≡◌, ◌<◌, ◌≤◌, List, IsTrue, IsFalse, true, false, Some, None};
+ghost use Rattle.pnm_stages.specs.Rings.{sent, known_free, kept_free, SameSender};
 ghost use Rattle.pnm_image.specs.declared.message.Message.{Message as MessageValue};
 ghost use Rattle.pnm_read.specs.Sources.{reader_of, has_ended, stopped_by};
 ghost use Rattle.pnm_read.specs.Sources.{IsFreshSource as IsUnread};
@@ -34,7 +34,7 @@ pub struct Ingress<R> {
 }
 
 impl<R: BytesIn + Drop> Ingress<R> {
-    ghost use Rattle.pnm_io_loop.specs.Ingresses.{IsIngress, HasGoneOn, ingress_is_over};
+    ghost use Rattle.pnm_io_loop.specs.Ingresses.{IsIngress, HasGoneOn, HasSentMore, ingress_is_over};
 
     /// An ingress that has sent nothing yet, and sends at most `most_rows` rows together. Of short packets it sends a
     /// few before it wakes the first tool (`wake_receiver`).
@@ -65,7 +65,9 @@ impl<R: BytesIn + Drop> Ingress<R> {
     }
 
     /// How many images have had their end sent, up to `u64::MAX`.
-    pub fn images(&self) -> u64 {
+    pub fn images(&self) -> u64
+        ensures { result ≡ self.now.images }
+    {
         self.images
     }
 
@@ -111,9 +113,8 @@ impl<R: BytesIn + Drop> Ingress<R> {
             → IsIngress R.left R.failures first before self.new }
         ensures ring { SameSender self.old.output self.new.output }
         ensures same_device { R.same (reader_of self.old.source) (reader_of self.new.source) }
-        // A message more was sent, or there is nothing more to send.
-        ensures goes_on { IsTrue result
-            → (length (sent self.old.output) < length (sent self.new.output)) ⊎ (ingress_is_over self.new ≡ true) }
+        ensures goes_on { IsTrue result → HasSentMore self.old self.new }
+        ensures none { IsFalse result → known_free self.old.output ≤ kept_free self.old.output }
     {
         if !self.output.has_room() {
             self.is_gone = self.output.is_abandoned();
@@ -158,9 +159,8 @@ impl<R: BytesIn + Drop> Ingress<R> {
     {
         match self.source.next(spares, self.most_rows) {
             Ok(Some(packet)) => {
-                let is_end = packet.ends_image();
+                count_image(&mut self.images, &packet);
                 self.output.send_reserved(packet);
-                count_image(&mut self.images, is_end);
             }
             Ok(None) => self.input = Some(Ok(())),
             Err(fault) => {

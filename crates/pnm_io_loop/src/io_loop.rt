@@ -1,13 +1,14 @@
 //! What the caller of a run over threads does while the tools work: it writes what it takes, and sends what it reads.
 
-ghost use Rattle.std.specs.Prelude.{◌≡◌, List, IsTrue, IfSome, false};
+ghost use Rattle.std.specs.Prelude.{◌≡◌, ◌<◌, ◌⊎◌, List, IsTrue, IsFalse, IfSome, true, false};
 ghost use Rattle.pnm_stages.specs.Rings.{SameReceiver};
 ghost use Rattle.pnm_image.specs.declared.format.Form.{Form};
 ghost use Rattle.pnm_image.specs.declared.message.Message.{Message};
-ghost use Rattle.pnm_io_loop.specs.Egresses.{IsEgress};
+ghost use Rattle.pnm_io_loop.specs.Egresses.{IsEgress, egress_is_over, HasTakenMore, HasTakenNothing};
 ghost use Rattle.pnm_serial.specs.FusedSinks.{output_of};
-ghost use Rattle.pnm_io_loop.specs.Ingresses.{ingress_is_over};
-ghost use Rattle.pnm_io_loop.specs.IoLoop.{AreOver, HaveStepped};
+ghost use Rattle.pnm_io_loop.specs.Ingresses.{ingress_is_over, HasSentMore};
+ghost use Rattle.pnm_io_loop.specs.IoLoop.{AreOver, HaveStepped, HaveMoved, CannotSend, CannotTake};
+ghost use Rattle.pnm_io_loop.specs.IoLoop.{HaveNothingToDo};
 
 use crate::egress::Egress;
 use crate::ingress::Ingress;
@@ -139,6 +140,8 @@ fn run_once<R: BytesIn + Drop, W: BytesOut + Drop>(
 ) -> bool
     ensures stepped { HaveStepped R.left R.failures R.same W.held W.failures W.same ingress.old egress.old ingress.new
         egress.new }
+    ensures moved { IsTrue result → HaveMoved ingress.old egress.old ingress.new egress.new }
+    ensures idle { IsFalse result → HaveNothingToDo ingress.old egress.old }
 {
     if takes_first {
         if take(egress, spares) {
@@ -159,6 +162,8 @@ fn send_or_take<R: BytesIn + Drop, W: BytesOut + Drop>(
 ) -> bool
     ensures stepped { HaveStepped R.left R.failures R.same W.held W.failures W.same ingress.old egress.old ingress.new
         egress.new }
+    ensures moved { IsTrue result → HaveMoved ingress.old egress.old ingress.new egress.new }
+    ensures idle { IsFalse result → HaveNothingToDo ingress.old egress.old }
 {
     if send(ingress, egress, spares) {
         return true;
@@ -177,6 +182,9 @@ fn send<R: BytesIn + Drop, W: BytesOut + Drop>(
 ) -> bool
     ensures stepped { HaveStepped R.left R.failures R.same W.held W.failures W.same ingress.old egress.old ingress.new
         egress.new }
+    ensures moved { IsTrue result → HasSentMore ingress.old ingress.new }
+    ensures idle { IsFalse result → CannotSend ingress.old egress.old }
+    ensures taken { HasTakenNothing egress.old egress.new × (egress.new.input ≡ egress.old.input) }
 {
     if !may_send(ingress, egress) {
         return false;
@@ -195,6 +203,8 @@ fn take<W: BytesOut + Drop>(egress: &mut Egress<W>, spares: &mut SpareRows) -> b
         → IsEgress W.held W.failures form start before egress.new }
     ensures ring { SameReceiver egress.old.input egress.new.input }
     ensures same_device { W.same (output_of egress.old.fused_sink) (output_of egress.new.fused_sink) }
+    ensures moved { IsTrue result → HasTakenMore egress.old egress.new }
+    ensures idle { IsFalse result → CannotTake egress.old × HasTakenNothing egress.old egress.new }
 {
     !egress.is_over() && egress.try_receive(spares)
 }
@@ -202,7 +212,9 @@ fn take<W: BytesOut + Drop>(egress: &mut Egress<W>, spares: &mut SpareRows) -> b
 /// Whether there is more to send. While the result of an image that was sent isn't written yet, what the source may
 /// have to wait for doesn't count.
 fn may_send<R: BytesIn + Drop, W: BytesOut + Drop>(ingress: &Ingress<R>, egress: &Egress<W>) -> bool
-    ensures { IsTrue result → ingress_is_over ingress.now ≡ false }
+    ensures yes { IsTrue result → ingress_is_over ingress.now ≡ false }
+    ensures no { IsFalse result → (ingress_is_over ingress.now ≡ true)
+        ⊎ ((egress_is_over egress.now ≡ false) × (egress.now.images < ingress.now.images)) }
 {
     !ingress.is_over()
         && (egress.is_over() || ingress.images() <= egress.images() || !ingress.would_read())

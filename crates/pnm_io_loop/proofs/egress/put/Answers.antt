@@ -1,9 +1,8 @@
-use Rattle.std.proofs.Common.{List, ◌++◌, inl, inr, sym, subst, ◌∙◌}
+use Rattle.std.proofs.Common.{List, inl, inr, sym, subst, ◌∙◌}
 use Rattle.pnm_image.specs.declared.message.Message.{Message}
 use Rattle.pnm_image.specs.Messages.{without_stop}
 use Rattle.pnm_image.specs.declared.message.Ending.TheVariants.{More, Whole, BrokenOff}
 use Rattle.pnm_serial.specs.FusedSinks.{HasTaken}
-use Rattle.pnm_io_loop.specs.Egresses.{EndedBy}
 use Rattle.pnm_io_loop.proofs.EgressSteps.{ends_by, keeps_packet, cuts_stop}
 use Rattle.pnm_io_loop.proofs.egress.put.Goals as goal
 

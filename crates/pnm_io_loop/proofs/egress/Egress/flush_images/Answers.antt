@@ -9,4 +9,5 @@ returns-clause-receiving g c = λ form start before was. record {
     ended = was.put.ended;
     taken = c.flush_images.ensures.taken form start (without_stop was.took) was.put.taken;
   };
+  counted = was.counted;
 }

@@ -10,7 +10,8 @@ loop-self-preserved g c =
     let added = c.receive_known-packet.ensures.received in (
       λ form start before was. collects_some g.W.BytesOut.held g.W.BytesOut.failures form start before
           (messages_in c.receive_known-packet.result) c.loop-self.self
-          _ added (λ l put. c.put.ensures.put form start l (record { ended = put.ended; taken = put.taken })) (c.loop-self.invariant.0 form start before was),
+          _ added (λ l put. c.put.ensures.put form start l (record { ended = put.ended; taken = put.taken })) c.count_image.ensures
+          (c.loop-self.invariant.0 form start before was),
       still_all (received c.loop-self.self.input) (received c.receive_known-packet.new.self) (known_items c.loop-self.self.input)
           (known_items c.receive_known-packet.new.self) (sent c.look_beside.new.sender) (messages_in c.receive_known-packet.result)
           c.loop-self.invariant.1 added (known_by c.receive_known-packet.ensures.seen),

@@ -1,5 +1,5 @@
-use Rattle.std.proofs.Common.{List, length}
-use Rattle.pnm_stages.specs.Rings.{known_packets, SameReceiver}
+use Rattle.std.proofs.Common.{◌<◌, List, length}
+use Rattle.pnm_stages.specs.Rings.{received, known_packets, SameReceiver}
 use Rattle.pnm_image.specs.declared.format.Form.{Form}
 use Rattle.pnm_image.specs.declared.message.Message.{Message}
 use Rattle.pnm_serial.specs.FusedSinks.{output_of}
@@ -13,6 +13,7 @@ invariant-loop-self g l =
     → IsEgress g.W.BytesOut.held g.W.BytesOut.failures form start before l.self)
     × SameReceiver l.fn.self.input l.self.input
     × g.W.BytesOut.same (output_of l.fn.self.fused_sink) (output_of l.self.fused_sink)
+    × (length (received l.fn.self.input) < length (received l.self.input))
 
 abbrev pub decreases-loop-self : goal.decreases-loop-self
 decreases-loop-self g l = length (known_packets l.self.input)

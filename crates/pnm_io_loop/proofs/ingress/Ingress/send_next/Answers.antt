@@ -13,6 +13,7 @@ returns-in-Ok-Some-clause-sending g c first before =
     let told = rw c.in-Ok-Some.field-0-is at c.in-Ok-Some.ensures.told in
     feeds_packet g.R.BytesIn.left g.R.BytesIn.failures first before c.args.self.now c.next.new.self c.in-Ok-Some.packet c.send_reserved.new.self _
     c.requires.going c.send_reserved.ensures.sent told c.next.ensures.end c.next.ensures.unread (c.in-Ok-Some.ensures.count (no_fault _ ReadFailed))
+    c.count_image.ensures
 
 pub returns-in-Ok-None-clause-sending : goal.returns-in-Ok-None-clause-sending
 returns-in-Ok-None-clause-sending g c first before =

@@ -8,6 +8,7 @@ returns-then-not-has_room-clause-sending g c = λ first before was. record {
   given = was.given;
   asked = was.asked;
   passed = c.is_abandoned-self.ensures.sent ∙ c.has_room.ensures.sent ∙ was.passed;
+  counted = was.counted;
 }
 
 pub returns-clause-same_device : goal.returns-clause-same_device
@@ -21,4 +22,4 @@ send_next-requires-clause-room g c = grind (arith, common_steps)
 
 -- the other end is gone
 pub returns-then-not-has_room-clause-goes_on : goal.returns-then-not-has_room-clause-goes_on
-returns-then-not-has_room-clause-goes_on g c = λ gone. inr (ap (λ (b : Bool). sending_is_over b c.args.self.now.input) gone)
+returns-then-not-has_room-clause-goes_on g c = λ gone. inr (c.requires.going, ap (λ (b : Bool). sending_is_over b c.args.self.now.input) gone)
