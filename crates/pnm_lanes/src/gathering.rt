@@ -38,12 +38,12 @@ struct GatherEnd {
 /// number of lanes, and a head is that of each lane, with the height of the whole image. It ends `Well` with the end of
 /// the stream, once each lane has given that; `Broken` if a lane gives Stop; and by `Fault(OutOfOrder)` if the lanes
 /// don't agree, if a message is out of place, or if rows or a whole image come together: no lane sends these, and to
-/// take them apart
-/// would take memory. After `Broken` and `Fault` it has sent Stop and drained all lanes; it tries them in turn, and
-/// waits for none alone. If the other end of a ring was seen dropped, it ends by `PeerGone`, and has sent Stop, if
-/// there is someone to take it, and drained the lanes. It takes no memory.
+/// take them apart would take memory. After `Broken` and `Fault` it has sent Stop and drained all lanes; it tries them
+/// in turn, and waits for none alone. If the other end of a ring was seen dropped, it ends by `PeerGone`, and has sent
+/// Stop, if there is someone to take it, and drained the lanes. It takes no memory.
 ///
-/// The lanes' sending ends have `output` as their home (`Sender::set_home`), where this thread sleeps while it drains.
+/// The lanes' sending ends should have `output` as their home (`Sender::set_home`), where this thread sleeps while it
+/// drains. Otherwise nothing but the time-out may end such a sleep.
 pub fn gather<R: Wait>(rt: &R, inputs: Vec<Receiver>, output: Sender) -> GatherDone
     requires { IsLaneCount (length inputs.items) }
     ensures inputs { AreSameInputs inputs.items result.inputs.items }
