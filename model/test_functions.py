@@ -117,6 +117,9 @@ class Changes(unittest.TestCase):
             _, found = functions.compare(f"{FILE} Sender::wait 0\n", root)
             self.assertEqual(found, [f"Sender::wait of {FILE} is gone"])
 
+    def test_a_heading_that_names_no_model(self):
+        self.assertEqual(functions.models_gone("# all\n# rings.pml: ends\n# none.pml: all\n"), ["none.pml"])
+
     def test_comments_contracts_and_layout(self):
         wake = "        self.wake_receiver();"
         self.assertEqual(self.told("    /// Whether there is room.", "    /// Whether \"a place\" is free."), [])
