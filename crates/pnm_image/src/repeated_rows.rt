@@ -88,7 +88,7 @@ impl RepeatedRows {
     ///
     /// The same, if there are several.
     #[inline(always)]
-    pub fn into_one(self) -> Result<Samples, RepeatedRows>
+    pub(crate) fn into_one(self) -> Result<Samples, RepeatedRows>
         ensures one { IfOk result (λ row. self ≡ row ∷ []) }
         ensures several { IfErr result (λ same. (same ≡ self) × (2 ≤ length self)) }
     {

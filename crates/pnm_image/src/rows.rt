@@ -151,7 +151,7 @@ impl Rows {
     ///
     /// The rows themselves, if there are several.
     #[inline(always)]
-    pub fn into_one(self) -> Result<Samples, Rows>
+    pub(crate) fn into_one(self) -> Result<Samples, Rows>
         ensures one { IfOk result (λ row. self ≡ row ∷ []) }
         ensures several { IfErr result (λ same. (same ≡ self) × (2 ≤ length self)) }
     {

@@ -14,6 +14,5 @@ pub use answer::Answer;
 pub use chain::check;
 pub use codes::WELL;
 pub use conversion::{Converted, convert};
-pub use devices::{TextReader, VecWriter};
 pub use ends::image_end;
 pub use run::{Made, run_into, run_new};

@@ -25,7 +25,7 @@ pub struct ReadBuffer {
 
 impl ReadBuffer {
     /// A buffer of 4,096 bytes that holds nothing yet. The only fault is `Memory`.
-    pub fn new(alloc: Global) -> Result<ReadBuffer, InputFault>
+    pub(crate) fn new(alloc: Global) -> Result<ReadBuffer, InputFault>
         ensures size { IfOk result (λ buffer. vec_len buffer.bytes ≡ 4096) }
         ensures refused { IfErr result (λ fault. fault ≡ Memory) }
     {

@@ -2,7 +2,7 @@
 
 ghost use Rattle.std.specs.Prelude.{◌≡◌, ◌≤◌, IfOk, length, vec_capacity};
 
-use pnm_image::{RowVec, Rows, SampleVec, Samples};
+use pnm_image::{RowVec, Rows};
 use std::alloc::{AllocError, Global};
 use std::collections::VecDeque;
 
@@ -48,17 +48,8 @@ impl SpareRows {
         }
     }
 
-    /// Keeps the row's memory if it serves for a row like the one that was asked for last, and otherwise drops it.
-    #[inline(always)]
-    pub fn keep(&mut self, row: Samples) {
-        match row.into_vec() {
-            SampleVec::Bits(bits) => self.keep_bytes(bits.into_bytes()),
-            SampleVec::Bytes(bytes) => self.keep_bytes(bytes),
-            SampleVec::Words(_) => {}
-        }
-    }
-
-    /// Keeps the memory of rows that were handed over together, as that of a row.
+    /// Keeps the memory of the rows, if it serves for a row like the one that was asked for last, and otherwise drops
+    /// it.
     pub fn keep_rows(&mut self, rows: Rows) {
         match rows.into_parts().0 {
             RowVec::Bits(bits) => self.keep_bytes(bits.into_bytes()),
@@ -85,7 +76,7 @@ impl SpareRows {
     ///
     /// If there is no memory for them.
     #[inline(always)]
-    pub fn copy_of(&mut self, alloc: Global, bytes: &[u8]) -> Result<Vec<u8>, AllocError>
+    pub(crate) fn copy_of(&mut self, alloc: Global, bytes: &[u8]) -> Result<Vec<u8>, AllocError>
         ensures { IfOk result (λ row. row.items ≡ bytes.now) }
     {
         self.wanted = bytes.len();

@@ -32,7 +32,7 @@ impl Buffers {
 
     /// As `new`, for an input of `length` bytes: if they are few, there is less room to read into. The only fault is
     /// `Memory`.
-    pub fn for_input(alloc: Global, length: usize) -> Result<Buffers, InputFault>
+    pub(crate) fn for_input(alloc: Global, length: usize) -> Result<Buffers, InputFault>
         ensures refused { IfErr result (λ fault. fault ≡ Memory) }
     {
         let capacity = length.min(READ_BYTES).max(LEAST_READ_BYTES);

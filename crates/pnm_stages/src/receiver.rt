@@ -207,7 +207,7 @@ impl Receiver {
 
     /// Receives and drops what comes, through the end of the stream or Stop. Returns false if the sending end was seen
     /// dropped before that.
-    pub fn drain<R: Wait>(&mut self, rt: &R) -> bool
+    fn drain<R: Wait>(&mut self, rt: &R) -> bool
         ensures ring { SameReceiver self.old self.new }
         ensures drained { HasDrained result (received self.old) (received self.new) (known_items self.new) }
     {

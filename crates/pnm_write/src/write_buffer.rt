@@ -45,21 +45,21 @@ impl WriteBuffer {
     }
 
     /// The bytes.
-    pub fn as_slice(&self) -> &[u8]
+    pub(crate) fn as_slice(&self) -> &[u8]
         ensures { result.now ≡ self.now }
     {
         &self.bytes[..self.length]
     }
 
     /// Removes all bytes.
-    pub fn clear(&mut self)
+    pub(crate) fn clear(&mut self)
         ensures { self.new ≡ [] }
     {
         self.length = 0;
     }
 
     /// Appends these bytes.
-    pub fn push(&mut self, part: &[u8])
+    pub(crate) fn push(&mut self, part: &[u8])
         requires { length self.old + length part.now ≤ 4096 }
         ensures bytes { self.new ≡ self.old ++ part.now }
         ensures count { length self.new ≡ length self.old + length part.now }
@@ -70,7 +70,7 @@ impl WriteBuffer {
     }
 
     /// Replaces what the buffer holds with the bytes of these samples.
-    pub fn fill(&mut self, sample_width: SampleWidth, samples: &[u16])
+    pub(crate) fn fill(&mut self, sample_width: SampleWidth, samples: &[u16])
         requires count { length samples.now ≤ most_samples sample_width }
         requires range { FitIn sample_width samples.now }
         ensures { self.new ≡ bytes_in sample_width samples.now }
@@ -80,7 +80,7 @@ impl WriteBuffer {
 
     /// Appends the numbers to a line that has `column` bytes, and to the lines after it. Returns how many bytes the
     /// last line has.
-    pub fn append_numbers<N: Numeral>(&mut self, column: usize, numbers: &[N]) -> usize
+    pub(crate) fn append_numbers<N: Numeral>(&mut self, column: usize, numbers: &[N]) -> usize
         requires room { length self.old + 6 * length numbers.now ≤ 4096 }
         requires begun { 0 < column }
         requires line { column ≤ 70 }
@@ -96,7 +96,7 @@ impl WriteBuffer {
     }
 
     /// Replaces what the buffer holds with the text of a row: that of the first `count` pixels of the bytes.
-    pub fn set_pixels(&mut self, bytes: &[u8], count: usize)
+    pub(crate) fn set_pixels(&mut self, bytes: &[u8], count: usize)
         requires few { length bytes.now ≤ 256 }
         requires enough { count ≤ 8 * length bytes.now }
         ensures { self.new ≡ plain_row_text Kind.Bit (take count (all_pixels bytes.now)) }

@@ -3,7 +3,7 @@
 use super::form_of;
 use pnm_image::{BytesOut, Device, Packet};
 use pnm_test_support::{FailsOnce, Sips, Unmade, cut_number, cut_word, packets_of, write_text};
-use pnm_write::{Form, Sink, SinkFault, WriteBuffer};
+use pnm_write::{Form, Sink, SinkFault};
 use std::alloc::{AllocError, Global};
 
 /// Adds the faults of a sink over the writer that gets packets, and how the stream ends. If `is_flushed`, the
@@ -16,7 +16,7 @@ pub fn write_stream<W: BytesOut + Drop>(
     is_flushed: bool,
     out: &mut String,
 ) -> Result<W, Unmade> {
-    let mut sink = Sink::with_buffer(WriteBuffer::new(alloc)?, writer, form);
+    let mut sink = Sink::new(alloc, writer, form)?;
     for packet in all {
         write_put(&mut sink, packet, is_flushed, out)?;
     }

@@ -1,4 +1,4 @@
-//! `pnm_flow`: runs, over threads and in one.
+//! `pnm_flow` and `pnm_memory`: runs, over threads, in one, and over a text in memory.
 
 ghost use Rattle.pnm_tools.specs.Chains.{IsChain};
 
@@ -9,6 +9,7 @@ use pnm_flow::{
     run_serial,
 };
 use pnm_image::Device;
+use pnm_memory::convert;
 use std::alloc::Global;
 use std::process::Abort;
 use std::sync::Wait;
@@ -66,6 +67,13 @@ fn run_in_one_thread(
     (answer, writer.into_inner())
 }
 
+/// The same run over memory alone.
+fn run_in_memory(rt: &impl Abort, alloc: Global, text: &[u8], chain: &str, form: Form) -> Outcome {
+    let tools = tools_of(rt, alloc, chain);
+    let made = convert(alloc, tools.as_slice(), form, text);
+    (made.answer, made.written)
+}
+
 /// What that run answers over this writer.
 fn answer_over<W: BytesOut>(
     rt: &impl Abort,
@@ -92,7 +100,7 @@ fn is_outcome(
     same(rt, &outcome.1.as_slice(), &writes, &way);
 }
 
-/// The run of this chain over this text answers so and writes this, over threads and in one.
+/// The run of this chain over this text answers so and writes this, over threads, in one, and in memory.
 fn answers<H: Threads + Wait + Abort + Sync>(
     rt: &H,
     alloc: Global,
@@ -105,6 +113,8 @@ fn answers<H: Threads + Wait + Abort + Sync>(
     is_outcome(rt, &outcome, want, writes, "over threads");
     let outcome = run_in_one_thread(rt, alloc, text, chain, form);
     is_outcome(rt, &outcome, want, writes, "in one thread");
+    let outcome = run_in_memory(rt, alloc, text, chain, form);
+    is_outcome(rt, &outcome, want, writes, "in memory");
 }
 
 /// A fault of the input, of a tool and of the form, and what was written before it.
