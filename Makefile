@@ -3,7 +3,7 @@
 PROGRAM := crates/pnmpipe
 
 .PHONY: all bench bench-files bench-library bench-sweep bench-waits built check deb dist disturb gate help install install-library
-.PHONY: lanes library lint long-stream model near pass pictures recipes refused scripts soak soak-library test toolchain uninstall wheel
+.PHONY: lanes library lint long-stream model near pass pictures recipes refused scripts soak soak-library tables test toolchain uninstall wheel
 
 # where `make install` puts things, below DESTDIR
 PREFIX ?= /usr/local
@@ -20,8 +20,8 @@ SHIMDIR = $(LIBEXECDIR)/pnmpipe/netpbm
 # helpers that stand beside the modules they use, with a link in BINDIR
 HELPERS := pnmpipe-explain pnmpipe-files pnmpipe-split pnmpipe-translate
 MODULES := chain_text.py end_signals.py file_machines.py file_parts.py file_tasks.py file_workers.py image_stream.py
-MODULES += input_faults.py netpbm_words.py shell_reader.py slow_reader.py translation.py
-SHIMS = $(shell python3 scripts/tool_table.py) pnmcut pnmdepth pnmenlarge pnmflip
+MODULES += input_faults.py netpbm_words.py shell_reader.py slow_reader.py tool_table.py translation.py
+SHIMS = $(shell python3 helpers/tool_table.py)
 
 # crates whose tests of want of memory are refused each allocation
 REFUSED := pnm_unit_tests pnm_flow_tests pnmpipe
@@ -68,6 +68,10 @@ gate:
 	python3 scripts/tests/test_packages.py --program $(PROGRAM)/out/pnmpipe
 	python3 scripts/cases.py
 	python3 model/check.py --where-installed
+
+# what completions, stand-ins and the C library have of the table of tools, the programs' options and the faults' numbers
+tables:
+	python3 scripts/tables.py
 
 # what is written: the layout, lengths, what documents, pages and completions claim, and whether scripts can be read
 lint:
@@ -239,6 +243,7 @@ help:
 	@echo "make soak SECONDS=n  runs random chains over random streams for n seconds, in one thread and over threads"
 	@echo "make disturb         runs random chains by the program that make has left, between slow neighbours and signals that stop it"
 	@echo "make soak-library    runs 100,000 random cases by the C library and by the program, and compares"
+	@echo "make tables          writes what completions, stand-ins and the C library have of the table of tools, the programs' options and the faults' numbers"
 	@echo "make lint            checks what is written: the layout, lengths, what documents, pages and completions claim, and whether scripts can be read"
 	@echo "make scripts         does what make lint does, and runs the tests of the stored commands, of rows of all sizes, the helpers and the pages, with the program that make has left"
 	@echo "make model           searches the model of how threads wait, for small sizes, with spin and gcc; ALL=1: for bigger ones too"

@@ -12,6 +12,7 @@ import subprocess
 
 from measure import medians_in_turn, print_columns, print_line, same_bytes, status_of, written
 from tool_examples import untried
+from tool_table import LEAVING_PAM
 
 RUNS = 3
 COLUMNS = ["image", "tool", "pnmpipe", "Netpbm", "over Netpbm"]
@@ -30,7 +31,6 @@ KINDS = {
 # Netpbm's pnminvert and pnmtile take PAM of one plane or three, and make it PGM or PPM: what stays PAM here is made
 # so too.
 RGB_PAM = (24, "P7\nWIDTH {}\nHEIGHT {}\nDEPTH 3\nMAXVAL 255\nTUPLTYPE RGB\nENDHDR\n")
-LEAVING_PAM = ("pnminvert", "pnmtile")
 
 # a tool with its options, and how many pixels of the result come of one
 ENLARGE = [(f"pamenlarge {factor}", factor * factor) for factor in (*range(1, 17), 32, 100, 1000)]

@@ -5,14 +5,14 @@
 _pnmpipe_stage() {
     local words
     case ${1-} in
+        # make tables writes tools: {name}) words='{words}' ;;
         '') words='pnminvert pamcut pamdepth pamchannel pamenlarge pamflip pnmtile' ;;
-        pnminvert) words='' ;;
         pamcut) words='-left -right -top -bottom -width -height' ;;
         pamdepth) words='1 255 65535' ;;
         pamchannel) words='0 1 2 3 -tupletype' ;;
         pamenlarge) words='2 3 4 -xscale -yscale' ;;
-        pamflip) words='-lr -tb -xy -r90 -r180 -r270 -null -leftright -topbottom -transpose' ;;
-        pnmtile) words='' ;;
+        pamflip) words='-lr -leftright -tb -topbottom -xy -transpose -r90 -r180 -r270 -null' ;;
+        # up to here
         *) words='' ;;
     esac
     printf '%s' "$words"
@@ -47,27 +47,27 @@ _pnmpipe_chain() {
     compopt -o nospace 2> /dev/null
 }
 
-# _pnmpipe_value BEFORE CURRENT: the values of the option before, if it takes one
-_pnmpipe_value() {
-    local words=''
+# whether an option has a value that is no file, and which values it may have, as `words`
+_pnmpipe_values() {
     case $1 in
-        --ring) words='1 16 64 256 1024' ;;
+        # make tables writes values: {either}) words='{words}' ;;
         --lanes) words='1 2 4 8' ;;
-        --jobs | --small | --machines | --start | --digits) ;;
+        --ring) words='1 16 64 256 1024' ;;
+        --jobs | --small | --machines | --start | --digits) words='' ;;
+        # up to here
         *) return 1 ;;
     esac
-    mapfile -t COMPREPLY < <(compgen -W "$words" -- "$2")
 }
 
 # whether nothing but options stands before the word that is being typed
 _pnmpipe_at_chain() {
-    local at
+    local at words
     for ((at = 1; at < COMP_CWORD; at++)); do
-        case ${COMP_WORDS[at]} in
-            --ring | --lanes | --jobs | --small | --machines) at=$((at + 1)) ;;
-            -*) ;;
-            *) return 1 ;;
-        esac
+        if _pnmpipe_values "${COMP_WORDS[at]}"; then
+            at=$((at + 1))
+        elif [[ ${COMP_WORDS[at]} != -* ]]; then
+            return 1
+        fi
     done
 }
 
@@ -78,22 +78,24 @@ _pnmpipe_file() {
 }
 
 _pnmpipe() {
-    local current=${COMP_WORDS[COMP_CWORD]} before=${COMP_WORDS[COMP_CWORD - 1]} options=''
+    local current=${COMP_WORDS[COMP_CWORD]} before=${COMP_WORDS[COMP_CWORD - 1]} options='--help --version' words
     COMPREPLY=()
     case ${COMP_WORDS[0]##*/} in
-        pnmpipe) options='--ring --lanes --plain --help --version' ;;
-        pnmpipe-explain) options='--brief --no-input --ring --lanes --plain --help --version' ;;
-        pnmpipe-files)
-            options='--jobs --resume --keep-folders --suffix --bar --small --machines --names --names0 --ring --lanes'
-            options="$options --plain --help --version"
-            ;;
-        pnmpipe-split) options='--start --digits --names --force --help --version' ;;
-        pnmpipe-translate) options='--file --help --version' ;;
+        # make tables writes programs: {either}) options+=' {options}' ;;&
+        pnmpipe | pnmpipe-explain | pnmpipe-files) options+=' --ring --lanes --plain' ;;&
+        pnmpipe-explain) options+=' --brief --no-input' ;;&
+        pnmpipe-files) options+=' --jobs --small --machines --resume --keep-folders --suffix --bar --names --names0' ;;&
+        pnmpipe-split) options+=' --start --digits --names --force' ;;&
+        pnmpipe-translate) options+=' --file' ;;&
+        # up to here
     esac
     # a redirection's operator is a word of its own, and a file follows it
     [[ $current != ?(&)[\<\>]* ]] || { before=$current; current=''; }
     [[ $before != ?(&)[\<\>]* ]] || { _pnmpipe_file "$current"; return; }
-    ! _pnmpipe_value "$before" "$current" || return 0
+    if _pnmpipe_values "$before"; then
+        mapfile -t COMPREPLY < <(compgen -W "$words" -- "$current")
+        return
+    fi
     if [[ $current == -* ]]; then
         mapfile -t COMPREPLY < <(compgen -W "$options" -- "$current")
         return

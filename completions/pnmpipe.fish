@@ -9,18 +9,14 @@ function __pnmpipe_chain
     set -l stage (string replace -r '^.*\|' '' -- "$before" | string trim)
     set -l words
     switch (string split -f 1 ' ' -- "$stage")
-        case ''
-            set words pnminvert pamcut pamdepth pamchannel pamenlarge pamflip pnmtile
-        case pamcut
-            set words -left -right -top -bottom -width -height
-        case pamdepth
-            set words 1 255 65535
-        case pamchannel
-            set words 0 1 2 3 -tupletype
-        case pamenlarge
-            set words 2 3 4 -xscale -yscale
-        case pamflip
-            set words -lr -tb -xy -r90 -r180 -r270 -null -leftright -topbottom -transpose
+        # make tables writes tools: case {name}; set words {words}
+        case ''; set words pnminvert pamcut pamdepth pamchannel pamenlarge pamflip pnmtile
+        case pamcut; set words -left -right -top -bottom -width -height
+        case pamdepth; set words 1 255 65535
+        case pamchannel; set words 0 1 2 3 -tupletype
+        case pamenlarge; set words 2 3 4 -xscale -yscale
+        case pamflip; set words -lr -leftright -tb -topbottom -xy -transpose -r90 -r180 -r270 -null
+        # up to here
     end
     # a word that alone goes on would close the quote, and a second one that does keeps it open
     if string match -qr '^[\'"]' -- (commandline -ct)
@@ -36,8 +32,11 @@ function __pnmpipe_at_chain
     set -l is_value 0
     for word in (commandline -opc)
         switch $word
-            case --ring --lanes --jobs --small --machines
-                set is_value 1
+            # make tables writes values: case {all}; set is_value 1
+            case --lanes; set is_value 1
+            case --ring; set is_value 1
+            case --jobs --small --machines --start --digits; set is_value 1
+            # up to here
             case '-*'
                 set is_value 0
             case '*'
@@ -50,14 +49,16 @@ end
 
 for name in pnmpipe pnmpipe-explain pnmpipe-files
     complete -c $name -n __pnmpipe_at_chain -f -a '(__pnmpipe_chain)'
-    complete -c $name -l ring -x -a '1 16 64 256 1024' -d 'rows that may wait between two tools'
-    complete -c $name -l lanes -x -a '1 2 4 8' -d 'threads of a tool that works row by row'
-    complete -c $name -l plain -d 'write plain images'
 end
 for name in pnmpipe pnmpipe-explain pnmpipe-files pnmpipe-split pnmpipe-translate
     complete -c $name -s h -l help -d 'a summary'
     complete -c $name -s V -l version -d 'the version'
 end
+complete -c pnmpipe-translate -s f -r -d 'a script'
+# make tables writes options: complete {commands} -l {name}{fish} -d '{what}'
+complete -c pnmpipe -c pnmpipe-explain -c pnmpipe-files -l ring -x -a '1 16 64 256 1024' -d 'rows between two tools'
+complete -c pnmpipe -c pnmpipe-explain -c pnmpipe-files -l lanes -x -a '1 2 4 8' -d 'threads of a row-wise tool'
+complete -c pnmpipe -c pnmpipe-explain -c pnmpipe-files -l plain -d 'write plain images'
 complete -c pnmpipe-explain -l brief -d 'one line'
 complete -c pnmpipe-explain -l no-input -d 'judge the chain alone'
 complete -c pnmpipe-files -l jobs -x -d 'files at a time'
@@ -73,4 +74,5 @@ complete -c pnmpipe-split -l start -x -d 'the first number'
 complete -c pnmpipe-split -l digits -x -d 'digits of a number'
 complete -c pnmpipe-split -l names -r -d 'a list of names'
 complete -c pnmpipe-split -l force -d 'replace files'
-complete -c pnmpipe-translate -s f -l file -r -d 'a script'
+complete -c pnmpipe-translate -l file -r -d 'a script'
+# up to here

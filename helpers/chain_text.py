@@ -10,39 +10,16 @@ import shlex
 import typing
 
 from slow_reader import Fault, judged
+from tool_table import TOOLS, TYPE
 
 MOST_BYTES, MOST_STAGES, MOST_TYPE = 4_096, 64, 255
 BLANKS = " \t\r\n"
 WORD = re.compile(r"[^ \t\r\n]+")
 
-# what an option or an argument takes: a number from and to, or a text
-OFFSET, EXTENT, MAXVAL, PLANE, TYPE = (-16_777_216, 16_777_216), (1, 16_777_216), (1, 65_535), (0, 255), "text"
-
-CUT = {"left": OFFSET, "right": OFFSET, "top": OFFSET, "bottom": OFFSET, "width": EXTENT, "height": EXTENT}
-WAYS = ("lr", "leftright", "tb", "topbottom", "xy", "transpose", "r90", "r180", "r270", "null")
 EXCHANGED = ("xy", "transpose", "r90", "r270")
 
 AXES = [("left", "right", "width"), ("top", "bottom", "height")]
 
-
-class Form(typing.NamedTuple):
-    """What a tool takes: the least and the most arguments, what each is, and its options; None: it has no value."""
-
-    least: int
-    most: int
-    argument: typing.Optional[tuple]
-    options: dict
-
-
-TOOLS = {
-    "pnminvert": Form(0, 0, None, {}),
-    "pamcut": Form(0, 0, None, CUT),
-    "pamdepth": Form(1, 1, MAXVAL, {}),
-    "pamchannel": Form(1, 256, PLANE, {"tupletype": TYPE}),
-    "pamenlarge": Form(0, 1, EXTENT, {"xscale": EXTENT, "yscale": EXTENT}),
-    "pamflip": Form(0, 0, None, dict.fromkeys(WAYS)),
-    "pnmtile": Form(2, 2, EXTENT, {}),
-}
 
 # what stands in place of options that Netpbm's tools take and pnmpipe doesn't
 ELSEWHERE = {
@@ -60,7 +37,7 @@ MISSING = {
     "pamdepth": ("pamdepth lacks its maxval.", "Write the new maxval, as in pamdepth 255."),
     "pamchannel": ("pamchannel lacks its planes.", "Write which samples of each pixel to keep, as in pamchannel 0."),
     "pamenlarge": ("pamenlarge lacks its factor.", FACTOR),
-    "pamflip": ("pamflip lacks its way to flip.", "Write one of -" + ", -".join(WAYS) + "."),
+    "pamflip": ("pamflip lacks its way to flip.", "Write one of -" + ", -".join(TOOLS["pamflip"].options) + "."),
     "pnmtile": ("pnmtile lacks its width or its height.", "Write both, as in pnmtile 640 480."),
 }
 
@@ -295,7 +272,10 @@ def finish(tool, words):
     if tool.name == "pamenlarge":
         is_there = bool(tool.arguments or tool.options)
     if not is_there:
-        raise ChainFault("MissingArgument", words, *MISSING[tool.name])
+        if tool.name in MISSING:
+            raise ChainFault("MissingArgument", words, *MISSING[tool.name])
+        remedy = f"It takes {kind_of(TOOLS[tool.name].argument)}."
+        raise ChainFault("MissingArgument", words, f"{tool.name} lacks an argument.", remedy)
 
 
 # --- what tools make of heads

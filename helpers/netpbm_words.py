@@ -2,36 +2,12 @@
 
 import re
 
-from chain_text import EXTENT, MAXVAL, option_parts
+from chain_text import option_parts
 from shell_reader import Kept, Word
+from tool_table import ALL_WAYS, EXTENT, LEAVING_PAM, OLD_NAMES, OPTIONS, TOOLS
 
-# the names that Netpbm has for each way to turn an image, and the stages for each name
-NAMES_OF_WAYS = {
-    "lr": "leftright lr",
-    "tb": "topbottom tb",
-    "xy": "transpose xy",
-    "null": "null",
-    "r90": "rotate90 r90 ccw",
-    "r180": "rotate180 r180",
-    "r270": "rotate270 r270 cw",
-}
-WAYS = {name: [f"pamflip -{way}"] for way, names in NAMES_OF_WAYS.items() for name in names.split()}
-
-# Netpbm's options: those with a value, and those without
-OPTIONS = {
-    "pnminvert": ([], []),
-    "pamcut": (
-        ["left", "right", "top", "bottom", "width", "height", "cropleft", "cropright", "croptop", "cropbottom"],
-        ["pad", "verbose"],
-    ),
-    "pamdepth": ([], []),
-    "pamchannel": (["infile", "tupletype"], []),
-    "pamenlarge": (["scale", "xscale", "yscale"], []),
-    "pamflip": (["xform", "memsize", "pagesize"], [*WAYS, "verbose"]),
-    "pnmflip": ([], []),
-    "pnmtile": ([], []),
-}
-OLD_NAMES = {"pnmcut": "pamcut", "pnmdepth": "pamdepth", "pnmenlarge": "pamenlarge"}
+# the stage for each name of a way to turn an image
+WAYS = {name: [f"pamflip -{way}"] for name, way in ALL_WAYS.items()}
 
 # pnmflip's own rules for its options, in their order
 PNMFLIP = [("-lr|-le.*", "lr"), ("-tb|-to.*", "tb"), ("-x.*|-tr.*", "xy"), ("-r9.*|-rotate9.*|-cc.*", "r90")]
@@ -120,7 +96,7 @@ def whole_name(tool, given):
     return found[0]
 
 
-def number_of(call, word, what, least=None):
+def number_of(call, word, what, least=None, most=MOST_NUMBER):
     """A decimal number as text, where pnmpipe takes it, and one less than it too; or a variable that holds one."""
     if word.parameter:
         call.notes.append(ONE_NUMBER)
@@ -129,7 +105,7 @@ def number_of(call, word, what, least=None):
         raise Kept(f"{what} is {word.raw}, which is more than a variable")
     text = word.value
     is_number = re.fullmatch(r"-?[0-9]{1,8}", text)
-    if not is_number or abs(int(text)) > MOST_NUMBER or (least is not None and int(text) < least):
+    if not is_number or abs(int(text)) > most or (least is not None and int(text) < least):
         raise Kept(f"{what} isn't a number that pnmpipe takes")
     return str(int(text))
 
@@ -216,17 +192,24 @@ def cut(call, options, arguments):
     return [" ".join(["pamcut", *words])], arguments
 
 
+def numbers(call, tool, arguments):
+    """A tool and its numbers, and what stands behind them."""
+    form = TOOLS[tool]
+    if len(arguments) < form.most:
+        raise Kept(f"{tool} lacks a number")
+    taken = arguments[: form.most]
+    given = [number_of(call, word, "a number", form.argument[0], min(form.argument[1], MOST_NUMBER)) for word in taken]
+    return [" ".join([tool, *given])], arguments[form.most :]
+
+
 def depth(call, _, arguments):
-    if not arguments:
-        raise Kept("pamdepth lacks its maxval")
-    maxval = number_of(call, arguments[0], "the maxval", 1)
+    stages, arguments = numbers(call, "pamdepth", arguments)
+    maxval = stages[0].partition(" ")[2]
     if maxval.startswith("$"):
         call.notes.append(STAYS_BITS.format("by a variable that holds 1"))
-    elif int(maxval) > MAXVAL[1]:
-        raise Kept(f"the maxval is above {MAXVAL[1]}")
-    elif int(maxval) == 1:
+    elif maxval == "1":
         call.notes.append(STAYS_BITS.format(1))
-    return [f"pamdepth {maxval}"], arguments[1:]
+    return stages, arguments
 
 
 def channel(call, options, arguments):
@@ -246,9 +229,7 @@ def channel(call, options, arguments):
 
 def enlarge(call, options, arguments):
     if not options:
-        if not arguments:
-            raise Kept("pamenlarge lacks its factor")
-        return [f"pamenlarge {number_of(call, arguments[0], 'the factor', 1)}"], arguments[1:]
+        return numbers(call, "pamenlarge", arguments)
     if "scale" in options:
         if len(options) > 1:
             raise Kept("-scale and another scale are both there")
@@ -293,21 +274,7 @@ def old_flip(words):
     return stages or ["pamflip -null"], arguments
 
 
-def tile(call, _, arguments):
-    if len(arguments) < 2:
-        raise Kept("pnmtile lacks its width or height")
-    width, height = [number_of(call, word, "a size", 1) for word in arguments[:2]]
-    return [f"pnmtile {width} {height}"], arguments[2:]
-
-
-RULES = {
-    "pamcut": cut,
-    "pamdepth": depth,
-    "pamchannel": channel,
-    "pamenlarge": enlarge,
-    "pamflip": flip,
-    "pnmtile": tile,
-}
+RULES = {"pamcut": cut, "pamdepth": depth, "pamchannel": channel, "pamenlarge": enlarge, "pamflip": flip}
 
 
 def file_of(call, arguments):
@@ -349,9 +316,8 @@ def read_stage(stage, index):
         call.tools, arguments = old_flip(words)
     else:
         options, arguments = options_of(tool, words)
-        call.tools = ["pnminvert"]
-        if tool != "pnminvert":
-            call.tools, arguments = RULES[tool](call, options, arguments)
+        rule = RULES.get(tool)
+        call.tools, arguments = rule(call, options, arguments) if rule else numbers(call, tool, arguments)
     call.file = file_of(call, arguments)
     if call.file is not None and any(text.startswith(("<", "0<")) for text in call.redirections):
         raise Kept("it has a file and a redirection of standard input")
@@ -360,7 +326,7 @@ def read_stage(stage, index):
     else:
         call.notes_if_first.append(PLAIN_STREAMS.format(tool))
     call.notes_if_first.append(LINE_END)
-    if tool in ("pnminvert", "pnmtile"):
+    if tool in LEAVING_PAM:
         call.notes.append(STAYS_PAM.format(tool))
     if call.plain:
         call.notes.append(PLAIN_LINES)

@@ -5,8 +5,9 @@ import re
 import shlex
 
 from chain_text import MOST_BYTES, MOST_STAGES, WORD, ChainFault, is_file, read_chain
-from netpbm_words import ANY_SETTING, OLD_NAMES, OPTIONS, Kept, place_of, read_stage, tool_of
+from netpbm_words import ANY_SETTING, Kept, place_of, read_stage, tool_of
 from shell_reader import ShellReader, Stage, Word, parsed, span
+from tool_table import LEAVING_PAM, OLD_NAMES, OPTIONS
 
 NAMED = re.compile(r"(?<![\w.-])(%s)(?![\w.-])" % "|".join([*OPTIONS, *OLD_NAMES]))
 BAR = re.compile(r"(?:[ \t]|\\\n)*\|(?:[ \t\n]|\\\n)*")
@@ -80,7 +81,7 @@ class Translation(ShellReader):
                 raise Kept("a function or an alias has this name")
             if stage.bar == "|&":
                 raise Kept("|& sends its messages down the pipe")
-            if makes_pam and tool in ("pnminvert", "pnmtile"):
+            if makes_pam and tool in LEAVING_PAM:
                 raise Kept("it makes PGM or PPM of PAM, and pnmpipe leaves PAM as it is")
             unknown = [text for text in stage.redirections if not re.match(r"0?<[^<>&]|[0-9]*>", text)]
             if unknown:

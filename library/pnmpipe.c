@@ -317,6 +317,7 @@ uint32_t pnmpipe_run_fd(const char *chain, size_t chain_length, uint32_t form, i
 
 const char *pnmpipe_code_name(uint32_t code) {
     switch (code) {
+    /* make tables writes codes: case PNMPIPE_{constant}: return "{printed}"; */
     case PNMPIPE_OK: return "Ok";
     case PNMPIPE_BAD_FORM: return "BadForm";
     case PNMPIPE_BAD_TEXT: return "BadText";
@@ -358,10 +359,11 @@ const char *pnmpipe_code_name(uint32_t code) {
     case PNMPIPE_OUTPUT_BROKEN: return "Broken";
     case PNMPIPE_OUTPUT_SECOND_PLAIN: return "SecondPlain";
     case PNMPIPE_OUTPUT_PLAIN_PAM: return "PlainPam";
-    case PNMPIPE_CHAIN_MEMORY:
-    case PNMPIPE_INPUT_MEMORY:
-    case PNMPIPE_TOOL_MEMORY:
+    case PNMPIPE_CHAIN_MEMORY: return "Memory";
+    case PNMPIPE_INPUT_MEMORY: return "Memory";
+    case PNMPIPE_TOOL_MEMORY: return "Memory";
     case PNMPIPE_OUTPUT_MEMORY: return "Memory";
+    /* up to here */
     default: return "Unknown";
     }
 }

@@ -31,6 +31,7 @@ enum pnmpipe_form {
 /* What went wrong. Numbers stay; new ones may come. From 101 on they are the faults of pnmpipe(1): 1xx of the chain's
  * text, 2xx of the input, 3xx of a tool, 4xx of the output. 5xx are want of memory. */
 enum pnmpipe_code {
+    /* make tables writes codes: {gap}PNMPIPE_{constant} = {number}{comma} */
     PNMPIPE_OK = 0,
     PNMPIPE_BAD_FORM = 1,
     PNMPIPE_BAD_TEXT = 2,
@@ -81,6 +82,7 @@ enum pnmpipe_code {
     PNMPIPE_INPUT_MEMORY = 502,
     PNMPIPE_TOOL_MEMORY = 503,
     PNMPIPE_OUTPUT_MEMORY = 504
+    /* up to here */
 };
 
 /* What a call answers. */

@@ -11,11 +11,10 @@ answers of a sweep's cases are printed one by one, for a line that is given with
 
 import argparse
 import concurrent.futures
-import os
 import sys
 from collections import Counter
 
-from places import ROOT  # first, since the judges use modules of helpers
+from places import read  # first, since the judges use modules of helpers
 
 import judge_flow
 import judge_formats
@@ -27,8 +26,7 @@ JUDGES = {"pnm_tools_cases": judge_tools, "pnm_format_cases": judge_formats, "pn
 
 
 def stored(crate, name):
-    with open(os.path.join(ROOT, "crates", crate, name), encoding="utf-8") as file:
-        return file.read().split("\n")[:-1]
+    return read(f"crates/{crate}/{name}").split("\n")[:-1]
 
 
 def judge(crate):

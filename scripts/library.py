@@ -14,7 +14,7 @@ import subprocess
 import sys
 import tempfile
 
-from places import ROOT
+from places import ROOT, read
 
 SOURCE = os.path.join(ROOT, "library")
 
@@ -46,8 +46,7 @@ def flags(*names):
 
 
 def version():
-    with open(os.path.join(ROOT, "VERSION"), encoding="ascii") as file:
-        return file.read().strip()
+    return read("VERSION").strip()
 
 
 def exports():

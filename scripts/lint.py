@@ -1,7 +1,8 @@
 #!/usr/bin/env python3
 """Wants what is written in this repository to be so, as `make lint` does: the crates' sources in layout and of some
 length at most (`lint_sources.py`), pages, completions and documents that say what the sources do (`lint_documents.py`),
-the same names, options and ranges of the tools everywhere (`lint_tools.py`), and scripts that python3, sh and, where
+the same names, options and ranges of the tools everywhere (`lint_tools.py`), what `make tables` writes (`tables.py`),
+and scripts that python3, sh and, where
 they are installed, shellcheck, zsh and fish read without a fault, with lines of at most 120 columns. Given folders, it
 reads the sources in these alone.
 """
@@ -15,10 +16,11 @@ import sys
 import lint_documents
 import lint_sources
 import lint_tools
+import tables
 from places import ROOT
 
 FOLDERS = ["helpers", "scripts", "scripts/judge", "scripts/tests", "bench", "model", ".ci"]
-COMPLETIONS = {"bash": "completions/pnmpipe.bash", "zsh": "completions/_pnmpipe", "fish": "completions/pnmpipe.fish"}
+COMPLETIONS = {"bash": tables.BASH, "zsh": tables.ZSH, "fish": tables.FISH}
 # other files whose lines have a limit
 IN_C = ["scripts/*.c", "bench/*.c", "library/*.[ch]", "library/*/*.c*"]
 COLUMNS = 120
@@ -79,7 +81,7 @@ def main():
     if not sys.argv[1:]:
         scripts_read, of_scripts = faults_in_scripts()
         documents, of_documents = lint_documents.faults()
-        found += of_scripts + of_documents + lint_tools.faults()
+        found += of_scripts + of_documents + lint_tools.faults() + [*tables.faults()]
         told += f", {scripts_read} scripts, {documents} pages and documents"
     for fault in found:
         print(f"lint: {fault}")

@@ -1,8 +1,9 @@
 """What pages, documents and completions say, beside what the sources do. `lint.py` runs this.
 
-The page's SYNOPSIS is the usage line of the program, and the page names each fault that the crates name. Completions
-have each option of the pages; what is said of tools is read by `lint_tools.py`. The pages' text has at most 80 columns,
-and where mandoc is installed, it has to find nothing in them.
+The page's SYNOPSIS is the usage line of the program, and the page names each fault that the crates name; that of the
+library has the numbers of all. The pages and the helpers have the options of `tables.py`. What is said of tools is read
+by `lint_tools.py`. The pages' text has at most 80 columns, and where mandoc is installed, it has to find nothing in
+them.
 
 Lines of documents have at most 100 columns. Each link of the README and of docs leads to a file, and to a heading of
 it, but for those in comments. Each picture stands in one of these documents. Each file and folder that a document names
@@ -19,24 +20,15 @@ import re
 import shutil
 import subprocess
 
-from places import ROOT
-
+import tables
+from places import ROOT, read
 
 # what mandoc finds, but for pages of other packages that aren't installed
 FINDING = re.compile(r": (STYLE|WARNING|ERROR|UNSUPP|FATAL|SYSERR|BADARG): (?!referenced manual not found)")
 
 
-def read(path):
-    with open(os.path.join(ROOT, path), encoding="utf-8") as file:
-        return file.read()
-
-
 def all_sources():
     return glob.glob(os.path.join(ROOT, "crates/*/src/**/*.rt"), recursive=True)
-
-
-def sources():
-    return [path for path in all_sources() if not re.search("_tests/|_cases/|/src/tests", path)]
 
 
 def synopsis(page):
@@ -57,12 +49,9 @@ def usage():
 
 
 def fault_names():
-    """Each name that a fault is printed by: those of thiserror, and those that fault_line.rt has in its own texts."""
-    names = set()
-    for path in sources():
-        names.update(re.findall(r'#\[error\("(\w+)"\)\]', read(path)))
+    """Each name that a fault is printed by: those with numbers, and those that fault_line.rt has in its texts."""
     own = re.findall(r'"([A-Z]\w+)"', read("crates/pnm_command_line/src/fault_line.rt"))
-    return names | set(own)
+    return {it["printed"] for it in tables.codes() if it["number"] > 100} | set(own)
 
 
 def faults_of_page():
@@ -88,22 +77,32 @@ def faults_of_page():
     return found
 
 
-COMPLETIONS = ("pnmpipe.bash", "_pnmpipe", "pnmpipe.fish")
+def faults_of_numbers(reading=read):
+    """The page of the library has the first and the last number of each class of faults."""
+    page, numbers = reading("man/pnmpipe.3"), [it["number"] for it in tables.codes()]
+    for part in range(1, 6):
+        own = [it for it in numbers if it // 100 == part]
+        if f".It {own[0]} to {own[-1]}\n" not in page:
+            yield f"man/pnmpipe.3 doesn't tell of {own[0]} to {own[-1]}"
 
 
 def options_of(page):
     """The long options that a page names."""
-    return set(re.findall(r"^\.It .*?Fl -([\w-]+)", page, re.M)) - {"help", "version"}
+    return set(re.findall(r"(?:Fl|,) -([\w-]+)", "\n".join(re.findall(r"^\.It .*", page, re.M))))
 
 
-def faults_of_completions():
-    """Options of a page that a completion lacks."""
-    options = set().union(*(options_of(read(f"man/{os.path.basename(path)}")) for path in glob.glob(f"{ROOT}/man/*.1")))
-    for name in COMPLETIONS:
-        completion = read(f"completions/{name}")
-        for option in sorted(options):
-            if not re.search(rf"(--|-l ){option}\b", completion):
-                yield f"completions/{name} lacks --{option} of a page"
+def faults_of_options(reading=read):
+    """Options of a program that its page lacks, or has beside these, and those that a helper doesn't name."""
+    for program in tables.PROGRAMS:
+        own = {name for those, rows in tables.PROGRAM_OPTIONS.items() if program in those for name, *_ in rows}
+        own |= {"help", "version"}
+        for option in sorted(own ^ options_of(reading(f"man/{program}.1"))):
+            yield f"man/{program}.1 and tables.py don't both have --{option} of {program}"
+        helper = reading(f"helpers/{program}") if program != "pnmpipe" else ""
+        named = set(re.findall(r'"--([\w-]+)"', helper)) - own
+        named |= {it for it in own if helper and not re.search(rf"--{it}\b", helper)} - {"help"}
+        for option in sorted(named):
+            yield f"helpers/{program} and tables.py don't both have --{option}"
 
 
 OF_DOCS = ["README.md", *sorted(f"docs/{name}" for name in os.listdir(f"{ROOT}/docs") if name.endswith(".md"))]
@@ -380,6 +379,7 @@ def faults_of_mandoc():
 def faults():
     """How many pages and documents there are, and what is wrong with them."""
     pages = glob.glob(os.path.join(ROOT, "man/*.[13]"))
-    found = [*faults_of_page(), *faults_of_completions(), *faults_of_documents(), *faults_of_figures()]
+    found = [*faults_of_page(), *faults_of_numbers(), *faults_of_options(), *faults_of_documents()]
+    found += faults_of_figures()
     found += [fault for path in sorted(pages) for fault in wide_lines(os.path.relpath(path, ROOT), read(path))]
     return len(pages) + len(DOCUMENTS), found + faults_of_mandoc()

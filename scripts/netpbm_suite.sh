@@ -19,8 +19,7 @@ cp -R "$1" "$work/test"
 chmod +x "$work"/test/*.test "$work/test/Execute-Tests" "$work/test/Available-Testprog"
 (cd "$work/test" && ls -- *.test > Test-Order)
 mkdir "$work/shims"
-stand_ins="$(python3 "$root/scripts/tool_table.py") $(sed -n 's/^SHIMS = .*) //p' "$root/Makefile")"
-for name in $stand_ins; do
+for name in $(python3 "$root/helpers/tool_table.py"); do
     ln -s "$root/helpers/netpbm-shim" "$work/shims/$name"
 done
 [ -e "$work/shims/pnmcut" ] || { echo "netpbm_suite.sh: there are no stand-ins" >&2; exit 2; }

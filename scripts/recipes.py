@@ -19,7 +19,7 @@ import sys
 import tempfile
 import time
 
-from places import ROOT
+from places import ROOT, read
 
 BLOCK = re.compile(r"^```sh(.*)\n((?:.*\n)*?)```$", re.M)
 SECONDS = 120
@@ -182,8 +182,7 @@ def run_block(script, leaves, says, folder, env):
 
 
 def main():
-    with open(f"{ROOT}/docs/RECIPES.md", encoding="utf-8") as file:
-        blocks = BLOCK.findall(file.read())
+    blocks = BLOCK.findall(read("docs/RECIPES.md"))
     failed = left_out = 0
     with tempfile.TemporaryDirectory() as work:
         prefix = f"{work}/prefix"

@@ -1,8 +1,12 @@
 """Stages of chains by which scripts try each tool. Nearly every image may come to them, of any kind, and the first
-stage of a tool makes no image much larger. `make lint` wants each tool to be here: what reads this tries a new one too.
+stage of a tool makes no image much larger. A tool that isn't here is tried with the numbers that completions offer.
 """
 
-EXAMPLES = {
+import places  # first, since it finds the other
+
+from tool_table import TOOLS
+
+OWN = {
     "pnminvert": ["pnminvert"],
     "pamcut": [
         "pamcut -left 1",
@@ -18,6 +22,7 @@ EXAMPLES = {
     "pnmtile": ["pnmtile 7 5", "pnmtile 11 5"],
 }
 
+EXAMPLES = {name: OWN.get(name) or [f"{name} {it}" for it in form.offered] for name, form in TOOLS.items()}
 STAGES = [stage for stages in EXAMPLES.values() for stage in stages]
 
 

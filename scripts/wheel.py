@@ -14,6 +14,7 @@ import time
 import zipfile
 
 from library import ROOT, SHARED, version
+from places import read
 
 NAME = "pnmpipe"
 SOURCE = os.path.join(ROOT, "library/python", NAME)
@@ -26,9 +27,7 @@ def metadata():
     lines += ["Summary: Netpbm tools over images in memory, in one call", f"Requires-Python: {PYTHON}"]
     lines += ["Provides-Extra: numpy", "Requires-Dist: numpy; extra == 'numpy'"]
     lines += ["Description-Content-Type: text/markdown"]
-    with open(os.path.join(ROOT, "library/python/README.md"), encoding="utf-8") as file:
-        lines += ["", file.read()]
-    return "\n".join(lines)
+    return "\n".join([*lines, "", read("library/python/README.md")])
 
 
 def said(tag):

@@ -10,6 +10,7 @@ from array import array
 from collections import deque
 
 from slow_reader import MOST, Fault, judged
+from tool_table import TOOLS
 
 
 class Tool(typing.NamedTuple):
@@ -22,8 +23,7 @@ class Tool(typing.NamedTuple):
 WAYS = ("null", "leftright", "topbottom", "transpose", "r90", "r180", "r270")
 
 # names of chains, and those that mean the same way to flip
-NAMES = {"pnminvert": "invert", "pamcut": "cut", "pamdepth": "depth", "pamchannel": "planes"}
-NAMES.update({"pamenlarge": "enlarge", "pamflip": "flip", "pnmtile": "tile"})
+NAMES = {**{name: name[3:] for name in TOOLS}, "pamchannel": "planes"}
 SHORT_WAYS = {"lr": "leftright", "tb": "topbottom", "xy": "transpose"}
 
 

@@ -3,8 +3,9 @@
 
 import random
 
-from netpbm_words import OLD_NAMES, OPTIONS
+import tool_table
 from tool_examples import untried
+from tool_table import OLD_NAMES, OPTIONS
 
 FILES = ["in.pgm", "in.ppm", "in.pbm"]
 
@@ -143,8 +144,8 @@ class Writer:
 
 
 # how many arguments each tool is called with; numbers, more of them small; and values of options
-ARGUMENTS = {"pamcut": (0, 1, 4, 5), "pamdepth": (0, 1, 1, 2), "pamchannel": (0, 1, 3), "pamenlarge": (0, 1, 1, 2)}
-ARGUMENTS |= {"pnmtile": (1, 2, 2, 3)}
+ARGUMENTS = {name: (most - 1, most, most, most + 1) for name, (_, most, *_) in tool_table.TOOLS.items() if most}
+ARGUMENTS |= {"pamcut": (0, 1, 4, 5), "pamchannel": (0, 1, 3)}
 NUMBERS = "0 1 01 009 -1 -0 +1 1x - 255 65535 65536 16777215 16777216 -16777215 -16777216 123456789".split()
 NUMBERS += ["", *map(str, [*range(1, 17)] * 3)]
 VALUES = {"infile": ["in.pgm", "-", "none"], "tupletype": ["RGB", "", "a b", "-1"]}

@@ -16,10 +16,10 @@ sys.dont_write_bytecode = True
 sys.path.append(os.path.dirname(os.path.dirname(os.path.abspath(__file__))))
 
 # pylint: disable=unused-import,wrong-import-position
-from places import HELPERS, ROOT, SCRIPTS
+from places import HELPERS, ROOT, SCRIPTS, read
 
 from chain_text import loaded
-from netpbm_words import OLD_NAMES, OPTIONS
+from tool_table import OLD_NAMES, OPTIONS
 
 GRAY = b"P5\n2 1\n9\n\x01\x02"
 COLOR = b"P6\n1 1\n9\n\x03\x04\x05"

@@ -22,7 +22,7 @@ sys.dont_write_bytecode = True
 
 # pylint: disable=wrong-import-position
 from support import COLOR, GRAY, HELPERS, PATIENCE, ROOT, SHIMS, SIGNALS, Folder, Program
-from support import heed_signals, loaded, parser_of, run, run_tests, wants
+from support import heed_signals, loaded, parser_of, read, run, run_tests, wants
 
 
 def random_header(numbers):
@@ -308,8 +308,7 @@ class LongRows(Program):
 
 class HelpAndVersion(unittest.TestCase):
     def test_answers(self):
-        with open(f"{ROOT}/VERSION", encoding="utf-8") as file:
-            version = file.read().strip()
+        version = read("VERSION").strip()
         for name in ("pnmpipe-explain", "pnmpipe-files", "pnmpipe-split", "pnmpipe-translate"):
             for words, beginning in [("--version", f"{name} {version}\n"), ("-V", f"{name} {version}\n")] + [
                 (option, f"usage: {name} ") for option in ("--help", "-h")

@@ -31,6 +31,7 @@ import refused
 import test_commands
 import wheel
 from library import ROOT, SHARED, SOURCE, WARNINGS
+from places import read
 
 TESTS = os.path.join(SOURCE, "tests")
 EXAMPLES = os.path.join(SOURCE, "examples")
@@ -86,23 +87,6 @@ TYPES = {
 # and as the header has those of the functions, which take any pointer
 OF_HEADER = {"const char *": "const uint8_t *", "const void *": "const uint8_t *", "void *": "uint8_t *"}
 
-# numbers that no fault of the crates has: of all that went well, of a form, a text and a room, which are constants of
-# pnm_memory; and of pnmpipe.c, of a null pointer and of a descriptor that can't be written
-CONSTANTS = {"OK": "WELL", "BAD_FORM": "BAD_FORM", "BAD_TEXT": "BAD_TEXT", "ROOM": "ROOM"}
-OF_C = {"NULL": (4, "Null"), "OUTPUT_WRITE_FAILED": (401, "WriteFailed")}
-CLASSES = {"chain": "CHAIN", "input": "INPUT", "tool": "TOOL", "output": "OUTPUT"}
-
-
-def read(path):
-    with open(os.path.join(ROOT, path), encoding="utf-8") as file:
-        return file.read()
-
-
-def snake(name):
-    """UNKNOWN_TOOL of UnknownTool."""
-    return re.sub(r"(?<!^)([A-Z])", r"_\1", name).upper()
-
-
 def without_comments(text):
     return re.sub(r"/\*.*?\*/", " ", text, flags=re.S)
 
@@ -110,43 +94,7 @@ def without_comments(text):
 # ---- the header
 
 
-def codes_of_sources():
-    """The number of each code, and the name that it is printed by."""
-    text, found = read("crates/pnm_memory/src/codes.rt"), dict(OF_C)
-    constants = {name: int(number) for name, number in re.findall(r"pub const (\w+): u32 = (\d+);", text)}
-    for name, own in CONSTANTS.items():
-        found[name] = (constants.get(own), "".join(word.capitalize() for word in name.split("_")))
-    form = r"fn (\w+)_code\([^)]*\) -> u32\n    ensures .*?\n\{\n    match \w+ \{\n(.*?)\n    \}\n"
-    for part, body in re.findall(form, text, re.S):
-        for name, number in re.findall(r"\w+::(\w+) => (\d+),", body):
-            # (in memory a failed write is want of it)
-            name = "Memory" if (part, name) == ("output", "WriteFailed") else name
-            found[f"{CLASSES[part]}_{snake(name)}"] = (int(number), name)
-    return found
-
-
-def codes_of_header(header):
-    body = re.search(r"enum pnmpipe_code \{(.*?)\}", header, re.S)[1]
-    return {name: int(number) for name, number in re.findall(r"PNMPIPE_(\w+) = (\d+)", body)}
-
-
-def faults_of_codes(header, code):
-    wanted, given = codes_of_sources(), codes_of_header(header)
-    named = dict.fromkeys(wanted)
-    pending = []
-    for name, told in re.findall(r'case PNMPIPE_(\w+):(?: return "(\w+)";)?', code):
-        pending.append(name)
-        if told:
-            named.update(dict.fromkeys(pending, told))
-            pending = []
-    if len(wanted) < 45:
-        yield f"only {len(wanted)} codes are found in the sources"
-    if given != {name: number for name, (number, _) in wanted.items()}:
-        differing = sorted(set(given.items()) ^ {(name, number) for name, (number, _) in wanted.items()})
-        yield f"the header and the sources have other codes: {differing}"
-    if named != {name: told for name, (_, told) in wanted.items()}:
-        differing = sorted({*named.items()} ^ {(name, told) for name, (_, told) in wanted.items()}, key=str)
-        yield f"pnmpipe.c names codes otherwise: {differing}"
+def faults_of_forms(header):
     forms = re.findall(r"PNMPIPE_(\w+) = (\d+)", re.search(r"enum pnmpipe_form \{(.*?)\}", header, re.S)[1])
     source = read("crates/pnm_memory/src/run.rt")
     if forms != [(name.upper(), number) for number, name in re.findall(r"(\d+) => Some\(Form::(\w+)\)", source)]:
@@ -191,7 +139,7 @@ def functions_of_c(text, prefix):
 
 def faults_of_header():
     header, code = (without_comments(read(f"library/pnmpipe.{it}")) for it in "hc")
-    yield from faults_of_codes(header, code)
+    yield from faults_of_forms(header)
     structs = [("pnmpipe_answer", "crates/pnm_memory/src/answer.rt", "Answer")]
     structs.append(("pnmpipe_bytes", "crates/pnm_c/src/bytes.rt", "Bytes"))
     for name, path, own in structs:

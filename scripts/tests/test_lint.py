@@ -1,12 +1,13 @@
 #!/usr/bin/env python3
 """Tests of lint: what is just within each limit of sources passes, one line or column more is told, and so is a file
 that rt fmt would change, which stays as it is; which names, goals, links, words and laws of documents are looked up,
-and told if they lead nowhere; and that each difference between a file and the table of tools is told, by the file and
-the tool. `make scripts` runs it."""
+and told if they lead nowhere; that each difference between a file and the table of tools is told, by the file and the
+tool; and files whose lines aren't those that `make tables` writes. `make scripts` runs it."""
 
 import os
 import tempfile
 import unittest
+from unittest import mock
 
 import support  # first, since it finds the others
 
@@ -14,8 +15,10 @@ import lint
 import lint_documents
 import lint_sources
 import lint_tools
+import tables
 import tool_examples
 from chain_text import read_chain
+from tool_table import MAXVAL, OPTIONS, TOOLS, Form
 
 RT, SPEC, PROOF = "crates/a/src/lib.rt", "crates/a/specs/Lib.antt", "crates/a/proofs/Lib.antt"
 
@@ -193,55 +196,61 @@ class Tools(unittest.TestCase):
                 text = text.replace(old, new, 1)
             return text
 
-        return lint_tools.faults(read)
+        of_programs = [*lint_documents.faults_of_options(read), *lint_documents.faults_of_numbers(read)]
+        return [*lint_tools.faults(read), *tables.faults(read), *of_programs]
 
     def test_no_difference(self):
-        self.assertEqual(lint_tools.faults(), [])
+        self.assertEqual(self.told(None), [])
 
-    def test_the_table(self):
-        named = {tool.name: tool.options for tool in lint_tools.tools_of(lint_documents.read)}
-        self.assertEqual(len(named), 7)
-        self.assertEqual(list(named["pamenlarge"]), ["xscale", "yscale"])
-        self.assertEqual(named["pamflip"]["lr"], named["pamflip"]["leftright"])
-        taken = {tool.name: tuple(tool.arguments) for tool in lint_tools.tools_of(lint_documents.read)}
-        self.assertEqual([taken[name] for name in ("pamcut", "pamdepth")], [(0, 0, 1, 0), (1, 1, 1, 65_535)])
-        self.assertEqual([taken[name] for name in ("pamchannel", "pnmtile")], [(1, 256, 0, 255), (2, 2, 1, 16_777_216)])
+    def test_written(self):
+        for path, names in tables.FILES.items():
+            for found in tables.WRITTEN.finditer(lint_documents.read(path)):
+                with self.subTest(path, name=found[3]):
+                    wanted = [f"{path} hasn't what `make tables` writes: {', '.join(names)}"]
+                    last = found[0].split("\n")[-2]
+                    self.assertEqual(self.told(path, (f"{last}\n{found[6]}", f"{last} x\n{found[6]}")), wanted)
+                    self.assertEqual(self.told(path, (found[2], f"# {found[3]}\n")), wanted)
 
     def test_planted(self):
-        table, values = lint_tools.TABLE, lint_tools.VALUES
-        has, lacks = f"which {table} has", f"which {table} lacks"
+        sources, values, program, page = lint_tools.NAMES, lint_tools.VALUES, lint_tools.PROGRAM, lint_tools.PAGE
+        for path, old, new, tool in (
+            (sources, 'b"xscale"', 'b"zscale"', "pamenlarge"),
+            (sources, "Way(FlipWay::LeftRight)", "Way(FlipWay::TopBottom)", "pamflip"),
+            (sources, "Arguments::numbers(2, ", "Arguments::numbers(3, ", "pnmtile"),
+            (sources, "least: 0", "least: 1", "pamchannel"),
+            (sources, '.or(spelled(name, b"pnmtile", ToolName::Tile))', "", "pnmtile"),
+            (values, "ToolOption::Top => set_edge(", "ToolOption::Top => set_extent(", "pamcut"),
+            (values, "TupleType if word.len() <=", "TupleType if word.len() <", "pamchannel"),
+            (lint_tools.LIMITS[0], "65_535", "65_536", "pamdepth"),
+            (page, "Fl yscale Ar N", "Ar N", "pamenlarge"),
+            (page, "Oo Fl top Ar N Oc ", "", "pamcut"),
+            (page, "Fl xscale Ar N", "Fl zscale Ar N", "pamenlarge"),
+            (page, ".It Ic pnmtile", ".It Ic pnmtiles", "pnmtiles"),
+            (lint_tools.README, "`-tb`, ", "", "pamflip"),
+            (lint_tools.README, "| `pnmtile` ", "| `pnmtiles` ", "pnmtile"),
+            (program, "pamdepth MAXVAL", "pamdeep MAXVAL", "pamdepth"),
+            (program, "[-yscale N]", "", "pamenlarge"),
+            (program, "pnmtile WIDTH", "pnmtile", "pnmtile"),
+            (program, "PLANE...", "PLANE", "pamchannel"),
+        ):
+            with self.subTest(path, new=new):
+                lines = [line for line in self.told(path, (old, new)) if f" of {tool}, and {lint_tools.TABLE} " in line]
+                self.assertEqual(len(lines), 1)
+                teller = sources if path in (values, *lint_tools.LIMITS) else path
+                self.assertTrue(lines[0].startswith(f"{teller} has "))
+        has = f", which {lint_tools.TABLE} has"
         for path, old, new, wanted in (
-            (lint_tools.PAGE, "Fl yscale Ar N", "Ar N", f"lacks yscale of pamenlarge, {has}"),
-            (lint_tools.PAGE, "Fl xscale Ar N", "Fl zscale Ar N", f"gives pamenlarge zscale, {lacks}"),
-            (lint_tools.PAGE, ".It Ic pnmtile", ".It Ic pnmtiles", f"has the tool pnmtiles, {lacks}"),
-            ("completions/pnmpipe.bash", " -tupletype", "", f"lacks tupletype of pamchannel, {has}"),
-            ("completions/_pnmpipe", "(-left ", "(-leftmost ", f"gives pamcut leftmost, {lacks}"),
-            ("completions/pnmpipe.fish", "-tb -xy", "-xy", f"lacks tb of pamflip, {has}"),
-            ("completions/pnmpipe.fish", " pnmtile", "", f"lacks pnmtile, {has}"),
-            (lint_tools.README, "`-tb`, ", "", f"lacks tb, topbottom of pamflip, {has}"),
-            (lint_tools.README, "| `pnmtile` ", "| `pnmtiles` ", "has no row for pnmtile"),
-            (lint_tools.CHAINS, '"height": EXTENT}', "}", f"lacks height of pamcut, {has}"),
-            (lint_tools.CHAINS, '{"tupletype": TYPE}', "{}", f"lacks tupletype of pamchannel, {has}"),
-            (lint_tools.NETPBM, '"scale", "xscale"', '"scale"', f"lacks xscale of pamenlarge, {has}"),
-            (lint_tools.SHIM, "'scale xscale", "'scale", f"lacks xscale of pamenlarge, {has}"),
-            (lint_tools.SHIM, " | pamdepth", "", f"lacks pamdepth, {has}"),
-            ("scripts/judge/slow_tools.py", '"pnmtile": "tile"', "", f"lacks pnmtile, {has}"),
-            ("scripts/tool_examples.py", '"pnmtile": ', '"pnmtiles": ', f"lacks pnmtile, {has}"),
             ("scripts/pictures.py", "pnmtile 144", "pnmtiles 144", "has nothing of pnmtile"),
-            ("library/python/README.md", "`pamflip` and `pnmtile`", "`pamflip`", "lists tools without pnmtile"),
+            ("library/python/README.md", "`pamcut`, ", "", "lists tools without pamcut"),
             ("crates/pnm_tools/src/lib.rt", "pamdepth(1), ", "", "lists tools without pamdepth"),
-            (lint_tools.PROGRAM, "pamdepth MAXVAL", "pamdeep MAXVAL", f"lacks pamdepth, {has}"),
-            (lint_tools.PROGRAM, "[-yscale N]", "", f"lacks yscale of pamenlarge, {has}"),
-            (lint_tools.PROGRAM, "pnmtile WIDTH", "pnmtile", f"gives pnmtile 1 arguments, and {table} 2"),
-            (lint_tools.PROGRAM, "PLANE...", "PLANE", f"gives pamchannel 1 arguments, and {table} 256"),
-            (lint_tools.PAGE, "1 to 65,535", "1 to 65,536", f"doesn't tell 1 to 65,535 of pamdepth, {has}"),
-            (lint_tools.PAGE, "1 to 256 numbers", "some", f"doesn't tell 1 to 256 of pamchannel, {has}"),
-            (lint_tools.PAGE, "\\-16,777,216 to", "0 to", f"doesn't tell -16,777,216 to 16,777,216 of pamcut, {has}"),
-            ("completions/pnmpipe.bash", "1 255 65535", "0 255", f"offers pamdepth 0, which {table} doesn't take"),
-            (lint_tools.CHAINS, "Form(2, 2", "Form(1, 2", f"gives pnmtile other arguments than {table}"),
-            (lint_tools.CHAINS, "(1, 65_535)", "(0, 65_535)", f"gives pamdepth other arguments than {table}"),
-            (lint_tools.CHAINS, '"top": OFFSET', '"top": EXTENT', f"gives -top of pamcut other values than {values}"),
-            (lint_tools.HELP, "WIDTH HEIGHT", "W H", f"has another text than {lint_tools.PROGRAM}"),
+            (page, "1 to 65,535", "1 to 65,536", f"doesn't tell 1 to 65,535 of pamdepth{has}"),
+            (page, "1 to 256 numbers", "some", f"doesn't tell 1 to 256 of pamchannel{has}"),
+            (page, "\\-16,777,216 to", "0 to", f"doesn't tell -16,777,216 to 16,777,216 of pamcut{has}"),
+            (lint_tools.HELP, "WIDTH HEIGHT", "W H", f"has another text than {program}"),
+            ("man/pnmpipe-files.1", " , Fl -names0 Ar LIST", "", "don't both have --names0 of pnmpipe-files"),
+            ("man/pnmpipe-translate.1", "Fl f , -file", "Fl f", "don't both have --file of pnmpipe-translate"),
+            ("helpers/pnmpipe-split", '"--start"', '"--first"', "don't both have --first"),
+            ("man/pnmpipe.3", ".It 201 to 216", ".It 201 to 215", "doesn't tell of 201 to 216"),
         ):
             with self.subTest(path, new=new):
                 lines = [line for line in self.told(path, (old, new)) if line.endswith(wanted)]
@@ -249,26 +258,25 @@ class Tools(unittest.TestCase):
                 self.assertTrue(lines[0].startswith(path))
 
     def test_examples(self):
-        """Each is one stage, of the tool that it stands for."""
+        """Each tool has some; each is one stage, of the tool that it stands for."""
         for name, stages in tool_examples.EXAMPLES.items():
+            self.assertNotEqual(stages, [])
+            self.assertTrue(all(read_chain(f"{name} {it}") for it in TOOLS[name].offered))
             self.assertEqual([[it.name for it in read_chain(stage)] for stage in stages], [[name]] * len(stages))
 
     def test_untried(self):
-        stages = ["pamcut -left 1", "pamchannel 0", "pamenlarge 2", "pamflip -lr", "pnmtile 7 5"]
-        self.assertEqual(tool_examples.untried(["pnminvert | pamdepth 9"]), stages)
+        told = tool_examples.untried(["pnminvert | pamdepth 9"])
+        self.assertEqual([it.split()[0] for it in told], [it for it in TOOLS if it not in ("pnminvert", "pamdepth")])
         self.assertEqual(tool_examples.untried(tool_examples.STAGES), [])
 
     def test_an_eighth_tool(self):
         """A tool that the table has and nothing else: each file is told once, and lists at each of their lines."""
-        spelled = '.or(spelled(name, b"pnmtile", ToolName::Tile))'
-        arms = ("ToolName::Depth => Arguments", "ToolName::Depth | ToolName::Greater => Arguments")
-        named = (spelled, f'{spelled}.or(spelled(name, b"pamgreater", ToolName::Greater))')
-        told = self.told(lint_tools.TABLE, named, arms)
-        self.assertTrue(all("pamgreater" in line for line in told))
+        form = {"pamgreater": Form(1, 1, MAXVAL, offered=(7,))}
+        with mock.patch.dict(TOOLS, form), mock.patch.dict(OPTIONS, {"pamgreater": ([], [])}):
+            told = self.told(None)
         paths = {line.split()[0].split(":")[0] for line in told}
-        self.assertLess({lint_tools.PAGE, lint_tools.PROGRAM, lint_tools.README, *lint_tools.OF_SCRIPTS}, paths)
-        self.assertLess({*lint_tools.OF_EACH, lint_tools.CHAINS, lint_tools.NETPBM, lint_tools.SHIM}, paths)
-        self.assertLess({f"completions/{name}" for name in lint_documents.COMPLETIONS}, paths)
+        self.assertLess({lint_tools.PAGE, lint_tools.PROGRAM, lint_tools.README, lint_tools.NAMES}, paths)
+        self.assertLess({*lint_tools.OF_EACH, tables.BASH, tables.ZSH, tables.FISH, "helpers/netpbm-shim"}, paths)
 
 
 class Scripts(unittest.TestCase):

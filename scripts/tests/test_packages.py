@@ -17,7 +17,7 @@ import support  # first, since it finds the others
 
 import library
 from library import ARCHIVE, HEADER, SHARED, SOURCE
-from support import GRAY, ROOT, Folder, Program, parser_of, run, run_tests
+from support import GRAY, ROOT, Folder, Program, parser_of, read, run, run_tests
 
 FLAGS = {"CPPFLAGS": "-DGIVEN", "CFLAGS": "-g -fstack-protector-strong", "LDFLAGS": "-Wl,-z,relro '-Wl,-rpath,/a b'"}
 
@@ -55,8 +55,7 @@ class Library(Folder):
 
     def test_symbols(self):
         """The Debian package's list of symbols has each function of the library."""
-        with open(f"{ROOT}/debian/libpnmpipe1.symbols", encoding="ascii") as file:
-            listed = re.findall(r"^ (pnmpipe_\w+)@", file.read(), re.M)
+        listed = re.findall(r"^ (pnmpipe_\w+)@", read("debian/libpnmpipe1.symbols"), re.M)
         self.assertEqual(sorted(listed), sorted(library.exports()))
 
 

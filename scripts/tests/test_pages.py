@@ -17,7 +17,7 @@ import unittest
 sys.dont_write_bytecode = True
 
 # pylint: disable=wrong-import-position
-from support import HELPERS, ROOT, Program, parser_of, run, run_tests
+from support import HELPERS, ROOT, Program, parser_of, read, run, run_tests
 
 # where an example begins, its status, and the beginning of what each of its files holds
 EXAMPLES = [
@@ -131,8 +131,7 @@ class Examples(Program):
         self.assertEqual(rows, set(), "examples that no page has")
 
     def test_readme(self):
-        with open(f"{ROOT}/README.md", encoding="utf-8") as file:
-            text, printed = re.search(r"^    \$ (.*)\n((?:    .*\n)+)", file.read(), re.M).groups()
+        text, printed = re.search(r"^    \$ (.*)\n((?:    .*\n)+)", read("README.md"), re.M).groups()
         done = self.paste(text, "readme", {})
         self.assertEqual((done.returncode, done.stderr), (0, b""))
         self.assertEqual(done.stdout.decode(), re.sub("^    ", "", printed, flags=re.M))

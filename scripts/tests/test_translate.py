@@ -25,7 +25,7 @@ from tool_examples import STAGES
 COUNT, SEED = 24, 0
 
 # how many calls of each tool by random words, of which more than so many are taken
-CALLS, LEAST = 40, 4
+CALLS, LEAST = 60, 4
 
 # pipelines, and what they become
 TRANSLATED = [
@@ -215,7 +215,7 @@ class Translate(Folder):
             ("pamcut -left 1 $f", "assumed: $f without quotes is one file's name, and no option"),
             ("pnminvert f <> g", "kept pnminvert: pnmpipe-translate doesn't know what the redirection <> g does"),
             ("pamcut -- f", "kept pamcut: the word -- isn't translated"),
-            ("pamflip -r f", "kept pamflip: -r may be any of -rotate90, -r90, -rotate180, -r180, -rotate270, -r270"),
+            ("pamflip -r f", "kept pamflip: -r may be any of -r90, -r180, -r270, -rotate90, -rotate180, -rotate270"),
             ("pamcut -x 1", "kept pamcut: pamcut has no option -x"),
             ("pamflip $way f", "kept pamflip: $way may be a way to flip"),
             ("PATH=/old pamcut", "kept pamcut: PATH=/old stands before it"),
@@ -316,8 +316,8 @@ class StandIns(Folder):
             self.assertEqual(len(self.compare(calls)), len(calls) - lacking, tool)
 
     def test_random_words(self):
-        numbers = random.Random(1)
         for tool in SHIMS:
+            numbers = random.Random(tool)
             chains = self.compare([random_call(numbers, tool) for _ in range(CALLS)])
             self.assertGreater(len(chains), LEAST, tool)
 
