@@ -24,20 +24,6 @@ def steps_of(text):
     return tuple(steps)
 
 
-def names_in(texts, steps):
-    """The names of the functions in the files of these steps."""
-    return {it.name for path in {it[0] for it in steps} for it in functions(texts.get(path, ""))}
-
-
-def with_own_names(texts, steps, suffix):
-    """The steps with this suffix at the name of each function that they add, so that no other change adds it too."""
-    added = names_in(applied(texts, steps), steps) - names_in(texts, steps)
-    if not added:
-        return steps
-    own = lambda text: re.sub(rf"\b({'|'.join(added)})\b", rf"\1_{suffix}", text)
-    return tuple((file, old if old in texts[file] else own(old), own(new)) for file, old, new in steps)
-
-
 def applied(texts, steps):
     """The texts with these steps made; None where an old text doesn't stand in its file once."""
     texts = dict(texts)
@@ -70,19 +56,17 @@ def function_at(text, old, new):
 
 
 def functions_of(texts, steps):
-    """The functions that these steps change, and the steps that change none, but add functions or change imports; no
-    function if a step is made elsewhere."""
-    found, beside, texts = set(), [], dict(texts)
+    """The functions that these steps change, and whether each step is made in one of them; no function if a step is
+    made elsewhere, and isn't one that only adds functions or changes imports."""
+    found, texts, is_within = set(), dict(texts), True
     for file, old, new in steps:
         function = function_at(texts[file], old, new) if file.endswith(".rt") else None
         if function is None:
-            return frozenset(), ()
-        if function:
-            found.add((file, function))
-        else:
-            beside.append((file, old, new))
+            return frozenset(), False
+        found |= {(file, function)} if function else set()
+        is_within = is_within and bool(function)
         texts[file] = texts[file].replace(old, new)
-    return frozenset(found), tuple(beside)
+    return frozenset(found), is_within
 
 
 def may_be_copied(crate, place):

@@ -30,7 +30,7 @@ import typing
 from build import Toolchain, most_checks
 from crates import ROOT, Ended, end_by_signals, read_crates
 from edit_checks import CHECKS, LIMIT, WHOLE, Crate
-from edit_steps import applied, copied, functions_of, may_be_copied, steps_of, with_own_names, written
+from edit_steps import applied, copied, functions_of, may_be_copied, steps_of, written
 from rust_places import blanked
 
 FOLDERS = {"edit": "must-fail", "control": "controls"}
@@ -42,8 +42,8 @@ ITEM = re.compile(r"^(?:pub(?:\([a-z]+\))? )?([a-z]+)\b(?: (\w+))?", re.M)
 
 class Change(typing.NamedTuple):
     """An edit or a control: its name, its steps (file, old text, new text), the functions whose goals tell of it, the
-    clause of the law on limits that does so, if one does, whether it can be tried with others, whether in copies of its
-    functions, and its steps that add functions or change imports."""
+    clause of the law on limits that does so, if one does, whether it can be tried with others, and whether in copies of
+    its functions."""
 
     kind: str
     name: str
@@ -52,7 +52,6 @@ class Change(typing.NamedTuple):
     clause: str
     is_grouped: bool
     is_copied: bool = False
-    beside: tuple = ()
 
     def meets(self, other):
         """Whether both are told of by the same goals."""
@@ -92,11 +91,10 @@ def change_of(crate, kind, name, steps):
     """The edit or control, with where a check tells of it."""
     if applied(crate.texts, steps) is None:
         sys.exit(f"edits: {crate.name}/{FOLDERS[kind]}/{name}: an old text doesn't stand in its file once")
-    steps = with_own_names(crate.texts, steps, f"{kind}_{name}")
-    (places, beside), constant = functions_of(crate.texts, steps), constant_of(crate.texts, steps)
+    (places, is_within), constant = functions_of(crate.texts, steps), constant_of(crate.texts, steps)
     if places:
-        is_copied = all(may_be_copied(crate, it) for it in places)
-        return Change(kind, name, steps, places, "", True, is_copied, beside)
+        is_copied = is_within and all(may_be_copied(crate, it) for it in places)
+        return Change(kind, name, steps, places, "", True, is_copied)
     if constant and clause_on(crate, constant):
         return Change(kind, name, steps, frozenset({LIMITS}), clause_on(crate, constant), True)
     if constant:
@@ -131,23 +129,12 @@ def grouped(changes, texts):
     return groups
 
 
-def in_copies(changes, texts):
-    """Those of the changes that can be made in copies at once, whose steps beside functions hold together."""
-    copies = []
-    for change in [it for it in changes if it.is_copied]:
-        made = applied(texts, change.beside)
-        if made:
-            copies.append(change)
-            texts = made
-    return copies
-
-
 def first_groups(changes, texts):
     """The changes in groups that can be made at once. The copies stand in the last one that isn't of limits: there are
     mostly controls, which prove."""
     changes = [it for it in changes if it.is_grouped]
-    copies = in_copies(changes, texts)
-    groups = grouped([it._replace(is_copied=False) for it in changes if it not in copies], texts)
+    groups = grouped([it for it in changes if not it.is_copied], texts)
+    copies = [it for it in changes if it.is_copied]
     of_functions = [it for it in groups if not it[0].clause]
     if copies and not of_functions:
         return [copies, *groups]
@@ -195,8 +182,7 @@ class Judge:
     def check(self, changes, what):
         """How a check with these changes judges each; None if they can't be made together, or it came to no verdict."""
         in_place = [it for it in changes if not it.is_copied]
-        steps = [step for it in changes for step in (it.beside if it.is_copied else it.steps)]
-        texts, places = applied(self.crate.texts, steps), {}
+        texts, places = applied(self.crate.texts, [step for it in in_place for step in it.steps]), {}
         if texts is None:
             return None
         for number, change in enumerate(it for it in changes if it.is_copied):

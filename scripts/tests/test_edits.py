@@ -159,15 +159,6 @@ class Edits(Folder):
         self.assertEqual(said["must-fail/side_differs"], "refused at `returns-in-Ok` of side: a type that differs")
         self.assertEqual(said["controls/side_differs"], "proved as it must be")
 
-    def test_changes_that_add_functions_are_tried_in_copies(self):
-        for kind, word in (("must-fail", "WRONG"), ("controls", "is_side")):
-            for name in ("side_is_wrong", "side_is_lost"):
-                beside = ("/// Its callers", "fn given(x: u32) -> u32 { x } /// Its callers")
-                self.edit(name, ("is_side(x, SIDE)", f"{word}(given(x))"), beside, kind=kind)
-        status, said, checks = self.tried()
-        self.assertEqual((status, len(checks), len(said)), (0, 1, 4))
-        self.assertEqual(said["must-fail/side_is_lost"], "refused at `returns` of side: a goal that doesn't follow")
-
     def test_edits_and_controls_of_one_check_are_judged_each_for_itself(self):
         # (what isn't well in a copy is tried where the function stands)
         names = {"copied": ("is_side(x, SIDE)", "side"), "placed": ("is_low(x)", "low")}
