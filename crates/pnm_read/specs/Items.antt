@@ -195,7 +195,7 @@ ends_in_digit before = not (ends_in_comment before) && ends_by is_digit before
 
 -- the awaited number's last digit is before this byte
 abbrev pub is_complete : List ℕ → ℕ → Bool
-is_complete before b = not (ends_in_comment before) && ends_by is_digit before && not (is_digit b)
+is_complete before b = ends_in_digit before && not (is_digit b)
 
 -- a byte of a number, or of the gap before it
 unfoldable pub decimal_item : List ℕ → ℕ → ScanStatus
@@ -229,8 +229,8 @@ pixel_in piece = if ends_by (λ b. b == byte "1") piece then 0 else 1
 -- a pixel: 1 is black, which is sample 0
 unfoldable pub plain_pixel : List ℕ → Result (ℕ × List ℕ) InputFault
 plain_pixel text = do
-  piece ← piece_from pixel_item (λ before. Some RasterCut) [] text
-  Ok ((if ends_by (λ b. b == byte "1") piece.0 then 0 else 1), piece.1)
+  piece ← piece_from pixel_item pixel_end [] text
+  Ok (pixel_in piece.0, piece.1)
 
 -- the end of a number
 abbrev pub sample_item : ℕ → ℕ → Result ℕ InputFault
@@ -239,8 +239,7 @@ sample_item maxval sample = if nat_le sample maxval then Ok sample else Err Samp
 -- a sample, which is a number
 unfoldable pub plain_decimal : ℕ → List ℕ → Result (ℕ × List ℕ) InputFault
 plain_decimal maxval text = do
-  piece ← piece_from decimal_item
-      (λ before. if not (ends_in_comment before) && ends_by is_digit before then None else Some RasterCut) [] text
+  piece ← piece_from decimal_item decimal_end [] text
   sample ← sample_item maxval (number_in piece.0)
   Ok (sample, piece.1)
 

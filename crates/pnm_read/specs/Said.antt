@@ -12,7 +12,6 @@ use Rattle.pnm_image.specs.declared.message.Message.TheVariants.{Begin, Row, Ima
 use Rattle.pnm_image.specs.Heads.{HeadValue, row_length}
 use Rattle.pnm_image.specs.Images.{Image, AreImages, messages_of_stream}
 use Rattle.pnm_read.specs.declared.fault.InputFault.{InputFault}
-use Rattle.pnm_read.specs.declared.fault.InputFault.TheVariants.{HeaderCut}
 use Rattle.pnm_image.specs.declared.format.Format.{Format}
 use Rattle.pnm_image.specs.declared.sample_width.SampleWidth.{SampleWidth}
 use Rattle.pnm_image.specs.declared.sample_width.SampleWidth.TheVariants.{Bits, Bytes, Words}
@@ -21,7 +20,7 @@ use Rattle.pnm_read.specs.HeaderNumbers.{number_count}
 use Rattle.pnm_image.specs.SampleWidths.{sample_width_of}
 use Rattle.pnm_read.specs.PamLines.{ended_lines}
 use Rattle.pnm_read.specs.Items.{◌>>=◌, piece_from, first_magic_item, second_magic_item, header_item}
-use Rattle.pnm_read.specs.Items.{numbers_item, line_feed_item, pam_item, lines_item, raw_item, plain_sample}
+use Rattle.pnm_read.specs.Items.{header_end, numbers_item, line_feed_item, pam_item, lines_item, raw_item, plain_sample}
 use Rattle.pnm_read.specs.Items.{after_last_item}
 
 -- so many items in turn
@@ -41,14 +40,14 @@ format_at is_first text = do
 
 unfoldable pub pnm_head_at : Kind → List ℕ → Result (HeadValue × List ℕ) InputFault
 pnm_head_at kind text = do
-  piece ← piece_from (header_item (number_count kind)) (λ before. Some HeaderCut) [] text
+  piece ← piece_from (header_item (number_count kind)) header_end [] text
   head ← numbers_item kind (numbers_in piece.0)
   Ok (head, piece.1)
 
 unfoldable pub pam_head_at : List ℕ → Result (HeadValue × List ℕ) InputFault
 pam_head_at text = do
   rest ← line_feed_item text
-  piece ← piece_from pam_item (λ before. Some HeaderCut) [] rest
+  piece ← piece_from pam_item header_end [] rest
   head ← lines_item (ended_lines piece.0)
   Ok (head, piece.1)
 
@@ -77,8 +76,7 @@ units_at s text =
 -- a raw row; spare bits of the last byte of PBM mean nothing
 unfoldable pub raw_row : Shape → List ℕ → Result (List ℕ × List ℕ) InputFault
 raw_row s text = do
-  units ← in_turn (raw_item (sample_width_of s.kind s.maxval) s.maxval)
-      (units_in_row (sample_width_of s.kind s.maxval) s) text
+  units ← units_at s text
   Ok (take (row_length s) (concat units.0), units.1)
 
 -- a plain row before the last
@@ -129,7 +127,7 @@ ends_stream = record { messages = StreamEnd ∷ []; fault = None }
 -- ignored
 unfoldable pub rows_said : (List ℕ → Said) → Format → Shape → ℕ → List ℕ → Said
 rows_said later format s zero text = then_said ImageEnd (if is_plain_form format.form then ends_stream else later text)
-rows_said later format s (suc more) text = elim (row_in_form (is_plain_form format.form) s more text) [
+rows_said later format s (suc more) text = elim (row_at format s more text) [
   | Err fault ↦ says_fault fault
   | Ok row ↦ then_said (Row row.0) (rows_said later format s more row.1)
 ]
@@ -141,7 +139,7 @@ head_said later format (Ok found) =
 
 abbrev pub format_said : (List ℕ → Said) → Result (Format × List ℕ) InputFault → Said
 format_said later (Err fault) = says_fault fault
-format_said later (Ok found) = head_said later found.0 (head_by found.0.kind found.1)
+format_said later (Ok found) = head_said later found.0 (head_at found.0 found.1)
 
 -- an image, and what comes after a raw one
 unfoldable pub image_said : (List ℕ → Said) → Bool → List ℕ → Said
