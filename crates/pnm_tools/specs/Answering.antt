@@ -9,11 +9,6 @@ use Rattle.pnm_image.specs.Places.{IsLawful, place_after}
 use Rattle.pnm_tools.specs.declared.tool.Tool.{Tool}
 use Rattle.pnm_tools.specs.Tools.{AreTaken, result_head, row_answer, end_answer}
 
--- a row, or none
-abbrev pub row_list : Option (List ℕ) → List (List ℕ)
-row_list None = []
-row_list (Some row) = row ∷ []
-
 -- the rows that answer rows of an image of this shape, from row y on
 abbrev pub rows_answer : Tool → Shape → ℕ → List (List ℕ) → List (List ℕ)
 rows_answer tool s y [] = []

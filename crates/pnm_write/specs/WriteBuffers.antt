@@ -15,9 +15,3 @@ abbrev pub FitIn : SampleWidth → List ℕ → Type 0
 FitIn Bits samples = Unit {0}
 FitIn Bytes samples = All (λ sample. sample ≤ 255) samples
 FitIn Words samples = Unit {0}
-
--- of the bytes that a buffer held the first were written, and these are left
-pub record PassesOn (old now : Option (List ℕ)) (held left : List ℕ) : Type 0 where
-  pub bytes : List ℕ
-  pub parts : held ≡ bytes ++ left
-  pub appended : Appends old now bytes
