@@ -16,7 +16,7 @@ use Rattle.pnm_chain.specs.declared.options.ToolName.{ToolName}
 use Rattle.pnm_chain.specs.declared.options.ToolOption.{ToolOption}
 use Rattle.pnm_chain.specs.Options.{option_named, wants_value, begins_with_dash}
 use Rattle.pnm_chain.specs.StageWords.{Item, Argument, Given, Unknown, without_dashes, name_in, value_in, takes_next, given_as, item_of, items_of}
-use Rattle.pnm_chain.specs.Settings.{value_read}
+use Rattle.pnm_chain.specs.Internal.Settings.{value_read}
 
 -- ---- the name and the value in an option's word
 

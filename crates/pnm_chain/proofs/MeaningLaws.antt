@@ -8,8 +8,8 @@ use Rattle.pnm_chain.specs.declared.options.ToolName.{ToolName}
 use Rattle.pnm_chain.specs.declared.settings.Settings.{Settings}
 use Rattle.pnm_chain.specs.Options.{Said, tool_rule}
 use Rattle.pnm_chain.specs.StageWords.{Item, is_conflict, is_missing, meant_by, end_fault}
-use Rattle.pnm_chain.specs.Settings.{AreSettingsOf, AreTaken, said_by}
-use Rattle.pnm_chain.specs.ChainText.{IsRefusal}
+use Rattle.pnm_chain.specs.Internal.Settings.{AreSettingsOf, AreTaken, said_by}
+use Rattle.pnm_chain.specs.Internal.ChainText.{IsRefusal}
 use Rattle.pnm_chain.proofs.ItemLaws.{end_by}
 
 module _ (tool : ToolName) (s : Settings) where

@@ -15,7 +15,7 @@ use Rattle.pnm_chain.specs.declared.chain_text.ChainFault.{ChainFault}
 use Rattle.pnm_chain.specs.declared.chain_text.ChainKind.{ChainKind}
 use Rattle.pnm_chain.specs.declared.chain_text.ChainKind.TheVariants.{Empty, TooLong, TooMany, Memory}
 use Rattle.pnm_chain.specs.ChainText.{SpellsTool, SpellTools, SpellsChain, stage_texts, stage_fault, fault_from, whole_fault, chain_fault_of}
-use Rattle.pnm_chain.specs.Settings.{AreRead}
+use Rattle.pnm_chain.specs.Internal.Settings.{AreRead}
 use Rattle.pnm_chain.proofs.ChainLaws.{no_words, from_by, fault_from-cons, chain_fault_by, chain_fault_is}
 use Rattle.pnm_chain.specs.declared.chain_text.TheConstants.{MAX_TEXT_LENGTH}
 use Rattle.pnm_tools.specs.declared.limits.TheConstants.{MAX_TOOLS}

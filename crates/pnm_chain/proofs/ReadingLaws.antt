@@ -9,7 +9,7 @@ use Rattle.pnm_chain.specs.declared.options.ToolName.{ToolName}
 use Rattle.pnm_chain.specs.declared.settings.Settings.{Settings}
 use Rattle.pnm_chain.specs.Options.{tool_named}
 use Rattle.pnm_chain.specs.StageWords.{Item, items_of, Means, meant_by, item_fault, end_fault, fault_after}
-use Rattle.pnm_chain.specs.Settings.{AreSettingsOf, IsReading}
+use Rattle.pnm_chain.specs.Internal.Settings.{AreSettingsOf, IsReading}
 use Rattle.pnm_chain.specs.ChainText.{SpellsTool, named_fault, words_fault, stage_fault}
 use Rattle.pnm_chain.proofs.ItemSteps.{items_of-nil}
 use Rattle.pnm_chain.proofs.ItemLaws.{after_by, fault_after-cons, fault_after-nil, items_mean}

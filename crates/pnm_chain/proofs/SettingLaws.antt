@@ -17,7 +17,7 @@ use Rattle.pnm_chain.specs.declared.settings.Settings.{Settings}
 use Rattle.pnm_chain.specs.Options.{Said, arguments_taken, excludes, most_arguments, offset_value, takes_argument, way_in, wants_value}
 use Rattle.pnm_chain.specs.StageWords.{Item, Argument, Given, Unknown, arguments_of, option_value, is_there, way_of, numbers_of}
 use Rattle.pnm_chain.specs.StageWords.{said_of, item_fault, value_fault}
-use Rattle.pnm_chain.specs.Settings.{AreSettingsOf, AreTaken, NowSay, argument_fault, has_option, said_by, with_number, with_option}
+use Rattle.pnm_chain.specs.Internal.Settings.{AreSettingsOf, AreTaken, NowSay, argument_fault, has_option, said_by, with_number, with_option}
 use Rattle.pnm_chain.proofs.ItemSteps.{or_none}
 use Rattle.pnm_chain.proofs.ItemLaws.{argument_by, argument_free, arguments_of-append}
 use Rattle.pnm_chain.proofs.LawfulLaws.{in_range}

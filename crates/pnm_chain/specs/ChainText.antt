@@ -57,10 +57,6 @@ words_fault (name ∷ others) = named_fault (tool_named name) others
 abbrev pub stage_fault : List ℕ → Option ChainKind
 stage_fault text = words_fault (words text)
 
--- a refusal is this fault or want of memory
-abbrev pub IsRefusal : Option ChainKind → ChainKind → Type 0
-IsRefusal fault kind = (kind ≡ Memory) ⊎ (fault ≡ Some kind)
-
 -- the first fault of stages by their texts, of which the first has this number
 unfoldable pub fault_from : ℕ → List (List ℕ) → Option ChainFault
 fault_from number [] = None

@@ -1,5 +1,5 @@
 pub mod Options
 pub mod StageWords
 pub mod ChainText
-pub mod Settings
 pub mod ChainExamples
+pub mod Internal

@@ -2,7 +2,8 @@
 
 ghost use Rattle.std.specs.Prelude.{◌≡◌, ◌⊎◌, ◌+◌, IfOk, IfErr, Some, None, length};
 ghost use Rattle.pnm_chain.specs.declared.chain_text.ChainKind.TheVariants.{Memory};
-ghost use Rattle.pnm_chain.specs.ChainText.{IsRefusal, SpellsChain, SpellsTool, chain_fault_of, stage_fault};
+ghost use Rattle.pnm_chain.specs.ChainText.{SpellsChain, SpellsTool, chain_fault_of, stage_fault};
+ghost use Rattle.pnm_chain.specs.Internal.ChainText.{IsRefusal};
 ghost use Rattle.pnm_chain.specs.ChainText.{stage_texts, whole_fault};
 ghost use Rattle.pnm_tools.specs.Chains.{IsChain};
 

@@ -4,7 +4,7 @@ ghost use Rattle.std.specs.Prelude.{◌≡◌, ◌<◌, ◌∷◌, [], IfSome, M
 ghost use Rattle.pnm_image.specs.Texts.{words};
 ghost use Rattle.pnm_chain.specs.StageWords.{items_of, name_in, value_in};
 ghost use Rattle.pnm_chain.specs.Options.{without_dash};
-ghost use Rattle.pnm_chain.specs.Settings.{item_read, value_read};
+ghost use Rattle.pnm_chain.specs.Internal.Settings.{item_read, value_read};
 
 use crate::options::{ToolName, ToolOption};
 use crate::word::split_word;

@@ -11,9 +11,10 @@ ghost use Rattle.pnm_chain.specs.declared.chain_text.ChainKind.TheVariants.{BadV
 ghost use Rattle.pnm_chain.specs.declared.options.ToolName.TheVariants.{Channel};
 ghost use Rattle.pnm_chain.specs.StageWords.{end_fault, item_fault, meant_by, value_fault};
 ghost use Rattle.pnm_chain.specs.StageWords.{Item as ItemSaid};
-ghost use Rattle.pnm_chain.specs.ChainText.{IsRefusal};
-ghost use Rattle.pnm_chain.specs.Settings.{AreSettingsOf, AreTaken, NowSay, argument_fault, has_option, item_read};
-ghost use Rattle.pnm_chain.specs.Settings.{said_by, value_read, with_number, with_option};
+ghost use Rattle.pnm_chain.specs.Internal.ChainText.{IsRefusal};
+ghost use Rattle.pnm_chain.specs.Internal.Settings.{AreSettingsOf, AreTaken, NowSay, argument_fault, has_option};
+ghost use Rattle.pnm_chain.specs.Internal.Settings.{item_read};
+ghost use Rattle.pnm_chain.specs.Internal.Settings.{said_by, value_read, with_number, with_option};
 
 use crate::chain_text::ChainKind;
 use crate::items::Item;

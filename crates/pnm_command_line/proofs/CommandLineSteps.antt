@@ -35,7 +35,8 @@ use Rattle.clap.proofs.WalkLemmas.{both, first_value-rows, one_text-rows}
 use Rattle.pnm_command_line.proofs.DefaultReads.{default_reads}
 use Rattle.pnm_lanes.specs.declared.lane.TheConstants.{MAX_LANES}
 use Rattle.pnm_stages.specs.declared.ring.TheConstants.{MAX_RING_CAPACITY}
-use Rattle.pnm_command_line.specs.CommandLine.{program, chain_rule, form_by, lanes_rule, plain_rule, value_text, number_rule, ring_rule, FitsKind, GivesChain}
+use Rattle.pnm_command_line.specs.CommandLine.{program, chain_rule, lanes_rule, plain_rule, value_text, number_rule, ring_rule, GivesChain}
+use Rattle.pnm_command_line.specs.Internal.CommandLine.{form_by, FitsKind}
 use Rattle.pnm_command_line.specs.CommandLine.{GivesForm, GivesLanes, GivesNumber, GivesRing, IsFaultOfWords}
 use Rattle.pnm_command_line.specs.declared.command_line.CommandLineFault.{CommandLineFault}
 use Rattle.pnm_command_line.specs.declared.command_line.CommandLineFault.TheVariants.{Help, Version, Usage, Memory}

@@ -1,7 +1,7 @@
 -- What the words of the command line say, as `clap` reads them.
 use Rattle.std.specs.Str.Parse.{digits_value, without_leading_plus}
-use Rattle.std.specs.Prelude.{◌≡◌, ◌≢◌, ◌⊎◌, ◌≤◌, ◌∷◌, ℕ, List, [], Option, Some, None, Bool, codes}
-use Rattle.std.specs.Prelude.{pos, true, false}
+use Rattle.std.specs.Prelude.{◌≡◌, ◌≢◌, ◌≤◌, ◌∷◌, ℕ, List, [], Option, Some, codes}
+use Rattle.std.specs.Prelude.{pos, true}
 use Rattle.pnm_image.specs.declared.format.Form.{Form}
 use Rattle.pnm_image.specs.declared.format.Form.TheVariants.{Raw, Plain}
 pub use Rattle.clap.specs.Words.{Text}
@@ -11,7 +11,7 @@ use Rattle.clap.specs.declared.builder.action.ArgAction.TheVariants.{Set, SetTru
 use Rattle.clap.specs.declared.builder.value_parser.ValueParser.{ValueParser}
 use Rattle.clap.specs.declared.builder.value_parser.ValueParser.TheVariants.{Signed}
 use Rattle.clap.specs.declared.error.kind.ErrorKind.{ErrorKind}
-use Rattle.clap.specs.declared.error.kind.ErrorKind.TheVariants.{DisplayHelp, DisplayVersion, OutOfMemory}
+use Rattle.clap.specs.declared.error.kind.ErrorKind.TheVariants.{DisplayHelp, DisplayVersion}
 use Rattle.pnm_lanes.specs.declared.lane.TheConstants.{MAX_LANES}
 use Rattle.pnm_stages.specs.declared.ring.TheConstants.{MAX_RING_CAPACITY}
 use Rattle.pnm_command_line.specs.declared.command_line.CommandLineFault.{CommandLineFault}
@@ -90,12 +90,6 @@ GivesLanes = GivesNumber (codes "lanes") MAX_LANES
 abbrev pub plain_of : List Text → Option Text
 plain_of = value_text (codes "plain")
 
--- the form that a flag asks for
-abbrev pub form_by : Option Bool → Form
-form_by None = Raw
-form_by (Some false) = Raw
-form_by (Some true) = Plain
-
 -- the words give this form: plain exactly where the flag is among them
 abbrev pub GivesForm : List Text → Form → Type 0
 GivesForm words Raw = plain_of words ≢ Some (codes "true")
@@ -113,13 +107,6 @@ AsksForVersion words = IsAmong DisplayVersion (fault_of program words)
 abbrev pub IsNoCommandLine : List Text → Type 0
 IsNoCommandLine words = (kind : ErrorKind) × (kind ≢ DisplayHelp) × (kind ≢ DisplayVersion)
     × IsAmong kind (fault_of program words)
-
--- the fault fits the kind of an error
-abbrev pub FitsKind : ErrorKind → CommandLineFault → Type 0
-FitsKind kind (Help text) = kind ≡ DisplayHelp
-FitsKind kind Version = kind ≡ DisplayVersion
-FitsKind kind Usage = (kind ≢ DisplayHelp) × (kind ≢ DisplayVersion) × (kind ≢ OutOfMemory)
-FitsKind kind Memory = (kind ≡ OutOfMemory) ⊎ (kind ≡ DisplayHelp)
 
 -- the fault fits the words
 abbrev pub IsFaultOfWords : List Text → CommandLineFault → Type 0

@@ -3,3 +3,4 @@ pub mod CommandLineExamples
 pub mod NamedRuns
 pub mod Streams
 pub mod ProgramFacts
+pub mod Internal

@@ -2,8 +2,10 @@
 
 ghost use Rattle.std.specs.Prelude.{◌≡◌, IfOk, IfErr, map, string_bytes};
 ghost use Rattle.clap.specs.Words.{app_of, kind_of, rule_of};
-ghost use Rattle.pnm_command_line.specs.CommandLine.{chain_rule, form_by, lanes_rule, named, plain_rule, program};
-ghost use Rattle.pnm_command_line.specs.CommandLine.{ring_rule, value_rule, FitsKind};
+ghost use Rattle.pnm_command_line.specs.CommandLine.{chain_rule, lanes_rule, named, plain_rule, program};
+ghost use Rattle.pnm_command_line.specs.Internal.CommandLine.{form_by};
+ghost use Rattle.pnm_command_line.specs.CommandLine.{ring_rule, value_rule};
+ghost use Rattle.pnm_command_line.specs.Internal.CommandLine.{FitsKind};
 ghost use Rattle.pnm_command_line.specs.CommandLine.{GivesChain, GivesForm, GivesLanes, GivesRing, IsFaultOfWords};
 ghost use Rattle.pnm_command_line.specs.declared.command_line.CommandLineFault.TheVariants.{Memory};
 

@@ -19,9 +19,10 @@ use Rattle.pnm_image.specs.declared.message.Ending.TheVariants.{More, BrokenOff}
 use Rattle.pnm_image.specs.Messages.{EndsBy}
 use Rattle.pnm_tools.specs.Answers.{AnswersInFull}
 use Rattle.pnm_tools.specs.Answering.{answers_from, rows_come}
-use Rattle.pnm_filters.specs.States.{StateValue, state_value, IsAt, IsReadyFor, KeepsNone, is_all_given, waiting_in}
+use Rattle.pnm_filters.specs.States.{StateValue, IsAt, IsReadyFor, KeepsNone, is_all_given, waiting_in}
+use Rattle.pnm_filters.specs.Internal.States.{state_value}
 use Rattle.pnm_tools.specs.Answering.{IsAnswering}
-use Rattle.pnm_filters.specs.Steps.{IsGiven, GivesRows}
+use Rattle.pnm_filters.specs.Internal.Steps.{IsGiven, GivesRows}
 use Rattle.pnm_tools.proofs.AtLaws.{StopsLast, lawful_stops, not_broken, answering_answers}
 use Rattle.pnm_tools.proofs.FullLaws.{answering_in_full}
 use Rattle.pnm_tools.proofs.InFullLaws.{answers_end_so}

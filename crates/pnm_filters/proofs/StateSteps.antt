@@ -14,9 +14,10 @@ use Rattle.pnm_filters.specs.Pendings.{Pending, AllGiven, Waiting, Rows, RowsAnd
 use Rattle.pnm_tools.specs.declared.tool.Tool.{Tool}
 use Rattle.pnm_tools.specs.Answers.{Begins, RefusesHead, Judges}
 use Rattle.pnm_tools.specs.Answering.{answers_at, rows_after, rows_come}
-use Rattle.pnm_filters.specs.States.{StateValue, state_value, IsAt, IsReadyFor, IsSoundState, KeepsNone, is_all_given, waiting_in}
+use Rattle.pnm_filters.specs.States.{StateValue, IsAt, IsReadyFor, KeepsNone, is_all_given, waiting_in}
+use Rattle.pnm_filters.specs.Internal.States.{state_value, IsSoundState}
 use Rattle.pnm_tools.specs.Answering.{IsAnswering}
-use Rattle.pnm_filters.specs.Steps.{IsAccepted, IsGiven, IsRefused}
+use Rattle.pnm_filters.specs.Internal.Steps.{IsAccepted, IsGiven, IsRefused}
 use Rattle.pnm_tools.proofs.AtLaws.{answering_answers}
 use Rattle.pnm_tools.proofs.AnsweringLaws.{answers_from-append, taken_more}
 use Rattle.pnm_tools.proofs.HeadFaultLaws.{head_is_refused_by_name}

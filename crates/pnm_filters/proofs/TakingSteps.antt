@@ -21,9 +21,11 @@ use Rattle.pnm_tools.proofs.AtLaws.{answering_answers}
 use Rattle.pnm_tools.proofs.ToolLaws.{tool_answers_images}
 use Rattle.pnm_filters.specs.declared.state.Phase.{Phase}
 use Rattle.pnm_filters.specs.declared.state.Phase.TheVariants.{Idle, One, Rest, RestAndEnd, Done}
-use Rattle.pnm_filters.specs.Pendings.{Pending, AllGiven, Rows, pending_of, is_idle}
-use Rattle.pnm_filters.specs.States.{StateValue, state_value, IsAt, IsReadyFor, IsSoundState, KeepsNone, is_all_given, waiting_in}
-use Rattle.pnm_filters.specs.Steps.{AreTakenRows}
+use Rattle.pnm_filters.specs.Pendings.{Pending, AllGiven, Rows}
+use Rattle.pnm_filters.specs.Internal.Pendings.{pending_of, is_idle}
+use Rattle.pnm_filters.specs.States.{StateValue, IsAt, IsReadyFor, KeepsNone, is_all_given, waiting_in}
+use Rattle.pnm_filters.specs.Internal.States.{state_value, IsSoundState}
+use Rattle.pnm_filters.specs.Internal.Steps.{AreTakenRows}
 
 -- ---- messages that follow others
 

@@ -1,4 +1,4 @@
 pub mod Pendings
 pub mod States
-pub mod Steps
 pub mod RowStates
+pub mod Internal

@@ -1,5 +1,5 @@
 -- The state of a tool at work: what it has accepted and given.
-use Rattle.std.specs.Prelude.{◌≡◌, ℕ, Bool, true, false, List, [], ◌∷◌, ◌++◌, map, length, Option, Some, None}
+use Rattle.std.specs.Prelude.{◌≡◌, ℕ, Bool, true, false, List, [], ◌∷◌, ◌++◌, map, length, Option, None}
 use Rattle.pnm_image.specs.declared.shape.Shape.{Shape}
 use Rattle.pnm_image.specs.declared.message.Message.{Message}
 use Rattle.pnm_image.specs.declared.message.Message.TheVariants.{Row, ImageEnd}
@@ -96,9 +96,6 @@ pub record StateValue (W : Type 0) : Type 0 where
   pub pending : Pending
   pub fault : Option ToolFault
 
-abbrev pub state_value : {W : Type 0} → W → Place → Pending → Option ToolFault → StateValue W
-state_value work place pending fault = record { work = work; place = place; pending = pending; fault = fault }
-
 -- inside an image it is ready for the next row, where these have come
 abbrev pub IsReadyFor : {W : Type 0} → (W → Shape → List (List ℕ) → Type 0) → W → Place → List (List ℕ) → Type 0
 IsReadyFor ready work Between rows = Unit {0}
@@ -122,14 +119,6 @@ KeepsNone kept work After (Waiting message) = kept work ≡ []
 KeepsNone kept work After Rows = ⊥
 KeepsNone kept work After RowsAndEnd = ⊥
 KeepsNone kept work After Nothing = kept work ≡ []
-
--- a state is sound: it keeps no rows after a fault
-abbrev pub IsSoundState : {W : Type 0} → (W → Shape → List (List ℕ) → Type 0) → (W → List (List ℕ)) → W → Place
-    → Pending
-    → Option ToolFault → Type 0
-IsSoundState ready kept work place pending None = ((rows : List (List ℕ)) × IsReadyFor ready work place rows)
-    × KeepsNone kept work place pending
-IsSoundState ready kept work place pending (Some fault) = kept work ≡ []
 
 -- the messages that are still to be given, of a tool that still gives these rows
 abbrev pub waiting_in : Pending → List (List ℕ) → List Message

@@ -4,10 +4,11 @@ ghost use Rattle.std.specs.Prelude.{ℕ, ◌≡◌, ◌≤◌, Option, Some, Non
 ghost use Rattle.pnm_image.specs.Places.{LeadsTo};
 ghost use Rattle.pnm_image.specs.Rows.{row_messages};
 ghost use Rattle.pnm_tools.specs.declared.fault.ToolFault.TheVariants.{Memory};
-ghost use Rattle.pnm_filters.specs.Pendings.{AllGiven, pending_of, after_one, is_idle};
+ghost use Rattle.pnm_filters.specs.Pendings.{AllGiven};
+ghost use Rattle.pnm_filters.specs.Internal.Pendings.{pending_of, after_one, is_idle};
 ghost use Rattle.pnm_filters.specs.States.{waiting_in, is_all_given, IsReadyFor};
 ghost use Rattle.pnm_tools.specs.Tools.{IsLawfulTool};
-ghost use Rattle.pnm_filters.specs.Steps.{Answered, AreTakenRows, Gave};
+ghost use Rattle.pnm_filters.specs.Internal.Steps.{Answered, AreTakenRows, Gave};
 
 use pnm_image::{Message, Packet, Place, Rows};
 use pnm_tools::{Filter, ImageTool, ToolFault};
@@ -42,8 +43,9 @@ pub struct State<T: ImageTool> {
 }
 
 impl<T: ImageTool> Model for State<T> {
-    ghost use Rattle.pnm_filters.specs.Pendings.{pending_of};
-    ghost use Rattle.pnm_filters.specs.States.{StateValue, state_value, IsSoundState};
+    ghost use Rattle.pnm_filters.specs.Internal.Pendings.{pending_of};
+    ghost use Rattle.pnm_filters.specs.States.{StateValue};
+    ghost use Rattle.pnm_filters.specs.Internal.States.{state_value, IsSoundState};
     ghost use Rattle.pnm_tools.specs.Tools.{IsLawfulTool};
 
     ghost Value = { StateValue T };

@@ -27,8 +27,9 @@ use Rattle.pnm_stages.specs.declared.stage.StageEnd.TheVariants.{Well, PeerGone}
 use Rattle.pnm_stages.specs.Prefixes.{IsPrefixOfDue}
 use Rattle.pnm_stages.specs.Rings.{IsEnded}
 use Rattle.pnm_flow.specs.Links.{IsWhole, IsDrained}
-use Rattle.pnm_flow.specs.ChainRuns.{IsStageOver, HasRunTool, FirstIsThere, AreStages, HasAnsweredStream, HasRunStages, HasRunChain, HasRunBetween}
-use Rattle.pnm_flow.specs.ChainRuns.{IsReserved, IsToolRun}
+use Rattle.pnm_flow.specs.ChainRuns.{IsStageOver, FirstIsThere, AreStages, HasAnsweredStream, HasRunChain}
+use Rattle.pnm_flow.specs.Internal.ChainRuns.{HasRunTool, HasRunStages, HasRunBetween}
+use Rattle.pnm_flow.specs.Internal.ChainRuns.{IsReserved, IsToolRun}
 use Rattle.pnm_flow.specs.SentMessages.{HasEndedOver}
 use Rattle.pnm_stages.proofs.EndingLaws.{nothing_follows}
 use Rattle.pnm_stages.proofs.PrefixLaws.{prefix_without_stop}

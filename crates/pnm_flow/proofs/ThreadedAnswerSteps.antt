@@ -14,7 +14,8 @@ use Rattle.pnm_stages.specs.declared.stage.StageEnd.TheVariants.{Well, Broken, F
 use Rattle.pnm_serial.specs.declared.summary.Summary.{Summary}
 use Rattle.pnm_serial.specs.Jobs.{Job}
 use Rattle.pnm_serial.specs.Runs.{Change, change, HasRun}
-use Rattle.pnm_flow.specs.ThreadedRuns.{fault_of_end, first_fault_from, answer_over}
+use Rattle.pnm_flow.specs.ThreadedRuns.{fault_of_end, first_fault_from}
+use Rattle.pnm_flow.specs.Internal.ThreadedRuns.{answer_over}
 use Rattle.pnm_serial.proofs.EndSteps.{ended_has_run, unread_has_run as serial_unread}
 use Rattle.pnm_flow.proofs.ThreadedRunSteps.{Over, gone_has_run, ended_over, well_stages, refused_stages}
 

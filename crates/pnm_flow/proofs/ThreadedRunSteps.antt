@@ -37,7 +37,7 @@ use Rattle.pnm_io_loop.specs.Ingresses.{HasAskedAll, HasAskedBy, closing_message
 use Rattle.pnm_serial.specs.Feeding.{IsSaidOf, HasMore, MayFollowRead}
 use Rattle.pnm_serial.specs.Jobs.{Job}
 use Rattle.pnm_serial.specs.Runs.{Change, change, MayFollow, HasRun}
-use Rattle.pnm_serial.specs.SerialRuns.{answer_by}
+use Rattle.pnm_serial.specs.Internal.SerialRuns.{answer_by}
 use Rattle.pnm_stages.specs.Prefixes.{IsPrefixOfDue}
 use Rattle.pnm_flow.specs.ThreadedRuns.{first_fault_from}
 use Rattle.pnm_flow.proofs.ToolOverLaws.{stage_ended, received_ended}

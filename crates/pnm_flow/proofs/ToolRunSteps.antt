@@ -17,7 +17,8 @@ use Rattle.pnm_stages.specs.Rings.{sent, received, known_items, SameSender}
 use Rattle.pnm_stages.specs.Stages.{HasRunStage}
 use Rattle.pnm_stages.proofs.RingSteps.{same_output}
 use Rattle.pnm_lanes.specs.LaneRuns.{AreLanesRun, HaveDealtAndGathered, HaveRun, IsLaneRun}
-use Rattle.pnm_flow.specs.ChainRuns.{RunsInLanes, IsPlan, IsToolRun, IsLanesRun}
+use Rattle.pnm_flow.specs.ChainRuns.{RunsInLanes}
+use Rattle.pnm_flow.specs.Internal.ChainRuns.{IsPlan, IsToolRun, IsLanesRun}
 
 -- what threads, and what was done beside them, came back with
 pub came_so : {B : Type 0} (P : B → Type 0) (result : Option B) (b : B) → IfSome result P → result ≡ Some b → P b

@@ -6,7 +6,7 @@ use Rattle.pnm_tools.specs.Chains.{AreLawfulTools}
 use Rattle.pnm_filters.specs.States.{StateValue}
 use Rattle.pnm_tools.specs.Tools.{IsLawfulTool}
 use Rattle.pnm_tools.specs.declared.fused_filter.FusedFilter.{FusedFilter}
-use Rattle.pnm_flow.specs.SerialTools.{ToolsAt, AreFresh}
+use Rattle.pnm_flow.specs.Internal.SerialTools.{ToolsAt, AreFresh}
 use Rattle.pnm_filters.specs.States.{ToolAt}
 
 -- one tool more

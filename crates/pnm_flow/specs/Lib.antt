@@ -2,4 +2,4 @@ pub mod Links
 pub mod ChainRuns
 pub mod ThreadedRuns
 pub mod SentMessages
-pub mod SerialTools
+pub mod Internal

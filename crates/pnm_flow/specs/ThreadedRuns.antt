@@ -1,13 +1,10 @@
 -- What a run over threads answers, by how its tools and its caller have ended.
-use Rattle.std.specs.Prelude.{ℕ, ◌+◌, Bool, true, false, List, [], ◌∷◌, Option, Some, None, Result, Ok, Err}
-use Rattle.pnm_read.specs.declared.fault.InputFault.{InputFault}
-use Rattle.pnm_write.specs.declared.fault.SinkFault.{SinkFault}
+use Rattle.std.specs.Prelude.{ℕ, ◌+◌, List, [], ◌∷◌, Option, Some, None}
 use Rattle.pnm_serial.specs.declared.fault.RunFault.{RunFault}
-use Rattle.pnm_serial.specs.declared.fault.RunFault.TheVariants.{Input, Tool as OfTool, Output}
+use Rattle.pnm_serial.specs.declared.fault.RunFault.TheVariants.{Tool as OfTool}
 use Rattle.pnm_serial.specs.declared.fault.RunFault.TheVariants.{PeerGone as Gone}
 use Rattle.pnm_stages.specs.declared.stage.StageEnd.{StageEnd}
 use Rattle.pnm_stages.specs.declared.stage.StageEnd.TheVariants.{Well, Broken, Fault, PeerGone}
-use Rattle.pnm_serial.specs.declared.summary.Summary.{Summary}
 
 -- what the end of the stage of this number is answered by
 abbrev pub fault_of_end : ℕ → StageEnd → Option RunFault
@@ -23,14 +20,3 @@ first_fault_from number (end ∷ ends) = elim (fault_of_end number end) [
   | Some fault ↦ Some fault
   | None ↦ first_fault_from (number + 1) ends
 ]
-
--- The fault of the input comes first, then that the ring before the first tool lost its other end, then the first fault
--- of the tools, then that the ring behind the last one lost its other end, then the output's.
-abbrev pub answer_over : Option (Result (Unit {0}) InputFault) → Option RunFault → Bool → ℕ → Result Summary SinkFault
-    → Result Summary RunFault
-answer_over None found has_ended behind output = Err (Gone 0)
-answer_over (Some (Err fault)) found has_ended behind output = Err (Input fault)
-answer_over (Some (Ok _)) (Some fault) has_ended behind output = Err fault
-answer_over (Some (Ok _)) None false behind output = Err (Gone behind)
-answer_over (Some (Ok _)) None true behind (Err fault) = Err (Output fault)
-answer_over (Some (Ok _)) None true behind (Ok summary) = Ok summary

@@ -9,7 +9,8 @@ ghost use Rattle.pnm_stages.specs.Rings.{sent, received, IsPair, SameSender, Sam
 ghost use Rattle.pnm_stages.specs.Starts.{IsUntouched};
 ghost use Rattle.pnm_lanes.specs.LaneLimits.{IsLaneCount};
 ghost use Rattle.pnm_flow.specs.Links.{IsWhole};
-ghost use Rattle.pnm_flow.specs.ChainRuns.{HasRunBetween, HasRunChain, IsReserved};
+ghost use Rattle.pnm_flow.specs.ChainRuns.{HasRunChain};
+ghost use Rattle.pnm_flow.specs.Internal.ChainRuns.{HasRunBetween, IsReserved};
 
 use crate::tool_run::{Plan, run_tool};
 use pnm_stages::{

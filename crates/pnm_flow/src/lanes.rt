@@ -9,7 +9,7 @@ ghost use Rattle.pnm_stages.specs.Rings.{sent, received, known_items, SameSender
 ghost use Rattle.pnm_stages.specs.Starts.{IsUntouched};
 ghost use Rattle.pnm_lanes.specs.LaneLimits.{IsLaneCount};
 ghost use Rattle.pnm_lanes.specs.LaneRuns.{HasRunLanes, HaveRun, IsLaneRun, AreAround};
-ghost use Rattle.pnm_lanes.specs.LaneRings.{AreLaneRings};
+ghost use Rattle.pnm_lanes.specs.Internal.LaneRings.{AreLaneRings};
 
 use pnm_filters::row_filter_of;
 use pnm_lanes::{LaneRingEnds, LaneRings, LanesDone, OuterRingEnds, deal_and_gather, merged};

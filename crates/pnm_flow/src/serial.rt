@@ -7,7 +7,7 @@ ghost use Rattle.pnm_serial.specs.Jobs.{job_of};
 ghost use Rattle.pnm_serial.specs.Runs.{change};
 ghost use Rattle.pnm_serial.specs.SerialRuns.{HasRunInOneThread};
 ghost use Rattle.pnm_serial.specs.declared.fault.RunFault.TheVariants.{Tool as OfTool};
-ghost use Rattle.pnm_flow.specs.SerialTools.{AreFresh};
+ghost use Rattle.pnm_flow.specs.Internal.SerialTools.{AreFresh};
 
 use pnm_filters::{ToolState, filter_of};
 use pnm_image::{BytesIn, BytesOut, Form};

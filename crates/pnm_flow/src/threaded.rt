@@ -19,7 +19,8 @@ ghost use Rattle.pnm_serial.specs.Jobs.{Job};
 ghost use Rattle.pnm_serial.specs.Runs.{change, HasRun};
 ghost use Rattle.pnm_io_loop.specs.IoLoop.{HaveStepped};
 ghost use Rattle.pnm_flow.specs.ChainRuns.{HasRunChain};
-ghost use Rattle.pnm_flow.specs.ThreadedRuns.{answer_over, fault_of_end, first_fault_from};
+ghost use Rattle.pnm_flow.specs.ThreadedRuns.{fault_of_end, first_fault_from};
+ghost use Rattle.pnm_flow.specs.Internal.ThreadedRuns.{answer_over};
 
 use crate::chain::{ChainDone, run_chain_beside};
 use pnm_image::{BytesIn, BytesOut, Form};

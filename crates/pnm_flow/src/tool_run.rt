@@ -5,8 +5,9 @@ ghost use Rattle.std.specs.Thread.{IsSync};
 ghost use Rattle.pnm_tools.specs.Tools.{IsLawfulTool, is_row_wise};
 ghost use Rattle.pnm_stages.specs.RingLimits.{IsRingCapacity};
 ghost use Rattle.pnm_lanes.specs.LaneLimits.{IsLaneCount};
-ghost use Rattle.pnm_lanes.specs.LaneRings.{AreLaneRings};
-ghost use Rattle.pnm_flow.specs.ChainRuns.{RunsInLanes, IsToolRun, IsLanesRun, IsPlan};
+ghost use Rattle.pnm_lanes.specs.Internal.LaneRings.{AreLaneRings};
+ghost use Rattle.pnm_flow.specs.ChainRuns.{RunsInLanes};
+ghost use Rattle.pnm_flow.specs.Internal.ChainRuns.{IsToolRun, IsLanesRun, IsPlan};
 
 use crate::lanes::run_lanes_beside;
 use crate::stage::Stage;

@@ -66,10 +66,6 @@ sending_is_over false (Some result) = true
 abbrev pub ingress_is_over : {R : Type 0} → Ingress R → Bool
 ingress_is_over f = sending_is_over f.is_gone f.input
 
--- a message more was sent, or how the source has ended is noted
-abbrev pub HasGoneOn : {R : Type 0} → Ingress R → Ingress R → Type 0
-HasGoneOn old new = (length (sent old.output) < length (sent new.output)) ⊎ (new.input ≡ None → ⊥)
-
 -- a message more was sent, or it is over now
 abbrev pub HasSentMore : {R : Type 0} → Ingress R → Ingress R → Type 0
 HasSentMore old new = (length (sent old.output) < length (sent new.output))

@@ -1,3 +1,4 @@
 pub mod Ingresses
 pub mod Egresses
 pub mod IoLoop
+pub mod Internal

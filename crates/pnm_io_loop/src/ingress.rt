@@ -34,7 +34,8 @@ pub struct Ingress<R> {
 }
 
 impl<R: BytesIn + Drop> Ingress<R> {
-    ghost use Rattle.pnm_io_loop.specs.Ingresses.{IsIngress, HasGoneOn, HasSentMore, ingress_is_over};
+    ghost use Rattle.pnm_io_loop.specs.Ingresses.{IsIngress, HasSentMore, ingress_is_over};
+    ghost use Rattle.pnm_io_loop.specs.Internal.Ingresses.{HasGoneOn};
 
     /// An ingress that has sent nothing yet, and sends at most `most_rows` rows together. Of short packets it sends a
     /// few before it wakes the first tool (`wake_receiver`).

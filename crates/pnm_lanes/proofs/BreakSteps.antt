@@ -27,7 +27,7 @@ use Rattle.pnm_stages.specs.Rings.{IsEnded, EndsAtMostOnce, HasDrainedAfter}
 use Rattle.pnm_stages.proofs.EndingLaws.{prefix_goes_on}
 use Rattle.pnm_stages.proofs.RingSteps.{ends_nothing, same_output}
 use Rattle.pnm_lanes.specs.Deals.{AtEach, HasReceivedSo, HasSentSo, HasLane, HasDealt}
-use Rattle.pnm_lanes.specs.DealParts.{part_at, IsSentPart, HasBrokenOffDealing, HasDealtAll, IsReason, HasLeftOff, HasDealtMessages}
+use Rattle.pnm_lanes.specs.Internal.DealParts.{part_at, IsSentPart, HasBrokenOffDealing, HasDealtAll, IsReason, HasLeftOff, HasDealtMessages}
 use Rattle.pnm_lanes.proofs.EachLaws.{each-map, each-then}
 use Rattle.pnm_lanes.proofs.MessageSteps.{all_then, dealt_then}
 use Rattle.pnm_lanes.proofs.DealSteps.{HasAll, IsDealing, packet_ends_so, parts_of, HasPrefix, all_is_prefix, part_is_prefix, IsAccepted, all_accepted}

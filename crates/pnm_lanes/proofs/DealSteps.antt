@@ -26,7 +26,7 @@ use Rattle.pnm_stages.proofs.PacketLaws.{ends_with_packet}
 use Rattle.pnm_stages.proofs.RingSteps.{ends_nothing, same_output}
 use Rattle.pnm_stages.proofs.PrefixLaws.{stop_is_cut}
 use Rattle.pnm_lanes.specs.Deals.{AtEach, HasSentSo, IsPrefixOfDealt, HasLane, HasDealt}
-use Rattle.pnm_lanes.specs.DealParts.{part_at, IsSameEnd, IsSentPart, HasSentParts, IsSentAll, HasDealtAll, HasDealtMessages}
+use Rattle.pnm_lanes.specs.Internal.DealParts.{part_at, IsSameEnd, IsSentPart, HasSentParts, IsSentAll, HasDealtAll, HasDealtMessages}
 use Rattle.pnm_lanes.proofs.EachLaws.{each-map, each-then, each-count}
 use Rattle.pnm_lanes.proofs.DealtLaws.{dealt_more, dealt_goes_on, dealt_part_goes_on, itself_prefix, before_stop_prefix}
 use Rattle.pnm_lanes.proofs.MessageSteps.{none_dealt, dealt_then}

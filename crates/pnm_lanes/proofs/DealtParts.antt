@@ -17,7 +17,7 @@ use Rattle.pnm_tools.proofs.DealingLaws.{dealt_head_is_head}
 use Rattle.pnm_tools.proofs.InFullLaws.{EndNothing}
 use Rattle.pnm_stages.proofs.RingSteps.{ends_nothing}
 use Rattle.pnm_lanes.specs.Gathers.{BeginsOrEnds}
-use Rattle.pnm_lanes.specs.GatherParts.{IsOfStream}
+use Rattle.pnm_lanes.specs.Internal.GatherParts.{IsOfStream}
 use Rattle.pnm_lanes.proofs.PartLaws.{begins_so}
 use Rattle.pnm_lanes.proofs.TakenParts.{message_of_stream}
 

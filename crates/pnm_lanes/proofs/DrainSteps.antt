@@ -19,7 +19,7 @@ use Rattle.std.specs.List.{AllByRecursion}
 use Rattle.pnm_image.specs.declared.packet.Packet.{Packet}
 use Rattle.pnm_image.specs.Packets.{messages_in, ending_of_packet}
 use Rattle.pnm_stages.proofs.PacketLaws.{ends_with_packet}
-use Rattle.pnm_lanes.specs.GatherParts.{state_at, state_by, HasDrainedOne, IsLane, CarriesOn}
+use Rattle.pnm_lanes.specs.Internal.GatherParts.{state_at, state_by, HasDrainedOne, IsLane, CarriesOn}
 use Rattle.pnm_lanes.proofs.DealtParts.{all_of_both}
 use Rattle.pnm_lanes.proofs.LaneLists.{at_lane-get, at_lane-set, at_lane-others, same_inputs, as_many}
 use Rattle.pnm_lanes.proofs.TakenParts.{by_lane}

@@ -23,9 +23,10 @@ use Rattle.pnm_stages.specs.declared.stage.StageEnd.{StageEnd}
 use Rattle.pnm_stages.specs.declared.stage.StageEnd.TheVariants.{Well, Broken, Fault, PeerGone}
 use Rattle.pnm_lanes.specs.declared.lane.LaneState.{LaneState}
 use Rattle.pnm_lanes.specs.declared.lane.LaneState.TheVariants.{Open}
-use Rattle.pnm_lanes.specs.GatherParts.{IsOfStream, LaneHasGiven, HasTakenFrom, state_at, AreOpen, AwaitsNoRow, HasTakenParts, HasTakenWhole, HasTakenNone}
-use Rattle.pnm_lanes.specs.GatherParts.{HasTakenNext, BeginsNone, IsAgreed, IsNotAgreed, AreDealtHeights, AreAlike, height_in}
-use Rattle.pnm_lanes.specs.GatherParts.{HasTakenLike, HasTakenAlike}
+use Rattle.pnm_lanes.specs.Internal.GatherParts.{IsOfStream, LaneHasGiven, HasTakenFrom, state_at, AreOpen, AwaitsNoRow, HasTakenParts, HasTakenWhole}
+use Rattle.pnm_lanes.specs.Internal.GatherParts.{HasTakenNone}
+use Rattle.pnm_lanes.specs.Internal.GatherParts.{HasTakenNext, BeginsNone, IsAgreed, IsNotAgreed, AreDealtHeights, AreAlike, height_in}
+use Rattle.pnm_lanes.specs.Internal.GatherParts.{HasTakenLike, HasTakenAlike}
 use Rattle.pnm_lanes.proofs.PartLaws.{begins_so, no_prefix, same_begin}
 use Rattle.pnm_lanes.proofs.TakenParts.{one_more_of, more_here, more_there, one_of_stream, message_of_stream, state_stays, none_taken, taken_more, taken_same}
 use Rattle.pnm_lanes.proofs.TakenParts.{taken_none}

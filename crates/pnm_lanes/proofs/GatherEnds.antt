@@ -28,8 +28,9 @@ use Rattle.pnm_lanes.specs.declared.lane.LaneState.TheVariants.{Open, Ended, Gon
 use Rattle.pnm_stages.specs.declared.receiver.Receiver.{Receiver}
 use Rattle.pnm_tools.specs.declared.fault.ToolFault.TheVariants.{OutOfOrder}
 use Rattle.pnm_lanes.specs.Gathers.{AreDealt, BeginsOrEnds, HasSentAll, HasPassedSo, HasGatheredSo, HasGathered, have_received_rows, HasGatheredOrRefused}
-use Rattle.pnm_lanes.specs.GatherParts.{IsOfStream, state_at, HasTakenWhole, HasTakenNone, BeginsNone, IsCause, IsLane, AreLanes, CarriesOn, IsDone, HasStopped}
-use Rattle.pnm_lanes.specs.GatherParts.{HasBrokenOffAll, HasDrainedAll, HasGatheredBy}
+use Rattle.pnm_lanes.specs.Internal.GatherParts.{IsOfStream, state_at, HasTakenWhole, HasTakenNone, BeginsNone, IsCause, IsLane, AreLanes, CarriesOn, IsDone}
+use Rattle.pnm_lanes.specs.Internal.GatherParts.{HasStopped}
+use Rattle.pnm_lanes.specs.Internal.GatherParts.{HasBrokenOffAll, HasDrainedAll, HasGatheredBy}
 use Rattle.pnm_lanes.proofs.PartLaws.{dealt_from-append, prefix_cancel, parts_tell_the_whole}
 use Rattle.pnm_lanes.proofs.DealtParts.{all_of_both, all_of_rest, all_messages, stream_keeps_all, lawful_rest, dealt_of_stream, dealt_goes_on, dealt_end}
 use Rattle.pnm_lanes.proofs.DealtParts.{images_of_stream, gets_part, prefixes_in_order, last_stays, not_before_stop}

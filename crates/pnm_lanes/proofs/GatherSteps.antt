@@ -15,7 +15,7 @@ use Rattle.pnm_tools.specs.Dealing.{dealt, dealt_message}
 use Rattle.pnm_stages.proofs.RingSteps.{ends_as}
 use Rattle.pnm_lanes.specs.declared.lane.LaneState.{LaneState}
 use Rattle.pnm_lanes.specs.declared.lane.LaneState.TheVariants.{Open, Ended, Gone}
-use Rattle.pnm_lanes.specs.GatherParts.{IsOfStream, state_at, IsLeftBy, HasTakenParts, HasTakenWhole, IsLane, AreLanes}
+use Rattle.pnm_lanes.specs.Internal.GatherParts.{IsOfStream, state_at, IsLeftBy, HasTakenParts, HasTakenWhole, IsLane, AreLanes}
 use Rattle.pnm_lanes.proofs.PartLaws.{dealt_from-append}
 use Rattle.pnm_lanes.proofs.DealtParts.{all_of_both, all_messages, dealt_of_stream, dealt_goes_on}
 use Rattle.pnm_lanes.proofs.DrainSteps.{ends_then, ended_then}

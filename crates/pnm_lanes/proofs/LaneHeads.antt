@@ -19,7 +19,7 @@ use Rattle.pnm_tools.specs.Formulas.{image_by}
 use Rattle.pnm_tools.specs.Tools.{IsLawfulTool, is_row_wise, result_head, result_sample, AreTaken}
 use Rattle.pnm_tools.proofs.AnsweringLaws.{taken_rest}
 use Rattle.pnm_tools.proofs.RowWiseLaws.{row_wise_tools_commute}
-use Rattle.pnm_lanes.specs.LaneLaws.{dealt_head_result}
+use Rattle.pnm_lanes.specs.Internal.LaneLaws.{dealt_head_result}
 
 -- ---- one head
 

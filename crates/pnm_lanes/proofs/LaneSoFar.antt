@@ -16,7 +16,8 @@ use Rattle.pnm_tools.specs.Dealing.{dealt_image, dealt_message, dealt_from, deal
 use Rattle.pnm_tools.specs.Tools.{IsLawfulTool, is_row_wise, result_head, applied}
 use Rattle.pnm_tools.proofs.ResultLaws.{result_is_image}
 use Rattle.pnm_tools.proofs.RowWiseLaws.{row_wise_tools_commute}
-use Rattle.pnm_lanes.specs.LaneLaws.{dealt_head_result, dealt_images}
+use Rattle.pnm_lanes.specs.LaneLaws.{dealt_images}
+use Rattle.pnm_lanes.specs.Internal.LaneLaws.{dealt_head_result}
 use Rattle.pnm_lanes.proofs.LaneLaws.{image_is_dealt}
 use Rattle.pnm_lanes.proofs.LaneHeads.{head_is_dealt}
 

@@ -18,7 +18,7 @@ use Rattle.pnm_stages.specs.declared.stage.StageEnd.{StageEnd}
 use Rattle.pnm_stages.specs.declared.stage.StageEnd.TheVariants.{Fault}
 use Rattle.pnm_stages.proofs.RingSteps.{same_output, itself_output}
 use Rattle.pnm_lanes.specs.Deals.{AtEach}
-use Rattle.pnm_lanes.specs.DealParts.{part_at, IsSentPart, HasSentParts, IsSentAll, HasDealtAll, IsReason, HasLeftOff, HasDealtMessages}
+use Rattle.pnm_lanes.specs.Internal.DealParts.{part_at, IsSentPart, HasSentParts, IsSentAll, HasDealtAll, IsReason, HasLeftOff, HasDealtMessages}
 use Rattle.pnm_lanes.proofs.EachLaws.{each-map, each-itself, each-then, each-count}
 use Rattle.pnm_lanes.proofs.DealtLaws.{dealt_from-append}
 

@@ -14,7 +14,7 @@ use Rattle.pnm_image.specs.Places.{Accepts, IsLawfulFrom, place_after, place_of}
 use Rattle.pnm_image.specs.Completion.{IsPrefixOf}
 use Rattle.pnm_image.proofs.Lists.{same_first}
 use Rattle.pnm_tools.specs.Dealing.{dealt_height, dealt_row, dealt_head, dealt_message, dealt_from}
-use Rattle.pnm_lanes.specs.GatherParts.{IsOfStream}
+use Rattle.pnm_lanes.specs.Internal.GatherParts.{IsOfStream}
 use Rattle.pnm_lanes.proofs.HeightSums.{same_height}
 
 -- what a lane gets of two lists, one after the other

@@ -13,7 +13,7 @@ use Rattle.pnm_tools.specs.Dealing.{dealt_from}
 use Rattle.pnm_stages.specs.declared.stage.StageEnd.{StageEnd}
 use Rattle.pnm_stages.specs.declared.stage.StageEnd.TheVariants.{Fault}
 use Rattle.pnm_lanes.specs.declared.lane.LaneState.{LaneState}
-use Rattle.pnm_lanes.specs.GatherParts.{IsOfStream, LaneHasGiven, HasTakenFrom, AreOpen, HasTakenNone}
+use Rattle.pnm_lanes.specs.Internal.GatherParts.{IsOfStream, LaneHasGiven, HasTakenFrom, AreOpen, HasTakenNone}
 use Rattle.pnm_lanes.proofs.PartLaws.{begins_so, no_prefix, own_message}
 use Rattle.pnm_lanes.proofs.TakenParts.{one_more_of, more_here, one_of_stream, message_of_stream, none_taken, taken_more, taken_none}
 

@@ -12,7 +12,7 @@ use Rattle.pnm_stages.specs.declared.stage.StageEnd.{StageEnd}
 use Rattle.pnm_stages.specs.declared.stage.StageEnd.TheVariants.{Fault, PeerGone}
 use Rattle.pnm_stages.proofs.RingSteps.{same_output, itself_output}
 use Rattle.pnm_lanes.specs.Deals.{AtEach}
-use Rattle.pnm_lanes.specs.DealParts.{row_part, IsSameEnd, IsSentPart, HasSentParts}
+use Rattle.pnm_lanes.specs.Internal.DealParts.{row_part, IsSameEnd, IsSentPart, HasSentParts}
 use Rattle.pnm_lanes.proofs.EachLaws.{each-map, each-itself, each-then, each-count, each-below, each-set}
 
 -- ---- one lane after another

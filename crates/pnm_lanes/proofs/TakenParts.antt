@@ -15,7 +15,7 @@ use Rattle.pnm_stages.specs.declared.stage.StageEnd.{StageEnd}
 use Rattle.pnm_stages.specs.declared.stage.StageEnd.TheVariants.{Well, Broken, Fault, PeerGone}
 use Rattle.pnm_lanes.specs.declared.lane.LaneState.{LaneState}
 use Rattle.pnm_lanes.specs.declared.lane.LaneState.TheVariants.{Open, Ended}
-use Rattle.pnm_lanes.specs.GatherParts.{IsOfStream, LaneHasGiven, HasTakenFrom, states_after, state_at, AreOpen, IsLeftBy, HasTakenParts, HasTakenNone}
+use Rattle.pnm_lanes.specs.Internal.GatherParts.{IsOfStream, LaneHasGiven, HasTakenFrom, states_after, state_at, AreOpen, IsLeftBy, HasTakenParts, HasTakenNone}
 
 -- ---- one message more of one lane
 

@@ -9,7 +9,7 @@ use Rattle.pnm_image.specs.declared.message.Ending.{Ending}
 use Rattle.pnm_image.specs.declared.message.Ending.TheVariants.{More, Whole, BrokenOff}
 use Rattle.pnm_lanes.specs.declared.lane.LaneState.{LaneState}
 use Rattle.pnm_lanes.specs.Gathers.{at_lane}
-use Rattle.pnm_lanes.specs.GatherParts.{IsOfStream, LaneHasGiven, states_after}
+use Rattle.pnm_lanes.specs.Internal.GatherParts.{IsOfStream, LaneHasGiven, states_after}
 use Rattle.pnm_lanes.proofs.LaneLists.{at_lane-get, at_lane-set, at_lane-others}
 
 -- the lane has given a message

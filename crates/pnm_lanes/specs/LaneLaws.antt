@@ -1,5 +1,5 @@
 -- What lanes make of images together: streams, results and what is due, dealt and gathered again.
-use Rattle.std.specs.Prelude.{◌≡◌, ◌<◌, ℕ, Bool, true, List, [], ◌∷◌, ◌++◌, Result, Ok, Err}
+use Rattle.std.specs.Prelude.{◌≡◌, ◌<◌, ℕ, Bool, true, List, [], ◌∷◌, ◌++◌, Ok, Err}
 use Rattle.pnm_image.specs.Images.{Image, AreImages, messages_of_stream}
 use Rattle.std.specs.List.{AllByRecursion}
 use Rattle.pnm_image.specs.declared.message.Message.{Message}
@@ -13,7 +13,7 @@ use Rattle.pnm_image.specs.Completion.{IsPrefixOf}
 use Rattle.pnm_tools.specs.declared.tool.Tool.{Tool}
 use Rattle.pnm_image.specs.declared.message.Ending.TheVariants.{Whole}
 use Rattle.pnm_tools.specs.Answers.{AreResults, images_ended, begun_of, due_so_far}
-use Rattle.pnm_tools.specs.Dealing.{dealt_head, dealt_image, dealt}
+use Rattle.pnm_tools.specs.Dealing.{dealt_image, dealt}
 use Rattle.pnm_tools.specs.Tools.{IsLawfulTool, is_row_wise, result_head, AreTaken, applied, output_due}
 
 -- the images that a lane sees
@@ -28,11 +28,6 @@ results_before tool (i ∷ is) = elim (applied tool i) [
   | Ok j ↦ j ∷ results_before tool is
   | Err fault ↦ []
 ]
-
--- what a lane sees of the head of a result, or the same refusal
-abbrev pub dealt_head_result : ℕ → ℕ → Result HeadValue ToolFault → Result HeadValue ToolFault
-dealt_head_result lane lanes (Ok head) = Ok (dealt_head lane lanes head)
-dealt_head_result lane lanes (Err fault) = Err fault
 
 -- the messages of a stream, dealt, are those of the images that the lane sees
 abbrev pub StreamsAreDealt : Type 0

@@ -1,13 +1,11 @@
 -- The rings of a tool over several lanes: one to each lane, of which the thread before the lanes has the end to send
 -- on, and one from it, of which the thread behind them has the end to receive on.
-use Rattle.std.specs.Prelude.{◌≡◌, ◌≤◌, List, [], ◌∷◌, length, vec_capacity}
+use Rattle.std.specs.Prelude.{◌≡◌, List, [], ◌∷◌}
 use Rattle.pnm_stages.specs.declared.sender.Sender.{Sender}
 use Rattle.pnm_stages.specs.declared.receiver.Receiver.{Receiver}
 use Rattle.pnm_stages.specs.Rings.{sent, received, IsPair}
 use Rattle.pnm_stages.specs.declared.stage.StageDone.{StageDone}
 use Rattle.pnm_lanes.specs.declared.lane_rings.LaneRingEnds.{LaneRingEnds}
-use Rattle.pnm_lanes.specs.declared.lane_rings.LaneRings.{LaneRings}
-use Rattle.pnm_lanes.specs.LaneLimits.{IsLaneCount}
 
 -- rings to and from each lane, over which nothing has passed
 abbrev pub AreUnused : List Sender → List LaneRingEnds → List Receiver → Type 0
@@ -28,9 +26,3 @@ ArePairs [] (d ∷ ds) rs = ⊥
 ArePairs (s ∷ ss) [] rs = ⊥
 ArePairs (s ∷ ss) (d ∷ ds) [] = ⊥
 ArePairs (s ∷ ss) (d ∷ ds) (r ∷ rs) = IsPair s d.input × IsPair d.output r × ArePairs ss ds rs
-
--- unused rings of 1 to 8 lanes, and room for what comes back of these
-abbrev pub AreLaneRings : LaneRings → Type 0
-AreLaneRings rings =
-    AreUnused rings.outputs.items rings.lanes.items rings.inputs.items × IsLaneCount (length rings.lanes.items)
-    × ((rings.reserved.items ≡ []) × (length rings.lanes.items ≤ vec_capacity rings.reserved))

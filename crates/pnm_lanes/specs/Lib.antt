@@ -1,9 +1,8 @@
 pub mod LaneLimits
 pub mod Deals
-pub mod DealParts
 pub mod Gathers
-pub mod GatherParts
 pub mod LaneLaws
 pub mod Lanes
 pub mod LaneRings
 pub mod LaneRuns
+pub mod Internal

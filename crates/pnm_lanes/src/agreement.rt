@@ -3,7 +3,7 @@
 ghost use Rattle.std.specs.Prelude.{◌≡◌, ◌↔◌, ℕ, ◌≤◌, ◌<◌, length, IsTrue, IfSome, IfNone, sum};
 ghost use Rattle.pnm_tools.specs.Dealing.{dealt_height};
 ghost use Rattle.pnm_image.specs.Heads.{with_height};
-ghost use Rattle.pnm_lanes.specs.GatherParts.{height_in, AreAlike, IsAgreed, IsNotAgreed, AreDealtHeights};
+ghost use Rattle.pnm_lanes.specs.Internal.GatherParts.{height_in, AreAlike, IsAgreed, IsNotAgreed, AreDealtHeights};
 
 use crate::dealing::dealt_height;
 use crate::lane::MAX_LANES;

@@ -12,8 +12,8 @@ ghost use Rattle.pnm_tools.specs.Dealing.{dealt_height};
 ghost use Rattle.pnm_stages.specs.declared.stage.StageEnd.TheVariants.{Fault};
 ghost use Rattle.pnm_lanes.specs.LaneLimits.{IsLaneCount};
 ghost use Rattle.pnm_lanes.specs.Deals.{AtEach, HasDealt};
-ghost use Rattle.pnm_lanes.specs.DealParts.{IsRow, IsSameEnd, part_at, row_part, lane_part, HasSentParts};
-ghost use Rattle.pnm_lanes.specs.DealParts.{HasDealtMessages, HasBrokenOffDealing};
+ghost use Rattle.pnm_lanes.specs.Internal.DealParts.{IsRow, IsSameEnd, part_at, row_part, lane_part, HasSentParts};
+ghost use Rattle.pnm_lanes.specs.Internal.DealParts.{HasDealtMessages, HasBrokenOffDealing};
 ghost use Rattle.pnm_lanes.specs.declared.lane.TheConstants.{MAX_LANES};
 
 use pnm_image::{Ending, Head, Message, Packet, Place, RepeatedRows, Rows, Samples, Several};

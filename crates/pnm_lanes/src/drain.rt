@@ -4,7 +4,7 @@ ghost use Rattle.std.specs.Prelude.{◌≡◌, ◌<◌, ◌≤◌, length, IfSom
 ghost use Rattle.pnm_stages.specs.Rings.{received, known_items, SameReceiver};
 ghost use Rattle.pnm_image.specs.Packets.{ending_of_packet};
 ghost use Rattle.pnm_lanes.specs.Gathers.{at_lane, AreSameInputs};
-ghost use Rattle.pnm_lanes.specs.GatherParts.{HasDrainedOne, CarriesOn, HasDrainedAll, AreDone, state_by};
+ghost use Rattle.pnm_lanes.specs.Internal.GatherParts.{HasDrainedOne, CarriesOn, HasDrainedAll, AreDone, state_by};
 
 use crate::lane::LaneState;
 use pnm_image::{Ending, Packet};

@@ -5,7 +5,7 @@ ghost use Rattle.pnm_stages.specs.Rings.{sent, received, known_items, SameSender
 ghost use Rattle.pnm_lanes.specs.LaneLimits.{IsLaneCount};
 ghost use Rattle.pnm_lanes.specs.Gathers.{at_lane, AreSameInputs, HasGathered, HasGatheredOrRefused};
 ghost use Rattle.pnm_lanes.specs.Gathers.{have_received_rows};
-ghost use Rattle.pnm_lanes.specs.GatherParts.{HasBrokenOffAll, HasGatheredBy};
+ghost use Rattle.pnm_lanes.specs.Internal.GatherParts.{HasBrokenOffAll, HasGatheredBy};
 
 use crate::drain::drain_all;
 use crate::lane::{LaneState, MAX_LANES};

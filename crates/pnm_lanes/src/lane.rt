@@ -3,7 +3,7 @@
 ghost use Rattle.std.specs.Prelude.{◌<◌, ◌≤◌, length};
 ghost use Rattle.pnm_stages.specs.Rings.{received};
 ghost use Rattle.pnm_lanes.specs.Gathers.{at_lane, AreSameInputs};
-ghost use Rattle.pnm_lanes.specs.GatherParts.{HasTakenFrom};
+ghost use Rattle.pnm_lanes.specs.Internal.GatherParts.{HasTakenFrom};
 
 use pnm_image::{Ending, Message};
 use pnm_stages::{Receiver, StageEnd};

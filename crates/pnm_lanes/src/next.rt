@@ -3,7 +3,7 @@
 ghost use Rattle.std.specs.Prelude.{◌<◌, ◌≤◌, length};
 ghost use Rattle.pnm_stages.specs.Rings.{received};
 ghost use Rattle.pnm_lanes.specs.Gathers.{at_lane, AreSameInputs};
-ghost use Rattle.pnm_lanes.specs.GatherParts.{AreOpen, AwaitsNoRow, HasTakenAlike, HasTakenNext};
+ghost use Rattle.pnm_lanes.specs.Internal.GatherParts.{AreOpen, AwaitsNoRow, HasTakenAlike, HasTakenNext};
 
 use crate::agreement::{agreed, are_alike, height_of};
 use crate::lane::{LaneState, MAX_LANES, receive_from};

@@ -21,9 +21,11 @@ use Rattle.pnm_read.specs.declared.source.State.TheVariants.{Awaits, Ended}
 use Rattle.pnm_read.specs.Said.{Said, text_said, later_said, format_at, head_at, format_said, head_said, image_said, rows_said, then_said, after_messages}
 use Rattle.pnm_read.specs.Said.{in_turn, raw_row}
 use Rattle.pnm_read.proofs.EndSaid.{end_said}
-use Rattle.pnm_read.specs.BufferedReaders.{ReadCall, Fills, Finds, HoldsEnough, held_of}
-use Rattle.pnm_read.specs.Awaiting.{Gives, GivesAtStart, SeesText, awaited_after, due_at}
-use Rattle.pnm_read.specs.RasterRows.{FindsRows}
+use Rattle.pnm_read.specs.BufferedReaders.{held_of}
+use Rattle.pnm_read.specs.Internal.BufferedReaders.{ReadCall, Fills, Finds, HoldsEnough}
+use Rattle.pnm_read.specs.Awaiting.{due_at}
+use Rattle.pnm_read.specs.Internal.Awaiting.{Gives, GivesAtStart, SeesText, awaited_after}
+use Rattle.pnm_read.specs.Internal.RasterRows.{FindsRows}
 use Rattle.pnm_read.proofs.GivenLaws.{after-append}
 use Rattle.pnm_read.proofs.ReadCalls.{no_fault, call_ok_so, call_err_so, call_seen, nothing_left, some_left}
 use Rattle.pnm_read.proofs.RowsTogether.{rows_are_said}

@@ -9,9 +9,9 @@ use Rattle.pnm_read.specs.declared.decimal.DecimalScanner.{DecimalScanner}
 use Rattle.pnm_read.specs.HeaderTexts.{is_line_end, commented, ends_in_comment, ends_by, uncommented_from, number_in}
 use Rattle.pnm_image.specs.Texts.{is_digit}
 use Rattle.pnm_read.specs.Items.{decimal_item}
-use Rattle.pnm_read.specs.Scans.{JudgesByte}
-use Rattle.pnm_read.specs.Saturation.{saturate_u32, with_digit}
-use Rattle.pnm_read.specs.Scanners.{IsDecimalAfter, IsDecimalWhole, JudgesDecimal, PushesDecimal, is_numeral_byte}
+use Rattle.pnm_read.specs.Internal.Scans.{JudgesByte}
+use Rattle.pnm_read.specs.Internal.Saturation.{saturate_u32, with_digit}
+use Rattle.pnm_read.specs.Internal.Scanners.{IsDecimalAfter, IsDecimalWhole, JudgesDecimal, PushesDecimal, is_numeral_byte}
 use Rattle.pnm_read.proofs.CommentLaws.{commented_after-push}
 use Rattle.pnm_read.proofs.PieceLaws.{number_in-digit, number_in-other, ends_in_digit-push, DecimalTold, decimal_told}
 use Rattle.pnm_read.proofs.WordLaws.{digit_is_not_sharp}

@@ -1,7 +1,8 @@
 -- Where no byte is held after a fill, the input has ended.
 use Rattle.std.proofs.Common.{◌≡◌, ℕ, true, inl, inr, List, [], ◌∷◌, length, None, slice_get, sym, ap, arith}
 use Rattle.pnm_read.specs.declared.buffered_reader.BufferedReader.{BufferedReader}
-use Rattle.pnm_read.specs.BufferedReaders.{held_of, HoldsEnough}
+use Rattle.pnm_read.specs.BufferedReaders.{held_of}
+use Rattle.pnm_read.specs.Internal.BufferedReaders.{HoldsEnough}
 
 -- there is no first byte
 pub none_held : (bytes held : List ℕ) → bytes ≡ held → None ≡ slice_get bytes 0 → held ≡ []

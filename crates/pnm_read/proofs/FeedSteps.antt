@@ -7,7 +7,7 @@ use Rattle.pnm_read.specs.declared.fault.InputFault.TheVariants.{Memory}
 use Rattle.pnm_read.specs.declared.scan_status.ScanStatus.{ScanStatus}
 use Rattle.pnm_read.specs.declared.scan_status.ScanStatus.TheVariants.{GoesOn, EndsWith, EndsBefore, Fails}
 use Rattle.pnm_read.specs.Items.{piece_from}
-use Rattle.pnm_read.specs.Scans.{TakesJudged, JudgesByte, FeedsAfter}
+use Rattle.pnm_read.specs.Internal.Scans.{TakesJudged, JudgesByte, FeedsAfter}
 use Rattle.pnm_read.proofs.PieceLaws.{piece_step}
 
 -- so many bytes were taken, and the piece goes on

@@ -12,12 +12,12 @@ use Rattle.pnm_read.specs.declared.line.Field.{Field}
 use Rattle.pnm_read.specs.declared.line.Field.TheVariants.{Width, Height, Depth, Maxval}
 use Rattle.pnm_read.specs.declared.line.LineKind.TheVariants.{Nothing, Number, TupleType, End}
 use Rattle.pnm_image.specs.Texts.{is_digit, decimal_value}
-use Rattle.pnm_read.specs.Saturation.{saturate_u32}
+use Rattle.pnm_read.specs.Internal.Saturation.{saturate_u32}
 use Rattle.pnm_read.specs.PamLines.{second_token, value_of, line_kind, field_values, tuple_type_in}
-use Rattle.pnm_read.specs.LineWalks.{after_first, joined_with}
+use Rattle.pnm_read.specs.Internal.LineWalks.{after_first, joined_with}
 use Rattle.pnm_read.specs.Items.{line_item, number_item, is_type_too_long, tuple_type_item}
-use Rattle.pnm_read.specs.PamScanners.{number_of, held_number, IsFields, TakesLine, JudgesLine, field_number, with_number, SetsNumber, IsWithTupleType}
-use Rattle.pnm_read.specs.PamScanners.{SetsTupleType, AddsTupleType}
+use Rattle.pnm_read.specs.Internal.PamScanners.{number_of, held_number, IsFields, TakesLine, JudgesLine, field_number, with_number, SetsNumber, IsWithTupleType}
+use Rattle.pnm_read.specs.Internal.PamScanners.{SetsTupleType, AddsTupleType}
 use Rattle.pnm_read.proofs.LineKinds.{is_number, is_type, values_same, values_first, type_same, type_joined}
 use Rattle.pnm_read.proofs.PamLineLaws.{line_is_judged}
 use Rattle.pnm_read.proofs.WalkLaws.{second_token_is, tuple_type_in-nil}

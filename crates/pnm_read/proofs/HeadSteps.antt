@@ -16,10 +16,11 @@ use Rattle.pnm_read.specs.HeaderTexts.{numbers_in}
 use Rattle.pnm_read.specs.HeaderNumbers.{number_count, planes, maxval_of, shape_of}
 use Rattle.pnm_read.specs.Items.{◌>>=◌, piece_from, header_item, header_end, fault_of_head, numbers_item}
 use Rattle.pnm_read.specs.Said.{pnm_head_at}
-use Rattle.pnm_read.specs.BufferedReaders.{IsOutsideFault, Finds}
-use Rattle.pnm_read.specs.Scans.{ScansAfter, Scans}
-use Rattle.pnm_read.specs.Saturation.{saturate_u32, IsNumbers, GivesInMemory}
-use Rattle.pnm_read.specs.Scanners.{IsHeaderFresh, IsHeaderAfter, IsHeaderWhole}
+use Rattle.pnm_read.specs.BufferedReaders.{IsOutsideFault}
+use Rattle.pnm_read.specs.Internal.BufferedReaders.{Finds}
+use Rattle.pnm_read.specs.Internal.Scans.{ScansAfter, Scans}
+use Rattle.pnm_read.specs.Internal.Saturation.{saturate_u32, IsNumbers, GivesInMemory}
+use Rattle.pnm_read.specs.Internal.Scanners.{IsHeaderFresh, IsHeaderAfter, IsHeaderWhole}
 use Rattle.pnm_read.proofs.WordLaws.{numbers-white}
 use Rattle.pnm_read.proofs.HeaderLaws.{body_is_read, so_far_none, some_numbers, ended}
 use Rattle.pnm_read.proofs.HeaderSteps.{header_fresh}

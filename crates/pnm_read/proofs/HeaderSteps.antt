@@ -13,9 +13,9 @@ use Rattle.pnm_read.specs.declared.header.HeaderScanner.{HeaderScanner}
 use Rattle.pnm_read.specs.HeaderTexts.{is_apart, commented, ends_in_comment, ends_by, uncommented_from, numbers_in}
 use Rattle.pnm_image.specs.Texts.{is_white, is_digit, words}
 use Rattle.pnm_read.specs.Items.{header_limit, is_bad_in_header, is_delimiter, header_item}
-use Rattle.pnm_read.specs.Scans.{JudgesByte}
-use Rattle.pnm_read.specs.Saturation.{saturate_u32, with_digit}
-use Rattle.pnm_read.specs.Scanners.{IsHeaderFresh, IsHeaderAfter, IsHeaderWhole, JudgesHeader, PushesHeader, is_numeral_byte, numbers_with_digit}
+use Rattle.pnm_read.specs.Internal.Scans.{JudgesByte}
+use Rattle.pnm_read.specs.Internal.Saturation.{saturate_u32, with_digit}
+use Rattle.pnm_read.specs.Internal.Scanners.{IsHeaderFresh, IsHeaderAfter, IsHeaderWhole, JudgesHeader, PushesHeader, is_numeral_byte, numbers_with_digit}
 use Rattle.pnm_read.proofs.CommentLaws.{commented_after-push}
 use Rattle.pnm_read.proofs.WordLaws.{uncommented-comment, numbers-white, numbers-comment, numbers-first, numbers-next, ends_in_word-white, ends_in_word-comment}
 use Rattle.pnm_read.proofs.WordLaws.{ends_in_word-digit, white_is_not_digit, white_is_not_sharp, digit_is_not_sharp}

@@ -15,11 +15,11 @@ use Rattle.pnm_read.specs.HeaderNumbers.{number_count}
 use Rattle.pnm_read.specs.PamLines.{ended_lines}
 use Rattle.pnm_read.specs.Items.{piece_from, header_item, header_end, numbers_item, pam_item, line_feed_item, lines_item}
 use Rattle.pnm_read.specs.Said.{pnm_head_at, pam_head_at}
-use Rattle.pnm_read.specs.Scans.{FeedsAfter, Feeds}
-use Rattle.pnm_read.specs.Saturation.{GivesInMemory}
-use Rattle.pnm_read.specs.Scanners.{IsHeaderFresh, IsHeaderAfter, IsHeaderWhole}
-use Rattle.pnm_read.specs.PamScanners.{IsPamAfter, IsPamWhole}
-use Rattle.pnm_read.specs.ImageSizes.{FindsIn}
+use Rattle.pnm_read.specs.Internal.Scans.{FeedsAfter, Feeds}
+use Rattle.pnm_read.specs.Internal.Saturation.{GivesInMemory}
+use Rattle.pnm_read.specs.Internal.Scanners.{IsHeaderFresh, IsHeaderAfter, IsHeaderWhole}
+use Rattle.pnm_read.specs.Internal.PamScanners.{IsPamAfter, IsPamWhole}
+use Rattle.pnm_read.specs.Internal.ImageSizes.{FindsIn}
 use Rattle.pnm_read.proofs.HeaderLaws.{some_numbers}
 use Rattle.pnm_read.proofs.HeaderSteps.{header_fresh}
 use Rattle.pnm_read.proofs.HeadSteps.{head_after, head_at_is, head_with, few_numbers, numbers_found, HeadOf}

@@ -11,7 +11,7 @@ use Rattle.pnm_image.specs.Heads.{HeadValue, head_value, shape_fault}
 use Rattle.pnm_read.specs.declared.fault.InputFault.{InputFault}
 use Rattle.pnm_read.specs.declared.fault.InputFault.TheVariants.{ReadFailed, Memory}
 use Rattle.pnm_read.specs.Items.{fault_of_head}
-use Rattle.pnm_read.specs.Saturation.{saturate_u32, GivesInMemory}
+use Rattle.pnm_read.specs.Internal.Saturation.{saturate_u32, GivesInMemory}
 use Rattle.pnm_read.proofs.ShapeLaws.{head_or_fault, limits_of}
 use Rattle.pnm_image.specs.declared.limits.TheConstants.{MAX_DEPTH, MAX_MAXVAL, MAX_ROW_LENGTH, MAX_SIDE}
 

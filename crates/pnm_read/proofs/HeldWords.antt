@@ -16,7 +16,7 @@ use Rattle.pnm_read.specs.declared.raster.Raster.{Raster}
 use Rattle.pnm_read.specs.Items.{◌>>=◌}
 use Rattle.pnm_read.specs.Rasters.{wide_samples}
 use Rattle.pnm_read.specs.Said.{in_turn, units_in_row, raw_row}
-use Rattle.pnm_read.specs.RasterRows.{AreHeldWide, TakesRows}
+use Rattle.pnm_read.specs.Internal.RasterRows.{AreHeldWide, TakesRows}
 use Rattle.pnm_read.proofs.UnitLaws.{items_of, words_are_units}
 use Rattle.pnm_read.proofs.RawSteps.{units_as}
 use Rattle.pnm_read.proofs.RowsTogether.{row_done, row_before, no_rows}

@@ -16,7 +16,7 @@ use Rattle.pnm_read.specs.HeaderTexts.{is_apart, begins_apart, ends_in_comment, 
 use Rattle.pnm_read.specs.Rasters.{IsGap, SpellsDecimal}
 use Rattle.pnm_read.specs.Items.{◌>>=◌, plain_pixel, plain_decimal, plain_sample}
 use Rattle.pnm_read.specs.Said.{in_turn}
-use Rattle.pnm_read.specs.Leading.{IsNumberFirst, IsSampleFirst, TakesSamples}
+use Rattle.pnm_read.specs.Internal.Leading.{IsNumberFirst, IsSampleFirst, TakesSamples}
 use Rattle.pnm_read.proofs.SampleLaws.{spelled_piece_is_read}
 use Rattle.pnm_read.proofs.UnitLaws.{items_of, and_items, in_turn-add}
 use Rattle.pnm_read.proofs.PartLaws.{one_is_read}

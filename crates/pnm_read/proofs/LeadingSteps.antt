@@ -5,8 +5,9 @@ use Rattle.pnm_image.specs.declared.shape.Shape.{Shape}
 use Rattle.pnm_read.specs.declared.fault.InputFault.TheVariants.{ReadFailed, Memory}
 use Rattle.pnm_read.specs.declared.buffered_reader.BufferedReader.{BufferedReader}
 use Rattle.pnm_read.specs.Said.{in_turn, plain_row}
-use Rattle.pnm_read.specs.BufferedReaders.{ReadCall, FindsWords, held_of}
-use Rattle.pnm_read.specs.Leading.{TakesSamples}
+use Rattle.pnm_read.specs.BufferedReaders.{held_of}
+use Rattle.pnm_read.specs.Internal.BufferedReaders.{ReadCall, FindsWords}
+use Rattle.pnm_read.specs.Internal.Leading.{TakesSamples}
 use Rattle.pnm_read.proofs.UnitLaws.{and_items}
 use Rattle.pnm_read.proofs.PartLaws.{part_is_read}
 use Rattle.pnm_read.proofs.ReadCalls.{no_fault, call_ok_so, call_advance}

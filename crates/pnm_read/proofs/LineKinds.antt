@@ -8,7 +8,7 @@ use Rattle.pnm_read.specs.declared.line.LineKind.{LineKind}
 use Rattle.pnm_read.specs.declared.line.LineKind.TheVariants.{Nothing, Number, TupleType, End, Unknown}
 use Rattle.pnm_image.specs.Texts.{decimal_value}
 use Rattle.pnm_read.specs.PamLines.{first_token, second_token, value_of, name_of, kind_of_token, line_kind, field_values}
-use Rattle.pnm_read.specs.LineWalks.{begins_with, joined_with}
+use Rattle.pnm_read.specs.Internal.LineWalks.{begins_with, joined_with}
 use Rattle.pnm_read.specs.PamLines.{tuple_type_in}
 use Rattle.pnm_read.proofs.LineLaws.{joined_with-nothing, field_values-append, tuple_type_in-append}
 use Rattle.pnm_read.proofs.WalkLaws.{tuple_type_in-cons, tuple_type_in-nil}

@@ -7,7 +7,7 @@ use Rattle.std.proofs.lemmas.List.Elements.{All-push}
 use Rattle.pnm_read.specs.declared.line.Field.{Field}
 use Rattle.pnm_image.specs.Texts.{decimal_value}
 use Rattle.pnm_read.specs.PamLines.{ended_lines, last_line, second_token, value_of, name_of, field_values, tuple_type_in}
-use Rattle.pnm_read.specs.LineWalks.{ended_after, last_after, begins_with, joined_with}
+use Rattle.pnm_read.specs.Internal.LineWalks.{ended_after, last_after, begins_with, joined_with}
 use Rattle.pnm_read.specs.Headers.{IsOneLine}
 use Rattle.pnm_read.proofs.WalkLaws.{ended_lines_are, last_line_is, tuple_type_in-cons, tuple_type_in-nil}
 

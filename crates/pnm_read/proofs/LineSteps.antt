@@ -7,13 +7,13 @@ use Rattle.std.proofs.lemmas.List.Folds.{list_all_more, list_all_at}
 use Rattle.std.proofs.lemmas.List.{take_more, drop_more, take_all, drop_all}
 use Rattle.pnm_image.specs.Texts.{is_blank, is_digit, decimal_value}
 use Rattle.pnm_image.proofs.Lists.{first_and_rest}
-use Rattle.pnm_read.specs.Saturation.{saturate_u32, with_digit}
-use Rattle.pnm_read.specs.PamScanners.{number_of}
+use Rattle.pnm_read.specs.Internal.Saturation.{saturate_u32, with_digit}
+use Rattle.pnm_read.specs.Internal.PamScanners.{number_of}
 use Rattle.pnm_read.proofs.DecimalSteps.{with_digit-saturate_u32}
 use Rattle.pnm_read.proofs.WordLaws.{digit_value_is}
 use Rattle.pnm_read.proofs.TupleTypeLaws.{trimmed_start-same, trimmed_end-same}
 use Rattle.pnm_read.specs.PamLines.{first_token}
-use Rattle.pnm_read.specs.LineWalks.{trimmed_start, trimmed_end, onto_trimmed, token_of, after_token}
+use Rattle.pnm_read.specs.Internal.LineWalks.{trimmed_start, trimmed_end, onto_trimmed, token_of, after_token}
 use Rattle.pnm_read.proofs.WalkLaws.{first_token_is}
 
 -- ---- white space at the ends of a text

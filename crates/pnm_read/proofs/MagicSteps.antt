@@ -6,10 +6,10 @@ use Rattle.pnm_read.specs.declared.fault.InputFault.{InputFault}
 use Rattle.pnm_read.specs.declared.fault.InputFault.TheVariants.{EmptyInput, BadMagic, HeaderCut, PlainInStream, ReadFailed}
 use Rattle.pnm_image.specs.declared.format.Format.{Format}
 use Rattle.pnm_image.specs.Formats.{format_of, is_plain_form}
-use Rattle.pnm_read.specs.Magics.{format_allowed, format_named}
+use Rattle.pnm_read.specs.Internal.Magics.{format_allowed, format_named}
 use Rattle.pnm_read.specs.Items.{first_magic_item, second_magic_item}
 use Rattle.pnm_read.specs.Said.{format_at}
-use Rattle.pnm_read.specs.BufferedReaders.{IsByte, Finds}
+use Rattle.pnm_read.specs.Internal.BufferedReaders.{IsByte, Finds}
 
 -- a byte that was read
 pub byte_is : (found : Option ℕ) (byte : ℕ) (before after : List ℕ) → found ≡ Some byte → IsByte (Ok found) before after → before ≡ byte ∷ after

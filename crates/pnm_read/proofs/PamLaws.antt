@@ -16,7 +16,7 @@ use Rattle.pnm_read.specs.declared.line.Field.TheVariants.{Width, Height, Depth,
 use Rattle.pnm_read.specs.declared.line.LineKind.TheVariants.{End}
 use Rattle.pnm_image.specs.Formats.{format_of}
 use Rattle.pnm_read.specs.PamLines.{ended_lines, last_line, line_kind, field_values, tuple_type_in}
-use Rattle.pnm_read.specs.LineWalks.{ended_after, last_after}
+use Rattle.pnm_read.specs.Internal.LineWalks.{ended_after, last_after}
 use Rattle.pnm_read.specs.Headers.{IsOneLine, IsPamLine, SpellsPamHeader}
 use Rattle.pnm_read.specs.declared.header.TheConstants.{MAX_HEADER_LENGTH}
 use Rattle.pnm_read.specs.Items.{◌>>=◌, piece_from, header_end, line_feed_item, pam_limit, line_item, pam_item, lines_item}

@@ -18,7 +18,7 @@ use Rattle.pnm_image.specs.declared.limits.TheConstants.{MAX_TUPLE_TYPE_LENGTH}
 use Rattle.pnm_image.specs.Texts.{is_digit, decimal_value}
 use Rattle.pnm_image.proofs.Lists.{each-middle, each-push}
 use Rattle.pnm_read.specs.PamLines.{first_token, second_token, value_of, name_of, kind_of_token, line_kind, field_values}
-use Rattle.pnm_read.specs.LineWalks.{begins_with, joined_with}
+use Rattle.pnm_read.specs.Internal.LineWalks.{begins_with, joined_with}
 use Rattle.pnm_read.specs.PamLines.{tuple_type_in}
 use Rattle.pnm_read.specs.Headers.{MaySay}
 use Rattle.pnm_read.specs.Items.{number_item, is_type_too_long, tuple_type_item, line_item}

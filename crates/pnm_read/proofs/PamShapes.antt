@@ -13,8 +13,8 @@ use Rattle.pnm_read.specs.declared.fields.Fields.{Fields}
 use Rattle.pnm_read.specs.declared.line.Field.TheVariants.{Width, Height, Depth, Maxval}
 use Rattle.pnm_read.specs.PamLines.{field_values, tuple_type_in}
 use Rattle.pnm_read.specs.Items.{fault_of_head, shape_in, lines_item}
-use Rattle.pnm_read.specs.Saturation.{GivesInMemory}
-use Rattle.pnm_read.specs.PamScanners.{held_number, IsFields, shape_held}
+use Rattle.pnm_read.specs.Internal.Saturation.{GivesInMemory}
+use Rattle.pnm_read.specs.Internal.PamScanners.{held_number, IsFields, shape_held}
 use Rattle.pnm_read.proofs.FieldSteps.{some_values}
 use Rattle.pnm_read.proofs.HeldShapes.{saturated_shape, head_item, head_given, head_item_of_text}
 

@@ -14,10 +14,10 @@ use Rattle.pnm_read.specs.declared.pam.PamScanner.{PamScanner}
 use Rattle.pnm_read.specs.PamLines.{ended_lines, last_line}
 use Rattle.pnm_read.specs.Items.{◌>>=◌, piece_from, pam_limit, line_item, pam_item, header_end, line_feed_item, lines_item}
 use Rattle.pnm_read.specs.Said.{pam_head_at}
-use Rattle.pnm_read.specs.BufferedReaders.{Finds, Passes}
-use Rattle.pnm_read.specs.Scans.{TakesJudged, JudgesByte, Scans}
-use Rattle.pnm_read.specs.Saturation.{GivesInMemory}
-use Rattle.pnm_read.specs.PamScanners.{IsFields, TakesLine, JudgesLine, IsPamAfter, IsPamWhole}
+use Rattle.pnm_read.specs.Internal.BufferedReaders.{Finds, Passes}
+use Rattle.pnm_read.specs.Internal.Scans.{TakesJudged, JudgesByte, Scans}
+use Rattle.pnm_read.specs.Internal.Saturation.{GivesInMemory}
+use Rattle.pnm_read.specs.Internal.PamScanners.{IsFields, TakesLine, JudgesLine, IsPamAfter, IsPamWhole}
 use Rattle.pnm_read.proofs.LineLaws.{ended_lines-lf, last_line-lf, ended_lines-other, last_line-other, ended_lines-are}
 use Rattle.pnm_read.proofs.TupleTypeLaws.{tuple_type_in-is}
 use Rattle.pnm_read.proofs.PamShapes.{lines_of_text}

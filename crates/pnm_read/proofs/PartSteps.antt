@@ -13,9 +13,10 @@ use Rattle.pnm_read.specs.declared.fault.InputFault.TheVariants.{ReadFailed, Ras
 use Rattle.pnm_read.specs.declared.buffered_reader.BufferedReader.{BufferedReader}
 use Rattle.pnm_read.specs.Items.{raw_item}
 use Rattle.pnm_read.specs.Said.{in_turn}
-use Rattle.pnm_read.specs.BufferedReaders.{ReadCall, Fills, Reads, held_of, HoldsEnough}
-use Rattle.pnm_read.specs.RawParts.{AppendsWide, FindsPart}
-use Rattle.pnm_read.specs.Units.{samples_of_bytes, AreBytesWithin}
+use Rattle.pnm_read.specs.BufferedReaders.{held_of}
+use Rattle.pnm_read.specs.Internal.BufferedReaders.{ReadCall, Fills, Reads, HoldsEnough}
+use Rattle.pnm_read.specs.Internal.RawParts.{AppendsWide, FindsPart}
+use Rattle.pnm_read.specs.Internal.Units.{samples_of_bytes, AreBytesWithin}
 use Rattle.pnm_read.proofs.UnitLaws.{unit_bytes, bytes_are_units, bytes_are_at_fault, words_are_units, words_are_at_fault}
 use Rattle.pnm_read.proofs.RawSteps.{cut_at_first}
 use Rattle.pnm_read.proofs.ReadCalls.{no_fault, IsLeft, call_ok_so, call_seen, call_advance}

@@ -8,8 +8,8 @@ use Rattle.pnm_read.specs.declared.scan_status.ScanStatus.TheVariants.{GoesOn, E
 use Rattle.pnm_read.specs.declared.pixel.PixelScanner.{PixelScanner}
 use Rattle.pnm_read.specs.HeaderTexts.{commented}
 use Rattle.pnm_read.specs.Items.{pixel_item, is_pixel}
-use Rattle.pnm_read.specs.Scans.{JudgesByte}
-use Rattle.pnm_read.specs.Scanners.{IsPixelAfter, IsPixelWhole, JudgesPixel}
+use Rattle.pnm_read.specs.Internal.Scans.{JudgesByte}
+use Rattle.pnm_read.specs.Internal.Scanners.{IsPixelAfter, IsPixelWhole, JudgesPixel}
 use Rattle.pnm_read.proofs.CommentLaws.{commented_after-push, ends_by-push}
 use Rattle.pnm_read.proofs.PieceLaws.{PixelTold, pixel_told}
 

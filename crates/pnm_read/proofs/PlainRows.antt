@@ -22,10 +22,11 @@ use Rattle.pnm_read.specs.declared.fault.InputFault.TheVariants.{ReadFailed, Mem
 use Rattle.pnm_read.specs.declared.buffered_reader.BufferedReader.{BufferedReader}
 use Rattle.pnm_read.specs.declared.raster.Raster.{Raster}
 use Rattle.pnm_read.specs.Items.{◌>>=◌}
-use Rattle.pnm_read.specs.Leading.{TakesSamples}
-use Rattle.pnm_read.specs.RasterRows.{FindsRows, TakesPlain, greatest_in}
+use Rattle.pnm_read.specs.Internal.Leading.{TakesSamples}
+use Rattle.pnm_read.specs.Internal.RasterRows.{FindsRows, TakesPlain, greatest_in}
 use Rattle.pnm_read.specs.Said.{after_messages, in_turn, later_said, plain_row, row_in_form, rows_said}
-use Rattle.pnm_read.specs.BufferedReaders.{ReadCall, Finds, held_of}
+use Rattle.pnm_read.specs.BufferedReaders.{held_of}
+use Rattle.pnm_read.specs.Internal.BufferedReaders.{ReadCall, Finds}
 use Rattle.pnm_read.proofs.PieceLaws.{bind_ok, done, ok_is}
 use Rattle.pnm_read.proofs.PlainLaws.{plain_row_is_read, read_row, read_samples_are_spelled, row_at_plain}
 use Rattle.pnm_read.proofs.PlainSteps.{earlier_row, sample_of}

@@ -14,13 +14,14 @@ use Rattle.pnm_read.specs.declared.buffered_reader.BufferedReader.{BufferedReade
 use Rattle.pnm_read.specs.declared.decimal.DecimalScanner.{DecimalScanner}
 use Rattle.pnm_read.specs.declared.pixel.PixelScanner.{PixelScanner}
 use Rattle.pnm_read.specs.HeaderTexts.{is_apart, begins_apart, number_in}
-use Rattle.pnm_read.specs.Saturation.{saturate_u32}
+use Rattle.pnm_read.specs.Internal.Saturation.{saturate_u32}
 use Rattle.pnm_read.specs.Items.{◌>>=◌, pixel_item, pixel_end, pixel_in, plain_pixel, decimal_item, decimal_end, sample_item, plain_decimal, plain_sample}
 use Rattle.pnm_read.specs.Items.{after_last_item}
 use Rattle.pnm_read.specs.Said.{in_turn, plain_row, last_plain_row, row_in_form}
-use Rattle.pnm_read.specs.Scans.{Scans, ScansAfter}
-use Rattle.pnm_read.specs.Scanners.{IsPixelAfter, IsPixelWhole, IsDecimalAfter, IsDecimalWhole}
-use Rattle.pnm_read.specs.BufferedReaders.{ReadCall, Finds, FindsWords, Fills, Passes, held_of, HoldsEnough}
+use Rattle.pnm_read.specs.Internal.Scans.{Scans, ScansAfter}
+use Rattle.pnm_read.specs.Internal.Scanners.{IsPixelAfter, IsPixelWhole, IsDecimalAfter, IsDecimalWhole}
+use Rattle.pnm_read.specs.BufferedReaders.{held_of}
+use Rattle.pnm_read.specs.Internal.BufferedReaders.{ReadCall, Finds, FindsWords, Fills, Passes, HoldsEnough}
 use Rattle.pnm_read.proofs.UnitLaws.{and_items}
 use Rattle.pnm_read.proofs.PartLaws.{all_are_left, part_is_read, part_fails, none_are_left, one_is_read, one_fails}
 use Rattle.pnm_read.proofs.ReadCalls.{no_fault, call_then, call_ok_so, call_err_so, call_taken, call_seen, nothing_left}

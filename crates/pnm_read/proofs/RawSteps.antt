@@ -13,8 +13,9 @@ use Rattle.pnm_image.specs.declared.sample_width.SampleWidth.TheVariants.{Bits, 
 use Rattle.pnm_image.specs.SampleWidths.{sample_width_of}
 use Rattle.pnm_read.specs.Items.{◌>>=◌, raw_item}
 use Rattle.pnm_read.specs.Said.{in_turn, units_in_row, units_at, raw_row}
-use Rattle.pnm_read.specs.RawParts.{FindsUnits, FindsPart}
-use Rattle.pnm_read.specs.BufferedReaders.{ReadCall, Finds, IsOutsideFault}
+use Rattle.pnm_read.specs.Internal.RawParts.{FindsUnits, FindsPart}
+use Rattle.pnm_read.specs.BufferedReaders.{IsOutsideFault}
+use Rattle.pnm_read.specs.Internal.BufferedReaders.{ReadCall, Finds}
 use Rattle.pnm_read.proofs.UnitLaws.{unit_bytes, unit_if, items_of, and_items}
 use Rattle.pnm_read.proofs.PartLaws.{all_are_left, part_fails, part_is_read, none_are_left, one_fails}
 use Rattle.pnm_read.proofs.ReadCalls.{no_fault, call_then, call_ok_so, call_err_so, call_taken}

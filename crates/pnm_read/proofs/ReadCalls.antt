@@ -6,7 +6,8 @@ use Rattle.pnm_image.proofs.Lists.{not_nil}
 use Rattle.pnm_read.specs.declared.fault.InputFault.{InputFault}
 use Rattle.pnm_read.specs.declared.fault.InputFault.TheVariants.{ReadFailed}
 use Rattle.pnm_read.specs.declared.buffered_reader.BufferedReader.{BufferedReader}
-use Rattle.pnm_read.specs.BufferedReaders.{ReadCall, held_of, CanCome}
+use Rattle.pnm_read.specs.BufferedReaders.{held_of, CanCome}
+use Rattle.pnm_read.specs.Internal.BufferedReaders.{ReadCall}
 use Rattle.pnm_read.proofs.Consumed.{consumes_nothing, consumes_then}
 
 -- an answer is no fault

@@ -9,8 +9,9 @@ use Rattle.std.proofs.Math.Seq.{take-append_seam, take-append-add}
 use Rattle.pnm_read.specs.declared.fault.InputFault.{InputFault}
 use Rattle.pnm_read.specs.declared.fault.InputFault.TheVariants.{ReadFailed}
 use Rattle.pnm_read.specs.declared.buffered_reader.BufferedReader.{BufferedReader}
-use Rattle.pnm_read.specs.Reads.{HasRead}
-use Rattle.pnm_read.specs.BufferedReaders.{ReadCall, Fills, Reads, held_of, CanCome, HoldsEnough}
+use Rattle.pnm_read.specs.Internal.Reads.{HasRead}
+use Rattle.pnm_read.specs.BufferedReaders.{held_of, CanCome}
+use Rattle.pnm_read.specs.Internal.BufferedReaders.{ReadCall, Fills, Reads, HoldsEnough}
 use Rattle.pnm_read.proofs.Consumed.{consumes_nothing}
 use Rattle.pnm_read.proofs.ReadCalls.{no_fault, call_then, call_ok_so, call_err_so, call_advance}
 

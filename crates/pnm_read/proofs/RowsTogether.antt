@@ -24,12 +24,12 @@ use Rattle.pnm_image.specs.Rows.{row_messages}
 use Rattle.pnm_read.specs.declared.fault.InputFault.{InputFault}
 use Rattle.pnm_read.specs.Items.{◌>>=◌}
 use Rattle.pnm_read.specs.Said.{Said, in_turn, units_in_row, raw_row, rows_said, later_said, after_messages}
-use Rattle.pnm_read.specs.Units.{samples_of_bytes, AreBytesWithin}
+use Rattle.pnm_read.specs.Internal.Units.{samples_of_bytes, AreBytesWithin}
 use Rattle.pnm_read.specs.declared.raster.Raster.{Raster}
-use Rattle.pnm_read.specs.RasterRows.{FitsBytes, AreHeld, TakesRows, FindsRows, rows_held}
+use Rattle.pnm_read.specs.Internal.RasterRows.{FitsBytes, AreHeld, TakesRows, FindsRows, rows_held}
 use Rattle.pnm_read.specs.declared.fault.InputFault.TheVariants.{ReadFailed}
 use Rattle.pnm_read.specs.declared.buffered_reader.BufferedReader.{BufferedReader}
-use Rattle.pnm_read.specs.BufferedReaders.{ReadCall, Fills, Finds}
+use Rattle.pnm_read.specs.Internal.BufferedReaders.{ReadCall, Fills, Finds}
 use Rattle.pnm_read.proofs.ReadCalls.{no_fault, call_ok_so, call_err_so, call_then}
 use Rattle.pnm_read.proofs.PieceLaws.{bind_ok}
 use Rattle.pnm_read.proofs.UnitLaws.{items_of, bytes_are_units}

@@ -15,7 +15,7 @@ use Rattle.pnm_image.specs.declared.shape.Kind.TheVariants.{Bit, Gray, Color, Pa
 use Rattle.pnm_read.specs.HeaderTexts.{is_apart, begins_apart, ends_by, commented, ends_in_comment, uncommented_from, uncommented, number_in}
 use Rattle.pnm_image.specs.Texts.{is_white, is_digit, decimal_value}
 use Rattle.pnm_image.proofs.BoolLaws.{not_and_parts}
-use Rattle.pnm_read.specs.RasterRows.{greatest_in}
+use Rattle.pnm_read.specs.Internal.RasterRows.{greatest_in}
 use Rattle.pnm_read.specs.Rasters.{IsGap, SpellsDecimal, SpellsSample, SpellsPiece, MayFollowSample}
 use Rattle.pnm_read.specs.Items.{◌>>=◌, piece_from, ends_in_digit, is_complete, decimal_item, decimal_end, is_pixel, pixel_item, pixel_end, pixel_in}
 use Rattle.pnm_read.specs.Items.{plain_pixel, sample_item, plain_decimal, plain_sample}

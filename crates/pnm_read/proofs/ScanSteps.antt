@@ -6,8 +6,9 @@ use Rattle.pnm_read.specs.declared.fault.InputFault.TheVariants.{ReadFailed}
 use Rattle.pnm_read.specs.declared.scan_status.ScanStatus.{ScanStatus}
 use Rattle.pnm_read.specs.declared.buffered_reader.BufferedReader.{BufferedReader}
 use Rattle.pnm_read.specs.Items.{piece_from}
-use Rattle.pnm_read.specs.Scans.{FeedsAfter, Feeds, ScansAfter, Scans, JudgesEnd, IfEnds}
-use Rattle.pnm_read.specs.BufferedReaders.{ReadCall, Fills, held_of, HoldsEnough}
+use Rattle.pnm_read.specs.Internal.Scans.{FeedsAfter, Feeds, ScansAfter, Scans, JudgesEnd, IfEnds}
+use Rattle.pnm_read.specs.BufferedReaders.{held_of}
+use Rattle.pnm_read.specs.Internal.BufferedReaders.{ReadCall, Fills, HoldsEnough}
 use Rattle.pnm_read.proofs.ReadCalls.{IsLeft, no_fault, call_then, call_ok_so, call_err_so, call_taken, call_seen, call_advance, nothing_left}
 
 -- the piece of a text goes on as that of what is left of it

@@ -11,9 +11,9 @@ use Rattle.pnm_read.specs.declared.fault.InputFault.TheVariants.{EmptyInput, Hea
 use Rattle.pnm_read.specs.declared.sizes.ImageSize.{ImageSize}
 use Rattle.pnm_read.specs.declared.sizes.ImageSize.TheVariants.{HeaderCut, Raw, Plain}
 use Rattle.pnm_read.specs.Headers.{SpellsHeader}
-use Rattle.pnm_read.specs.Magics.{format_allowed, format_named}
+use Rattle.pnm_read.specs.Internal.Magics.{format_allowed, format_named}
 use Rattle.pnm_read.specs.Said.{format_at, head_at, format_said, head_said, image_said, later_said, says_fault}
-use Rattle.pnm_read.specs.ImageSizes.{TellsSize, FindsIn, FindsHead, TellsSizeAfter}
+use Rattle.pnm_read.specs.Internal.ImageSizes.{TellsSize, FindsIn, FindsHead, TellsSizeAfter}
 use Rattle.pnm_read.proofs.MagicSteps.{magic_none, magic_wrong, magic_cut, magic_found, second_as, second_is}
 use Rattle.pnm_read.proofs.LaterLaws.{later_is_raw}
 use Rattle.pnm_read.proofs.ReadHeaderLaws.{read_header_is_spelled}

@@ -18,8 +18,10 @@ use Rattle.pnm_read.specs.declared.source.State.{State}
 use Rattle.pnm_read.specs.declared.source.State.TheVariants.{Awaits, Ended, Failed}
 use Rattle.pnm_read.specs.declared.source.Source.{Source}
 use Rattle.pnm_read.specs.Said.{Said, text_said, said_of, fault_of, after_messages, says_nothing, says_fault}
-use Rattle.pnm_read.specs.BufferedReaders.{ReadCall, IsOutsideFault, held_of}
-use Rattle.pnm_read.specs.Awaiting.{Gives, IfStreamEnd, state_due, state_fault, is_ended}
+use Rattle.pnm_read.specs.BufferedReaders.{IsOutsideFault, held_of}
+use Rattle.pnm_read.specs.Internal.BufferedReaders.{ReadCall}
+use Rattle.pnm_read.specs.Awaiting.{state_due, state_fault, is_ended}
+use Rattle.pnm_read.specs.Internal.Awaiting.{Gives, IfStreamEnd}
 use Rattle.pnm_read.specs.Sources.{IsFreshSource, Tells, AnswerTells, HasGiven, due, MayGive, SeesEnd}
 use Rattle.pnm_read.proofs.Consumed.{consumes_nothing}
 use Rattle.pnm_read.proofs.GivenLaws.{messages_after, fault_after, after-append}

@@ -11,7 +11,7 @@ use Rattle.pnm_image.specs.Heads.{IsTupleType}
 use Rattle.pnm_image.specs.Texts.{is_blank}
 use Rattle.pnm_read.specs.HeaderTexts.{ends_by}
 use Rattle.pnm_read.specs.PamLines.{value_of, tuple_type_in}
-use Rattle.pnm_read.specs.LineWalks.{trimmed_start, onto_trimmed, trimmed_end, after_token, begins_with, joined_with}
+use Rattle.pnm_read.specs.Internal.LineWalks.{trimmed_start, onto_trimmed, trimmed_end, after_token, begins_with, joined_with}
 use Rattle.pnm_read.specs.Headers.{IsOneLine}
 use Rattle.pnm_read.proofs.LineLaws.{if_both}
 use Rattle.pnm_read.proofs.WalkLaws.{value_is, tuple_type_in-cons, tuple_type_in-nil}

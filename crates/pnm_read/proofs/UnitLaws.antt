@@ -12,8 +12,8 @@ use Rattle.pnm_image.specs.declared.sample_width.SampleWidth.TheVariants.{Bits, 
 use Rattle.pnm_read.specs.Rasters.{pixels, wide_samples}
 use Rattle.pnm_read.specs.Items.{◌>>=◌, raw_item}
 use Rattle.pnm_read.specs.Said.{in_turn}
-use Rattle.pnm_read.specs.RawParts.{AppendsWide}
-use Rattle.pnm_read.specs.Units.{samples_of_bytes, AreBytesWithin}
+use Rattle.pnm_read.specs.Internal.RawParts.{AppendsWide}
+use Rattle.pnm_read.specs.Internal.Units.{samples_of_bytes, AreBytesWithin}
 
 -- items in turn, and what is left
 abbrev pub ItemsRead : Type 0

@@ -12,8 +12,9 @@ use Rattle.std.proofs.lemmas.List.Sums.{suffix_len-le-length}
 use Rattle.pnm_image.specs.Texts.{is_blank, runs_between}
 use Rattle.pnm_image.proofs.Words.{begins_in_run, words_by, runs-cons}
 use Rattle.pnm_read.specs.PamLines.{ended_lines, last_line, first_token, second_token, trimmed, value_of, tuple_type_in}
-use Rattle.pnm_read.specs.LineWalks.{ended_after, last_after, trimmed_start, onto_trimmed, trimmed_end, token_of, after_token, after_first, begins_with}
-use Rattle.pnm_read.specs.LineWalks.{joined_with}
+use Rattle.pnm_read.specs.Internal.LineWalks.{ended_after, last_after, trimmed_start, onto_trimmed, trimmed_end, token_of, after_token, after_first}
+use Rattle.pnm_read.specs.Internal.LineWalks.{begins_with}
+use Rattle.pnm_read.specs.Internal.LineWalks.{joined_with}
 
 -- ---- how many bytes at the end of a text pass a test, with one byte more before it
 

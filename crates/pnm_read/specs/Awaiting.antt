@@ -1,22 +1,11 @@
 -- What is still to be said where something is awaited, and what is given of it.
-use Rattle.std.specs.Prelude.{◌≡◌, ℕ, ◌-◌, ◌≤◌, ◌⊎◌, Bool, true, false, List, [], length, Option, Some, None}
-use Rattle.std.specs.Prelude.{Result, Ok, Err}
-use Rattle.pnm_image.specs.declared.packet.Packet.{Packet}
-use Rattle.pnm_image.specs.declared.packet.Packet.TheVariants.{Begin, Rows, Image, ImageEnd, StreamEnd, Stop}
-use Rattle.pnm_image.specs.Packets.{messages_in}
+use Rattle.std.specs.Prelude.{ℕ, ◌-◌, Bool, true, false, List, Option, Some, None}
 use Rattle.pnm_read.specs.declared.fault.InputFault.{InputFault}
 use Rattle.pnm_read.specs.declared.source.Awaited.{Awaited}
 use Rattle.pnm_read.specs.declared.source.Awaited.TheVariants.{FirstImage, RowOrEnd, ImageOrEnd, End}
 use Rattle.pnm_read.specs.declared.source.State.{State}
 use Rattle.pnm_read.specs.declared.source.State.TheVariants.{Awaits, Ended, Failed}
 use Rattle.pnm_read.specs.Said.{Said, text_said, later_said, ends_stream, says_nothing, says_fault, rows_said}
-use Rattle.pnm_read.specs.Said.{image_said, after_messages}
-use Rattle.pnm_read.specs.BufferedReaders.{IsOutsideFault}
-
--- what is awaited after an image, by whether it is plain: what follows a plain one is ignored
-abbrev pub awaited_after : Bool → Awaited
-awaited_after true = End
-awaited_after false = ImageOrEnd
 
 -- what is still to be said of the rest of the text, where this is awaited
 abbrev pub due_at : Awaited → List ℕ → Said
@@ -42,32 +31,3 @@ abbrev pub is_ended : State → Bool
 is_ended (Awaits awaited) = false
 is_ended Ended = true
 is_ended (Failed fault) = false
-
--- a packet stands for at least one message; the end of the stream leads to its state, and Stop isn't given
-abbrev pub IfStreamEnd : Packet → State → Type 0
-IfStreamEnd (Begin head) state = Unit {0}
-IfStreamEnd (Rows rows) state = 1 ≤ length rows
-IfStreamEnd (Image head rows) state = Unit {0}
-IfStreamEnd ImageEnd state = Unit {0}
-IfStreamEnd StreamEnd state = is_ended state ≡ true
-IfStreamEnd Stop state = ⊥
-
--- what is given where this is awaited, and the state after it: the next of what was to be said, or the fault
-abbrev pub Gives : Awaited → Result Packet InputFault → State → List ℕ → List ℕ → Type 0
-Gives awaited (Ok packet) new before after =
-    (due_at awaited before ≡ after_messages (messages_in packet) (state_due new after)) × IfStreamEnd packet new
-Gives awaited (Err fault) new before after = (due_at awaited before ≡ says_fault fault) ⊎ IsOutsideFault fault
-
--- what is given at the start of an image
-abbrev pub GivesAtStart : Bool → Result Packet InputFault → State → List ℕ → List ℕ → Type 0
-GivesAtStart is_first (Ok packet) new before after =
-    (image_said later_said is_first before ≡ after_messages (messages_in packet) (state_due new after))
-    × IfStreamEnd packet new
-GivesAtStart is_first (Err fault) new before after =
-    (image_said later_said is_first before ≡ says_fault fault) ⊎ IsOutsideFault fault
-
--- whether the text has ended; nothing was taken of it
-abbrev pub SeesText : Result Bool InputFault → List ℕ → List ℕ → Type 0
-SeesText (Ok true) before after = (before ≡ []) × (after ≡ [])
-SeesText (Ok false) before after = (before ≡ [] → ⊥) × (after ≡ before)
-SeesText (Err fault) before after = IsOutsideFault fault

@@ -1,8 +1,6 @@
 pub mod HeaderTexts
 pub mod HeaderNumbers
-pub mod Magics
 pub mod PamLines
-pub mod LineWalks
 pub mod Headers
 pub mod Rasters
 pub mod Spelling
@@ -11,17 +9,9 @@ pub mod Said
 pub mod BeforeFaults
 pub mod TextLaws
 pub mod BufferedReaders
-pub mod Reads
-pub mod Scans
-pub mod Leading
-pub mod Saturation
-pub mod Scanners
 pub mod ImageSizes
 pub mod ImageEnds
-pub mod PamScanners
-pub mod RawParts
 pub mod Awaiting
 pub mod Sources
 pub mod Examples
-pub mod Units
-pub mod RasterRows
+pub mod Internal

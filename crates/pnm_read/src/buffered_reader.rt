@@ -3,7 +3,7 @@
 ghost use Rattle.std.specs.Prelude.{◌≡◌, ◌==◌, ◌≤◌, ◌<◌, ◌⊎◌, ◌↔◌, IsTrue, [], true, false, drop, length};
 ghost use Rattle.std.specs.Prelude.{vec_len, OnOk, IfOk, IfErr, MatchResult};
 ghost use Rattle.pnm_read.specs.declared.fault.InputFault.TheVariants.{ReadFailed, Memory};
-ghost use Rattle.pnm_read.specs.Reads.{HasRead};
+ghost use Rattle.pnm_read.specs.Internal.Reads.{HasRead};
 
 use crate::fault::InputFault;
 use pnm_image::BytesIn;
@@ -61,7 +61,8 @@ pub struct BufferedReader<R> {
 }
 
 impl<R: BytesIn> BufferedReader<R> {
-    ghost use Rattle.pnm_read.specs.BufferedReaders.{held_of, ReadCall, Fills, Reads, IsByte, HoldsEnough};
+    ghost use Rattle.pnm_read.specs.BufferedReaders.{held_of};
+    ghost use Rattle.pnm_read.specs.Internal.BufferedReaders.{ReadCall, Fills, Reads, IsByte, HoldsEnough};
 
     /// A buffered reader that has read nothing yet.
     pub fn new(buffer: ReadBuffer, reader: R) -> BufferedReader<R>

@@ -29,7 +29,7 @@ pub struct DecimalScanner {
 }
 
 impl DecimalScanner {
-    ghost use Rattle.pnm_read.specs.Scanners.{IsDecimalAfter, JudgesDecimal, PushesDecimal};
+    ghost use Rattle.pnm_read.specs.Internal.Scanners.{IsDecimalAfter, JudgesDecimal, PushesDecimal};
 
     /// A scanner before its first byte.
     pub fn new() -> DecimalScanner
@@ -90,7 +90,7 @@ impl DecimalScanner {
 impl Scanner for DecimalScanner {
     ghost use Rattle.std.specs.Prelude.{false};
     ghost use Rattle.pnm_read.specs.Items.{decimal_item, decimal_end};
-    ghost use Rattle.pnm_read.specs.Scanners.{IsDecimalAfter, IsDecimalWhole};
+    ghost use Rattle.pnm_read.specs.Internal.Scanners.{IsDecimalAfter, IsDecimalWhole};
 
     ghost item = { λ s. decimal_item };
 

@@ -5,8 +5,9 @@ ghost use Rattle.pnm_image.specs.Heads.{IsTupleType};
 ghost use Rattle.pnm_read.specs.declared.scan_status.ScanStatus.TheVariants.{Fails};
 ghost use Rattle.pnm_read.specs.declared.fault.InputFault.TheVariants.{ReadFailed};
 ghost use Rattle.pnm_read.specs.Items.{lines_item};
-ghost use Rattle.pnm_read.specs.Saturation.{GivesInMemory};
-ghost use Rattle.pnm_read.specs.PamScanners.{IsFields, JudgesLine, SetsOnce, SetsNumber, AddsTupleType, shape_held};
+ghost use Rattle.pnm_read.specs.Internal.Saturation.{GivesInMemory};
+ghost use Rattle.pnm_read.specs.Internal.PamScanners.{IsFields, JudgesLine, SetsOnce, SetsNumber, AddsTupleType};
+ghost use Rattle.pnm_read.specs.Internal.PamScanners.{shape_held};
 
 use crate::fault::InputFault;
 use crate::header::fault_of_head;

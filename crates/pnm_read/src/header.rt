@@ -9,10 +9,10 @@ ghost use Rattle.pnm_image.specs.Texts.{is_digit};
 ghost use Rattle.pnm_read.specs.HeaderNumbers.{number_count, planes};
 ghost use Rattle.pnm_read.specs.Items.{fault_of_head, numbers_item};
 ghost use Rattle.pnm_read.specs.Said.{format_at, pnm_head_at, head_at};
-ghost use Rattle.pnm_read.specs.BufferedReaders.{ReadCall, Finds};
-ghost use Rattle.pnm_read.specs.Magics.{format_named};
-ghost use Rattle.pnm_read.specs.ImageSizes.{FindsIn};
-ghost use Rattle.pnm_read.specs.Saturation.{IsNumbers, GivesInMemory};
+ghost use Rattle.pnm_read.specs.Internal.BufferedReaders.{ReadCall, Finds};
+ghost use Rattle.pnm_read.specs.Internal.Magics.{format_named};
+ghost use Rattle.pnm_read.specs.Internal.ImageSizes.{FindsIn};
+ghost use Rattle.pnm_read.specs.Internal.Saturation.{IsNumbers, GivesInMemory};
 
 use crate::buffered_reader::BufferedReader;
 use crate::comments::{commented, is_apart};
@@ -208,7 +208,8 @@ struct HeaderScanner {
 }
 
 impl HeaderScanner {
-    ghost use Rattle.pnm_read.specs.Scanners.{IsHeaderFresh, JudgesHeader, PushesHeader, PushesDigit, is_bad_after};
+    ghost use Rattle.pnm_read.specs.Internal.Scanners.{IsHeaderFresh, JudgesHeader, PushesHeader, PushesDigit};
+    ghost use Rattle.pnm_read.specs.Internal.Scanners.{is_bad_after};
 
     /// A scanner before the first byte, for a header of so many numbers.
     fn new(wanted: usize) -> HeaderScanner
@@ -286,7 +287,7 @@ impl HeaderScanner {
 impl Scanner for HeaderScanner {
     ghost use Rattle.std.specs.Prelude.{false};
     ghost use Rattle.pnm_read.specs.Items.{header_item, header_end};
-    ghost use Rattle.pnm_read.specs.Scanners.{IsHeaderAfter, IsHeaderWhole};
+    ghost use Rattle.pnm_read.specs.Internal.Scanners.{IsHeaderAfter, IsHeaderWhole};
 
     ghost item = { λ s. header_item s.wanted };
 

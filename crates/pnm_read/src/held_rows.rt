@@ -4,8 +4,8 @@ ghost use Rattle.std.specs.Prelude.{◌≡◌, ◌≤◌, ◌*◌, ◌-◌, fals
 ghost use Rattle.pnm_image.specs.Formats.{is_plain_form};
 ghost use Rattle.pnm_read.specs.declared.fault.InputFault.TheVariants.{Memory};
 ghost use Rattle.pnm_read.specs.BufferedReaders.{held_of};
-ghost use Rattle.pnm_read.specs.RasterRows.{FitsBytes, AreHeld, AreHeldWide, TakesRows, rows_held};
-ghost use Rattle.pnm_read.specs.Units.{AreBytesWithin};
+ghost use Rattle.pnm_read.specs.Internal.RasterRows.{FitsBytes, AreHeld, AreHeldWide, TakesRows, rows_held};
+ghost use Rattle.pnm_read.specs.Internal.Units.{AreBytesWithin};
 
 use crate::buffered_reader::BufferedReader;
 use crate::fault::InputFault;

@@ -8,7 +8,7 @@ ghost use Rattle.std.specs.Str.{byte};
 ghost use Rattle.pnm_image.specs.declared.limits.TheConstants.{MAX_MAXVAL};
 ghost use Rattle.pnm_image.specs.Texts.{is_white, is_digit};
 ghost use Rattle.pnm_read.specs.Items.{plain_sample, plain_pixel, plain_decimal};
-ghost use Rattle.pnm_read.specs.Leading.{IsNumberFirst, TakesSamples};
+ghost use Rattle.pnm_read.specs.Internal.Leading.{IsNumberFirst, TakesSamples};
 
 use crate::decimal::GAP_LIMIT;
 use pnm_image::characters::{is_digit, is_white};

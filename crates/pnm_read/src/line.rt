@@ -3,8 +3,8 @@
 ghost use Rattle.std.specs.Prelude.{◌≡◌, length, Some, None, if◌then◌else◌};
 ghost use Rattle.std.specs.Str.{bytes_eq};
 ghost use Rattle.pnm_read.specs.PamLines.{first_token, trimmed, kind_of_token};
-ghost use Rattle.pnm_read.specs.LineWalks.{trimmed_start, trimmed_end, after_first};
-ghost use Rattle.pnm_read.specs.PamScanners.{number_of};
+ghost use Rattle.pnm_read.specs.Internal.LineWalks.{trimmed_start, trimmed_end, after_first};
+ghost use Rattle.pnm_read.specs.Internal.PamScanners.{number_of};
 
 use pnm_image::characters::{is_blank, is_digit};
 

@@ -4,8 +4,8 @@ ghost use Rattle.std.specs.Prelude.{◌≤◌, ◌-◌, []};
 ghost use Rattle.pnm_read.specs.declared.pam.TheConstants.{PAM_LIMIT};
 ghost use Rattle.pnm_read.specs.Items.{line_feed_item};
 ghost use Rattle.pnm_read.specs.Said.{pam_head_at};
-ghost use Rattle.pnm_read.specs.ImageSizes.{FindsIn};
-ghost use Rattle.pnm_read.specs.BufferedReaders.{ReadCall, Finds, Passes};
+ghost use Rattle.pnm_read.specs.Internal.ImageSizes.{FindsIn};
+ghost use Rattle.pnm_read.specs.Internal.BufferedReaders.{ReadCall, Finds, Passes};
 
 use crate::buffered_reader::BufferedReader;
 use crate::fault::InputFault;
@@ -91,7 +91,7 @@ struct PamScanner {
 }
 
 impl PamScanner {
-    ghost use Rattle.pnm_read.specs.PamScanners.{IsPamAfter};
+    ghost use Rattle.pnm_read.specs.Internal.PamScanners.{IsPamAfter};
 
     /// A scanner before the first byte.
     fn new(alloc: Global) -> PamScanner
@@ -108,7 +108,7 @@ impl PamScanner {
 impl Scanner for PamScanner {
     ghost use Rattle.std.specs.Prelude.{true};
     ghost use Rattle.pnm_read.specs.Items.{pam_item, header_end};
-    ghost use Rattle.pnm_read.specs.PamScanners.{IsPamAfter, IsPamWhole};
+    ghost use Rattle.pnm_read.specs.Internal.PamScanners.{IsPamAfter, IsPamWhole};
 
     ghost item = { λ s. pam_item };
 

@@ -23,7 +23,7 @@ pub struct PixelScanner {
 }
 
 impl PixelScanner {
-    ghost use Rattle.pnm_read.specs.Scanners.{IsPixelAfter, JudgesPixel};
+    ghost use Rattle.pnm_read.specs.Internal.Scanners.{IsPixelAfter, JudgesPixel};
 
     /// A scanner before its first byte.
     pub fn new() -> PixelScanner
@@ -67,7 +67,7 @@ impl PixelScanner {
 impl Scanner for PixelScanner {
     ghost use Rattle.std.specs.Prelude.{false};
     ghost use Rattle.pnm_read.specs.Items.{pixel_item, pixel_end};
-    ghost use Rattle.pnm_read.specs.Scanners.{IsPixelAfter, IsPixelWhole};
+    ghost use Rattle.pnm_read.specs.Internal.Scanners.{IsPixelAfter, IsPixelWhole};
 
     ghost item = { λ s. pixel_item };
 

@@ -8,8 +8,9 @@ ghost use Rattle.pnm_image.specs.Heads.{row_length};
 ghost use Rattle.pnm_read.specs.declared.fault.InputFault.TheVariants.{Memory};
 ghost use Rattle.pnm_read.specs.Items.{plain_pixel, plain_decimal, plain_sample, after_last_item};
 ghost use Rattle.pnm_read.specs.Said.{plain_row};
-ghost use Rattle.pnm_read.specs.BufferedReaders.{ReadCall, Finds, FindsWords, Passes, held_of};
-ghost use Rattle.pnm_read.specs.RasterRows.{FindsRows, TakesPlain, greatest_in};
+ghost use Rattle.pnm_read.specs.BufferedReaders.{held_of};
+ghost use Rattle.pnm_read.specs.Internal.BufferedReaders.{ReadCall, Finds, FindsWords, Passes};
+ghost use Rattle.pnm_read.specs.Internal.RasterRows.{FindsRows, TakesPlain, greatest_in};
 
 use crate::buffered_reader::BufferedReader;
 use crate::comments::is_apart;

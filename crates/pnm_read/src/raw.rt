@@ -6,10 +6,10 @@ ghost use Rattle.pnm_image.specs.Formats.{is_plain_form};
 ghost use Rattle.pnm_image.specs.SampleWidths.{sample_width_of};
 ghost use Rattle.pnm_image.specs.declared.sample_width.SampleWidth.TheVariants.{Words};
 ghost use Rattle.pnm_read.specs.Said.{raw_row, units_in_row};
-ghost use Rattle.pnm_read.specs.BufferedReaders.{ReadCall, Finds};
-ghost use Rattle.pnm_read.specs.RawParts.{FindsUnits, FindsPart};
-ghost use Rattle.pnm_read.specs.RasterRows.{FindsRows};
-ghost use Rattle.pnm_read.specs.Units.{samples_of_bytes, AreBytesWithin};
+ghost use Rattle.pnm_read.specs.Internal.BufferedReaders.{ReadCall, Finds};
+ghost use Rattle.pnm_read.specs.Internal.RawParts.{FindsUnits, FindsPart};
+ghost use Rattle.pnm_read.specs.Internal.RasterRows.{FindsRows};
+ghost use Rattle.pnm_read.specs.Internal.Units.{samples_of_bytes, AreBytesWithin};
 
 use crate::buffered_reader::BufferedReader;
 use crate::fault::InputFault;

@@ -6,8 +6,8 @@ ghost use Rattle.pnm_read.specs.declared.fault.InputFault.{InputFault as Fault};
 ghost use Rattle.pnm_read.specs.declared.scan_status.ScanStatus.{ScanStatus as StatusValue};
 ghost use Rattle.pnm_read.specs.declared.scan_status.ScanStatus.TheVariants.{GoesOn, Fails};
 ghost use Rattle.pnm_read.specs.declared.fault.InputFault.TheVariants.{ReadFailed, Memory};
-ghost use Rattle.pnm_read.specs.Scans.{JudgesByte, JudgesEnd, Feeds, Scans};
-ghost use Rattle.pnm_read.specs.BufferedReaders.{ReadCall};
+ghost use Rattle.pnm_read.specs.Internal.Scans.{JudgesByte, JudgesEnd, Feeds, Scans};
+ghost use Rattle.pnm_read.specs.Internal.BufferedReaders.{ReadCall};
 
 use crate::buffered_reader::BufferedReader;
 use crate::fault::InputFault;

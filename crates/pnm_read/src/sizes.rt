@@ -3,7 +3,7 @@
 ghost use Rattle.std.specs.Prelude.{◌≡◌, ◌≤◌, ◌*◌};
 ghost use Rattle.pnm_image.specs.Heads.{IsWithinLimits};
 ghost use Rattle.pnm_image.specs.declared.limits.TheConstants.{MAX_ROW_LENGTH};
-ghost use Rattle.pnm_read.specs.ImageSizes.{TellsSize, TellsSizeAfter};
+ghost use Rattle.pnm_read.specs.Internal.ImageSizes.{TellsSize, TellsSizeAfter};
 ghost use Rattle.pnm_read.specs.Rasters.{bytes_in_row};
 
 use crate::fault::InputFault;

@@ -8,9 +8,9 @@ ghost use Rattle.pnm_image.specs.Packets.{messages_in};
 ghost use Rattle.pnm_image.specs.declared.packet.Packet.TheVariants.{StreamEnd, Stop};
 ghost use Rattle.pnm_read.specs.declared.fault.InputFault.{InputFault as Fault};
 ghost use Rattle.pnm_read.specs.declared.fault.InputFault.TheVariants.{ReadFailed, Memory};
-ghost use Rattle.pnm_read.specs.BufferedReaders.{ReadCall};
-ghost use Rattle.pnm_read.specs.RasterRows.{FindsRows};
-ghost use Rattle.pnm_read.specs.Awaiting.{awaited_after, Gives, GivesAtStart, SeesText};
+ghost use Rattle.pnm_read.specs.Internal.BufferedReaders.{ReadCall};
+ghost use Rattle.pnm_read.specs.Internal.RasterRows.{FindsRows};
+ghost use Rattle.pnm_read.specs.Internal.Awaiting.{awaited_after, Gives, GivesAtStart, SeesText};
 
 use crate::buffered_reader::{BufferedReader, ReadBuffer};
 use crate::fault::InputFault;

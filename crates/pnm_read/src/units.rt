@@ -3,8 +3,8 @@
 
 ghost use Rattle.std.specs.Prelude.{◌≡◌, ◌≤◌, ◌↔◌, IsTrue};
 ghost use Rattle.pnm_image.specs.declared.limits.TheConstants.{MAX_SIDE};
-ghost use Rattle.pnm_read.specs.RawParts.{AppendsWide};
-ghost use Rattle.pnm_read.specs.Units.{AreBytesWithin};
+ghost use Rattle.pnm_read.specs.Internal.RawParts.{AppendsWide};
+ghost use Rattle.pnm_read.specs.Internal.Units.{AreBytesWithin};
 ghost use Rattle.pnm_read.specs.Said.{units_in_row};
 
 use crate::fault::InputFault;

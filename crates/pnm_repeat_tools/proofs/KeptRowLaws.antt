@@ -10,7 +10,7 @@ use Rattle.pnm_image.specs.declared.rows.RowVec.TheVariants.{Bits, Bytes, Words}
 use Rattle.pnm_image.specs.HeldRows.{AreRows, HoldsRows, row_lists}
 use Rattle.pnm_image.specs.Images.{cut_rows}
 use Rattle.pnm_image.proofs.HeldRowLaws.{cut_behind, length_of_lists, lengths_of_lists, one_length}
-use Rattle.pnm_repeat_tools.specs.Keeping.{fronts_in}
+use Rattle.pnm_repeat_tools.specs.Internal.Keeping.{fronts_in}
 use Rattle.pnm_repeat_tools.proofs.TileRowsLaws.{cut_of_more, fronts_cut, fronts_long}
 
 -- what is known anyway

@@ -5,7 +5,7 @@ use Rattle.std.specs.List.{flat_map, range_with_len}
 use Rattle.std.proofs.Math.Nat.{div-add-mod, mod-lt, mod_self}
 use Rattle.std.proofs.lemmas.List.{drop_at, length-append, length-take, take-append-le, take_all}
 use Rattle.pnm_samples.specs.PixelRows.{bytes_for, rows_of_bytes}
-use Rattle.pnm_samples.specs.BitRows.{row_bytes}
+use Rattle.pnm_samples.specs.Internal.BitRows.{row_bytes}
 use Rattle.pnm_samples.specs.Pixels.{all_pixels, ArePacked}
 use Rattle.pnm_samples.proofs.BitRowLaws.{length_of_row_bytes, row_within}
 use Rattle.pnm_samples.proofs.BitRowsMade.{row_of_rows}
@@ -16,7 +16,8 @@ use Rattle.pnm_tools.specs.PixelSamples.{pixel_of}
 use Rattle.pnm_tools.specs.Tile.{tiled_row}
 use Rattle.pnm_tools.proofs.FormulaLaws.{range_alike}
 use Rattle.pnm_tools.proofs.RangeLaws.{length_of_equals, map_in_parts}
-use Rattle.pnm_repeat_tools.specs.Keeping.{row_of_samples, row_of_tiles}
+use Rattle.pnm_repeat_tools.specs.Keeping.{row_of_tiles}
+use Rattle.pnm_repeat_tools.specs.Internal.Keeping.{row_of_samples}
 use Rattle.pnm_repeat_tools.proofs.TileRowLaws.{length_tiled, tiled_more, tiled_prefix, tiled_shorter}
 
 -- ---- samples as columns of one plane

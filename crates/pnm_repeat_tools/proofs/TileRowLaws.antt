@@ -10,7 +10,8 @@ use Rattle.pnm_tools.specs.declared.fault.ToolFault.{ToolFault}
 use Rattle.pnm_tools.specs.declared.fault.ToolFault.TheVariants.{OutOfOrder}
 use Rattle.pnm_tools.specs.declared.tool.Tool.TheVariants.{Tile}
 use Rattle.pnm_tools.specs.ToolLimits.{within_limits}
-use Rattle.pnm_repeat_tools.specs.Keeping.{Tiled, tiled_due, tiled, HasTiles, AreWithin, IsTiling, row_of_tiles, shown_row}
+use Rattle.pnm_repeat_tools.specs.Keeping.{Tiled, tiled_due, tiled, AreWithin, IsTiling, row_of_tiles, shown_row}
+use Rattle.pnm_repeat_tools.specs.Internal.Keeping.{HasTiles}
 use Rattle.pnm_tools.specs.Tile.{tiled_head, tiled_head_value, tiled_row, tiled_at_end}
 use Rattle.pnm_tools.proofs.HeadLaws.{small_row}
 use Rattle.pnm_tools.specs.Tools.{result_head, row_answer}

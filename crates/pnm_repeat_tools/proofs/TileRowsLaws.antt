@@ -18,7 +18,8 @@ use Rattle.pnm_tools.specs.PixelSamples.{pixel_of}
 use Rattle.pnm_tools.specs.Tile.{tiled_row}
 use Rattle.pnm_tools.proofs.RangeLaws.{length_of_equals, map_in_parts, pieces_alike, pieces_in_parts}
 use Rattle.pnm_samples.proofs.CutLaws.{length-cut_rows}
-use Rattle.pnm_repeat_tools.specs.Keeping.{Tiled, IsTiling, AreWithin, tiled, tiled_due, shown_row, HasTiles, fronts_in, row_of_samples, row_of_tiles}
+use Rattle.pnm_repeat_tools.specs.Keeping.{Tiled, IsTiling, AreWithin, tiled, tiled_due, shown_row, row_of_tiles}
+use Rattle.pnm_repeat_tools.specs.Internal.Keeping.{HasTiles, fronts_in, row_of_samples}
 use Rattle.pnm_repeat_tools.proofs.TileRowLaws.{row_of_tile, length_tiled, tiled_within}
 use Rattle.pnm_image.specs.Images.{cut_rows}
 use Rattle.pnm_repeat_tools.proofs.CutRowsLaws.{lengths_of}

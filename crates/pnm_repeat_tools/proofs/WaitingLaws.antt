@@ -11,7 +11,8 @@ use Rattle.pnm_image.specs.Places.{IsRowOf}
 use Rattle.pnm_image.specs.Repeats.{repeated}
 use Rattle.pnm_image.proofs.RowLaws.{rows_need}
 use Rattle.pnm_tools.specs.Enlarge.{enlarged_row}
-use Rattle.pnm_repeat_tools.specs.Enlarging.{CanBeEnlarged, ToEnlarge, larger_rows, to_enlarge, waiting_due}
+use Rattle.pnm_repeat_tools.specs.Enlarging.{ToEnlarge, larger_rows, waiting_due}
+use Rattle.pnm_repeat_tools.specs.Internal.Enlarging.{CanBeEnlarged, to_enlarge}
 use Rattle.pnm_repeat_tools.proofs.EnlargedRowsLaws.{each_of, pixels_below}
 use Rattle.pnm_repeat_tools.proofs.WideRowLaws.{rows_once, unchanged_rows}
 

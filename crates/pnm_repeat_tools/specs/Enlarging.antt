@@ -1,12 +1,10 @@
 -- Rows of an image that came together and are still to be enlarged.
-use Rattle.std.specs.Prelude.{ℕ, ◌*◌, ◌<◌, ◌≤◌, List, [], length, map, replicate, Option, Some, None}
-use Rattle.std.specs.List.{AllByRecursion, flat_map}
+use Rattle.std.specs.Prelude.{ℕ, ◌*◌, ◌≤◌, List, [], map, replicate, Option, Some, None}
+use Rattle.std.specs.List.{flat_map}
 use Rattle.pnm_image.specs.declared.limits.TheConstants.{MAX_ROW_LENGTH, MAX_SIDE}
 use Rattle.pnm_image.specs.declared.shape.Shape.{Shape}
 use Rattle.pnm_image.specs.Heads.{IsWithinLimits}
-use Rattle.pnm_image.specs.Places.{IsRowOf}
 use Rattle.pnm_tools.specs.Enlarge.{enlarged_row}
-use Rattle.pnm_tools.specs.ToolLimits.{IsExtent}
 
 -- for images of a shape that stays within the limits with its pixels repeated
 pub record IsEnlarging (across : ℕ) (s : Shape) : Type 0 where
@@ -20,17 +18,6 @@ pub record ToEnlarge : Type 0 where
   pub down : ℕ
   pub shape : Shape
   pub rows : List (List ℕ)
-
-abbrev pub to_enlarge : ℕ → ℕ → Shape → List (List ℕ) → ToEnlarge
-to_enlarge across down shape rows = record { across = across; down = down; shape = shape; rows = rows }
-
--- there are some, they are rows of the image, and so many times as large they stay within the limits
-pub record CanBeEnlarged (w : ToEnlarge) : Type 0 where
-  pub across : IsExtent w.across
-  pub down : IsExtent w.down
-  pub ready : IsEnlarging w.across w.shape
-  pub some : 0 < length w.rows
-  pub rows : AllByRecursion (IsRowOf w.shape) w.rows
 
 -- the rows of the result that rows of an image of this shape make
 abbrev pub larger_rows : ℕ → ℕ → Shape → List (List ℕ) → List (List ℕ)

@@ -1,6 +1,6 @@
 -- What tools that repeat keep while the rows of an image come, and the rows of the result that they still give.
-use Rattle.std.specs.Prelude.{◌≡◌, ℕ, zero, suc, ◌-◌, ◌*◌, ◌<◌, ◌≤◌, ◌%◌, List, [], ◌++◌}
-use Rattle.std.specs.Prelude.{map, length, min, take, drop}
+use Rattle.std.specs.Prelude.{◌≡◌, ℕ, ◌-◌, ◌*◌, ◌<◌, ◌≤◌, ◌%◌, List, []}
+use Rattle.std.specs.Prelude.{map, length, min, take}
 use Rattle.std.specs.Prelude.{slice_index_or, All}
 use Rattle.std.specs.List.{range_with_len}
 use Rattle.pnm_image.specs.declared.limits.TheConstants.{MAX_ROW_LENGTH}
@@ -9,7 +9,6 @@ use Rattle.pnm_image.specs.Heads.{IsWithinLimits, row_length}
 use Rattle.pnm_repeat_tools.specs.declared.enlarge.Enlarger.{Enlarger}
 use Rattle.pnm_repeat_tools.specs.Enlarging.{waiting_due, waiting_rows}
 use Rattle.pnm_tools.specs.Tile.{tiled_row}
-use Rattle.pnm_tools.specs.PixelSamples.{pixel_of}
 
 -- ---- pamenlarge: copies of a row, and the rows that wait behind it
 
@@ -31,11 +30,6 @@ kept_rows w = waiting_rows w.waiting
 abbrev pub shown_row : ℕ → Shape → List ℕ → List ℕ
 shown_row width s row = take (min width s.width * s.depth) row
 
--- the first samples, so many of each, of so many rows of so many samples that are held one after another
-abbrev pub fronts_in : {X : Type 0} → ℕ → ℕ → ℕ → List X → List X
-fronts_in shown zero each samples = []
-fronts_in shown (suc count) each samples = take shown samples ++ fronts_in shown count each (drop each samples)
-
 -- so many columns and rows to fill; the columns that are kept, and the planes of the image; how many rows are still to
 -- be given
 pub record Tiled : Type 0 where
@@ -49,15 +43,6 @@ pub record Tiled : Type 0 where
 abbrev pub tiled : ℕ → ℕ → ℕ → ℕ → List (List ℕ) → ℕ → Tiled
 tiled width height image_width depth rows left =
     record { width = width; height = height; image_width = image_width; depth = depth; rows = rows; left = left }
-
--- there are rows to give, each of the columns that are kept, which are no more than those to fill
-pub record HasTiles (w : Tiled) : Type 0 where
-  pub some : 0 < length w.rows
-  pub lengths : All (λ row. length row ≡ w.image_width * w.depth) w.rows
-  pub width : 0 < w.image_width
-  pub narrow : w.image_width ≤ w.width
-  pub planes : 0 < w.depth
-  pub filled : w.width * w.depth ≤ MAX_ROW_LENGTH
 
 -- no sample of these rows is above the maxval
 abbrev pub AreWithin : ℕ → List (List ℕ) → Type 0
@@ -76,11 +61,6 @@ pub record IsTiling (w : Tiled) (s : Shape) (come : List (List ℕ)) : Type 0 wh
 abbrev pub row_of_tiles : ℕ → ℕ → ℕ → List (List ℕ) → ℕ → List ℕ
 row_of_tiles width image_width depth rows y =
     tiled_row width image_width depth (slice_index_or rows (y % length rows) [])
-
--- the same where so many rows are held one after another
-abbrev pub row_of_samples : {X : Type 0} → ℕ → ℕ → ℕ → ℕ → List X → ℕ → List X
-row_of_samples width image_width depth count samples y =
-    tiled_row width image_width depth (pixel_of (image_width * depth) samples (y % count))
 
 -- those that are left are the last ones
 abbrev pub tiled_due : Tiled → List (List ℕ)

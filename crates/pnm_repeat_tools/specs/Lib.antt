@@ -1,2 +1,3 @@
 pub mod Enlarging
 pub mod Keeping
+pub mod Internal

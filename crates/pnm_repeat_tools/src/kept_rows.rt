@@ -4,7 +4,7 @@ ghost use Rattle.std.specs.Prelude.{ℕ, ◌≡◌, ◌≤◌, ◌<◌, ◌+◌,
 ghost use Rattle.std.specs.Prelude.{map, take};
 ghost use Rattle.pnm_image.specs.HeldRows.{AreRows, AreSliceRows, HoldsRows, HoldsSame, row_lists, slice_lists};
 ghost use Rattle.pnm_image.specs.Images.{cut_rows};
-ghost use Rattle.pnm_repeat_tools.specs.Keeping.{fronts_in};
+ghost use Rattle.pnm_repeat_tools.specs.Internal.Keeping.{fronts_in};
 
 use pnm_image::{RowSlice, RowVec, Rows};
 use std::alloc::{AllocError, Global};

@@ -10,7 +10,8 @@ ghost use Rattle.pnm_tools.specs.declared.fault.ToolFault.TheVariants.{Memory};
 ghost use Rattle.pnm_tools.specs.declared.tool.Tool.TheVariants.{Tile};
 ghost use Rattle.pnm_tools.specs.Tile.{tiled_row};
 ghost use Rattle.pnm_image.specs.Heads.{IsWithinLimits};
-ghost use Rattle.pnm_repeat_tools.specs.Keeping.{HasTiles, IsTiling, row_of_samples, row_of_tiles};
+ghost use Rattle.pnm_repeat_tools.specs.Keeping.{IsTiling, row_of_tiles};
+ghost use Rattle.pnm_repeat_tools.specs.Internal.Keeping.{HasTiles, row_of_samples};
 ghost use Rattle.pnm_repeat_tools.specs.Keeping.{tiled, tiled_due};
 ghost use Rattle.pnm_tools.specs.ToolLimits.{IsExtent};
 ghost use Rattle.pnm_tools.specs.Tools.{TakesHead, result_head};
@@ -251,7 +252,8 @@ fn tile_bit_row(tiled: &mut Bits, filled: u32, bytes: &[u8], each: u32) -> Resul
 }
 
 impl Model for Tiler {
-    ghost use Rattle.pnm_repeat_tools.specs.Keeping.{Tiled, tiled, HasTiles, AreWithin};
+    ghost use Rattle.pnm_repeat_tools.specs.Keeping.{Tiled, tiled, AreWithin};
+    ghost use Rattle.pnm_repeat_tools.specs.Internal.Keeping.{HasTiles};
     ghost use Rattle.std.specs.Prelude.{◌<◌, ◌≤◌};
 
     ghost Value = { Tiled };

@@ -5,7 +5,8 @@ ghost use Rattle.std.specs.List.{AllByRecursion};
 ghost use Rattle.pnm_image.specs.Places.{IsRowOf};
 ghost use Rattle.pnm_tools.specs.declared.fault.ToolFault.TheVariants.{Memory};
 ghost use Rattle.pnm_tools.specs.ToolLimits.{IsExtent};
-ghost use Rattle.pnm_repeat_tools.specs.Enlarging.{IsEnlarging, larger_rows, to_enlarge, waiting_due};
+ghost use Rattle.pnm_repeat_tools.specs.Enlarging.{IsEnlarging, larger_rows, waiting_due};
+ghost use Rattle.pnm_repeat_tools.specs.Internal.Enlarging.{to_enlarge};
 
 use crate::larger::{LEAST_REPEATED, MOST_GIVEN, bytes_of_row, enlarge_together};
 use pnm_image::{Rows, Shape};
@@ -27,7 +28,8 @@ pub(crate) struct WaitingRows {
 
 impl Model for WaitingRows {
     ghost use Rattle.std.specs.Prelude.{drop};
-    ghost use Rattle.pnm_repeat_tools.specs.Enlarging.{CanBeEnlarged, ToEnlarge, to_enlarge};
+    ghost use Rattle.pnm_repeat_tools.specs.Enlarging.{ToEnlarge};
+    ghost use Rattle.pnm_repeat_tools.specs.Internal.Enlarging.{CanBeEnlarged, to_enlarge};
 
     ghost Value = { ToEnlarge };
 

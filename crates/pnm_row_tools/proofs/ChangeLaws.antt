@@ -7,7 +7,7 @@ use Rattle.pnm_image.specs.declared.rows.RowVec.{RowVec}
 use Rattle.pnm_image.specs.declared.rows.RowVec.TheVariants.{Bits, Bytes, Words}
 use Rattle.pnm_image.specs.HeldRows.{row_lists}
 use Rattle.pnm_image.specs.Images.{cut_rows}
-use Rattle.pnm_row_tools.specs.EachRow.{HoldsSamples, IsEachChanged, held_samples}
+use Rattle.pnm_row_tools.specs.Internal.EachRow.{HoldsSamples, IsEachChanged, held_samples}
 use Rattle.pnm_row_tools.proofs.HeldRowsLaws.{bits_changed, cut_changed, held_cut, items_changed}
 
 -- numbers up to one that are changed alike

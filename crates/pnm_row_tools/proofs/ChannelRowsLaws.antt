@@ -10,13 +10,14 @@ use Rattle.pnm_image.specs.Heads.{row_length}
 use Rattle.pnm_image.specs.HeldRows.{AreRowsWithin}
 use Rattle.pnm_image.specs.Images.{cut_rows}
 use Rattle.pnm_tools.specs.Answering.{rows_answer}
-use Rattle.pnm_tools.specs.Channel.{Picks, picked_or, picked_row, picked_samples}
+use Rattle.pnm_tools.specs.Channel.{Picks, picked_row, picked_samples}
+use Rattle.pnm_tools.specs.Internal.Channel.{picked_or}
 use Rattle.pnm_tools.specs.declared.tool.Tool.TheVariants.{Channel}
 use Rattle.pnm_tools.proofs.PickLaws.{picked_within, plane_there}
 use Rattle.pnm_tools.proofs.RangeLaws.{length_of_equals, pieces_alike, pieces_alike_from, pieces_in_parts}
 use Rattle.pnm_tools.proofs.RowLaws.{row_of_channel}
-use Rattle.pnm_row_tools.specs.EachRow.{changed}
-use Rattle.pnm_row_tools.specs.RowKeeping.{as_wide}
+use Rattle.pnm_row_tools.specs.Internal.EachRow.{changed}
+use Rattle.pnm_row_tools.specs.Internal.RowKeeping.{as_wide}
 use Rattle.pnm_row_tools.proofs.EachRowLaws.{cut_again, each_answered}
 
 -- ---- one plane by itself

@@ -19,8 +19,8 @@ use Rattle.pnm_tools.specs.declared.tool.Tool.TheVariants.{Cut}
 use Rattle.pnm_tools.proofs.CutRowLaws.{all_kept, cut_row_by, row_inside, row_outside}
 use Rattle.pnm_samples.proofs.CutLaws.{length-cut_rows}
 use Rattle.pnm_row_tools.specs.declared.cut.Parts.{Parts}
-use Rattle.pnm_row_tools.specs.EachRow.{changed, held_samples, part, parts_of}
-use Rattle.pnm_row_tools.specs.RowKeeping.{parts_kept}
+use Rattle.pnm_row_tools.specs.Internal.EachRow.{changed, held_samples, part, parts_of}
+use Rattle.pnm_row_tools.specs.Internal.RowKeeping.{parts_kept}
 use Rattle.pnm_row_tools.proofs.EachRowLaws.{cut_again, cut_between, length-changed, part_long, part_within, rows_between}
 use Rattle.pnm_row_tools.proofs.HeldRowsLaws.{held_cut, held_long, length_of_shape}
 

@@ -13,7 +13,7 @@ use Rattle.pnm_image.specs.declared.shape.Shape.{Shape}
 use Rattle.pnm_tools.specs.declared.tool.Tool.{Tool}
 use Rattle.pnm_tools.specs.Answering.{rows_answer}
 use Rattle.pnm_tools.specs.Tools.{row_answer}
-use Rattle.pnm_row_tools.specs.EachRow.{changed, part}
+use Rattle.pnm_row_tools.specs.Internal.EachRow.{changed, part}
 
 -- a row more
 pub one_row_more : {X : Type 0} (f : List X → List X) (each i : ℕ) (samples : List X)

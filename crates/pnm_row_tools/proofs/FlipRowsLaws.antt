@@ -27,8 +27,9 @@ use Rattle.pnm_tools.proofs.RangeLaws.{length_of_equals, pieces_alike, pieces_al
 use Rattle.pnm_tools.proofs.TransformLaws.{row_moved, row_stays}
 use Rattle.pnm_samples.specs.Cuts.{last_first}
 use Rattle.pnm_samples.proofs.RowOrderLaws.{last_first_long}
-use Rattle.pnm_row_tools.specs.EachRow.{HoldsRows, changed, held_samples}
-use Rattle.pnm_row_tools.specs.RowKeeping.{AreRowsOf, IsReversingRows, Reversed, flattened, reversed, reversed_due}
+use Rattle.pnm_row_tools.specs.Internal.EachRow.{HoldsRows, changed, held_samples}
+use Rattle.pnm_row_tools.specs.RowKeeping.{IsReversingRows, Reversed, flattened, reversed, reversed_due}
+use Rattle.pnm_row_tools.specs.Internal.RowKeeping.{AreRowsOf}
 use Rattle.pnm_row_tools.proofs.EachRowLaws.{cut_again, each_answered, length-changed, one_row_more}
 use Rattle.pnm_row_tools.proofs.HeldRowsLaws.{held_cut, held_long, reversed_all}
 use Rattle.pnm_row_tools.proofs.FlipRowLaws.{mirrored_within, one_plane}

@@ -13,7 +13,7 @@ use Rattle.pnm_image.specs.Images.{cut_rows}
 use Rattle.pnm_image.specs.Places.{IsRowOf}
 use Rattle.pnm_image.proofs.HeldRowLaws.{length_of_lists, lengths_of_lists, words_of_rows}
 use Rattle.pnm_image.proofs.RowLaws.{concat-cut_rows, rows_need}
-use Rattle.pnm_row_tools.specs.EachRow.{IsEachChanged, held_samples}
+use Rattle.pnm_row_tools.specs.Internal.EachRow.{IsEachChanged, held_samples}
 
 -- ---- rows in one list
 

@@ -1,2 +1,2 @@
 pub mod RowKeeping
-pub mod EachRow
+pub mod Internal

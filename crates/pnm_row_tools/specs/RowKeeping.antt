@@ -1,20 +1,18 @@
 -- What tools keep while the rows of an image come, and the rows of the result that they still give.
-use Rattle.std.specs.Prelude.{◌≡◌, ℕ, ◌+◌, ◌*◌, false, List, [], map, reverse, All, Option, Some, None}
+use Rattle.std.specs.Prelude.{◌≡◌, ℕ, ◌+◌, false, List, [], map, reverse, All, Option, Some, None}
 use Rattle.std.specs.List.{flat_map, range_with_len}
 use Rattle.pnm_image.specs.declared.shape.Shape.{Shape}
 use Rattle.pnm_image.specs.Heads.{IsWithinLimits}
 use Rattle.pnm_image.specs.Places.{IsRowOf}
 use Rattle.pnm_row_tools.specs.declared.cut.Cutter.{Cutter}
-use Rattle.pnm_row_tools.specs.declared.cut.Parts.{Parts}
 use Rattle.pnm_row_tools.specs.declared.samplewise.Samplewise.{Samplewise}
 use Rattle.pnm_row_tools.specs.declared.samplewise.Table.{Table}
 use Rattle.pnm_row_tools.specs.declared.samplewise.Table.TheVariants.{Absent, Words}
 use Rattle.pnm_tools.specs.declared.cut.CutBox.{CutBox}
-use Rattle.pnm_tools.specs.declared.cut.Span.{Span}
 use Rattle.pnm_tools.specs.declared.flip.FlipWay.{FlipWay}
-use Rattle.pnm_tools.specs.Cut.{columns_kept, rows_kept, span_count}
+use Rattle.pnm_tools.specs.Cut.{columns_kept, rows_kept}
 use Rattle.pnm_tools.specs.Samplewise.{SampleRule}
-use Rattle.pnm_tools.specs.Flip.{ReversesRows, transform_of, moves_rows, transformed_row}
+use Rattle.pnm_tools.specs.Flip.{transform_of, moves_rows, transformed_row}
 
 -- ---- tools that make rows of rows
 
@@ -32,16 +30,6 @@ pub record HasSpans (w : Cutter) (s : Shape) : Type 0 where
   pub columns : columns_kept w.cut s ≡ Some w.columns
   pub rows : rows_kept w.cut s ≡ Some w.rows
 
--- what is kept of these of the rows of so many samples, where these columns of so many planes are
-abbrev pub parts_kept : Span → Span → ℕ → ℕ → Parts
-parts_kept columns among depth row_length = record {
-  top = among.first;
-  count = span_count among;
-  row_length = row_length;
-  first = columns.first * depth;
-  kept = span_count columns * depth;
-}
-
 -- ---- tools that change each sample by itself: a table of them, or none, where each is computed
 
 -- what becomes of each sample from 0 to the maxval
@@ -53,12 +41,6 @@ IsTable changed maxval (Words words) = words.items ≡ map changed (range_with_l
 pub record HasTable {T : Type 0} (rule : T → SampleRule) (w : Samplewise T) (s : Shape) : Type 0 where
   pub limits : IsWithinLimits s
   pub table : IsTable ((rule w.tool).sample s.maxval) s.maxval w.table
-
--- ---- pamchannel
-
--- the shape with so many columns, as that of one long row of all pixels
-abbrev pub as_wide : ℕ → Shape → Shape
-as_wide width s = record s { width = width }
 
 -- ---- pamflip where rows stay in their places
 
@@ -84,15 +66,6 @@ pub record Reversed : Type 0 where
 
 abbrev pub reversed : FlipWay → List (List ℕ) → Option Shape → Reversed
 reversed way rows ended = record { way = way; rows = rows; ended = ended }
-
--- they are rows of an image that has ended
-abbrev pub AreRowsOf : Option Shape → List (List ℕ) → Type 0
-AreRowsOf None rows = Unit {0}
-AreRowsOf (Some s) rows = IsWithinLimits s × All (IsRowOf s) rows
-
-pub record CanReverse (w : Reversed) : Type 0 where
-  pub way : ReversesRows (transform_of w.way)
-  pub rows : AreRowsOf w.ended w.rows
 
 pub record IsReversingRows (w : Reversed) (s : Shape) (come : List (List ℕ)) : Type 0 where
   pub limits : IsWithinLimits s

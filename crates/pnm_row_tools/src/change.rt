@@ -4,7 +4,7 @@ ghost use Rattle.std.specs.Prelude.{ℕ, ◌≡◌, ◌≤◌, ◌<◌, All, IfO
 ghost use Rattle.std.specs.List.{concat};
 ghost use Rattle.pnm_image.specs.declared.limits.TheConstants.{MAX_MAXVAL};
 ghost use Rattle.pnm_image.specs.declared.rows.RowVec.TheVariants.{Bits};
-ghost use Rattle.pnm_row_tools.specs.EachRow.{HoldsSamples, IsEachChanged, held_samples};
+ghost use Rattle.pnm_row_tools.specs.Internal.EachRow.{HoldsSamples, IsEachChanged, held_samples};
 ghost use Rattle.pnm_tools.specs.Tools.{IsLawfulTool};
 
 use crate::sample_tool::SampleTool;

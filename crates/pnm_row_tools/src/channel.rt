@@ -6,9 +6,10 @@ ghost use Rattle.std.specs.List.{AllByRecursion, range_with_len};
 ghost use Rattle.pnm_image.specs.Places.{IsRowOf};
 ghost use Rattle.pnm_tools.specs.declared.fault.ToolFault.TheVariants.{Memory};
 ghost use Rattle.pnm_tools.specs.declared.tool.Tool.TheVariants.{Channel};
-ghost use Rattle.pnm_tools.specs.Channel.{picked_or, picked_row, IsLawfulPick, HasPlanes};
+ghost use Rattle.pnm_tools.specs.Channel.{picked_row, IsLawfulPick, HasPlanes};
+ghost use Rattle.pnm_tools.specs.Internal.Channel.{picked_or};
 ghost use Rattle.pnm_tools.specs.Tools.{TakesHead, result_head};
-ghost use Rattle.pnm_row_tools.specs.RowKeeping.{as_wide};
+ghost use Rattle.pnm_row_tools.specs.Internal.RowKeeping.{as_wide};
 
 use crate::row_tool::RowTool;
 use pnm_image::{Head, Kind, RowSlice, RowVec, Rows, Shape};

@@ -8,8 +8,8 @@ ghost use Rattle.pnm_image.specs.declared.limits.TheConstants.{MAX_SIDE};
 ghost use Rattle.pnm_tools.specs.Cut.{IsLawfulAxis, columns_of_row, span_of, first_kept, last_kept};
 ghost use Rattle.pnm_tools.specs.Cut.{edge_of, IsLawfulBox, columns_kept, rows_kept, span_count};
 ghost use Rattle.pnm_tools.specs.declared.tool.Tool.TheVariants.{Cut};
-ghost use Rattle.pnm_row_tools.specs.RowKeeping.{parts_kept};
-ghost use Rattle.pnm_row_tools.specs.EachRow.{parts_of};
+ghost use Rattle.pnm_row_tools.specs.Internal.RowKeeping.{parts_kept};
+ghost use Rattle.pnm_row_tools.specs.Internal.EachRow.{parts_of};
 
 use crate::row_tool::RowTool;
 use pnm_image::{Head, RowVec, Rows, Shape};

@@ -12,7 +12,7 @@ ghost use Rattle.pnm_tools.specs.declared.tool.Tool.TheVariants.{Flip};
 ghost use Rattle.pnm_tools.specs.Flip.{mirrored_row, moved_rows, moves_rows, transform_of, transformed_row};
 ghost use Rattle.pnm_tools.specs.Flip.{ReversesRows};
 ghost use Rattle.pnm_samples.specs.Cuts.{last_first};
-ghost use Rattle.pnm_row_tools.specs.EachRow.{HoldsRows, changed};
+ghost use Rattle.pnm_row_tools.specs.Internal.EachRow.{HoldsRows, changed};
 ghost use Rattle.pnm_row_tools.specs.RowKeeping.{FlipsInRows, IsReversingRows, reversed_due};
 ghost use Rattle.pnm_tools.specs.Tools.{TakesHead, result_head};
 
@@ -259,7 +259,8 @@ pub struct RowReverser {
 }
 
 impl Model for RowReverser {
-    ghost use Rattle.pnm_row_tools.specs.RowKeeping.{Reversed, reversed, CanReverse, flattened};
+    ghost use Rattle.pnm_row_tools.specs.RowKeeping.{Reversed, reversed, flattened};
+    ghost use Rattle.pnm_row_tools.specs.Internal.RowKeeping.{CanReverse};
 
     ghost Value = { Reversed };
 

@@ -4,7 +4,7 @@ ghost use Rattle.std.specs.Prelude.{ℕ, ◌≡◌, ◌≤◌, ◌+◌, All, IfE
 ghost use Rattle.std.specs.List.{range_with_len};
 ghost use Rattle.pnm_image.specs.declared.limits.TheConstants.{MAX_MAXVAL};
 ghost use Rattle.pnm_image.specs.Heads.{IsWithinLimits};
-ghost use Rattle.pnm_row_tools.specs.EachRow.{IsEachChanged, held_samples};
+ghost use Rattle.pnm_row_tools.specs.Internal.EachRow.{IsEachChanged, held_samples};
 ghost use Rattle.pnm_row_tools.specs.RowKeeping.{HasTable, IsTable};
 ghost use Rattle.pnm_tools.specs.Tools.{IsLawfulTool};
 

@@ -8,10 +8,11 @@ use Rattle.std.proofs.lemmas.List.{take_all, take_at, take-take, drop-take}
 use borrow.Rule.Slice.PartMut.{put_mid}
 use mir.Val.{Fits}
 use Rattle.std.specs.Int.{w8}
-use Rattle.pnm_samples.specs.BitRows.{row_bytes, ArePackedRows}
+use Rattle.pnm_samples.specs.Internal.BitRows.{row_bytes, ArePackedRows}
 use Rattle.pnm_samples.specs.PixelRows.{bytes_for, rows_of_bytes}
 use Rattle.std.specs.List.{flat_map}
-use Rattle.pnm_samples.specs.Pixels.{all_pixels, packed_bytes, AreBytes, ArePacked}
+use Rattle.pnm_samples.specs.Pixels.{all_pixels, packed_bytes, ArePacked}
+use Rattle.pnm_samples.specs.Internal.Pixels.{AreBytes}
 use Rattle.pnm_samples.proofs.PackedBytes.{packed_view}
 use Rattle.pnm_samples.proofs.PixelRowsLaws.{row_lies}
 use Rattle.pnm_samples.proofs.PixelLaws.{drop-all_pixels, take-all_pixels, whole_is_packed}

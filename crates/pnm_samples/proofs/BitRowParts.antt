@@ -2,7 +2,7 @@
 use Rattle.std.proofs.Common.{◌≡◌, ℕ, ◌+◌, ◌-◌, ◌*◌, ◌<◌, ◌≤◌, List, [], get_or, length, take, drop, map, refl, sym, ap, subst, ◌∙◌, arith, mul-le-mul}
 use Rattle.std.proofs.lemmas.List.{drop-drop, drop-take, ext_get_or, get_or-drop, get_or-map, get_or-take, length-drop, length-map, length-take, length-take-le}
 use Rattle.std.proofs.lemmas.List.{take-take, take_all}
-use Rattle.pnm_samples.specs.BitRows.{row_bytes, ArePackedRows}
+use Rattle.pnm_samples.specs.Internal.BitRows.{row_bytes, ArePackedRows}
 use Rattle.pnm_samples.specs.PixelRows.{bytes_for, rows_of_bytes}
 use Rattle.pnm_samples.specs.Pixels.{all_pixels, ArePacked}
 use Rattle.pnm_samples.proofs.BitRowLaws.{counted, pixels_of_row, row_within}

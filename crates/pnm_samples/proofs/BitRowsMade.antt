@@ -9,7 +9,7 @@ use Rattle.std.proofs.lemmas.List.Elements.{All-take, All-drop}
 use Rattle.std.proofs.Math.Seq.{drop-append-add, take-append-add}
 use borrow.Rule.Slice.PartMut.{put_mid}
 use Rattle.std.specs.List.{concat}
-use Rattle.pnm_samples.specs.BitRows.{row_bytes, ArePackedRows}
+use Rattle.pnm_samples.specs.Internal.BitRows.{row_bytes, ArePackedRows}
 use Rattle.pnm_samples.specs.Cuts.{cut_rows, last_first}
 use Rattle.pnm_samples.specs.PixelRows.{bytes_for, rows_of_bytes}
 use Rattle.pnm_samples.specs.Pixels.{all_pixels, packed_bytes, ArePacked}

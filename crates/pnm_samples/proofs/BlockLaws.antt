@@ -7,7 +7,7 @@ use lib.Lanes.{mask_l, top, zip2}
 use Rattle.std.proofs.lemmas.Nat.Bits.{bit_at-lt, bit_at-suc}
 use Rattle.std.proofs.lemmas.Simd.{zip2_of_maps, mask_l-lt, mask_l-mod, tops_compared, zip2_splat_left}
 use Rattle.std.proofs.lemmas.List.{length-map}
-use Rattle.pnm_samples.specs.Blocks.{bits_of}
+use Rattle.pnm_samples.specs.Internal.Blocks.{bits_of}
 
 -- the highest bit of a byte
 highest_bit : (x : ℕ) → x < 256 → cond (leb 128 x) 1 0 ≡ bit_at x 7

@@ -9,11 +9,12 @@ use Rattle.std.proofs.lemmas.List.Elements.{All-get_or, All-weaker}
 use Rattle.std.proofs.lemmas.List.FromFn.{get_or-map-range_with_len, length-map-range_with_len}
 use Rattle.std.specs.List.{range_with_len}
 use Rattle.pnm_samples.specs.Pixels.{pixel_at, pixels, all_pixels}
-use Rattle.pnm_samples.specs.Blocks.{bits_of, IsSquare, lane_at}
+use Rattle.pnm_samples.specs.Internal.Blocks.{bits_of, IsSquare, lane_at}
 use Rattle.std.specs.Int.{bit_at}
 use Rattle.pnm_samples.proofs.BlockLaws.{bit_of_bits}
 use Rattle.std.specs.Global.{Global}
-use Rattle.pnm_samples.specs.Columns.{column_at, AreLong, HasPair, HavePairs, HoldsPixels, HoldSixteen, HoldColumns, row_in_place}
+use Rattle.pnm_samples.specs.Columns.{column_at}
+use Rattle.pnm_samples.specs.Internal.Columns.{AreLong, HasPair, HavePairs, HoldsPixels, HoldSixteen, HoldColumns, row_in_place}
 use Rattle.pnm_samples.proofs.PixelLaws.{bit_at-shr, bit_at-low_byte, length-pixels, get_or-pixels, drop-all_pixels, length-all_pixels}
 
 -- a pixel of a byte of many

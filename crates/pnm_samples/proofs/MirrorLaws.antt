@@ -5,7 +5,8 @@ use Rattle.std.specs.Int.{w8, reverse_bits, reverse_bits_onto}
 use Rattle.std.proofs.lemmas.Bool.{agree_below_at, eqb-true, and_parts}
 use Rattle.std.proofs.lemmas.List.{map-append, reverse-append, append-nil, append_assoc, drop_all, take_at, drop_at, drop-drop, drop_more, drop-set-lt}
 use Rattle.std.proofs.lemmas.List.{take-append-drop, take-replicate, length-replicate, length-reverse, replicate-append-replicate, get_or-drop}
-use Rattle.pnm_samples.specs.Pixels.{pixels, all_pixels, ArePacked, AreBytes}
+use Rattle.pnm_samples.specs.Pixels.{pixels, all_pixels, ArePacked}
+use Rattle.pnm_samples.specs.Internal.Pixels.{AreBytes}
 use Rattle.pnm_samples.proofs.PixelLaws.{length-all_pixels, all_pixels-push, all_pixels-single, drop_within, set_last, shift_step}
 use Rattle.pnm_samples.proofs.PixelRowLaws.{length_of_packed}
 

@@ -3,7 +3,8 @@ use Rattle.std.proofs.Common.{◌≡◌, ℕ, zero, suc, ◌+◌, ◌-◌, ◌*�
 use Rattle.std.proofs.Common.{map, ◌∙◌, arith}
 use Rattle.std.proofs.lemmas.Bool.{agree_below_at, eqb-true}
 use Rattle.std.proofs.lemmas.List.{take_all, drop_all, take_at, drop_at, take-append-drop}
-use Rattle.pnm_samples.specs.Pixels.{pixels, all_pixels, ArePacked, AreBytes, pixel_bits, packed_byte, packed_bytes}
+use Rattle.pnm_samples.specs.Pixels.{pixels, all_pixels, ArePacked, pixel_bits, packed_byte, packed_bytes}
+use Rattle.pnm_samples.specs.Internal.Pixels.{AreBytes}
 use Rattle.pnm_samples.specs.Cuts.{cut_rows}
 use Rattle.pnm_samples.proofs.PixelLaws.{length-pixels}
 use Rattle.pnm_samples.proofs.PixelRowLaws.{length_of_packed}

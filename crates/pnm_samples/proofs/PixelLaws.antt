@@ -13,7 +13,8 @@ use Rattle.std.proofs.lemmas.List.{append_assoc}
 use borrow.Rule.Slice.PartMut.{put_mid}
 use Rattle.std.proofs.lemmas.Grind.{flat_map-append}
 use Rattle.std.proofs.Math.Seq.{take-append-add, drop-append-add}
-use Rattle.pnm_samples.specs.Pixels.{pixel_at, pixels, all_pixels, ArePacked, AreBytes}
+use Rattle.pnm_samples.specs.Pixels.{pixel_at, pixels, all_pixels, ArePacked}
+use Rattle.pnm_samples.specs.Internal.Pixels.{AreBytes}
 
 -- ---- one byte
 

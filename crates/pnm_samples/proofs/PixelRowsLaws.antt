@@ -4,7 +4,7 @@ use Rattle.std.proofs.Common.{ap₂, subst, ◌∙◌, arith, suc-mul, zero-mul,
 use Rattle.std.proofs.lemmas.List.{drop-append-le, drop-drop, get_or-drop, length-drop, length-reverse}
 use Rattle.std.proofs.lemmas.List.{length-take, length-take-le, nil_from_length}
 use Rattle.std.proofs.lemmas.List.{get_or-reverse, take-append-drop, take-append-le, take_all}
-use Rattle.pnm_samples.specs.Columns.{HoldsFrom}
+use Rattle.pnm_samples.specs.Internal.Columns.{HoldsFrom}
 use Rattle.pnm_samples.specs.Cuts.{cut_rows}
 use Rattle.pnm_samples.specs.PixelRows.{bytes_for, rows_of_bytes, ordered_rows}
 use Rattle.pnm_samples.specs.Pixels.{pixel_at, all_pixels}

@@ -6,7 +6,7 @@ use Rattle.std.proofs.lemmas.Bool.{cases_lt}
 use Rattle.std.proofs.lemmas.List.{append_assoc, drop-append-le, drop-drop, drop-take, drop_at, length-append, length-drop, length-take-le, take-append-le}
 use Rattle.std.proofs.lemmas.List.{take-take, take_at}
 use borrow.Rule.Slice.PartMut.{put_mid}
-use Rattle.pnm_samples.specs.BitRows.{IsMovedRun, row_bytes}
+use Rattle.pnm_samples.specs.Internal.BitRows.{IsMovedRun, row_bytes}
 use Rattle.pnm_samples.specs.PixelRows.{bytes_for, rows_of_bytes}
 use Rattle.pnm_samples.specs.Pixels.{all_pixels}
 use Rattle.pnm_samples.proofs.BitRowLaws.{row_within}

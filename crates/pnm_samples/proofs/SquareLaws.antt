@@ -4,7 +4,7 @@ use Rattle.std.proofs.Common.{ap, ap₂, ◌∙◌, arith, true, eqb, length-set
 use Rattle.std.proofs.lemmas.Bool.{agree_below_at, cases_eq, eqb-true}
 use Rattle.std.proofs.lemmas.List.{get_or-append-add, get_or-map, get_or_append_left}
 use lib.Lanes.{pick_l}
-use Rattle.pnm_samples.specs.Blocks.{IsSquare, lane_at}
+use Rattle.pnm_samples.specs.Internal.Blocks.{IsSquare, lane_at}
 
 -- ---- two rows interleaved
 

@@ -13,7 +13,7 @@ use Rattle.std.proofs.lemmas.Simd.{length-zip2}
 use borrow.Rule.Slice.PartMut.{put_mid}
 use lib.Lanes.{zip2}
 use Rattle.pnm_samples.specs.Pixels.{pixel_at, pixels, all_pixels}
-use Rattle.pnm_samples.specs.Stretches.{AreStretched, stride}
+use Rattle.pnm_samples.specs.Internal.Stretches.{AreStretched, stride}
 use Rattle.pnm_samples.proofs.MirrorLaws.{same_list, same_from_test}
 use Rattle.pnm_samples.proofs.PixelLaws.{length-pixels, length-all_pixels, take-all_pixels, all_pixels-append, all_pixels-push, held_before}
 use Rattle.pnm_samples.proofs.PixelLaws.{written_to_end}

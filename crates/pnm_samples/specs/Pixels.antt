@@ -1,9 +1,8 @@
 -- Pixels of one bit in bytes: eight a byte, the most significant bit leftmost; 1 is black, which is sample 0.
-use Rattle.std.specs.Prelude.{◌≡◌, ℕ, ◌+◌, ◌-◌, ◌*◌, ◌/◌, List, [], ◌∷◌, length, map, drop, replicate, slice_index}
+use Rattle.std.specs.Prelude.{◌≡◌, ℕ, ◌+◌, ◌-◌, ◌*◌, ◌/◌, List, [], ◌∷◌, length, map, drop, replicate}
 use Rattle.std.specs.List.{flat_map}
 use Rattle.pnm_samples.specs.Cuts.{cut_rows}
-use Rattle.std.specs.Int.{bit_at, w8}
-use mir.Val.{Fits}
+use Rattle.std.specs.Int.{bit_at}
 
 -- the pixel in a bit of a byte, the bit counted from the right
 abbrev pub pixel_at : ℕ → ℕ → ℕ
@@ -18,10 +17,6 @@ pixels byte =
 -- the pixels of bytes
 abbrev pub all_pixels : List ℕ → List ℕ
 all_pixels bytes = flat_map pixels bytes
-
--- each byte is below 256
-abbrev pub AreBytes : List ℕ → Type 0
-AreBytes bytes = (k : ℕ) → Fits w8 (slice_index bytes k)
 
 -- the bytes hold so many pixels, and no byte more; spare bits of the last one are white, which is bit 0
 pub record ArePacked (count : ℕ) (bytes : List ℕ) : Type 0 where

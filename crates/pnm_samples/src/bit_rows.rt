@@ -4,7 +4,7 @@ ghost use Rattle.std.specs.Prelude.{ℕ, ◌≡◌, ◌+◌, ◌-◌, ◌*◌, �
 ghost use Rattle.std.specs.Prelude.{All, map, replicate, reverse, take, IfOk, IsTrue, IsFalse, OnOk, OnErr};
 ghost use Rattle.std.specs.List.{concat, flat_map};
 ghost use Rattle.pnm_samples.specs.PixelRows.{bytes_for, rows_of_bytes};
-ghost use Rattle.pnm_samples.specs.BitRows.{ArePackedRows, row_bytes};
+ghost use Rattle.pnm_samples.specs.Internal.BitRows.{ArePackedRows, row_bytes};
 ghost use Rattle.pnm_samples.specs.Cuts.{cut_rows};
 ghost use Rattle.pnm_samples.specs.Pixels.{all_pixels, packed_bytes, ArePacked};
 
@@ -32,7 +32,7 @@ pub struct BitRows {
 impl Model for BitRows {
     ghost use Rattle.std.specs.Prelude.{List, ℕ};
     ghost use Rattle.pnm_samples.specs.PixelRows.{rows_of_bytes};
-    ghost use Rattle.pnm_samples.specs.BitRows.{ArePackedRows, row_bytes};
+    ghost use Rattle.pnm_samples.specs.Internal.BitRows.{ArePackedRows, row_bytes};
 
     ghost Value = { List (List ℕ) };
 

@@ -2,7 +2,8 @@
 
 ghost use Rattle.std.specs.Prelude.{◌≡◌, ℕ, ◌+◌, ◌-◌, ◌*◌, ◌/◌, ◌%◌, ◌^◌, ◌<◌, ◌≤◌, List, [], ◌++◌, length, take};
 ghost use Rattle.std.specs.Prelude.{drop, map, replicate, OnOk, OnErr, IfOk, IsTrue, ◌↔◌, All, slice_index};
-ghost use Rattle.pnm_samples.specs.Pixels.{pixel_at, pixels, all_pixels, ArePacked, AreBytes, packed_bytes};
+ghost use Rattle.pnm_samples.specs.Pixels.{pixel_at, pixels, all_pixels, ArePacked, packed_bytes};
+ghost use Rattle.pnm_samples.specs.Internal.Pixels.{AreBytes};
 
 use crate::bit_rows::rows_to_samples;
 use crate::widths::bytes_to_words;

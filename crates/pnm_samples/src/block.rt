@@ -1,7 +1,7 @@
 //! Bytes and pixels of sixteen rows, transposed.
 
 ghost use Rattle.std.specs.Prelude.{◌≡◌, ℕ, ◌+◌, ◌-◌, ◌*◌, ◌/◌, ◌%◌, ◌<◌, All, length, slice_index};
-ghost use Rattle.pnm_samples.specs.Blocks.{bits_of, IsSquare, lane_at};
+ghost use Rattle.pnm_samples.specs.Internal.Blocks.{bits_of, IsSquare, lane_at};
 
 use std::simd::prelude::*;
 

@@ -2,7 +2,7 @@
 
 ghost use Rattle.std.specs.Prelude.{◌≡◌, ◌+◌, ◌*◌, ◌<◌, ◌≤◌, ◌++◌, ◌∷◌, [], OnOk, OnErr, drop, get_or, length};
 ghost use Rattle.std.specs.Prelude.{reverse, take};
-ghost use Rattle.pnm_samples.specs.Columns.{HoldsFrom};
+ghost use Rattle.pnm_samples.specs.Internal.Columns.{HoldsFrom};
 ghost use Rattle.pnm_samples.specs.Cuts.{cut_rows};
 ghost use Rattle.pnm_samples.specs.PixelRows.{bytes_for, rows_of_bytes};
 

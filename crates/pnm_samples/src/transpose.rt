@@ -2,8 +2,9 @@
 
 ghost use Rattle.std.specs.Prelude.{◌≡◌, ◌≤◌, ◌<◌, ◌+◌, ◌*◌, ◌/◌, ◌^◌, ℕ, All, IfOk, get_or, length, map, []};
 ghost use Rattle.std.specs.List.{range_with_len};
-ghost use Rattle.pnm_samples.specs.Columns.{column_at, AreLong, HasPair, HavePairs, HoldColumns, HoldsFrom};
-ghost use Rattle.pnm_samples.specs.Columns.{HoldSixteen};
+ghost use Rattle.pnm_samples.specs.Columns.{column_at};
+ghost use Rattle.pnm_samples.specs.Internal.Columns.{AreLong, HasPair, HavePairs, HoldColumns, HoldsFrom};
+ghost use Rattle.pnm_samples.specs.Internal.Columns.{HoldSixteen};
 
 use crate::bits::Bits;
 use crate::block::{columns_of_sixteen, transposed};

@@ -11,7 +11,7 @@ use Rattle.pnm_image.specs.Texts.{is_blank, is_digit, words}
 use Rattle.pnm_image.proofs.Words.{words-cons, words-nil}
 use Rattle.pnm_read.specs.HeaderTexts.{ends_in_comment, ends_by, ends_in_word}
 use Rattle.pnm_read.specs.PamLines.{first_token}
-use Rattle.pnm_read.specs.LineWalks.{trimmed_start, token_of}
+use Rattle.pnm_read.specs.Internal.LineWalks.{trimmed_start, token_of}
 use Rattle.pnm_read.proofs.WalkLaws.{first_token_is}
 use Rattle.pnm_read.specs.Rasters.{SpellsDecimal}
 use Rattle.pnm_read.proofs.WordLaws.{digit_is_not_white, digit_is_not_sharp}

@@ -34,7 +34,8 @@ use Rattle.pnm_serial.specs.Feeding.{IsSaidOf, HasMore, MayFollowRead}
 use Rattle.pnm_serial.specs.Jobs.{Job}
 use Rattle.pnm_serial.specs.Runs.{Change, change, MayFollow, HoldsNothingBack, HasWritten, CountsFailures, HasRun}
 use Rattle.pnm_serial.specs.RunFacts.{IsStoppedBy}
-use Rattle.pnm_serial.specs.SerialRuns.{HasRunInOneThread, AllIsWritten, IsOfOneThread, answer_by, IsFirstRefusal, OutlastsRun, AnswersText, FitAnswer}
+use Rattle.pnm_serial.specs.SerialRuns.{HasRunInOneThread, AllIsWritten, IsOfOneThread, OutlastsRun, AnswersText, FitAnswer}
+use Rattle.pnm_serial.specs.Internal.SerialRuns.{answer_by, IsFirstRefusal}
 use Rattle.pnm_serial.specs.SerialRuns.{IsAllWritten}
 use Rattle.pnm_serial.specs.Verdicts.{HasResults, IsAnswer}
 use Rattle.pnm_serial.proofs.FeedingSteps.{rest_of, read_failure}

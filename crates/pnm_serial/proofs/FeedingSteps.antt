@@ -26,11 +26,11 @@ use Rattle.pnm_tools.proofs.ChainLaws.{sound_prefix}
 use Rattle.pnm_serial.specs.declared.fused_sink.FusedSink.{FusedSink}
 use Rattle.pnm_tools.specs.declared.fused_filter.FusedFilter.{FusedFilter}
 use Rattle.pnm_serial.specs.FusedSinks.{HasTaken}
-use Rattle.pnm_serial.specs.SerialChains.{FeedsThrough}
+use Rattle.pnm_serial.specs.Internal.SerialChains.{FeedsThrough}
 use Rattle.pnm_serial.specs.Runs.{change}
 use Rattle.pnm_serial.specs.SerialRuns.{OutlastsRun}
 use Rattle.pnm_serial.specs.Feeding.{HasMore, IsReadFailure, MayFollowRead}
-use Rattle.pnm_serial.specs.Feeding.{HaveTaken, HasFed}
+use Rattle.pnm_serial.specs.Internal.Feeding.{HaveTaken, HasFed}
 
 -- the bytes that may follow those that were read are ones that the source may still be given
 pub may_give : {R : Type 0} (left : R → Option (List ℕ)) (failures : R → ℕ) (first next : Source R) (result : Result (Unit {0}) InputFault) (rest : List ℕ)

@@ -16,7 +16,7 @@ use Rattle.pnm_read.specs.declared.line.Field.TheVariants.{Width, Height, Depth,
 use Rattle.pnm_read.specs.declared.line.LineKind.{LineKind}
 use Rattle.pnm_read.specs.declared.line.LineKind.TheVariants.{Number, End}
 use Rattle.pnm_read.specs.PamLines.{first_token, second_token, value_of, name_of, kind_of_token, line_kind, field_values, tuple_type_in}
-use Rattle.pnm_read.specs.LineWalks.{trimmed_start, trimmed_end, after_token, joined_with}
+use Rattle.pnm_read.specs.Internal.LineWalks.{trimmed_start, trimmed_end, after_token, joined_with}
 use Rattle.pnm_read.specs.Headers.{MaySay, IsPamLine, SpellsPamHeader}
 use Rattle.pnm_read.specs.Rasters.{SpellsDecimal}
 use Rattle.pnm_read.proofs.LineLaws.{with_feeds}

@@ -20,7 +20,8 @@ use Rattle.pnm_tools.proofs.ChainLaws.{sound_prefix}
 use Rattle.pnm_stages.proofs.SendingSteps.{GivesAnswers}
 use Rattle.pnm_serial.specs.declared.fused_sink.FusedSink.{FusedSink}
 use Rattle.pnm_serial.specs.FusedSinks.{HasTaken}
-use Rattle.pnm_serial.specs.SerialChains.{FiltersAt, FiltersBusy, FeedsThrough, GivesThrough}
+use Rattle.pnm_serial.specs.SerialChains.{FiltersAt}
+use Rattle.pnm_serial.specs.Internal.SerialChains.{FiltersBusy, FeedsThrough, GivesThrough}
 use Rattle.pnm_serial.proofs.SoundSteps.{busy_is_sound, goes_on_before}
 
 -- ---- stages one behind another

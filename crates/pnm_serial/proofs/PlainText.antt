@@ -18,7 +18,7 @@ use Rattle.pnm_read.proofs.PlainLaws.{apart_follows}
 use Rattle.pnm_write.specs.Encoding.{row_bytes}
 use Rattle.std.specs.Str.{byte}
 use Rattle.pnm_write.specs.PlainRows.{sample_text, plain_row_text}
-use Rattle.pnm_write.specs.PlainParts.{fits_in_line, separator, column_after, word_in_line, text_of_part, sample_texts}
+use Rattle.pnm_write.specs.Internal.PlainParts.{fits_in_line, separator, column_after, word_in_line, text_of_part, sample_texts}
 use Rattle.pnm_serial.proofs.DecimalText.{decimal_spells}
 use Rattle.pnm_write.proofs.WordSizes.{IsShortWord, each_within, sample_is_short}
 use Rattle.pnm_write.proofs.PlainLaws.{row_text_left, has_begun_line}

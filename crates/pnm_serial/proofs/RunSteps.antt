@@ -41,12 +41,14 @@ use Rattle.pnm_serial.specs.declared.fault.RunFault.{RunFault}
 use Rattle.pnm_serial.specs.declared.summary.Summary.{Summary}
 use Rattle.pnm_serial.specs.Counts.{saturate_u64, images_in, rows_in}
 use Rattle.pnm_serial.specs.FusedSinks.{output_of, AreInOrder, AreWritten, CutsOff, AreCutOff, HasTakenWith, AnswersFlushes}
-use Rattle.pnm_serial.specs.Feeding.{IsSaidOf, HasFed}
+use Rattle.pnm_serial.specs.Feeding.{IsSaidOf}
+use Rattle.pnm_serial.specs.Internal.Feeding.{HasFed}
 use Rattle.pnm_serial.specs.Jobs.{Job}
 use Rattle.pnm_serial.specs.RunFacts.{IsStoppedBy}
 use Rattle.pnm_serial.specs.SerialRuns.{FitAnswer, IsAllWritten}
 use Rattle.pnm_serial.specs.Verdicts.{HasRefusal, HasResults, IsAnswer}
-use Rattle.pnm_serial.specs.SerialChains.{refusals_in, FiltersAt}
+use Rattle.pnm_serial.specs.SerialChains.{FiltersAt}
+use Rattle.pnm_serial.specs.Internal.SerialChains.{refusals_in}
 use Rattle.pnm_serial.proofs.CountLaws.{images_in-stream, rows_in-stream}
 use Rattle.pnm_serial.proofs.FeedingSteps.{said_are_sound}
 use Rattle.pnm_serial.proofs.LastRefusals.{last_refusal_is_due}

@@ -10,3 +10,4 @@ pub mod RunLaws
 pub mod Feeding
 pub mod RunExamples
 pub mod ReadAgain
+pub mod Internal

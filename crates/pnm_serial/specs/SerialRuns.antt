@@ -1,13 +1,11 @@
 -- What a run in one thread answers, reads and writes besides.
-use Rattle.std.specs.Prelude.{◌≡◌, ◌-◌, ◌^◌, ◌≤◌, ℕ, List, length, Option, Some, None, Result, Ok, Err}
+use Rattle.std.specs.Prelude.{◌≡◌, ◌-◌, ◌^◌, ◌≤◌, ℕ, List, length, Option, Some, Result, Ok, Err}
 use Rattle.std.specs.Io.KnownBytes.{Appends, Consumes}
 use Rattle.pnm_image.specs.Devices.{Failed}
 use Rattle.pnm_image.specs.declared.message.Message.{Message}
-use Rattle.pnm_read.specs.declared.fault.InputFault.{InputFault}
 use Rattle.pnm_read.specs.Said.{said_of, fault_of}
 use Rattle.pnm_tools.specs.declared.fault.ToolFault.{ToolFault}
 use Rattle.pnm_tools.specs.ChainAnswers.{HaveAnswered, AreWell, IsFirstFault}
-use Rattle.pnm_write.specs.declared.fault.SinkFault.{SinkFault}
 use Rattle.pnm_write.specs.Encoding.{written_of}
 use Rattle.pnm_serial.specs.declared.fault.RunFault.{RunFault}
 use Rattle.pnm_serial.specs.declared.fault.RunFault.TheVariants.{NoStart, Input, Tool as OfTool, Output, PeerGone}
@@ -16,19 +14,6 @@ use Rattle.pnm_serial.specs.Jobs.{Job}
 use Rattle.pnm_serial.specs.Runs.{Change, HasRun}
 
 -- ---- the answer
-
--- the fault of the input comes before that of a tool, and this before the output's
-abbrev pub answer_by : Result (Unit {0}) InputFault → Option (ℕ × ToolFault) → Result Summary SinkFault
-    → Result Summary RunFault
-answer_by (Err fault) refused output = Err (Input fault)
-answer_by (Ok _) (Some found) output = Err (OfTool found.0 found.1)
-answer_by (Ok _) None (Err fault) = Err (Output fault)
-answer_by (Ok _) None (Ok summary) = Ok summary
-
--- the first stage that has refused, by its number, and why; or none has
-abbrev pub IsFirstRefusal : List (Option ToolFault) → Option (ℕ × ToolFault) → Type 0
-IsFirstRefusal faults None = AreWell faults
-IsFirstRefusal faults (Some found) = IsFirstFault 1 faults found.0 found.1
 
 -- an answer of a run in one thread: no thread was to be started, and no ring has another end
 abbrev pub IsOfOneThread : {A : Type 0} → Result A RunFault → Type 0

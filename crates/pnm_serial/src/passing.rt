@@ -3,7 +3,8 @@
 ghost use Rattle.std.specs.Prelude.{◌<◌, length};
 ghost use Rattle.pnm_image.specs.Packets.{messages_in};
 ghost use Rattle.pnm_serial.specs.FusedSinks.{output_of};
-ghost use Rattle.pnm_serial.specs.SerialChains.{FeedsThrough, FiltersAt, FiltersBusy, GivesThrough};
+ghost use Rattle.pnm_serial.specs.SerialChains.{FiltersAt};
+ghost use Rattle.pnm_serial.specs.Internal.SerialChains.{FeedsThrough, FiltersBusy, GivesThrough};
 
 use crate::fused_sink::FusedSink;
 use pnm_image::{BytesOut, Packet};

@@ -9,9 +9,11 @@ ghost use Rattle.pnm_tools.specs.Chains.{AreLawfulTools};
 ghost use Rattle.pnm_serial.specs.FusedSinks.{output_of, HasTaken};
 ghost use Rattle.pnm_serial.specs.Jobs.{job_of};
 ghost use Rattle.pnm_serial.specs.Runs.{change};
-ghost use Rattle.pnm_serial.specs.SerialRuns.{answer_by, HasRunInOneThread, IsFirstRefusal};
-ghost use Rattle.pnm_serial.specs.SerialChains.{refusals_in, FiltersAt};
-ghost use Rattle.pnm_serial.specs.Feeding.{HasFed};
+ghost use Rattle.pnm_serial.specs.SerialRuns.{HasRunInOneThread};
+ghost use Rattle.pnm_serial.specs.Internal.SerialRuns.{answer_by, IsFirstRefusal};
+ghost use Rattle.pnm_serial.specs.SerialChains.{FiltersAt};
+ghost use Rattle.pnm_serial.specs.Internal.SerialChains.{refusals_in};
+ghost use Rattle.pnm_serial.specs.Internal.Feeding.{HasFed};
 
 use crate::buffers::Buffers;
 use crate::fault::RunFault;

@@ -18,9 +18,9 @@ use Rattle.pnm_tools.specs.FusedFilters.{FilterAt, FilterBusy}
 use Rattle.pnm_tools.specs.Unfed.{HasFedNext}
 use Rattle.pnm_tools.proofs.FullLaws.{prefix_of_prefix}
 use Rattle.pnm_tools.proofs.InFullLaws.{ends_after}
-use Rattle.pnm_stages.specs.StageParts.{HasAnsweredPart, HasPassed}
+use Rattle.pnm_stages.specs.Internal.StageParts.{HasAnsweredPart, HasPassed}
 use Rattle.pnm_stages.specs.declared.held_image.HeldImage.{HeldImage}
-use Rattle.pnm_stages.specs.HeldImages.{held_messages, EachPartAnswers, HasSentOrHeld, HasHeldAnswers}
+use Rattle.pnm_stages.specs.Internal.HeldImages.{held_messages, EachPartAnswers, HasSentOrHeld, HasHeldAnswers}
 use Rattle.pnm_stages.proofs.EndingLaws.{prefix_goes_on}
 use Rattle.pnm_stages.proofs.PacketLaws.{ends_with_packet}
 use Rattle.pnm_stages.proofs.PrefixLaws.{prefix_without_stop}

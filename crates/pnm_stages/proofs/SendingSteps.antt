@@ -7,7 +7,7 @@ use Rattle.pnm_tools.specs.Answers.{Answers}
 use Rattle.pnm_tools.specs.declared.fused_filter.FusedFilter.{FusedFilter}
 use Rattle.pnm_tools.specs.declared.fused_filter.FusedFilter.TheVariants.{AtWork, Refused}
 use Rattle.pnm_tools.specs.FusedFilters.{FilterBusy}
-use Rattle.pnm_stages.specs.StageParts.{HasAnsweredPart}
+use Rattle.pnm_stages.specs.Internal.StageParts.{HasAnsweredPart}
 
 -- the laws that a filter keeps: what it has given answers what it accepted
 abbrev pub GivesAnswers : {F : Type 0} → (F → Tool → List Message → List Message → Type 0) → Type 0

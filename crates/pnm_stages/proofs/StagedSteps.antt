@@ -23,7 +23,7 @@ use Rattle.pnm_stages.specs.Rings.{IsEnded, EndsAtMostOnce, HasDrainedAfter}
 use Rattle.pnm_tools.specs.FusedFilters.{FilterAt, refusal_in}
 use Rattle.pnm_stages.specs.Prefixes.{IsPrefixOfDue}
 use Rattle.pnm_stages.specs.Stages.{HasEndedSo, HasRunStage}
-use Rattle.pnm_stages.specs.StageParts.{HasAnsweredPart, HasPassed, HasBrokenOffAfter}
+use Rattle.pnm_stages.specs.Internal.StageParts.{HasAnsweredPart, HasPassed, HasBrokenOffAfter}
 use Rattle.pnm_tools.specs.Tools.{output_due}
 use Rattle.pnm_tools.proofs.InFullLaws.{ends_after}
 use Rattle.pnm_tools.proofs.SoundLaws.{both_all}

@@ -3,6 +3,5 @@ pub mod Rings
 pub mod RingLimits
 pub mod Prefixes
 pub mod Stages
-pub mod StageParts
-pub mod HeldImages
 pub mod Starts
+pub mod Internal

@@ -2,7 +2,7 @@
 
 ghost use Rattle.std.specs.Prelude.{[], ◌++◌};
 ghost use Rattle.pnm_image.specs.Packets.{messages_in};
-ghost use Rattle.pnm_stages.specs.HeldImages.{HasSentOrHeld};
+ghost use Rattle.pnm_stages.specs.Internal.HeldImages.{HasSentOrHeld};
 ghost use Rattle.pnm_stages.specs.Rings.{sent, SameSender};
 
 use crate::sender::Sender;
@@ -25,7 +25,7 @@ impl HeldImage {
     ghost use Rattle.std.specs.Prelude.{◌≡◌, []};
     ghost use Rattle.pnm_image.specs.Packets.{messages_in};
     ghost use Rattle.pnm_stages.specs.Rings.{sent, SameSender};
-    ghost use Rattle.pnm_stages.specs.HeldImages.{held_messages, HasSentOrHeld};
+    ghost use Rattle.pnm_stages.specs.Internal.HeldImages.{held_messages, HasSentOrHeld};
 
     /// Sends what comes after what is held. A head is held back, and so are the rows that come next, if they come
     /// together; if the image's end follows, the whole image is sent as one packet. If something else comes, what is

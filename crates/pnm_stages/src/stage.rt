@@ -6,8 +6,8 @@ ghost use Rattle.pnm_image.specs.Packets.{messages_in};
 ghost use Rattle.pnm_stages.specs.Rings.{sent, received, known_items, known_packets, SameSender, SameReceiver};
 ghost use Rattle.pnm_tools.specs.FusedFilters.{FilterAt};
 ghost use Rattle.pnm_stages.specs.Stages.{HasRunStage};
-ghost use Rattle.pnm_stages.specs.StageParts.{HasPassed, HasBrokenOffAfter};
-ghost use Rattle.pnm_stages.specs.HeldImages.{held_messages, HasHeldAnswers};
+ghost use Rattle.pnm_stages.specs.Internal.StageParts.{HasPassed, HasBrokenOffAfter};
+ghost use Rattle.pnm_stages.specs.Internal.HeldImages.{held_messages, HasHeldAnswers};
 
 use crate::held_image::HeldImage;
 use crate::receiver::Receiver;

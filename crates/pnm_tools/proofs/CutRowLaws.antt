@@ -14,7 +14,8 @@ use Rattle.pnm_tools.specs.declared.cut.Span.{Span}
 use Rattle.pnm_tools.specs.declared.fault.ToolFault.{ToolFault}
 use Rattle.pnm_tools.specs.declared.fault.ToolFault.TheVariants.{OutOfOrder}
 use Rattle.pnm_tools.specs.declared.tool.Tool.TheVariants.{Cut}
-use Rattle.pnm_tools.specs.Cut.{KeepsWithin, columns_of_row, first_kept, last_kept, span_within, columns_kept, rows_kept, rows_of_spans, head_of_spans}
+use Rattle.pnm_tools.specs.Cut.{columns_of_row, first_kept, last_kept, span_within, columns_kept, rows_kept, rows_of_spans, head_of_spans}
+use Rattle.pnm_tools.specs.Internal.Cut.{KeepsWithin}
 use Rattle.pnm_tools.specs.Cut.{span_count}
 use Rattle.pnm_tools.specs.ToolLimits.{within_limits}
 use Rattle.pnm_tools.specs.Tools.{result_head, row_answer}

@@ -13,8 +13,10 @@ use Rattle.pnm_tools.specs.declared.flip.Transform.{Transform}
 use Rattle.pnm_tools.specs.declared.tool.Tool.TheVariants.{Flip}
 use Rattle.pnm_tools.specs.Formulas.{image_by}
 use Rattle.pnm_tools.specs.PixelSamples.{pixel_of}
-use Rattle.pnm_tools.specs.Flip.{transform, transform_of, transformed_sample, transformed_head_value, transformed_row, transformed_at_end, moves_rows, in_order}
-use Rattle.pnm_tools.specs.Flip.{place_in, mirrored_row}
+use Rattle.pnm_tools.specs.Flip.{transform, transform_of, transformed_row, transformed_at_end, moves_rows, in_order}
+use Rattle.pnm_tools.specs.Internal.Flip.{transformed_sample, transformed_head_value}
+use Rattle.pnm_tools.specs.Flip.{mirrored_row}
+use Rattle.pnm_tools.specs.Internal.Flip.{place_in}
 use Rattle.pnm_tools.specs.Flip.{column_of, transposed_head_value}
 use Rattle.pnm_tools.specs.Tools.{result_head, result_sample, end_answer}
 use Rattle.pnm_tools.proofs.FormulaLaws.{columns as side_by_side, row_at, rows_are, rows_of-image_by, range_alike}

@@ -8,7 +8,8 @@ use Rattle.std.proofs.lemmas.List.{length-append, length-drop, take_at, drop_at,
 use Rattle.std.proofs.lemmas.List.Elements.{All-nil, All-append, All-map}
 use Rattle.std.proofs.lemmas.List.Sums.{AllPass-from_list_all, list_all-from_AllPass}
 use Rattle.pnm_image.specs.declared.shape.Shape.{Shape}
-use Rattle.pnm_tools.specs.Channel.{picked_or, picked_samples}
+use Rattle.pnm_tools.specs.Channel.{picked_samples}
+use Rattle.pnm_tools.specs.Internal.Channel.{picked_or}
 
 -- one number more
 next_number : {X : Type 0} (f : ℕ → List X) (a n j : ℕ) → a + n ≡ j → flat_map f (range_with_len a (suc n)) ≡ flat_map f (range_with_len a n) ++ f j

@@ -13,7 +13,8 @@ use Rattle.pnm_tools.specs.declared.flip.FlipWay.{FlipWay}
 use Rattle.pnm_tools.specs.declared.flip.FlipWay.TheVariants.{LeftRight, TopBottom, Transpose, Rotate90, Rotate180, Rotate270}
 use Rattle.pnm_tools.specs.declared.flip.Transform.{Transform}
 use Rattle.pnm_tools.specs.declared.tool.Tool.TheVariants.{Flip}
-use Rattle.pnm_tools.specs.Flip.{transform, transform_of, transformed_sample, transformed_head, transformed_head_value, transposed_head_value}
+use Rattle.pnm_tools.specs.Flip.{transform, transform_of, transformed_head, transposed_head_value}
+use Rattle.pnm_tools.specs.Internal.Flip.{transformed_sample, transformed_head_value}
 use Rattle.pnm_tools.specs.Formulas.{row_by, image_by}
 use Rattle.pnm_tools.specs.Laws.{then_flipped, HasQuarterTurns}
 use Rattle.pnm_tools.specs.ToolLimits.{within_limits}

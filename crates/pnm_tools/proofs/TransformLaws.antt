@@ -8,7 +8,8 @@ use Rattle.pnm_tools.specs.declared.flip.FlipWay.{FlipWay}
 use Rattle.pnm_tools.specs.declared.flip.FlipWay.TheVariants.{Null, LeftRight, TopBottom, Transpose, Rotate90, Rotate180, Rotate270}
 use Rattle.pnm_tools.specs.declared.flip.Transform.{Transform}
 use Rattle.pnm_tools.specs.declared.tool.Tool.TheVariants.{Flip}
-use Rattle.pnm_tools.specs.Flip.{flipped_sample, transform_of, transformed_sample, place_in, in_order, moves_rows, transformed_row}
+use Rattle.pnm_tools.specs.Flip.{flipped_sample, transform_of, in_order, moves_rows, transformed_row}
+use Rattle.pnm_tools.specs.Internal.Flip.{transformed_sample, place_in}
 use Rattle.pnm_tools.specs.Flip.{ReversesRows}
 use Rattle.pnm_tools.specs.Tools.{row_answer}
 use Rattle.pnm_tools.proofs.RangeLaws.{downward}

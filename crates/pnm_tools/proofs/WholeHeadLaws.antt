@@ -10,7 +10,8 @@ use Rattle.pnm_tools.specs.declared.flip.Transform.{Transform}
 use Rattle.pnm_tools.specs.declared.tool.Tool.TheVariants.{Enlarge, Flip, Tile}
 use Rattle.pnm_tools.specs.ToolLimits.{within_limits}
 use Rattle.pnm_tools.specs.Enlarge.{enlarged_head_value}
-use Rattle.pnm_tools.specs.Flip.{transform, transform_of, transformed_head, transformed_head_value, transposed_head_value}
+use Rattle.pnm_tools.specs.Flip.{transform, transform_of, transformed_head, transposed_head_value}
+use Rattle.pnm_tools.specs.Internal.Flip.{transformed_head_value}
 use Rattle.pnm_tools.specs.Tile.{tiled_head_value}
 use Rattle.pnm_tools.specs.Tools.{result_head}
 

@@ -1,6 +1,6 @@
 -- The picked image, from pamchannel(1): a PAM image of planes of the image, in the order in which they are named. Its
 -- tuple type is the one that is named.
-use Rattle.std.specs.Prelude.{◌≤◌, ◌<◌, ℕ, ◌+◌, ◌-◌, ◌*◌, List, length, map, slice_index, slice_index_or, All, Result}
+use Rattle.std.specs.Prelude.{◌≤◌, ◌<◌, ℕ, ◌+◌, ◌-◌, ◌*◌, List, length, map, slice_index, All, Result}
 use Rattle.std.specs.Prelude.{Err, if◌then◌else◌, nat_lt, true, [], ◌∷◌}
 use Rattle.std.specs.List.{flat_map, range_with_len, list_all}
 use Rattle.pnm_image.specs.declared.limits.TheConstants.{MAX_DEPTH}
@@ -41,11 +41,6 @@ picked_head picks head =
 
 abbrev pub picked_sample : Picks → Image → ℕ → ℕ → ℕ → ℕ
 picked_sample picks i x y p = sample_at i x y (slice_index picks.numbers p)
-
--- of each column of a row of this shape the planes that are picked, past the end of the row this sample
-abbrev pub picked_or : {X : Type 0} → X → List ℕ → Shape → List X → List X
-picked_or past numbers s row = flat_map (λ x. map (λ number. slice_index_or row (x * s.depth + number) past) numbers)
-    (range_with_len 0 s.width)
 
 -- the planes that are picked of a row whose samples are numbers
 abbrev pub picked_samples : List ℕ → Shape → List ℕ → List ℕ

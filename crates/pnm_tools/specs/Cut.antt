@@ -3,7 +3,7 @@
 -- counted from the left or the top, from 0; a negative one from the right or the bottom, so that -1 is the last column
 -- or row.
 use Rattle.std.specs.Prelude.{◌≤◌, ℕ, suc, ◌+◌, ◌-◌, ◌*◌, ℤ, pos, negsuc, ◌+ℤ◌, ◌-ℤ◌, unsigned_abs, Option, Some, None}
-use Rattle.std.specs.Prelude.{IfSome, IsSome, List, [], ◌∷◌, length, take, drop, Result, Ok, Err, nat_le, nat_lt, ◌==◌}
+use Rattle.std.specs.Prelude.{IfSome, IsSome, List, [], ◌∷◌, take, drop, Result, Ok, Err, nat_le, nat_lt, ◌==◌}
 use Rattle.std.specs.Prelude.{◌&&◌, if◌then◌else◌, false}
 use Rattle.pnm_tools.specs.declared.limits.TheConstants.{MAX_EXTENT}
 use Rattle.pnm_image.specs.declared.shape.Shape.{Shape}
@@ -102,10 +102,6 @@ rows_of_spans None rows depth y row = []
 
 abbrev pub cut_rows_of : CutBox → Shape → ℕ → List ℕ → List (List ℕ)
 cut_rows_of box s y row = rows_of_spans (columns_kept box s) (rows_kept box s) s.depth y row
-
--- the columns lie in the row
-abbrev pub KeepsWithin : {X : Type 0} → Span → ℕ → List X → Type 0
-KeepsWithin columns depth row = (columns.first ≤ columns.last) × ((columns.last + 1) * depth ≤ length row)
 
 abbrev pub cutting : CutBox → Meaning
 cutting box = record {

@@ -47,16 +47,6 @@ transform_of Rotate270 = transform false true true
 
 -- ---- what a rule makes of an image
 
--- the place that comes to the k-th one of n, where their order is reversed or not
-abbrev pub place_in : Bool → ℕ → ℕ → ℕ
-place_in reversed n k = if reversed then n - 1 - k else k
-
--- the sample of the result in a column, a row and a plane
-abbrev pub transformed_sample : Transform → Image → ℕ → ℕ → ℕ → ℕ
-transformed_sample t i x y p =
-    sample_at i (place_in t.columns_reversed i.head.shape.width (if t.exchanged then y else x))
-    (place_in t.rows_reversed i.head.shape.height (if t.exchanged then x else y)) p
-
 -- rows don't stay in their places
 abbrev pub moves_rows : Transform → Bool
 moves_rows t = t.exchanged || t.rows_reversed
@@ -64,9 +54,6 @@ moves_rows t = t.exchanged || t.rows_reversed
 abbrev pub transposed_head_value : HeadValue → HeadValue
 transposed_head_value head =
     record head { shape = record head.shape { width = head.shape.height; height = head.shape.width } }
-
-abbrev pub transformed_head_value : Transform → HeadValue → HeadValue
-transformed_head_value t head = if t.exchanged then transposed_head_value head else head
 
 -- where rows change places the tool isn't row-wise, so that a height of 0 is out of order
 abbrev pub transformed_head : Transform → HeadValue → Result HeadValue ToolFault

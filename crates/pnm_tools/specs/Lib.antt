@@ -20,3 +20,4 @@ pub mod Laws
 pub mod Dealing
 pub mod FusedFilters
 pub mod Unfed
+pub mod Internal

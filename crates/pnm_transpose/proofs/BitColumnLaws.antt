@@ -5,7 +5,7 @@ use Rattle.std.proofs.lemmas.List.{drop_more, map-id}
 use Rattle.std.proofs.lemmas.List.Elements.{All-head, All-tail, All-weaker}
 use Rattle.pnm_samples.specs.Columns.{column_at}
 use Rattle.pnm_tools.specs.Flip.{column_of}
-use Rattle.pnm_transpose.specs.SampleRows.{IsBatchOfBits}
+use Rattle.pnm_transpose.specs.Internal.SampleRows.{IsBatchOfBits}
 use Rattle.pnm_tools.proofs.RangeLaws.{alike_from}
 
 -- a column of rows of one plane

@@ -7,7 +7,7 @@ use Rattle.std.proofs.lemmas.Grind.{get_or-set_at}
 use Rattle.std.proofs.lemmas.List.{drop-drop, get_or-drop, get_or-map, get_or-take, get_or_default, length-drop, length-map, length-take-le, get_or-set_other}
 use Rattle.std.proofs.lemmas.List.{same_lists, take_all}
 use Rattle.std.proofs.lemmas.List.Elements.{All-head, All-tail, All-drop, All-take, All-weaker}
-use Rattle.pnm_transpose.specs.ColumnBatches.{AreRowsFrom, HavePixels}
+use Rattle.pnm_transpose.specs.Internal.ColumnBatches.{AreRowsFrom, HavePixels}
 use Rattle.pnm_tools.specs.Flip.{column_of}
 use Rattle.pnm_tools.specs.PixelSamples.{pixel_of}
 use Rattle.pnm_transpose.proofs.ColumnLaws.{all_behind, rows_behind}

@@ -12,7 +12,7 @@ use Rattle.std.proofs.lemmas.List.{get_or-drop, get_or-map, get_or-take}
 use Rattle.std.proofs.lemmas.List.{get_or-set_other, get_or_append_left, get_or_default, same_lists, with_items_is}
 use Rattle.std.proofs.lemmas.List.Elements.{All-head, All-tail, All-weaker, All-take, All-drop, All-get_or}
 use Rattle.std.proofs.lemmas.List.FromFn.{get_or-map-range_with_len, length-map-range_with_len}
-use Rattle.pnm_transpose.specs.ColumnBatches.{AreBlank, AreLongEnough, HavePixels, column_samples}
+use Rattle.pnm_transpose.specs.Internal.ColumnBatches.{AreBlank, AreLongEnough, HavePixels, column_samples}
 use Rattle.pnm_tools.specs.Flip.{column_of}
 use Rattle.pnm_tools.specs.PixelSamples.{pixel_of}
 use Rattle.pnm_tools.proofs.PixelLaws.{color_of, pixel_of_one}

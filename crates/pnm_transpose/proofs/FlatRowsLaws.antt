@@ -4,7 +4,7 @@ use Rattle.std.proofs.Common.{suc-mul, zero-mul, mul-le-mul, Bool, true, false, 
 use Rattle.std.proofs.lemmas.List.{drop-append-le, drop-drop, length-append, length-drop, length-reverse, get_or-reverse, nil_from_length}
 use Rattle.std.proofs.lemmas.List.{take-append-le}
 use Rattle.pnm_image.specs.Images.{cut_rows}
-use Rattle.pnm_transpose.specs.FlatRows.{rows_in, ordered_rows_in}
+use Rattle.pnm_transpose.specs.Internal.FlatRows.{rows_in, ordered_rows_in}
 
 pub length_of_rows : {X : Type 0} (n each : ℕ) (samples : List X) → length (rows_in n each samples) ≡ n
 length_of_rows zero each samples = refl

@@ -6,7 +6,7 @@ use Rattle.pnm_image.specs.declared.rows.RowVec.{RowVec}
 use Rattle.pnm_image.specs.declared.rows.RowSlice.{RowSlice}
 use Rattle.pnm_image.specs.HeldRows.{AreRows, AreRowsWithin, AreSliceRows, HasAdded, HoldsSame, row_lists, slice_lists}
 use Rattle.pnm_image.proofs.HeldRowLaws.{within_greater}
-use Rattle.pnm_transpose.specs.HeldColumns.{HasTaken, HoldsWithin}
+use Rattle.pnm_transpose.specs.Internal.HeldColumns.{HasTaken, HoldsWithin}
 
 -- the last of a batch, in front of the others
 last_first : (batch rest : List (List ℕ)) (next : List ℕ) (rows : List (List ℕ)) → batch ≡ rest ++ next ∷ []

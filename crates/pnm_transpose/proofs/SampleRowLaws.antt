@@ -6,7 +6,7 @@ use Rattle.pnm_image.specs.declared.rows.RowSlice.{RowSlice}
 use Rattle.pnm_image.specs.HeldRows.{slice_lists}
 use Rattle.pnm_image.specs.Images.{cut_rows}
 use Rattle.pnm_transpose.specs.declared.sample_rows.SampleRows.{SampleRows}
-use Rattle.pnm_transpose.specs.FlatRows.{rows_in}
+use Rattle.pnm_transpose.specs.Internal.FlatRows.{rows_in}
 use Rattle.pnm_transpose.specs.SampleRows.{row_lists}
 use Rattle.pnm_transpose.proofs.FlatRowsLaws.{rows_are_cut}
 

@@ -6,10 +6,11 @@ use Rattle.std.proofs.lemmas.Grind.{flat_map-append}
 use Rattle.std.proofs.lemmas.List.{length-append, length-reverse, reverse-append, take_all, take_at, drop_at}
 use Rattle.std.proofs.lemmas.List.Elements.{All-nil, All-head, All-tail, All-weaker, All-append, All-cons}
 use Rattle.pnm_transpose.specs.declared.strip.TheConstants.{STRIP_ROWS}
-use Rattle.pnm_transpose.specs.ColumnBatches.{AreAsLong, AreBlank, HavePixels, column_samples}
+use Rattle.pnm_transpose.specs.Internal.ColumnBatches.{AreAsLong, AreBlank, HavePixels, column_samples}
 use Rattle.pnm_tools.specs.Flip.{column_of, in_order}
 use Rattle.pnm_tools.specs.PixelSamples.{pixel_of}
-use Rattle.pnm_transpose.specs.Strips.{HaveSizes, KeepColumns, ReachColumns, coming_column, kept_column, kept_count}
+use Rattle.pnm_transpose.specs.Strips.{HaveSizes, coming_column, kept_column, kept_count}
+use Rattle.pnm_transpose.specs.Internal.Strips.{KeepColumns, ReachColumns}
 use Rattle.pnm_transpose.proofs.ColumnLaws.{columns_filled, length_of_column, pixels_behind, reach}
 use Rattle.pnm_tools.proofs.PickLaws.{flat_map_one_more}
 use Rattle.pnm_tools.proofs.RangeLaws.{alike_from, pieces_in_parts}

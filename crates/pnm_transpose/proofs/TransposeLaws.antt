@@ -21,7 +21,8 @@ use Rattle.pnm_tools.specs.declared.tool.Tool.TheVariants.{Flip}
 use Rattle.pnm_tools.specs.Flip.{transform_of, in_order, column_of, moved_rows, moves_rows, transformed_at_end, transformed_row, transposed_head_value}
 use Rattle.pnm_transpose.specs.Keeping.{Transposed, IsTransposing, transposed, transposed_due}
 use Rattle.pnm_transpose.specs.SampleRows.{SuitsShape}
-use Rattle.pnm_transpose.specs.Strips.{KeepColumns, coming_column, kept_column}
+use Rattle.pnm_transpose.specs.Strips.{coming_column, kept_column}
+use Rattle.pnm_transpose.specs.Internal.Strips.{KeepColumns}
 use Rattle.pnm_tools.specs.Answering.{rows_answer}
 use Rattle.pnm_tools.specs.Tools.{result_head, end_answer}
 use Rattle.pnm_tools.proofs.HeadLaws.{small_row}

@@ -1,16 +1,15 @@
 -- What a transposer keeps while the rows of an image come, and the rows of the result that it still gives.
-use Rattle.std.specs.Prelude.{◌≡◌, ℕ, ◌-◌, ◌*◌, ◌<◌, ◌≤◌, ◌%◌, true, List, [], ◌++◌}
+use Rattle.std.specs.Prelude.{◌≡◌, ℕ, ◌-◌, ◌*◌, ◌<◌, ◌≤◌, List, [], ◌++◌}
 use Rattle.std.specs.Prelude.{map, length, reverse}
 use Rattle.std.specs.List.{range_with_len}
-use Rattle.pnm_image.specs.declared.limits.TheConstants.{MAX_DEPTH, MAX_ROW_LENGTH}
+use Rattle.pnm_image.specs.declared.limits.TheConstants.{MAX_ROW_LENGTH}
 use Rattle.pnm_image.specs.declared.sample_width.SampleWidth.{SampleWidth}
-use Rattle.pnm_image.specs.declared.sample_width.SampleWidth.TheVariants.{Bits as OfBits}
 use Rattle.pnm_image.specs.declared.shape.Shape.{Shape}
 use Rattle.pnm_image.specs.Heads.{IsWithinLimits}
 use Rattle.pnm_tools.specs.declared.flip.FlipWay.{FlipWay}
 use Rattle.pnm_tools.specs.Flip.{transform_of, in_order, column_of}
 use Rattle.pnm_transpose.specs.SampleRows.{SuitsShape}
-use Rattle.pnm_transpose.specs.Strips.{HaveSizes, ReachColumns, coming_column, kept_column, kept_count}
+use Rattle.pnm_transpose.specs.Strips.{HaveSizes, coming_column, kept_column, kept_count}
 
 -- the way, the planes of the image, how its rows are held, the strips and the rows after them; the batch, whose last
 -- row is given next; and of all the columns, which become the rows of the result, those from `next` up to `columns`
@@ -37,17 +36,6 @@ transposed way depth sample_width strips rows batch next columns =
       next = next;
       columns = columns;
     }
-
--- each row has a pixel of each column, and each strip a part of each; a row of the result is within the limits; packed
--- rows have one plane, and the next column is the first of a byte
-pub record HasColumns (w : Transposed) : Type 0 where
-  pub way : (transform_of w.way).exchanged ≡ true
-  pub reach : ReachColumns w.columns w.depth w.strips w.rows
-  pub each : 0 < w.columns → kept_count w.strips w.rows * w.depth ≤ MAX_ROW_LENGTH
-  pub depth : w.depth ≤ MAX_DEPTH
-  pub made : w.next ≤ w.columns
-  pub one_plane : w.sample_width ≡ OfBits → 0 < w.columns → w.depth ≡ 1
-  pub at_byte : w.sample_width ≡ OfBits → w.next < w.columns → w.next % 8 ≡ 0
 
 pub record IsTransposing (w : Transposed) (s : Shape) (come : List (List ℕ)) : Type 0 where
   pub limits : IsWithinLimits s

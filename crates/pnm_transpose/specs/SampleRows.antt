@@ -1,5 +1,5 @@
 -- Rows of one width of samples, and which columns of them are made side by side.
-use Rattle.std.specs.Prelude.{◌≡◌, ℕ, ◌%◌, ◌<◌, ◌≤◌, List, [], All}
+use Rattle.std.specs.Prelude.{◌≡◌, ℕ, ◌≤◌, List, []}
 use Rattle.pnm_image.specs.declared.sample_width.SampleWidth.{SampleWidth}
 use Rattle.pnm_image.specs.declared.sample_width.SampleWidth.TheVariants.{Bits as OfBits, Bytes as OfBytes}
 use Rattle.pnm_image.specs.declared.sample_width.SampleWidth.TheVariants.{Words as OfWords}
@@ -25,27 +25,8 @@ rows_width (Bits rows) = OfBits
 rows_width (Bytes rows) = OfBytes
 rows_width (Words rows) = OfWords
 
--- a row can be held so wide
-abbrev pub FitsWidth : SampleWidth → List ℕ → Type 0
-FitsWidth OfBits row = All (λ sample. sample ≤ 1) row
-FitsWidth OfBytes row = All (λ sample. sample ≤ 255) row
-FitsWidth OfWords row = Unit {0}
-
 -- each row of an image of this shape can be held so, and packed pixels have one plane
 abbrev pub SuitsShape : SampleWidth → Shape → Type 0
 SuitsShape OfBits s = (s.maxval ≤ 1) × (s.depth ≡ 1)
 SuitsShape OfBytes s = s.maxval ≤ 255
 SuitsShape OfWords s = Unit {0}
-
--- how many columns are made side by side
-abbrev pub batch_length : SampleWidth → ℕ
-batch_length OfBits = 256
-batch_length OfBytes = 64
-batch_length OfWords = 64
-
--- so many columns of packed pixels, the first of which is the first pixel of a byte
-pub record IsBatchOfBits (first count depth : ℕ) : Type 0 where
-  pub one_plane : depth ≡ 1
-  pub at_byte : first % 8 ≡ 0
-  pub some : 0 < count
-  pub most : count ≤ 256

@@ -5,10 +5,11 @@ ghost use Rattle.std.specs.Prelude.{IfOk, IfErr};
 ghost use Rattle.std.specs.List.{range_with_len};
 ghost use Rattle.pnm_image.specs.declared.limits.TheConstants.{MAX_DEPTH, MAX_ROW_LENGTH};
 ghost use Rattle.pnm_tools.specs.declared.fault.ToolFault.TheVariants.{Memory};
-ghost use Rattle.pnm_transpose.specs.ColumnBatches.{AreBlank, AreLongEnough, HavePixels, column_samples};
+ghost use Rattle.pnm_transpose.specs.Internal.ColumnBatches.{AreBlank, AreLongEnough, HavePixels, column_samples};
 ghost use Rattle.pnm_tools.specs.Flip.{column_of};
 ghost use Rattle.pnm_tools.specs.PixelSamples.{pixel_of};
-ghost use Rattle.pnm_transpose.specs.Strips.{ReachColumns, kept_column, kept_count};
+ghost use Rattle.pnm_transpose.specs.Strips.{kept_column, kept_count};
+ghost use Rattle.pnm_transpose.specs.Internal.Strips.{ReachColumns};
 
 use crate::blocks::BlockSample;
 use crate::flat_rows::FlatRows;

@@ -2,7 +2,7 @@
 
 ghost use Rattle.std.specs.Prelude.{◌≡◌, ◌≤◌, ◌+◌, ◌*◌, All, drop, length, take};
 ghost use Rattle.pnm_image.specs.declared.limits.TheConstants.{MAX_ROW_LENGTH};
-ghost use Rattle.pnm_transpose.specs.ColumnBatches.{AreLongEnough, AreRowsFrom, HavePixels};
+ghost use Rattle.pnm_transpose.specs.Internal.ColumnBatches.{AreLongEnough, AreRowsFrom, HavePixels};
 ghost use Rattle.pnm_tools.specs.Flip.{column_of};
 
 use crate::flat_rows::FlatRows;

@@ -1,7 +1,7 @@
 //! Rows of samples, held one after another.
 
 ghost use Rattle.std.specs.Prelude.{◌≡◌, ◌+◌, ◌*◌, ◌<◌, ◌++◌, ◌∷◌, [], OnOk, OnErr, get_or, length, reverse};
-ghost use Rattle.pnm_transpose.specs.FlatRows.{rows_in};
+ghost use Rattle.pnm_transpose.specs.Internal.FlatRows.{rows_in};
 
 use std::alloc::{AllocError, Global};
 use std::marker::Model;
@@ -19,7 +19,7 @@ pub(crate) struct FlatRows<T> {
 
 impl<T> Model for FlatRows<T> {
     ghost use Rattle.std.specs.Prelude.{◌≡◌, ◌*◌, List, length};
-    ghost use Rattle.pnm_transpose.specs.FlatRows.{ordered_rows_in};
+    ghost use Rattle.pnm_transpose.specs.Internal.FlatRows.{ordered_rows_in};
 
     ghost Value = { List (List T) };
 

@@ -9,9 +9,12 @@ ghost use Rattle.pnm_image.specs.Places.{IsRowOf};
 ghost use Rattle.pnm_samples.specs.SampleVecs.{slice_samples};
 ghost use Rattle.pnm_tools.specs.declared.fault.ToolFault.TheVariants.{Memory};
 ghost use Rattle.pnm_tools.specs.Flip.{in_order};
-ghost use Rattle.pnm_transpose.specs.SampleRows.{row_lists, strip_lists, rows_width, FitsWidth, IsBatchOfBits};
-ghost use Rattle.pnm_transpose.specs.SampleRows.{SuitsShape, batch_length};
-ghost use Rattle.pnm_transpose.specs.Strips.{HaveSizes, KeepColumns, ReachColumns, kept_column, kept_count};
+ghost use Rattle.pnm_transpose.specs.SampleRows.{row_lists, strip_lists, rows_width};
+ghost use Rattle.pnm_transpose.specs.Internal.SampleRows.{FitsWidth, IsBatchOfBits};
+ghost use Rattle.pnm_transpose.specs.SampleRows.{SuitsShape};
+ghost use Rattle.pnm_transpose.specs.Internal.SampleRows.{batch_length};
+ghost use Rattle.pnm_transpose.specs.Strips.{HaveSizes, kept_column, kept_count};
+ghost use Rattle.pnm_transpose.specs.Internal.Strips.{KeepColumns, ReachColumns};
 
 use crate::batch::{columns_of, last_first};
 use crate::flat_rows::FlatRows;

@@ -6,9 +6,10 @@ ghost use Rattle.std.specs.List.{flat_map, range_with_len};
 ghost use Rattle.pnm_image.specs.declared.limits.TheConstants.{MAX_DEPTH, MAX_ROW_LENGTH, MAX_SIDE};
 ghost use Rattle.pnm_tools.specs.declared.fault.ToolFault.TheVariants.{Memory};
 ghost use Rattle.pnm_transpose.specs.declared.strip.TheConstants.{STRIP_ROWS as rows_in_strip};
-ghost use Rattle.pnm_transpose.specs.ColumnBatches.{AreAsLong};
+ghost use Rattle.pnm_transpose.specs.Internal.ColumnBatches.{AreAsLong};
 ghost use Rattle.pnm_tools.specs.Flip.{column_of, in_order};
-ghost use Rattle.pnm_transpose.specs.Strips.{HaveSizes, KeepColumns};
+ghost use Rattle.pnm_transpose.specs.Strips.{HaveSizes};
+ghost use Rattle.pnm_transpose.specs.Internal.Strips.{KeepColumns};
 
 use crate::batch::{blank_columns, put_all};
 use crate::blocks::BlockSample;

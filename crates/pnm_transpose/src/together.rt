@@ -3,7 +3,7 @@
 ghost use Rattle.std.specs.Prelude.{◌≡◌, ◌+◌, ◌++◌, [], ℕ, IfOk, IfErr, IfNone, IsTrue, IsFalse, reverse};
 ghost use Rattle.pnm_tools.specs.declared.fault.ToolFault.TheVariants.{Memory};
 ghost use Rattle.pnm_image.specs.Rows.{rows_list};
-ghost use Rattle.pnm_transpose.specs.HeldColumns.{HasTaken, HoldsWithin};
+ghost use Rattle.pnm_transpose.specs.Internal.HeldColumns.{HasTaken, HoldsWithin};
 
 use pnm_image::{RowVec, Rows, Samples};
 use pnm_tools::{ToolFault, count_together};

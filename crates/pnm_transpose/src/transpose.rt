@@ -30,7 +30,8 @@ pub struct Transposer {
 }
 
 impl Model for Transposer {
-    ghost use Rattle.pnm_transpose.specs.Keeping.{Transposed, transposed, HasColumns};
+    ghost use Rattle.pnm_transpose.specs.Keeping.{Transposed, transposed};
+    ghost use Rattle.pnm_transpose.specs.Internal.Keeping.{HasColumns};
     ghost use Rattle.pnm_transpose.specs.SampleRows.{row_lists, strip_lists, rows_width};
 
     ghost Value = { Transposed };

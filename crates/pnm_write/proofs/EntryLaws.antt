@@ -4,7 +4,7 @@ use Rattle.std.proofs.Common.{refl, ap, ap₂, subst, ◌∙◌, arith}
 use Rattle.std.proofs.lemmas.List.{drop-drop}
 use Rattle.std.proofs.lemmas.Bool.Decides.{nat_tests}
 use Rattle.std.specs.Str.{byte}
-use Rattle.pnm_write.specs.Numerals.{IsEntry}
+use Rattle.pnm_write.specs.Internal.Numerals.{IsEntry}
 
 abbrev pub are_same : List ℕ → List ℕ → Bool
 are_same [] [] = true

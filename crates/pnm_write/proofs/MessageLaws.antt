@@ -23,7 +23,8 @@ use Rattle.pnm_write.specs.declared.sink.Sink.{Sink}
 use Rattle.pnm_write.specs.Encoding.{header_text, row_bytes, encoding_of, bytes_at, bytes_from, bytes_of, written_of}
 use Rattle.pnm_write.specs.Forms.{has_begun_by, form_fault, form_fault_from, form_fault_of, plain_fault, plain_fault_from, taken_by}
 use Rattle.pnm_write.specs.Sinks.{writer_of, next_place, form_of, has_begun, has_failed, HasRows, HasPut, HasWritten}
-use Rattle.pnm_write.specs.Sinks.{AreWritable, BeginsNone, BeginsWith, IsHeadRefused, Refuses}
+use Rattle.pnm_write.specs.Sinks.{AreWritable, Refuses}
+use Rattle.pnm_write.specs.Internal.Sinks.{BeginsNone, BeginsWith, IsHeadRefused}
 use Rattle.pnm_write.proofs.FormLaws.{has_begun_by-append, form_fault-more, first_of_two, IsPrefixOf, taken_prefix, taken_by-all}
 
 -- the bytes of rows, and of what comes after the image

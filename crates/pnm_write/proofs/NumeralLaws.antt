@@ -8,8 +8,8 @@ use Rattle.std.proofs.lemmas.Fmt.{decimal_step, decimal_digit, length-decimal-le
 use Rattle.pnm_image.specs.declared.shape.Kind.TheVariants.{Gray}
 use Rattle.std.specs.Str.{byte}
 use Rattle.pnm_write.specs.PlainRows.{max_line_length}
-use Rattle.pnm_write.specs.PlainParts.{fits_in_line, column_after, word_in_line, text_of_part, column_after_part, sample_texts}
-use Rattle.pnm_write.specs.Numerals.{IsEntry, three_digits}
+use Rattle.pnm_write.specs.Internal.PlainParts.{fits_in_line, column_after, word_in_line, text_of_part, column_after_part, sample_texts}
+use Rattle.pnm_write.specs.Internal.Numerals.{IsEntry, three_digits}
 use Rattle.pnm_write.proofs.PlainLaws.{has_begun_line, text_more}
 
 -- ---- the digits of a number

@@ -12,8 +12,8 @@ use Rattle.pnm_samples.proofs.PixelLaws.{length-all_pixels, all_pixels-push, tak
 use Rattle.pnm_image.specs.declared.shape.Kind.TheVariants.{Bit}
 use Rattle.std.specs.Str.{byte}
 use Rattle.pnm_write.specs.PlainRows.{max_line_length, words_after, plain_row_text}
-use Rattle.pnm_write.specs.PlainParts.{sample_texts}
-use Rattle.pnm_write.specs.PixelCells.{cell, cells, nibble_cells}
+use Rattle.pnm_write.specs.Internal.PlainParts.{sample_texts}
+use Rattle.pnm_write.specs.Internal.PixelCells.{cell, cells, nibble_cells}
 use Rattle.pnm_write.proofs.NumeralLaws.{set_behind}
 use Rattle.pnm_write.proofs.EntryLaws.{are_same, same, and_parts}
 

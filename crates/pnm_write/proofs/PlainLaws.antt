@@ -10,7 +10,7 @@ use Rattle.pnm_image.specs.declared.shape.Kind.{Kind}
 use Rattle.pnm_image.specs.declared.shape.Kind.TheVariants.{Bit, Gray, Color, Pam}
 use Rattle.std.specs.Str.{byte}
 use Rattle.pnm_write.specs.PlainRows.{sample_text, words_after, plain_row_text}
-use Rattle.pnm_write.specs.PlainParts.{fits_in_line, column_after, word_in_line, text_of_part, column_after_part, sample_texts, row_end}
+use Rattle.pnm_write.specs.Internal.PlainParts.{fits_in_line, column_after, word_in_line, text_of_part, column_after_part, sample_texts, row_end}
 
 -- ---- words
 

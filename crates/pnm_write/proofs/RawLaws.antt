@@ -11,7 +11,7 @@ use Rattle.pnm_image.specs.declared.sample_width.SampleWidth.{SampleWidth}
 use Rattle.pnm_image.specs.declared.sample_width.SampleWidth.TheVariants.{Bits, Bytes, Words}
 use Rattle.pnm_write.specs.Encoding.{packed_bytes, wide_bytes, bytes_in}
 use Rattle.pnm_samples.proofs.PackLaws.{packed_parts}
-use Rattle.pnm_write.specs.WriteBuffers.{most_samples, FitIn}
+use Rattle.pnm_write.specs.Internal.WriteBuffers.{most_samples, FitIn}
 
 -- ---- samples of two bytes
 

@@ -9,7 +9,8 @@ use Rattle.pnm_image.specs.declared.place.Place.TheVariants.{Between, Inside, Af
 use Rattle.pnm_image.specs.declared.shape.Shape.{Shape}
 use Rattle.pnm_image.specs.Places.{IsRowOf, IsLawfulFrom}
 use Rattle.pnm_image.specs.Rows.{row_messages}
-use Rattle.pnm_write.specs.Encoding.{row_bytes, rows_bytes, bytes_from}
+use Rattle.pnm_write.specs.Encoding.{row_bytes, bytes_from}
+use Rattle.pnm_write.specs.Internal.Encoding.{rows_bytes}
 
 -- ---- their bytes
 

@@ -16,7 +16,8 @@ use Rattle.std.proofs.Common.{All}
 use Rattle.std.proofs.lemmas.List.Elements.{All-append, All-from_recursion, All-nil, All-weaker}
 use Rattle.pnm_image.specs.Images.{cut_rows}
 use Rattle.pnm_image.proofs.RowLaws.{concat-cut_rows}
-use Rattle.pnm_write.specs.Encoding.{packed_bytes, bytes_in, row_bytes, rows_bytes, AreWholeBytes}
+use Rattle.pnm_write.specs.Encoding.{packed_bytes, bytes_in, row_bytes}
+use Rattle.pnm_write.specs.Internal.Encoding.{rows_bytes, AreWholeBytes}
 
 -- the bytes of a row of whole bytes, and those of the samples after it
 bytes_behind : (p : SampleWidth) (row rest : List ℕ) → AreWholeBytes p (length row) → bytes_in p (row ++ rest) ≡ bytes_in p row ++ bytes_in p rest

@@ -3,7 +3,7 @@ use Rattle.std.proofs.Common.{◌≡◌, ℕ, List, [], ◌++◌, Option, Result
 use Rattle.pnm_image.specs.Devices.{FailsIn}
 use Rattle.pnm_image.specs.declared.device.DeviceFailed.{DeviceFailed}
 use Rattle.pnm_image.proofs.Written.{Sending, sending_part, sending_part_failed}
-use Rattle.pnm_write.specs.WriteCalls.{WriteCall}
+use Rattle.pnm_write.specs.Internal.WriteCalls.{WriteCall}
 use Rattle.pnm_write.proofs.PartLaws.{all_written}
 
 -- the writer failed in a part of what was left

@@ -1,6 +1,6 @@
 -- The bytes of images and of messages in either form. From pbm(5), pgm(5), ppm(5) and pam(5), 'The layout'. There is no
 -- plain PAM: what is said of one means nothing.
-use Rattle.std.specs.Prelude.{◌≡◌, ℕ, ◌/◌, ◌%◌, List, [], ◌∷◌, ◌++◌, codes, decimal}
+use Rattle.std.specs.Prelude.{ℕ, ◌/◌, ◌%◌, List, [], ◌∷◌, ◌++◌, codes, decimal}
 use Rattle.std.specs.List.{flat_map}
 use Rattle.pnm_image.specs.declared.message.Message.{Message}
 use Rattle.pnm_image.specs.declared.message.Message.TheVariants.{Begin, Row, ImageEnd, StreamEnd, Stop}
@@ -14,7 +14,7 @@ use Rattle.pnm_image.specs.declared.format.Form.TheVariants.{Raw, Plain}
 use Rattle.pnm_image.specs.Formats.{magic_of}
 use Rattle.pnm_image.specs.Heads.{HeadValue}
 use Rattle.pnm_image.specs.Images.{Image, rows_of}
-pub use Rattle.pnm_samples.specs.Pixels.{pixel_bits, packed_byte, packed_bytes}
+pub use Rattle.pnm_samples.specs.Pixels.{packed_bytes}
 use Rattle.pnm_image.specs.SampleWidths.{sample_width_of}
 use Rattle.pnm_image.specs.Places.{place_after}
 use Rattle.pnm_write.specs.PlainRows.{plain_row_text}
@@ -77,16 +77,6 @@ bytes_in Words samples = wide_bytes samples
 abbrev pub row_bytes : Form → Shape → List ℕ → List ℕ
 row_bytes Raw s samples = bytes_in (sample_width_of s.kind s.maxval) samples
 row_bytes Plain s samples = plain_row_text s.kind samples
-
--- the bytes of rows, one after another
-abbrev pub rows_bytes : Form → Shape → List (List ℕ) → List ℕ
-rows_bytes form s rows = flat_map (row_bytes form s) rows
-
--- rows of so many samples are whole bytes: the bytes of each begin where those of the one before it end
-abbrev pub AreWholeBytes : SampleWidth → ℕ → Type 0
-AreWholeBytes Bits row_length = row_length % 8 ≡ 0
-AreWholeBytes Bytes row_length = Unit {0}
-AreWholeBytes Words row_length = Unit {0}
 
 -- ---- images and messages
 

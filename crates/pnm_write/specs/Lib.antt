@@ -1,10 +1,6 @@
 pub mod PlainRows
-pub mod PlainParts
-pub mod Numerals
-pub mod PixelCells
 pub mod Forms
 pub mod Encoding
-pub mod WriteBuffers
-pub mod WriteCalls
 pub mod Sinks
 pub mod EncodingLaws
+pub mod Internal

@@ -1,5 +1,5 @@
 -- Which messages were put into a sink, and which messages it refuses.
-use Rattle.std.specs.Prelude.{◌≡◌, ℕ, ◌<◌, Bool, false, List, [], ◌∷◌, Option, Some, None}
+use Rattle.std.specs.Prelude.{◌≡◌, ℕ, ◌<◌, Bool, false, List, Option, None}
 use Rattle.std.specs.List.{AllByRecursion}
 use Rattle.std.specs.Io.KnownBytes.{Appends, Keeps}
 use Rattle.pnm_image.specs.declared.format.Form.{Form}
@@ -8,12 +8,11 @@ use Rattle.pnm_image.specs.declared.message.Message.TheVariants.{Begin, Row, Ima
 use Rattle.pnm_image.specs.declared.place.Place.{Place}
 use Rattle.pnm_image.specs.declared.place.Place.TheVariants.{Between}
 use Rattle.pnm_image.specs.Places.{IsLawful, IsLawfulFrom, place_of}
-use Rattle.pnm_image.specs.Heads.{HeadValue}
 use Rattle.pnm_write.specs.declared.fault.SinkFault.{SinkFault}
 use Rattle.pnm_write.specs.declared.fault.SinkFault.TheVariants.{WriteFailed, OutOfOrder, Broken, SecondPlain, PlainPam}
 use Rattle.pnm_write.specs.declared.sink.Sink.{Sink}
 use Rattle.pnm_write.specs.Encoding.{bytes_from, bytes_of}
-use Rattle.pnm_write.specs.Forms.{has_begun_by, form_fault, form_fault_from, form_fault_of, RefusesFirst}
+use Rattle.pnm_write.specs.Forms.{has_begun_by, form_fault_from, form_fault_of, RefusesFirst}
 use Rattle.pnm_image.specs.Devices.{FailsIn}
 
 abbrev pub writer_of : {W : Type 0} → Sink W → W
@@ -50,28 +49,6 @@ AreInOrderFrom place messages = IsLawfulFrom place messages × AllByRecursion Ha
 -- a sink takes the messages from this place on, where an image has begun or not
 abbrev pub AreWritable : Form → Bool → Place → List Message → Type 0
 AreWritable form begun place messages = AreInOrderFrom place messages × (form_fault_from form begun messages ≡ None)
-
--- no image begins in the messages
-abbrev pub BeginsNone : List Message → Type 0
-BeginsNone [] = Unit {0}
-BeginsNone (Begin head ∷ messages) = ⊥
-BeginsNone (Row row ∷ messages) = BeginsNone messages
-BeginsNone (ImageEnd ∷ messages) = BeginsNone messages
-BeginsNone (StreamEnd ∷ messages) = BeginsNone messages
-BeginsNone (Stop ∷ messages) = BeginsNone messages
-
--- an image begins with the first of the messages, and no other does
-abbrev pub BeginsWith : HeadValue → List Message → Type 0
-BeginsWith head messages = (rest : List Message) × (messages ≡ Begin head ∷ rest) × BeginsNone rest
-
--- why no image begins with a head, where an image has begun before or not
-abbrev pub IsHeadRefused : Form → Bool → HeadValue → SinkFault → Type 0
-IsHeadRefused form begun head OutOfOrder = HasRows (Begin head) → ⊥
-IsHeadRefused form begun head SecondPlain = HasRows (Begin head)
-    × (form_fault form begun (Begin head) ≡ Some SecondPlain)
-IsHeadRefused form begun head PlainPam = HasRows (Begin head) × (form_fault form begun (Begin head) ≡ Some PlainPam)
-IsHeadRefused form begun head WriteFailed = ⊥
-IsHeadRefused form begun head Broken = ⊥
 
 -- these are the messages that were put into the sink without a fault
 pub record HasPut {W : Type 0} (sink : Sink W) (messages : List Message) : Type 0 where

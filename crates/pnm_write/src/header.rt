@@ -3,7 +3,7 @@
 ghost use Rattle.std.specs.Prelude.{◌≡◌, ◌+◌, ◌≤◌, ◌++◌, length, codes, decimal};
 ghost use Rattle.pnm_image.specs.declared.limits.TheConstants.{MAX_TUPLE_TYPE_LENGTH};
 ghost use Rattle.pnm_write.specs.Encoding.{magic_line, size_line, tuple_type_line, pam_text, header_text};
-ghost use Rattle.pnm_write.specs.WriteCalls.{WriteCall};
+ghost use Rattle.pnm_write.specs.Internal.WriteCalls.{WriteCall};
 
 use crate::write_buffer::WriteBuffer;
 use itoa::Buffer;

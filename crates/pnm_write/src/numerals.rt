@@ -3,10 +3,10 @@
 ghost use Rattle.std.specs.Prelude.{◌≡◌, ◌+◌, ◌-◌, ◌*◌, ◌<◌, ◌≤◌, nat_le, if◌then◌else◌, ◌∷◌, ◌++◌, length, take};
 ghost use Rattle.std.specs.Prelude.{decimal, map, slice_set};
 ghost use Rattle.pnm_image.specs.declared.shape.Kind.{Kind};
-ghost use Rattle.pnm_write.specs.Numerals.{IsEntry, three_digits};
+ghost use Rattle.pnm_write.specs.Internal.Numerals.{IsEntry, three_digits};
 ghost use Rattle.std.specs.Str.{byte};
 ghost use Rattle.pnm_write.specs.PlainRows.{max_line_length};
-ghost use Rattle.pnm_write.specs.PlainParts.{text_of_part, column_after_part, sample_texts};
+ghost use Rattle.pnm_write.specs.Internal.PlainParts.{text_of_part, column_after_part, sample_texts};
 
 use pnm_samples::Sample;
 

@@ -4,7 +4,7 @@ ghost use Rattle.std.specs.Prelude.{◌≡◌, ◌+◌, ◌*◌, ◌<◌, ◌≤
 ghost use Rattle.pnm_samples.specs.Pixels.{pixels, all_pixels};
 ghost use Rattle.pnm_image.specs.declared.shape.Kind.{Kind};
 ghost use Rattle.pnm_write.specs.PlainRows.{plain_row_text};
-ghost use Rattle.pnm_write.specs.PixelCells.{cells, nibble_cells};
+ghost use Rattle.pnm_write.specs.Internal.PixelCells.{cells, nibble_cells};
 
 use crate::numerals::put_four;
 

@@ -6,9 +6,10 @@ ghost use Rattle.pnm_image.specs.declared.shape.Kind.{Kind};
 ghost use Rattle.pnm_samples.specs.Pixels.{all_pixels};
 ghost use Rattle.pnm_samples.specs.SampleVecs.{HasWhiteSpare, slice_samples};
 ghost use Rattle.pnm_write.specs.PlainRows.{sample_text, plain_row_text};
-ghost use Rattle.pnm_write.specs.PlainParts.{column_after, word_in_line, text_of_part, column_after_part, sample_texts};
-ghost use Rattle.pnm_write.specs.PlainParts.{row_end};
-ghost use Rattle.pnm_write.specs.WriteCalls.{WriteCall};
+ghost use Rattle.pnm_write.specs.Internal.PlainParts.{column_after, word_in_line, text_of_part, column_after_part};
+ghost use Rattle.pnm_write.specs.Internal.PlainParts.{sample_texts};
+ghost use Rattle.pnm_write.specs.Internal.PlainParts.{row_end};
+ghost use Rattle.pnm_write.specs.Internal.WriteCalls.{WriteCall};
 
 use crate::numerals::{MAX_LINE_LENGTH, Numeral};
 use crate::row::count_of;

@@ -2,7 +2,7 @@
 
 ghost use Rattle.std.specs.Prelude.{◌≡◌, ◌≤◌, ◌*◌, ◌-◌, All, length, take};
 ghost use Rattle.pnm_write.specs.Encoding.{wide_bytes, bytes_in};
-ghost use Rattle.pnm_write.specs.WriteBuffers.{most_samples, FitIn};
+ghost use Rattle.pnm_write.specs.Internal.WriteBuffers.{most_samples, FitIn};
 
 use pnm_image::SampleWidth;
 use pnm_samples::pack;

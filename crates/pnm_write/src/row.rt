@@ -2,9 +2,9 @@
 
 ghost use Rattle.std.specs.Prelude.{◌≡◌, ◌≤◌, ◌+◌, All, length, take, drop};
 ghost use Rattle.pnm_write.specs.Encoding.{row_bytes};
-ghost use Rattle.pnm_samples.specs.Pixels.{AreBytes};
+ghost use Rattle.pnm_samples.specs.Internal.Pixels.{AreBytes};
 ghost use Rattle.pnm_samples.specs.SampleVecs.{HasWhiteSpare, slice_samples};
-ghost use Rattle.pnm_write.specs.WriteCalls.{WriteCall};
+ghost use Rattle.pnm_write.specs.Internal.WriteCalls.{WriteCall};
 
 use crate::plain::write_lines;
 use crate::raw::most_samples;

@@ -6,8 +6,9 @@ ghost use Rattle.pnm_image.specs.Heads.{row_length};
 ghost use Rattle.pnm_image.specs.Places.{IsRowOf};
 ghost use Rattle.pnm_image.specs.Repeats.{repeated};
 ghost use Rattle.pnm_image.specs.SampleWidths.{sample_width_of};
-ghost use Rattle.pnm_write.specs.Encoding.{header_text, rows_bytes, AreWholeBytes};
-ghost use Rattle.pnm_write.specs.WriteCalls.{WriteCall};
+ghost use Rattle.pnm_write.specs.Encoding.{header_text};
+ghost use Rattle.pnm_write.specs.Internal.Encoding.{rows_bytes, AreWholeBytes};
+ghost use Rattle.pnm_write.specs.Internal.WriteCalls.{WriteCall};
 
 use crate::header::write_header;
 use crate::row::write_samples;

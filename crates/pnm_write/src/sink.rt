@@ -12,8 +12,9 @@ ghost use Rattle.pnm_image.specs.Places.{IsLawfulFrom, place_of};
 ghost use Rattle.pnm_write.specs.Encoding.{bytes_from};
 ghost use Rattle.pnm_write.specs.Forms.{form_fault, form_fault_from, has_begun_by};
 ghost use Rattle.pnm_write.specs.Sinks.{writer_of, form_of, has_begun, next_place, has_failed, HasRows, HasPut};
-ghost use Rattle.pnm_write.specs.Sinks.{HasWritten, AreWritable, BeginsNone, BeginsWith, IsHeadRefused, Refuses};
-ghost use Rattle.pnm_write.specs.WriteCalls.{WriteCall};
+ghost use Rattle.pnm_write.specs.Sinks.{HasWritten, AreWritable, Refuses};
+ghost use Rattle.pnm_write.specs.Internal.Sinks.{BeginsNone, BeginsWith, IsHeadRefused};
+ghost use Rattle.pnm_write.specs.Internal.WriteCalls.{WriteCall};
 
 use crate::fault::SinkFault;
 use crate::header::write_header;

@@ -4,9 +4,9 @@ ghost use Rattle.std.specs.Prelude.{◌≡◌, ◌+◌, ◌*◌, ◌<◌, ◌≤
 ghost use Rattle.pnm_image.specs.declared.shape.Kind.{Kind};
 ghost use Rattle.pnm_samples.specs.Pixels.{all_pixels, packed_bytes};
 ghost use Rattle.pnm_write.specs.PlainRows.{plain_row_text};
-ghost use Rattle.pnm_write.specs.PlainParts.{text_of_part, column_after_part, sample_texts};
+ghost use Rattle.pnm_write.specs.Internal.PlainParts.{text_of_part, column_after_part, sample_texts};
 ghost use Rattle.pnm_write.specs.Encoding.{bytes_in};
-ghost use Rattle.pnm_write.specs.WriteBuffers.{most_samples, FitIn};
+ghost use Rattle.pnm_write.specs.Internal.WriteBuffers.{most_samples, FitIn};
 
 use crate::numerals::{Numeral, append_numbers};
 use crate::pixels::put_pixels;

@@ -1,7 +1,7 @@
 //! Runs of pixels of rows, moved to the front within the bytes of the rows.
 
 ghost use Rattle.std.specs.Prelude.{ℕ, ◌≡◌, ◌+◌, ◌*◌, ◌^◌, ◌<◌, ◌≤◌, drop, length, take};
-ghost use Rattle.pnm_samples.specs.BitRows.{IsMovedRun, row_bytes};
+ghost use Rattle.pnm_samples.specs.Internal.BitRows.{IsMovedRun, row_bytes};
 ghost use Rattle.pnm_samples.specs.PixelRows.{bytes_for};
 ghost use Rattle.pnm_samples.specs.Pixels.{all_pixels};
 

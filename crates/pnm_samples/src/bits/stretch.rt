@@ -5,7 +5,7 @@ ghost use Rattle.std.specs.Prelude.{replicate, bit_or, IfOk, OnOk};
 ghost use Rattle.std.specs.List.{flat_map};
 ghost use lib.Lanes.{zip2};
 ghost use Rattle.pnm_samples.specs.Pixels.{pixels, all_pixels};
-ghost use Rattle.pnm_samples.specs.Stretches.{AreStretched, stride};
+ghost use Rattle.pnm_samples.specs.Internal.Stretches.{AreStretched, stride};
 
 use super::{Bits, pixel_at, window};
 use std::alloc::{AllocError, Global};

@@ -1,7 +1,7 @@
 use Rattle.std.proofs.Common.{ap, ◌∙◌, List, ℕ, ◌++◌, Option}
 use Rattle.pnm_filters.specs.declared.state.Phase.{Phase}
 use Rattle.pnm_image.specs.Rows.{rows_list}
-use Rattle.pnm_filters.specs.Pendings.{pending_of}
+use Rattle.pnm_filters.specs.Internal.Pendings.{pending_of}
 use Rattle.pnm_filters.proofs.GivingSteps.{ended}
 use Rattle.pnm_filters.proofs.state.give.Goals as goal
 

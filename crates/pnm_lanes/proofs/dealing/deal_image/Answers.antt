@@ -1,7 +1,7 @@
 use Rattle.std.proofs.Common.{[], ◌∷◌, ◌++◌, Option, Some, subst}
 use Rattle.pnm_image.specs.Rows.{row_messages}
 use Rattle.pnm_image.specs.declared.message.Message.TheVariants.{Begin, ImageEnd}
-use Rattle.pnm_lanes.specs.DealParts.{HasDealtMessages}
+use Rattle.pnm_lanes.specs.Internal.DealParts.{HasDealtMessages}
 use Rattle.pnm_lanes.proofs.MessageSteps.{deals_then, leaves_rest}
 use Rattle.pnm_lanes.proofs.dealing.deal_image.Goals as goal
 

@@ -2,7 +2,7 @@ use Rattle.std.proofs.Common.{List, sym, subst}
 use Rattle.pnm_image.specs.declared.message.Message.{Message}
 use Rattle.pnm_image.specs.declared.packet.Packet.{Packet}
 use Rattle.pnm_image.specs.Packets.{messages_in}
-use Rattle.pnm_lanes.specs.DealParts.{HasDealtMessages}
+use Rattle.pnm_lanes.specs.Internal.DealParts.{HasDealtMessages}
 use Rattle.pnm_lanes.proofs.dealing.deal_packet.Goals as goal
 
 pub returns-in-Ok : goal.returns-in-Ok

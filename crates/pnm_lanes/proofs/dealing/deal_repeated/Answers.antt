@@ -2,7 +2,7 @@ use Rattle.std.proofs.Common.{◌≡◌, ◌≤◌, ◌+◌, ◌∙◌, ℕ, Lis
 use Rattle.pnm_image.specs.Repeats.{repeated}
 use Rattle.pnm_image.specs.Rows.{row_messages}
 use Rattle.pnm_lanes.specs.LaneLimits.{IsLaneCount}
-use Rattle.pnm_lanes.specs.DealParts.{HasDealtMessages}
+use Rattle.pnm_lanes.specs.Internal.DealParts.{HasDealtMessages}
 use Rattle.pnm_lanes.proofs.MessageSteps.{none_dealt, deals_time, leaves_times}
 use Rattle.pnm_lanes.proofs.dealing.deal_repeated.Goals as goal
 

@@ -1,7 +1,7 @@
 use Rattle.std.proofs.Common.{◌<◌, ℕ, [], ◌∷◌, length, refl, sym, subst, arith}
 use Rattle.pnm_image.specs.declared.message.Message.TheVariants.{Row}
 use Rattle.pnm_lanes.specs.LaneLimits.{IsLaneCount}
-use Rattle.pnm_lanes.specs.DealParts.{HasDealtMessages}
+use Rattle.pnm_lanes.specs.Internal.DealParts.{HasDealtMessages}
 use Rattle.pnm_lanes.proofs.MessageSteps.{none_dealt, deals_row, leaves_row, runs_out, deals_rows}
 use Rattle.pnm_lanes.proofs.dealing.deal_rows.Goals as goal
 

@@ -4,7 +4,7 @@ use Rattle.pnm_image.specs.declared.message.Message.TheVariants.{Begin, Row, Ima
 use Rattle.pnm_image.specs.declared.place.Place.{Place}
 use Rattle.pnm_stages.specs.declared.sender.Sender.{Sender}
 use Rattle.pnm_stages.specs.declared.stage.StageEnd.{StageEnd}
-use Rattle.pnm_lanes.specs.DealParts.{IsRow, part_at, lane_part, HasSentParts}
+use Rattle.pnm_lanes.specs.Internal.DealParts.{IsRow, part_at, lane_part, HasSentParts}
 use Rattle.pnm_lanes.proofs.dealing.send_parts.Goals as goal
 
 not_row : (m : Message) → ((row : List ℕ) → m ≡ Row row → ⊥) → IsRow m → ⊥

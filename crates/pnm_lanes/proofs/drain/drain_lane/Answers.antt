@@ -1,6 +1,6 @@
 use Rattle.std.proofs.Common.{◌≡◌, Some, None, rules}
 use Rattle.pnm_lanes.specs.declared.lane.LaneState.TheVariants.{Open}
-use Rattle.pnm_lanes.specs.GatherParts.{state_at}
+use Rattle.pnm_lanes.specs.Internal.GatherParts.{state_at}
 use Rattle.pnm_lanes.proofs.LaneLists.{are_themselves, one_changed}
 use Rattle.pnm_lanes.proofs.DrainSteps.{carries_one}
 use Rattle.pnm_lanes.proofs.drain.drain_lane.Goals as goal

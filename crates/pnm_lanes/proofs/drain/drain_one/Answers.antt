@@ -3,7 +3,7 @@ use Rattle.pnm_image.specs.declared.message.Message.{Message}
 use Rattle.pnm_stages.specs.Rings.{received, known_items}
 use Rattle.pnm_image.specs.Packets.{messages_in}
 use Rattle.pnm_lanes.specs.declared.lane.LaneState.{LaneState}
-use Rattle.pnm_lanes.specs.GatherParts.{HasDrainedOne}
+use Rattle.pnm_lanes.specs.Internal.GatherParts.{HasDrainedOne}
 use Rattle.pnm_lanes.proofs.DrainSteps.{packet_taken}
 use Rattle.pnm_lanes.proofs.drain.drain_one.Goals as goal
 

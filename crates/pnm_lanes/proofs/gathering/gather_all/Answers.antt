@@ -3,7 +3,7 @@ use Rattle.std.proofs.lemmas.List.{length-take-le}
 use Rattle.pnm_image.specs.declared.message.Message.{Message}
 use Rattle.pnm_stages.specs.Rings.{sent, received, known_items}
 use Rattle.pnm_lanes.specs.Gathers.{at_lane}
-use Rattle.pnm_lanes.specs.GatherParts.{HasBrokenOffAll, HasDrainedAll}
+use Rattle.pnm_lanes.specs.Internal.GatherParts.{HasBrokenOffAll, HasDrainedAll}
 use Rattle.pnm_lanes.proofs.LaneLists.{are_themselves, same_inputs, as_many}
 use Rattle.pnm_stages.proofs.RingSteps.{itself_output, same_output}
 use Rattle.pnm_lanes.proofs.GatherSteps.{nothing_yet, goes_further, says_more, first_open, open_at}

@@ -4,8 +4,8 @@ use Rattle.pnm_samples.proofs.PixelRowsLaws.{length_of_rows}
 use Rattle.pnm_image.specs.declared.sample_width.SampleWidth.{SampleWidth}
 use Rattle.pnm_image.specs.HeldRows.{AreRowsWithin}
 use Rattle.pnm_image.specs.Images.{cut_rows}
-use Rattle.pnm_read.specs.Units.{AreBytesWithin}
-use Rattle.pnm_read.specs.RasterRows.{FitsBytes, rows_held}
+use Rattle.pnm_read.specs.Internal.Units.{AreBytesWithin}
+use Rattle.pnm_read.specs.Internal.RasterRows.{FitsBytes, rows_held}
 use Rattle.pnm_read.specs.Said.{units_in_row}
 use Rattle.pnm_image.proofs.HeldRowLaws.{length_of_bits}
 use Rattle.pnm_read.proofs.RowsTogether.{are_bytes, bits_are_rows, bits_within, bytes_are_rows, cut_within}

@@ -1,6 +1,6 @@
 use Rattle.std.proofs.Common.{ℕ, ◌*◌, List, length, take, ap, ◌∙◌}
 use Rattle.pnm_read.specs.BufferedReaders.{held_of}
-use Rattle.pnm_read.specs.RasterRows.{rows_held}
+use Rattle.pnm_read.specs.Internal.RasterRows.{rows_held}
 use Rattle.pnm_read.proofs.RowsTogether.{rows_taken, length-rows_held}
 use Rattle.pnm_read.proofs.held_rows.take_rows.Goals as goal
 

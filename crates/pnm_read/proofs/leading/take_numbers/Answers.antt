@@ -4,7 +4,7 @@ use Rattle.std.specs.List.{AllPass}
 use Rattle.std.proofs.Common.{take}
 use Rattle.pnm_image.specs.Texts.{is_white}
 use Rattle.pnm_read.specs.Items.{plain_decimal}
-use Rattle.pnm_read.specs.Leading.{IsNumberFirst}
+use Rattle.pnm_read.specs.Internal.Leading.{IsNumberFirst}
 use Rattle.pnm_read.proofs.LeadingLaws.{takes_none, white_at_once, number_taken, white_after_number}
 use Rattle.pnm_read.proofs.leading.take_numbers.Goals as goal
 

@@ -1,6 +1,6 @@
 use Rattle.std.proofs.Common.{◌≤◌, length}
 use Rattle.pnm_read.specs.Items.{plain_pixel}
-use Rattle.pnm_read.specs.Leading.{TakesSamples}
+use Rattle.pnm_read.specs.Internal.Leading.{TakesSamples}
 use Rattle.pnm_read.proofs.LeadingLaws.{IsWhiteFrom}
 use Rattle.pnm_read.proofs.leading.take_pixels.Given as goal
 

@@ -1,5 +1,5 @@
 use Rattle.std.proofs.Common.{sym, ◌∙◌, ◌≡◌, ◌-◌, get_or}
-use Rattle.pnm_read.specs.Saturation.{with_digit}
+use Rattle.pnm_read.specs.Internal.Saturation.{with_digit}
 use Rattle.pnm_read.proofs.LineSteps.{no_digits, digits_more, number_none, number_is}
 use Rattle.pnm_read.proofs.line.number_of.Goals as goal
 

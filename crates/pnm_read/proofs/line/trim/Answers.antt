@@ -1,5 +1,5 @@
 use Rattle.std.proofs.Common.{ap, sym, ◌∙◌}
-use Rattle.pnm_read.specs.LineWalks.{trimmed_end}
+use Rattle.pnm_read.specs.Internal.LineWalks.{trimmed_end}
 use Rattle.pnm_read.proofs.WalkLaws.{trimmed_is}
 use Rattle.pnm_read.proofs.line.trim.Goals as goal
 

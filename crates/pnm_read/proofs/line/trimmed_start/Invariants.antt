@@ -1,5 +1,5 @@
 use Rattle.std.proofs.Common.{◌≡◌, length}
-use Rattle.pnm_read.specs.LineWalks.{trimmed_start}
+use Rattle.pnm_read.specs.Internal.LineWalks.{trimmed_start}
 use Rattle.pnm_read.proofs.line.trimmed_start.Given as goal
 
 abbrev pub invariant-loop-rest : goal.invariant-loop-rest

@@ -1,9 +1,9 @@
 use Rattle.std.proofs.Common.{[], Ok, Err, refl}
 use Rattle.std.proofs.lemmas.Result.{err_from_is_err_and}
 use Rattle.pnm_read.specs.Items.{line_feed_item, pam_item, header_end}
-use Rattle.pnm_read.specs.BufferedReaders.{Passes}
-use Rattle.pnm_read.specs.Scans.{Scans}
-use Rattle.pnm_read.specs.PamScanners.{IsPamAfter, IsPamWhole}
+use Rattle.pnm_read.specs.Internal.BufferedReaders.{Passes}
+use Rattle.pnm_read.specs.Internal.Scans.{Scans}
+use Rattle.pnm_read.specs.Internal.PamScanners.{IsPamAfter, IsPamWhole}
 use Rattle.pnm_read.proofs.ReadCalls.{call_then, call_ok_so, call_err_so}
 use Rattle.pnm_read.proofs.PamSteps.{pam_no_feed, pam_missed, pam_type, pam_found, pam_of_text}
 use Rattle.pnm_read.proofs.pam.read_head.Goals as goal

@@ -3,7 +3,7 @@ use Rattle.std.proofs.lemmas.Bool.{ne_eqb}
 use Rattle.std.proofs.lemmas.Result.{err_from_is_err_and}
 use Rattle.pnm_read.specs.declared.fault.InputFault.TheVariants.{BadPamLine, HeaderCut, ReadFailed}
 use Rattle.pnm_read.specs.Items.{line_feed_item}
-use Rattle.pnm_read.specs.BufferedReaders.{IsByte}
+use Rattle.pnm_read.specs.Internal.BufferedReaders.{IsByte}
 use Rattle.pnm_read.proofs.ReadCalls.{call_err_so, call_ok_so, no_fault}
 use Rattle.pnm_read.proofs.pam.read_line_feed.Goals as goal
 

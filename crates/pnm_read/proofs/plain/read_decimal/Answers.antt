@@ -1,5 +1,5 @@
 use Rattle.std.proofs.lemmas.Result.{err_from_is_err_and}
-use Rattle.pnm_read.specs.Scanners.{IsDecimalWhole}
+use Rattle.pnm_read.specs.Internal.Scanners.{IsDecimalWhole}
 use Rattle.pnm_read.proofs.PlainSteps.{number_found, number_too_great, number_fault}
 use Rattle.pnm_read.proofs.plain.read_decimal.Goals as goal
 

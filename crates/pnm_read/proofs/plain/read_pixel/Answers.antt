@@ -1,5 +1,5 @@
 use Rattle.std.proofs.lemmas.Result.{err_from_is_err_and}
-use Rattle.pnm_read.specs.Scanners.{IsPixelWhole}
+use Rattle.pnm_read.specs.Internal.Scanners.{IsPixelWhole}
 use Rattle.pnm_read.proofs.PlainSteps.{pixel_found, pixel_fault}
 use Rattle.pnm_read.proofs.plain.read_pixel.Goals as goal
 

@@ -1,7 +1,7 @@
 use Rattle.std.proofs.Common.{◌≡◌, ◌≤◌, ◌+◌, ℕ, length, refl, subst, ◌∙◌, arith}
 use Rattle.pnm_read.specs.BufferedReaders.{held_of}
 use Rattle.pnm_image.specs.Heads.{row_length}
-use Rattle.pnm_read.specs.RasterRows.{TakesPlain}
+use Rattle.pnm_read.specs.Internal.RasterRows.{TakesPlain}
 use Rattle.pnm_read.proofs.PlainRows.{taken_none, taken_row}
 use Rattle.pnm_read.proofs.plain.take_held.Goals as goal
 

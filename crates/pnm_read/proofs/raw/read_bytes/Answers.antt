@@ -4,7 +4,7 @@ use Rattle.std.specs.Vec.{with_items}
 use Rattle.std.proofs.lemmas.Grind.{common_steps}
 use Rattle.std.proofs.lemmas.List.{take_all}
 use Rattle.std.proofs.lemmas.Result.{err_from_is_err_and}
-use Rattle.pnm_read.specs.Units.{samples_of_bytes, AreBytesWithin}
+use Rattle.pnm_read.specs.Internal.Units.{samples_of_bytes, AreBytesWithin}
 use Rattle.pnm_read.proofs.ReadSteps.{range_length}
 use Rattle.pnm_read.proofs.PartSteps.{no_bytes, no_bytes_within, samples_of_both, both_within, prefix_grown}
 use Rattle.pnm_read.proofs.RawSteps.{units_begin, part_read, part_fault, units_read}

@@ -1,5 +1,5 @@
 use Rattle.std.proofs.Common.{◌≡◌, true, false, length, [], take, refl, rules}
-use Rattle.pnm_read.specs.Units.{samples_of_bytes}
+use Rattle.pnm_read.specs.Internal.Units.{samples_of_bytes}
 use Rattle.pnm_read.proofs.PartSteps.{bytes_cut, bytes_above, bytes_read}
 use Rattle.pnm_read.proofs.raw.read_part.Goals as goal
 

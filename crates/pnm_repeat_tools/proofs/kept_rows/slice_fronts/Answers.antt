@@ -1,6 +1,6 @@
 use Rattle.std.proofs.Common.{◌≡◌, ◌+◌, ◌-◌, ◌*◌, ◌++◌, ℕ, take, drop, ap, sym, ◌∙◌, arith}
 use Rattle.std.proofs.lemmas.Result.{IfOk-weaker}
-use Rattle.pnm_repeat_tools.specs.Keeping.{fronts_in}
+use Rattle.pnm_repeat_tools.specs.Internal.Keeping.{fronts_in}
 use Rattle.pnm_repeat_tools.proofs.KeptRowLaws.{fronts_are_all}
 use Rattle.pnm_repeat_tools.proofs.TileRowsLaws.{front_more}
 use Rattle.pnm_repeat_tools.proofs.kept_rows.slice_fronts.Goals as goal

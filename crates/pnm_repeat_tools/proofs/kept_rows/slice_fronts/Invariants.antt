@@ -1,5 +1,5 @@
 use Rattle.std.proofs.Common.{◌≡◌}
-use Rattle.pnm_repeat_tools.specs.Keeping.{fronts_in}
+use Rattle.pnm_repeat_tools.specs.Internal.Keeping.{fronts_in}
 use Rattle.pnm_repeat_tools.proofs.kept_rows.slice_fronts.Given as goal
 
 -- the fronts of the rows that have passed

@@ -1,7 +1,7 @@
 use Rattle.std.proofs.Common.{◌*◌, ◌%◌, ◌<◌, ◌++◌, ap, ◌∙◌, arith}
 use Rattle.std.proofs.Math.Nat.{mod-lt}
 use Rattle.pnm_image.proofs.RowLaws.{row_ends_within}
-use Rattle.pnm_repeat_tools.specs.Keeping.{row_of_samples}
+use Rattle.pnm_repeat_tools.specs.Internal.Keeping.{row_of_samples}
 use Rattle.pnm_tools.specs.Tile.{tiled_row}
 use Rattle.pnm_repeat_tools.proofs.TileRowsLaws.{piece_more, row_of_slice}
 use Rattle.pnm_repeat_tools.proofs.tile.tile.Goals as goal

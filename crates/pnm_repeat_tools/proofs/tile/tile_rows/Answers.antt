@@ -2,7 +2,8 @@ use Rattle.std.proofs.Common.{◌≡◌, ◌*◌, ◌∙◌, List, ℕ, ap, map,
 use Rattle.std.specs.List.{range_with_len}
 use Rattle.pnm_image.specs.declared.rows.RowSlice.{RowSlice}
 use Rattle.pnm_image.specs.HeldRows.{AreSliceRows, slice_lists}
-use Rattle.pnm_repeat_tools.specs.Keeping.{HasTiles, row_of_tiles, tiled}
+use Rattle.pnm_repeat_tools.specs.Keeping.{row_of_tiles, tiled}
+use Rattle.pnm_repeat_tools.specs.Internal.Keeping.{HasTiles}
 use Rattle.pnm_repeat_tools.proofs.TileRowsLaws.{rows_alike, tiles_of_samples}
 use Rattle.pnm_repeat_tools.proofs.tile.tile_rows.Goals as goal
 

@@ -1,5 +1,5 @@
 use Rattle.std.proofs.Common.{◌∙◌, sym, ap}
-use Rattle.pnm_row_tools.specs.EachRow.{held_samples}
+use Rattle.pnm_row_tools.specs.Internal.EachRow.{held_samples}
 use Rattle.pnm_row_tools.proofs.ChangeLaws.{made_changed}
 use Rattle.pnm_row_tools.proofs.change.change_rows.Goals as goal
 

@@ -2,7 +2,7 @@ use Rattle.std.proofs.Common.{◌≡◌, ℕ, ◌+◌, ◌*◌, length, drop, ma
 use Rattle.std.specs.List.{range_with_len}
 use Rattle.std.proofs.lemmas.Grind.{common_steps}
 use Rattle.pnm_tools.proofs.PickLaws.{piece_written, columns_picked}
-use Rattle.pnm_row_tools.specs.RowKeeping.{as_wide}
+use Rattle.pnm_row_tools.specs.Internal.RowKeeping.{as_wide}
 use Rattle.pnm_row_tools.proofs.ChannelRowsLaws.{plane_picked}
 use Rattle.pnm_row_tools.proofs.channel.pick.Goals as goal
 

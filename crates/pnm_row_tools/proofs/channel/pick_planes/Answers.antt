@@ -6,8 +6,8 @@ use Rattle.pnm_image.specs.HeldRows.{AreRowsWithin}
 use Rattle.pnm_image.specs.Places.{IsRowOf}
 use Rattle.pnm_image.specs.declared.rows.RowVec.{RowVec}
 use Rattle.pnm_tools.specs.Channel.{picked_samples}
-use Rattle.pnm_row_tools.specs.EachRow.{HoldsRows}
-use Rattle.pnm_row_tools.specs.RowKeeping.{as_wide}
+use Rattle.pnm_row_tools.specs.Internal.EachRow.{HoldsRows}
+use Rattle.pnm_row_tools.specs.Internal.RowKeeping.{as_wide}
 use Rattle.pnm_row_tools.proofs.ChannelRowsLaws.{picked_cut, picked_rows_within}
 use Rattle.pnm_row_tools.proofs.HeldRowsLaws.{concat_cut, concat_long, rows_within}
 use Rattle.pnm_row_tools.proofs.channel.pick_planes.Goals.{in-Bits+in_ok-unpacked-in-Bits+in_ok-picked-in-Bits, in-Bytes+in_ok-picked-in-Bytes}

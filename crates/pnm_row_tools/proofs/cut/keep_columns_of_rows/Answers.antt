@@ -5,7 +5,7 @@ use Rattle.pnm_image.specs.declared.rows.RowVec.{RowVec}
 use Rattle.pnm_image.proofs.HeldRowLaws.{length_of_lists}
 use Rattle.pnm_tools.specs.Cut.{columns_of_row, span_count}
 use Rattle.pnm_row_tools.specs.declared.cut.Parts.{Parts}
-use Rattle.pnm_row_tools.specs.EachRow.{HoldsRows, held_samples}
+use Rattle.pnm_row_tools.specs.Internal.EachRow.{HoldsRows, held_samples}
 use Rattle.pnm_row_tools.proofs.CutRowsLaws.{all_rows, are_cut, columns_within, kept_long, kept_rows_of, lists_kept, part_fits, part_in_row, parts_fit}
 use Rattle.pnm_row_tools.proofs.cut.keep_columns_of_rows.Goals.{in-Bits, in-Bytes, in-Words}
 use Rattle.pnm_row_tools.proofs.cut.keep_columns_of_rows.Goals as goal

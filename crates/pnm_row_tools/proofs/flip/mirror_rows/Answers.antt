@@ -1,6 +1,6 @@
 use Rattle.std.proofs.Common.{◌≡◌, length, ap, sym, ◌∙◌, arith}
 use Rattle.pnm_image.specs.Heads.{row_length}
-use Rattle.pnm_row_tools.specs.EachRow.{held_samples}
+use Rattle.pnm_row_tools.specs.Internal.EachRow.{held_samples}
 use Rattle.pnm_row_tools.proofs.FlipRowsLaws.{bits_mirrored, items_mirrored, rows_in_place}
 use Rattle.pnm_row_tools.proofs.HeldRowsLaws.{held_long}
 use Rattle.pnm_row_tools.proofs.flip.mirror_rows.Goals as goal

@@ -1,5 +1,5 @@
 use Rattle.std.proofs.Common.{◌≡◌, length, ap, sym, arith}
-use Rattle.pnm_row_tools.specs.EachRow.{held_samples}
+use Rattle.pnm_row_tools.specs.Internal.EachRow.{held_samples}
 use Rattle.pnm_row_tools.proofs.FlipRowLaws.{mirrored_in_place}
 use Rattle.pnm_row_tools.proofs.FlipRowsLaws.{bits_reversed, items_reversed}
 use Rattle.pnm_row_tools.proofs.flip.reverse_order.Goals as goal

@@ -4,7 +4,7 @@ use Rattle.std.proofs.lemmas.List.Elements.{All-from_recursion}
 use Rattle.pnm_image.specs.HeldRows.{AreRowsWithin}
 use Rattle.pnm_image.specs.Places.{IsRowOf}
 use Rattle.pnm_tools.specs.Flip.{mirrored_row}
-use Rattle.pnm_row_tools.specs.EachRow.{HoldsRows}
+use Rattle.pnm_row_tools.specs.Internal.EachRow.{HoldsRows}
 use Rattle.pnm_row_tools.proofs.FlipRowsLaws.{as_long, mirrored_rows_within}
 use Rattle.pnm_row_tools.proofs.HeldRowsLaws.{length_of_shape, rows_of_shape, reversed_all, rows_within}
 use Rattle.pnm_row_tools.proofs.flip.transform_rows.Goals as goal

@@ -1,6 +1,6 @@
 use Rattle.std.proofs.Common.{◌≡◌, ◌*◌, length, ap, sym, ◌∙◌, mul_assoc, arith}
 use Rattle.pnm_image.specs.Heads.{row_length}
-use Rattle.pnm_row_tools.specs.EachRow.{held_samples}
+use Rattle.pnm_row_tools.specs.Internal.EachRow.{held_samples}
 use Rattle.pnm_row_tools.proofs.FlipRowLaws.{mirrored_in_place}
 use Rattle.pnm_row_tools.proofs.FlipRowsLaws.{bits_turned, items_turned}
 use Rattle.pnm_row_tools.proofs.HeldRowsLaws.{held_long}

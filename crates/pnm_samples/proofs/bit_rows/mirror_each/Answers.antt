@@ -1,6 +1,6 @@
 use Rattle.std.proofs.Common.{◌≡◌, ◌+◌, ◌-◌, ◌*◌, ◌∙◌, ℕ, List, take, drop, reverse, refl, sym, ap, ap₂, subst, arith}
 use borrow.Rule.Slice.PartMut.{put_mid}
-use Rattle.pnm_samples.specs.BitRows.{row_bytes}
+use Rattle.pnm_samples.specs.Internal.BitRows.{row_bytes}
 use Rattle.pnm_samples.specs.PixelRows.{bytes_for}
 use Rattle.pnm_samples.specs.Pixels.{all_pixels, ArePacked}
 use Rattle.pnm_samples.proofs.BitRowLaws.{all_changed, all_packed, none_changed, one_more_changed}

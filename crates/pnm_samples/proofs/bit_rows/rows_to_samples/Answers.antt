@@ -1,7 +1,7 @@
 use Rattle.std.proofs.Common.{◌≡◌, ◌≤◌, ◌+◌, ◌-◌, ◌*◌, ◌∙◌, ℕ, length, take, drop, refl, ap, ap₂, arith}
 use Rattle.std.proofs.lemmas.List.{take_at}
 use borrow.Rule.Slice.PartMut.{put_mid, same_len_mid, mid_len}
-use Rattle.pnm_samples.specs.BitRows.{row_bytes}
+use Rattle.pnm_samples.specs.Internal.BitRows.{row_bytes}
 use Rattle.pnm_samples.specs.PixelRows.{bytes_for}
 use Rattle.pnm_samples.proofs.BitRowLaws.{length_of_row_bytes, row_within}
 use Rattle.pnm_samples.proofs.BitRowsMade.{samples_of_row_more, samples_of_all}

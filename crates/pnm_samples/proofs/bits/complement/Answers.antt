@@ -1,7 +1,8 @@
 use Rattle.std.proofs.Common.{rules, ◌-◌, ◌<◌, ◌∙◌, length, get_or, ap, arith}
 use Rattle.std.proofs.lemmas.List.{get_or_default}
 use Rattle.std.proofs.lemmas.List.Edits.{map_over_more}
-use Rattle.pnm_samples.specs.Pixels.{all_pixels, AreBytes}
+use Rattle.pnm_samples.specs.Pixels.{all_pixels}
+use Rattle.pnm_samples.specs.Internal.Pixels.{AreBytes}
 use Rattle.pnm_samples.proofs.PixelLaws.{all_mapped, complement_pixels}
 use Rattle.pnm_samples.proofs.bits.complement.Goals as goal
 

@@ -1,5 +1,5 @@
 use Rattle.std.proofs.Common.{◌≢◌, ◌<◌, ◌∙◌, length, ap, arith, below_more, length-set, get_or-set_other, get_or-set_same}
-use Rattle.pnm_samples.specs.Blocks.{bits_of}
+use Rattle.pnm_samples.specs.Internal.Blocks.{bits_of}
 use Rattle.pnm_samples.proofs.BlockLaws.{places_more, bits_moved}
 use Rattle.pnm_samples.proofs.block.columns_of_sixteen.Goals as goal
 

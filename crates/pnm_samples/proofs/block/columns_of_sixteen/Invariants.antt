@@ -1,5 +1,5 @@
 use Rattle.std.proofs.Common.{◌≡◌, ℕ, ◌-◌, ◌*◌, ◌%◌, ◌^◌, ◌<◌, get_or, length, map}
-use Rattle.pnm_samples.specs.Blocks.{bits_of}
+use Rattle.pnm_samples.specs.Internal.Blocks.{bits_of}
 use Rattle.pnm_samples.proofs.block.columns_of_sixteen.Given as goal
 
 -- the columns that have passed, and each byte's bits so many places up

@@ -3,8 +3,8 @@ use Rattle.std.proofs.Common.{◌≡◌, ◌+◌, ◌-◌, ◌*◌, ◌<◌, ◌
 use Rattle.std.specs.Global.{Global}
 use Rattle.std.proofs.lemmas.List.{length-map}
 use Rattle.std.proofs.lemmas.Grind.{common_steps}
-use Rattle.pnm_samples.specs.Blocks.{bits_of}
-use Rattle.pnm_samples.specs.Columns.{HavePairs}
+use Rattle.pnm_samples.specs.Internal.Blocks.{bits_of}
+use Rattle.pnm_samples.specs.Internal.Columns.{HavePairs}
 use Rattle.pnm_samples.proofs.ColumnLaws.{HoldEight, HoldsGroups, eight_more, sixteen_hold, written_whole}
 use Rattle.pnm_samples.proofs.transpose.column_bytes.Goals as goal
 

@@ -1,7 +1,7 @@
 use Rattle.std.proofs.Common.{◌<◌, List, length, refl, sym, subst, ◌∙◌, arith}
 use Rattle.std.proofs.lemmas.Bool.Decides.{nat_tests}
 use Rattle.pnm_image.specs.declared.message.Message.{Message}
-use Rattle.pnm_serial.specs.SerialChains.{FeedsThrough}
+use Rattle.pnm_serial.specs.Internal.SerialChains.{FeedsThrough}
 use Rattle.pnm_serial.proofs.PassingSteps.{passes_on, feeds_next, drops_rest, gives_on, gives_all}
 use Rattle.pnm_serial.proofs.passing.+through.Goals as goal
 

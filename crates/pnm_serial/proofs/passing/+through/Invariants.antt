@@ -4,7 +4,8 @@ use Rattle.pnm_tools.specs.declared.fused_filter.FusedFilter.{FusedFilter}
 use Rattle.pnm_tools.specs.Unfed.{unfed_in}
 use Rattle.pnm_serial.specs.declared.fused_sink.FusedSink.{FusedSink}
 use Rattle.pnm_serial.specs.FusedSinks.{output_of}
-use Rattle.pnm_serial.specs.SerialChains.{FeedsThrough, FiltersAt, FiltersBusy, GivesThrough}
+use Rattle.pnm_serial.specs.SerialChains.{FiltersAt}
+use Rattle.pnm_serial.specs.Internal.SerialChains.{FeedsThrough, FiltersBusy, GivesThrough}
 use Rattle.pnm_serial.proofs.PassingSteps.{first_waiting}
 use Rattle.pnm_serial.proofs.passing.+through.Given as goal
 

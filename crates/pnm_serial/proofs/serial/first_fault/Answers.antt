@@ -2,7 +2,7 @@ use Rattle.std.proofs.Common.{◌≡◌, ℕ, suc, ◌+◌, take, subst, ◌<◌
 use Rattle.std.proofs.lemmas.List.{get_or-map, length-map}
 use Rattle.pnm_tools.specs.ChainAnswers.{AreWell, IsFirstFault}
 use Rattle.pnm_tools.specs.FusedFilters.{refusal_in}
-use Rattle.pnm_serial.specs.SerialChains.{refusals_in}
+use Rattle.pnm_serial.specs.Internal.SerialChains.{refusals_in}
 use Rattle.pnm_serial.proofs.FaultSteps.{well_more, first_here}
 use Rattle.pnm_serial.proofs.serial.first_fault.Goals as goal
 

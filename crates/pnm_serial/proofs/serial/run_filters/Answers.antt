@@ -4,7 +4,7 @@ use Rattle.pnm_serial.specs.FusedSinks.{output_of}
 use Rattle.pnm_serial.specs.Jobs.{job_of}
 use Rattle.pnm_serial.specs.Runs.{change}
 use Rattle.pnm_serial.specs.SerialRuns.{OutlastsRun}
-use Rattle.pnm_serial.specs.SerialChains.{refusals_in}
+use Rattle.pnm_serial.specs.Internal.SerialChains.{refusals_in}
 use Rattle.pnm_serial.proofs.RunSteps.{failed_so, ran_of, stages_answered}
 use Rattle.pnm_serial.proofs.EndSteps.{Ended, HaveEnded, ended_in_one_thread, ended_without_reading, may_follow}
 use Rattle.pnm_serial.proofs.serial.run_filters.Goals as goal

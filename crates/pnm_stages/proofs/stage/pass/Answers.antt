@@ -2,7 +2,7 @@ use Rattle.std.proofs.Common.{true, false, refl}
 use Rattle.pnm_image.specs.Packets.{messages_in}
 use Rattle.pnm_tools.specs.Unfed.{unfed_in}
 use Rattle.pnm_stages.specs.Rings.{sent}
-use Rattle.pnm_stages.specs.HeldImages.{held_messages}
+use Rattle.pnm_stages.specs.Internal.HeldImages.{held_messages}
 use Rattle.pnm_stages.proofs.RingSteps.{itself_output, same_output}
 use Rattle.pnm_stages.proofs.HoldingSteps.{feeds_nothing_yet, feeds_more, loses_rest, sends_rest}
 use Rattle.pnm_stages.proofs.stage.pass.Goals as goal

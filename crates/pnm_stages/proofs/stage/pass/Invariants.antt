@@ -2,7 +2,7 @@ use Rattle.std.proofs.Common.{true, length}
 use Rattle.pnm_image.specs.Packets.{messages_in}
 use Rattle.pnm_tools.specs.Unfed.{unfed_in}
 use Rattle.pnm_stages.specs.Rings.{sent, SameSender}
-use Rattle.pnm_stages.specs.HeldImages.{held_messages}
+use Rattle.pnm_stages.specs.Internal.HeldImages.{held_messages}
 use Rattle.pnm_stages.proofs.HoldingSteps.{IsFeeding}
 use Rattle.pnm_stages.proofs.stage.pass.Given as goal
 

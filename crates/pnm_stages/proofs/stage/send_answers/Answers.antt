@@ -1,5 +1,5 @@
 use Rattle.std.proofs.Common.{true, false}
-use Rattle.pnm_stages.specs.HeldImages.{held_messages}
+use Rattle.pnm_stages.specs.Internal.HeldImages.{held_messages}
 use Rattle.pnm_stages.specs.Rings.{sent}
 use Rattle.pnm_stages.proofs.RingSteps.{itself_output, same_output}
 use Rattle.pnm_stages.proofs.HoldingSteps.{holds_nothing_yet, holds_more, holds_all}

@@ -1,7 +1,7 @@
 use Rattle.std.proofs.Common.{true}
 use Rattle.pnm_stages.specs.Rings.{sent, SameSender}
 use Rattle.pnm_tools.specs.FusedFilters.{waiting_at}
-use Rattle.pnm_stages.specs.HeldImages.{held_messages}
+use Rattle.pnm_stages.specs.Internal.HeldImages.{held_messages}
 use Rattle.pnm_stages.proofs.HoldingSteps.{IsHolding}
 use Rattle.pnm_stages.proofs.stage.send_answers.Given as goal
 

@@ -1,5 +1,5 @@
 use Rattle.std.proofs.Common.{◌≡◌, ℕ, subst, arith}
-use Rattle.pnm_transpose.specs.ColumnBatches.{AreBlank}
+use Rattle.pnm_transpose.specs.Internal.ColumnBatches.{AreBlank}
 use Rattle.pnm_transpose.proofs.ColumnLaws.{blank_more}
 use Rattle.pnm_transpose.proofs.batch.blank_columns.Goals as goal
 

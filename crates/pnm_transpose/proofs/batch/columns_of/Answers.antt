@@ -1,7 +1,7 @@
 use Rattle.std.proofs.Common.{◌≡◌, ℕ, ◌*◌, length, ap, arith, ◌+◌, sym, subst, ◌∙◌}
 use Rattle.pnm_transpose.specs.declared.strip.TheConstants.{STRIP_ROWS}
 use Rattle.pnm_transpose.proofs.StripLaws.{kept_columns_made}
-use Rattle.pnm_transpose.specs.Strips.{ReachColumns}
+use Rattle.pnm_transpose.specs.Internal.Strips.{ReachColumns}
 use Rattle.pnm_transpose.proofs.ColumnLaws.{blank_enough}
 use Rattle.pnm_transpose.proofs.batch.columns_of.Goals as goal
 

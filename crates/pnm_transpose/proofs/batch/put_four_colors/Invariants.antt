@@ -1,5 +1,5 @@
 use Rattle.std.proofs.Common.{◌+◌, drop, take}
-use Rattle.pnm_transpose.specs.ColumnBatches.{HavePixels}
+use Rattle.pnm_transpose.specs.Internal.ColumnBatches.{HavePixels}
 use Rattle.pnm_tools.specs.Flip.{column_of}
 use Rattle.pnm_transpose.proofs.batch.put_four_colors.Given as goal
 

@@ -1,7 +1,7 @@
 use Rattle.std.proofs.Common.{ap, drop, get_or, refl, take, [], ◌∙◌, ◌+◌, arith, ◌≡◌, ℕ, length, subst}
 use Rattle.pnm_tools.specs.Flip.{column_of}
 use Rattle.pnm_transpose.proofs.ColumnLaws.{column_stored, room_in, four_of, reach, reach_part, row_of_part, row_reaches_at, four_samples, nothing_stored}
-use Rattle.pnm_transpose.specs.ColumnBatches.{HavePixels}
+use Rattle.pnm_transpose.specs.Internal.ColumnBatches.{HavePixels}
 use Rattle.std.proofs.lemmas.Grind.{common_steps}
 use Rattle.pnm_transpose.proofs.batch.put_four_samples.Goals as goal
 

@@ -1,6 +1,6 @@
 use Rattle.std.proofs.Common.{◌+◌, ◌*◌, ◌/◌, ◌-◌, ◌≡◌, ◌∙◌, ℕ, ap, subst, sym, length, drop, take, refl, arith}
 use Rattle.std.proofs.lemmas.List.{length-drop}
-use Rattle.pnm_transpose.specs.ColumnBatches.{AreLongEnough, HavePixels}
+use Rattle.pnm_transpose.specs.Internal.ColumnBatches.{AreLongEnough, HavePixels}
 use Rattle.pnm_tools.specs.Flip.{column_of}
 use Rattle.pnm_transpose.proofs.BlockLaws.{rest_reaches, rows_further}
 use Rattle.pnm_transpose.proofs.ColumnLaws.{all_behind, four_behind, rows_behind, room_left, within}

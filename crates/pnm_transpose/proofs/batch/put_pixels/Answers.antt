@@ -2,7 +2,7 @@ use Rattle.std.proofs.Common.{◌≡◌, ◌+◌, ◌-◌, ◌*◌, ℕ, ap, ari
 use Rattle.pnm_tools.specs.PixelSamples.{pixel_of}
 use Rattle.pnm_transpose.proofs.ColumnLaws.{column_stored, nothing_stored, room_in, within}
 use borrow.Rule.Slice.PartMut.{mid_len}
-use Rattle.pnm_transpose.specs.ColumnBatches.{HavePixels}
+use Rattle.pnm_transpose.specs.Internal.ColumnBatches.{HavePixels}
 use Rattle.std.proofs.lemmas.Grind.{common_steps}
 use Rattle.pnm_transpose.proofs.batch.put_pixels.Goals as goal
 

@@ -1,6 +1,6 @@
 use Rattle.std.proofs.Common.{◌≡◌, ◌+◌, ◌-◌, ℕ, length, take, drop, length-drop, subst, arith}
 use Rattle.pnm_transpose.proofs.ColumnLaws.{reach_rest, row_behind, row_of_rest, within}
-use Rattle.pnm_transpose.specs.ColumnBatches.{HavePixels}
+use Rattle.pnm_transpose.specs.Internal.ColumnBatches.{HavePixels}
 use Rattle.pnm_tools.specs.Flip.{column_of}
 use Rattle.std.proofs.lemmas.Grind.{common_steps}
 use Rattle.pnm_transpose.proofs.batch.put_some.Goals as goal

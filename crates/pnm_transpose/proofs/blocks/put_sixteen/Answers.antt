@@ -1,7 +1,7 @@
 use denote.Ref.{Bor}
 use Rattle.std.proofs.Common.{◌≡◌, ◌∙◌, ◌+◌, ◌<◌, ℕ, List, [], ap, arith, drop, get_or, length, map, set, subst, take}
 use Rattle.std.specs.Vec.{with_items}
-use Rattle.pnm_transpose.specs.ColumnBatches.{HavePixels}
+use Rattle.pnm_transpose.specs.Internal.ColumnBatches.{HavePixels}
 use Rattle.pnm_tools.specs.Flip.{column_of}
 use Rattle.pnm_transpose.proofs.BlockLaws.{block_reaches, column_of_sixteen}
 use Rattle.pnm_transpose.proofs.ColumnLaws.{column_stored}

@@ -6,7 +6,7 @@ use Rattle.pnm_image.specs.declared.shape.Kind.TheVariants.{Bit}
 use Rattle.pnm_samples.specs.SampleVecs.{HasWhiteSpare, slice_samples}
 use Rattle.pnm_samples.specs.Pixels.{all_pixels}
 use Rattle.pnm_write.specs.PlainRows.{plain_row_text}
-use Rattle.pnm_write.specs.WriteCalls.{WriteCall}
+use Rattle.pnm_write.specs.Internal.WriteCalls.{WriteCall}
 use Rattle.pnm_write.proofs.PlainLaws.{row_of_numbers}
 use Rattle.pnm_write.proofs.plain.write_lines.Goals as goal
 

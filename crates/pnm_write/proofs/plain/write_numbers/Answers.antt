@@ -3,7 +3,7 @@ use Rattle.std.proofs.lemmas.List.{drop-map, take-map, length-map}
 use Rattle.pnm_image.specs.declared.shape.Kind.TheVariants.{Gray}
 use Rattle.pnm_image.proofs.Written.{Sending, sending_part}
 use Rattle.pnm_write.specs.PlainRows.{plain_row_text}
-use Rattle.pnm_write.specs.PlainParts.{text_of_part, column_after_part, sample_texts, row_end}
+use Rattle.pnm_write.specs.Internal.PlainParts.{text_of_part, column_after_part, sample_texts, row_end}
 use Rattle.pnm_write.proofs.PlainLaws.{text_left, part_of_numbers, row_text_left, some_left}
 use Rattle.pnm_write.proofs.WriteCallSteps.{call_failed}
 use Rattle.pnm_write.proofs.plain.write_numbers.Goals as goal

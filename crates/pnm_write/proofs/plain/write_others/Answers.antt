@@ -7,7 +7,7 @@ use Rattle.pnm_image.specs.declared.shape.Kind.{Kind}
 use Rattle.pnm_samples.specs.SampleVecs.{slice_samples}
 use Rattle.pnm_image.proofs.Written.{Sending, sending_part}
 use Rattle.pnm_write.specs.PlainRows.{plain_row_text}
-use Rattle.pnm_write.specs.PlainParts.{text_of_part, column_after_part, sample_texts, row_end}
+use Rattle.pnm_write.specs.Internal.PlainParts.{text_of_part, column_after_part, sample_texts, row_end}
 use Rattle.pnm_write.proofs.PlainLaws.{text_left, left_part, row_text_left}
 use Rattle.pnm_write.proofs.WriteCallSteps.{call_failed}
 use Rattle.pnm_write.proofs.plain.write_others.Goals as goal

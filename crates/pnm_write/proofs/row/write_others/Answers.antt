@@ -10,9 +10,9 @@ use Rattle.pnm_image.specs.declared.shape.Kind.{Kind}
 use Rattle.pnm_image.specs.declared.shape.Kind.TheVariants.{Bit, Gray, Color, Pam}
 use Rattle.pnm_image.specs.SampleWidths.{sample_width_of}
 use Rattle.pnm_samples.specs.SampleVecs.{slice_samples}
-use Rattle.pnm_write.specs.WriteBuffers.{FitIn}
+use Rattle.pnm_write.specs.Internal.WriteBuffers.{FitIn}
 use Rattle.pnm_write.specs.Encoding.{bytes_in}
-use Rattle.pnm_write.specs.WriteCalls.{WriteCall}
+use Rattle.pnm_write.specs.Internal.WriteCalls.{WriteCall}
 use Rattle.pnm_write.proofs.PartLaws.{begin_sending}
 use Rattle.pnm_write.proofs.RawLaws.{few_parts}
 use Rattle.pnm_image.proofs.Written.{sending_part}

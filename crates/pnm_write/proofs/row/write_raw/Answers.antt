@@ -1,12 +1,13 @@
 use Rattle.std.proofs.Common.{◌≡◌, ◌∙◌, List, ℕ, take, refl, ap, sym, subst}
-use Rattle.pnm_samples.specs.Pixels.{all_pixels, AreBytes, ArePacked}
+use Rattle.pnm_samples.specs.Pixels.{all_pixels, ArePacked}
+use Rattle.pnm_samples.specs.Internal.Pixels.{AreBytes}
 use Rattle.pnm_samples.specs.SampleVecs.{HasWhiteSpare, slice_samples}
 use Rattle.pnm_samples.proofs.PackedBytes.{packed_view}
 use Rattle.pnm_image.specs.SampleWidths.{sample_width_of}
 use Rattle.pnm_image.specs.declared.sample_width.SampleWidth.{SampleWidth}
 use Rattle.pnm_image.specs.declared.sample_width.SampleWidth.TheVariants.{Bits}
 use Rattle.pnm_write.specs.Encoding.{packed_bytes, bytes_in}
-use Rattle.pnm_write.specs.WriteCalls.{WriteCall}
+use Rattle.pnm_write.specs.Internal.WriteCalls.{WriteCall}
 use Rattle.pnm_write.proofs.row.write_raw.Goals as goal
 
 -- the bytes that are written are those of the row's pixels

@@ -1,8 +1,8 @@
 use Rattle.std.proofs.Common.{◌≡◌, ◌∙◌, ◌++◌, min, List, ℕ, length, take, drop, ap, sym, subst}
 use Rattle.pnm_image.specs.declared.sample_width.SampleWidth.{SampleWidth}
 use Rattle.pnm_write.specs.Encoding.{bytes_in}
-use Rattle.pnm_write.specs.WriteBuffers.{most_samples}
-use Rattle.pnm_write.specs.WriteCalls.{WriteCall}
+use Rattle.pnm_write.specs.Internal.WriteBuffers.{most_samples}
+use Rattle.pnm_write.specs.Internal.WriteCalls.{WriteCall}
 use Rattle.pnm_write.proofs.RawLaws.{parts, fit_rest}
 use Rattle.pnm_image.proofs.Written.{sending_part}
 use Rattle.pnm_write.proofs.WriteCallSteps.{call_failed}

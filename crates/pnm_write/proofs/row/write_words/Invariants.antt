@@ -1,6 +1,6 @@
 use Rattle.std.proofs.Common.{length}
 use Rattle.pnm_write.specs.Encoding.{bytes_in}
-use Rattle.pnm_write.specs.WriteBuffers.{FitIn}
+use Rattle.pnm_write.specs.Internal.WriteBuffers.{FitIn}
 use Rattle.pnm_image.proofs.Written.{Sending}
 use Rattle.pnm_write.proofs.row.write_words.Given as goal
 

@@ -2,7 +2,7 @@ use Rattle.std.proofs.Common.{◌≤◌, ◌∙◌, All, ap, sym, subst}
 use Rattle.pnm_image.specs.Heads.{row_length}
 use Rattle.pnm_image.specs.declared.format.Form.TheVariants.{Raw}
 use Rattle.pnm_write.specs.Encoding.{row_bytes}
-use Rattle.pnm_write.specs.WriteCalls.{WriteCall}
+use Rattle.pnm_write.specs.Internal.WriteCalls.{WriteCall}
 use Rattle.pnm_write.proofs.RowsLaws.{as_one_of_cut, rows_as_one, long_rows, range_of_rows}
 use Rattle.pnm_write.proofs.rows.write_as_one.Goals as goal
 

@@ -4,7 +4,8 @@ use Rattle.pnm_samples.specs.SampleVecs.{slice_samples}
 use Rattle.pnm_image.specs.declared.shape.Shape.{Shape}
 use Rattle.pnm_image.specs.declared.format.Form.{Form}
 use Rattle.pnm_image.proofs.Written.{sending_part}
-use Rattle.pnm_write.specs.Encoding.{row_bytes, rows_bytes}
+use Rattle.pnm_write.specs.Encoding.{row_bytes}
+use Rattle.pnm_write.specs.Internal.Encoding.{rows_bytes}
 use Rattle.pnm_write.proofs.WriteCallSteps.{call_failed, call_done}
 use Rattle.pnm_write.proofs.rows.write_each.Goals as goal
 

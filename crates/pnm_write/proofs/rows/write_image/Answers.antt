@@ -1,6 +1,7 @@
 use Rattle.std.proofs.Common.{◌++◌, refl}
 use Rattle.pnm_image.proofs.Written.{sending_part}
-use Rattle.pnm_write.specs.Encoding.{header_text, rows_bytes}
+use Rattle.pnm_write.specs.Encoding.{header_text}
+use Rattle.pnm_write.specs.Internal.Encoding.{rows_bytes}
 use Rattle.pnm_write.proofs.PartLaws.{begin_sending}
 use Rattle.pnm_write.proofs.WriteCallSteps.{call_failed, call_on}
 use Rattle.pnm_write.proofs.rows.write_image.Goals as goal

@@ -7,8 +7,9 @@ use Rattle.pnm_image.specs.declared.format.Form.TheVariants.{Raw}
 use Rattle.pnm_image.specs.declared.sample_width.SampleWidth.{SampleWidth}
 use Rattle.pnm_image.specs.declared.sample_width.SampleWidth.TheVariants.{Bits}
 use Rattle.pnm_image.specs.declared.shape.Shape.{Shape}
-use Rattle.pnm_write.specs.Encoding.{AreWholeBytes, bytes_in, packed_bytes, rows_bytes}
-use Rattle.pnm_write.specs.WriteCalls.{WriteCall}
+use Rattle.pnm_write.specs.Encoding.{bytes_in, packed_bytes}
+use Rattle.pnm_write.specs.Internal.Encoding.{AreWholeBytes, rows_bytes}
+use Rattle.pnm_write.specs.Internal.WriteCalls.{WriteCall}
 use Rattle.pnm_write.proofs.RowsLaws.{long_rows}
 use Rattle.pnm_write.proofs.rows.write_rows.Goals as goal
 

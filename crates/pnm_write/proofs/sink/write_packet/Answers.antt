@@ -8,8 +8,9 @@ use Rattle.pnm_image.specs.Places.{IsLawfulFrom, IsRowOf}
 use Rattle.pnm_image.specs.Repeats.{repeated}
 use Rattle.pnm_image.specs.Rows.{row_messages}
 use Rattle.pnm_image.proofs.RepeatLaws.{each_once}
-use Rattle.pnm_write.specs.Encoding.{header_text, rows_bytes, bytes_from}
-use Rattle.pnm_write.specs.WriteCalls.{WriteCall}
+use Rattle.pnm_write.specs.Encoding.{header_text, bytes_from}
+use Rattle.pnm_write.specs.Internal.Encoding.{rows_bytes}
+use Rattle.pnm_write.specs.Internal.WriteCalls.{WriteCall}
 use Rattle.pnm_write.proofs.RowMessages.{bytes_inside, bytes_outside, rows_of_image, image_of_rows, bytes_of_image}
 use Rattle.pnm_write.proofs.sink.write_packet.Goals as goal
 

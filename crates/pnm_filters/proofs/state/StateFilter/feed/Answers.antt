@@ -1,7 +1,8 @@
 use Rattle.std.proofs.Common.{Err, subst, sym, ◌∙◌}
 use Rattle.pnm_tools.specs.Answers.{Judges}
-use Rattle.pnm_filters.specs.Pendings.{pending_of}
-use Rattle.pnm_filters.specs.States.{StateValue, state_value, is_all_given}
+use Rattle.pnm_filters.specs.Internal.Pendings.{pending_of}
+use Rattle.pnm_filters.specs.States.{StateValue, is_all_given}
+use Rattle.pnm_filters.specs.Internal.States.{state_value}
 use Rattle.pnm_filters.proofs.StateSteps.{fed, judged, sound_fed}
 use Rattle.pnm_tools.specs.Tools.{IsLawfulTool}
 use Rattle.pnm_filters.proofs.state.StateFilter.feed.Goals as goal

@@ -3,8 +3,9 @@ use Rattle.pnm_image.specs.Places.{LeadsTo}
 use Rattle.pnm_image.specs.Rows.{row_messages}
 use Rattle.pnm_image.specs.declared.place.Place.{Place}
 use Rattle.pnm_tools.specs.Answers.{RowsMayCome}
-use Rattle.pnm_filters.specs.Pendings.{pending_of}
-use Rattle.pnm_filters.specs.States.{StateValue, state_value, is_all_given}
+use Rattle.pnm_filters.specs.Internal.Pendings.{pending_of}
+use Rattle.pnm_filters.specs.States.{StateValue, is_all_given}
+use Rattle.pnm_filters.specs.Internal.States.{state_value}
 use Rattle.pnm_filters.proofs.TakingSteps.{no_fault_yet, nothing_pending, rows_may_come, stands_by, taken_rows}
 use Rattle.pnm_filters.proofs.state.StateFilter.feed_rows.Goals as goal
 

@@ -1,5 +1,5 @@
-use Rattle.pnm_filters.specs.Pendings.{pending_of}
-use Rattle.pnm_filters.specs.States.{state_value}
+use Rattle.pnm_filters.specs.Internal.Pendings.{pending_of}
+use Rattle.pnm_filters.specs.Internal.States.{state_value}
 use Rattle.pnm_filters.proofs.GivingSteps.{given_by, stop_alone_by, full_by, wanted_memory}
 use Rattle.std.proofs.Common.{subst, sym, ◌∙◌}
 use Rattle.pnm_tools.specs.Tools.{IsLawfulTool}

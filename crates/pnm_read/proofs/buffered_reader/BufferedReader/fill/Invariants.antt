@@ -1,5 +1,6 @@
 use Rattle.std.proofs.Common.{◌≡◌, ◌+◌, ◌-◌, Ok, length, if◌then◌else◌}
-use Rattle.pnm_read.specs.BufferedReaders.{ReadCall, Fills, held_of, HoldsEnough}
+use Rattle.pnm_read.specs.BufferedReaders.{held_of}
+use Rattle.pnm_read.specs.Internal.BufferedReaders.{ReadCall, Fills, HoldsEnough}
 use Rattle.pnm_read.proofs.buffered_reader.BufferedReader.fill.Given as goal
 
 abbrev pub invariant-loop-self : goal.invariant-loop-self

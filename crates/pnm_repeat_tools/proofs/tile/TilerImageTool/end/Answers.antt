@@ -1,5 +1,6 @@
 use Rattle.std.proofs.Common.{rules, ◌≡◌, ℕ, ◌<◌, map, take, min, ap, ap₂, subst, sym, ◌∙◌, arith}
-use Rattle.pnm_repeat_tools.specs.Keeping.{Tiled, HasTiles, tiled, tiled_due, shown_row}
+use Rattle.pnm_repeat_tools.specs.Keeping.{Tiled, tiled, tiled_due, shown_row}
+use Rattle.pnm_repeat_tools.specs.Internal.Keeping.{HasTiles}
 use Rattle.pnm_tools.specs.Tile.{tiled_at_end}
 use Rattle.pnm_repeat_tools.proofs.TileRowLaws.{due_at_end, tiles_at_end, rows_within_at_end}
 use Rattle.pnm_repeat_tools.proofs.tile.TilerImageTool.end.Goals as goal

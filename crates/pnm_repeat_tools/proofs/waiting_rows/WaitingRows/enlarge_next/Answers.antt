@@ -1,5 +1,6 @@
 use Rattle.std.proofs.Common.{◌∙◌, ap, subst, sym}
-use Rattle.pnm_repeat_tools.specs.Enlarging.{CanBeEnlarged, ToEnlarge}
+use Rattle.pnm_repeat_tools.specs.Enlarging.{ToEnlarge}
+use Rattle.pnm_repeat_tools.specs.Internal.Enlarging.{CanBeEnlarged}
 use Rattle.pnm_repeat_tools.proofs.WaitingLaws.{same_rows}
 use Rattle.pnm_repeat_tools.proofs.waiting_rows.WaitingRows.enlarge_next.Goals as goal
 

@@ -8,7 +8,7 @@ use Rattle.pnm_tools.specs.declared.flip.Transform.{Transform}
 use Rattle.pnm_tools.specs.declared.tool.Tool.TheVariants.{Flip}
 use Rattle.pnm_tools.specs.Flip.{mirrored_row, transform_of, transformed_row}
 use Rattle.pnm_tools.proofs.TransformLaws.{row_stays}
-use Rattle.pnm_row_tools.specs.EachRow.{HoldsRows}
+use Rattle.pnm_row_tools.specs.Internal.EachRow.{HoldsRows}
 use Rattle.pnm_row_tools.proofs.FlipRowsLaws.{as_long, mirrored_rows_within, rows_turned}
 use Rattle.pnm_row_tools.proofs.HeldRowsLaws.{length_of_shape, rows_of_shape}
 use Rattle.pnm_row_tools.proofs.EachRowLaws.{each_answered}

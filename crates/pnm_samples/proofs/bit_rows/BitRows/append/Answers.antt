@@ -1,5 +1,5 @@
 use Rattle.std.proofs.Common.{◌≡◌, ◌+◌, ◌++◌, ◌∙◌, ℕ, List, sym, ap, ap₂, subst, arith}
-use Rattle.pnm_samples.specs.BitRows.{ArePackedRows}
+use Rattle.pnm_samples.specs.Internal.BitRows.{ArePackedRows}
 use Rattle.pnm_samples.specs.PixelRows.{rows_of_bytes}
 use Rattle.pnm_samples.proofs.BitRowLaws.{packed_behind}
 use Rattle.pnm_samples.proofs.BitRowsMade.{row_of_rows}

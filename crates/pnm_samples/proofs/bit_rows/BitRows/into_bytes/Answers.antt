@@ -1,7 +1,8 @@
 use Rattle.std.proofs.Common.{◌≡◌, ◌∙◌, ap, subst, arith}
 use Rattle.std.proofs.lemmas.Grind.{common_steps}
 use Rattle.std.specs.List.{flat_map}
-use Rattle.pnm_samples.specs.Pixels.{AreBytes, packed_bytes}
+use Rattle.pnm_samples.specs.Pixels.{packed_bytes}
+use Rattle.pnm_samples.specs.Internal.Pixels.{AreBytes}
 use Rattle.pnm_samples.proofs.BitRowLaws.{bytes_of_rows}
 use Rattle.pnm_samples.proofs.bit_rows.BitRows.into_bytes.Goals as goal
 

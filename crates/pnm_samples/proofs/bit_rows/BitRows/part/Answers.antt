@@ -2,7 +2,7 @@ use Rattle.std.proofs.Common.{◌≡◌, ◌≤◌, ◌<◌, IfOk, ◌+◌, ◌-
 use Rattle.std.proofs.lemmas.List.{length-drop, length-take, with_items_is}
 use Rattle.std.specs.Vec.{with_items}
 use borrow.Rule.Slice.PartMut.{put_mid, same_len_mid, mid_len}
-use Rattle.pnm_samples.specs.BitRows.{row_bytes}
+use Rattle.pnm_samples.specs.Internal.BitRows.{row_bytes}
 use Rattle.pnm_samples.specs.PixelRows.{bytes_for}
 use Rattle.pnm_samples.specs.Pixels.{all_pixels}
 use Rattle.pnm_samples.proofs.BitRowLaws.{counted, length_of_row_bytes, row_within}

@@ -1,6 +1,6 @@
 use Rattle.std.proofs.Common.{◌∙◌, ℕ, List, sym, ap, subst}
 use Rattle.std.specs.List.{flat_map}
-use Rattle.pnm_samples.specs.BitRows.{ArePackedRows}
+use Rattle.pnm_samples.specs.Internal.BitRows.{ArePackedRows}
 use Rattle.pnm_samples.specs.PixelRows.{rows_of_bytes}
 use Rattle.pnm_samples.specs.Pixels.{packed_bytes}
 use Rattle.pnm_samples.proofs.BitRowLaws.{bytes_of_rows}

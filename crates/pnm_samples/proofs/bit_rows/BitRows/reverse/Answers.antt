@@ -1,7 +1,7 @@
 use Rattle.std.proofs.Common.{◌≡◌, ◌*◌, ◌∙◌, ℕ, List, length, reverse, ap, ap₂, sym, subst, arith}
 use Rattle.std.proofs.lemmas.Grind.{common_steps}
 use Rattle.std.specs.Vec.{with_items}
-use Rattle.pnm_samples.specs.BitRows.{ArePackedRows}
+use Rattle.pnm_samples.specs.Internal.BitRows.{ArePackedRows}
 use Rattle.pnm_samples.specs.Cuts.{last_first}
 use Rattle.pnm_samples.specs.PixelRows.{bytes_for, rows_of_bytes}
 use Rattle.pnm_samples.proofs.BitRowsMade.{reversed_are_packed, rows_reversed}

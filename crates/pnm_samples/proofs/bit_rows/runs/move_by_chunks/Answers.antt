@@ -1,5 +1,5 @@
 use Rattle.std.proofs.Common.{◌≡◌, ◌≤◌, ◌+◌, ◌-◌, ◌*◌, ◌/◌, ℕ, length, subst, arith}
-use Rattle.pnm_samples.specs.BitRows.{IsMovedRun}
+use Rattle.pnm_samples.specs.Internal.BitRows.{IsMovedRun}
 use Rattle.pnm_samples.proofs.RunLaws.{moved_further}
 use Rattle.pnm_samples.proofs.bit_rows.runs.move_by_chunks.Goals as goal
 

@@ -1,5 +1,5 @@
 use Rattle.std.proofs.Common.{◌≡◌, ◌≤◌, ◌+◌, ◌-◌, ◌*◌, ◌/◌, ◌%◌, ℕ, ap, subst, arith, mul-le-mul}
-use Rattle.pnm_samples.specs.BitRows.{IsMovedRun}
+use Rattle.pnm_samples.specs.Internal.BitRows.{IsMovedRun}
 use Rattle.pnm_samples.specs.PixelRows.{bytes_for}
 use Rattle.pnm_samples.proofs.RunLaws.{one_more_run, one_run}
 use Rattle.pnm_samples.proofs.bit_rows.runs.move_runs.Goals as goal

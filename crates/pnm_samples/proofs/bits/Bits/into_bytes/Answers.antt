@@ -1,6 +1,7 @@
 use Rattle.std.proofs.Common.{arith, ◌≡◌, ◌∙◌, ℕ, ap, length, subst, sym, take}
 use Rattle.std.proofs.lemmas.Grind.{common_steps}
-use Rattle.pnm_samples.specs.Pixels.{all_pixels, AreBytes, ArePacked}
+use Rattle.pnm_samples.specs.Pixels.{all_pixels, ArePacked}
+use Rattle.pnm_samples.specs.Internal.Pixels.{AreBytes}
 use Rattle.pnm_samples.proofs.PackedBytes.{packed_view}
 use Rattle.pnm_samples.proofs.PixelRowLaws.{length_of_packed}
 use Rattle.pnm_samples.proofs.bits.Bits.into_bytes.Goals as goal

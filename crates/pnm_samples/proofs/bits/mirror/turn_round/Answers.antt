@@ -2,7 +2,8 @@ use Rattle.std.proofs.Common.{rules, ◌<◌, ◌∙◌, ℕ, length, get_or, se
 use Rattle.std.specs.Int.{w8, reverse_bits}
 use Rattle.std.proofs.lemmas.List.{get_or_default}
 use Rattle.std.proofs.lemmas.List.Edits.{map_over_more}
-use Rattle.pnm_samples.specs.Pixels.{all_pixels, AreBytes}
+use Rattle.pnm_samples.specs.Pixels.{all_pixels}
+use Rattle.pnm_samples.specs.Internal.Pixels.{AreBytes}
 use Rattle.pnm_samples.proofs.MirrorLaws.{turned_round}
 use Rattle.pnm_samples.proofs.PixelLaws.{all_mapped}
 use Rattle.pnm_samples.proofs.bits.mirror.turn_round.Goals as goal

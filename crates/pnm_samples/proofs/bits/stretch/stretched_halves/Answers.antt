@@ -3,7 +3,7 @@ use Rattle.std.specs.Vec.{with_items}
 use Rattle.std.proofs.lemmas.Grind.{common_steps}
 use Rattle.std.proofs.lemmas.List.{take_all, length-drop}
 use borrow.Rule.Slice.PartMut.{put_mid}
-use Rattle.pnm_samples.specs.Stretches.{AreStretched, stride}
+use Rattle.pnm_samples.specs.Internal.Stretches.{AreStretched, stride}
 use Rattle.pnm_samples.proofs.StretchLaws.{half_more}
 use Rattle.pnm_samples.proofs.bits.stretch.stretched_halves.Goals as goal
 

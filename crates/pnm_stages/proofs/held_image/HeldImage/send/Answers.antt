@@ -5,7 +5,7 @@ use Rattle.pnm_image.specs.declared.message.Message.{Message}
 use Rattle.pnm_image.specs.declared.message.Message.TheVariants.{Begin, ImageEnd}
 use Rattle.pnm_stages.specs.Rings.{sent}
 use Rattle.pnm_stages.specs.declared.held_image.HeldImage.TheVariants.{Nothing, Rows}
-use Rattle.pnm_stages.specs.HeldImages.{HasSentOrHeld}
+use Rattle.pnm_stages.specs.Internal.HeldImages.{HasSentOrHeld}
 use Rattle.pnm_stages.proofs.RingSteps.{same_output}
 use Rattle.pnm_stages.proofs.HoldingSteps.{as_held, held_before, sends_out, sent_then, lost_then}
 use Rattle.pnm_stages.proofs.held_image.HeldImage.send.Goals as goal

@@ -2,7 +2,7 @@ use Rattle.std.proofs.Common.{[], ◌∷◌, sym, subst, ◌∙◌}
 use Rattle.pnm_image.specs.declared.message.Message.TheVariants.{Begin}
 use Rattle.pnm_stages.specs.Rings.{sent}
 use Rattle.pnm_stages.specs.declared.held_image.HeldImage.{HeldImage}
-use Rattle.pnm_stages.specs.HeldImages.{held_messages, HasSentOrHeld}
+use Rattle.pnm_stages.specs.Internal.HeldImages.{held_messages, HasSentOrHeld}
 use Rattle.pnm_stages.proofs.HoldingSteps.{sends_out}
 use Rattle.pnm_stages.proofs.held_image.HeldImage.send_held.Goals as goal
 

@@ -1,5 +1,5 @@
 use Rattle.std.proofs.Common.{◌≡◌, ◌<◌, ◌+◌, ◌*◌, ◌∙◌, ℕ, ap, arith}
-use Rattle.pnm_transpose.specs.FlatRows.{ordered_rows_in}
+use Rattle.pnm_transpose.specs.Internal.FlatRows.{ordered_rows_in}
 use Rattle.pnm_transpose.proofs.FlatRowsLaws.{rows_pushed, samples_added}
 use Rattle.pnm_transpose.proofs.flat_rows.FlatRows.push_rows.Goals.{else-self-gt0-via-then-self-gt0+else-self-each, else-self-gt0-via-else-self-gt0}
 use Rattle.pnm_transpose.proofs.flat_rows.FlatRows.push_rows.Goals as goal

@@ -14,8 +14,8 @@ use Rattle.pnm_read.specs.declared.fields.Fields.{Fields}
 use Rattle.pnm_read.specs.declared.pam.PamScanner.{PamScanner}
 use Rattle.pnm_image.specs.Texts.{is_digit, decimal_value}
 use Rattle.pnm_read.specs.PamLines.{ended_lines, last_line, first_token, field_values, tuple_type_in}
-use Rattle.pnm_read.specs.LineWalks.{joined_with}
-use Rattle.pnm_read.specs.Saturation.{saturate_u32}
+use Rattle.pnm_read.specs.Internal.LineWalks.{joined_with}
+use Rattle.pnm_read.specs.Internal.Saturation.{saturate_u32}
 use Rattle.pnm_read.specs.Items.{is_type_too_long, line_item}
 
 -- the number that a token spells, as a u32; none where it isn't decimal

@@ -1,5 +1,5 @@
 -- What a stage holds back of an image, and sends in its turn.
-use Rattle.std.specs.Prelude.{◌≡◌, Bool, true, false, List, [], ◌∷◌, ◌++◌, Option}
+use Rattle.std.specs.Prelude.{◌≡◌, Bool, true, List, [], ◌∷◌, ◌++◌, Option}
 use Rattle.pnm_image.specs.declared.message.Message.{Message}
 use Rattle.pnm_image.specs.declared.message.Message.TheVariants.{Begin}
 use Rattle.pnm_image.specs.Rows.{row_messages}
@@ -9,7 +9,7 @@ use Rattle.pnm_tools.specs.declared.fused_filter.FusedFilter.{FusedFilter}
 use Rattle.pnm_tools.specs.FusedFilters.{FilterAt, FilterBusy}
 use Rattle.pnm_stages.specs.declared.held_image.HeldImage.{HeldImage}
 use Rattle.pnm_stages.specs.declared.held_image.HeldImage.TheVariants.{Nothing, Head, Rows}
-use Rattle.pnm_stages.specs.StageParts.{HasAnsweredPart}
+use Rattle.pnm_stages.specs.Internal.StageParts.{HasAnsweredPart}
 
 -- the messages that are held back
 abbrev pub held_messages : HeldImage → List Message

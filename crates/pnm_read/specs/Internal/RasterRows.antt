@@ -15,7 +15,7 @@ use Rattle.pnm_read.specs.declared.raster.Raster.{Raster}
 use Rattle.pnm_read.specs.Said.{in_turn, units_in_row, raw_row, rows_said, later_said, says_fault}
 use Rattle.pnm_read.specs.Said.{after_messages}
 use Rattle.pnm_read.specs.Items.{plain_sample}
-use Rattle.pnm_read.specs.Units.{AreBytesWithin, samples_of_bytes}
+use Rattle.pnm_read.specs.Internal.Units.{AreBytesWithin, samples_of_bytes}
 
 -- a row is the first samples of its bytes, and has no byte more; none is of two bytes
 abbrev pub FitsBytes : SampleWidth → Shape → Type 0

@@ -10,7 +10,7 @@ use Rattle.pnm_read.specs.declared.pixel.PixelScanner.{PixelScanner}
 use Rattle.pnm_read.specs.HeaderTexts.{is_apart, commented, ends_in_comment, uncommented, ends_in_word}
 use Rattle.pnm_read.specs.HeaderTexts.{numbers_in, number_in}
 use Rattle.pnm_image.specs.Texts.{is_white, is_digit}
-use Rattle.pnm_read.specs.Saturation.{saturate_u32, with_digit, IsNumbers}
+use Rattle.pnm_read.specs.Internal.Saturation.{saturate_u32, with_digit, IsNumbers}
 use Rattle.pnm_read.specs.Items.{header_item, decimal_item, pixel_item, ends_in_digit, pixel_in}
 
 -- ---- headers

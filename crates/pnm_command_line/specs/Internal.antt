@@ -1,0 +1,2 @@
+-- What the functions of this crate say to each other: no contract that other crates see reaches these words.
+pub mod CommandLine
