@@ -1,7 +1,7 @@
 #!/usr/bin/env python3
 """Counts what a reader of a function's promise has to read: `definitions_of.py pnm_flow::run`, or CRATE::TYPE::METHOD.
 
-From the clauses of the function's contract it follows each name to its definition in crates/*/specs/*.antt, or to the
+From the clauses of the function's contract it follows each name to its definition in crates/*/specs, or to the
 `ghost` member of a trait in crates/*/src, and from there the names in that definition, over all crates. The types and
 constants that the code declares, and the toolchain's own definitions, aren't counted. It tells how many definitions
 there are, in how many files, how many such members, and how many of all are bookkeeping: what BOOKKEEPING names, with
@@ -32,7 +32,6 @@ BOOKKEEPING = {
     ),
     ("pnm_image", "Texts"): (["runs_between"], "cuts a text, for its words"),
     ("pnm_read", "PamLines"): (["trimmed"], "cuts a line, for its values"),
-    ("pnm_read", "LineWalks"): ([], "steps along a line, as its scanner goes"),
     ("pnm_read", "Items"): (
         ["after_last", "decimal_end", "ends_in_", "fault_of_", "header_end", "is_complete"]
         + ["piece_from", "pixel_end", "pixel_in", "shape_in"],
@@ -56,7 +55,7 @@ BOOKKEEPING = {
     ("pnm_flow", "ThreadedRuns"): (["fault_of_end", "first_fault_from"], "cases of an answer"),
 }
 
-HEAD = re.compile(r"(?:abbrev|unfoldable)(?: pub)? (\S+)|(?:pub )?(?:record|data) (\S+)")
+HEAD = re.compile(r"(?:abbrev|unfoldable)(?: pub)? (?!use\b)(\S+)|(?:pub )?(?:record|data) (\S+)")
 USE = re.compile(r"(?:pub |ghost )?use Rattle\.(\w+)\.specs\.([\w.]+?)(?:\.\{([^}]*)\}|( as \w+)|);?$")
 WORD = re.compile(r"[^\W\d][\w']*(?:\.[^\W\d][\w']*)*|[^\w\s(){}\[\],.;:|\"']+")
 CLAUSE = re.compile(r" *(?:requires|ensures)\b")
@@ -98,9 +97,9 @@ class Specs:
         self.root = root
         # by crate and file, the lines of each definition, what the file imports, and constructors
         self.bodies, self.imports, self.makers = {}, {}, {}
-        for path in sorted(glob.glob(os.path.join(root, "crates/*/specs/*.antt"))):
-            crate, file = path.split(os.sep)[-3], os.path.basename(path)[:-5]
-            self.read(crate, file, read_lines(path))
+        for path in sorted(glob.glob(os.path.join(root, "crates/*/specs/**/*.antt"), recursive=True)):
+            crate, _, *folders = os.path.relpath(path, os.path.join(root, "crates"))[: -len(".antt")].split(os.sep)
+            self.read(crate, ".".join(folders), read_lines(path))
 
     def read(self, crate, file, lines):
         lines, name = without_comments(lines), None
@@ -161,7 +160,7 @@ def contract(lines, at):
     """The lines of the function that begins here, through the last of its clauses."""
     indent = re.match(" *", lines[at])[0]
     for end in range(at, len(lines)):
-        if lines[end] == indent + "{" or lines[end].endswith(";"):
+        if lines[end] in (indent + "{", indent + "{}") or lines[end].endswith(";"):
             return lines[at : end + 1]
         if lines[end].endswith("{") and (end == at or lines[end].startswith(indent + ")")):
             return lines[at : end + 1]

@@ -2,9 +2,9 @@
 """Wants what is written in this repository to be so, as `make lint` does: the crates' sources in layout and of some
 length at most (`lint_sources.py`), pages, completions and documents that say what the sources do (`lint_documents.py`),
 the same names, options and ranges of the tools everywhere (`lint_tools.py`), what `make tables` writes (`tables.py`),
-and scripts that python3, sh and, where
-they are installed, shellcheck, zsh and fish read without a fault, with lines of at most 120 columns. Given folders, it
-reads the sources in these alone.
+words of contracts in the folder where a reader looks for them (`lint_words.py`), and scripts that python3, sh and,
+where they are installed, shellcheck, zsh and fish read without a fault, with lines of at most 120 columns. Given
+folders, it reads the sources in these alone.
 """
 
 import glob
@@ -16,6 +16,7 @@ import sys
 import lint_documents
 import lint_sources
 import lint_tools
+import lint_words
 import tables
 from places import ROOT
 
@@ -81,7 +82,7 @@ def main():
     if not sys.argv[1:]:
         scripts_read, of_scripts = faults_in_scripts()
         documents, of_documents = lint_documents.faults()
-        found += of_scripts + of_documents + lint_tools.faults() + [*tables.faults()]
+        found += of_scripts + of_documents + lint_tools.faults() + [*tables.faults(), *lint_words.faults(ROOT)]
         told += f", {scripts_read} scripts, {documents} pages and documents"
     for fault in found:
         print(f"lint: {fault}")

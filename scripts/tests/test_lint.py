@@ -1,8 +1,9 @@
 #!/usr/bin/env python3
 """Tests of lint: what is just within each limit of sources passes, one line or column more is told, and so is a file
 that rt fmt would change, which stays as it is; which names, goals, links, words and laws of documents are looked up,
-and told if they lead nowhere; that each difference between a file and the table of tools is told, by the file and the
-tool; and files whose lines aren't those that `make tables` writes. `make scripts` runs it."""
+and told if they lead nowhere; words of contracts in the wrong folder; that each difference between a file and the table
+of tools is told, by the file and the tool; and files whose lines aren't those that `make tables` writes. `make scripts`
+runs it."""
 
 import os
 import tempfile
@@ -15,6 +16,7 @@ import lint
 import lint_documents
 import lint_sources
 import lint_tools
+import lint_words
 import tables
 import tool_examples
 from chain_text import read_chain
@@ -183,6 +185,82 @@ class Documents(unittest.TestCase):
         texts = ["![a](docs/pictures/a.png) <!-- ![b](docs/pictures/b.png)\n-->", "[c]: pictures/c.png"]
         told = list(lint_documents.faults_of_pictures(["a.png", "b.png", "c.png"], texts))
         self.assertEqual(told, ["docs/pictures/b.png stands in no document"])
+
+
+class Words(unittest.TestCase):
+    """A crate with an exported function, one that isn't, a trait's member and a method."""
+
+    TREE = {
+        "src/lib.rt": "mod held;\nmod rows;\n\npub use rows::{Reads, Row, width};\n",
+        "src/rows.rt": """ghost use Rattle.a.specs.Rows.{IsWidth, IsRead, IsTaken, IsOther};
+
+pub trait Reads {
+    ghost left: { IsRead };
+}
+
+impl Row {
+    pub fn take(&self)
+        ensures { IsTaken self.now }
+    {}
+}
+
+impl Other {
+    pub fn take(&self)
+        ensures { IsOther self.now }
+    {}
+}
+
+pub fn width() -> u32
+    ensures { IsWidth result }
+{
+    1
+}
+""",
+        "src/held.rt": """ghost use Rattle.a.specs.Internal.Held.{IsHeld};
+
+pub fn hold() -> u32
+    ensures { IsHeld result }
+{
+    1
+}
+""",
+        "specs/Rows.antt": """abbrev pub IsWidth : ℕ → Type 0
+IsWidth width = IsSmall width
+
+abbrev pub IsSmall : ℕ → Type 0
+IsSmall width = width ≡ 1
+
+abbrev pub IsRead : ℕ → Type 0
+abbrev pub IsTaken : ℕ → Type 0
+""",
+        "specs/Internal/Held.antt": """use Rattle.a.specs.Rows.{IsSmall}
+
+abbrev pub IsHeld : ℕ → Type 0
+IsHeld width = IsSmall width
+""",
+    }
+
+    def told(self, **changed):
+        with tempfile.TemporaryDirectory() as root:
+            for path, text in {**self.TREE, **changed}.items():
+                path = os.path.join(root, "crates/a", path)
+                os.makedirs(os.path.dirname(path), exist_ok=True)
+                with open(path, "w", encoding="utf-8") as file:
+                    file.write(text)
+            return list(lint_words.faults(root))
+
+    def test_each_in_its_folder(self):
+        self.assertEqual(self.told(), [])
+
+    def test_a_word_that_no_promise_reaches(self):
+        more = self.TREE["specs/Rows.antt"] + "abbrev pub IsOther : ℕ → Type 0\n"
+        told = "crates/a/specs/Rows.antt: IsOther: no promise reaches it, so it belongs in Internal"
+        self.assertEqual(self.told(**{"specs/Rows.antt": more}), [told])
+
+    def test_a_word_of_a_promise_that_stands_apart(self):
+        lib = self.TREE["src/lib.rt"] + "pub use held::hold;\n"
+        told = "crates/a/specs/Internal/Held.antt: IsHeld: a promise reaches it"
+        self.assertEqual(self.told(**{"src/lib.rt": lib}), [told])
 
 
 class Tools(unittest.TestCase):

@@ -1,3 +1,3 @@
--- What the functions of this crate say to each other: no contract that other crates see reaches these words.
+-- Words that no contract of an exported function reaches.
 pub mod ChainText
 pub mod Settings

@@ -2,9 +2,7 @@
 -- ring between it and the next.
 use Rattle.std.specs.Prelude.{◌≡◌, ◌≢◌, ◌⊎◌, ◌<◌, ℕ, ◌+◌, true, length, List, [], ◌∷◌, ◌++◌}
 use Rattle.std.specs.List.{AllByRecursion}
-use Rattle.pnm_stages.specs.declared.sender.Sender.{Sender}
-use Rattle.pnm_stages.specs.declared.receiver.Receiver.{Receiver}
-use Rattle.pnm_stages.specs.Rings.{sent, received, known_items, SameSender, SameReceiver}
+use Rattle.pnm_stages.specs.Rings.{sent, received}
 use Rattle.pnm_image.specs.declared.message.Message.{Message}
 use Rattle.pnm_image.specs.Images.{Image, messages_of_stream}
 use Rattle.pnm_image.specs.Completion.{IsStreamOf}
@@ -17,7 +15,7 @@ use Rattle.pnm_stages.specs.declared.stage.StageEnd.{StageEnd}
 use Rattle.pnm_stages.specs.declared.stage.StageEnd.TheVariants.{Well, PeerGone}
 use Rattle.pnm_flow.specs.Links.{IsWhole, IsDrained}
 use Rattle.pnm_stages.specs.Prefixes.{IsPrefixOfDue}
-use Rattle.pnm_stages.specs.Stages.{IsStage, HasRunStage}
+use Rattle.pnm_stages.specs.Stages.{IsStage}
 use Rattle.pnm_lanes.specs.Lanes.{IsStageOfLanes}
 
 -- ---- one tool
@@ -33,13 +31,6 @@ ByLanes lanes tool Several One = (RunsInLanes lanes tool × Several) ⊎ ((RunsI
 -- what a tool of a chain has received and sent, by its end
 abbrev pub IsStageOver : ℕ → Tool → StageEnd → List Message → List Message → Type 0
 IsStageOver lanes tool end l g = ByLanes lanes tool (IsStageOfLanes tool end l g) (IsStage tool end l g)
-
--- a tool has run as one stage over these ring ends, which came back
-abbrev pub IsOneStageRun : Tool → Receiver → Sender → StageDone → Type 0
-IsOneStageRun tool input output done =
-    SameReceiver input done.input × SameSender output done.output
-    × HasRunStage tool done.end (received input) (received done.input) (known_items done.input) (sent output)
-    (sent done.output)
 
 -- ---- all of them
 

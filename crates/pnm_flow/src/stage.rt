@@ -3,7 +3,7 @@
 ghost use Rattle.pnm_tools.specs.Tools.{IsLawfulTool};
 ghost use Rattle.pnm_stages.specs.Rings.{sent, received, known_items, SameSender, SameReceiver};
 ghost use Rattle.pnm_stages.specs.Stages.{HasRunStage};
-ghost use Rattle.pnm_flow.specs.ChainRuns.{IsOneStageRun};
+ghost use Rattle.pnm_flow.specs.Internal.ChainRuns.{IsOneStageRun};
 
 use pnm_filters::filter_of;
 use pnm_stages::{Gate, Receiver, Sender, StageDone, Task, run_filter};

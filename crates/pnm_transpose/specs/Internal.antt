@@ -1,4 +1,4 @@
--- What the functions of this crate say to each other: no contract that other crates see reaches these words.
+-- Words that no contract of an exported function reaches.
 pub mod ColumnBatches
 pub mod FlatRows
 pub mod HeldColumns

@@ -16,9 +16,17 @@ use Rattle.pnm_stages.specs.declared.stage.StageEnd.{StageEnd}
 use Rattle.pnm_stages.specs.Rings.{IsEnded}
 use Rattle.pnm_lanes.specs.Internal.LaneRings.{AreLaneRings}
 use Rattle.pnm_lanes.specs.LaneRuns.{HasRunLanes}
+use Rattle.pnm_stages.specs.Stages.{HasRunStage}
 use Rattle.pnm_flow.specs.ChainRuns.{RunsInLanes, IsStageOver, AreStages}
 
 -- ---- one tool
+
+-- a tool has run as one stage over these ring ends, which came back
+abbrev pub IsOneStageRun : Tool → Receiver → Sender → StageDone → Type 0
+IsOneStageRun tool input output done =
+    SameReceiver input done.input × SameSender output done.output
+    × HasRunStage tool done.end (received input) (received done.input) (known_items done.input) (sent output)
+    (sent done.output)
 
 -- a tool of a chain has ended so, by the messages that its two rings had passed before and have passed now, and those
 -- of the first that its end has seen and not received: none, or the end of the stream was received
