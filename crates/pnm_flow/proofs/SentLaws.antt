@@ -27,8 +27,8 @@ use Rattle.pnm_serial.specs.declared.fault.RunFault.{RunFault}
 use Rattle.pnm_serial.specs.declared.fault.RunFault.TheVariants.{NoStart, Input, Tool as OfTool, Output, PeerGone as Gone}
 use Rattle.pnm_serial.specs.declared.summary.Summary.{Summary}
 use Rattle.pnm_serial.specs.Jobs.{Job}
-use Rattle.pnm_serial.specs.Runs.{Change, MayFollow, HoldsNothingBack, HasRun}
-use Rattle.pnm_serial.specs.Verdicts.{HasRefusal, IsAnswer}
+use Rattle.pnm_serial.specs.Runs.{Change, MayFollow, MustGiveAll, HasRun}
+use Rattle.pnm_serial.specs.Verdicts.{RefusalIs, IsAnswer}
 use Rattle.pnm_serial.proofs.EndSteps.{rest_follows}
 use Rattle.pnm_serial.proofs.FeedingSteps.{rest_of, said_are_sound}
 use Rattle.pnm_serial.proofs.LastRefusals.{due_of_one, due_of_others}
@@ -197,7 +197,7 @@ stops_for_memory from (suc count) (tool ∷ tools) is number at within none =
 record Given (lanes : ℕ) (job : Job) (answer : Result Summary RunFault) (text : List ℕ) (old new : Option (List ℕ)) : Type 0 where
   out : List Message
   due : (images : List Image) → Completes images (said_of text) → IsPrefixOf out (due_in_turn job.tools images)
-  full : HoldsNothingBack lanes job answer → (images : List Image) → AreSaid text images → out ≡ due_in_turn job.tools images
+  full : MustGiveAll lanes job answer → (images : List Image) → AreSaid text images → out ≡ due_in_turn job.tools images
   written : Appends old new (written_of job.form out)
 
 -- it is sound
@@ -212,8 +212,8 @@ said_complete text images said = record {
 }
 
 sent_well : (lanes : ℕ) (job : Job) (answer : Result Summary RunFault) (text : List ℕ) (old new : Option (List ℕ)) → AreLawfulTools job.tools
-    → Given lanes job answer text old new → HoldsNothingBack lanes job answer → ((number : ℕ) (fault : ToolFault) → answer ≢ Err (OfTool number fault))
-    → HasRefusal text job.tools None → IsAllSent text lanes job answer old new
+    → Given lanes job answer text old new → MustGiveAll lanes job answer → ((number : ℕ) (fault : ToolFault) → answer ≢ Err (OfTool number fault))
+    → RefusalIs text job.tools None → IsAllSent text lanes job answer old new
 sent_well lanes job answer text old new lawful given all not_tool accepted =
     let images : List Image = accepted.0 in
     let sound = given_sound lanes job answer text old new lawful given in
@@ -257,7 +257,7 @@ sent_by_tool lanes job number fault text old new lawful given (inr around) =
     sent_by_fault lanes job number fault text old new lawful given accepted.0 accepted.1
     (subst (StopsAt 1 job.tools accepted.0 number) (sym around.0) stops)
 
-accepted_before_output : (text : List ℕ) (job : Job) (fault : SinkFault) → IsAnswer text job (Err (Output fault)) → HasRefusal text job.tools None
+accepted_before_output : (text : List ℕ) (job : Job) (fault : SinkFault) → IsAnswer text job (Err (Output fault)) → RefusalIs text job.tools None
 accepted_before_output text job fault (inl has) = (has.images, has.said, has.taken)
 accepted_before_output text job fault (inr around) = around.1
 

@@ -43,9 +43,4 @@ impl Message {
             Message::Stop => Ending::BrokenOff,
         }
     }
-
-    /// Whether the message ends an image.
-    pub fn ends_image(&self) -> bool {
-        matches!(self, Message::ImageEnd)
-    }
 }

@@ -9,14 +9,14 @@ use Rattle.pnm_tools.specs.Chains.{AreLawfulTools}
 use Rattle.pnm_serial.specs.Jobs.{Job, bytes_due}
 use Rattle.pnm_serial.specs.Runs.{Change}
 use Rattle.pnm_serial.specs.RunFacts.{IsPrefixOfBytesDue, IfInput, EndedWell}
-use Rattle.pnm_serial.specs.SerialRuns.{HasRunInOneThread, IsOfOneThread, OutlastsRun as OutlastsReader}
+use Rattle.pnm_serial.specs.SerialRuns.{HasRunInOneThread, IsOfOneThread, HasMostMessages}
 use Rattle.pnm_serial.specs.Verdicts.{AnswersVerdict, IsVerdict}
 use Rattle.pnm_serial.specs.declared.fault.RunFault.{RunFault}
 use Rattle.pnm_serial.specs.declared.fault.RunFault.TheVariants.{NoStart, Input, Tool as OfTool, Output, PeerGone}
 use Rattle.pnm_serial.specs.declared.summary.Summary.{Summary}
 use Rattle.pnm_serial.proofs.RunFactSteps.{tells}
 use Rattle.pnm_serial.proofs.RunSteps.{nothing_prefix}
-use Rattle.pnm_memory.specs.Conversions.{HasConverted, IsConversion, IsWantOfMemory, OutlastsRun}
+use Rattle.pnm_memory.specs.Conversions.{HasConverted, IsConversion, IsWantOfMemory, FailsAtMostMessages}
 
 -- a reader that counts no failure hasn't failed
 never_failed : (old new : ℕ) → old ≡ 0 → new ≡ 0 → Failed old new → ⊥
@@ -39,8 +39,8 @@ ends_well text written job (Err fault) ended = tt
 -- the reader's own fault is that more is said of its text than a run takes
 of_reader : (text : List ℕ) (reader : Change) (fault : InputFault) → reader.old ≡ Some text → reader.failures_old ≡ 0
     → reader.failures_new ≡ 0 → fault ≡ ReadFailed
-    → (Failed reader.failures_old reader.failures_new ⊎ OutlastsReader reader.old reader.new)
-    → OutlastsRun text (Input fault)
+    → (Failed reader.failures_old reader.failures_new ⊎ HasMostMessages reader.old reader.new)
+    → FailsAtMostMessages text (Input fault)
 of_reader text reader fault is_text is_none is_none_yet is_read (inl failed) =
     absurd (never_failed _ _ is_none is_none_yet failed)
 of_reader text reader fault is_text is_none is_none_yet is_read (inr outlasts) =
@@ -49,8 +49,8 @@ of_reader text reader fault is_text is_none is_none_yet is_read (inr outlasts) =
 has_fault : (text : List ℕ) (job : Job) (answer : Result Summary RunFault) (reader : Change) → reader.old ≡ Some text
     → reader.failures_old ≡ 0 → reader.failures_new ≡ 0 → AnswersVerdict text job answer → IsOfOneThread answer
     → IfInput answer (λ fault. fault ≡ ReadFailed → Failed reader.failures_old reader.failures_new
-    ⊎ OutlastsReader reader.old reader.new)
-    → IfErr answer (λ fault. IsVerdict text job (Some fault) ⊎ IsWantOfMemory fault ⊎ OutlastsRun text fault)
+    ⊎ HasMostMessages reader.old reader.new)
+    → IfErr answer (λ fault. IsVerdict text job (Some fault) ⊎ IsWantOfMemory fault ⊎ FailsAtMostMessages text fault)
 has_fault text job (Ok summary) reader is_text is_none is_none_yet verdict one read = tt
 has_fault text job (Err NoStart) reader is_text is_none is_none_yet verdict one read = absurd one
 has_fault text job (Err (Input fault)) reader is_text is_none is_none_yet (inl (inl is_read)) one read =
@@ -71,7 +71,7 @@ pub converted : (text written : List ℕ) (job : Job) (answer : Result Summary R
     → reader.failures_old ≡ 0 → reader.failures_new ≡ 0 → writer.old ≡ Some [] → writer.new ≡ Some written
     → HasConverted text job answer written
 converted text written job answer reader writer lawful ran is_text is_none is_none_yet is_empty is_written =
-    let reported = tells 1 (OutlastsReader reader.old reader.new) job answer reader writer lawful ran.run in
+    let reported = tells 1 (HasMostMessages reader.old reader.new) job answer reader writer lawful ran.run in
     record {
       well = ends_well text written job answer (rw (← is_empty) (rw (← is_written) (reported.well text is_text)));
       fault = has_fault text job answer reader is_text is_none is_none_yet (reported.verdict text is_text) ran.one_thread

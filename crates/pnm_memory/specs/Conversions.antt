@@ -36,8 +36,8 @@ IsWantOfMemory (Output fault) = fault ≡ WriteFailed
 IsWantOfMemory (PeerGone number) = ⊥
 
 -- of the text more messages are said than a run takes
-abbrev pub OutlastsRun : List ℕ → RunFault → Type 0
-OutlastsRun text fault = (fault ≡ Input ReadFailed) × (2 ^ 64 - 1 ≤ length (said_of text))
+abbrev pub FailsAtMostMessages : List ℕ → RunFault → Type 0
+FailsAtMostMessages text fault = (fault ≡ Input ReadFailed) × (2 ^ 64 - 1 ≤ length (said_of text))
 
 -- the job was done on this text, with this answer, and these bytes were written
 pub record HasConverted (text : List ℕ) (job : Job) (answer : Result Summary RunFault) (written : List ℕ)
@@ -45,7 +45,8 @@ pub record HasConverted (text : List ℕ) (job : Job) (answer : Result Summary R
   -- It ends well only where the bytes are all the results.
   pub well : IfOk answer (IsConversion text job written)
   -- Each fault is the verdict, or want of memory.
-  pub fault : IfErr answer (λ fault. IsVerdict text job (Some fault) ⊎ IsWantOfMemory fault ⊎ OutlastsRun text fault)
+  pub fault : IfErr answer
+      (λ fault. IsVerdict text job (Some fault) ⊎ IsWantOfMemory fault ⊎ FailsAtMostMessages text fault)
   -- However it ends, what was written is a prefix of what is due.
   pub prefix : IsPrefixOfBytesDue text job (Some []) (Some written)
   pub one_thread : IsOfOneThread answer

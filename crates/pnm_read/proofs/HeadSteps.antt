@@ -16,7 +16,7 @@ use Rattle.pnm_read.specs.HeaderTexts.{numbers_in}
 use Rattle.pnm_read.specs.HeaderNumbers.{number_count, planes, maxval_of, shape_of}
 use Rattle.pnm_read.specs.Items.{◌>>=◌, piece_from, header_item, header_end, fault_of_head, numbers_item}
 use Rattle.pnm_read.specs.Said.{pnm_head_at}
-use Rattle.pnm_read.specs.BufferedReaders.{IsOutsideFault}
+use Rattle.pnm_read.specs.Said.{IsOutsideFault}
 use Rattle.pnm_read.specs.Internal.BufferedReaders.{Finds}
 use Rattle.pnm_read.specs.Internal.Scans.{ScansAfter, Scans}
 use Rattle.pnm_read.specs.Internal.Saturation.{saturate_u32, IsNumbers, GivesInMemory}

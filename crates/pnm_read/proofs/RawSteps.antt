@@ -14,7 +14,7 @@ use Rattle.pnm_image.specs.SampleWidths.{sample_width_of}
 use Rattle.pnm_read.specs.Items.{◌>>=◌, raw_item}
 use Rattle.pnm_read.specs.Said.{in_turn, units_in_row, units_at, raw_row}
 use Rattle.pnm_read.specs.Internal.RawParts.{FindsUnits, FindsPart}
-use Rattle.pnm_read.specs.BufferedReaders.{IsOutsideFault}
+use Rattle.pnm_read.specs.Said.{IsOutsideFault}
 use Rattle.pnm_read.specs.Internal.BufferedReaders.{ReadCall, Finds}
 use Rattle.pnm_read.proofs.UnitLaws.{unit_bytes, unit_if, items_of, and_items}
 use Rattle.pnm_read.proofs.PartLaws.{all_are_left, part_fails, part_is_read, none_are_left, one_fails}

@@ -18,10 +18,11 @@ use Rattle.pnm_read.specs.declared.source.State.{State}
 use Rattle.pnm_read.specs.declared.source.State.TheVariants.{Awaits, Ended, Failed}
 use Rattle.pnm_read.specs.declared.source.Source.{Source}
 use Rattle.pnm_read.specs.Said.{Said, text_said, said_of, fault_of, after_messages, says_nothing, says_fault}
-use Rattle.pnm_read.specs.BufferedReaders.{IsOutsideFault, held_of}
+use Rattle.pnm_read.specs.BufferedReaders.{held_of}
+use Rattle.pnm_read.specs.Said.{IsOutsideFault}
 use Rattle.pnm_read.specs.Internal.BufferedReaders.{ReadCall}
 use Rattle.pnm_read.specs.Awaiting.{state_due, state_fault, is_ended}
-use Rattle.pnm_read.specs.Internal.Awaiting.{Gives, IfStreamEnd}
+use Rattle.pnm_read.specs.Internal.Awaiting.{Gives, MayBeGiven}
 use Rattle.pnm_read.specs.Sources.{IsFreshSource, Tells, AnswerTells, HasGiven, due, MayGive, SeesEnd}
 use Rattle.pnm_read.proofs.Consumed.{consumes_nothing}
 use Rattle.pnm_read.proofs.GivenLaws.{messages_after, fault_after, after-append}
@@ -159,11 +160,11 @@ tells_again left s k state = told_so s s (Err k) (again left s k state)
 
 -- what a packet tells of the state after it
 pub state_told : {R : Type 0} {left : R → Option (List ℕ)} {failures : R → ℕ} {same : R → R → Type 0} {old new : BufferedReader R} (awaited : Awaited)
-    (packet : Packet) (state : State) → ReadCall left failures same old new (Ok packet) (Gives awaited (Ok packet) state) → IfStreamEnd packet state
+    (packet : Packet) (state : State) → ReadCall left failures same old new (Ok packet) (Gives awaited (Ok packet) state) → MayBeGiven packet state
 state_told awaited packet state t = (t.told [] (λ _. refl)).1
 
 -- a packet stands for a message at least
-pub some_messages : (packet : Packet) (state : State) → IfStreamEnd packet state → 1 ≤ length (messages_in packet)
+pub some_messages : (packet : Packet) (state : State) → MayBeGiven packet state → 1 ≤ length (messages_in packet)
 some_messages (Begins head) state is = omega arith
 some_messages (Rows rows) state is = omega (arith, is, length-map rows Row)
 some_messages (Image head rows) state is = omega arith
@@ -175,17 +176,17 @@ abbrev pub gives : Packet → Result (Option Packet) InputFault
 gives packet = Ok (Some packet)
 
 -- the state after the end of the stream
-pub ended_after : (packet : Packet) (state : State) → IfStreamEnd packet state → gives packet ≡ gives EndsStream
+pub ended_after : (packet : Packet) (state : State) → MayBeGiven packet state → gives packet ≡ gives EndsStream
     → is_ended state ≡ true
 ended_after packet state is e =
     let same : packet ≡ EndsStream = cc in
-    subst (λ (p : Packet). IfStreamEnd p state) same is
+    subst (λ (p : Packet). MayBeGiven p state) same is
 
 -- Stop isn't given
-pub never_stop : (packet : Packet) (state : State) → IfStreamEnd packet state → gives packet ≡ gives Stops → ⊥
+pub never_stop : (packet : Packet) (state : State) → MayBeGiven packet state → gives packet ≡ gives Stops → ⊥
 never_stop packet state is e =
     let same : packet ≡ Stops = cc in
-    subst (λ (p : Packet). IfStreamEnd p state) same is
+    subst (λ (p : Packet). MayBeGiven p state) same is
 
 -- the end was seen rightly
 pub end_stays : {R A : Type 0} {left : R → Option (List ℕ)} {failures : R → ℕ} {same : R → R → Type 0} {o : List ℕ → List ℕ → Type 0}

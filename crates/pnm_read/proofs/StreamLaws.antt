@@ -16,7 +16,7 @@ use Rattle.pnm_image.specs.declared.format.Format.{Format}
 use Rattle.pnm_read.specs.declared.source.Source.{Source}
 use Rattle.pnm_read.specs.declared.source.State.{State}
 use Rattle.pnm_read.specs.declared.source.State.TheVariants.{Awaits, Ended, Failed}
-use Rattle.pnm_read.specs.BufferedReaders.{IsOutsideFault}
+use Rattle.pnm_read.specs.Said.{IsOutsideFault}
 use Rattle.pnm_read.specs.Awaiting.{state_due, state_fault}
 use Rattle.pnm_read.specs.Said.{Said, row_at, format_at, head_at, rows_said, head_said, format_said, image_said, later_said_in, later_said, text_said}
 use Rattle.pnm_read.specs.Said.{said_of, fault_of}

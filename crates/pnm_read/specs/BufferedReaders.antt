@@ -1,14 +1,8 @@
 -- What a call reads, and what its answer says of the text, of which only a part is held.
-use Rattle.std.specs.Prelude.{◌≡◌, ℕ, ◌⊎◌, true, List, [], Option}
+use Rattle.std.specs.Prelude.{◌≡◌, ℕ, true, List, [], Option}
 use Rattle.std.specs.List.{slice_range}
 use Rattle.std.specs.Io.KnownBytes.{IsAtEnd}
-use Rattle.pnm_read.specs.declared.fault.InputFault.{InputFault}
-use Rattle.pnm_read.specs.declared.fault.InputFault.TheVariants.{ReadFailed, Memory}
 use Rattle.pnm_read.specs.declared.buffered_reader.BufferedReader.{BufferedReader}
-
--- a fault that no text has: the reader failed, or memory ran out
-abbrev pub IsOutsideFault : InputFault → Type 0
-IsOutsideFault fault = (fault ≡ ReadFailed) ⊎ (fault ≡ Memory)
 
 -- the bytes that are held
 abbrev pub held_of : {R : Type 0} → BufferedReader R → List ℕ

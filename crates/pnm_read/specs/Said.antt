@@ -1,7 +1,7 @@
 -- What is said of a text: the messages of its images, and then the end or the first fault. The fault is that
 -- of the first item that has one.
 use Rattle.pnm_image.specs.Formats.{is_plain_form}
-use Rattle.std.specs.Prelude.{◌≡◌, ℕ, zero, suc, ◌+◌, ◌/◌, Bool, true, false, if◌then◌else◌, List, [], ◌∷◌, length}
+use Rattle.std.specs.Prelude.{◌≡◌, ◌⊎◌, ℕ, zero, suc, ◌+◌, ◌/◌, Bool, true, false, if◌then◌else◌, List, [], ◌∷◌, length}
 use Rattle.std.specs.Prelude.{take, Option, Some, None, Result, Ok, Err}
 use Rattle.std.specs.List.{concat}
 use Rattle.pnm_image.specs.declared.shape.Kind.{Kind}
@@ -12,6 +12,7 @@ use Rattle.pnm_image.specs.declared.message.Message.TheVariants.{Begin, Row, Ima
 use Rattle.pnm_image.specs.Heads.{HeadValue, row_length}
 use Rattle.pnm_image.specs.Images.{Image, AreImages, messages_of_stream}
 use Rattle.pnm_read.specs.declared.fault.InputFault.{InputFault}
+use Rattle.pnm_read.specs.declared.fault.InputFault.TheVariants.{ReadFailed, Memory}
 use Rattle.pnm_image.specs.declared.format.Format.{Format}
 use Rattle.pnm_image.specs.declared.sample_width.SampleWidth.{SampleWidth}
 use Rattle.pnm_image.specs.declared.sample_width.SampleWidth.TheVariants.{Bits, Bytes, Words}
@@ -167,6 +168,10 @@ said_of text = (text_said text).messages
 -- the fault of a text, if it has one
 abbrev pub fault_of : List ℕ → Option InputFault
 fault_of text = (text_said text).fault
+
+-- a fault that no text has: the reader failed, or memory ran out
+abbrev pub IsOutsideFault : InputFault → Type 0
+IsOutsideFault fault = (fault ≡ ReadFailed) ⊎ (fault ≡ Memory)
 
 -- ---- images
 

@@ -8,7 +8,8 @@ use Rattle.pnm_image.specs.Completion.{IsPrefixOf}
 use Rattle.pnm_read.specs.declared.fault.InputFault.{InputFault}
 use Rattle.pnm_read.specs.declared.source.Source.{Source}
 use Rattle.pnm_read.specs.Said.{Said, text_said, said_of, fault_of, after_messages}
-use Rattle.pnm_read.specs.BufferedReaders.{IsOutsideFault, held_of, CanCome, EndsRightly}
+use Rattle.pnm_read.specs.BufferedReaders.{held_of, CanCome, EndsRightly}
+use Rattle.pnm_read.specs.Said.{IsOutsideFault}
 use Rattle.pnm_read.specs.Awaiting.{state_due, state_fault, is_ended}
 
 abbrev pub reader_of : {R : Type 0} → Source R → R

@@ -2,7 +2,7 @@
 
 ghost use Rattle.std.specs.Prelude.{◌≡◌, IfOk, IfErr, Ok, true};
 ghost use Rattle.pnm_read.specs.declared.fault.InputFault.TheVariants.{Memory};
-ghost use Rattle.pnm_read.specs.BufferedReaders.{IsOutsideFault};
+ghost use Rattle.pnm_read.specs.Said.{IsOutsideFault};
 ghost use Rattle.pnm_read.specs.ImageEnds.{TellsEnd, IsDecided};
 
 use crate::fault::InputFault;

@@ -32,9 +32,9 @@ use Rattle.pnm_serial.specs.declared.summary.Summary.{Summary}
 use Rattle.pnm_serial.specs.FusedSinks.{output_of, AnswersFlushes}
 use Rattle.pnm_serial.specs.Feeding.{IsSaidOf, HasMore, MayFollowRead}
 use Rattle.pnm_serial.specs.Jobs.{Job}
-use Rattle.pnm_serial.specs.Runs.{Change, change, MayFollow, HoldsNothingBack, HasWritten, CountsFailures, HasRun}
+use Rattle.pnm_serial.specs.Runs.{Change, change, MayFollow, MustGiveAll, HasWritten, CountsFailures, HasRun}
 use Rattle.pnm_serial.specs.RunFacts.{IsStoppedBy}
-use Rattle.pnm_serial.specs.SerialRuns.{HasRunInOneThread, AllIsWritten, IsOfOneThread, OutlastsRun, AnswersText, FitAnswer}
+use Rattle.pnm_serial.specs.SerialRuns.{HasRunInOneThread, AllIsWritten, IsOfOneThread, HasMostMessages, AnswersText, FitAnswer}
 use Rattle.pnm_serial.specs.Internal.SerialRuns.{answer_by, IsFirstRefusal}
 use Rattle.pnm_serial.specs.SerialRuns.{IsAllWritten}
 use Rattle.pnm_serial.specs.Verdicts.{HasResults, IsAnswer}
@@ -49,7 +49,7 @@ pub record HaveEnded (lanes : ℕ) (job : Job) (faults : List (Option ToolFault)
   pub last : List Message
   pub answered : HaveAnswered job.tools faults given last
   pub first : IsFirstRefusal faults refused
-  pub all : (output : Result Summary SinkFault) → HoldsNothingBack lanes job (answer_by (Ok tt) refused output) → last ≡ out
+  pub all : (output : Result Summary SinkFault) → MustGiveAll lanes job (answer_by (Ok tt) refused output) → last ≡ out
 
 -- what the source gave, what the stages answered, what the sink took, and how each of them ended
 pub record Ended {W : Type 0} (lanes : ℕ) (Outlasts : Type 0) (reader : Change) (held : W → Option (List ℕ)) (failures : W → ℕ) (start done : W) (job : Job)
@@ -91,7 +91,7 @@ ended_so (Ok tt) None (Ok summary) is = absurd cc
 
 -- what may follow by the answer may so by the end of the source
 pub may_follow : (input : Result (Unit {0}) InputFault) (refused : Option (ℕ × ToolFault)) (output : Result Summary SinkFault) (reader : Change)
-    (rest : List ℕ) → MayFollow (OutlastsRun reader.old reader.new) (answer_by input refused output) reader rest → MayFollowRead input reader rest
+    (rest : List ℕ) → MayFollow (HasMostMessages reader.old reader.new) (answer_by input refused output) reader rest → MayFollowRead input reader rest
 may_follow input refused output reader rest may =
     elim may [
       | inl none ↦ inl none
@@ -202,7 +202,7 @@ ended_whole lanes Outlasts reader held failures start done job (Ok tt) None (Ok 
 -- where nothing is held back, that is all that is due
 ended_well : {W : Type 0} (lanes : ℕ) (Outlasts : Type 0) (reader : Change) (held : W → Option (List ℕ)) (failures : W → ℕ) (start done : W) (job : Job)
     (output : Result Summary SinkFault)
-    → (ended : Ended lanes Outlasts reader held failures start done job (Ok tt) None output) → HoldsNothingBack lanes job (answer_by (Ok tt) None output)
+    → (ended : Ended lanes Outlasts reader held failures start done job (Ok tt) None output) → MustGiveAll lanes job (answer_by (Ok tt) None output)
     → (text : List ℕ) → IsSaidOf text ended.given (Ok tt) → (images : List Image) → AreSaid text images → ended.out ≡ due_in_turn job.tools images
 ended_well lanes Outlasts reader held failures start done job output ended all text told images are =
     let stages = ended.stages refl in
@@ -211,7 +211,7 @@ ended_well lanes Outlasts reader held failures start done job output ended all t
 
 ended_full : {W : Type 0} (lanes : ℕ) (Outlasts : Type 0) (reader : Change) (held : W → Option (List ℕ)) (failures : W → ℕ) (start done : W) (job : Job)
     (input : Result (Unit {0}) InputFault) (refused : Option (ℕ × ToolFault)) (output : Result Summary SinkFault)
-    → (ended : Ended lanes Outlasts reader held failures start done job input refused output) → HoldsNothingBack lanes job (answer_by input refused output)
+    → (ended : Ended lanes Outlasts reader held failures start done job input refused output) → MustGiveAll lanes job (answer_by input refused output)
     → (text : List ℕ) → IsSaidOf text ended.given input → (images : List Image) → AreSaid text images → ended.out ≡ due_in_turn job.tools images
 ended_full lanes Outlasts reader held failures start done job (Err fault) refused output ended all text told images are = absurd all
 ended_full lanes Outlasts reader held failures start done job (Ok tt) None (Err fault) ended all text told images are =
@@ -344,12 +344,12 @@ of_one_thread (Ok tt) None (Ok summary) = tt
 
 pub ended_in_one_thread : {W : Type 0} (reader : Change) (held : W → Option (List ℕ)) (failures : W → ℕ) (start done : W) (job : Job)
     (input : Result (Unit {0}) InputFault) (refused : Option (ℕ × ToolFault)) (output : Result Summary SinkFault)
-    → (ended : Ended 1 (OutlastsRun reader.old reader.new) reader held failures start done job input refused output)
+    → (ended : Ended 1 (HasMostMessages reader.old reader.new) reader held failures start done job input refused output)
     → HaveAnswered job.tools ended.faults ended.given ended.out → IsFirstRefusal ended.faults refused
     → HasRunInOneThread job (answer_by input refused output) reader (change held failures start done)
 ended_in_one_thread reader held failures start done job input refused output ended answered first = record {
-  run = ended_has_run 1 (OutlastsRun reader.old reader.new) reader held failures start done job input refused output ended;
-  all_written = ended_with_all 1 (OutlastsRun reader.old reader.new) reader held failures start done job input refused output ended answered first;
+  run = ended_has_run 1 (HasMostMessages reader.old reader.new) reader held failures start done job input refused output ended;
+  all_written = ended_with_all 1 (HasMostMessages reader.old reader.new) reader held failures start done job input refused output ended answered first;
   one_thread = of_one_thread input refused output;
 }
 
@@ -439,7 +439,7 @@ unread_has_run lanes Outlasts job reader writer read same_count written = record
 pub ended_without_reading : (job : Job) (reader writer : Change) → reader.new ≡ reader.old → reader.failures_new ≡ reader.failures_old
     → writer.new ≡ writer.old → HasRunInOneThread job (Err (Input NoMemoryToRead)) reader writer
 ended_without_reading job reader writer read same_count written = record {
-  run = unread_has_run 1 (OutlastsRun reader.old reader.new) job reader writer read same_count written;
+  run = unread_has_run 1 (HasMostMessages reader.old reader.new) job reader writer read same_count written;
   all_written = λ text is has sound. absurd (no_text_fault text NoMemoryToRead has (inr refl));
   one_thread = tt;
 }

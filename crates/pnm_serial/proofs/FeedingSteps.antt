@@ -28,7 +28,7 @@ use Rattle.pnm_tools.specs.declared.fused_filter.FusedFilter.{FusedFilter}
 use Rattle.pnm_serial.specs.FusedSinks.{HasTaken}
 use Rattle.pnm_serial.specs.Internal.SerialChains.{FeedsThrough}
 use Rattle.pnm_serial.specs.Runs.{change}
-use Rattle.pnm_serial.specs.SerialRuns.{OutlastsRun}
+use Rattle.pnm_serial.specs.SerialRuns.{HasMostMessages}
 use Rattle.pnm_serial.specs.Feeding.{HasMore, IsReadFailure, MayFollowRead}
 use Rattle.pnm_serial.specs.Internal.Feeding.{HaveTaken, HasFed}
 
@@ -258,7 +258,7 @@ fed_too_many {left} {reader_failures} {first} {source} {count} going enough =
     let of_read : IsPrefixOf going.given (said_of going.read) =
     subst (λ (l : List ℕ). IsPrefixOf going.given (said_of l)) (append-nil going.read)
     (given_is_prefix source going.read going.given [] going.told (nothing_may_come source)) in
-    let outlasts : OutlastsRun (left (reader_of first)) (left (reader_of source)) = record {
+    let outlasts : HasMostMessages (left (reader_of first)) (left (reader_of source)) = record {
       read = going.read;
       consumed = going.consumed;
       many = let long = prefix_is_shorter going.given (said_of going.read) count going.many of_read in omega arith;

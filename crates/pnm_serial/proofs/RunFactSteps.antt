@@ -7,7 +7,7 @@ use Rattle.pnm_image.specs.Images.{Image, messages_of_stream}
 use Rattle.pnm_image.proofs.Written.{prefix-more}
 use Rattle.pnm_read.specs.declared.fault.InputFault.{InputFault}
 use Rattle.pnm_read.specs.declared.fault.InputFault.TheVariants.{ReadFailed}
-use Rattle.pnm_read.specs.BufferedReaders.{IsOutsideFault}
+use Rattle.pnm_read.specs.Said.{IsOutsideFault}
 use Rattle.pnm_read.specs.Said.{fault_of, AreSaid}
 use Rattle.pnm_tools.specs.declared.fault.ToolFault.{ToolFault}
 use Rattle.pnm_tools.specs.declared.fault.ToolFault.TheVariants.{OutOfOrder, Memory}
@@ -24,12 +24,12 @@ use Rattle.pnm_serial.specs.declared.fault.RunFault.{RunFault}
 use Rattle.pnm_serial.specs.declared.fault.RunFault.TheVariants.{NoStart, Input, Tool as OfTool, Output, PeerGone}
 use Rattle.pnm_serial.specs.declared.summary.Summary.{Summary}
 use Rattle.pnm_serial.specs.Jobs.{Job, bytes_due}
-use Rattle.pnm_serial.specs.Runs.{Change, MayFollow, HasRun, HoldsNothingBack}
+use Rattle.pnm_serial.specs.Runs.{Change, MayFollow, HasRun, MustGiveAll}
 use Rattle.pnm_serial.specs.RunFacts.{IfInput, IfTool, IfOutput, IfGone, EndedWell, HasWrittenResults, IsStoppedBy, IsPrefixOfBytesDue, RunTells}
 use Rattle.pnm_serial.specs.RunFacts.{IsPrefixWhatever}
 use Rattle.pnm_serial.specs.RunFacts.{WhatARunInOneThreadTells, WhatARunTells, WhatARunWithoutListTells}
-use Rattle.pnm_serial.specs.SerialRuns.{OutlastsRun}
-use Rattle.pnm_serial.specs.Verdicts.{HasResults, HasRefusal, IsFromOutside, IsVerdict, IsAnswer, FailsAround, AnswersVerdict}
+use Rattle.pnm_serial.specs.SerialRuns.{HasMostMessages}
+use Rattle.pnm_serial.specs.Verdicts.{HasResults, RefusalIs, IsFromOutside, IsVerdict, IsAnswer, FailsAround, AnswersVerdict}
 use Rattle.pnm_serial.proofs.EndSteps.{rest_follows, ended_without_list}
 use Rattle.pnm_serial.proofs.FeedingSteps.{rest_of}
 use Rattle.pnm_serial.proofs.ResultSteps.{due_of_results}
@@ -57,7 +57,7 @@ own_answer lanes Outlasts job answer reader writer ran text is =
 
 -- all that is due was written
 due_written : (lanes : ℕ) (Outlasts : Type 0) (job : Job) (answer : Result Summary RunFault) (reader writer : Change)
-    → (ran : HasRun lanes Outlasts job answer reader writer) → (text : List ℕ) → reader.old ≡ Some text → HoldsNothingBack lanes job answer
+    → (ran : HasRun lanes Outlasts job answer reader writer) → (text : List ℕ) → reader.old ≡ Some text → MustGiveAll lanes job answer
     → Appends writer.old writer.new (written_of job.form ran.bytes.given) → (images : List Image) → AreSaid text images
     → Appends writer.old writer.new (bytes_due job images)
 due_written lanes Outlasts job answer reader writer ran text is full written images said =
@@ -66,7 +66,7 @@ due_written lanes Outlasts job answer reader writer ran text is full written ima
 
 -- those are the messages of the results
 whole_results : (lanes : ℕ) (Outlasts : Type 0) (job : Job) (answer : Result Summary RunFault) (reader writer : Change)
-    → (ran : HasRun lanes Outlasts job answer reader writer) → (text : List ℕ) → reader.old ≡ Some text → HoldsNothingBack lanes job answer
+    → (ran : HasRun lanes Outlasts job answer reader writer) → (text : List ℕ) → reader.old ≡ Some text → MustGiveAll lanes job answer
     → Appends writer.old writer.new (written_of job.form ran.bytes.given) → (found : Option SinkFault) → (has : HasResults text job found)
     → Appends writer.old writer.new (written_of job.form (messages_of_stream has.results))
 whole_results lanes Outlasts job answer reader writer ran text is full all found has =
@@ -75,7 +75,7 @@ whole_results lanes Outlasts job answer reader writer ran text is full all found
     rw messages at written
 
 encoded : (lanes : ℕ) (Outlasts : Type 0) (job : Job) (answer : Result Summary RunFault) (reader writer : Change)
-    → (ran : HasRun lanes Outlasts job answer reader writer) → (text : List ℕ) → reader.old ≡ Some text → HoldsNothingBack lanes job answer
+    → (ran : HasRun lanes Outlasts job answer reader writer) → (text : List ℕ) → reader.old ≡ Some text → MustGiveAll lanes job answer
     → Appends writer.old writer.new (written_of job.form ran.bytes.given) → (has : HasResults text job None)
     → Appends writer.old writer.new (encoding_of job.form has.results)
 encoded lanes Outlasts job answer reader writer ran text is full all has =
@@ -256,13 +256,13 @@ output lanes Outlasts job (Err (Output fault)) reader writer lawful ran =
     (output_by lanes Outlasts job fault reader writer lawful ran (ran.verdict [] (inl refl)), ran.failures.read (λ is. absurd cc))
 output lanes Outlasts job (Err (PeerGone number)) reader writer lawful ran = tt
 
-accepted_by : (text : List ℕ) (job : Job) (fault : SinkFault) → IsAnswer text job (Err (Output fault)) → HasRefusal text job.tools None
+accepted_by : (text : List ℕ) (job : Job) (fault : SinkFault) → IsAnswer text job (Err (Output fault)) → RefusalIs text job.tools None
 accepted_by text job fault (inl has) = (has.images, has.said, has.taken)
 accepted_by text job fault (inr around) = around.1
 
 output_last : (lanes : ℕ) (Outlasts : Type 0) (job : Job) (answer : Result Summary RunFault) (reader writer : Change)
     → HasRun lanes Outlasts job answer reader writer
-    → (text : List ℕ) → reader.old ≡ Some text → IfOutput answer (λ fault. HasRefusal text job.tools None)
+    → (text : List ℕ) → reader.old ≡ Some text → IfOutput answer (λ fault. RefusalIs text job.tools None)
 output_last lanes Outlasts job (Ok summary) reader writer ran text is = tt
 output_last lanes Outlasts job (Err NoStart) reader writer ran text is = tt
 output_last lanes Outlasts job (Err (Input fault)) reader writer ran text is = tt
@@ -326,7 +326,7 @@ tells lanes Outlasts job answer reader writer lawful ran = record {
 }
 
 pub run_in_one_thread_tells : WhatARunInOneThreadTells
-run_in_one_thread_tells job answer reader writer lawful ran = tells 1 (OutlastsRun reader.old reader.new) job answer reader writer lawful ran
+run_in_one_thread_tells job answer reader writer lawful ran = tells 1 (HasMostMessages reader.old reader.new) job answer reader writer lawful ran
 
 -- over threads the reader failed where that is answered
 failed_itself : (failed : Type 0) → failed ⊎ ⊥ → failed

@@ -16,7 +16,7 @@ use Rattle.pnm_image.specs.Completion.{IsPrefixOf, Completes}
 use Rattle.pnm_read.specs.declared.fault.InputFault.{InputFault}
 use Rattle.pnm_read.specs.declared.source.Source.{Source}
 use Rattle.pnm_read.specs.Said.{said_of, fault_of, AreSaid}
-use Rattle.pnm_read.specs.BufferedReaders.{IsOutsideFault}
+use Rattle.pnm_read.specs.Said.{IsOutsideFault}
 use Rattle.pnm_read.proofs.TextLaws.{said_text_is_spelled, are_said}
 use Rattle.pnm_read.proofs.StreamLaws.{no_text_fault}
 use Rattle.pnm_tools.specs.declared.fault.ToolFault.{ToolFault}
@@ -46,7 +46,7 @@ use Rattle.pnm_serial.specs.Internal.Feeding.{HasFed}
 use Rattle.pnm_serial.specs.Jobs.{Job}
 use Rattle.pnm_serial.specs.RunFacts.{IsStoppedBy}
 use Rattle.pnm_serial.specs.SerialRuns.{FitAnswer, IsAllWritten}
-use Rattle.pnm_serial.specs.Verdicts.{HasRefusal, HasResults, IsAnswer}
+use Rattle.pnm_serial.specs.Verdicts.{RefusalIs, HasResults, IsAnswer}
 use Rattle.pnm_serial.specs.SerialChains.{FiltersAt}
 use Rattle.pnm_serial.specs.Internal.SerialChains.{refusals_in}
 use Rattle.pnm_serial.proofs.CountLaws.{images_in-stream, rows_in-stream}
@@ -282,7 +282,7 @@ run_refused tools faults given out text number fault lawful sound_given have sai
 -- no stage has refused
 pub run_taken : (tools : List Tool) (faults : List (Option ToolFault)) (given out : List Message) (text : List ℕ)
     → AreLawfulTools tools → HaveAnswered tools faults given out → (said_of text ≡ given) × (fault_of text ≡ None) → AreWell faults
-    → HasRefusal text tools None
+    → RefusalIs text tools None
 run_taken tools faults given out text lawful have said well =
     let found = images_said text given said in
     let answered = stream_is_answered tools faults found.0 out lawful found.1.images_are well

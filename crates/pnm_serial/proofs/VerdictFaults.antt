@@ -19,7 +19,7 @@ use Rattle.pnm_tools.proofs.HeadFaultLaws.{head_is_refused_by_name}
 use Rattle.pnm_tools.proofs.RefusalLaws.{refusal_by}
 use Rattle.pnm_tools.proofs.ResultLaws.{result_is_image, result_has_rows}
 use Rattle.pnm_serial.specs.declared.fault.RunFault.TheVariants.{NoStart, Input, Tool as OfTool, Output, PeerGone}
-use Rattle.pnm_serial.specs.Verdicts.{HasRefusal, VerdictsAreOfTexts}
+use Rattle.pnm_serial.specs.Verdicts.{RefusalIs, VerdictsAreOfTexts}
 use Rattle.pnm_write.specs.Forms.{IsFormFault}
 use Rattle.pnm_serial.proofs.FeedingSteps.{said_are_sound}
 use Rattle.pnm_serial.proofs.ResultSteps.{reason_is_of_form}
@@ -102,7 +102,7 @@ rows_of_stream [] sound = tt
 rows_of_stream (i ∷ is) sound = (sound.0, rows_of_stream is (all_of_rest IsSound (map Row (rows_of i) ++ ImageEnd ∷ []) (messages_of_stream is) sound.1))
 
 text_refusal : (text : List ℕ) (tools : List Tool) (number : ℕ) (fault : ToolFault) → AreLawfulTools tools
-    → HasRefusal text tools (Some (record { number = number; fault = fault })) → IsNamed fault
+    → RefusalIs text tools (Some (record { number = number; fault = fault })) → IsNamed fault
 text_refusal text tools number fault lawful is =
     let sound : AreSound (messages_of_stream is.0) = subst AreSound is.1.messages (said_are_sound text) in
     chain_refusal 1 tools is.0 (record { number = number; fault = fault }) lawful is.1.images_are (rows_of_stream is.0 sound.sound) is.2

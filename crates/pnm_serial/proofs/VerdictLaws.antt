@@ -19,7 +19,7 @@ use Rattle.pnm_serial.specs.declared.summary.Summary.{Summary}
 use Rattle.pnm_serial.specs.Jobs.{Job}
 use Rattle.pnm_serial.specs.RunFacts.{EndedWell}
 use Rattle.pnm_serial.specs.RunLaws.{OneAnswerForEachText}
-use Rattle.pnm_serial.specs.Verdicts.{HasRefusal, HasResults, IsVerdict, HasOneVerdict, OneVerdictForEachText, IsFromOutside, summary_of}
+use Rattle.pnm_serial.specs.Verdicts.{RefusalIs, HasResults, IsVerdict, HasOneVerdict, OneVerdictForEachText, IsFromOutside, summary_of}
 use Rattle.pnm_serial.proofs.ResultSteps.{chain_results}
 
 -- ---- the results of a chain
@@ -87,7 +87,7 @@ reasons_are_one text job one other is is_too =
 
 -- a text whose images no tool refuses isn't one of which a tool refuses an image
 never_refused : (text : List ℕ) (job : Job) (found : Option SinkFault) (number : ℕ) (fault : ToolFault) → HasResults text job found
-    → HasRefusal text job.tools (Some (record { number = number; fault = fault })) → ⊥
+    → RefusalIs text job.tools (Some (record { number = number; fault = fault })) → ⊥
 never_refused text job found number fault is refused =
     let same = refusals_are_one text job.tools is.images refused.0 None _ is.said refused.1 is.taken refused.2 in absurd cc
 

@@ -5,14 +5,14 @@ use Rattle.pnm_image.specs.Completion.{IsPrefixOf}
 use Rattle.pnm_read.specs.declared.fault.InputFault.{InputFault}
 use Rattle.pnm_read.specs.declared.fault.InputFault.TheVariants.{ReadFailed}
 use Rattle.pnm_read.specs.Said.{said_of, fault_of}
-use Rattle.pnm_read.specs.BufferedReaders.{IsOutsideFault}
+use Rattle.pnm_read.specs.Said.{IsOutsideFault}
 use Rattle.pnm_serial.specs.Runs.{Change}
-use Rattle.pnm_serial.specs.SerialRuns.{OutlastsRun}
+use Rattle.pnm_serial.specs.SerialRuns.{HasMostMessages}
 
 -- the reader failed: its count rose, or fewer messages came than a run takes
 abbrev pub IsReadFailure : Result (Unit {0}) InputFault → Change → Type 0
 IsReadFailure input reader = (input ≡ Err ReadFailed)
-    × ((reader.failures_old < reader.failures_new) ⊎ (OutlastsRun reader.old reader.new → ⊥))
+    × ((reader.failures_old < reader.failures_new) ⊎ (HasMostMessages reader.old reader.new → ⊥))
 
 -- a byte is left, as far as is known
 abbrev pub HasMore : Option (List ℕ) → Type 0

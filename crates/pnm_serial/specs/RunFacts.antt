@@ -7,7 +7,7 @@ use Rattle.pnm_image.specs.Devices.{AppendsPrefix, Failed}
 use Rattle.pnm_image.specs.Images.{Image, messages_of_stream}
 use Rattle.pnm_read.specs.declared.fault.InputFault.{InputFault}
 use Rattle.pnm_read.specs.declared.fault.InputFault.TheVariants.{ReadFailed}
-use Rattle.pnm_read.specs.BufferedReaders.{IsOutsideFault}
+use Rattle.pnm_read.specs.Said.{IsOutsideFault}
 use Rattle.pnm_read.specs.Said.{said_of, fault_of, AreSaid}
 use Rattle.pnm_tools.specs.declared.fault.ToolFault.{ToolFault}
 use Rattle.pnm_tools.specs.declared.fault.ToolFault.TheVariants.{OutOfOrder, Memory}
@@ -21,9 +21,9 @@ use Rattle.pnm_serial.specs.declared.fault.RunFault.{RunFault}
 use Rattle.pnm_serial.specs.declared.fault.RunFault.TheVariants.{NoStart, Input, Tool as OfTool, Output, PeerGone}
 use Rattle.pnm_serial.specs.declared.summary.Summary.{Summary}
 use Rattle.pnm_serial.specs.Jobs.{Job, bytes_due, IsOutputOf}
-use Rattle.pnm_serial.specs.Runs.{Change, MayFollow, HoldsNothingBack, HasRun}
-use Rattle.pnm_serial.specs.SerialRuns.{OutlastsRun, IsAllWritten}
-use Rattle.pnm_serial.specs.Verdicts.{HasRefusal, AnswersVerdict, summary_of}
+use Rattle.pnm_serial.specs.Runs.{Change, MayFollow, MustGiveAll, HasRun}
+use Rattle.pnm_serial.specs.SerialRuns.{HasMostMessages, IsAllWritten}
+use Rattle.pnm_serial.specs.Verdicts.{RefusalIs, AnswersVerdict, summary_of}
 
 -- ---- cases of an answer
 
@@ -82,8 +82,8 @@ pub record HasWrittenResults (text : List ℕ) (job : Job) (old new : Option (Li
 -- the text is accepted, and a tool is the first that refuses one of the images; or there was no memory for it, and no
 -- tool before it refuses one
 abbrev pub IsStoppedBy : List ℕ → List Tool → ℕ → ToolFault → Type 0
-IsStoppedBy text tools number fault = ((fault ≡ Memory) × HasRefusal text (take (number - 1) tools) None)
-    ⊎ HasRefusal text tools (Some (record { number = number; fault = fault }))
+IsStoppedBy text tools number fault = ((fault ≡ Memory) × RefusalIs text (take (number - 1) tools) None)
+    ⊎ RefusalIs text tools (Some (record { number = number; fault = fault }))
 
 -- what was written is a prefix of what is due, whatever images complete what is said of the text
 abbrev pub IsPrefixOfBytesDue : List ℕ → Job → Option (List ℕ) → Option (List ℕ) → Type 0
@@ -131,13 +131,13 @@ pub record RunTells (lanes : ℕ) (Outlasts : Type 0) (job : Job) (answer : Resu
       (λ fault. (((fault ≡ WriteFailed) × Failed writer.failures_old writer.failures_new) ⊎ IsFormFault job.form fault)
       × (reader.failures_new ≡ reader.failures_old))
   pub output_last : (text : List ℕ) → reader.old ≡ Some text → IfOutput answer
-      (λ fault. HasRefusal text job.tools None)
+      (λ fault. RefusalIs text job.tools None)
   -- At a fault of the form all was written that it takes of the results.
   pub before_refused : (text : List ℕ) → reader.old ≡ Some text
       → IfOutput answer (λ fault. IsFormFault job.form fault → HasWrittenResults text job writer.old writer.new)
   -- Where nothing is held back, as if the last tool refused an image and works in one lane, all that is due was
   -- written, unless the writer failed.
-  pub all_due : (text : List ℕ) → reader.old ≡ Some text → HoldsNothingBack lanes job answer
+  pub all_due : (text : List ℕ) → reader.old ≡ Some text → MustGiveAll lanes job answer
       → ¬ Failed writer.failures_old writer.failures_new → (images : List Image) → AreSaid text images
       → Appends writer.old writer.new (bytes_due job images)
   -- So each answer is the verdict, unless it is from outside.
@@ -152,8 +152,8 @@ pub record RunTells (lanes : ℕ) (Outlasts : Type 0) (job : Job) (answer : Resu
 -- in one thread a run tells all this
 abbrev pub WhatARunInOneThreadTells : Type 0
 WhatARunInOneThreadTells = (job : Job) (answer : Result Summary RunFault) (reader writer : Change)
-    → AreLawfulTools job.tools → HasRun 1 (OutlastsRun reader.old reader.new) job answer reader writer
-    → RunTells 1 (OutlastsRun reader.old reader.new) job answer reader writer
+    → AreLawfulTools job.tools → HasRun 1 (HasMostMessages reader.old reader.new) job answer reader writer
+    → RunTells 1 (HasMostMessages reader.old reader.new) job answer reader writer
 
 -- and over threads too; no number of messages ends such a run: where a failed read is answered the reader failed, and
 -- anything may come after the bytes that were read

@@ -43,15 +43,15 @@ MayFollow Outlasts answer reader rest = (rest ≡ [])
 
 -- all that is due is given to the output: the run ends well, or by the output's fault; or it is the last tool that
 -- refused an image, and that tool works in one lane
-abbrev pub HoldsNothingBack : ℕ → Job → Result Summary RunFault → Type 0
-HoldsNothingBack lanes job (Ok summary) = Unit {0}
-HoldsNothingBack lanes job (Err NoStart) = ⊥
-HoldsNothingBack lanes job (Err (Input fault)) = ⊥
-HoldsNothingBack lanes job (Err (OfTool number fault)) = (fault ≢ Memory) × (number ≡ length job.tools)
+abbrev pub MustGiveAll : ℕ → Job → Result Summary RunFault → Type 0
+MustGiveAll lanes job (Ok summary) = Unit {0}
+MustGiveAll lanes job (Err NoStart) = ⊥
+MustGiveAll lanes job (Err (Input fault)) = ⊥
+MustGiveAll lanes job (Err (OfTool number fault)) = (fault ≢ Memory) × (number ≡ length job.tools)
     × ((before : List Tool) × (last : Tool) × (job.tools ≡ before ++ last ∷ [])
     × ((lanes ≤ 1) ⊎ (is_row_wise last ≡ false)))
-HoldsNothingBack lanes job (Err (Output fault)) = Unit {0}
-HoldsNothingBack lanes job (Err (PeerGone number)) = ⊥
+MustGiveAll lanes job (Err (Output fault)) = Unit {0}
+MustGiveAll lanes job (Err (PeerGone number)) = ⊥
 
 -- Messages were given to the output, and what the form takes of them was written: a prefix of it, and all of it if the
 -- writer didn't fail, if the run ended well, or if the form refused one of them, even if a flush has failed. For each
@@ -62,7 +62,7 @@ pub record HasWritten (lanes : ℕ) (job : Job) (answer : Result Summary RunFaul
   pub given : List Message
   pub due : (text : List ℕ) → IsText text → (images : List Image) → Completes images (said_of text)
       → IsPrefixOf given (due_in_turn job.tools images)
-  pub full : HoldsNothingBack lanes job answer → (text : List ℕ) → IsText text → (images : List Image)
+  pub full : MustGiveAll lanes job answer → (text : List ℕ) → IsText text → (images : List Image)
       → AreSaid text images → given ≡ due_in_turn job.tools images
   pub prefix : AppendsPrefix writer.old writer.new (written_of job.form given)
   pub all : ¬ Failed writer.failures_old writer.failures_new → Appends writer.old writer.new (written_of job.form given)

@@ -28,7 +28,7 @@ IsOfOneThread (Err (PeerGone number)) = ⊥
 
 -- the reader gave bytes of which at least as many messages are said as a run takes; and so of its whole text. It says
 -- nothing of a reader that doesn't tell its bytes.
-pub record OutlastsRun (old new : Option (List ℕ)) : Type 0 where
+pub record HasMostMessages (old new : Option (List ℕ)) : Type 0 where
   pub read : List ℕ
   pub consumed : Consumes old new read
   pub many : 2 ^ 64 - 1 ≤ length (said_of read)
@@ -77,6 +77,6 @@ AllIsWritten job answer reader writer =
 
 -- what holds of each run, and in one thread all was written that the tools have answered
 pub record HasRunInOneThread (job : Job) (answer : Result Summary RunFault) (reader writer : Change) : Type 0 where
-  pub run : HasRun 1 (OutlastsRun reader.old reader.new) job answer reader writer
+  pub run : HasRun 1 (HasMostMessages reader.old reader.new) job answer reader writer
   pub all_written : AllIsWritten job answer reader writer
   pub one_thread : IsOfOneThread answer

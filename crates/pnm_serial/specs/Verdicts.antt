@@ -3,7 +3,7 @@
 use Rattle.std.specs.Prelude.{◌≡◌, ◌≢◌, ◌⊎◌, ℕ, ◌≤◌, ◌+◌, ◌-◌, ◌^◌, min, length, take, sum_by, List, Option, Some, None}
 use Rattle.std.specs.Prelude.{Result, Ok, Err}
 use Rattle.pnm_image.specs.Images.{Image}
-use Rattle.pnm_read.specs.BufferedReaders.{IsOutsideFault}
+use Rattle.pnm_read.specs.Said.{IsOutsideFault}
 use Rattle.pnm_read.specs.Said.{fault_of, AreSaid}
 use Rattle.pnm_tools.specs.declared.fault.ToolFault.TheVariants.{OutOfOrder, Memory}
 use Rattle.pnm_tools.specs.declared.tool.Tool.{Tool}
@@ -19,8 +19,8 @@ use Rattle.pnm_serial.specs.declared.summary.Summary.{Summary}
 -- ---- refusals of images
 
 -- the text is accepted: the refusal of the first tool that refuses one of the images, or nothing where none does
-abbrev pub HasRefusal : List ℕ → List Tool → Option Refusal → Type 0
-HasRefusal text tools found = (images : List Image) × AreSaid text images × (refusal_of tools images ≡ found)
+abbrev pub RefusalIs : List ℕ → List Tool → Option Refusal → Type 0
+RefusalIs text tools found = (images : List Image) × AreSaid text images × (refusal_of tools images ≡ found)
 
 -- the text is accepted and no tool refuses one of the images: why the form can't hold their results, or nothing where
 -- it can
@@ -42,7 +42,7 @@ IsVerdict text job None = HasResults text job None
 IsVerdict text job (Some NoStart) = ⊥
 IsVerdict text job (Some (Input fault)) = fault_of text ≡ Some fault
 IsVerdict text job (Some (OfTool number fault)) =
-    HasRefusal text job.tools (Some (record { number = number; fault = fault }))
+    RefusalIs text job.tools (Some (record { number = number; fault = fault }))
 IsVerdict text job (Some (Output fault)) = HasResults text job (Some fault)
 IsVerdict text job (Some (PeerGone number)) = ⊥
 
@@ -73,8 +73,8 @@ abbrev pub FailsAround : List ℕ → Job → RunFault → Type 0
 FailsAround text job NoStart = ⊥
 FailsAround text job (Input fault) = IsOutsideFault fault
 FailsAround text job (OfTool number fault) = (fault ≡ Memory) × (1 ≤ number) × (number ≤ length job.tools)
-    × HasRefusal text (take (number - 1) job.tools) None
-FailsAround text job (Output fault) = (fault ≡ WriteFailed) × HasRefusal text job.tools None
+    × RefusalIs text (take (number - 1) job.tools) None
+FailsAround text job (Output fault) = (fault ≡ WriteFailed) × RefusalIs text job.tools None
 FailsAround text job (PeerGone number) = number ≤ length job.tools + 1
 
 -- the images and the rows of a stream; each count stays at the greatest u64

@@ -10,7 +10,7 @@ use Rattle.pnm_read.specs.declared.source.Awaited.TheVariants.{ImageOrEnd, End}
 use Rattle.pnm_read.specs.declared.source.State.{State}
 use Rattle.pnm_read.specs.Said.{later_said, says_fault}
 use Rattle.pnm_read.specs.Said.{image_said, after_messages}
-use Rattle.pnm_read.specs.BufferedReaders.{IsOutsideFault}
+use Rattle.pnm_read.specs.Said.{IsOutsideFault}
 use Rattle.pnm_read.specs.Awaiting.{due_at, state_due, is_ended}
 
 -- what is awaited after an image, by whether it is plain: what follows a plain one is ignored
@@ -19,25 +19,25 @@ awaited_after true = End
 awaited_after false = ImageOrEnd
 
 -- a packet stands for at least one message; the end of the stream leads to its state, and Stop isn't given
-abbrev pub IfStreamEnd : Packet → State → Type 0
-IfStreamEnd (Begin head) state = Unit {0}
-IfStreamEnd (Rows rows) state = 1 ≤ length rows
-IfStreamEnd (Image head rows) state = Unit {0}
-IfStreamEnd ImageEnd state = Unit {0}
-IfStreamEnd StreamEnd state = is_ended state ≡ true
-IfStreamEnd Stop state = ⊥
+abbrev pub MayBeGiven : Packet → State → Type 0
+MayBeGiven (Begin head) state = Unit {0}
+MayBeGiven (Rows rows) state = 1 ≤ length rows
+MayBeGiven (Image head rows) state = Unit {0}
+MayBeGiven ImageEnd state = Unit {0}
+MayBeGiven StreamEnd state = is_ended state ≡ true
+MayBeGiven Stop state = ⊥
 
 -- what is given where this is awaited, and the state after it: the next of what was to be said, or the fault
 abbrev pub Gives : Awaited → Result Packet InputFault → State → List ℕ → List ℕ → Type 0
 Gives awaited (Ok packet) new before after =
-    (due_at awaited before ≡ after_messages (messages_in packet) (state_due new after)) × IfStreamEnd packet new
+    (due_at awaited before ≡ after_messages (messages_in packet) (state_due new after)) × MayBeGiven packet new
 Gives awaited (Err fault) new before after = (due_at awaited before ≡ says_fault fault) ⊎ IsOutsideFault fault
 
 -- what is given at the start of an image
 abbrev pub GivesAtStart : Bool → Result Packet InputFault → State → List ℕ → List ℕ → Type 0
 GivesAtStart is_first (Ok packet) new before after =
     (image_said later_said is_first before ≡ after_messages (messages_in packet) (state_due new after))
-    × IfStreamEnd packet new
+    × MayBeGiven packet new
 GivesAtStart is_first (Err fault) new before after =
     (image_said later_said is_first before ≡ says_fault fault) ⊎ IsOutsideFault fault
 

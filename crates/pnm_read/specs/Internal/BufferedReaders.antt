@@ -8,7 +8,8 @@ use Rattle.pnm_image.specs.Devices.{Failed}
 use Rattle.pnm_read.specs.declared.fault.InputFault.{InputFault}
 use Rattle.pnm_read.specs.declared.fault.InputFault.TheVariants.{ReadFailed}
 use Rattle.pnm_read.specs.declared.buffered_reader.BufferedReader.{BufferedReader}
-use Rattle.pnm_read.specs.BufferedReaders.{IsOutsideFault, held_of, CanCome, EndsRightly}
+use Rattle.pnm_read.specs.BufferedReaders.{held_of, CanCome, EndsRightly}
+use Rattle.pnm_read.specs.Said.{IsOutsideFault}
 
 -- so many bytes are held, or the end was seen
 abbrev pub HoldsEnough : {R : Type 0} → ℕ → BufferedReader R → Type 0

@@ -8,7 +8,7 @@ use Rattle.pnm_image.specs.declared.sample_width.SampleWidth.{SampleWidth}
 use Rattle.pnm_read.specs.Rasters.{wide_samples}
 use Rattle.pnm_read.specs.Items.{raw_item}
 use Rattle.pnm_read.specs.Said.{in_turn, units_at}
-use Rattle.pnm_read.specs.BufferedReaders.{IsOutsideFault}
+use Rattle.pnm_read.specs.Said.{IsOutsideFault}
 
 -- samples were appended, none of them above the maxval; or one of them is
 abbrev pub AppendsSamples : ℕ → List ℕ → List ℕ → List ℕ → Result (Unit {0}) InputFault → Type 0

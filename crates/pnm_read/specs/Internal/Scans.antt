@@ -5,7 +5,7 @@ use Rattle.pnm_read.specs.declared.fault.InputFault.TheVariants.{Memory}
 use Rattle.pnm_read.specs.declared.scan_status.ScanStatus.{ScanStatus}
 use Rattle.pnm_read.specs.declared.scan_status.ScanStatus.TheVariants.{GoesOn, EndsWith, EndsBefore, Fails}
 use Rattle.pnm_read.specs.Items.{piece_from}
-use Rattle.pnm_read.specs.BufferedReaders.{IsOutsideFault}
+use Rattle.pnm_read.specs.Said.{IsOutsideFault}
 
 -- what was taken after a byte was judged
 abbrev pub TakesJudged : (List ℕ → Type 0) → (List ℕ → Type 0) → ScanStatus → List ℕ → ℕ → Type 0

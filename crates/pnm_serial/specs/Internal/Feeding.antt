@@ -16,7 +16,7 @@ use Rattle.pnm_serial.specs.declared.fused_sink.FusedSink.{FusedSink}
 use Rattle.pnm_tools.specs.declared.fused_filter.FusedFilter.{FusedFilter}
 use Rattle.pnm_serial.specs.FusedSinks.{HasTaken}
 use Rattle.pnm_serial.specs.Runs.{change}
-use Rattle.pnm_serial.specs.SerialRuns.{OutlastsRun}
+use Rattle.pnm_serial.specs.SerialRuns.{HasMostMessages}
 use Rattle.pnm_serial.specs.SerialChains.{FiltersAt}
 use Rattle.pnm_serial.specs.Feeding.{MayFollowRead, IsSaidOf}
 
@@ -47,5 +47,5 @@ pub record HasFed {R F W : Type 0} (left : R → Option (List ℕ)) (reader_fail
       → reader_failures (reader_of source_new) ≡ reader_failures (reader_of source)
   pub read_failed : result ≡ Err ReadFailed
       → Failed (reader_failures (reader_of source)) (reader_failures (reader_of source_new))
-      ⊎ OutlastsRun (left (reader_of source)) (left (reader_of source_new))
+      ⊎ HasMostMessages (left (reader_of source)) (left (reader_of source_new))
   pub output : HaveTaken at all_given stopped held writer_failures given old new before after

@@ -3,7 +3,7 @@ use Rattle.pnm_read.specs.Sources.{reader_of}
 use Rattle.pnm_serial.specs.FusedSinks.{output_of}
 use Rattle.pnm_serial.specs.Jobs.{job_of}
 use Rattle.pnm_serial.specs.Runs.{change}
-use Rattle.pnm_serial.specs.SerialRuns.{OutlastsRun}
+use Rattle.pnm_serial.specs.SerialRuns.{HasMostMessages}
 use Rattle.pnm_serial.specs.Internal.SerialChains.{refusals_in}
 use Rattle.pnm_serial.proofs.RunSteps.{failed_so, ran_of, stages_answered}
 use Rattle.pnm_serial.proofs.EndSteps.{Ended, HaveEnded, ended_in_one_thread, ended_without_reading, may_follow}
@@ -48,7 +48,7 @@ returns-clause-ran g c = λ tools lawful fresh.
     } in
     let reader = change (λ r. g.R.BytesIn.left r.now) (λ r. g.R.BytesIn.failures r.now) (reader_of c.with_buffer-source.result)
     (reader_of c.feed_all-input.new.source) in
-    let ended : Ended 1 (OutlastsRun reader.old reader.new) reader (λ w. g.W.BytesOut.held w.now) (λ w. g.W.BytesOut.failures w.now) (output_of
+    let ended : Ended 1 (HasMostMessages reader.old reader.new) reader (λ w. g.W.BytesOut.held w.now) (λ w. g.W.BytesOut.failures w.now) (output_of
     c.new-fused_sink.result)
     c.finish-written.result.0 (job_of tools c.args.form) c.feed_all-input.result c.first_fault.result c.finish-written.result.1 = record {
       faults = refusals_in c.feed_all-input.new.stages;
