@@ -5,13 +5,13 @@ library has the numbers of all. The pages and the helpers have the options of `t
 by `lint_tools.py`. The pages' text has at most 80 columns, and where mandoc is installed, it has to find nothing in
 them.
 
-Lines of documents have at most 100 columns. Each link of the README and of docs leads to a file, and to a heading of
-it, but for those in comments. Each picture stands in one of these documents. Each file and folder that a document names
-is there: a name without its folders is that of some file, and words like NAME and FILE stand for any. So is each item
-that it names by its crate, as `pnm_flow::run`, each script that a source, a page or a script names, each goal of the
-Makefile that one of all these names, and each edit that docs/PROMISES.md names. Each word of docs/DEFINITIONS.md is
-defined in the file of its row, and each of its laws is one. `make help` has each goal. Figures of the documents' tables
-are those of docs/figures.tsv, which `make bench` writes.
+Lines of documents have at most 100 columns. Each link of the README, CONTRIBUTING and docs leads to a file, and to a
+heading of it, but for those in comments. Each picture stands in one of these documents. Each file and folder that a
+document names is there: a name without its folders is that of some file, and words like NAME and FILE stand for any. So
+is each item that it names by its crate, as `pnm_flow::run`, each script that a source, a page or a script names, each
+goal of the Makefile that one of all these names, and each edit that docs/PROMISES.md names. Each word of
+docs/DEFINITIONS.md is defined in the file of its row, and each of its laws is one. `make help` has each goal. Figures
+of the documents' tables are those of docs/figures.tsv, which `make bench` writes.
 """
 
 import glob
@@ -105,7 +105,8 @@ def faults_of_options(reading=read):
             yield f"helpers/{program} and tables.py don't both have --{option}"
 
 
-OF_DOCS = ["README.md", *sorted(f"docs/{name}" for name in os.listdir(f"{ROOT}/docs") if name.endswith(".md"))]
+OF_DOCS = ["README.md", "CONTRIBUTING.md"]
+OF_DOCS += sorted(f"docs/{name}" for name in os.listdir(f"{ROOT}/docs") if name.endswith(".md"))
 DOCUMENTS = [*OF_DOCS, "CHANGELOG.md", "library/python/README.md", "model/README.md"]
 COLUMNS = 100
 # a row of a table can't be broken, and the table of this document is to become a list

@@ -65,7 +65,7 @@ dist() {
         sed -i -e 's|^prefix=.*|prefix=${pcfiledir}/../..|' -e 's|^libdir=|libdir=${prefix}|' \
             "$work/$built/lib/pkgconfig/pnmpipe.pc"
     fi
-    for file in README.md CHANGELOG.md VERSION LICENSE docs helpers/install.sh; do
+    for file in README.md CHANGELOG.md CONTRIBUTING.md VERSION LICENSE docs helpers/install.sh; do
         [ ! -e "$file" ] || cp -R "$file" "$work/$built"
     done
     toolchain > "$work/$built/TOOLCHAIN"
