@@ -2,9 +2,9 @@
 """Wants what is written in this repository to be so, as `make lint` does: the crates' sources in layout and of some
 length at most (`lint_sources.py`), pages, completions and documents that say what the sources do (`lint_documents.py`),
 the same names, options and ranges of the tools everywhere (`lint_tools.py`), what `make tables` writes (`tables.py`),
-words of contracts in the folder where a reader looks for them (`lint_words.py`), and scripts that python3, sh and,
-where they are installed, shellcheck, zsh and fish read without a fault, with lines of at most 120 columns. Given
-folders, it reads the sources in these alone.
+words of contracts in the folder where a reader looks for them (`lint_words.py`), an edit that must fail of each
+exported function (`lint_edits.py`), and scripts that python3, sh and, where they are installed, shellcheck, zsh and
+fish read without a fault, with lines of at most 120 columns. Given folders, it reads the sources in these alone.
 """
 
 import glob
@@ -14,6 +14,7 @@ import subprocess
 import sys
 
 import lint_documents
+import lint_edits
 import lint_sources
 import lint_tools
 import lint_words
@@ -83,6 +84,7 @@ def main():
         scripts_read, of_scripts = faults_in_scripts()
         documents, of_documents = lint_documents.faults()
         found += of_scripts + of_documents + lint_tools.faults() + [*tables.faults(), *lint_words.faults(ROOT)]
+        found += lint_edits.faults(ROOT)
         told += f", {scripts_read} scripts, {documents} pages and documents"
     for fault in found:
         print(f"lint: {fault}")

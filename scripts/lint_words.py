@@ -30,27 +30,38 @@ def owner_of(line):
     return re.findall(r"\w+", re.sub(r"^(pub )?(impl|trait)\b", "", without))[0]
 
 
-def promises(lines, names):
-    """The text of each clause and each `ghost` member of a file by which its exported items are known."""
+def known_items(lines, names):
+    """The lines of a file where its exported functions and `ghost` members begin, with the type or trait that these are
+    of, and the name of the function, or none."""
     inside = ""
     for at, line in enumerate(lines):
         if re.match(r"(pub )?(impl|trait)\b", line):
             inside = line
         inside = "" if line == "}" else inside
-        is_known = not inside or names is None or owner_of(inside) in names
+        owner = owner_of(inside) if inside else ""
+        if inside and names is not None and owner not in names:
+            continue
         function = re.match(r" *(pub )?(?:const )?(?:extern \"C\" )?fn (\w+)", line)
         ghost = re.match(r" +ghost (\w+)(?: =|:)", line)
-        if function and is_known:
-            is_handed_on = " for " in inside or "trait " in inside or function[1]
-            if is_handed_on and (inside or names is None or function[2] in names):
-                head = contract(lines, at)
-                first = next((number for number, it in enumerate(head) if CLAUSE.match(it)), len(head))
-                yield "\n".join(head[first:])
-        elif ghost and inside and is_known and ghost[1] != "invariant":
-            end = at
-            while "\n".join(lines[at : end + 1]).count("{") > "\n".join(lines[at : end + 1]).count("}"):
-                end += 1
-            yield "\n".join(lines[at : end + 1])
+        if function and (inside or names is None or function[2] in names):
+            if " for " in inside or "trait " in inside or function[1]:
+                yield at, owner, function[2]
+        elif ghost and inside and ghost[1] != "invariant":
+            yield at, owner, ""
+
+
+def promises(lines, names):
+    """The text of each clause and each `ghost` member of a file by which its exported items are known."""
+    for at, _, function in known_items(lines, names):
+        end = at
+        if function:
+            head = contract(lines, at)
+            first = next((number for number, it in enumerate(head) if CLAUSE.match(it)), len(head))
+            yield "\n".join(head[first:])
+            continue
+        while "\n".join(lines[at : end + 1]).count("{") > "\n".join(lines[at : end + 1]).count("}"):
+            end += 1
+        yield "\n".join(lines[at : end + 1])
 
 
 def promised(root, crate, specs):

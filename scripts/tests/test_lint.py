@@ -1,9 +1,9 @@
 #!/usr/bin/env python3
 """Tests of lint: what is just within each limit of sources passes, one line or column more is told, and so is a file
 that rt fmt would change, which stays as it is; which names, goals, links, words and laws of documents are looked up,
-and told if they lead nowhere; words of contracts in the wrong folder; that each difference between a file and the table
-of tools is told, by the file and the tool; and files whose lines aren't those that `make tables` writes. `make scripts`
-runs it."""
+and told if they lead nowhere; words of contracts in the wrong folder; exported functions without an edit; that each
+difference between a file and the table of tools is told, by the file and the tool; and files whose lines aren't those
+that `make tables` writes. `make scripts` runs it."""
 
 import os
 import tempfile
@@ -14,6 +14,7 @@ import support  # first, since it finds the others
 
 import lint
 import lint_documents
+import lint_edits
 import lint_sources
 import lint_tools
 import lint_words
@@ -261,6 +262,24 @@ IsHeld width = IsSmall width
         lib = self.TREE["src/lib.rt"] + "pub use held::hold;\n"
         told = "crates/a/specs/Internal/Held.antt: IsHeld: a promise reaches it"
         self.assertEqual(self.told(**{"src/lib.rt": lib}), [told])
+
+
+    def told_of_edits(self, edit):
+        with tempfile.TemporaryDirectory() as root:
+            tree = {path: text for path, text in self.TREE.items() if path.startswith("src/")}
+            for path, text in {**tree, "must-fail/turned.edit": edit}.items():
+                path = os.path.join(root, "crates/a", path)
+                os.makedirs(os.path.dirname(path), exist_ok=True)
+                with open(path, "w", encoding="utf-8") as file:
+                    file.write(text)
+            return list(lint_edits.faults(root))
+
+    def test_edits_of_exported_functions(self):
+        told = "crates/a/src/rows.rt: no edit in must-fail changes "
+        turned = "file: src/rows.rt\nold:     1\nnew:     2\n"
+        self.assertEqual(self.told_of_edits(turned), [told + "Row::take"])
+        elsewhere = "file: src/held.rt\nold:     1\nnew:     2\n"
+        self.assertEqual(self.told_of_edits(elsewhere), [told + "Row::take", told + "width"])
 
 
 class Tools(unittest.TestCase):
