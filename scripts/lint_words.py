@@ -1,6 +1,6 @@
 """Where the words of contracts stand: those that a contract of an exported function reaches in crates/NAME/specs, and
-those that only functions and proofs of one crate have in its specs/Internal, so that who reads a promise meets no
-other. `lint.py` calls it."""
+the others, which stand between functions inside and in proofs, in its specs/Internal, so that who reads a promise meets
+no other. `lint.py` calls it."""
 
 import glob
 import os

@@ -1,5 +1,4 @@
--- Between functions of this crate: the text of a chain: which texts spell which tools, and what is wrong with every
--- other text.
+-- Between functions: the text of a chain: which texts spell which tools, and what is wrong with every other text.
 use Rattle.std.specs.Prelude.{◌≡◌, ◌⊎◌, Option}
 use Rattle.std.specs.Prelude.{Some}
 use Rattle.pnm_chain.specs.declared.chain_text.ChainKind.{ChainKind}

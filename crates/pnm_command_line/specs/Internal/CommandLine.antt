@@ -1,4 +1,4 @@
--- Between functions of this crate: what the words of the command line say, as `clap` reads them.
+-- Between functions: what the words of the command line say, as `clap` reads them.
 use Rattle.std.specs.Prelude.{◌≡◌, ◌≢◌, ◌⊎◌, Option, Some, None, Bool}
 use Rattle.std.specs.Prelude.{true, false}
 use Rattle.pnm_image.specs.declared.format.Form.{Form}

@@ -1,4 +1,4 @@
--- Between functions of this crate: what a tool at work has still to give for the message that it accepted last.
+-- Between functions: what a tool at work has still to give for the message that it accepted last.
 use Rattle.std.specs.Prelude.{Bool, true, false, Option, Some, None}
 use Rattle.pnm_image.specs.declared.message.Message.{Message}
 use Rattle.pnm_filters.specs.declared.state.Phase.{Phase}

@@ -1,4 +1,4 @@
--- Between functions of this crate: the state of a tool at work: what it has accepted and given.
+-- Between functions: the state of a tool at work: what it has accepted and given.
 use Rattle.std.specs.Prelude.{◌≡◌, ℕ, List, [], Option, Some, None}
 use Rattle.pnm_image.specs.declared.shape.Shape.{Shape}
 use Rattle.pnm_image.specs.declared.place.Place.{Place}

@@ -1,5 +1,5 @@
--- Between functions of this crate: what a chain of tools has received and sent once all have ended: each in a thread
--- of its own, or over lanes, with a ring between it and the next.
+-- Between functions: what a chain of tools has received and sent once all have ended: each in a thread of its own, or
+-- over lanes, with a ring between it and the next.
 use Rattle.std.specs.Prelude.{◌≡◌, ◌⊎◌, ◌≤◌, ℕ, ◌+◌, List, [], ◌++◌}
 use Rattle.std.specs.Prelude.{vec_capacity}
 use Rattle.pnm_stages.specs.declared.sender.Sender.{Sender}

@@ -1,4 +1,4 @@
--- Between functions of this crate: what a run over threads answers, by how its tools and its caller have ended.
+-- Between functions: what a run over threads answers, by how its tools and its caller have ended.
 use Rattle.std.specs.Prelude.{ℕ, Bool, true, false, Option, Some, None, Result, Ok, Err}
 use Rattle.pnm_read.specs.declared.fault.InputFault.{InputFault}
 use Rattle.pnm_write.specs.declared.fault.SinkFault.{SinkFault}

@@ -1,5 +1,4 @@
--- Between functions of this crate: what the source of a run has given, and what was sent of it into the ring before
--- the first tool.
+-- Between functions: what the source of a run has given, and what was sent of it into the ring before the first tool.
 use Rattle.std.specs.Prelude.{◌≡◌, ◌<◌, ◌⊎◌, length, None}
 use Rattle.pnm_stages.specs.Rings.{sent}
 use Rattle.pnm_io_loop.specs.declared.ingress.Ingress.{Ingress}

@@ -1,5 +1,4 @@
--- Between functions of this crate: what lanes make of images together: streams, results and what is due, dealt and
--- gathered again.
+-- Between functions: what lanes make of images together: streams, results and what is due, dealt and gathered again.
 use Rattle.std.specs.Prelude.{ℕ, Result, Ok, Err}
 use Rattle.pnm_image.specs.Heads.{HeadValue}
 use Rattle.pnm_tools.specs.declared.fault.ToolFault.{ToolFault}

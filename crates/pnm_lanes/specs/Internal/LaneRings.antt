@@ -1,6 +1,5 @@
--- Between functions of this crate: the rings of a tool over several lanes: one to each lane, of which the thread
--- before the lanes has the end to send on, and one from it, of which the thread behind them has the end to receive
--- on.
+-- Between functions: the rings of a tool over several lanes: one to each lane, of which the thread before the lanes
+-- has the end to send on, and one from it, of which the thread behind them has the end to receive on.
 use Rattle.std.specs.Prelude.{◌≡◌, ◌≤◌, [], length, vec_capacity}
 use Rattle.pnm_lanes.specs.declared.lane_rings.LaneRings.{LaneRings}
 use Rattle.pnm_lanes.specs.LaneLimits.{IsLaneCount}

@@ -1,4 +1,4 @@
--- Between functions of this crate: what is still to be said where something is awaited, and what is given of it.
+-- Between functions: what is still to be said where something is awaited, and what is given of it.
 use Rattle.std.specs.Prelude.{◌≡◌, ℕ, ◌≤◌, ◌⊎◌, Bool, true, false, List, [], length}
 use Rattle.std.specs.Prelude.{Result, Ok, Err}
 use Rattle.pnm_image.specs.declared.packet.Packet.{Packet}

@@ -1,5 +1,4 @@
--- Between functions of this crate: what a call reads, and what its answer says of the text, of which only a part is
--- held.
+-- Between functions: what a call reads, and what its answer says of the text, of which only a part is held.
 use Rattle.std.specs.Prelude.{◌≡◌, ℕ, ◌≤◌, ◌⊎◌, true, false, List, [], ◌∷◌, ◌++◌, take, length, Option, Some, None}
 use Rattle.std.specs.Prelude.{Result, Ok, Err}
 use Rattle.std.specs.Global.{Vec}

@@ -1,4 +1,4 @@
--- Between functions of this crate: what the first bytes of an image tell of its size.
+-- Between functions: what the first bytes of an image tell of its size.
 use Rattle.std.specs.Prelude.{◌≡◌, ◌⊎◌, ℕ, ◌+◌, ◌*◌, ◌≤◌, Bool, true, false, List, ◌++◌, drop, length}
 use Rattle.std.specs.Prelude.{Option, Some, None, Result, Ok, Err}
 use Rattle.pnm_image.specs.Formats.{is_plain_form}

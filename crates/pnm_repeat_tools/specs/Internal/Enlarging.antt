@@ -1,4 +1,4 @@
--- Between functions of this crate: rows of an image that came together and are still to be enlarged.
+-- Between functions: rows of an image that came together and are still to be enlarged.
 use Rattle.std.specs.Prelude.{ℕ, ◌<◌, List, length}
 use Rattle.std.specs.List.{AllByRecursion}
 use Rattle.pnm_image.specs.declared.shape.Shape.{Shape}

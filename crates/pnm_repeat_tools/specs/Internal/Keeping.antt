@@ -1,5 +1,5 @@
--- Between functions of this crate: what tools that repeat keep while the rows of an image come, and the rows of the
--- result that they still give.
+-- Between functions: what tools that repeat keep while the rows of an image come, and the rows of the result that
+-- they still give.
 use Rattle.std.specs.Prelude.{◌≡◌, ℕ, zero, suc, ◌*◌, ◌<◌, ◌≤◌, ◌%◌, List, [], ◌++◌}
 use Rattle.std.specs.Prelude.{length, take, drop}
 use Rattle.std.specs.Prelude.{All}

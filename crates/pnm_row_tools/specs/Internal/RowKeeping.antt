@@ -1,5 +1,5 @@
--- Between functions of this crate: what tools keep while the rows of an image come, and the rows of the result that
--- they still give.
+-- Between functions: what tools keep while the rows of an image come, and the rows of the result that they still
+-- give.
 use Rattle.std.specs.Prelude.{ℕ, ◌*◌, List, All, Option, Some, None}
 use Rattle.pnm_image.specs.declared.shape.Shape.{Shape}
 use Rattle.pnm_image.specs.Heads.{IsWithinLimits}

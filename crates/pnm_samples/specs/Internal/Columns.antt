@@ -1,4 +1,4 @@
--- Between functions of this crate: columns of rows of pixels.
+-- Between functions: columns of rows of pixels.
 use Rattle.std.specs.Prelude.{◌≡◌, ℕ, ◌+◌, ◌-◌, ◌*◌, ◌/◌, ◌%◌, ◌<◌, ◌≤◌, List, [], get_or, length, Vec}
 use denote.Ref.{Bor}
 use Rattle.std.specs.Global.{Global}

@@ -1,5 +1,5 @@
--- Between functions of this crate: pixels of one bit in bytes: eight a byte, the most significant bit leftmost; 1 is
--- black, which is sample 0.
+-- Between functions: pixels of one bit in bytes: eight a byte, the most significant bit leftmost; 1 is black, which
+-- is sample 0.
 use Rattle.std.specs.Prelude.{ℕ, List, slice_index}
 use Rattle.std.specs.Int.{w8}
 use mir.Val.{Fits}

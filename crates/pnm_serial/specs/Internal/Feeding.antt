@@ -1,4 +1,4 @@
--- Between functions of this crate: what has passed from the source through the stages to the sink of a run.
+-- Between functions: what has passed from the source through the stages to the sink of a run.
 use Rattle.std.specs.Prelude.{◌≡◌, ◌⊎◌, ℕ, Bool, List, [], ◌++◌, Option, Result, Err}
 use Rattle.std.specs.Io.KnownBytes.{Consumes}
 use Rattle.pnm_image.specs.Devices.{Failed}

@@ -1,4 +1,4 @@
--- Between functions of this crate: what passes through the stages of a run in one thread.
+-- Between functions: what passes through the stages of a run in one thread.
 use Rattle.std.specs.Prelude.{ℕ, List, [], ◌∷◌, ◌++◌, map, Option, Bool}
 use Rattle.pnm_image.specs.declared.format.Form.{Form}
 use Rattle.pnm_image.specs.declared.message.Message.{Message}

@@ -1,4 +1,4 @@
--- Between functions of this crate: what a run in one thread answers, reads and writes besides.
+-- Between functions: what a run in one thread answers, reads and writes besides.
 use Rattle.std.specs.Prelude.{ℕ, List, Option, Some, None, Result, Ok, Err}
 use Rattle.pnm_read.specs.declared.fault.InputFault.{InputFault}
 use Rattle.pnm_tools.specs.declared.fault.ToolFault.{ToolFault}

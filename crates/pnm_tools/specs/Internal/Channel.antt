@@ -1,5 +1,5 @@
--- Between functions of this crate: the picked image, from pamchannel(1): a PAM image of planes of the image, in the
--- order in which they are named. Its tuple type is the one that is named.
+-- Between functions: the picked image, from pamchannel(1): a PAM image of planes of the image, in the order in which
+-- they are named.
 use Rattle.std.specs.Prelude.{ℕ, ◌+◌, ◌*◌, List, map, slice_index_or}
 use Rattle.std.specs.List.{flat_map, range_with_len}
 use Rattle.pnm_image.specs.declared.shape.Shape.{Shape}

@@ -1,6 +1,5 @@
--- Between functions of this crate: the flipped image, from pamflip(1): the same, flipped left for right, flipped top
--- for bottom, transposed, columns and rows exchanged, or turned counterclockwise by one, two or three quarters. Each
--- way is a rule as well: which orders are reversed, and whether columns and rows are exchanged then.
+-- Between functions: the flipped image, from pamflip(1): the same, flipped left for right, flipped top for bottom,
+-- transposed, columns and rows exchanged, or turned counterclockwise by one, two or three quarters.
 use Rattle.std.specs.Prelude.{ℕ, ◌-◌, if◌then◌else◌, Bool}
 use Rattle.pnm_image.specs.Heads.{HeadValue}
 use Rattle.pnm_image.specs.Images.{Image, sample_at}

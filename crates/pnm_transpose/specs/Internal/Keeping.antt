@@ -1,5 +1,5 @@
--- Between functions of this crate: what a transposer keeps while the rows of an image come, and the rows of the
--- result that it still gives.
+-- Between functions: what a transposer keeps while the rows of an image come, and the rows of the result that it
+-- still gives.
 use Rattle.std.specs.Prelude.{◌≡◌, ◌*◌, ◌<◌, ◌≤◌, ◌%◌, true}
 use Rattle.pnm_image.specs.declared.limits.TheConstants.{MAX_DEPTH, MAX_ROW_LENGTH}
 use Rattle.pnm_image.specs.declared.sample_width.SampleWidth.TheVariants.{Bits as OfBits}

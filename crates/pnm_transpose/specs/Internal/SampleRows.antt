@@ -1,4 +1,4 @@
--- Between functions of this crate: rows of one width of samples, and which columns of them are made side by side.
+-- Between functions: rows of one width of samples, and which columns of them are made side by side.
 use Rattle.std.specs.Prelude.{◌≡◌, ℕ, ◌%◌, ◌<◌, ◌≤◌, List, All}
 use Rattle.pnm_image.specs.declared.sample_width.SampleWidth.{SampleWidth}
 use Rattle.pnm_image.specs.declared.sample_width.SampleWidth.TheVariants.{Bits as OfBits, Bytes as OfBytes}

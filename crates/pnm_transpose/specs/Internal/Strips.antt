@@ -1,5 +1,4 @@
--- Between functions of this crate: rows of an image that are kept in strips: some rows each, with columns and rows
--- exchanged.
+-- Between functions: rows of an image that are kept in strips: some rows each, with columns and rows exchanged.
 use Rattle.std.specs.Prelude.{◌≡◌, ℕ, ◌*◌, ◌<◌, ◌≤◌, List, length, All, Bool}
 use Rattle.pnm_transpose.specs.declared.strip.TheConstants.{STRIP_ROWS}
 use Rattle.pnm_transpose.specs.Strips.{kept_count, coming_column, HaveSizes}

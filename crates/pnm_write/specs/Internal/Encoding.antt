@@ -1,5 +1,4 @@
--- Between functions of this crate: the bytes of images and of messages in either form. From pbm(5), pgm(5), ppm(5)
--- and pam(5), 'The layout'. There is no plain PAM: what is said of one means nothing.
+-- Between functions: the bytes of images and of messages in either form.
 use Rattle.std.specs.Prelude.{◌≡◌, ℕ, ◌%◌, List}
 use Rattle.std.specs.List.{flat_map}
 use Rattle.pnm_image.specs.declared.shape.Shape.{Shape}

@@ -1,4 +1,4 @@
--- Between functions of this crate: which messages were put into a sink, and which messages it refuses.
+-- Between functions: which messages were put into a sink, and which messages it refuses.
 use Rattle.std.specs.Prelude.{◌≡◌, Bool, List, [], ◌∷◌, Some}
 use Rattle.pnm_image.specs.declared.format.Form.{Form}
 use Rattle.pnm_image.specs.declared.message.Message.{Message}
