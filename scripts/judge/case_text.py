@@ -1,5 +1,5 @@
-"""How the programs of cases are written to, and how they tell: texts with escapes, messages, rows that are handed over
-together between braces, sweeps, and answers with the number from which on they are those."""
+"""How the programs of cases are written to, and how they tell: texts with escapes, messages, between braces those that
+are handed over together, sweeps, and answers with the number from which on they are those."""
 
 import re
 import zlib
@@ -39,7 +39,7 @@ def numbers_in(text):
 
 
 class Together(list):
-    """Rows that are handed over together."""
+    """What is handed over together: the head of an image, rows and its end, or some of these."""
 
 
 # a mark of a step, a head, a row, an end, or a brace
@@ -75,17 +75,19 @@ def parts_in(text):
 
 
 def handed_in(text):
-    """What a text hands over: messages, and rows together between braces; a number before them says how often they
-    come."""
-    handed, rows, times = [], None, 1
+    """What a text hands over: messages and marks, and messages together between braces; a number before these says how
+    often their rows come."""
+    handed, group, times = [], None, 1
     for part in parts_in(text):
         if isinstance(part, str) and part.startswith("{"):
-            rows, times = Together(), int(part[1:] or 1)
+            group, times = [], int(part[1:] or 1)
         elif part == "}":
-            handed.append(Together(rows * times))
-            rows = None
-        elif rows is not None:
-            rows.append(part)
+            rows = [it for it in group if is_row(it)]
+            heads, ends = [it for it in group if is_head(it)], [it for it in group if it == "ImageEnd"]
+            handed.append(Together(heads + rows * times + ends))
+            group = None
+        elif group is not None:
+            group.append(part)
         else:
             handed.append(part)
     return handed
@@ -114,19 +116,24 @@ class Sweep(list):
         return f" {len(self)} cases {zlib.crc32(''.join(self).encode()):08x}"
 
 
-# around rows that are handed over together, or a whole image, and what may stand between these
+# around what is handed over together, and what may stand between these: a head, rows and an end
 BRACES = re.compile(r" [{}]")
-ROWS = r"(?: \[[^]]*\])+"
-GROUP = re.compile(rf" \{{({ROWS}| {HEAD}{ROWS} ImageEnd) \}}")
+GROUP = re.compile(rf" \{{((?: {HEAD})?(?: \[[^]]*\])*(?: ImageEnd)?) \}}")
+TOGETHER = re.compile(rf"{HEAD}|\[[^]]*\]|ImageEnd")
+
+
+def without_braces(group):
+    """What stands between braces, with them if it is a head or an end alone."""
+    return group[1] if "[" in group[1] or len(TOGETHER.findall(group[1])) > 1 else group[0]
 
 
 class Apart(str):
-    """What a line tells, but for the braces around rows that are handed over together, or a whole image."""
+    """What a line tells, but for the braces around what is handed over together of an image."""
 
-    OPEN = "where braces stand around rows or an image, since these may go together or one by one"
+    OPEN = "where braces stand, since the head of an image, its rows and its end may go together or one by one"
 
     def allows(self, told):
-        return BRACES.search(GROUP.sub(r"\1", told)) is None and BRACES.sub("", told) == self
+        return BRACES.search(GROUP.sub(without_braces, told)) is None and BRACES.sub("", told) == self
 
 
 class OneOf(tuple):

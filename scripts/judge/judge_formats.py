@@ -1,8 +1,10 @@
 """What pnm_format_cases has to tell: of what is read of texts, and of what is written of messages (`slow_rows` has what
 it tells of rows)."""
 
+import re
+
 import slow_rows
-from case_text import Apart, Sweep, changes, handed_in, numbers_in, one_by_one, text_of
+from case_text import BRACES, Apart, Sweep, changes, handed_in, numbers_in, one_by_one, text_of
 from slow_reader import FORMATS, MOST, answers, answers_to_all, tell, tell_text
 from slow_reading import Reading, needs
 from slow_writer import Sink, Writer, lines_of
@@ -100,8 +102,9 @@ def want_of_source(word, rest):
     count, _, written = rest.partition(" ")
     if word == "held":
         return f" {count}" * READS
-    # the bytes of which the last answers are known; then no more are read
-    needed = needs(text_of(written))
+    # the bytes of which the last answers are known, an image's end with its last row; then no more are read
+    text = text_of(written)
+    needed = [count for count, answer in zip(needs(text), answers(text)) if answer != "ImageEnd"]
     return " 0" + "".join(f" {needed[min(number, len(needed) - 1)]}" for number in range(int(count)))
 
 
@@ -120,12 +123,17 @@ def want_of_reading(word, rest):
 
 
 class PlainApart(Apart):
-    """What a line tells of a plain image, but for the braces around rows, of which none stand around the last one."""
+    """What a line tells of a plain image, but for the braces around rows: its end comes with the last one alone."""
 
     OPEN = "where braces stand around plain rows, since those that are held may come together or one by one"
 
+    # the last row with the image's end
+    LAST = re.compile(r" \{ \[[^]]*\] ImageEnd \}")
+
     def allows(self, told):
-        return "ImageEnd }" not in told and "} ImageEnd" not in told and super().allows(told)
+        is_ended = len(self.LAST.findall(told)) == told.count(" ImageEnd")
+        has_rows_alone = told.count(" { [") == told.count(" {")
+        return is_ended and has_rows_alone and Apart(BRACES.sub("", self)).allows(told)
 
 
 def said_until(text, count):

@@ -1,5 +1,5 @@
 """What pnm_flow_cases has to tell of threads at rings whose messages are there before they begin: a stage, the dealing
-to lanes, the gathering from them, and a chain over lanes. Rows that lie in a ring together are passed on one by one, or
+to lanes, the gathering from them, and a chain over lanes. What lies in a ring together is passed on one by one, or
 together, as the tool likes."""
 
 import re
@@ -7,7 +7,7 @@ import re
 from case_text import Apart, OneOf, Together, handed_in, is_head, is_row, one_by_one
 from chain_text import read_chain
 from slow_reader import MOST, tell
-from slow_tools import Place, is_row_wise, named_tool, stage
+from slow_tools import Place, is_row_wise, keeps_images, named_tool, stage
 
 WORDS = ("stage", "deal", "gather", "chain", "heights")
 
@@ -63,20 +63,23 @@ def want_of_stage(tool, handed, room, gone):
     # that nobody takes it is seen where no place is left, and rows that came together may take one place
     if len(sent) <= room:
         return f" {end}{left}"
-    least = least_places(handed, sent)
+    least = least_places(tool, handed, sent)
     is_open = any(isinstance(it, Together) for it in handed) and least <= room
     return OneOf((f" {end}{left}", " PeerGone")) if is_open else " PeerGone"
 
 
-def least_places(handed, sent):
-    """How few places of a ring may take what is sent: one for all rows; or, where images came whole, one for each."""
-    if not any(isinstance(it, Together) and is_head(it[0]) for it in handed):
-        return sum(not is_row(it) for it in sent) + any(map(is_row, sent))
-    return sum(it != "ImageEnd" and not is_row(it) for it in sent)
+def least_places(tool, handed, sent):
+    """How few places of a ring may take what is sent: one for all rows; none for an end that comes with rows, or is
+    given with the last ones that the tool has kept; and none for rows where their head came with rows."""
+    groups = [it for it in handed if isinstance(it, Together)]
+    heads_join = any(is_head(it[0]) for it in groups)
+    ends_join = keeps_images(tool) or any(it[-1] == "ImageEnd" for it in groups)
+    alone = [it for it in sent if not is_row(it) and not (ends_join and it == "ImageEnd")]
+    return len(alone) + (not heads_join and len(alone) < len(sent))
 
 
 def may_go_together(handed, told):
-    """What is told, where rows that came together may go on so."""
+    """What is told, where messages that came together may go on so."""
     return Apart(told) if any(isinstance(it, Together) for it in handed) else told
 
 
@@ -167,7 +170,7 @@ def gather(lanes, sent):
         message = lanes[lane].pop(0) if lanes[lane] else None
         if message is None:
             send("Stop", "PeerGone")
-        # rows together are a message out of place, and one row is one by itself
+        # several together are a message out of place, and one row is one by itself
         if isinstance(message, Together):
             if len(message) > 1:
                 send("Stop", "Fault(OutOfOrder)")

@@ -5,7 +5,7 @@ import re
 from array import array
 from functools import lru_cache
 
-from case_text import Sweep, changes, is_row, numbers_in, parts_in, text_of
+from case_text import Sweep, Together, changes, handed_in, is_row, numbers_in, one_by_one, parts_in, text_of
 from chain_text import ChainFault, read_chain
 from slow_reader import Fault, tell, tell_head
 from slow_tools import Filter, Tool, is_lawful, is_row_wise, named_tool, printed, result_head, written_tool
@@ -138,18 +138,26 @@ def steps_of(tool, text):
     """What a tool gives by steps: a message after ! isn't followed by a look at what is given, of one after ~ a fault
     alone is told, and ? takes an answer."""
     at_work, told, mark = Filter(tool), [], ""
-    for part in parts_in(text):
-        if part in ("!", "~"):
-            mark = part
-        elif part == "?":
+    for it in handed_in(text):
+        if it in ("!", "~"):
+            mark = it
+        elif it == "?":
             answer = at_work.next() or "nothing"
             told += ["{", *answer, "}"] if isinstance(answer, list) else [answer]
-        elif part not in ("{", "}"):
-            fault = at_work.feed(part)
-            given = [fault] if fault else [] if mark == "!" else at_work.all()
-            told += given if fault or not mark else []
+        else:
+            for messages in handed_to(at_work, it):
+                fault = at_work.feed(*messages)
+                given = [fault] if fault else [] if mark == "!" else at_work.all()
+                told += given if fault or not mark else []
             mark = ""
     return told
+
+
+def handed_to(at_work, it):
+    """How messages are fed that are handed over together: so, or one by one if not all of them may come; a tool that
+    has refused is handed them together."""
+    is_fed_so = isinstance(it, Together) and (at_work.fault or at_work.may_come(it))
+    return [it] if is_fed_so else [[message] for message in one_by_one([it])]
 
 
 class Held:

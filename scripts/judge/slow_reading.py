@@ -55,8 +55,7 @@ class Reading:
         self.start, self.row, self.sample, self.maxval, self.rows = 0, 0, 1, None, 0
 
     def read(self):
-        """Tells all answers. Rows that come together stand between braces, and so does an image that comes at once,
-        unless rows come one by one."""
+        """Tells all answers. What comes together stands between braces, unless rows come one by one."""
         told, number = "", 0
         while number < len(self.whole):
             count = self.fetch(number)
@@ -64,25 +63,29 @@ class Reading:
                 return f"{told} ReadFailed"
             given = self.whole[number : number + count]
             told += f" {{{tell(given)} }}" if count > 1 and self.most_rows > 1 else tell(given)
-            passed = sum(isinstance(it, list) for it in given) if self.rows else 0
-            self.rows, self.start = self.rows - passed, self.start + passed * self.row
             number += count
         return told
 
     def fetch(self, number):
-        """Reads what an answer takes. How many come at once: rows that are held whole, an image that is, or one; none
-        where a read fails."""
+        """Reads what an answer takes. How many come at once, none where a read fails: the head of an image and rows
+        that are held whole then, or such rows, or one; and its end with its last row."""
         if self.rows:
             if not self.read_first():
                 return 0
-            return self.held_rows(number) or int(self.wait(number))
+            count = self.held_rows(number) or int(self.wait(number))
+            return count and self.with_end(number, count)
         if not self.wait(number):
             return 0
         if isinstance(self.whole[number], tuple):
             self.begin(number)
-            if 0 < self.rows <= self.most_rows and self.held_rows(number + 1) == self.rows:
-                return self.rows + 2
-        return 1
+            return self.with_end(number, 1 + self.held_rows(number + 1))
+        return self.with_end(number, 1)
+
+    def with_end(self, number, count):
+        """Passes the rows of so many answers. How many these are with the image's end, if it comes after them."""
+        passed = sum(isinstance(it, list) for it in self.whole[number : number + count]) if self.rows else 0
+        self.rows, self.start = self.rows - passed, self.start + passed * self.row
+        return count + (self.whole[number + count : number + count + 1] == ["ImageEnd"])
 
     def begin(self, number):
         """Begins an image, whose header ends where its head is known."""

@@ -8,6 +8,7 @@ import re
 import typing
 from array import array
 from collections import deque
+from copy import copy
 
 from slow_reader import MOST, Fault, judged
 from tool_table import TOOLS
@@ -273,35 +274,46 @@ class Filter:
         self.place, self.work = Place(), None
         self.fault, self.waiting, self.is_asked = None, deque(), False
 
-    def feed(self, message):
-        """Takes a message; the refusal, if there is one."""
-        if not self.fault:
-            try:
-                self.take(message)
-            except Fault as fault:
-                self.fault = str(fault)
+    def may_come(self, messages):
+        """Whether these may all come now."""
+        place = copy(self.place)
+        for message in messages:
+            if self.is_asked or not place.accepts(message):
+                return False
+            place.step(message)
+        return True
+
+    def feed(self, *messages):
+        """Takes a message, or messages together that may all come; the refusal, if there is one."""
+        if not self.fault and not self.may_come(messages):
+            self.fault = "OutOfOrder"
+        for message in messages:
+            if not self.fault:
+                try:
+                    self.take(message)
+                except Fault as fault:
+                    self.fault = str(fault)
+        # until None is answered, nothing more may come
+        self.is_asked = True
         return self.fault
 
     def take(self, message):
-        if self.is_asked or not self.place.accepts(message):
-            raise Fault("OutOfOrder")
         if isinstance(message, tuple):
             self.work = Work(self.tool, message)
             self.waiting.append(self.work.result)
         elif message == "ImageEnd":
             rows = self.work.last_answers()
-            self.waiting += [rows] if self.work.are_given_together(rows) else rows
-            self.waiting.append(message)
+            parts = 1 if self.work.are_given_together(rows) else max(1, len(rows))
+            # the end comes with the last rows
+            self.waiting += [*rows[: parts - 1], [*rows[parts - 1 :], message] if rows else message]
         elif isinstance(message, str):
             self.waiting.append(message)
         else:
             self.waiting += self.work.answers(message)
         self.place.step(message)
-        # until None is answered, nothing more may come
-        self.is_asked = True
 
     def next(self):
-        """The next answer, which is a list where rows are given together, the fault, or None."""
+        """The next answer, which is a list where messages are given together, the fault, or None."""
         if self.fault:
             return self.fault
         if self.waiting:

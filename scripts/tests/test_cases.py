@@ -223,12 +223,15 @@ class OpenParts(unittest.TestCase):
         for told in (
             " Well { Gray 2 1 1 9 [1 2] ImageEnd } StreamEnd",
             " Well Gray 2 1 1 9 { [1 2] } ImageEnd StreamEnd",
+            " Well { Gray 2 1 1 9 [1 2] } ImageEnd StreamEnd",
+            " Well Gray 2 1 1 9 { [1 2] ImageEnd } StreamEnd",
         ):
             self.assertTrue(allows(want, told), told)
         for told in (
-            " Well { Gray 2 1 1 9 [1 2] } ImageEnd StreamEnd",
-            " Well Gray 2 1 1 9 { [1 2] ImageEnd } StreamEnd",
             " Well { Gray 2 1 1 9 [1 2] ImageEnd StreamEnd }",
+            " Well Gray 2 1 1 9 [1 2] { ImageEnd StreamEnd }",
+            " { Well Gray 2 1 1 9 [1 2] } ImageEnd StreamEnd",
+            " Well { Gray 2 1 1 9 [1 2] ImageEnd StreamEnd",
         ):
             self.assertFalse(allows(want, told), told)
 

@@ -1,25 +1,29 @@
 -- How a tool at work gives what waits.
-use Rattle.std.proofs.Common.{◌≡◌, ◌≤◌, inl, inr, ℕ, true, List, [], ◌∷◌, ◌++◌, length, map, refl, sym, ap, subst, ◌∙◌, append_assoc, Option, Some, None, arith}
+use Rattle.std.proofs.Common.{◌≡◌, ◌≤◌, inl, inr, ℕ, true, List, [], ◌∷◌, ◌++◌, length, refl, sym, ap, subst, ◌∙◌, append_assoc, Option, Some, None, arith}
 use Rattle.std.specs.Prelude.{IfSome, IfNone}
 use Rattle.std.proofs.lemmas.List.{same_from_push}
 use Rattle.pnm_image.specs.declared.shape.Shape.{Shape}
 use Rattle.pnm_image.specs.declared.message.Message.{Message}
 use Rattle.pnm_image.specs.declared.message.Message.TheVariants.{Begin, Row, ImageEnd, StreamEnd, Stop}
 use Rattle.pnm_image.specs.declared.packet.Packet.{Packet}
-use Rattle.pnm_image.specs.declared.packet.Packet.TheVariants.{ImageEnd as EndsImage}
+use Rattle.pnm_image.specs.Heads.{HeadValue}
 use Rattle.pnm_image.specs.Packets.{messages_in}
 use Rattle.pnm_image.specs.declared.place.Place.{Place}
 use Rattle.pnm_image.specs.declared.place.Place.TheVariants.{Between, Inside, After}
 use Rattle.pnm_image.specs.Places.{IsLawfulFrom, place_after, place_of}
 use Rattle.pnm_image.proofs.Places.{place_of-append}
 use Rattle.pnm_tools.specs.declared.fault.ToolFault.{ToolFault}
-use Rattle.pnm_filters.specs.Pendings.{Pending, AllGiven, Waiting, Rows, RowsAndEnd, Nothing}
+use Rattle.pnm_filters.specs.declared.pending.Pending.{Pending}
+use Rattle.pnm_filters.specs.declared.pending.Phase.{Phase}
+use Rattle.pnm_filters.specs.declared.pending.Phase.TheVariants.{Idle, Rows, RowsAndEnd, Done}
+use Rattle.pnm_filters.specs.declared.pending.Phase.TheVariants.{StreamEnd as GivesEnd, Stop as GivesStop}
+use Rattle.pnm_filters.specs.Pendings.{is_all_given, is_idle, waiting_by, waiting_in}
 use Rattle.pnm_tools.specs.declared.tool.Tool.{Tool}
 use Rattle.pnm_image.specs.declared.message.Ending.TheVariants.{More, BrokenOff}
 use Rattle.pnm_image.specs.Messages.{EndsBy}
 use Rattle.pnm_tools.specs.Answers.{AnswersInFull}
 use Rattle.pnm_tools.specs.Answering.{answers_from, rows_come}
-use Rattle.pnm_filters.specs.States.{StateValue, IsAt, IsReadyFor, KeepsNone, is_all_given, waiting_in}
+use Rattle.pnm_filters.specs.States.{StateValue, IsAt, SuitsPlace}
 use Rattle.pnm_filters.specs.Internal.States.{state_value}
 use Rattle.pnm_tools.specs.Answering.{IsAnswering}
 use Rattle.pnm_filters.specs.Internal.Steps.{IsGiven, GivesRows}
@@ -28,30 +32,6 @@ use Rattle.pnm_tools.proofs.FullLaws.{answering_in_full}
 use Rattle.pnm_tools.proofs.InFullLaws.{answers_end_so}
 use Rattle.pnm_tools.proofs.AnsweringLaws.{answers_from-append}
 use Rattle.pnm_tools.proofs.ToolLaws.{tool_answers_images}
-
--- the image's end is given, after which no rows are kept
-none_inside : {W : Type 0} (ready_for : W → Shape → List (List ℕ) → Type 0) (kept : W → List (List ℕ)) (old new : W) (place : Place) (rows : List (List ℕ))
-    → KeepsNone kept old place RowsAndEnd → IsReadyFor ready_for old place rows → IsReadyFor ready_for new place rows
-none_inside ready_for kept old new Between rows none r = r
-none_inside ready_for kept old new (Inside s y) rows none r = absurd none
-none_inside ready_for kept old new After rows none r = r
-
-none_kept : {W : Type 0} (kept : W → List (List ℕ)) (old new : W) (place : Place) → kept new ≡ [] → KeepsNone kept old place RowsAndEnd
-    → KeepsNone kept new place Nothing
-none_kept kept old new Between gone none = gone
-none_kept kept old new (Inside s y) gone none = tt
-none_kept kept old new After gone none = gone
-
-pub ended : {W : Type 0} (tool_at : W → Tool) (ready_for : W → Shape → List (List ℕ) → Type 0) (due kept : W → List (List ℕ)) (old new : W) (before : Pending)
-    → before ≡ RowsAndEnd → due old ≡ [] → tool_at new ≡ tool_at old → kept new ≡ []
-    → IsGiven tool_at ready_for due kept old before new Nothing (Some EndsImage)
-ended tool_at ready_for due kept old new before ending none same gone = record {
-  waits = ap (λ (p : Pending). waiting_in p (due old)) ending ∙ ap (λ (rows : List (List ℕ)). map Row rows ++ ImageEnd ∷ []) none;
-  none_due = (ap is_all_given ending, refl, omega arith);
-  tool = same;
-  ready = λ place rows keeps r. none_inside ready_for kept old new place rows (subst (KeepsNone kept old place) ending keeps) r;
-  none = λ place keeps. none_kept kept old new place gone (subst (KeepsNone kept old place) ending keeps);
-}
 
 -- the first of the messages that waited are given
 pub gave : {W : Type 0} (tool_at : W → Tool) (ready_for : W → Shape → List (List ℕ) → Type 0) (due kept : W → List (List ℕ)) (old : StateValue W) (new : W)
@@ -70,8 +50,8 @@ gave tool_at ready_for due kept old new after fault p t l g at gives =
       options = at.options;
       answering = waits;
       place = at.place;
-      ready = gives.ready old.place (rows_come [] l) at.none at.ready;
-      none = gives.none old.place at.none;
+      ready = gives.ready old.place (rows_come [] l) at.suits at.ready;
+      suits = gives.suits old.place at.suits;
       answers = answering_answers t l (g ++ messages_in p) rest (tool_answers_images t at.options) waits;
     }
 
@@ -81,15 +61,15 @@ is_full : {W : Type 0} (tool_at : W → Tool) (ready_for : W → Shape → List 
     → IsAt tool_at ready_for due kept old t l g → IsGiven tool_at ready_for due kept old.work old.pending new after None
     → IsAt tool_at ready_for due kept (state_value new old.place after fault) t l g × AnswersInFull t l g
 is_full tool_at ready_for due kept old new after fault t l g at gives =
-    let none : waiting_in after (due new) ≡ [] = ap (λ (p : Pending). waiting_in p (due new)) gives.none_due in
+    let none : waiting_in after (due new) ≡ [] = ap (λ (p : Phase). waiting_by p after.head after.ahead (due new)) gives.none_due in
     let all : IsAnswering t l g [] = subst (IsAnswering t l g) (gives.waits ∙ none) at.answering in (
       record {
         tool = gives.tool ∙ at.tool;
         options = at.options;
         answering = subst (IsAnswering t l g) gives.waits at.answering;
         place = at.place;
-        ready = gives.ready old.place (rows_come [] l) at.none at.ready;
-        none = gives.none old.place at.none;
+        ready = gives.ready old.place (rows_come [] l) at.suits at.ready;
+        suits = gives.suits old.place at.suits;
         answers = at.answers;
       },
       answering_in_full t l g (tool_answers_images t at.options) all,
@@ -110,15 +90,16 @@ stopped_after l (inl on) ends = absurd (not_broken l on ends)
 stopped_after l (inr h) ends = ap (place_of Between) h.1 ∙ place_of-append Between h.0 (Stop ∷ [])
 
 -- rows are given within the stream
-no_rows_after : {W : Type 0} (kept : W → List (List ℕ)) (work : W) (place : Place) (pending : Pending) → GivesRows pending → KeepsNone kept work place pending
+no_rows_after : {W : Type 0} (due kept : W → List (List ℕ)) (work : W) (place : Place) (phase : Phase) → GivesRows phase → SuitsPlace due kept work place phase
     → place ≡ After → ⊥
-no_rows_after kept work Between pending gives none e = cc
-no_rows_after kept work (Inside s y) pending gives none e = cc
-no_rows_after kept work After AllGiven gives none e = gives
-no_rows_after kept work After (Waiting message) gives none e = gives
-no_rows_after kept work After Rows gives none e = none
-no_rows_after kept work After RowsAndEnd gives none e = none
-no_rows_after kept work After Nothing gives none e = gives
+no_rows_after due kept work Between phase gives suits e = cc
+no_rows_after due kept work (Inside s y) phase gives suits e = cc
+no_rows_after due kept work After Idle gives suits e = gives
+no_rows_after due kept work After Rows gives suits e = suits
+no_rows_after due kept work After RowsAndEnd gives suits e = suits
+no_rows_after due kept work After GivesEnd gives suits e = gives
+no_rows_after due kept work After GivesStop gives suits e = gives
+no_rows_after due kept work After Done gives suits e = gives
 
 -- of some messages that are the first of one, there is that one
 one_alone : (message : Message) (first rest : List Message) → 1 ≤ length first → message ∷ [] ≡ first ++ rest → first ≡ message ∷ []
@@ -126,16 +107,17 @@ one_alone message [] rest some e = let no : ⊥ = omega (arith, some) in absurd 
 one_alone message (m ∷ []) rest some e = ap (λ (x : Message). x ∷ []) cc
 one_alone message (m ∷ n ∷ first) rest some e = absurd cc
 
-alone : (before : Pending) (due : List (List ℕ)) (first rest : List Message) → 1 ≤ length first → waiting_in before due ≡ first ++ rest
-    → (GivesRows before → ⊥)
-    → (m : Message) × (first ≡ m ∷ []) × (waiting_in before due ≡ m ∷ [])
-alone AllGiven due [] rest some e none = let no : ⊥ = omega (arith, some) in absurd no
-alone AllGiven due (m ∷ first) rest some e none = absurd cc
-alone (Waiting message) due first rest some e none = (message, one_alone message first rest some e, refl)
-alone Rows due first rest some e none = absurd (none tt)
-alone RowsAndEnd due first rest some e none = absurd (none tt)
-alone Nothing due [] rest some e none = let no : ⊥ = omega (arith, some) in absurd no
-alone Nothing due (m ∷ first) rest some e none = absurd cc
+alone : (phase : Phase) (head : Option HeadValue) (ahead : Option (List (List ℕ))) (due : List (List ℕ)) (first rest : List Message) → 1 ≤ length first
+    → waiting_by phase head ahead due ≡ first ++ rest → (GivesRows phase → ⊥)
+    → (m : Message) × (first ≡ m ∷ []) × (waiting_by phase head ahead due ≡ m ∷ [])
+alone Idle head ahead due [] rest some e none = let no : ⊥ = omega (arith, some) in absurd no
+alone Idle head ahead due (m ∷ first) rest some e none = absurd cc
+alone Rows head ahead due first rest some e none = absurd (none tt)
+alone RowsAndEnd head ahead due first rest some e none = absurd (none tt)
+alone GivesEnd head ahead due first rest some e none = (StreamEnd, one_alone StreamEnd first rest some e, refl)
+alone GivesStop head ahead due first rest some e none = (Stop, one_alone Stop first rest some e, refl)
+alone Done head ahead due [] rest some e none = let no : ⊥ = omega (arith, some) in absurd no
+alone Done head ahead due (m ∷ first) rest some e none = absurd cc
 
 pub gave_stop : {W : Type 0} (tool_at : W → Tool) (ready_for : W → Shape → List (List ℕ) → Type 0) (due kept : W → List (List ℕ)) (old : StateValue W) (new : W)
     (after : Pending) (p : Packet) (t : Tool) (l g : List Message)
@@ -143,8 +125,9 @@ pub gave_stop : {W : Type 0} (tool_at : W → Tool) (ready_for : W → Shape →
     → messages_in p ≡ Stop ∷ []
 gave_stop tool_at ready_for due kept old new after p t l g at gives ends =
     let stops = lawful_stops Between l at.answering.lawful in
-    let last = alone old.pending (due old.work) (messages_in p) (waiting_in after (due new)) gives.none_due.2 gives.waits
-    (λ rows. no_rows_after kept old.work old.place old.pending rows at.none (at.place ∙ stopped_after l stops ends)) in
+    let last = alone old.pending.phase old.pending.head old.pending.ahead (due old.work) (messages_in p) (waiting_in after (due new)) gives.none_due.2
+    gives.waits
+    (λ rows. no_rows_after due kept old.work old.place old.pending.phase rows at.suits (at.place ∙ stopped_after l stops ends)) in
     last.1 ∙ ap (λ (m : Message). m ∷ []) (stop_waits t l g last.0 (subst (IsAnswering t l g) last.2 at.answering) stops ends)
 
 -- ---- whether one waits or none
@@ -173,7 +156,7 @@ pub full_by : {W : Type 0} (tool_at : W → Tool) (ready_for : W → Shape → L
     × ((t : Tool) (l g : List Message) → IsAt tool_at ready_for due kept old t l g
     → IsAt tool_at ready_for due kept (state_value new old.place after fault) t l g × AnswersInFull t l g))
 full_by tool_at ready_for due kept old new after fault None gives =
-    (ap is_all_given gives.none_due, λ t l g at. is_full tool_at ready_for due kept old new after fault t l g at gives)
+    (ap is_idle gives.none_due, λ t l g at. is_full tool_at ready_for due kept old new after fault t l g at gives)
 full_by tool_at ready_for due kept old new after fault (Some p) gives = tt
 
 -- ---- want of memory
@@ -201,8 +184,8 @@ more_of_prefix (m ∷ n ∷ a) b e = (e.0, more_of_prefix (n ∷ a) b e.1)
 
 pub wanted_memory : {W : Type 0} (tool_at : W → Tool) (ready_for : W → Shape → List (List ℕ) → Type 0) (due kept : W → List (List ℕ)) (old : StateValue W)
     (t : Tool) (l g : List Message)
-    → IsAt tool_at ready_for due kept old t l g → GivesRows old.pending → EndsBy More g
+    → IsAt tool_at ready_for due kept old t l g → GivesRows old.pending.phase → EndsBy More g
 wanted_memory tool_at ready_for due kept old t l g at rows =
     let goes : EndsBy More l =
-    more_of_place Between l at.answering.lawful (λ e. no_rows_after kept old.work old.place old.pending rows at.none (at.place ∙ e)) in
+    more_of_place Between l at.answering.lawful (λ e. no_rows_after due kept old.work old.place old.pending.phase rows at.suits (at.place ∙ e)) in
     more_of_prefix g (waiting_in old.pending (due old.work)) (subst (EndsBy More) at.answering.given (answers_end_so t Between [] l More goes))

@@ -1,5 +1,5 @@
+pub mod TakingSteps
 pub mod StateSteps
 pub mod GivingSteps
 pub mod RowStateSteps
 pub mod StartSteps
-pub mod TakingSteps

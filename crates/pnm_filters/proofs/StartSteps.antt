@@ -5,7 +5,9 @@ use Rattle.pnm_filters.specs.declared.any_tool.AnyTool.{AnyTool}
 use Rattle.pnm_tools.specs.Answers.{Answers, AnswersInFull}
 use Rattle.pnm_filters.specs.declared.row_state.RowState.{RowState}
 use Rattle.pnm_filters.specs.RowStates.{IsRowWiseAt, IsFreshLane}
-use Rattle.pnm_filters.specs.States.{StateValue, IsToolAt, IsFreshTool, is_all_given}
+use Rattle.pnm_filters.specs.AnyTools.{IsToolAt, IsFreshTool}
+use Rattle.pnm_filters.specs.Pendings.{is_all_given}
+use Rattle.pnm_filters.specs.States.{StateValue}
 use Rattle.pnm_tools.proofs.DueSoFarLaws.{nothing_yet}
 use Rattle.pnm_tools.specs.FusedFilters.{IsIdle}
 

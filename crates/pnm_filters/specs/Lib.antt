@@ -1,4 +1,5 @@
 pub mod Pendings
 pub mod States
+pub mod AnyTools
 pub mod RowStates
 pub mod Internal

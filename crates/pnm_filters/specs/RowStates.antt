@@ -6,7 +6,8 @@ use Rattle.pnm_tools.specs.declared.tool.Tool.{Tool}
 use Rattle.pnm_tools.specs.Dealing.{IsRowWise}
 use Rattle.pnm_tools.specs.FusedFilters.{FilterAt}
 use Rattle.pnm_tools.specs.declared.fused_filter.FusedFilter.{FusedFilter}
-use Rattle.pnm_filters.specs.States.{IsToolAt, is_all_given}
+use Rattle.pnm_filters.specs.AnyTools.{IsToolAt}
+use Rattle.pnm_filters.specs.Pendings.{is_all_given}
 
 -- the state of this tool, which is row-wise, has accepted these messages and given those
 pub record IsRowWiseAt (s : RowState) (t : Tool) (l g : List Message) : Type 0 where

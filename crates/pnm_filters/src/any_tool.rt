@@ -48,7 +48,7 @@ pub enum AnyTool {
 }
 
 impl ImageTool for AnyTool {
-    ghost use Rattle.pnm_filters.specs.States.{tool_of, IsReady, due_of, kept_of};
+    ghost use Rattle.pnm_filters.specs.AnyTools.{tool_of, IsReady, due_of, kept_of};
 
     ghost tool = { tool_of };
 

@@ -2,9 +2,12 @@
 #![tactic(auto)]
 
 mod any_tool;
+mod give;
 mod head;
+mod pending;
 mod row_state;
 mod state;
+mod take;
 mod tool_methods;
 mod tool_state;
 

@@ -6,11 +6,12 @@ ghost use Rattle.pnm_tools.specs.declared.fault.ToolFault.TheVariants.{Memory};
 ghost use Rattle.pnm_tools.specs.declared.tool.Tool.{Tool as ToolValue};
 ghost use Rattle.pnm_tools.specs.Dealing.{IsRowWise};
 ghost use Rattle.pnm_filters.specs.RowStates.{IsRowWiseAt, IsFreshLane, RowWiseAt};
-ghost use Rattle.pnm_filters.specs.States.{is_all_given, waiting_in, due_of};
+ghost use Rattle.pnm_filters.specs.AnyTools.{due_of};
+ghost use Rattle.pnm_filters.specs.Pendings.{is_all_given, waiting_in};
 ghost use Rattle.pnm_tools.specs.Tools.{IsLawfulTool, is_row_wise};
 
 use crate::tool_state::{ToolState, start_tool};
-use pnm_image::{Message, Packet, Rows};
+use pnm_image::Packet;
 use pnm_tools::{Filter, FusedFilter, Tool, ToolFault};
 use std::alloc::Global;
 
@@ -38,16 +39,14 @@ impl Filter for RowState {
 
     ghost at_answers = { λ s tool accepted given at. at.state.answers };
 
-    fn feed(&mut self, message: Message) -> Result<(), ToolFault> {
-        self.state.feed(message)
+    #[inline(always)]
+    fn feed(&mut self, packet: Packet) -> Result<Result<(), ToolFault>, Packet> {
+        self.state.feed(packet)
     }
 
+    #[inline(always)]
     fn next(&mut self) -> Result<Option<Packet>, ToolFault> {
         self.state.next()
-    }
-
-    fn feed_rows(&mut self, rows: Rows) -> Result<Result<(), ToolFault>, Rows> {
-        self.state.feed_rows(rows)
     }
 }
 

@@ -4,7 +4,7 @@ ghost use Rattle.std.specs.Prelude.{◌≡◌, ◌⊎◌, true, IfOk, IfErr, Ok,
 ghost use Rattle.pnm_tools.specs.declared.fault.ToolFault.TheVariants.{Memory};
 ghost use Rattle.pnm_tools.specs.declared.tool.Tool.{Tool as ToolValue};
 ghost use Rattle.pnm_filters.specs.RowStates.{IsFreshLane};
-ghost use Rattle.pnm_filters.specs.States.{IsFreshTool};
+ghost use Rattle.pnm_filters.specs.AnyTools.{IsFreshTool};
 ghost use Rattle.pnm_tools.specs.Tools.{IsLawfulTool, TakesHead, is_row_wise, result_head};
 
 use crate::head::result_head;

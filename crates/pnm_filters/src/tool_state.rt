@@ -3,7 +3,7 @@
 ghost use Rattle.std.specs.Prelude.{◌≡◌, [], IfOk, IfErr, Ok, None};
 ghost use Rattle.pnm_tools.specs.declared.fault.ToolFault.TheVariants.{Memory};
 ghost use Rattle.pnm_tools.specs.declared.tool.Tool.TheVariants.{Flip};
-ghost use Rattle.pnm_filters.specs.States.{IsFreshTool, kept_of, tool_of, ToolAt};
+ghost use Rattle.pnm_filters.specs.AnyTools.{IsFreshTool, kept_of, tool_of, ToolAt};
 ghost use Rattle.pnm_tools.specs.Tools.{IsLawfulTool};
 
 use crate::any_tool::AnyTool;

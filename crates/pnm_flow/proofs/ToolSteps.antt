@@ -7,7 +7,7 @@ use Rattle.pnm_filters.specs.States.{StateValue}
 use Rattle.pnm_tools.specs.Tools.{IsLawfulTool}
 use Rattle.pnm_tools.specs.declared.fused_filter.FusedFilter.{FusedFilter}
 use Rattle.pnm_flow.specs.Internal.SerialTools.{ToolsAt, AreFresh}
-use Rattle.pnm_filters.specs.States.{ToolAt}
+use Rattle.pnm_filters.specs.AnyTools.{ToolAt}
 
 -- one tool more
 pub fresh_more : (stages : List (FusedFilter (StateValue AnyTool))) (tools : List Tool) (stage : FusedFilter (StateValue AnyTool)) (tool : Tool)

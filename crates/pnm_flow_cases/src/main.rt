@@ -14,7 +14,7 @@
 //! - `stage ROOM GONE (TOOL) MESSAGES`, `deal LANES GONE MESSAGES`, `gather ROOM GONE MESSAGES|MESSAGES`: how a stage
 //!   over rings ends, the dealing to lanes and the gathering from lanes; what is left of what came, and what is sent
 //!   (`rings`); an end of a ring is gone: `input`, `inputs`, `output`, that of a lane by its number, or none of them.
-//!   Rows between braces lie in a ring together, and so does a whole image
+//!   Messages between braces lie in a ring together
 //! - `chain LANES (CHAIN) MESSAGES`: how each tool of a chain over LANES lanes ends; what is left of what came, and
 //!   what is sent
 //! - `heights LANES HEIGHT`: how many rows of an image each lane gets

@@ -1,5 +1,5 @@
 //! Threads at rings whose messages are there before they begin: a stage, the dealing to lanes, the gathering from them,
-//! and a chain over lanes. Rows between braces lie in a ring together, and so does a whole image.
+//! and a chain over lanes. Messages between braces lie in a ring together.
 
 ghost use Rattle.std.specs.Prelude.{IfOk};
 ghost use Rattle.pnm_tools.specs.Chains.{IsChain};
@@ -70,7 +70,7 @@ fn write_ring(
     }
     for _ in 0..CAPACITY {
         if input.has_message() {
-            write_packet(alloc, out, input.receive_known())?;
+            write_packet(alloc, out, &input.receive_known())?;
         }
     }
     Ok(())

@@ -27,8 +27,7 @@
 //! - `fails TEXT`: the answers if one of the reads of a byte each fails, by the number of reads before it
 //! - `reads MOST FAILING TEXT`: the answers, and what each read asked for and got: a read gives at most MOST bytes, and
 //!   read FAILING fails, none for 0
-//! - `together MOST FAILING TEXT`: the same where as many rows come together as may: those that come so stand between
-//!   braces, and so does an image that comes at once
+//! - `together MOST FAILING TEXT`: the same where as many rows come together as may, what comes so between braces
 //! - `reads_by SIZE MOST FAILING TEXT`, `together_by ..`: the same through a buffer of SIZE bytes
 //! - `ahead COUNT TEXT`: how many reads of a byte each were made before the first answer, and after each
 //! - `held COUNT TEXT`: for each number of bytes a read, for how many of COUNT answers the source rightly tells
@@ -39,7 +38,7 @@
 //! - `image TEXT`, then `streams`, `after TEXT`: how many texts, and the CRC-32 of the answers, to these images one
 //!   after another, and to them with a text after them
 //!
-//! Of what a sink writes, and which messages it refuses (`write`); rows between braces are put together:
+//! Of what a sink writes, and which messages it refuses (`write`); those between braces are put together:
 //!
 //! - `raw MESSAGES`, `plain MESSAGES`: the faults, how the stream ends, and the bytes, however wide rows are held
 //! - `sips FORM MOST WRITE FLUSH MESSAGES`: the faults, how the stream ends, and the bytes if a write takes up to MOST

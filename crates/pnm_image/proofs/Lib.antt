@@ -2,6 +2,7 @@ pub mod CopyLaws
 pub mod Heads
 pub mod HeldRowLaws
 pub mod Lists
+pub mod PartLaws
 pub mod Places
 pub mod RepeatLaws
 pub mod RowLaws

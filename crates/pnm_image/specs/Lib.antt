@@ -7,6 +7,7 @@ pub mod Messages
 pub mod Places
 pub mod Repeats
 pub mod Rows
+pub mod Parts
 pub mod Packets
 pub mod Images
 pub mod Completion

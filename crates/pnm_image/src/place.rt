@@ -1,16 +1,17 @@
 //! The place in a stream, and which message may come there.
 
-ghost use Rattle.std.specs.Prelude.{◌≡◌, ◌≤◌, ◌↔◌, [], ◌∷◌, ◌++◌, IsTrue};
+ghost use Rattle.std.specs.Prelude.{◌≡◌, ◌≤◌, ◌↔◌, IsTrue};
 ghost use Rattle.std.specs.List.{AllByRecursion};
-ghost use Rattle.pnm_image.specs.declared.message.Message.TheVariants.{Begin, ImageEnd};
 ghost use Rattle.pnm_image.specs.Packets.{messages_in};
+ghost use Rattle.pnm_image.specs.Parts.{head_messages, end_messages, rest_messages};
 ghost use Rattle.pnm_image.specs.Places.{Accepts, IsRowOf, LeadsTo, place_after};
 ghost use Rattle.pnm_image.specs.Repeats.{repeated};
-ghost use Rattle.pnm_image.specs.Rows.{row_messages};
+ghost use Rattle.pnm_image.specs.Rows.{row_messages, rows_list};
 
 use crate::head::Head;
 use crate::message::Message;
 use crate::packet::Packet;
+use crate::repeated_rows::RepeatedRows;
 use crate::rows::Rows;
 use crate::shape::Shape;
 use pnm_samples::Samples;
@@ -59,13 +60,10 @@ impl Place {
         ensures { LeadsTo self.now (messages_in packet.now) result }
     {
         match packet {
-            Packet::Begin(head) => self.after_head(head),
-            Packet::Rows(rows) => {
-                let (held, times) = rows.parts();
-                self.after_rows(held, times)
+            Packet::Part(part) => {
+                let (head, rows, ends_image) = part.parts();
+                self.after_head(head)?.after_rest(rows, ends_image)
             }
-            Packet::Image(head, rows) => self.after_image(head, rows),
-            Packet::ImageEnd => self.after_end(),
             Packet::StreamEnd => match self {
                 Place::Between => Some(Place::After),
                 Place::Inside(_, _) | Place::After => None,
@@ -77,33 +75,46 @@ impl Place {
         }
     }
 
-    /// The place after a whole image, or `None` if it can't come here, or has other rows than its head says.
-    fn after_image(&self, head: &Head, rows: &Rows) -> Option<Place>
-        ensures { LeadsTo self.now (Begin head.now ∷ row_messages rows.now ++ ImageEnd ∷ []) result }
+    /// The place after the head of an image, if it comes, or `None` if none can begin here.
+    #[inline(always)]
+    fn after_head(&self, head: &Option<Head>) -> Option<Place>
+        ensures { LeadsTo self.now (head_messages head.now) result }
     {
-        let Some(inside) = self.after_head(head) else {
-            return None;
-        };
-        match inside.after_rows(rows, 1) {
-            Some(behind) => behind.after_end(),
+        match (head, self) {
+            (None, _) => Some(*self),
+            (Some(head), Place::Between) => Some(Place::Inside(head.shape(), 0)),
+            (Some(_), Place::Inside(_, _) | Place::After) => None,
+        }
+    }
+
+    /// The place after the rows, if some come, and the end of the image, or `None` if one of these can't come here.
+    #[inline(always)]
+    fn after_rest(&self, rows: &Option<RepeatedRows>, ends_image: bool) -> Option<Place>
+        ensures { LeadsTo self.now (rest_messages rows.now ends_image) result }
+    {
+        match self.after_rows(rows) {
+            Some(behind) => behind.after_end(ends_image),
             None => None,
         }
     }
 
-    /// The place after the head of an image, or `None` if none can begin here.
+    /// The place after the rows, if some come, or `None` if one of them can't come here.
     #[inline(always)]
-    fn after_head(&self, head: &Head) -> Option<Place>
-        ensures { LeadsTo self.now (Begin head.now ∷ []) result }
+    fn after_rows(&self, rows: &Option<RepeatedRows>) -> Option<Place>
+        ensures { LeadsTo self.now (row_messages (rows_list rows.now)) result }
     {
-        match self {
-            Place::Between => Some(Place::Inside(head.shape(), 0)),
-            Place::Inside(_, _) | Place::After => None,
+        match rows {
+            Some(rows) => {
+                let (held, times) = rows.parts();
+                self.after_copies(held, times)
+            }
+            None => Some(*self),
         }
     }
 
     /// The place after the rows, which come `times` times, one after another, or `None` if one of them can't come
     /// here.
-    pub fn after_rows(&self, rows: &Rows, times: u32) -> Option<Place>
+    fn after_copies(&self, rows: &Rows, times: u32) -> Option<Place>
         requires some { 1 ≤ times }
         ensures { LeadsTo self.now (row_messages (repeated times rows.now)) result }
     {
@@ -119,12 +130,13 @@ impl Place {
         }
     }
 
-    /// The place after the end of an image, or `None` if none can end here.
+    /// The place after the end of an image, if it comes, or `None` if none can end here.
     #[inline(always)]
-    fn after_end(&self) -> Option<Place>
-        ensures { LeadsTo self.now (ImageEnd ∷ []) result }
+    fn after_end(&self, ends_image: bool) -> Option<Place>
+        ensures { LeadsTo self.now (end_messages ends_image) result }
     {
         match self {
+            _ if !ends_image => Some(*self),
             Place::Inside(shape, y) if *y == shape.height => Some(Place::Between),
             _ => None,
         }

@@ -65,30 +65,13 @@ impl RepeatedRows {
         self.times > 1 || count > 1
     }
 
-    /// The rows, if they come once.
-    ///
-    /// # Errors
-    ///
-    /// The same, if they come several times.
-    #[inline(always)]
-    pub fn into_once(self) -> Result<Rows, RepeatedRows>
-        ensures once { IfOk result (λ rows. rows ≡ self) }
-        ensures several { IfErr result (λ same. same ≡ self) }
-    {
-        if self.times == 1 {
-            Ok(self.rows)
-        } else {
-            Err(self)
-        }
-    }
-
     /// The row, if there is only one, and it comes once.
     ///
     /// # Errors
     ///
     /// The same, if there are several.
     #[inline(always)]
-    pub(crate) fn into_one(self) -> Result<Samples, RepeatedRows>
+    pub fn into_one(self) -> Result<Samples, RepeatedRows>
         ensures one { IfOk result (λ row. self ≡ row ∷ []) }
         ensures several { IfErr result (λ same. (same ≡ self) × (2 ≤ length self)) }
     {
@@ -97,6 +80,25 @@ impl RepeatedRows {
         } else {
             Ok(self.rows.into_first())
         }
+    }
+
+    /// All rows one after another, a copy of the group for each time that it comes. Rows that come once are as they are
+    /// held, without a copy.
+    ///
+    /// # Errors
+    ///
+    /// If there is no memory for the copies.
+    pub fn into_rows(self, alloc: Global) -> Result<Rows, AllocError>
+        ensures { IfOk result (λ rows. rows ≡ self) }
+    {
+        let (rows, times) = self.into_parts();
+        if times == 1 {
+            return Ok(rows);
+        }
+        if rows.count().checked_mul(times).is_none() {
+            return Err(AllocError);
+        }
+        repeat_rows(alloc, &rows, times)
     }
 
     /// The rows as they are held, and how many times they come, without a copy.

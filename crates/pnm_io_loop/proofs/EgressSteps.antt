@@ -3,7 +3,7 @@ use Rattle.std.proofs.Common.{◌≡◌, ℕ, Bool, true, false, List, [], ◌�
 use Rattle.pnm_stages.specs.Rings.{received}
 use Rattle.pnm_image.specs.declared.format.Form.{Form}
 use Rattle.pnm_image.specs.declared.message.Message.{Message}
-use Rattle.pnm_image.specs.declared.packet.Packet.TheVariants.{Begin as Begins, Rows, Image, ImageEnd as EndsImage, StreamEnd as EndsStream, Stop as Stops}
+use Rattle.pnm_image.specs.declared.packet.Packet.TheVariants.{Part, StreamEnd as EndsStream, Stop as Stops}
 use Rattle.pnm_image.specs.Packets.{messages_in, ending_of_packet}
 use Rattle.pnm_image.specs.Messages.{without_stop, EndsBy}
 use Rattle.pnm_image.specs.declared.message.Ending.{Ending}
@@ -20,25 +20,23 @@ use Rattle.pnm_stages.proofs.PrefixLaws.{stop_is_cut}
 -- ---- a packet behind messages
 
 -- whether they have ended then
-pub ends_by : (e : Ending) (b : Bool) (l : List Message) (p : Packet) → b ≡ false → EndedBy b l → ending_of_packet p ≡ e → EndsBy e (l ++ messages_in p)
-ends_by e true l p going ended same = absurd cc
-ends_by e false l p going ended same = ends_as_packet e l p ended same
+pub ends_by : (e : Ending) (b : Bool) (l : List Message) (p : Packet) → EndsBy (ending_of_packet p) (messages_in p) → b ≡ false → EndedBy b l
+    → ending_of_packet p ≡ e → EndsBy e (l ++ messages_in p)
+ends_by e true l p ends going ended same = absurd cc
+ends_by e false l p ends going ended same = ends_as_packet e l p ends ended same
 
 -- every message but Stop is written
-pub keeps_packet : (e : Ending) (b : Bool) (l : List Message) (p : Packet) → IsUnbroken e → b ≡ false → EndedBy b l → ending_of_packet p ≡ e
-    → without_stop l ++ messages_in p ≡ without_stop (l ++ messages_in p)
-keeps_packet e true l p unbroken going ended same = absurd cc
-keeps_packet e false l p unbroken going ended same =
+pub keeps_packet : (e : Ending) (b : Bool) (l : List Message) (p : Packet) → EndsBy (ending_of_packet p) (messages_in p) → IsUnbroken e → b ≡ false
+    → EndedBy b l → ending_of_packet p ≡ e → without_stop l ++ messages_in p ≡ without_stop (l ++ messages_in p)
+keeps_packet e true l p ends unbroken going ended same = absurd cc
+keeps_packet e false l p ends unbroken going ended same =
     ap (λ (x : List Message). x ++ messages_in p) (unbroken_keeps_all More l tt ended)
-    ∙ sym (unbroken_keeps_all e (l ++ messages_in p) unbroken (ends_as_packet e l p ended same))
+    ∙ sym (unbroken_keeps_all e (l ++ messages_in p) unbroken (ends_as_packet e l p ends ended same))
 
 pub cuts_stop : (b : Bool) (l : List Message) (p : Packet) → b ≡ false → EndedBy b l → ending_of_packet p ≡ BrokenOff
     → without_stop l ≡ without_stop (l ++ messages_in p)
 cuts_stop true l p going ended same = absurd cc
-cuts_stop false l (Begins head) going ended same = absurd cc
-cuts_stop false l (Rows rows) going ended same = absurd cc
-cuts_stop false l (Image head rows) going ended same = absurd cc
-cuts_stop false l EndsImage going ended same = absurd cc
+cuts_stop false l (Part part) going ended same = absurd cc
 cuts_stop false l EndsStream going ended same = absurd cc
 cuts_stop false l Stops going ended same = unbroken_keeps_all More l tt ended ∙ sym (stop_is_cut l)
 

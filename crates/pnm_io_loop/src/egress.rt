@@ -1,7 +1,8 @@
 //! What comes behind the tools of a run: the ring that their results come from, and what is written of them.
 
 ghost use Rattle.std.specs.Prelude.{◌≡◌, ◌<◌, ◌⊎◌, [], ◌++◌, List, length, IsTrue, IsFalse, true, false};
-ghost use Rattle.pnm_image.specs.Packets.{messages_in};
+ghost use Rattle.pnm_image.specs.Messages.{EndsBy};
+ghost use Rattle.pnm_image.specs.Packets.{messages_in, ending_of_packet};
 ghost use Rattle.pnm_stages.specs.Rings.{received, sent, known_items, known_packets, IsPair};
 ghost use Rattle.pnm_stages.specs.Rings.{SameSender, SameReceiver};
 ghost use Rattle.pnm_image.specs.declared.format.Form.{Form as FormValue};
@@ -173,6 +174,7 @@ impl<W: BytesOut + Drop> Egress<W> {
 #[inline(always)]
 fn put<W: BytesOut + Drop>(fused_sink: &mut FusedSink<W>, has_ended: &mut bool, packet: &Packet)
     requires going { has_ended.old ≡ false }
+    requires ends { EndsBy (ending_of_packet packet.now) (messages_in packet.now) }
     ensures put { (form : FormValue) (start : W) (l : List MessageValue)
         → HasReceived W.held W.failures form start l has_ended.old fused_sink.old
         → HasReceived W.held W.failures form start (l ++ messages_in packet.now) has_ended.new fused_sink.new }
@@ -190,9 +192,11 @@ fn put<W: BytesOut + Drop>(fused_sink: &mut FusedSink<W>, has_ended: &mut bool, 
 
 /// Drops the packet, but keeps its rows as a spare row.
 fn recycle(packet: Packet, spares: &mut SpareRows) {
-    match packet {
-        Packet::Rows(rows) => spares.keep_rows(rows.into_parts().0),
-        Packet::Image(_, rows) => spares.keep_rows(rows),
-        Packet::Begin(_) | Packet::ImageEnd | Packet::StreamEnd | Packet::Stop => {}
+    let Packet::Part(part) = packet else {
+        return;
+    };
+    let (_, rows, _) = part.into_parts();
+    if let Some(rows) = rows {
+        spares.keep_rows(rows.into_parts().0);
     }
 }

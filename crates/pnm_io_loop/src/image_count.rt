@@ -10,10 +10,10 @@ use pnm_image::Packet;
 pub fn count_image(images: &mut u64, packet: &Packet)
     ensures { images.new ≡ images_in images.old (messages_in packet.now) }
 {
-    match packet {
-        Packet::Image(_, _) => *images = images.saturating_add(1),
-        Packet::ImageEnd => *images = images.saturating_add(1),
-        Packet::Rows(_) => {}
-        Packet::Begin(_) | Packet::StreamEnd | Packet::Stop => {}
+    let Packet::Part(part) = packet else {
+        return;
+    };
+    if part.parts().2 {
+        *images = images.saturating_add(1);
     }
 }

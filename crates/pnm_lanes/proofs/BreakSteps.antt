@@ -4,7 +4,7 @@ use Rattle.std.proofs.Common.{append_assoc, append-nil}
 use Rattle.std.specs.List.{AllByRecursion}
 use Rattle.pnm_image.specs.declared.packet.Packet.{Packet}
 use Rattle.pnm_stages.specs.declared.sender.Sender.{Sender}
-use Rattle.pnm_image.specs.Packets.{messages_in, ending_of_packet}
+use Rattle.pnm_image.specs.Packets.{messages_in}
 use Rattle.pnm_stages.specs.Rings.{sent}
 use Rattle.pnm_image.specs.declared.message.Message.{Message}
 use Rattle.pnm_image.specs.declared.message.Message.TheVariants.{Stop}
@@ -30,7 +30,7 @@ use Rattle.pnm_lanes.specs.Deals.{AtEach, HasReceivedSo, HasSentSo, HasLane, Has
 use Rattle.pnm_lanes.specs.Internal.DealParts.{part_at, IsSentPart, HasBrokenOffDealing, HasDealtAll, IsReason, HasLeftOff, HasDealtMessages}
 use Rattle.pnm_lanes.proofs.EachLaws.{each-map, each-then}
 use Rattle.pnm_lanes.proofs.MessageSteps.{all_then, dealt_then}
-use Rattle.pnm_lanes.proofs.DealSteps.{HasAll, IsDealing, packet_ends_so, parts_of, HasPrefix, all_is_prefix, part_is_prefix, IsAccepted, all_accepted}
+use Rattle.pnm_lanes.proofs.DealSteps.{HasAll, IsDealing, parts_of, HasPrefix, all_is_prefix, part_is_prefix, IsAccepted, all_accepted}
 use Rattle.pnm_lanes.proofs.DealSteps.{accepted_more, whole_lane, sent_lane, lost_lane}
 
 -- ---- why it was broken off
@@ -250,12 +250,12 @@ interrupts end ending place received_old received_now received_new l olds nows n
 pub interrupts_packet : (end : StageEnd) (ending : Ending) (place here : Place) (received_old received_now received_new : List Message)
     (olds nows news : List Sender) (packet : Packet) (unsent : Option StageEnd)
     → IsDealing More place received_old received_now olds nows → received_new ≡ received_now ++ messages_in packet
-    → AllByRecursion IsMessage (messages_in packet) → ending_of_packet packet ≡ ending
+    → AllByRecursion IsMessage (messages_in packet) → EndsBy ending (messages_in packet)
     → HasDealtMessages place here (messages_in packet) unsent nows news → unsent ≡ Some end
     → IsInterrupted end ending received_old received_new olds news
 interrupts_packet end ending place here received_old received_now received_new olds nows news packet unsent dealing added are ends left some =
     interrupts end ending place received_old received_now received_new (messages_in packet) olds nows news dealing added are
-    (packet_ends_so ending packet ends)
+    ends
     (subst (λ (u : Option StageEnd). HasDealtMessages place here (messages_in packet) u nows news) some left)
 
 goes_within : (before : List Message) (m : Message) (after : List Message) → EndNothing (before ++ m ∷ after) → ending_of m ≡ More

@@ -4,7 +4,7 @@ use Rattle.std.proofs.Common.{append-nil}
 use Rattle.std.specs.List.{AllByRecursion}
 use Rattle.pnm_image.specs.declared.packet.Packet.{Packet}
 use Rattle.pnm_stages.specs.declared.sender.Sender.{Sender}
-use Rattle.pnm_image.specs.Packets.{messages_in, ending_of_packet}
+use Rattle.pnm_image.specs.Packets.{messages_in}
 use Rattle.pnm_stages.specs.Rings.{sent, SameSender}
 use Rattle.pnm_image.specs.declared.message.Message.{Message}
 use Rattle.pnm_image.specs.declared.message.Message.TheVariants.{Stop}
@@ -22,7 +22,6 @@ use Rattle.pnm_tools.proofs.InFullLaws.{ends_after}
 use Rattle.pnm_tools.proofs.SoundLaws.{both_all}
 use Rattle.pnm_stages.specs.declared.stage.StageEnd.{StageEnd}
 use Rattle.pnm_stages.specs.declared.stage.StageEnd.TheVariants.{Well, Broken, PeerGone}
-use Rattle.pnm_stages.proofs.PacketLaws.{ends_with_packet}
 use Rattle.pnm_stages.proofs.RingSteps.{ends_nothing, same_output}
 use Rattle.pnm_stages.proofs.PrefixLaws.{stop_is_cut}
 use Rattle.pnm_lanes.specs.Deals.{AtEach, HasSentSo, IsPrefixOfDealt, HasLane, HasDealt}
@@ -103,19 +102,15 @@ deals_on ending place received_old received_now received_new l olds nows news de
       lanes = all.1;
     }
 
--- as a packet does
-pub packet_ends_so : (ending : Ending) (packet : Packet) → ending_of_packet packet ≡ ending → EndsBy ending (messages_in packet)
-packet_ends_so ending packet same = subst (λ (e : Ending). EndsBy e (messages_in packet)) same (ends_with_packet [] packet refl)
-
 -- a packet was dealt
 pub deals_packet : (ending : Ending) (place here : Place) (received_old received_now received_new : List Message) (olds nows news : List Sender)
     (packet : Packet) (unsent : Option StageEnd)
     → IsDealing More place received_old received_now olds nows → received_new ≡ received_now ++ messages_in packet
-    → AllByRecursion IsMessage (messages_in packet) → ending_of_packet packet ≡ ending
+    → AllByRecursion IsMessage (messages_in packet) → EndsBy ending (messages_in packet)
     → HasDealtMessages place here (messages_in packet) unsent nows news → unsent ≡ None → IsDealing ending here received_old received_new olds news
 deals_packet ending place here received_old received_now received_new olds nows news packet None dealing added are ends parts none =
     subst (λ (p : Place). IsDealing ending p received_old received_new olds news) (sym parts.0)
-    (deals_on ending place received_old received_now received_new (messages_in packet) olds nows news dealing added are (packet_ends_so ending packet ends)
+    (deals_on ending place received_old received_now received_new (messages_in packet) olds nows news dealing added are ends
     parts.1)
 deals_packet ending place here received_old received_now received_new olds nows news packet (Some end) dealing added are ends parts none = absurd cc
 

@@ -18,7 +18,6 @@ use Rattle.pnm_lanes.specs.Gathers.{at_lane, AreSameInputs}
 use Rattle.std.specs.List.{AllByRecursion}
 use Rattle.pnm_image.specs.declared.packet.Packet.{Packet}
 use Rattle.pnm_image.specs.Packets.{messages_in, ending_of_packet}
-use Rattle.pnm_stages.proofs.PacketLaws.{ends_with_packet}
 use Rattle.pnm_lanes.specs.Internal.GatherParts.{state_at, state_by, HasDrainedOne, IsLane, CarriesOn}
 use Rattle.pnm_lanes.proofs.DealtParts.{all_of_both}
 use Rattle.pnm_lanes.proofs.LaneLists.{at_lane-get, at_lane-set, at_lane-others, same_inputs, as_many}
@@ -53,9 +52,8 @@ taken_by BrokenOff old new left taken added are ends = record { more = taken; ad
 
 -- what a place of the ring held was taken
 pub packet_taken : (packet : Packet) (old new left : List Message) → new ≡ old ++ messages_in packet → AllByRecursion IsMessage (messages_in packet)
-    → HasDrainedOne (Some (state_by (ending_of_packet packet))) old new left
-packet_taken packet old new left added are =
-    taken_by (ending_of_packet packet) old new left (messages_in packet) added are (ends_with_packet [] packet refl)
+    → EndsBy (ending_of_packet packet) (messages_in packet) → HasDrainedOne (Some (state_by (ending_of_packet packet))) old new left
+packet_taken packet old new left added are ends = taken_by (ending_of_packet packet) old new left (messages_in packet) added are ends
 
 -- one message more, or none
 one_lane : (s : LaneState) (start old new left : List Message) → Extends start old (EndsBy More) → HasDrainedOne (Some s) old new left → IsLane s start new left

@@ -109,12 +109,12 @@ pub record HasGathered (end : StageEnd) (lanes : ℕ) (received_old received_new
 
 -- ---- where rows come together
 
--- whether rows that were sent together were received on one of these ends
+-- whether messages that were sent together were received on one of these ends
 abbrev pub have_received_rows : List Receiver → Bool
 have_received_rows inputs = list_any has_received_rows inputs
 
--- a gatherer has refused rows that came together in a lane's ring: Stop was sent and each lane has ended. What was sent
--- before is what may be sent where the other end of a ring was seen dropped.
+-- a gatherer has refused messages that came together in a lane's ring: Stop was sent and each lane has ended. What was
+-- sent before is what may be sent where the other end of a ring was seen dropped.
 pub record HasRefusedRows (inputs : List Receiver) (lanes : ℕ) (received_old received_new seen : ℕ → List Message)
     (sent_old sent_new : List Message) : Type 0 where
   pub together : IsTrue (have_received_rows inputs)
@@ -122,7 +122,7 @@ pub record HasRefusedRows (inputs : List Receiver) (lanes : ℕ) (received_old r
   pub ended : (lane : ℕ) → lane < lanes → IsEnded (gathered.took lane)
   pub stopped : IsStopped gathered.gave
 
--- by whatever comes on these ends: a gatherer has ended as where each row comes by itself, or by OutOfOrder
+-- by whatever comes on these ends: a gatherer has ended as where each message comes by itself, or by OutOfOrder
 abbrev pub HasGatheredOrRefused : StageEnd → List Receiver → ℕ → (ℕ → List Message) → (ℕ → List Message)
     → (ℕ → List Message) → List Message → List Message → Type 0
 HasGatheredOrRefused end inputs lanes received_old received_new seen sent_old sent_new =

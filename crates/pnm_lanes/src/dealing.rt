@@ -2,8 +2,8 @@
 
 ghost use Rattle.std.specs.Prelude.{◌≡◌, ◌⊎◌, ◌<◌, ◌≤◌, ◌∷◌, ◌++◌, [], length, IfSome, IsTrue, IsFalse};
 ghost use Rattle.pnm_image.specs.declared.message.Ending.TheVariants.{More, Whole, BrokenOff};
-ghost use Rattle.pnm_image.specs.Rows.{row_messages};
-ghost use Rattle.pnm_image.specs.declared.message.Message.TheVariants.{Begin, ImageEnd};
+ghost use Rattle.pnm_image.specs.Parts.{rest_messages};
+ghost use Rattle.pnm_image.specs.Rows.{row_messages, rows_list};
 ghost use Rattle.pnm_image.specs.Packets.{messages_in};
 ghost use Rattle.pnm_stages.specs.Rings.{sent, received, known_items, SameReceiver};
 ghost use Rattle.pnm_image.specs.Places.{Accepts};
@@ -16,7 +16,7 @@ ghost use Rattle.pnm_lanes.specs.Internal.DealParts.{IsRow, IsSameEnd, part_at, 
 ghost use Rattle.pnm_lanes.specs.Internal.DealParts.{HasDealtMessages, HasBrokenOffDealing};
 ghost use Rattle.pnm_lanes.specs.declared.lane.TheConstants.{MAX_LANES};
 
-use pnm_image::{Ending, Head, Message, Packet, Place, RepeatedRows, Rows, Samples, Several};
+use pnm_image::{Ending, Message, Packet, Place, RepeatedRows, Rows, Samples};
 use pnm_stages::{Receiver, Sender, StageEnd};
 use pnm_tools::ToolFault;
 use std::alloc::Global;
@@ -35,7 +35,7 @@ pub struct DealDone {
 
 /// Deals what comes on `input` to lanes, one for each of the `outputs`, of which there are 1 to 8. Row y of an image
 /// goes to lane y mod the number of lanes, both counted from 0; it is moved, or copied if it comes together with
-/// others or within a whole image. Each lane gets a copy of each head, with the number of the lane's rows as the
+/// other rows. Each lane gets a copy of each head, with the number of the lane's rows as the
 /// height, and each end of an image and of the stream.
 ///
 /// The faults are `OutOfOrder`, if a message can't come at its place, and `Memory`, if there is no memory for the copy
@@ -107,8 +107,8 @@ fn is_end_dealt(end: StageEnd, ending: Ending) -> bool
     }
 }
 
-/// Deals a message, rows that came together, or a whole image, and goes on to the place after them. If not all can be
-/// dealt, returns how the dealing ends; some may have been dealt.
+/// Deals the messages of a packet, and goes on to the place after them. If not all can be dealt, returns how the
+/// dealing ends; some may have been dealt.
 fn deal_packet<R: Wait>(
     rt: &R,
     alloc: Global,
@@ -119,46 +119,59 @@ fn deal_packet<R: Wait>(
     requires { IsLaneCount (length outputs.old) }
     ensures { HasDealtMessages place.old place.new (messages_in packet) result outputs.old outputs.new }
 {
-    match packet.into_message() {
-        Ok(message) => deal_message(rt, place, message, outputs),
-        Err(Several::Rows(rows)) => deal_repeated(rt, alloc, place, &rows, outputs),
-        Err(Several::Image(head, rows)) => deal_image(rt, alloc, place, head, &rows, outputs),
-    }
-}
-
-/// Deals the head, each of the rows, and the end of an image, as if each had come by itself.
-fn deal_image<R: Wait>(
-    rt: &R,
-    alloc: Global,
-    place: &mut Place,
-    head: Head,
-    rows: &Rows,
-    outputs: &mut [Sender],
-) -> Option<StageEnd>
-    requires { IsLaneCount (length outputs.old) }
-    ensures { HasDealtMessages place.old place.new (Begin head ∷ row_messages rows.now ++ ImageEnd ∷ []) result
-        outputs.old outputs.new }
-{
+    let part = match packet.into_message() {
+        Ok(message) => return deal_message(rt, place, message, outputs),
+        Err(part) => part,
+    };
+    let (head, rows, ends_image) = part.into_parts();
+    let Some(head) = head else {
+        return deal_rest(rt, alloc, place, rows, ends_image, outputs);
+    };
     if let Some(end) = deal_message(rt, place, Message::Begin(head), outputs) {
         return Some(end);
     }
-    if let Some(end) = deal_rows(rt, alloc, place, rows, outputs) {
-        return Some(end);
-    }
-    deal_message(rt, place, Message::ImageEnd, outputs)
+    deal_rest(rt, alloc, place, rows, ends_image, outputs)
 }
 
-/// Deals each of the rows by itself, as a copy, each time that they come.
+/// Deals the rows and the end of an image, if they come, as if each had come by itself.
+fn deal_rest<R: Wait>(
+    rt: &R,
+    alloc: Global,
+    place: &mut Place,
+    rows: Option<RepeatedRows>,
+    ends_image: bool,
+    outputs: &mut [Sender],
+) -> Option<StageEnd>
+    requires { IsLaneCount (length outputs.old) }
+    ensures { HasDealtMessages place.old place.new (rest_messages rows ends_image) result outputs.old outputs.new }
+{
+    if let Some(end) = deal_repeated(rt, alloc, place, rows, outputs) {
+        return Some(end);
+    }
+    if ends_image {
+        return deal_message(rt, place, Message::ImageEnd, outputs);
+    }
+    None
+}
+
+/// Deals each of the rows by itself, as a copy, each time that they come; a single row isn't copied.
 fn deal_repeated<R: Wait>(
     rt: &R,
     alloc: Global,
     place: &mut Place,
-    rows: &RepeatedRows,
+    rows: Option<RepeatedRows>,
     outputs: &mut [Sender],
 ) -> Option<StageEnd>
     requires { IsLaneCount (length outputs.old) }
-    ensures { HasDealtMessages place.old place.new (row_messages rows.now) result outputs.old outputs.new }
+    ensures { HasDealtMessages place.old place.new (row_messages (rows_list rows)) result outputs.old outputs.new }
 {
+    let Some(rows) = rows else {
+        return None;
+    };
+    let rows = match rows.into_one() {
+        Ok(row) => return deal_message(rt, place, Message::Row(row), outputs),
+        Err(rows) => rows,
+    };
     let (held, times) = rows.parts();
     for _time in 0..times {
         if let Some(end) = deal_rows(rt, alloc, place, held, outputs) {

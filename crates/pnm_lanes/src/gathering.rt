@@ -37,8 +37,8 @@ struct GatherEnd {
 /// Puts together what comes on `inputs`, one for each lane, and sends it on `output`. Row y comes from lane y mod the
 /// number of lanes, and a head is that of each lane, with the height of the whole image. It ends `Well` with the end of
 /// the stream, once each lane has given that; `Broken` if a lane gives Stop; and by `Fault(OutOfOrder)` if the lanes
-/// don't agree, if a message is out of place, or if rows or a whole image come together: no lane sends these, and to
-/// take them apart would take memory. After `Broken` and `Fault` it has sent Stop and drained all lanes; it tries them
+/// don't agree, if a message is out of place, or if several messages come together: no lane sends these, and to take
+/// them apart would take memory. After `Broken` and `Fault` it has sent Stop and drained all lanes; it tries them
 /// in turn, and waits for none alone. If the other end of a ring was seen dropped, it ends by `PeerGone`, and has sent
 /// Stop, if there is someone to take it, and drained the lanes. It takes no memory.
 ///
@@ -63,8 +63,8 @@ pub fn gather<R: Wait>(rt: &R, inputs: Vec<Receiver>, output: Sender) -> GatherD
     }
 }
 
-/// As `gather`, from the lanes of a tool, which send each row by itself. If rows come together, it ends by `PeerGone`,
-/// once Stop is sent and all lanes are drained.
+/// As `gather`, from the lanes of a tool, which send each message by itself. If several come together, it ends by
+/// `PeerGone`, once Stop is sent and all lanes are drained.
 pub fn gather_from_lanes<R: Wait>(rt: &R, inputs: Vec<Receiver>, output: Sender) -> GatherDone
     requires { IsLaneCount (length inputs.items) }
     ensures inputs { AreSameInputs inputs.items result.inputs.items }
@@ -83,7 +83,7 @@ pub fn gather_from_lanes<R: Wait>(rt: &R, inputs: Vec<Receiver>, output: Sender)
     }
 }
 
-/// Puts all messages together, or refuses rows that come together.
+/// Puts all messages together, or refuses those that come together.
 fn gather_or_refuse<R: Wait>(rt: &R, inputs: &mut [Receiver], output: &mut Sender) -> StageEnd
     requires some { 1 ≤ length inputs.old }
     requires few { length inputs.old ≤ MAX_LANES }
@@ -103,7 +103,7 @@ fn gather_or_refuse<R: Wait>(rt: &R, inputs: &mut [Receiver], output: &mut Sende
     end
 }
 
-/// Whether rows that were sent together were received on one of these ends.
+/// Whether several messages that were sent together were received on one of these ends.
 fn have_received_rows(inputs: &[Receiver]) -> bool
     ensures { result ≡ have_received_rows inputs.now }
 {

@@ -24,8 +24,8 @@ pub enum LaneState {
 }
 
 /// Receives the next message of a lane that hasn't ended. Returns `Broken` if it is Stop. Returns `PeerGone` once the
-/// lane's ring is empty and its other end was seen dropped, and if rows that were sent together come next, which no
-/// lane sends; they stay in the ring.
+/// lane's ring is empty and its other end was seen dropped, and if several messages that were sent together come next,
+/// which no lane sends; they stay in the ring.
 pub fn receive_from<R: Wait>(
     rt: &R,
     inputs: &mut [Receiver],

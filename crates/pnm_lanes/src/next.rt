@@ -17,7 +17,7 @@ pub const OUT_OF_ORDER: StageEnd = StageEnd::Fault(ToolFault::OutOfOrder);
 
 /// Receives the next message of the whole stream. Returns `Broken` if a lane gives Stop, and `Fault` if the lanes don't
 /// agree on the message, or it is out of place. Returns `PeerGone` if a lane's other end was seen dropped before, and
-/// if rows come together, which stay in the lane's ring.
+/// if several messages come together, which stay in the lane's ring.
 pub fn receive_next<R: Wait>(
     rt: &R,
     inputs: &mut [Receiver],

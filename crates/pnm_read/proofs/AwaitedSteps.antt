@@ -1,31 +1,35 @@
 -- The packets of a source, by what it awaits.
 use Rattle.pnm_image.specs.Formats.{is_plain_form}
 use Rattle.std.proofs.Common.{◌≡◌, ℕ, ◌+◌, ◌-◌, ◌<◌, Bool, true, false, List, [], ◌∷◌, length, Option, ◌==◌, sym, Result, Ok, Err, inl}
-use Rattle.std.proofs.Common.{inr, refl, ap, subst, ◌∙◌, arith}
+use Rattle.std.proofs.Common.{inr, refl, ap, ap₂, subst, ◌∙◌, arith, ◌++◌, ◌≤◌, Some, None, append_assoc}
+use Rattle.std.specs.Prelude.{IfSome, IsSomeAnd, MatchOption}
+use Rattle.std.proofs.lemmas.List.{length-append, length-map}
 use Rattle.std.proofs.lemmas.Bool.Decides.{nat_tests}
 use Rattle.pnm_image.specs.declared.shape.Shape.{Shape}
-use Rattle.pnm_image.specs.declared.message.Message.TheVariants.{Begin, ImageEnd}
+use Rattle.pnm_image.specs.declared.message.Message.{Message}
+use Rattle.pnm_image.specs.declared.message.Message.TheVariants.{Begin, Row as RowMessage, ImageEnd}
+use Rattle.pnm_image.specs.Packets.{messages_in}
+use Rattle.pnm_image.specs.Parts.{head_messages, end_messages}
 use Rattle.pnm_image.specs.declared.packet.Packet.{Packet}
-use Rattle.pnm_image.specs.declared.packet.Packet.TheVariants.{Begin as Begins, Rows, Image, ImageEnd as EndsImage, StreamEnd as EndsStream}
+use Rattle.pnm_image.specs.declared.packet.Packet.TheVariants.{StreamEnd as EndsStream}
 use Rattle.pnm_image.specs.Heads.{HeadValue}
-use Rattle.pnm_image.specs.Rows.{row_messages}
+use Rattle.pnm_image.specs.Rows.{row_messages, rows_list}
 use Rattle.pnm_read.specs.declared.fault.InputFault.{InputFault}
 use Rattle.pnm_read.specs.declared.fault.InputFault.TheVariants.{ReadFailed, Memory}
 use Rattle.pnm_image.specs.declared.format.Format.{Format}
 use Rattle.pnm_read.specs.declared.buffered_reader.BufferedReader.{BufferedReader}
 use Rattle.pnm_read.specs.declared.raster.Raster.{Raster}
 use Rattle.pnm_read.specs.declared.source.Awaited.{Awaited}
-use Rattle.pnm_read.specs.declared.source.Awaited.TheVariants.{FirstImage, RowOrEnd, ImageOrEnd, End}
+use Rattle.pnm_read.specs.declared.source.Awaited.TheVariants.{FirstImage, Row, ImageOrEnd, End}
 use Rattle.pnm_read.specs.declared.source.State.{State}
-use Rattle.pnm_read.specs.declared.source.State.TheVariants.{Awaits, Ended}
-use Rattle.pnm_read.specs.Said.{Said, text_said, later_said, format_at, head_at, format_said, head_said, image_said, rows_said, then_said, after_messages}
-use Rattle.pnm_read.specs.Said.{in_turn, raw_row}
+use Rattle.pnm_read.specs.declared.source.State.TheVariants.{Ended}
+use Rattle.pnm_read.specs.Said.{text_said, later_said, format_at, head_at, format_said, head_said, image_said, rows_said, then_said, after_messages}
 use Rattle.pnm_read.proofs.EndSaid.{end_said}
 use Rattle.pnm_read.specs.BufferedReaders.{held_of}
 use Rattle.pnm_read.specs.Internal.BufferedReaders.{ReadCall, Fills, Finds, HoldsEnough}
-use Rattle.pnm_read.specs.Awaiting.{due_at}
-use Rattle.pnm_read.specs.Internal.Awaiting.{Gives, GivesAtStart, SeesText, awaited_after}
-use Rattle.pnm_read.specs.Internal.RasterRows.{FindsRows}
+use Rattle.pnm_read.specs.Awaiting.{due_at, state_due}
+use Rattle.pnm_read.specs.Internal.Awaiting.{Gives, GivesAtStart, MayBeGiven, SeesText}
+use Rattle.pnm_read.specs.Internal.RasterRows.{TakesRows, due_after}
 use Rattle.pnm_read.proofs.GivenLaws.{after-append}
 use Rattle.pnm_read.proofs.ReadCalls.{no_fault, call_ok_so, call_err_so, call_seen, nothing_left, some_left}
 use Rattle.pnm_read.proofs.RowsTogether.{rows_are_said}
@@ -49,7 +53,7 @@ no_head is_first state format k b m a f (inl e) = inl (ap (format_said later_sai
 no_head is_first state format k b m a f (inr o) = inr o
 
 rows_due : (format : Format) (head : HeadValue) (raster : Raster) (a : List ℕ) → raster.format ≡ format → raster.shape ≡ head.shape → raster.y ≡ 0
-    → rows_said later_said format head.shape head.shape.height a ≡ due_at (RowOrEnd raster) a
+    → rows_said later_said format head.shape head.shape.height a ≡ due_at (Row raster) a
 rows_due format head raster a rf rs ry =
     let rows : raster.shape.height - raster.y ≡ head.shape.height = let same = ap (λ (s : Shape). s.height) rs in omega arith in
     rw (rf, rows, rs) refl
@@ -57,43 +61,36 @@ rows_due format head raster a rf rs ry =
 head_is_said : (is_first : Bool) (format : Format) (head : HeadValue) (raster : Raster) (b m a : List ℕ)
     → Finds (format_at is_first) (Ok format) b m → Finds (head_at format) (Ok head) m a
     → raster.format ≡ format → raster.shape ≡ head.shape → raster.y ≡ 0
-    → image_said later_said is_first b ≡ then_said (Begin head) (due_at (RowOrEnd raster) a)
+    → image_said later_said is_first b ≡ then_said (Begin head) (due_at (Row raster) a)
 unfolding image_said
 head_is_said is_first format head raster b m a f h rf rs ry =
     ap (format_said later_said) f ∙ ap (head_said later_said format) h ∙ ap (then_said (Begin head)) (rows_due format head raster a rf rs ry)
 
--- a header, and its raster
-pub begins : (is_first : Bool) (format : Format) (head : HeadValue) (raster : Raster) (b m a : List ℕ)
-    → Finds (format_at is_first) (Ok format) b m → Finds (head_at format) (Ok head) m a
-    → raster.format ≡ format → raster.shape ≡ head.shape → raster.y ≡ 0 → GivesAtStart is_first (Ok (Begins head)) (Awaits (RowOrEnd raster)) b a
-begins is_first format head raster b m a f h rf rs ry = (head_is_said is_first format head raster b m a f h rf rs ry, tt)
+-- a header, and the rows that come next of its raster
+pub begins : (is_first : Bool) (format : Format) (head : HeadValue) (raster : Raster) (rows : List (List ℕ)) (packet : Packet) (state : State)
+    (b m t a : List ℕ) → Finds (format_at is_first) (Ok format) b m → Finds (head_at format) (Ok head) m t
+    → raster.format ≡ format → raster.shape ≡ head.shape → raster.y ≡ 0
+    → due_at (Row raster) t ≡ after_messages (row_messages rows) (due_after (length rows) raster a)
+    → after_messages (head_messages (Some head) ++ row_messages rows) (due_after (length rows) raster a)
+    ≡ after_messages (messages_in packet) (state_due state a)
+    → MayBeGiven packet state → GivesAtStart is_first (Ok packet) state b a
+begins is_first format head raster rows packet state b m t a f h rf rs ry come said given =
+    (head_is_said is_first format head raster b m t f h rf rs ry ∙ ap (then_said (Begin head)) come ∙ said, given)
 
--- what is said after an image
-end_due : (is_plain : Bool) (text : List ℕ) → end_said later_said is_plain text ≡ due_at (awaited_after is_plain) text
-end_due true text = refl
-end_due false text = refl
-
--- a header, all rows, and the end of the image
-pub begins_whole : (is_first : Bool) (format : Format) (head : HeadValue) (raster : Raster) (rows : List (List ℕ)) (after : Awaited) (b m t a : List ℕ)
-    → Finds (format_at is_first) (Ok format) b m → Finds (head_at format) (Ok head) m t
-    → raster.format ≡ format → raster.shape ≡ head.shape → raster.y ≡ 0 → is_plain_form raster.format.form ≡ false → length rows ≡ raster.shape.height
-    → after ≡ awaited_after (is_plain_form format.form) → in_turn (raw_row raster.shape) (length rows) t ≡ Ok (rows, a)
-    → GivesAtStart is_first (Ok (Image head rows)) (Awaits after) b a
-unfolding rows_said
-begins_whole is_first format head raster rows after b m t a f h rf rs ry raw all is_after e =
-    let s : Shape = raster.shape in
-    let n : ℕ = s.height - raster.y in
-    let none_left : n ≡ length rows + 0 = omega (arith, all, ry) in
-    let end : Said = then_said ImageEnd (due_at after a) in
-    let ends : rows_said later_said raster.format s 0 a ≡ end =
-    ap (then_said ImageEnd) (end_due (is_plain_form raster.format.form) a ∙ ap (λ (f : Format). due_at (awaited_after (is_plain_form f.form)) a) rf
-    ∙ ap (λ (w : Awaited). due_at w a) (sym is_after)) in
-    let due : due_at (RowOrEnd raster) t ≡ after_messages (row_messages rows) end =
-    rows_are_said later_said raster.format s (length rows) n 0 t a rows raw none_left e ∙ ap (after_messages (row_messages rows)) ends in (
-      head_is_said is_first format head raster b m t f h rf rs ry ∙ ap (then_said (Begin head)) due
-          ∙ ap (then_said (Begin head)) (sym (after-append (row_messages rows) (ImageEnd ∷ []) (due_at after a))),
-      tt,
-    )
+-- rows that are held come next; or nothing was taken
+pub held_come : {R : Type 0} (raster : Raster) (rows : Option (List (List ℕ))) (mid new : BufferedReader R) (rest : List ℕ)
+    → IfSome rows (λ _. is_plain_form raster.format.form ≡ false) → length (rows_list rows) ≤ raster.shape.height - raster.y
+    → IfSome rows (λ rows. TakesRows raster.shape (length rows) rows (held_of mid) (held_of new)) → (rows ≡ None → new ≡ mid)
+    → due_at (Row raster) (held_of mid ++ rest)
+    ≡ after_messages (row_messages (rows_list rows)) (due_after (length (rows_list rows)) raster (held_of new ++ rest))
+held_come {R = R} raster None mid new rest raw left taken none =
+    let all : raster.shape.height - raster.y ≡ raster.shape.height - raster.y - 0 = omega arith in
+    ap₂ (λ (n : ℕ) (text : List ℕ). rows_said later_said raster.format raster.shape n text) all
+    (ap (λ (i : BufferedReader R). held_of i ++ rest) (sym (none refl)))
+held_come {R = R} raster (Some rows) mid new rest raw left taken none =
+    let n : ℕ = raster.shape.height - raster.y in
+    rows_are_said later_said raster.format raster.shape (length rows) n (n - length rows) (held_of mid ++ rest) (held_of new ++ rest) rows raw
+    (omega (arith, left)) (taken rest)
 
 -- no memory for the rows
 pub no_memory : {R A : Type 0} {left : R → Option (List ℕ)} {failures : R → ℕ} {same : R → R → Type 0} {old mid new : BufferedReader R}
@@ -103,23 +100,52 @@ no_memory is_first state k x is kept t = rw kept (call_ok_so x (Err k) (λ e. ab
 
 -- ---- the raster
 
--- the image has ended
-pub image_ends : (raster : Raster) (after : Awaited) (b a : List ℕ) → raster.y ≡ raster.shape.height
-    → after ≡ awaited_after (is_plain_form raster.format.form) → b ≡ a → Gives (RowOrEnd raster) (Ok EndsImage) (Awaits after) b a
+-- what is said where no row is left
+no_row_said : (raster : Raster) (plain : Bool) (text : List ℕ) → raster.shape.height ≤ raster.y → is_plain_form raster.format.form ≡ plain
+    → due_at (Row raster) text ≡ then_said ImageEnd (end_said later_said plain text)
 unfolding rows_said
-image_ends raster after b a e is_after same =
-    let none : raster.shape.height - raster.y ≡ 0 = omega arith in
-    let said : due_at (RowOrEnd raster) b ≡ then_said ImageEnd (end_said later_said (is_plain_form raster.format.form) a) = rw (none, same) refl in
-    (said ∙ ap (then_said ImageEnd) (end_due (is_plain_form raster.format.form) a ∙ ap (λ (w : Awaited). due_at w a) (sym is_after)), tt)
+no_row_said raster plain text none is =
+    let left : raster.shape.height - raster.y ≡ 0 = omega (arith, none) in
+    rw (left, ← is) refl
 
--- rows come, and these are left
-pub rows_come : (raster next : Raster) (rows : List (List ℕ)) (b a : List ℕ) → FindsRows raster (Ok rows) b a → next.format ≡ raster.format
-    → next.shape ≡ raster.shape → next.y ≡ raster.y + length rows → Gives (RowOrEnd raster) (Ok (Rows rows)) (Awaits (RowOrEnd next)) b a
-rows_come raster next rows b a found nf ns ny =
-    let n : ℕ = raster.shape.height - raster.y - length rows in
-    let left : n ≡ next.shape.height - next.y = let same = ap (λ (s : Shape). s.height) ns in omega arith in
-    let due : rows_said later_said raster.format raster.shape n a ≡ due_at (RowOrEnd next) a = rw (nf, ← left, ns) refl in
-    (found.2 ∙ ap (after_messages (row_messages rows)) due, found.0)
+pub plain_image_ends : (raster : Raster) (text : List ℕ) → raster.shape.height ≤ raster.y → is_plain_form raster.format.form ≡ true
+    → due_at (Row raster) text ≡ after_messages (end_messages true) (due_at End text)
+plain_image_ends raster text none is = no_row_said raster true text none is
+
+pub raw_image_ends : (raster : Raster) (text : List ℕ) → raster.shape.height ≤ raster.y → is_plain_form raster.format.form ≡ false
+    → due_at (Row raster) text ≡ after_messages (end_messages true) (due_at ImageOrEnd text)
+raw_image_ends raster text none is = no_row_said raster false text none is
+
+-- what is said of a raster after more of its rows
+after_due : (raster next : Raster) (count : ℕ) (text : List ℕ) → next.format ≡ raster.format → next.shape ≡ raster.shape → next.y ≡ raster.y + count
+    → due_after count raster text ≡ due_at (Row next) text
+after_due raster next count text nf ns ny =
+    let left : raster.shape.height - raster.y - count ≡ next.shape.height - next.y = let same = ap (λ (s : Shape). s.height) ns in omega arith in
+    rw (nf, ← left, ns) refl
+
+-- a part says its head, its rows, and the end of the image if that is next
+pub part_said : (raster next : Raster) (head : Option HeadValue) (rows : List (List ℕ)) (ends : Bool) (after : Awaited) (text : List ℕ)
+    → next.format ≡ raster.format → next.shape ≡ raster.shape → next.y ≡ raster.y + length rows
+    → due_at (Row next) text ≡ after_messages (end_messages ends) (due_at after text)
+    → after_messages (head_messages head ++ row_messages rows) (due_after (length rows) raster text)
+    ≡ after_messages (head_messages head ++ (row_messages rows ++ end_messages ends)) (due_at after text)
+part_said raster next head rows ends after text nf ns ny due =
+    let given : List Message = head_messages head ++ row_messages rows in
+    ap (after_messages given) (after_due raster next (length rows) text nf ns ny ∙ due) ∙ sym (after-append given (end_messages ends) (due_at after text))
+    ∙ ap (λ (l : List Message). after_messages l (due_at after text)) (append_assoc (head_messages head) (row_messages rows) (end_messages ends))
+
+-- rows that are held otherwise are the same
+pub rows_mapped : (rows held : Option (List (List ℕ))) → MatchOption rows (held ≡ None) (λ rows. IsSomeAnd held (λ (same : List (List ℕ)). same ≡ rows))
+    → rows_list held ≡ rows_list rows
+rows_mapped (Some rows) (Some held) is = is
+rows_mapped (Some rows) None is = absurd is
+rows_mapped None held is = ap rows_list is
+
+-- a part stands for a message at least
+pub part_some : (head : Option HeadValue) (rows : List (List ℕ)) (ends : Bool) → (head ≡ None → 1 ≤ length rows)
+    → 1 ≤ length (head_messages head ++ (row_messages rows ++ end_messages ends))
+part_some (Some head) rows ends some = omega arith
+part_some None rows ends some = omega (arith, some refl, length-append (row_messages rows) (end_messages ends), length-map rows RowMessage)
 
 -- ---- what follows an image
 

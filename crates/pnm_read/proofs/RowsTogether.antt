@@ -1,7 +1,7 @@
 -- Rows of a raw raster that are held whole, and are taken together.
 use Rattle.pnm_image.specs.Formats.{is_plain_form}
-use Rattle.std.proofs.Common.{◌≡◌, ℕ, zero, suc, ◌+◌, ◌-◌, ◌*◌, ◌<◌, ◌≤◌, List, [], ◌∷◌, ◌++◌, length, take, drop, Option, Some, None, Result, Ok, Err}
-use Rattle.std.proofs.Common.{IfOk, IfSome, refl, sym, ap, ap₂, subst, ◌∙◌}
+use Rattle.std.proofs.Common.{◌≡◌, ℕ, zero, suc, ◌+◌, ◌-◌, ◌*◌, ◌<◌, ◌≤◌, List, [], ◌∷◌, ◌++◌, length, take, drop, Option, Result, Ok, Err}
+use Rattle.std.proofs.Common.{refl, sym, ap, ap₂, subst, ◌∙◌}
 use Rattle.std.proofs.Common.{false, append_assoc, arith, zero-mul, suc-mul}
 use Rattle.std.specs.List.{concat}
 use Rattle.std.proofs.lemmas.List.{take-append-drop, take-take, length-take-le, length-drop}
@@ -196,14 +196,6 @@ pub rows_are_said : (later : List ℕ → Said) (format : Format) (s : Shape) (c
     → rows_said later format s n text ≡ after_messages (row_messages rows) (rows_said later format s more rest)
 rows_are_said later format s count n more text rest rows raw all e =
     read_rows_are_said later format s rows n text more rest (rows_read format s count n more text (rows, rest) raw all e)
-
--- rows that are as many as an image has, at least and at most
-pub all_taken : (least height y : ℕ) (result : Result (Option (List (List ℕ))) InputFault) → height ≤ least → y ≡ 0
-    → IfOk result (λ r. IfSome r (λ rows. least ≤ length rows)) → IfOk result (λ r. IfSome r (λ rows. length rows ≤ height - y))
-    → IfOk result (λ r. IfSome r (λ rows. length rows ≡ height))
-all_taken least height y (Ok (Some rows)) all start low high = omega (arith, all, start, low, high)
-all_taken least height y (Ok None) all start low high = tt
-all_taken least height y (Err k) all start low high = tt
 
 -- ---- what a call finds
 

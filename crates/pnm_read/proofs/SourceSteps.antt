@@ -1,12 +1,10 @@
 -- The answers of a source.
 use Rattle.std.proofs.Common.{◌≡◌, ℕ, ◌⊎◌, Bool, false, true, List, [], ◌++◌, length, ◌≤◌, Option, Some, None, Result, Ok, Err, inl, inr}
 use Rattle.std.proofs.Common.{append-nil, append_assoc, refl, sym, ap, subst, ◌∙◌, arith}
-use Rattle.std.proofs.lemmas.List.{length-map}
 use Rattle.std.specs.Io.KnownBytes.{Consumes}
 use Rattle.pnm_image.specs.declared.message.Message.{Message}
-use Rattle.pnm_image.specs.declared.message.Message.TheVariants.{Row}
 use Rattle.pnm_image.specs.declared.packet.Packet.{Packet}
-use Rattle.pnm_image.specs.declared.packet.Packet.TheVariants.{Begin as Begins, Rows, Image, ImageEnd as EndsImage, StreamEnd as EndsStream, Stop as Stops}
+use Rattle.pnm_image.specs.declared.packet.Packet.TheVariants.{Part, StreamEnd as EndsStream, Stop as Stops}
 use Rattle.pnm_image.specs.Packets.{messages_in}
 use Rattle.pnm_image.specs.Completion.{IsPrefixOf}
 use Rattle.pnm_read.specs.declared.fault.InputFault.{InputFault}
@@ -165,10 +163,7 @@ state_told awaited packet state t = (t.told [] (λ _. refl)).1
 
 -- a packet stands for a message at least
 pub some_messages : (packet : Packet) (state : State) → MayBeGiven packet state → 1 ≤ length (messages_in packet)
-some_messages (Begins head) state is = omega arith
-some_messages (Rows rows) state is = omega (arith, is, length-map rows Row)
-some_messages (Image head rows) state is = omega arith
-some_messages EndsImage state is = omega arith
+some_messages (Part part) state is = is
 some_messages EndsStream state is = omega arith
 some_messages Stops state is = absurd is
 

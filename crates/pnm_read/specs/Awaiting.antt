@@ -2,7 +2,7 @@
 use Rattle.std.specs.Prelude.{ℕ, ◌-◌, Bool, true, false, List, Option, Some, None}
 use Rattle.pnm_read.specs.declared.fault.InputFault.{InputFault}
 use Rattle.pnm_read.specs.declared.source.Awaited.{Awaited}
-use Rattle.pnm_read.specs.declared.source.Awaited.TheVariants.{FirstImage, RowOrEnd, ImageOrEnd, End}
+use Rattle.pnm_read.specs.declared.source.Awaited.TheVariants.{FirstImage, Row, ImageOrEnd, End}
 use Rattle.pnm_read.specs.declared.source.State.{State}
 use Rattle.pnm_read.specs.declared.source.State.TheVariants.{Awaits, Ended, Failed}
 use Rattle.pnm_read.specs.Said.{Said, text_said, later_said, ends_stream, says_nothing, says_fault, rows_said}
@@ -10,7 +10,7 @@ use Rattle.pnm_read.specs.Said.{Said, text_said, later_said, ends_stream, says_n
 -- what is still to be said of the rest of the text, where this is awaited
 abbrev pub due_at : Awaited → List ℕ → Said
 due_at FirstImage text = text_said text
-due_at (RowOrEnd raster) text = rows_said later_said raster.format raster.shape (raster.shape.height - raster.y) text
+due_at (Row raster) text = rows_said later_said raster.format raster.shape (raster.shape.height - raster.y) text
 due_at ImageOrEnd text = later_said text
 due_at End text = ends_stream
 

@@ -2,6 +2,7 @@
 
 ghost use Rattle.std.specs.Prelude.{◌≡◌, ◌≤◌, ◌*◌, ◌-◌, false, IfOk, IfErr, IfSome, IsTrue, Ok, None, length};
 ghost use Rattle.pnm_image.specs.Formats.{is_plain_form};
+ghost use Rattle.pnm_image.specs.Rows.{rows_list};
 ghost use Rattle.pnm_read.specs.declared.fault.InputFault.TheVariants.{Memory};
 ghost use Rattle.pnm_read.specs.BufferedReaders.{held_of};
 ghost use Rattle.pnm_read.specs.Internal.RasterRows.{FitsBytes, AreHeld, AreHeldWide, TakesRows, rows_held};
@@ -21,15 +22,14 @@ const MOST_ROW_BYTES: usize = 16_384;
 /// The sample of a white pixel, which none is above.
 const GREATEST_PIXEL: u32 = 1;
 
-/// Whether the held bytes determine the next row of the raster, or it has no more rows.
+/// Whether the held bytes determine the next row of the raster.
 pub fn holds_row<R: BytesIn>(input: &BufferedReader<R>, raster: &Raster) -> bool {
-    if raster.y == raster.shape.height {
-        true
-    } else if raster.format.is_plain() {
-        input.holds(usize::MAX)
+    let wanted = if raster.format.is_plain() {
+        usize::MAX
     } else {
-        input.holds(raster.row_bytes())
-    }
+        raster.row_bytes()
+    };
+    input.holds(wanted)
 }
 
 /// How many bytes have to be held before rows are taken, where `bytes` are held: those of the next row, if it is short,
@@ -51,21 +51,21 @@ pub fn wanted_ahead(bytes: &[u8], raster: &Raster) -> usize {
     if are_within { wanted } else { 0 }
 }
 
-/// All rows of a raster of which none has passed, if it is raw, has at most `most` rows, and these are held whole.
-/// `None` otherwise, and if a sample is above the maxval; nothing is taken then.
+/// The next rows of a raster together, if it is raw: as many as are held whole, `most` at most, of which those from a
+/// sample above the maxval on stay behind, and maybe some before them. `None` if these are none; nothing is taken then.
 ///
 /// # Errors
 ///
 /// `Memory` if there is none for them. Nothing is taken then.
-pub fn take_all<R: BytesIn>(
+pub fn take<R: BytesIn>(
     input: &mut BufferedReader<R>,
     spares: &mut SpareRows,
     raster: &Raster,
     most: u32,
 ) -> Result<Option<Rows>, InputFault>
-    requires start { raster.now.y ≡ 0 }
     ensures raw { IfOk result (λ r. IfSome r (λ _. is_plain_form raster.now.format.form ≡ false)) }
-    ensures all { IfOk result (λ r. IfSome r (λ rows. length rows ≡ raster.now.shape.height)) }
+    ensures some { IfOk result (λ r. IfSome r (λ rows. 1 ≤ length rows)) }
+    ensures left { IfOk result (λ r. length (rows_list r) ≤ raster.now.shape.height - raster.now.y) }
     ensures rows { IfOk result (λ r. IfSome r (λ rows. TakesRows raster.now.shape (length rows) rows
         (held_of input.old) (held_of input.new))) }
     ensures none { result ≡ Ok None → input.new ≡ input.old }
@@ -76,45 +76,18 @@ pub fn take_all<R: BytesIn>(
     if raster.format.is_plain() {
         return Ok(None);
     }
-    take(input, spares, raster, raster.shape.height.max(1), most)
-}
-
-/// The next rows of a raw raster together: as many as are held whole, `most` at most, of which those from a sample
-/// above the maxval on stay behind, and maybe some before them. `None`, and nothing is taken, if these are fewer than
-/// `least`.
-///
-/// # Errors
-///
-/// `Memory` if there is none for them. Nothing is taken then.
-pub fn take<R: BytesIn>(
-    input: &mut BufferedReader<R>,
-    spares: &mut SpareRows,
-    raster: &Raster,
-    least: u32,
-    most: u32,
-) -> Result<Option<Rows>, InputFault>
-    requires some { 1 ≤ least }
-    ensures least { IfOk result (λ r. IfSome r (λ rows. least ≤ length rows)) }
-    ensures left { IfOk result (λ r. IfSome r (λ rows. length rows ≤ raster.now.shape.height - raster.now.y)) }
-    ensures rows { IfOk result (λ r. IfSome r (λ rows. TakesRows raster.now.shape (length rows) rows
-        (held_of input.old) (held_of input.new))) }
-    ensures none { result ≡ Ok None → input.new ≡ input.old }
-    ensures reader { input.new.reader ≡ input.old.reader }
-    ensures ended { input.new.ended ≡ input.old.ended }
-    ensures refused { IfErr result (λ fault. (fault ≡ Memory) × (input.new ≡ input.old)) }
-{
     let most = most.min(raster.shape.height - raster.y);
     let count = count_whole(input.bytes(), raster.row_bytes(), most);
     match raster.sample_width {
         SampleWidth::Bits | SampleWidth::Bytes => {
             let count = count_within(input.bytes(), raster, count);
-            if count < least {
+            if count == 0 {
                 return Ok(None);
             }
             let rows = take_rows(input, spares, raster, count)?;
             Ok(Some(rows))
         }
-        SampleWidth::Words => take_wide(input, raster, least, count),
+        SampleWidth::Words => take_wide(input, raster, count),
     }
 }
 
@@ -220,12 +193,11 @@ fn rows_of(bytes: Vec<u8>, raster: &Raster, count: u32) -> Rows
 fn take_wide<R: BytesIn>(
     input: &mut BufferedReader<R>,
     raster: &Raster,
-    least: u32,
     count: u32,
 ) -> Result<Option<Rows>, InputFault>
-    requires some { 1 ≤ least }
     requires held { AreHeldWide raster.now count (held_of input.old) }
-    ensures least { IfOk result (λ r. IfSome r (λ rows. (least ≤ length rows) × (length rows ≤ count))) }
+    ensures some { IfOk result (λ r. IfSome r (λ rows. 1 ≤ length rows)) }
+    ensures most { IfOk result (λ r. length (rows_list r) ≤ count) }
     ensures rows { IfOk result (λ r. IfSome r (λ rows. TakesRows raster.now.shape (length rows) rows
         (held_of input.old) (held_of input.new))) }
     ensures none { result ≡ Ok None → input.new ≡ input.old }
@@ -234,7 +206,7 @@ fn take_wide<R: BytesIn>(
     ensures refused { IfErr result (λ fault. (fault ≡ Memory) × (input.new ≡ input.old)) }
 {
     let mut count = count;
-    while count >= least {
+    while count > 0 {
         match take_words(input, raster, count) {
             Ok(Some(rows)) => return Ok(Some(rows)),
             Ok(None) => {}

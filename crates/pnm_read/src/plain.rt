@@ -31,7 +31,7 @@ const GREATEST_PIXEL: u32 = 1;
 const USUAL_BYTES: usize = 4;
 
 /// The next row, and those behind it that the held bytes determine then, `most` rows at most; or the text's fault
-/// there, `ReadFailed` or `Memory`. The last row of an image comes alone, since what follows it is looked at.
+/// there, `ReadFailed` or `Memory`. The last row of an image comes without others, since what follows it is looked at.
 pub fn read_rows<R: BytesIn>(
     input: &mut BufferedReader<R>,
     raster: &Raster,

@@ -33,7 +33,7 @@ pub fn read_rows<R: BytesIn>(
     ensures { ReadCall R.left R.failures R.same input.old input.new result (FindsRows raster.now result) }
 {
     input.read_towards(held_rows::wanted_ahead(input.bytes(), raster))?;
-    match held_rows::take(input, spares, raster, 1, most)? {
+    match held_rows::take(input, spares, raster, most)? {
         Some(rows) => Ok(rows),
         None => Ok(Rows::one(read_row(input, raster.shape, raster.units, raster.sample_width)?)),
     }

@@ -1,16 +1,20 @@
 //! The source of a stream: the bytes of a reader as packets.
 
-ghost use Rattle.std.specs.Prelude.{◌≡◌, ◌<◌, ◌≤◌, ◌⊎◌, ℕ, List, Some, None, Ok, Err};
+ghost use Rattle.std.specs.Prelude.{◌≡◌, ◌<◌, ◌≤◌, ◌-◌, ◌++◌, ◌⊎◌, ℕ, List, Some, None, Ok, Err};
 ghost use Rattle.std.specs.Prelude.{true, length, IfOk, IfErr, IfSome};
 ghost use Rattle.pnm_image.specs.Devices.{Failed};
-ghost use Rattle.pnm_image.specs.Formats.{is_plain_form};
 ghost use Rattle.pnm_image.specs.Packets.{messages_in};
 ghost use Rattle.pnm_image.specs.declared.packet.Packet.TheVariants.{StreamEnd, Stop};
 ghost use Rattle.pnm_read.specs.declared.fault.InputFault.{InputFault as Fault};
 ghost use Rattle.pnm_read.specs.declared.fault.InputFault.TheVariants.{ReadFailed, Memory};
 ghost use Rattle.pnm_read.specs.Internal.BufferedReaders.{ReadCall};
-ghost use Rattle.pnm_read.specs.Internal.RasterRows.{FindsRows};
-ghost use Rattle.pnm_read.specs.Internal.Awaiting.{awaited_after, Gives, GivesAtStart, SeesText};
+ghost use Rattle.pnm_read.specs.Internal.RasterRows.{FindsRows, due_after};
+ghost use Rattle.pnm_image.specs.Parts.{head_messages, end_messages};
+ghost use Rattle.pnm_image.specs.Rows.{row_messages, rows_list};
+ghost use Rattle.pnm_read.specs.Said.{after_messages};
+ghost use Rattle.pnm_read.specs.Awaiting.{due_at, state_due};
+ghost use Rattle.pnm_read.specs.Internal.Awaiting.{HasRow, HasRowNext, HasRowNext-prop, MayBeGiven};
+ghost use Rattle.pnm_read.specs.Internal.Awaiting.{Gives, GivesAtStart, SeesText};
 
 use crate::buffered_reader::{BufferedReader, ReadBuffer};
 use crate::fault::InputFault;
@@ -18,7 +22,7 @@ use crate::header::{is_complete, read_format, read_head};
 use crate::raster::Raster;
 use crate::spare_rows::SpareRows;
 use crate::{held_rows, plain, raw};
-use pnm_image::{BytesIn, Format, Packet, RepeatedRows, Rows};
+use pnm_image::{BytesIn, Head, Packet, Part, RepeatedRows, Rows};
 use std::alloc::Global;
 
 /// What a source awaits of its input.
@@ -26,8 +30,8 @@ use std::alloc::Global;
 enum Awaited {
     /// The first image of the stream.
     FirstImage,
-    /// A row, or the end of the image after the last one.
-    RowOrEnd(Raster),
+    /// A row of this raster, which has one left.
+    Row(Raster),
     /// After a raw image, the next one or the end of the stream.
     ImageOrEnd,
     /// After a plain image, the end of the stream: what follows is ignored.
@@ -54,6 +58,7 @@ enum State {
 pub struct Source<R> {
     input: BufferedReader<R>,
     state: State,
+    ghost row: { HasRowNext state } by { HasRowNext-prop state },
 }
 
 impl<R: BytesIn> Source<R> {
@@ -82,9 +87,11 @@ impl<R: BytesIn> Source<R> {
         }
     }
 
-    /// The next packet, or `None` after the end of the stream, for good. Of an image it is the head; then as many
-    /// rows as are held whole, `most_rows` at most (at least one comes), or one row, for which it reads; and at last
-    /// the image's end. An image of at most so many rows that is raw and held whole comes at once.
+    /// The next packet, or `None` after the end of the stream, for good. Of an image it is as many rows as are held
+    /// whole, `most_rows` at most (at least one comes), or one row, for which it reads; before them the head, if it was
+    /// just read, and behind them the image's end, if they are the last. The head comes without rows if the image is
+    /// plain, or if none of them is held whole or comes before a sample above the maxval, and with the end if there are
+    /// none.
     ///
     /// The fault is the first that the text has (see `InputFault`), after all that comes before it. If the reader
     /// fails, `ReadFailed` takes the place of all later faults; if memory runs out, `Memory` does. After a fault,
@@ -153,68 +160,71 @@ impl<R: BytesIn> Source<R> {
         spares: &mut SpareRows,
         most_rows: u32,
     ) -> Result<Packet, InputFault>
-        requires { 1 ≤ most_rows }
+        requires row { HasRow awaited }
+        requires some { 1 ≤ most_rows }
         ensures { ReadCall R.left R.failures R.same self.old.input self.new.input result
             (Gives awaited result self.new.state) }
     {
         match awaited {
             Awaited::FirstImage => self.begin(true, spares, most_rows),
-            Awaited::RowOrEnd(raster) => self.give_rows(&raster, spares, most_rows),
+            Awaited::Row(raster) => self.give_rows(&raster, spares, most_rows),
             Awaited::ImageOrEnd => self.follow(spares, most_rows),
             Awaited::End => Ok(self.end()),
         }
     }
 
-    /// The head of an image, which is the first of the stream or comes after a raw one; or the whole image, if it is
-    /// held.
+    /// The head of an image, which is the first of the stream or comes after a raw one, and the rows that are held.
     fn begin(
         &mut self,
         is_first: bool,
         spares: &mut SpareRows,
         most_rows: u32,
     ) -> Result<Packet, InputFault>
-        requires { 1 ≤ most_rows }
         ensures { ReadCall R.left R.failures R.same self.old.input self.new.input result
             (GivesAtStart is_first result self.new.state) }
     {
         let format = read_format(&mut self.input, is_first)?;
         let head = read_head(&mut self.input, format)?;
         let raster = Raster::new(format, head.shape());
-        match held_rows::take_all(&mut self.input, spares, &raster, most_rows)? {
-            Some(rows) => {
-                self.state = State::Awaits(after_image(format));
-                Ok(Packet::Image(head, rows))
-            }
-            None => {
-                self.state = State::Awaits(Awaited::RowOrEnd(raster));
-                Ok(Packet::Begin(head))
-            }
-        }
+        let rows = held_rows::take(&mut self.input, spares, &raster, most_rows)?;
+        Ok(self.part(Some(head), &raster, rows))
     }
 
-    /// The next rows of a raster, or the end of its image after the last one.
+    /// The next rows of a raster.
     fn give_rows(
         &mut self,
         raster: &Raster,
         spares: &mut SpareRows,
         most_rows: u32,
     ) -> Result<Packet, InputFault>
-        requires { 1 ≤ most_rows }
+        requires row { raster.now.y < raster.now.shape.height }
+        requires some { 1 ≤ most_rows }
         ensures { ReadCall R.left R.failures R.same self.old.input self.new.input result
-            (Gives (Awaited.RowOrEnd raster.now) result self.new.state) }
+            (Gives (Awaited.Row raster.now) result self.new.state) }
     {
-        if raster.y == raster.shape.height {
-            self.state = State::Awaits(after_image(raster.format));
-            return Ok(Packet::ImageEnd);
-        }
         let rows = read_rows(&mut self.input, spares, raster, most_rows)?;
-        self.state = State::Awaits(Awaited::RowOrEnd(raster.after_rows(rows.count())));
-        Ok(Packet::Rows(RepeatedRows::once(rows)))
+        Ok(self.part(None, raster, Some(rows)))
+    }
+
+    /// A part of an image: the head, if it was just read, the next rows of the raster, and the image's end after the
+    /// last one.
+    fn part(&mut self, head: Option<Head>, raster: &Raster, rows: Option<Rows>) -> Packet
+        requires some { head ≡ None → 1 ≤ length (rows_list rows) }
+        requires left { length (rows_list rows) ≤ raster.now.shape.height - raster.now.y }
+        ensures said { (text : List ℕ)
+            → after_messages (head_messages head ++ row_messages (rows_list rows))
+            (due_after (length (rows_list rows)) raster.now text)
+            ≡ after_messages (messages_in result) (state_due self.new.state text) }
+        ensures given { MayBeGiven result self.new.state }
+        ensures input { self.new.input ≡ self.old.input }
+    {
+        let (awaited, ends_image) = awaited_at(raster.after_rows(count_of(&rows)));
+        self.state = State::Awaits(awaited);
+        Packet::Part(Part::new(head, rows.map(RepeatedRows::once), ends_image))
     }
 
     /// What follows a raw image: the next one, or the end of the stream if no byte is left.
     fn follow(&mut self, spares: &mut SpareRows, most_rows: u32) -> Result<Packet, InputFault>
-        requires { 1 ≤ most_rows }
         ensures { ReadCall R.left R.failures R.same self.old.input self.new.input result
             (Gives Awaited.ImageOrEnd result self.new.state) }
     {
@@ -246,7 +256,7 @@ impl<R: BytesIn> Source<R> {
 fn holds_at<R: BytesIn>(input: &BufferedReader<R>, awaited: &Awaited) -> bool {
     match awaited {
         Awaited::FirstImage => input.holds(usize::MAX) || is_complete(input.bytes(), true),
-        Awaited::RowOrEnd(raster) => held_rows::holds_row(input, raster),
+        Awaited::Row(raster) => held_rows::holds_row(input, raster),
         Awaited::ImageOrEnd => input.holds(usize::MAX) || is_complete(input.bytes(), false),
         Awaited::End => true,
     }
@@ -270,14 +280,28 @@ fn read_rows<R: BytesIn>(
     }
 }
 
-/// What is awaited after an image of this format.
-fn after_image(format: Format) -> Awaited
-    ensures { result ≡ awaited_after (is_plain_form format.form) }
+/// How many rows these are.
+fn count_of(rows: &Option<Rows>) -> u32
+    ensures { result ≡ length (rows_list rows.now) }
 {
-    if format.is_plain() {
-        Awaited::End
+    match rows {
+        Some(rows) => rows.count(),
+        None => 0,
+    }
+}
+
+/// What is awaited where the next row of a raster would begin, and whether the image ends there.
+fn awaited_at(raster: Raster) -> (Awaited, bool)
+    ensures due { (text : List ℕ)
+        → due_at (Awaited.Row raster) text ≡ after_messages (end_messages result.1) (due_at result.0 text) }
+    ensures row { HasRow result.0 }
+{
+    if raster.y < raster.shape.height {
+        (Awaited::Row(raster), false)
+    } else if raster.format.is_plain() {
+        (Awaited::End, true)
     } else {
-        Awaited::ImageOrEnd
+        (Awaited::ImageOrEnd, true)
     }
 }
 

@@ -34,6 +34,7 @@ impl ImageTool for Enlarger {
     ghost kept = { kept_rows };
 
     fn begin(&mut self, alloc: Global, head: &Head) -> Result<Head, ToolFault> {
+        self.waiting = None;
         enlarged_head(alloc, self.across, self.down, head)
     }
 
@@ -42,9 +43,7 @@ impl ImageTool for Enlarger {
         Ok(())
     }
 
-    fn end(&mut self, _shape: Shape) {
-        self.waiting = None;
-    }
+    fn end(&mut self, _shape: Shape) {}
 
     /// Gives the rows that several rows make together. If a row of the result is long, or its copies are more than is
     /// given at once, gives that row and the number of its copies, and makes none.

@@ -29,6 +29,7 @@ impl<T: RowTool> ImageTool for ByRow<T> {
 
     #[tactic(auto, unfolding(crate::specs::RowKeeping::IsReadyForRows))]
     fn begin(&mut self, alloc: Global, head: &Head) -> Result<Head, ToolFault> {
+        self.made = None;
         self.tool.begin(alloc, head)
     }
 
@@ -39,9 +40,7 @@ impl<T: RowTool> ImageTool for ByRow<T> {
     }
 
     #[tactic(auto, unfolding(crate::specs::RowKeeping::IsReadyForRows))]
-    fn end(&mut self, _shape: Shape) {
-        self.made = None;
-    }
+    fn end(&mut self, _shape: Shape) {}
 
     fn give(&mut self, _alloc: Global) -> Result<Option<RepeatedRows>, ToolFault> {
         Ok(mem::replace(&mut self.made, None).map(RepeatedRows::once))

@@ -1,5 +1,5 @@
 -- Lists of messages, and more messages.
-use Rattle.std.proofs.Common.{◌≡◌, ◌≤◌, ℕ, ◌+◌, List, [], ◌∷◌, ◌++◌, length, refl, ap, ◌∙◌, arith}
+use Rattle.std.proofs.Common.{◌≡◌, ◌≤◌, ℕ, ◌+◌, Bool, true, false, Option, None, Some, List, [], ◌∷◌, ◌++◌, length, refl, ap, ◌∙◌, arith}
 use Rattle.std.specs.List.{AllByRecursion}
 use Rattle.pnm_image.specs.declared.format.Form.{Form}
 use Rattle.pnm_image.specs.declared.message.Message.{Message}
@@ -7,7 +7,9 @@ use Rattle.pnm_image.specs.declared.place.Place.TheVariants.{Between}
 use Rattle.pnm_image.specs.Places.{place_of}
 use Rattle.pnm_image.proofs.Places.{lawful_prefix, lawful_suffix}
 use Rattle.pnm_image.proofs.Lists.{all_of_prefix}
-use Rattle.pnm_image.specs.Rows.{row_messages}
+use Rattle.pnm_image.specs.Heads.{HeadValue}
+use Rattle.pnm_image.specs.Parts.{end_messages, rest_messages, part_messages}
+use Rattle.pnm_image.specs.Rows.{row_messages, rows_list}
 use Rattle.pnm_write.specs.Encoding.{bytes_from, bytes_of}
 use Rattle.pnm_write.specs.Sinks.{HasRows, AreInOrderFrom}
 use Rattle.pnm_write.proofs.MessageLaws.{bytes_from-append}
@@ -36,6 +38,29 @@ rows_in-saturated n (row ∷ rows) =
 pub rows_in-rows : (n : ℕ) (rows : List (List ℕ)) → 1 ≤ length rows → rows_in n (row_messages rows) ≡ saturate_u64 (n + length rows)
 rows_in-rows n [] some = absurd (omega (arith, some))
 rows_in-rows n (row ∷ rows) some = rows_in-saturated (n + 1) rows ∙ ap saturate_u64 (omega arith)
+
+-- of a part, the end of the image is counted, and its rows
+images_in-rest : (n : ℕ) (rows : Option (List (List ℕ))) (ends : Bool) → images_in n (rest_messages rows ends) ≡ images_in n (end_messages ends)
+images_in-rest n rows ends = images_in-append n (row_messages (rows_list rows)) (end_messages ends)
+    ∙ ap (λ (k : ℕ). images_in k (end_messages ends)) (images_in-rows n (rows_list rows))
+
+pub images_in-part : (n : ℕ) (head : Option HeadValue) (rows : Option (List (List ℕ))) (ends : Bool)
+    → images_in n (part_messages head rows ends) ≡ images_in n (end_messages ends)
+images_in-part n None rows ends = images_in-rest n rows ends
+images_in-part n (Some head) rows ends = images_in-rest n rows ends
+
+rows_in-end : (n : ℕ) (ends : Bool) → rows_in n (end_messages ends) ≡ n
+rows_in-end n false = refl
+rows_in-end n true = refl
+
+rows_in-rest : (n : ℕ) (rows : Option (List (List ℕ))) (ends : Bool) → rows_in n (rest_messages rows ends) ≡ rows_in n (row_messages (rows_list rows))
+rows_in-rest n rows ends = rows_in-append n (row_messages (rows_list rows)) (end_messages ends)
+    ∙ rows_in-end (rows_in n (row_messages (rows_list rows))) ends
+
+pub rows_in-part : (n : ℕ) (head : Option HeadValue) (rows : Option (List (List ℕ))) (ends : Bool)
+    → rows_in n (part_messages head rows ends) ≡ rows_in n (row_messages (rows_list rows))
+rows_in-part n None rows ends = rows_in-rest n rows ends
+rows_in-part n (Some head) rows ends = rows_in-rest n rows ends
 
 -- the bytes of messages are a prefix of the bytes of these and more
 pub bytes_of-append : (form : Form) (ms ns : List Message) → (more : List ℕ) × (bytes_of form (ms ++ ns) ≡ bytes_of form ms ++ more)

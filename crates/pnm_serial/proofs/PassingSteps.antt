@@ -1,5 +1,5 @@
 -- What passes through the stages.
-use Rattle.std.proofs.Common.{◌≡◌, ◌<◌, ◌≤◌, ◌+◌, ◌-◌, ℕ, Bool, true, List, [], ◌∷◌, ◌++◌, Option, sym, ap, subst, ◌∙◌, append_assoc, append-nil}
+use Rattle.std.proofs.Common.{◌≡◌, ◌<◌, ◌≤◌, ◌-◌, ℕ, Bool, true, List, [], ◌∷◌, ◌++◌, Option, sym, ap, subst, ◌∙◌, append_assoc, append-nil}
 use Rattle.std.proofs.Common.{length, take, drop, get_or, arith}
 use Rattle.std.specs.Prelude.{◌==◌, slice_set}
 use Rattle.std.proofs.lemmas.List.{take_all, drop_all}

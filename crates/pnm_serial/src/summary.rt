@@ -1,12 +1,11 @@
 //! What a run wrote.
 
-ghost use Rattle.std.specs.Prelude.{◌≡◌, ◌≤◌};
+ghost use Rattle.std.specs.Prelude.{◌≡◌};
 ghost use Rattle.pnm_image.specs.Packets.{messages_in};
-ghost use Rattle.pnm_image.specs.Repeats.{repeated};
-ghost use Rattle.pnm_image.specs.Rows.{row_messages};
+ghost use Rattle.pnm_image.specs.Rows.{row_messages, rows_list};
 ghost use Rattle.pnm_serial.specs.Counts.{images_in, rows_in};
 
-use pnm_image::{Packet, Rows};
+use pnm_image::{Packet, RepeatedRows};
 
 /// The images and the rows that a run wrote. Each count stays at `u64::MAX` once there.
 #[derive(Clone, Copy, Debug, PartialEq, Eq)]
@@ -23,27 +22,26 @@ impl Summary {
         ensures images { self.new.images ≡ images_in self.old.images (messages_in packet.now) }
         ensures rows { self.new.rows ≡ rows_in self.old.rows (messages_in packet.now) }
     {
-        match packet {
-            Packet::Rows(rows) => {
-                let (held, times) = rows.parts();
-                self.count_rows(held, times);
-            }
-            Packet::Image(_, rows) => {
-                self.count_rows(rows, 1);
-                self.images = self.images.saturating_add(1);
-            }
-            Packet::ImageEnd => self.images = self.images.saturating_add(1),
-            Packet::Begin(_) | Packet::StreamEnd | Packet::Stop => {}
+        let Packet::Part(part) = packet else {
+            return;
+        };
+        let (_, rows, ends_image) = part.parts();
+        self.count_rows(rows);
+        if ends_image {
+            self.images = self.images.saturating_add(1);
         }
     }
 
-    /// Counts rows that were written so often.
-    fn count_rows(&mut self, rows: &Rows, times: u32)
-        requires some { 1 ≤ times }
+    /// Counts rows that were written, if there are any.
+    fn count_rows(&mut self, rows: &Option<RepeatedRows>)
         ensures images { self.new.images ≡ self.old.images }
-        ensures rows { self.new.rows ≡ rows_in self.old.rows (row_messages (repeated times rows.now)) }
+        ensures rows { self.new.rows ≡ rows_in self.old.rows (row_messages (rows_list rows.now)) }
     {
-        let count = u64::from(rows.count()) * u64::from(times);
+        let Some(rows) = rows else {
+            return;
+        };
+        let (held, times) = rows.parts();
+        let count = u64::from(held.count()) * u64::from(times);
         self.rows = self.rows.saturating_add(count);
     }
 }

@@ -5,4 +5,4 @@ pub mod PrefixLaws
 mod LongestPrefixes
 pub mod SendingSteps
 pub mod StagedSteps
-pub mod HoldingSteps
+pub mod PassingSteps

@@ -1,27 +1,29 @@
 -- The messages of packets.
-use Rattle.std.specs.Prelude.{IsFalse, Bool, false, ◌||◌}
-use Rattle.std.proofs.Common.{◌≡◌, ◌⊎◌, inl, inr, subst, ℕ, nat_lt, length, arith, List, [], ◌∷◌, ◌++◌, refl, sym, ap, ◌∙◌, append-nil, append_assoc}
+use Rattle.std.specs.Prelude.{IsTrue, IsFalse, ◌↔◌, Bool, true, false, ◌||◌}
+use Rattle.std.proofs.Common.{◌≡◌, ◌≤◌, ◌⊎◌, inl, inr, subst, ℕ, nat_lt, length, arith, Option}
+use Rattle.std.proofs.Common.{Some, None, List, [], ◌∷◌, ◌++◌, refl, sym, ap, ◌∙◌, append-nil, append_assoc}
 use Rattle.std.specs.List.{AllByRecursion}
-use Rattle.std.proofs.lemmas.Grind.{flat_map-append}
+use Rattle.std.proofs.lemmas.Grind.{flat_map-append, common_steps}
+use Rattle.std.proofs.lemmas.Bool.Decides.{nat_tests}
 use Rattle.std.proofs.lemmas.List.Concat.{flat_map-cons}
 use Rattle.std.proofs.lemmas.List.Folds.{list_any-append}
 use Rattle.std.proofs.Math.Bool.{or-false}
 use Rattle.pnm_image.specs.declared.message.Message.{Message}
-use Rattle.pnm_image.specs.declared.message.Message.TheVariants.{Begin, ImageEnd, StreamEnd, Stop}
+use Rattle.pnm_image.specs.declared.message.Message.TheVariants.{Begin}
 use Rattle.pnm_image.specs.declared.message.Ending.TheVariants.{More, Whole, BrokenOff}
 use Rattle.pnm_image.specs.declared.message.Ending.{Ending}
 use Rattle.pnm_image.specs.Messages.{IsMessage, EndsBy}
 use Rattle.pnm_image.specs.Heads.{HeadValue}
-use Rattle.pnm_image.proofs.Lists.{each-push}
-use Rattle.pnm_image.specs.Rows.{row_messages}
+use Rattle.pnm_image.specs.Rows.{row_messages, rows_list}
+use Rattle.pnm_image.specs.Parts.{end_messages, rest_messages, part_messages}
 use Rattle.pnm_tools.proofs.InFullLaws.{ends_after}
 use Rattle.pnm_image.specs.declared.packet.Packet.{Packet}
-use Rattle.pnm_image.specs.declared.packet.Packet.TheVariants.{Begin as Begins, Rows, Image, ImageEnd as EndsImage, StreamEnd as EndsStream, Stop as Stops}
+use Rattle.pnm_image.specs.declared.packet.Packet.TheVariants.{Part}
 use Rattle.pnm_tools.proofs.SoundLaws.{both_all}
 use Rattle.pnm_stages.specs.Rings.{Extends, IsEnded}
 use Rattle.pnm_image.specs.Packets.{messages_in, ending_of_packet}
-use Rattle.pnm_stages.specs.RingPackets.{messages_of, is_rows_together, has_rows_together}
-use Rattle.pnm_stages.proofs.RingSteps.{ends_nothing, ends_with}
+use Rattle.pnm_stages.specs.RingPackets.{messages_of, is_together, has_together}
+use Rattle.pnm_stages.proofs.RingSteps.{ends_nothing}
 
 -- no packets
 pub none_of : messages_of [] ≡ []
@@ -54,27 +56,40 @@ rows_end_nothing [] = refl
 rows_end_nothing (row ∷ []) = refl
 rows_end_nothing (row ∷ next ∷ rows) = (refl, rows_end_nothing (next ∷ rows))
 
--- nor does a whole image
-pub image_is_messages : (head : HeadValue) (rows : List (List ℕ)) → IsMessage (Begin head)
-    → AllByRecursion IsMessage (Begin head ∷ row_messages rows ++ ImageEnd ∷ [])
-image_is_messages head rows is = (is, each-push IsMessage (row_messages rows) ImageEnd (rows_are_messages rows) tt)
+-- so are the rows and the end of a part, and with its head the whole part
+end_is_messages : (ends : Bool) → AllByRecursion IsMessage (end_messages ends)
+end_is_messages false = tt
+end_is_messages true = (tt, tt)
 
-head_and_rows_end_nothing : (head : HeadValue) (rows : List (List ℕ)) → EndsBy More (Begin head ∷ row_messages rows)
-head_and_rows_end_nothing head [] = refl
-head_and_rows_end_nothing head (row ∷ rows) = (refl, rows_end_nothing (row ∷ rows))
+pub rest_is_messages : (rows : Option (List (List ℕ))) (ends : Bool) → AllByRecursion IsMessage (rest_messages rows ends)
+rest_is_messages rows ends =
+    both_all IsMessage (row_messages (rows_list rows)) (end_messages ends) (rows_are_messages (rows_list rows)) (end_is_messages ends)
 
-pub image_ends_nothing : (head : HeadValue) (rows : List (List ℕ)) → EndsBy More (Begin head ∷ row_messages rows ++ ImageEnd ∷ [])
-image_ends_nothing head rows = ends_with (Begin head ∷ row_messages rows) ImageEnd (head_and_rows_end_nothing head rows)
+pub part_is_messages : (head : HeadValue) (rows : Option (List (List ℕ))) (ends : Bool) → IsMessage (Begin head)
+    → AllByRecursion IsMessage (part_messages (Some head) rows ends)
+part_is_messages head rows ends is = (is, rest_is_messages rows ends)
 
--- a packet ends a list as its last message does
-pub ends_with_packet : (l : List Message) (packet : Packet) → EndsBy More l → EndsBy (ending_of_packet packet) (l ++ messages_in packet)
-ends_with_packet l (Begins head) more = ends_with l (Begin head) more
-ends_with_packet l EndsImage more = ends_with l ImageEnd more
-ends_with_packet l EndsStream more = ends_with l StreamEnd more
-ends_with_packet l Stops more = ends_with l Stop more
-ends_with_packet l (Rows rows) more = ends_after More l (row_messages rows) (ends_nothing l more) (rows_end_nothing rows)
-ends_with_packet l (Image head rows) more =
-    ends_after More l (Begin head ∷ row_messages rows ++ ImageEnd ∷ []) (ends_nothing l more) (image_ends_nothing head rows)
+end_ends_nothing : (ends : Bool) → EndsBy More (end_messages ends)
+end_ends_nothing false = refl
+end_ends_nothing true = refl
+
+rest_ends_nothing : (rows : Option (List (List ℕ))) (ends : Bool) → EndsBy More (rest_messages rows ends)
+rest_ends_nothing rows ends = ends_after More (row_messages (rows_list rows)) (end_messages ends)
+    (ends_nothing (row_messages (rows_list rows)) (rows_end_nothing (rows_list rows))) (end_ends_nothing ends)
+
+pub part_ends_nothing : (head : Option HeadValue) (rows : Option (List (List ℕ))) (ends : Bool) → EndsBy More (part_messages head rows ends)
+part_ends_nothing None rows ends = rest_ends_nothing rows ends
+part_ends_nothing (Some head) rows ends = ends_after More (Begin head ∷ []) (rest_messages rows ends) (refl, tt) (rest_ends_nothing rows ends)
+
+-- whether a part is several messages, as a function answers it
+pub several_by : (packet : Packet) (part : List Message) (several : Bool) → packet ≡ Part part → IsTrue several ↔ 2 ≤ length part
+    → several ≡ is_together packet
+several_by packet part several is answer = rw is (grind (arith, common_steps, nat_tests, answer))
+
+-- a packet that ends so ends a list so
+pub ends_with_packet : (l : List Message) (packet : Packet) → EndsBy (ending_of_packet packet) (messages_in packet) → EndsBy More l
+    → EndsBy (ending_of_packet packet) (l ++ messages_in packet)
+ends_with_packet l packet ends more = ends_after (ending_of_packet packet) l (messages_in packet) (ends_nothing l more) ends
 
 -- a list was extended by a packet
 extends_by_packet : (P : List Message → Type 0) (l now new : List Message) (packet : Packet) (extends : Extends l now (EndsBy More))
@@ -86,20 +101,23 @@ extends_by_packet P l now new packet extends added are holds = record {
   holds = holds;
 }
 
-pub ends_as_packet : (e : Ending) (l : List Message) (packet : Packet) → EndsBy More l → ending_of_packet packet ≡ e → EndsBy e (l ++ messages_in packet)
-ends_as_packet e l packet more same = subst (λ (x : Ending). EndsBy x (l ++ messages_in packet)) same (ends_with_packet l packet more)
+pub ends_as_packet : (e : Ending) (l : List Message) (packet : Packet) → EndsBy (ending_of_packet packet) (messages_in packet) → EndsBy More l
+    → ending_of_packet packet ≡ e → EndsBy e (l ++ messages_in packet)
+ends_as_packet e l packet ends more same = subst (λ (x : Ending). EndsBy x (l ++ messages_in packet)) same (ends_with_packet l packet ends more)
 
 pub packet_goes_on : (l now new : List Message) (packet : Packet) → Extends l now (EndsBy More) → new ≡ now ++ messages_in packet
-    → AllByRecursion IsMessage (messages_in packet) → ending_of_packet packet ≡ More → Extends l new (EndsBy More)
-packet_goes_on l now new packet extends added are same =
-    extends_by_packet (EndsBy More) l now new packet extends added are (ends_as_packet More extends.more packet extends.holds same)
+    → AllByRecursion IsMessage (messages_in packet) → EndsBy (ending_of_packet packet) (messages_in packet) → ending_of_packet packet ≡ More
+    → Extends l new (EndsBy More)
+packet_goes_on l now new packet extends added are ends same =
+    extends_by_packet (EndsBy More) l now new packet extends added are (ends_as_packet More extends.more packet ends extends.holds same)
 
 pub packet_ends : (l now new : List Message) (packet : Packet) → Extends l now (EndsBy More) → new ≡ now ++ messages_in packet
-    → AllByRecursion IsMessage (messages_in packet) → (ending_of_packet packet ≡ Whole) ⊎ (ending_of_packet packet ≡ BrokenOff) → Extends l new IsEnded
-packet_ends l now new packet extends added are (inl whole) =
-    extends_by_packet IsEnded l now new packet extends added are (inl (ends_as_packet Whole extends.more packet extends.holds whole))
-packet_ends l now new packet extends added are (inr broken) =
-    extends_by_packet IsEnded l now new packet extends added are (inr (ends_as_packet BrokenOff extends.more packet extends.holds broken))
+    → AllByRecursion IsMessage (messages_in packet) → EndsBy (ending_of_packet packet) (messages_in packet)
+    → (ending_of_packet packet ≡ Whole) ⊎ (ending_of_packet packet ≡ BrokenOff) → Extends l new IsEnded
+packet_ends l now new packet extends added are ends (inl whole) =
+    extends_by_packet IsEnded l now new packet extends added are (inl (ends_as_packet Whole extends.more packet ends extends.holds whole))
+packet_ends l now new packet extends added are ends (inr broken) =
+    extends_by_packet IsEnded l now new packet extends added are (inr (ends_as_packet BrokenOff extends.more packet ends extends.holds broken))
 
 -- by how a packet ends the stream, as a function answers it
 pub packet_says_end : (a : Ending) (packet : Packet) → a ≡ ending_of_packet packet → (a ≡ Whole) ⊎ (a ≡ BrokenOff)
@@ -112,16 +130,16 @@ pub known_by : {packet : Packet} {packets others : List Packet} → packets ≡ 
 unfolding messages_of
 known_by {packet = packet} {others = others} same = ap messages_of same ∙ flat_map-cons messages_in packet others
 
--- ---- rows that were sent together
+-- ---- messages that were sent together
 
 -- none are among no packets
-pub none_together : has_rows_together [] ≡ false
-unfolding has_rows_together
+pub none_together : has_together [] ≡ false
+unfolding has_together
 none_together = refl
 
 -- one packet more
 pub together_with : (packets : List Packet) (packet : Packet)
-    → has_rows_together (packets ++ packet ∷ []) ≡ (has_rows_together packets || is_rows_together packet)
-unfolding has_rows_together
-together_with packets packet = list_any-append is_rows_together packets (packet ∷ [])
-    ∙ ap (λ (b : Bool). has_rows_together packets || b) (or-false (is_rows_together packet))
+    → has_together (packets ++ packet ∷ []) ≡ (has_together packets || is_together packet)
+unfolding has_together
+together_with packets packet = list_any-append is_together packets (packet ∷ [])
+    ∙ ap (λ (b : Bool). has_together packets || b) (or-false (is_together packet))

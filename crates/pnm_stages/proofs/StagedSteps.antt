@@ -66,14 +66,15 @@ longer_by a b c d more before added = added ∙ ap (λ (x : List Message). x ++ 
 pub passes_packet : {F : Type 0} (at : F → Tool → List Message → List Message → Type 0) (all_given : F → Bool) (stopped : F → Option ToolFault)
     (first old new : FusedFilter F) (packet : Packet) (r r1 r2 s s1 s2 : List Message)
     → IsPassing at all_given stopped More first old r r1 s s1 → r2 ≡ r1 ++ messages_in packet → AllByRecursion IsMessage (messages_in packet)
-    → HasPassed at all_given stopped true old new (messages_in packet) s1 s2 → IsPassing at all_given stopped (ending_of_packet packet) first new r r2 s s2
-passes_packet at all_given stopped first old new packet r r1 r2 s s1 s2 passing added are passed = record {
+    → EndsBy (ending_of_packet packet) (messages_in packet) → HasPassed at all_given stopped true old new (messages_in packet) s1 s2
+    → IsPassing at all_given stopped (ending_of_packet packet) first new r r2 s s2
+passes_packet at all_given stopped first old new packet r r1 r2 s s1 s2 passing added are ends passed = record {
   took = passing.took ++ messages_in packet;
   gave = passing.gave ++ passed.more;
   received = longer_by r r1 passing.took r2 (messages_in packet) passing.received added;
   sent = longer_by s s1 passing.gave s2 passed.more passing.sent passed.added;
   messages = both_all IsMessage passing.took (messages_in packet) passing.messages are;
-  ends = ends_with_packet passing.took packet passing.ends;
+  ends = ends_with_packet passing.took packet ends passing.ends;
   stage = λ tool fresh. passed.full refl tool passing.took passing.gave passing.ends (passing.stage tool fresh);
 }
 
@@ -179,11 +180,12 @@ drained_by BrokenOff drained took r1 r2 left ends has = nothing_more BrokenOff d
 pub output_gone : {F : Type 0} (at : F → Tool → List Message → List Message → Type 0) (all_given : F → Bool) (stopped : F → Option ToolFault)
     (first old new : FusedFilter F) (packet : Packet) (a : Ending) (drained : Bool) (r r1 r2 r3 left s s1 s2 : List Message) (tool : Tool)
     → IsPassing at all_given stopped More first old r r1 s s1 → r2 ≡ r1 ++ messages_in packet → AllByRecursion IsMessage (messages_in packet)
-    → HasPassed at all_given stopped false old new (messages_in packet) s1 s2 → a ≡ ending_of_packet packet → HasDrainedAfter a drained r2 r3 left
+    → EndsBy (ending_of_packet packet) (messages_in packet) → HasPassed at all_given stopped false old new (messages_in packet) s1 s2
+    → a ≡ ending_of_packet packet → HasDrainedAfter a drained r2 r3 left
     → FilterAt at all_given stopped first tool [] [] → HasRunStage tool PeerGone r r3 left s s2
-output_gone at all_given stopped first old new packet a drained r r1 r2 r3 left s s1 s2 tool passing added are passed says rest fresh =
+output_gone at all_given stopped first old new packet a drained r r1 r2 r3 left s s1 s2 tool passing added are so passed says rest fresh =
     let took = passing.took ++ messages_in packet in
-    let ends : EndsBy a took = subst (λ (e : Ending). EndsBy e took) (sym says) (ends_with_packet passing.took packet passing.ends) in
+    let ends : EndsBy a took = subst (λ (e : Ending). EndsBy e took) (sym says) (ends_with_packet passing.took packet so passing.ends) in
     let by = drained_by a drained took r2 r3 left ends rest in
     let part = passed.part tool passing.took passing.gave passing.ends (passing.stage tool fresh) in
     record {

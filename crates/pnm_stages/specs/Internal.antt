@@ -1,3 +1,2 @@
 -- Words that no contract of an exported function reaches.
-pub mod HeldImages
 pub mod StageParts

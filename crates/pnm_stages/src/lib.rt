@@ -3,7 +3,6 @@
 #![tactic(auto)]
 
 mod branches;
-mod held_image;
 pub mod laws;
 mod receiver;
 mod ring;

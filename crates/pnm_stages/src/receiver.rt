@@ -3,9 +3,9 @@
 ghost use Rattle.std.specs.Prelude.{◌≡◌, ◌<◌, length};
 ghost use Rattle.std.specs.List.{AllByRecursion};
 ghost use Rattle.rtrb.specs.Ring.{received as received_on};
-ghost use Rattle.pnm_image.specs.Messages.{IsMessage};
-ghost use Rattle.pnm_image.specs.Packets.{messages_in};
-ghost use Rattle.pnm_stages.specs.RingPackets.{is_rows_together, has_rows_together};
+ghost use Rattle.pnm_image.specs.Messages.{IsMessage, EndsBy};
+ghost use Rattle.pnm_image.specs.Packets.{messages_in, ending_of_packet};
+ghost use Rattle.pnm_stages.specs.RingPackets.{is_together, has_together};
 
 use crate::ring::AnyMessage;
 use crate::sender::Sender;
@@ -25,17 +25,17 @@ pub struct Receiver {
     /// Half the number of packets that the last look saw in the ring. It is narrow, since many ends lie on the stack of
     /// a thread that starts others.
     half: u32,
-    /// Whether this end has received rows that were sent together, or a whole image.
+    /// Whether this end has received several messages that were sent together.
     has_rows: bool,
-    ghost rows: { has_rows ≡ has_rows_together (received_on ring) },
+    ghost rows: { has_rows ≡ has_together (received_on ring) },
 }
 
 impl Receiver {
     ghost use Rattle.std.specs.Prelude.{◌≡◌, ◌<◌, List, [], ◌∷◌, ◌++◌, length, IfSome, IfNone, IsTrue, IsFalse};
     ghost use Rattle.std.specs.List.{AllByRecursion};
     ghost use Rattle.rtrb.specs.Ring.{received as received_on};
-    ghost use Rattle.pnm_image.specs.Messages.{IsMessage};
-    ghost use Rattle.pnm_image.specs.Packets.{messages_in};
+    ghost use Rattle.pnm_image.specs.Messages.{IsMessage, EndsBy};
+    ghost use Rattle.pnm_image.specs.Packets.{messages_in, ending_of_packet};
     ghost use Rattle.pnm_image.specs.declared.packet.Packet.{Packet as PacketValue};
     ghost use Rattle.pnm_stages.specs.RingPackets.{BeginsByNoMessage};
     ghost use Rattle.pnm_stages.specs.Rings.{sent, received, known_items, IsPair, SameSender, SameReceiver, HasDrained};
@@ -93,8 +93,12 @@ impl Receiver {
     pub fn peek_known(&self) -> &Packet
         requires { 0 < length (known_packets self.now) }
         ensures next { (later : List PacketValue) × (known_packets self.now ≡ result.now ∷ later) }
+        ensures ends { EndsBy (ending_of_packet result.now) (messages_in result.now) }
     {
-        self.ring.peek_known()
+        let packet = self.ring.peek_known();
+        // No effect at run time: from this, a proof learns how the packet's messages end.
+        let _ = recognise(packet);
+        packet
     }
 
     /// Whether the sending end was dropped. What was sent before is still there.
@@ -116,18 +120,19 @@ impl Receiver {
         ensures seen { known_packets self.old ≡ result ∷ known_packets self.new }
         ensures some { 0 < length (messages_in result) }
         ensures messages { AllByRecursion IsMessage (messages_in result) }
+        ensures ends { EndsBy (ending_of_packet result) (messages_in result) }
     {
         let packet = self.ring.pop_known();
         let left = self.ring.cached_slots();
         if left == 0 || left == self.half as usize {
             self.waker.wake_sender();
         }
-        let are_rows = recognise(&packet);
-        self.has_rows = self.has_rows || are_rows;
+        let is_together = recognise(&packet);
+        self.has_rows = self.has_rows || is_together;
         packet
     }
 
-    /// Whether this end has received rows that were sent together, or a whole image at once.
+    /// Whether this end has received several messages that were sent together.
     pub fn has_received_rows(&self) -> bool
         ensures { result ≡ has_received_rows self.now }
     {
@@ -153,6 +158,7 @@ impl Receiver {
         ensures taken { IfSome result (λ p. received self.new ≡ received self.old ++ messages_in p) }
         ensures some { IfSome result (λ p. 0 < length (messages_in p)) }
         ensures messages { IfSome result (λ p. AllByRecursion IsMessage (messages_in p)) }
+        ensures ends { IfSome result (λ p. EndsBy (ending_of_packet p) (messages_in p)) }
         ensures none_seen { IfNone result ((received self.new ≡ received self.old) × (known_items self.new ≡ [])) }
     {
         if self.has_message() || self.wait_for_message(rt) {
@@ -161,8 +167,8 @@ impl Receiver {
         None
     }
 
-    /// Receives the next message, once there is one. Returns `None` if rows that were sent together or a whole image
-    /// come next, which stay in the ring, and once the ring is empty and its other end was seen dropped.
+    /// Receives the next message, once there is one. Returns `None` if several that were sent together come
+    /// next, which stay in the ring, and once the ring is empty and its other end was seen dropped.
     pub fn receive_message<R: Wait>(&mut self, rt: &R) -> Option<Message>
         ensures ring { SameReceiver self.old self.new }
         ensures taken { IfSome result (λ m. received self.new ≡ received self.old ++ m ∷ []) }
@@ -243,24 +249,20 @@ impl Receiver {
     }
 }
 
-/// Whether a packet is rows that were sent together, or a whole image. A proof learns that it is a message at least,
-/// and that the head of an image keeps the rules of heads.
+/// Whether a packet is several messages that were sent together. A proof learns that it is a message at least, that the
+/// head of an image keeps the rules of heads, and that only the last message may end the stream.
 fn recognise(packet: &Packet) -> bool
-    ensures rows { result ≡ is_rows_together packet.now }
+    ensures together { result ≡ is_together packet.now }
     ensures some { 0 < length (messages_in packet.now) }
     ensures messages { AllByRecursion IsMessage (messages_in packet.now) }
+    ensures ends { EndsBy (ending_of_packet packet.now) (messages_in packet.now) }
 {
-    match packet {
-        Packet::Begin(head) => {
-            let _ = head.shape();
-            false
-        }
-        Packet::Rows(rows) => rows.are_several(),
-        Packet::Image(head, rows) => {
-            let _ = head.shape();
-            let _ = rows.count();
-            true
-        }
-        Packet::ImageEnd | Packet::StreamEnd | Packet::Stop => false,
+    let Packet::Part(part) = packet else {
+        return false;
+    };
+    if let Some(head) = part.parts().0 {
+        let _ = head.shape();
+        return part.is_several();
     }
+    part.is_several()
 }

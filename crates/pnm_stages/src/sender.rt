@@ -192,23 +192,21 @@ impl Sender {
     }
 }
 
-/// How many bytes a packet's samples take, or 0 for short rows together and small images (`FEW_TOGETHER`). Returns
-/// `None` for a message that ends the stream, since that is waited for.
+/// How many bytes the rows of a part take as they are held, or 0 for short rows together and small images
+/// (`FEW_TOGETHER`). Returns `None` for a message that ends the stream, since that is waited for.
 fn bytes_of(packet: &Packet) -> Option<usize> {
-    match packet {
-        Packet::Rows(rows) => {
-            let (held, times) = rows.parts();
-            let bytes = rows_bytes(held);
-            let are_few = times == 1 && held.count() > 1 && bytes <= FEW_TOGETHER;
-            Some(if are_few { 0 } else { bytes })
-        }
-        Packet::Image(_, rows) => {
-            let bytes = rows_bytes(rows);
-            Some(if bytes <= FEW_TOGETHER { 0 } else { bytes })
-        }
-        Packet::Begin(_) | Packet::ImageEnd => Some(0),
-        Packet::StreamEnd | Packet::Stop => None,
-    }
+    let Packet::Part(part) = packet else {
+        return None;
+    };
+    let (head, rows, ends_image) = part.parts();
+    let Some(rows) = rows else {
+        return Some(0);
+    };
+    let (held, times) = rows.parts();
+    let bytes = rows_bytes(held);
+    let are_together = held.count() > 1 || head.is_some() && ends_image;
+    let are_few = times == 1 && are_together && bytes <= FEW_TOGETHER;
+    Some(if are_few { 0 } else { bytes })
 }
 
 /// The bytes in which rows are held.

@@ -2,14 +2,13 @@
 
 ghost use Rattle.std.specs.Prelude.{◌≡◌, ◌<◌, [], length, IsTrue, IsFalse};
 ghost use Rattle.pnm_tools.specs.declared.tool.Tool.{Tool as ToolValue};
-ghost use Rattle.pnm_image.specs.Packets.{messages_in};
+ghost use Rattle.pnm_image.specs.Messages.{EndsBy};
+ghost use Rattle.pnm_image.specs.Packets.{messages_in, ending_of_packet};
 ghost use Rattle.pnm_stages.specs.Rings.{sent, received, known_items, known_packets, SameSender, SameReceiver};
 ghost use Rattle.pnm_tools.specs.FusedFilters.{FilterAt};
 ghost use Rattle.pnm_stages.specs.Stages.{HasRunStage};
-ghost use Rattle.pnm_stages.specs.Internal.StageParts.{HasPassed, HasBrokenOffAfter};
-ghost use Rattle.pnm_stages.specs.Internal.HeldImages.{held_messages, HasHeldAnswers};
+ghost use Rattle.pnm_stages.specs.Internal.StageParts.{HasSentAnswers, HasPassed, HasBrokenOffAfter};
 
-use crate::held_image::HeldImage;
 use crate::receiver::Receiver;
 use crate::sender::Sender;
 use pnm_image::{Ending, Packet};
@@ -58,10 +57,9 @@ pub struct StageDone {
 }
 
 /// Passes what comes on `input` through a tool at work, or one that has refused, to `output`, as `run_stage` does
-/// behind its gate. Rows that come together are fed together. If not all of them may come, each is copied and fed by
-/// itself; those behind the one that is refused are dropped. If there is no memory for a copy, the tool refuses by
-/// `Memory`. What the tool makes of an image that comes whole, in one packet, is sent in one packet, too, if it is a
-/// whole image, all rows of which the tool gives together.
+/// behind its gate. The messages of a packet are fed together, but for rows that repeat, whose copies are fed some at a
+/// time. If not all of them may come, each is fed by itself; those behind the one that is refused are dropped. If there
+/// is no memory for a copy of rows, the tool refuses by `Memory`. Each packet that the tool gives is sent as it is.
 pub fn run_filter<R: Wait, F: Filter + Drop>(
     rt: &R,
     alloc: Global,
@@ -152,8 +150,8 @@ fn wait<R: Wait>(rt: &R, input: &mut Receiver, output: &mut Sender) -> bool
     input.has_message() || input.wait_for_message(rt)
 }
 
-/// Passes a packet through the tool, and sends what the tool makes of it, as one packet where that is a whole image
-/// (`HeldImage`). Returns false if the output's other end was seen dropped before all was sent.
+/// Passes a packet through the tool, and sends what the tool makes of it. Returns false if the output's other end was
+/// seen dropped before all was sent.
 fn pass<R: Wait, F: Filter + Drop>(
     rt: &R,
     alloc: Global,
@@ -161,34 +159,33 @@ fn pass<R: Wait, F: Filter + Drop>(
     packet: Packet,
     output: &mut Sender,
 ) -> bool
+    requires { EndsBy (ending_of_packet packet) (messages_in packet) }
     ensures output { SameSender output.old output.new }
     ensures passed { HasPassed F.at F.all_given F.stopped result stage.old stage.new (messages_in packet)
         (sent output.old) (sent output.new) }
 {
     let mut unfed = Unfed::of(packet);
-    let mut held = HeldImage::Nothing;
     while stage.feed_next(alloc, &mut unfed) {
-        if !send_answers(rt, stage, &mut held, output) {
+        if !send_answers(rt, stage, output) {
             return false;
         }
     }
-    held.send_held(rt, output)
+    true
 }
 
-/// Sends or holds what the tool gives, until it has given all, or refused. Returns false if the output's other end was
-/// seen dropped before that.
+/// Sends what the tool gives, until it has given all, or refused. Returns false if the output's other end was seen
+/// dropped before that.
 fn send_answers<R: Wait, F: Filter + Drop>(
     rt: &R,
     stage: &mut FusedFilter<F>,
-    held: &mut HeldImage,
     output: &mut Sender,
 ) -> bool
     ensures output { SameSender output.old output.new }
-    ensures held { HasHeldAnswers F.at F.all_given F.stopped result stage.old stage.new
-        (held_messages held.old) (held_messages held.new) (sent output.old) (sent output.new) }
+    ensures sent { HasSentAnswers F.at F.all_given F.stopped result stage.old stage.new
+        (sent output.old) (sent output.new) }
 {
     while let Some(answer) = stage.next() {
-        if !held.send(rt, answer, output) {
+        if !output.send(rt, answer) {
             return false;
         }
     }

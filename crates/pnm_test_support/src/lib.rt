@@ -17,10 +17,10 @@ pub use devices::{Drips, FailsOnce, NeverFlushes, Recorded, Sips};
 pub use messages::{
     Unmade, cut_head, cut_messages, head_of, held, messages_of, number_of, samples_of,
 };
-pub use parts::{Part, is_made_of, message};
+pub use parts::{Part, are_made_of, is_made_of, message};
 pub use sweep::Sweep;
 pub use telling::{
     width_of, write_all, write_change, write_head, write_message, write_row, write_text,
 };
-pub use together::{cut_into, packets_of, rows_of, write_each_row, write_packet, write_rows};
+pub use together::{cut_into, packets_of, part_of, write_packet, write_part};
 pub use writing::{cut_at, cut_number, cut_pair, cut_word, named, text_of};

@@ -1,7 +1,7 @@
 //! What messages are made of, for tests that name them one by one.
 
 use super::messages::{Unmade, head_of};
-use pnm_image::{Kind, Message, Samples, Shape};
+use pnm_image::{Head, Kind, Message, Packet, RepeatedRows, SampleSlice, Samples, Shape};
 use std::alloc::Global;
 
 /// What a message is made of.
@@ -55,23 +55,95 @@ pub fn message(alloc: Global, part: Part<'_>) -> Result<Message, Unmade> {
 /// Whether the message is made of this.
 pub fn is_made_of(message: &Message, part: Part<'_>) -> bool {
     match message {
-        Message::Begin(head) => head_parts(part) == Some((head.shape(), head.tuple_type())),
-        Message::Row(row) => matches!(part, Part::Row(samples) if has_samples(row, samples)),
+        Message::Begin(head) => is_head(head, part),
+        Message::Row(row) => is_row(row.as_slice(), row.len(), part),
         Message::ImageEnd => matches!(part, Part::ImageEnd),
         Message::StreamEnd => matches!(part, Part::StreamEnd),
         Message::Stop => matches!(part, Part::Stop),
     }
 }
 
-/// Whether the row has these samples.
-fn has_samples(row: &Samples, samples: &[u16]) -> bool {
-    if row.len() != samples.len() {
-        return false;
+/// Whether the head is made of this.
+fn is_head(head: &Head, part: Part<'_>) -> bool {
+    head_parts(part) == Some((head.shape(), head.tuple_type()))
+}
+
+/// Whether these `length` samples are a row that is made of this.
+fn is_row(row: SampleSlice<'_>, length: usize, part: Part<'_>) -> bool {
+    match part {
+        Part::Row(samples) => length == samples.len() && has_samples(row, samples),
+        _ => false,
     }
+}
+
+/// Whether the row begins with these samples.
+fn has_samples(row: SampleSlice<'_>, samples: &[u16]) -> bool {
     for (at, sample) in samples.iter().enumerate() {
-        if row.sample(at) != *sample {
+        if !is_sample(row, at, *sample) {
             return false;
         }
     }
     true
+}
+
+/// Whether sample `x` of the row is `sample`. In bits, a black pixel is a set bit, and its sample is 0.
+fn is_sample(row: SampleSlice<'_>, x: usize, sample: u16) -> bool {
+    match row {
+        SampleSlice::Bits(bytes, _) => match bytes.get(x / 8) {
+            Some(byte) => (*byte >> (7 - x % 8) & 1 == 1) == (sample == 0),
+            None => false,
+        },
+        SampleSlice::Bytes(bytes) => match bytes.get(x) {
+            Some(byte) => u16::from(*byte) == sample,
+            None => false,
+        },
+        SampleSlice::Words(words) => words.get(x) == Some(&sample),
+    }
+}
+
+/// Whether the messages of the packet are made of these from the one at `come` on, which then counts them, too. Rows
+/// that repeat are none of these.
+pub fn are_made_of(packet: &Packet, parts: &[Part<'_>], come: &mut usize) -> bool {
+    match packet {
+        Packet::Part(part) => is_part_made_of(part, parts, come),
+        Packet::StreamEnd => matches!(next_of(parts, come), Some(Part::StreamEnd)),
+        Packet::Stop => matches!(next_of(parts, come), Some(Part::Stop)),
+    }
+}
+
+/// The part at `come`, which then counts it, too.
+fn next_of<'a>(parts: &[Part<'a>], come: &mut usize) -> Option<Part<'a>> {
+    let part = parts.get(*come).copied();
+    *come = come.saturating_add(1);
+    part
+}
+
+/// The same for a part of an image.
+fn is_part_made_of(part: &pnm_image::Part, parts: &[Part<'_>], come: &mut usize) -> bool {
+    let (head, rows, ends_image) = part.parts();
+    if let Some(head) = head
+        && !next_of(parts, come).is_some_and(|part| is_head(head, part))
+    {
+        return false;
+    }
+    if let Some(rows) = rows
+        && !are_rows_made_of(rows, parts, come)
+    {
+        return false;
+    }
+    !ends_image || matches!(next_of(parts, come), Some(Part::ImageEnd))
+}
+
+/// The same for rows.
+fn are_rows_made_of(rows: &RepeatedRows, parts: &[Part<'_>], come: &mut usize) -> bool {
+    let (rows, times) = rows.parts();
+    for at in 0..rows.count() {
+        let Some(part) = next_of(parts, come) else {
+            return false;
+        };
+        if !is_row(rows.row_slice(at), rows.row_length(), part) {
+            return false;
+        }
+    }
+    times == 1
 }

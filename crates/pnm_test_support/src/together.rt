@@ -1,4 +1,4 @@
-//! Rows that are handed over together. They are written, and told, one after another between braces.
+//! Messages that are handed over together. They are written, and told, one after another between braces.
 
 ghost use Rattle.std.specs.Prelude.{◌≡◌, ◌*◌, All, IfOk, length};
 ghost use Rattle.pnm_image.specs.HeldRows.{AreRowsWithin};
@@ -7,13 +7,12 @@ use super::messages::{Unmade, held_by, messages_of, number_of};
 use super::telling::{write_head, write_message, write_row};
 use super::writing::{cut_at, cut_number};
 use pnm_image::{
-    BitRows, Bits, Message, Packet, RepeatedRows, RowVec, Rows, SampleVec, Samples, Several,
+    BitRows, Bits, Message, Packet, Part, RepeatedRows, RowVec, Rows, SampleVec, Samples,
 };
 use std::alloc::{AllocError, Global};
 
-/// The packets of messages that are written one after another. Rows between braces are one packet, and so is a whole
-/// image between braces. A number before rows is the number of times that they come. Rows are held in as few bits as
-/// hold their samples, or in words.
+/// The packets of messages that are written one after another. What stands between braces is one packet. Rows are held
+/// in as few bits as hold their samples, or in words.
 pub fn packets_of(alloc: Global, text: &[u8], is_narrow: bool) -> Result<Vec<Packet>, Unmade> {
     let mut packets = Vec::new(alloc);
     let mut rest = text;
@@ -27,15 +26,16 @@ pub fn packets_of(alloc: Global, text: &[u8], is_narrow: bool) -> Result<Vec<Pac
         }
         let (together, after) = cut_at(after, b'}');
         if !together.is_empty() {
-            packets.push(packet_of(alloc, together, is_narrow)?)?;
+            packets.push(Packet::Part(part_of(alloc, together, is_narrow)?))?;
         }
         rest = after;
     }
     Ok(packets)
 }
 
-/// The packet of what is written between braces: a whole image, or rows, behind the number of times that they come.
-fn packet_of(alloc: Global, text: &[u8], is_narrow: bool) -> Result<Packet, Unmade> {
+/// The part of an image that is written between braces: its head, rows and its end, or some of these, behind the number
+/// of times that the rows come.
+pub fn part_of(alloc: Global, text: &[u8], is_narrow: bool) -> Result<Part, Unmade> {
     let is_counted = text.first().is_some_and(|byte| byte.is_ascii_digit());
     let (times, text) = if is_counted {
         cut_number(text)
@@ -43,22 +43,22 @@ fn packet_of(alloc: Global, text: &[u8], is_narrow: bool) -> Result<Packet, Unma
         (1, text)
     };
     let messages = messages_of(alloc, text, is_narrow)?;
-    match messages.as_slice() {
-        [Message::Begin(head), rows @ .., Message::ImageEnd] => {
-            let rows = rows_among(alloc, rows, is_narrow)?;
-            Ok(Packet::Image(head.copy()?, rows))
-        }
-        rows => {
-            let rows = rows_among(alloc, rows, is_narrow)?;
-            Ok(Packet::Rows(RepeatedRows::new(rows, number_of(times).max(1))))
-        }
-    }
-}
-
-/// The rows that are written one after another, to be handed over together: at least one, each as long as the others.
-pub fn rows_of(alloc: Global, text: &[u8], is_narrow: bool) -> Result<Rows, Unmade> {
-    let messages = messages_of(alloc, text, is_narrow)?;
-    rows_among(alloc, messages.as_slice(), is_narrow)
+    let (head, rest) = match messages.as_slice() {
+        [Message::Begin(head), rest @ ..] => (Some(head.copy()?), rest),
+        rest => (None, rest),
+    };
+    let (rows, ends_image) = match rest {
+        [rows @ .., Message::ImageEnd] => (rows, true),
+        rows => (rows, false),
+    };
+    let rows = match rows {
+        [] => None,
+        rows => Some(RepeatedRows::new(
+            rows_among(alloc, rows, is_narrow)?,
+            number_of(times).max(1),
+        )),
+    };
+    Part::of(head, rows, ends_image).ok_or(Unmade)
 }
 
 /// The rows that these messages are, at least one, each as long as the others.
@@ -142,15 +142,38 @@ fn rows_of_bits(
     Ok(BitRows::new(bytes, count, row_length))
 }
 
-/// Adds the rows, between braces.
-pub fn write_rows(alloc: Global, out: &mut String, rows: &Rows) -> Result<(), AllocError> {
-    out.push_str(" {")?;
-    write_each_row(alloc, out, rows)?;
-    out.push_str(" }")
+/// Adds the messages of a part of an image one after another, rows that repeat each time that they come.
+pub fn write_part(alloc: Global, out: &mut String, part: &Part) -> Result<(), AllocError> {
+    write_times(alloc, out, part, times_of(part))
+}
+
+/// How many times the rows of the part come.
+fn times_of(part: &Part) -> u32 {
+    match part.parts().1 {
+        Some(rows) => rows.parts().1,
+        None => 1,
+    }
+}
+
+/// Adds the messages of a part of an image one after another, its rows so many times.
+fn write_times(alloc: Global, out: &mut String, part: &Part, times: u32) -> Result<(), AllocError> {
+    let (head, rows, ends_image) = part.parts();
+    if let Some(head) = head {
+        write_head(out, head)?;
+    }
+    if let Some(rows) = rows {
+        for _ in 0..times {
+            write_rows(alloc, out, rows.parts().0)?;
+        }
+    }
+    if ends_image {
+        out.push_str(" ImageEnd")?;
+    }
+    Ok(())
 }
 
 /// Adds the rows, each as a single row is told.
-pub fn write_each_row(alloc: Global, out: &mut String, rows: &Rows) -> Result<(), AllocError> {
+fn write_rows(alloc: Global, out: &mut String, rows: &Rows) -> Result<(), AllocError> {
     for at in 0..rows.count() {
         let row = rows.row(alloc, at)?;
         write_row(out, &row)?;
@@ -158,27 +181,24 @@ pub fn write_each_row(alloc: Global, out: &mut String, rows: &Rows) -> Result<()
     Ok(())
 }
 
-/// Adds the rows, between braces. If they come several times, the number stands before them.
-fn write_repeated(alloc: Global, out: &mut String, rows: &RepeatedRows) -> Result<(), AllocError> {
-    let (rows, times) = rows.parts();
-    if times == 1 {
-        return write_rows(alloc, out, rows);
+/// Adds what is handed over at once: several messages between braces. If their rows repeat, they are added once, and
+/// the number of times that they come stands before the messages.
+pub fn write_packet(alloc: Global, out: &mut String, packet: &Packet) -> Result<(), AllocError> {
+    match packet {
+        Packet::Part(part) if part.is_several() => write_together(alloc, out, part),
+        Packet::Part(part) => write_part(alloc, out, part),
+        Packet::StreamEnd => write_message(out, &Message::StreamEnd),
+        Packet::Stop => write_message(out, &Message::Stop),
     }
-    write!(out, " {{{times}")?;
-    write_each_row(alloc, out, rows)?;
-    out.push_str(" }")
 }
 
-/// Adds what is handed over at once, rows that are handed over together, or a whole image, between braces.
-pub fn write_packet(alloc: Global, out: &mut String, packet: Packet) -> Result<(), AllocError> {
-    match packet.into_message() {
-        Ok(message) => write_message(out, &message),
-        Err(Several::Rows(rows)) => write_repeated(alloc, out, &rows),
-        Err(Several::Image(head, rows)) => {
-            out.push_str(" {")?;
-            write_head(out, &head)?;
-            write_each_row(alloc, out, &rows)?;
-            out.push_str(" ImageEnd }")
-        }
+/// Adds several messages, between braces.
+fn write_together(alloc: Global, out: &mut String, part: &Part) -> Result<(), AllocError> {
+    out.push_str(" {")?;
+    let times = times_of(part);
+    if times > 1 {
+        write!(out, "{times}")?;
     }
+    write_times(alloc, out, part, 1)?;
+    out.push_str(" }")
 }

@@ -11,7 +11,6 @@ use Rattle.pnm_image.specs.declared.message.Ending.{Ending}
 use Rattle.pnm_image.specs.declared.message.Ending.TheVariants.{BrokenOff}
 use Rattle.pnm_image.specs.Messages.{without_stop, EndsBy}
 use Rattle.pnm_image.specs.Places.{Accepts, IsLawful, IsLawfulFrom, place_of}
-use Rattle.pnm_image.specs.Rows.{row_messages}
 use Rattle.pnm_image.specs.Completion.{IsPrefixOf, Completes}
 use Rattle.pnm_tools.specs.declared.fault.ToolFault.{ToolFault}
 use Rattle.pnm_tools.specs.declared.fault.ToolFault.TheVariants.{CutOutside, ChannelOutside, TooLarge, OutOfOrder}
@@ -78,10 +77,9 @@ IfBegin Stop P = Unit {0}
 abbrev pub MayCome : Bool → List Message → Message → Type 0
 MayCome all_given accepted m = (all_given ≡ true) × Accepts (place_of Between accepted) m
 
--- rows may come: all was given for the message before, and they are in order
-abbrev pub RowsMayCome : Bool → List Message → List (List ℕ) → Type 0
-RowsMayCome all_given accepted rows =
-    (all_given ≡ true) × (1 ≤ length rows) × IsLawfulFrom (place_of Between accepted) (row_messages rows)
+-- messages may come together: all was given for those before, and they are in order
+abbrev pub AllMayCome : Bool → List Message → List Message → Type 0
+AllMayCome all_given accepted ms = (all_given ≡ true) × IsLawfulFrom (place_of Between accepted) ms
 
 -- the tool takes the image that begins
 abbrev pub Begins : Tool → Message → Type 0
@@ -103,6 +101,18 @@ Judges all_given tool accepted m (Err Memory) = MayCome all_given accepted m × 
 Judges all_given tool accepted m (Err CutOutside) = MayCome all_given accepted m × RefusesHead tool m CutOutside
 Judges all_given tool accepted m (Err ChannelOutside) = MayCome all_given accepted m × RefusesHead tool m ChannelOutside
 Judges all_given tool accepted m (Err TooLarge) = MayCome all_given accepted m × RefusesHead tool m TooLarge
+
+-- how the first of messages is refused after those that were accepted
+abbrev pub RefusesFirst : Bool → Tool → List Message → List Message → ToolFault → Type 0
+RefusesFirst all_given tool accepted [] fault = ⊥
+RefusesFirst all_given tool accepted (m ∷ ms) fault = Judges all_given tool accepted m (Err fault)
+
+-- how messages that are fed together are judged: all of them are taken, or the first is refused; several are refused
+-- only if all of them may come
+abbrev pub JudgesAll : Bool → Tool → List Message → List Message → Result (Unit {0}) ToolFault → Type 0
+JudgesAll all_given tool accepted ms (Ok _) = AllMayCome all_given accepted ms × AreTaken tool ms
+JudgesAll all_given tool accepted ms (Err fault) =
+    RefusesFirst all_given tool accepted ms fault × (2 ≤ length ms → AllMayCome all_given accepted ms)
 
 -- ---- laws
 

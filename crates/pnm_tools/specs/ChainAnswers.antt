@@ -10,7 +10,7 @@ use Rattle.pnm_tools.specs.declared.fault.ToolFault.{ToolFault}
 use Rattle.pnm_tools.specs.declared.fault.ToolFault.TheVariants.{Memory}
 use Rattle.pnm_tools.specs.declared.tool.Tool.{Tool}
 use Rattle.pnm_image.specs.declared.message.Ending.TheVariants.{More}
-use Rattle.pnm_tools.specs.Answers.{Answers, AnswersInFull, Judges}
+use Rattle.pnm_tools.specs.Answers.{Answers, AnswersInFull, RefusesFirst}
 use Rattle.pnm_tools.specs.Tools.{AreTaken}
 
 -- messages of images that have rows, without Stop
@@ -29,8 +29,7 @@ pub record AreSound (l : List Message) : Type 0 where
 
 -- the next message is refused so
 abbrev pub IsRefusedNext : Tool → ToolFault → List Message → List Message → Type 0
-IsRefusedNext tool fault accepted [] = ⊥
-IsRefusedNext tool fault accepted (m ∷ rest) = Judges true tool accepted m (Err fault)
+IsRefusedNext tool fault accepted rest = RefusesFirst true tool accepted rest fault
 
 -- a tool that refused: it answered what it accepted, in full unless memory ran out, and took no more
 pub record HasRefused (tool : Tool) (fault : ToolFault) (received given : List Message) : Type 0 where

@@ -31,12 +31,13 @@ pub trait ImageTool {
     ghost kept: { Self → List (List ℕ) };
 
     /// Returns the head of the result of an image with this head, or the refusal. After a head, the tool is ready for
-    /// the image's first row.
+    /// the image's first row, and nothing is due.
     fn begin(&mut self, alloc: Global, head: &Head) -> Result<Head, ToolFault>
         requires { IsLawfulTool (tool self.old) }
         ensures same { tool self.new ≡ tool self.old }
         ensures head { IfOk result (λ made. result_head (tool self.old) head.now ≡ Ok made) }
         ensures ready { OnOk result (ready self.new head.now.shape []) }
+        ensures none_due { OnOk result (due self.new ≡ []) }
         ensures refused { IfErr result (λ fault. (result_head (tool self.old) head.now ≡ Err fault)
             ⊎ ((fault ≡ Memory) × TakesHead (tool self.old) head.now)) };
 
@@ -52,13 +53,13 @@ pub trait ImageTool {
         ensures due { OnOk result (due self.new ≡ rows_answer (tool self.old) shape y rows) }
         ensures refused { IfErr result (λ fault. fault ≡ Memory) };
 
-    /// Ends the image, which has this shape.
+    /// Ends the image, which has this shape. What is left of the result is due behind what was due before.
     fn end(&mut self, shape: Shape)
         requires lawful { IsLawfulTool (tool self.old) }
         requires ready { (rows : List (List ℕ)) × (length rows ≡ shape.height) × ready self.old shape rows }
         ensures same { tool self.new ≡ tool self.old }
         ensures due { (rows : List (List ℕ)) → length rows ≡ shape.height → ready self.old shape rows
-            → due self.new ≡ end_answer (tool self.old) shape rows };
+            → due self.new ≡ due self.old ++ end_answer (tool self.old) shape rows };
 
     /// Returns the next rows of the result, or `None` if none are due. The only fault is `Memory`.
     fn give(&mut self, alloc: Global) -> Result<Option<RepeatedRows>, ToolFault>

@@ -1,23 +1,19 @@
 //! What is still to be fed of a packet.
 
-ghost use Rattle.std.specs.Prelude.{◌≡◌, ◌<◌, ◌∷◌, [], length, drop, IfSome, IfNone, None};
-ghost use Rattle.pnm_image.specs.Packets.{messages_in};
-ghost use Rattle.pnm_tools.specs.Unfed.{each_in, unfed_in};
+ghost use Rattle.std.specs.Prelude.{◌≡◌, ◌≤◌, ◌++◌, [], length, IfOk, IfSome, IfNone, OnErr, None};
+ghost use Rattle.pnm_image.specs.Packets.{messages_in, packet_list};
+ghost use Rattle.pnm_tools.specs.Unfed.{unfed_in};
 
-use pnm_image::{Message, Packet, RepeatedRows, Rows};
-use std::mem;
+use pnm_image::Packet;
+use std::alloc::{AllocError, Global};
 
-/// What is still to be fed of a packet: a message, rows, and the end of an image, in this order.
+/// What is still to be fed of a packet.
 #[derive(Drop)]
 pub struct Unfed {
-    /// The message that comes next, unless that is a row.
-    pub(crate) first: Option<Message>,
-    /// Rows that are fed by themselves, since not all of them may come, and how many of them were.
-    pub(crate) each: Option<(Rows, u32)>,
-    /// Rows that are fed together.
-    pub(crate) rows: Option<RepeatedRows>,
-    /// Whether the end of the image comes then.
-    pub(crate) ends_image: bool,
+    /// What comes next of a packet that was taken apart, since not all of its messages may come.
+    pub(crate) apart: Option<Packet>,
+    /// What comes then.
+    pub(crate) rest: Option<Packet>,
 }
 
 impl Unfed {
@@ -26,56 +22,55 @@ impl Unfed {
     pub fn of(packet: Packet) -> Unfed
         ensures { unfed_in result ≡ messages_in packet }
     {
-        match packet {
-            Packet::Begin(head) => Unfed::message(Message::Begin(head)),
-            Packet::Rows(rows) => Unfed {
-                first: None,
-                each: None,
-                rows: Some(rows),
-                ends_image: false,
-            },
-            Packet::Image(head, rows) => Unfed {
-                first: Some(Message::Begin(head)),
-                each: None,
-                rows: Some(RepeatedRows::once(rows)),
-                ends_image: true,
-            },
-            Packet::ImageEnd => Unfed::message(Message::ImageEnd),
-            Packet::StreamEnd => Unfed::message(Message::StreamEnd),
-            Packet::Stop => Unfed::message(Message::Stop),
-        }
-    }
-
-    /// A message alone.
-    #[inline(always)]
-    fn message(message: Message) -> Unfed
-        ensures { unfed_in result ≡ message ∷ [] }
-    {
         Unfed {
-            first: Some(message),
-            each: None,
-            rows: None,
-            ends_image: false,
+            apart: None,
+            rest: Some(packet),
         }
     }
 
-    /// The rows that are fed by themselves, and how many of them were, if some are left.
+    /// Takes what comes next: of rows that repeat, the next copies (`Part::split_copies`).
+    ///
+    /// # Errors
+    ///
+    /// If there is no memory for the copies.
     #[inline(always)]
-    pub(crate) fn take_each(&mut self) -> Option<(Rows, u32)>
-        ensures some { IfSome result (λ r. (each_in self.old.each ≡ drop r.1 r.0) × (r.1 < length r.0)) }
-        ensures none { IfNone result (each_in self.old.each ≡ []) }
-        ensures each { self.new.each ≡ None }
-        ensures first { self.new.first ≡ self.old.first }
-        ensures rows { self.new.rows ≡ self.old.rows }
-        ensures ends { self.new.ends_image ≡ self.old.ends_image }
+    pub(crate) fn next(&mut self, alloc: Global) -> Result<Option<Packet>, AllocError>
+        ensures taken { IfOk result (λ next. unfed_in self.old ≡ packet_list next ++ unfed_in self.new) }
+        ensures some { IfOk result (λ next. IfSome next (λ packet. 1 ≤ length (messages_in packet))) }
+        ensures none { IfOk result (λ next. IfNone next (unfed_in self.old ≡ [])) }
+        ensures apart { IfOk result (λ next. self.new.apart ≡ None) }
+        ensures failed { OnErr result (1 ≤ length (unfed_in self.old)) }
     {
-        let Some((rows, at)) = mem::replace(&mut self.each, None) else {
-            return None;
-        };
-        if at < rows.count() {
-            Some((rows, at))
-        } else {
-            None
+        if let Some(apart) = &self.apart {
+            // No effect at run time: from this, a proof learns that there is a message.
+            let _ = apart.is_several();
+            return Ok(self.apart.take());
         }
+        let Some(packet) = self.rest.take() else {
+            return Ok(None);
+        };
+        let _ = packet.is_several();
+        if packet.repeats() {
+            return self.next_copies(alloc, packet);
+        }
+        Ok(Some(packet))
+    }
+
+    /// The next copies of a part whose rows repeat; what is left of it comes then.
+    ///
+    /// # Errors
+    ///
+    /// If there is no memory for the copies.
+    #[inline(never)]
+    fn next_copies(&mut self, alloc: Global, packet: Packet) -> Result<Option<Packet>, AllocError>
+        ensures taken { IfOk result (λ next. messages_in packet ≡ packet_list next ++ packet_list self.new.rest) }
+        ensures some { IfOk result (λ next. IfSome next (λ copies. 1 ≤ length (messages_in copies))) }
+        ensures one { IfOk result (λ next. IfNone next ⊥) }
+        ensures apart { self.new.apart ≡ self.old.apart }
+    {
+        let (next, rest) = packet.split_copies(alloc)?;
+        let _ = next.is_several();
+        self.rest = rest;
+        Ok(Some(next))
     }
 }

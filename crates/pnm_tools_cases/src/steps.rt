@@ -1,15 +1,13 @@
 //! Steps of a tool at work. A message is fed, and then all that the tool gives is taken. With a `~` before the message,
 //! no message is told; with a `!`, nothing is taken. `?` takes one answer. A fault is told, and whether it doesn't
-//! stay. Rows between braces, in as few bits as hold their samples, are fed together, or one by one if not all of them
-//! may come. Rows that a tool gives together are told one by one, except by `?`, which tells them between braces, as
-//! one answer.
+//! stay. Messages between braces, their rows in as few bits as hold their samples, are fed together, or one by one if
+//! not all of them may come. What a tool gives together is told one by one, except by `?`, which tells it between
+//! braces, as one answer.
 
 use super::tasks::{Task, write_at_work};
 use pnm_filters::{RowState, RowWise};
-use pnm_image::{Message, Packet, RepeatedRows, Rows};
-use pnm_test_support::{
-    Unmade, cut_at, cut_messages, rows_of, width_of, write_each_row, write_message, write_packet,
-};
+use pnm_image::{Message, Packet, Part};
+use pnm_test_support::{Unmade, cut_at, cut_messages, part_of, width_of, write_packet, write_part};
 use pnm_tools::{Filter, Tool, ToolFault};
 use std::alloc::{AllocError, Global};
 
@@ -139,55 +137,51 @@ pub fn pass_one<F: Filter>(
     message: Message,
     out: &mut String,
 ) -> Result<(), AllocError> {
-    match state.feed(message) {
-        Ok(()) => take_all(alloc, state, step, out),
-        Err(fault) => {
-            write!(out, " {fault}")?;
-            write_stays(state, fault, out)
-        }
+    match pass_packet(alloc, state, step, Packet::from(message), out)? {
+        Some(_) => out.push_str(" given back"),
+        None => Ok(()),
     }
 }
 
-/// Passes on rows together, or one by one if not all of them may come, and adds all that the filter gives then, or the
-/// fault.
+/// Passes on a packet, and adds all that the filter gives then, or the fault, and whether it doesn't stay. Returns the
+/// packet if the filter has.
+fn pass_packet<F: Filter>(
+    alloc: Global,
+    state: &mut F,
+    step: Step,
+    packet: Packet,
+    out: &mut String,
+) -> Result<Option<Packet>, AllocError> {
+    match state.feed(packet) {
+        Ok(Ok(())) => take_all(alloc, state, step, out)?,
+        Ok(Err(fault)) => {
+            write!(out, " {fault}")?;
+            write_stays(state, fault, out)?;
+        }
+        Err(packet) => return Ok(Some(packet)),
+    }
+    Ok(None)
+}
+
+/// Passes on messages together, or one by one if not all of them may come, and adds all that the filter gives then, or
+/// the fault.
 fn pass_together<F: Filter>(
     alloc: Global,
     state: &mut F,
     text: &[u8],
     out: &mut String,
 ) -> Result<(), Unmade> {
-    let fed = state.feed_rows(rows_of(alloc, text, true)?);
-    Ok(write_fed(alloc, state, fed, out)?)
-}
-
-/// Adds what the filter gives for rows that were fed together, or the fault. Passes on one by one the rows that it
-/// returned.
-fn write_fed<F: Filter>(
-    alloc: Global,
-    state: &mut F,
-    fed: Result<Result<(), ToolFault>, Rows>,
-    out: &mut String,
-) -> Result<(), AllocError> {
-    match fed {
-        Ok(Ok(())) => take_all(alloc, state, Step::Passes, out),
-        Ok(Err(fault)) => {
-            write!(out, " {fault}")?;
-            write_stays(state, fault, out)
+    let packet = Packet::Part(part_of(alloc, text, true)?);
+    let mut left = pass_packet(alloc, state, Step::Passes, packet, out)?;
+    for _ in 0..text.len() {
+        let Some(packet) = left else {
+            break;
+        };
+        let (first, rest) = packet.split_first(alloc)?;
+        if pass_packet(alloc, state, Step::Passes, first, out)?.is_some() {
+            out.push_str(" given back")?;
         }
-        Err(rows) => pass_each(alloc, state, &rows, out),
-    }
-}
-
-/// Passes on the rows one by one.
-fn pass_each<F: Filter>(
-    alloc: Global,
-    state: &mut F,
-    rows: &Rows,
-    out: &mut String,
-) -> Result<(), AllocError> {
-    for at in 0..rows.count() {
-        let row = rows.row(alloc, at)?;
-        pass_one(alloc, state, Step::Passes, Message::Row(row), out)?;
+        left = rest;
     }
     Ok(())
 }
@@ -195,7 +189,7 @@ fn pass_each<F: Filter>(
 /// Adds the next answer.
 fn write_next<F: Filter>(alloc: Global, state: &mut F, out: &mut String) -> Result<(), AllocError> {
     match state.next() {
-        Ok(Some(packet)) => write_packet(alloc, out, packet),
+        Ok(Some(packet)) => write_packet(alloc, out, &packet),
         Ok(None) => out.push_str(" nothing"),
         Err(fault) => write!(out, " {fault}"),
     }
@@ -213,7 +207,7 @@ fn take_all<F: Filter>(
     }
     for _ in 0..MOST_ANSWERS {
         match state.next() {
-            Ok(Some(packet)) => write_taken(alloc, step, packet, out)?,
+            Ok(Some(packet)) => write_taken(alloc, step, &packet, out)?,
             Ok(None) => return Ok(()),
             Err(fault) => return write!(out, " {fault}"),
         }
@@ -225,38 +219,27 @@ fn take_all<F: Filter>(
 fn write_taken(
     alloc: Global,
     step: Step,
-    packet: Packet,
+    packet: &Packet,
     out: &mut String,
 ) -> Result<(), AllocError> {
     match (step, packet) {
-        (Step::Passes, Packet::Rows(rows)) => write_repeated(alloc, step, &rows, out),
-        (Step::Widths, Packet::Rows(rows)) => write_repeated(alloc, step, &rows, out),
-        (Step::Passes, other) => write_packet(alloc, out, other),
+        (Step::Passes, Packet::Part(part)) => write_part(alloc, out, part),
+        (Step::Passes, ending) => write_packet(alloc, out, ending),
+        (Step::Widths, Packet::Part(part)) => write_widths(part, out),
         _ => Ok(()),
     }
 }
 
-/// Adds what a step tells of rows, each time that they come.
-fn write_repeated(
-    alloc: Global,
-    step: Step,
-    rows: &RepeatedRows,
-    out: &mut String,
-) -> Result<(), AllocError> {
+/// Adds how wide each row of a part is held, each time that it comes.
+fn write_widths(part: &Part, out: &mut String) -> Result<(), AllocError> {
+    let (_, Some(rows), _) = part.parts() else {
+        return Ok(());
+    };
     let (rows, times) = rows.parts();
     for _ in 0..times {
-        match step {
-            Step::Widths => write_widths(rows, out)?,
-            _ => write_each_row(alloc, out, rows)?,
+        for at in 0..rows.count() {
+            out.push_str(width_of(rows.row_slice(at)))?;
         }
-    }
-    Ok(())
-}
-
-/// Adds how wide each of the rows is held.
-fn write_widths(rows: &Rows, out: &mut String) -> Result<(), AllocError> {
-    for at in 0..rows.count() {
-        out.push_str(width_of(rows.row_slice(at)))?;
     }
     Ok(())
 }
@@ -268,26 +251,20 @@ fn write_stays<F: Filter>(
     out: &mut String,
 ) -> Result<(), AllocError> {
     for number in 0..3 {
-        if !is_fault(state.next(), fault) || state.feed(end_of(number)) != Err(fault) {
+        let is_given = matches!(state.next(), Err(other) if other == fault);
+        let is_fed = matches!(state.feed(end_of(number)), Ok(Err(other)) if other == fault);
+        if !is_given || !is_fed {
             out.push_str(" and another answer")?;
         }
     }
     Ok(())
 }
 
-/// Returns a message that ends something, by its number.
-fn end_of(number: usize) -> Message {
+/// Returns a packet that ends something, by its number.
+fn end_of(number: usize) -> Packet {
     match number {
-        0 => Message::StreamEnd,
-        1 => Message::Stop,
-        _ => Message::ImageEnd,
-    }
-}
-
-/// Returns true if an answer is this fault.
-fn is_fault(answer: Result<Option<Packet>, ToolFault>, fault: ToolFault) -> bool {
-    match answer {
-        Ok(_) => false,
-        Err(other) => other == fault,
+        0 => Packet::StreamEnd,
+        1 => Packet::Stop,
+        _ => Packet::image_end(),
     }
 }

@@ -94,12 +94,22 @@ columns_due way sample_width depth_width depth next columns strips rows batch co
     ∙ ap (λ (l : List (List ℕ)). in_order t.columns_reversed l) same
     ∙ sym (columns_answer way s come exchanged)
 
--- what the code holds at an image's end is the answer to it
+-- nothing is due before the image has ended
+none_due : (w : Transposed) → w.batch ≡ [] → w.columns ≡ 0 → transposed_due w ≡ []
+none_due w no_batch no_column =
+    let t : Transform = transform_of w.way in
+    let f : ℕ → List ℕ = kept_column t.rows_reversed w.depth w.strips w.rows in
+    let none : w.columns - w.next ≡ 0 = omega arith in
+    ap (λ (l : List (List ℕ)). reverse l ++ in_order t.columns_reversed (map f (range_with_len w.next (w.columns - w.next)))) no_batch
+    ∙ ap (λ (n : ℕ). in_order t.columns_reversed (map f (range_with_len w.next n))) none
+    ∙ in_order_nil t.columns_reversed
+
+-- what the code holds at an image's end is the answer to it, and nothing was due before
 pub end_due : (w : Transposed) (way : FlipWay) (sample_width depth_width : SampleWidth) (depth next columns : ℕ) (b : Bool)
     (strips strips' rows rows' batch come : List (List ℕ)) (s : Shape) → (transform_of way).exchanged ≡ true
     → transposed way depth sample_width strips rows batch next columns ≡ w → b ≡ (transform_of way).rows_reversed → strips' ≡ in_order b strips
     → rows' ≡ in_order b rows → IsTransposing w s come
-    → transposed_due (transposed way s.depth depth_width strips' rows' batch next s.width) ≡ end_answer (Flip w.way) s come
+    → transposed_due (transposed way s.depth depth_width strips' rows' batch next s.width) ≡ transposed_due w ++ end_answer (Flip w.way) s come
 end_due w way sample_width depth_width depth next columns b strips strips' rows rows' batch come s exchanged is order strips_so rows_so h =
     let before : IsTransposing (transposed way depth sample_width strips rows batch next columns) s come =
     subst (λ (v : Transposed). IsTransposing v s come) (sym is) h in
@@ -110,16 +120,7 @@ end_due w way sample_width depth_width depth next columns b strips strips' rows 
     (rows_so ∙ ap (λ (c : Bool). in_order c rows) order)
     ∙ columns_due way sample_width depth_width depth next columns strips rows batch come s exchanged before
     ∙ ap (λ (v : Transposed). end_answer (Flip v.way) s come) is
-
--- nothing is due before the image has ended
-none_made : (way : FlipWay) (depth : ℕ) (sample_width : SampleWidth) (next columns : ℕ) (strips rows batch : List (List ℕ)) → batch ≡ [] → columns ≡ 0
-    → transposed_due (transposed way depth sample_width strips rows batch next columns) ≡ []
-none_made way depth sample_width next columns strips rows batch no_batch no_column =
-    let none : columns - next ≡ 0 = omega arith in
-    let last_first : Bool = (transform_of way).columns_reversed in
-    ap (λ (l : List (List ℕ)). transposed_due (transposed way depth sample_width strips rows l next columns)) no_batch
-    ∙ ap (λ (n : ℕ). in_order last_first (map (kept_column (transform_of way).rows_reversed depth strips rows) (range_with_len next n))) none
-    ∙ in_order_nil last_first
+    ∙ ap (λ (l : List (List ℕ)). l ++ end_answer (Flip w.way) s come) (sym (none_due w h.none_made.0 h.none_made.2))
 
 -- nor do rows that come answer anything
 pub none_answer : (way : FlipWay) (s : Shape) (y : ℕ) (rows : List (List ℕ)) → moves_rows (transform_of way) ≡ true → rows_answer (Flip way) s y rows ≡ []
@@ -132,7 +133,7 @@ pub due_while_rows_come : (w : Transposed) (way : FlipWay) (depth : ℕ) (width 
     → transposed way depth width strips rows batch next columns ≡ w → IsTransposing w s come
     → transposed_due (transposed way depth width' strips' rows' batch next columns) ≡ rows_answer (Flip w.way) s y more
 due_while_rows_come w way depth width width' next columns strips strips' rows rows' batch come s y more exchanged is h =
-    none_made way depth width' next columns strips' rows' batch (ap (λ (v : Transposed). v.batch) is ∙ h.none_made.0)
+    none_due (transposed way depth width' strips' rows' batch next columns) (ap (λ (v : Transposed). v.batch) is ∙ h.none_made.0)
     (ap (λ (v : Transposed). v.columns) is ∙ h.none_made.2)
     ∙ sym (none_answer way s y more (exchanged_moves (transform_of way) exchanged))
     ∙ ap (λ (v : Transposed). rows_answer (Flip v.way) s y more) is

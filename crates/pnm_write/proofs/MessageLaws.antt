@@ -1,5 +1,5 @@
 -- The bytes of lists of messages, and the messages that were put into a sink.
-use Rattle.std.proofs.Common.{◌≡◌, ℕ, ◌+◌, Bool, true, false, List, [], ◌∷◌, ◌++◌, map, Option, None, Result, Ok, Err, OnOk, refl, sym, ap, ◌∙◌}
+use Rattle.std.proofs.Common.{◌≡◌, ℕ, ◌+◌, Bool, true, false, List, [], ◌∷◌, ◌++◌, map, Option, Some, None, Result, Ok, Err, OnOk, refl, sym, ap, ◌∙◌}
 use Rattle.std.proofs.Common.{append_assoc, subst}
 use Rattle.std.specs.List.{flat_map, AllByRecursion}
 use Rattle.std.proofs.lemmas.List.{append-nil}
@@ -9,7 +9,8 @@ use Rattle.pnm_image.specs.declared.shape.Shape.{Shape}
 use Rattle.pnm_image.specs.declared.format.Form.{Form}
 use Rattle.pnm_image.specs.declared.format.Form.TheVariants.{Raw, Plain}
 use Rattle.pnm_image.specs.Heads.{HeadValue}
-use Rattle.pnm_image.specs.Rows.{row_messages}
+use Rattle.pnm_image.specs.Parts.{part_messages, end_messages, rest_messages}
+use Rattle.pnm_image.specs.Rows.{row_messages, rows_list}
 use Rattle.pnm_write.specs.declared.fault.SinkFault.{SinkFault}
 use Rattle.pnm_write.specs.declared.fault.SinkFault.TheVariants.{WriteFailed, OutOfOrder, Broken, SecondPlain, PlainPam}
 use Rattle.pnm_image.specs.declared.message.Message.{Message}
@@ -150,14 +151,22 @@ begins_with Raw begun head messages rows none nothing = let rest = begins_none R
 begins_with Plain begun head messages rows none nothing =
     let rest = begins_none Plain true messages nothing in ((rows, rest.0), first_plain begun head (plain_fault_from true messages) none ∙ rest.1, rest.2)
 
--- rows begin none, nor do rows and an image's end
-pub rows_begin_none : (rows : List (List ℕ)) → BeginsNone (row_messages rows)
-rows_begin_none [] = tt
-rows_begin_none (row ∷ rows) = rows_begin_none rows
+-- rows and an image's end begin none
+rest_begins_none : (rows : List (List ℕ)) (ends : Bool) → BeginsNone (row_messages rows ++ end_messages ends)
+rest_begins_none [] false = tt
+rest_begins_none [] true = tt
+rest_begins_none (row ∷ rows) ends = rest_begins_none rows ends
 
-pub rest_begins_none : (rows : List (List ℕ)) → BeginsNone (row_messages rows ++ ImageEnd ∷ [])
-rest_begins_none [] = tt
-rest_begins_none (row ∷ rows) = rest_begins_none rows
+-- a part begins an image if it has a head
+pub part_begins : (head : HeadValue) (o : Option HeadValue) (rows : Option (List (List ℕ))) (ends : Bool) (part : List Message) → o ≡ Some head
+    → part ≡ part_messages o rows ends → BeginsWith head part
+part_begins head o rows ends part some is =
+    (rest_messages rows ends, is ∙ ap (λ (o : Option HeadValue). part_messages o rows ends) some, rest_begins_none (rows_list rows) ends)
+
+pub part_begins_none : (o : Option HeadValue) (rows : Option (List (List ℕ))) (ends : Bool) (part : List Message) → o ≡ None
+    → part ≡ part_messages o rows ends → BeginsNone part
+part_begins_none o rows ends part none is =
+    subst BeginsNone (sym (is ∙ ap (λ (o : Option HeadValue). part_messages o rows ends) none)) (rest_begins_none (rows_list rows) ends)
 
 -- why messages are refused that begin with a head
 pub refused_with : (form : Form) (begun : Bool) (place : Place) (messages : List Message) (fault : SinkFault) (head : HeadValue)

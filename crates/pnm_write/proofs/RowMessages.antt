@@ -1,50 +1,80 @@
--- Rows as messages, and their bytes.
-use Rattle.std.proofs.Common.{◌≡◌, ℕ, ◌+◌, ◌⊎◌, inl, inr, List, [], ◌∷◌, ◌++◌, refl, ap, ◌∙◌}
+-- Parts of an image, and their bytes.
+use Rattle.std.proofs.Common.{◌≡◌, ℕ, ◌+◌, Bool, true, false, List, [], ◌∷◌, ◌++◌, Option, Some, None, ◌⊎◌, inl, inr, refl, ap, ap₂, subst, ◌∙◌}
 use Rattle.std.specs.List.{AllByRecursion}
 use Rattle.pnm_image.specs.declared.format.Form.{Form}
 use Rattle.pnm_image.specs.declared.message.Message.{Message}
-use Rattle.pnm_image.specs.declared.message.Message.TheVariants.{ImageEnd}
+use Rattle.pnm_image.specs.declared.message.Message.TheVariants.{Begin}
 use Rattle.pnm_image.specs.declared.place.Place.{Place}
 use Rattle.pnm_image.specs.declared.place.Place.TheVariants.{Between, Inside, After}
 use Rattle.pnm_image.specs.declared.shape.Shape.{Shape}
+use Rattle.pnm_image.specs.Heads.{HeadValue}
+use Rattle.pnm_image.specs.Parts.{part_messages, end_messages, rest_messages}
 use Rattle.pnm_image.specs.Places.{IsRowOf, IsLawfulFrom}
-use Rattle.pnm_image.specs.Rows.{row_messages}
-use Rattle.pnm_write.specs.Encoding.{row_bytes, bytes_from}
+use Rattle.pnm_image.specs.Rows.{row_messages, rows_list}
+use Rattle.pnm_write.specs.Encoding.{row_bytes, header_text, bytes_from}
 use Rattle.pnm_write.specs.Internal.Encoding.{rows_bytes}
 
--- ---- their bytes
-
--- rows of an image are written
-pub bytes_inside : (form : Form) (s : Shape) (y : ℕ) (rows : List (List ℕ)) → bytes_from form (Inside s y) (row_messages rows) ≡ rows_bytes form s rows
-bytes_inside form s y [] = refl
-bytes_inside form s y (row ∷ rows) = ap (λ (l : List ℕ). row_bytes form s row ++ l) (bytes_inside form s (y + 1) rows)
+-- rows of an image are written, and its end has no bytes
+bytes_inside : (form : Form) (s : Shape) (y : ℕ) (rows : List (List ℕ)) (ends : Bool)
+    → bytes_from form (Inside s y) (row_messages rows ++ end_messages ends) ≡ rows_bytes form s rows
+bytes_inside form s y [] false = refl
+bytes_inside form s y [] true = refl
+bytes_inside form s y (row ∷ rows) ends = ap (λ (l : List ℕ). row_bytes form s row ++ l) (bytes_inside form s (y + 1) rows ends)
 
 -- and outside an image there are none
-bytes_between : (form : Form) (rows : List (List ℕ)) → bytes_from form Between (row_messages rows) ≡ []
-bytes_between form [] = refl
-bytes_between form (row ∷ rows) = bytes_between form rows
+bytes_between : (form : Form) (rows : List (List ℕ)) (ends : Bool) → bytes_from form Between (row_messages rows ++ end_messages ends) ≡ []
+bytes_between form [] false = refl
+bytes_between form [] true = refl
+bytes_between form (row ∷ rows) ends = bytes_between form rows ends
 
-bytes_after : (form : Form) (rows : List (List ℕ)) → bytes_from form After (row_messages rows) ≡ []
-bytes_after form [] = refl
-bytes_after form (row ∷ rows) = bytes_after form rows
-
-pub bytes_outside : (form : Form) (place : Place) (rows : List (List ℕ)) → (place ≡ Between) ⊎ (place ≡ After) → bytes_from form place (row_messages rows) ≡ []
-bytes_outside form place rows (inl e) = ap (λ (p : Place). bytes_from form p (row_messages rows)) e ∙ bytes_between form rows
-bytes_outside form place rows (inr e) = ap (λ (p : Place). bytes_from form p (row_messages rows)) e ∙ bytes_after form rows
+bytes_after : (form : Form) (rows : List (List ℕ)) (ends : Bool) → bytes_from form After (row_messages rows ++ end_messages ends) ≡ []
+bytes_after form [] false = refl
+bytes_after form [] true = refl
+bytes_after form (row ∷ rows) ends = bytes_after form rows ends
 
 -- rows that may come in an image are its rows
-pub rows_of_image : (s : Shape) (y : ℕ) (rows : List (List ℕ)) → IsLawfulFrom (Inside s y) (row_messages rows) → AllByRecursion (IsRowOf s) rows
-rows_of_image s y [] lawful = tt
-rows_of_image s y (row ∷ rows) lawful = (lawful.0.1, rows_of_image s (y + 1) rows lawful.1)
-
--- so are those of a whole image
-pub image_of_rows : (s : Shape) (y : ℕ) (rows : List (List ℕ)) (more : List Message) → IsLawfulFrom (Inside s y) (row_messages rows ++ more)
+rows_of_image : (s : Shape) (y : ℕ) (rows : List (List ℕ)) (more : List Message) → IsLawfulFrom (Inside s y) (row_messages rows ++ more)
     → AllByRecursion (IsRowOf s) rows
-image_of_rows s y [] more lawful = tt
-image_of_rows s y (row ∷ rows) more lawful = (lawful.0.1, image_of_rows s (y + 1) rows more lawful.1)
+rows_of_image s y [] more lawful = tt
+rows_of_image s y (row ∷ rows) more lawful = (lawful.0.1, rows_of_image s (y + 1) rows more lawful.1)
 
--- the end of an image has no bytes
-pub bytes_of_image : (form : Form) (s : Shape) (y : ℕ) (rows : List (List ℕ))
-    → bytes_from form (Inside s y) (row_messages rows ++ ImageEnd ∷ []) ≡ rows_bytes form s rows
-bytes_of_image form s y [] = refl
-bytes_of_image form s y (row ∷ rows) = ap (λ (l : List ℕ). row_bytes form s row ++ l) (bytes_of_image form s (y + 1) rows)
+-- a part that begins an image
+begun : (head : HeadValue) (o : Option HeadValue) (rows : Option (List (List ℕ))) (ends : Bool) (part : List Message) → o ≡ Some head
+    → part ≡ part_messages o rows ends → part ≡ Begin head ∷ rest_messages rows ends
+begun head o rows ends part some is = is ∙ ap (λ (o : Option HeadValue). part_messages o rows ends) some
+
+pub begun_bytes : (form : Form) (place : Place) (head : HeadValue) (o : Option HeadValue) (rows : Option (List (List ℕ))) (ends : Bool) (part : List Message)
+    → o ≡ Some head → part ≡ part_messages o rows ends
+    → bytes_from form place part ≡ header_text form head ++ rows_bytes form head.shape (rows_list rows)
+begun_bytes form place head o rows ends part some is =
+    ap (bytes_from form place) (begun head o rows ends part some is)
+    ∙ ap (λ (l : List ℕ). header_text form head ++ l) (bytes_inside form head.shape 0 (rows_list rows) ends)
+
+pub begun_rows : (place : Place) (head : HeadValue) (o : Option HeadValue) (rows : Option (List (List ℕ))) (ends : Bool) (part : List Message)
+    → o ≡ Some head → part ≡ part_messages o rows ends → IsLawfulFrom place part → AllByRecursion (IsRowOf head.shape) (rows_list rows)
+begun_rows place head o rows ends part some is lawful =
+    rows_of_image head.shape 0 (rows_list rows) (end_messages ends) (subst (IsLawfulFrom place) (begun head o rows ends part some is) lawful).1
+
+-- a part without a head
+going_on : (o : Option HeadValue) (rows : Option (List (List ℕ))) (ends : Bool) (part : List Message) → o ≡ None
+    → part ≡ part_messages o rows ends → part ≡ rest_messages rows ends
+going_on o rows ends part none is = is ∙ ap (λ (o : Option HeadValue). part_messages o rows ends) none
+
+pub inside_bytes : (form : Form) (place : Place) (s : Shape) (y : ℕ) (o : Option HeadValue) (rows : Option (List (List ℕ))) (ends : Bool)
+    (part : List Message) → place ≡ Inside s y → o ≡ None → part ≡ part_messages o rows ends
+    → bytes_from form place part ≡ rows_bytes form s (rows_list rows)
+inside_bytes form place s y o rows ends part here none is =
+    ap₂ (bytes_from form) here (going_on o rows ends part none is) ∙ bytes_inside form s y (rows_list rows) ends
+
+pub inside_rows : (place : Place) (s : Shape) (y : ℕ) (o : Option HeadValue) (rows : Option (List (List ℕ))) (ends : Bool) (part : List Message)
+    → place ≡ Inside s y → o ≡ None → part ≡ part_messages o rows ends → IsLawfulFrom place part → AllByRecursion (IsRowOf s) (rows_list rows)
+inside_rows place s y o rows ends part here none is lawful =
+    let from : IsLawfulFrom (Inside s y) part = subst (λ (p : Place). IsLawfulFrom p part) here lawful in
+    rows_of_image s y (rows_list rows) (end_messages ends) (subst (IsLawfulFrom (Inside s y)) (going_on o rows ends part none is) from)
+
+pub outside_bytes : (form : Form) (place : Place) (o : Option HeadValue) (rows : Option (List (List ℕ))) (ends : Bool) (part : List Message)
+    → (place ≡ Between) ⊎ (place ≡ After) → o ≡ None → part ≡ part_messages o rows ends → bytes_from form place part ≡ []
+outside_bytes form place o rows ends part (inl here) none is =
+    ap₂ (bytes_from form) here (going_on o rows ends part none is) ∙ bytes_between form (rows_list rows) ends
+outside_bytes form place o rows ends part (inr here) none is =
+    ap₂ (bytes_from form) here (going_on o rows ends part none is) ∙ bytes_after form (rows_list rows) ends

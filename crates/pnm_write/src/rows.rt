@@ -1,54 +1,39 @@
 //! Rows that are handed over together.
 
-ghost use Rattle.std.specs.Prelude.{◌≡◌, ◌++◌, ℕ, IsTrue};
+ghost use Rattle.std.specs.Prelude.{◌≡◌, ℕ, IsTrue};
 ghost use Rattle.std.specs.List.{AllByRecursion};
 ghost use Rattle.pnm_image.specs.Heads.{row_length};
 ghost use Rattle.pnm_image.specs.Places.{IsRowOf};
-ghost use Rattle.pnm_image.specs.Repeats.{repeated};
+ghost use Rattle.pnm_image.specs.Rows.{rows_list};
 ghost use Rattle.pnm_image.specs.SampleWidths.{sample_width_of};
-ghost use Rattle.pnm_write.specs.Encoding.{header_text};
 ghost use Rattle.pnm_write.specs.Internal.Encoding.{rows_bytes, AreWholeBytes};
 ghost use Rattle.pnm_write.specs.Internal.WriteCalls.{WriteCall};
 
-use crate::header::write_header;
 use crate::row::write_samples;
 use crate::write_buffer::WriteBuffer;
 use pnm_image::{
-    BytesOut, DeviceFailed, Form, Head, RowSlice, Rows, SampleSlice, SampleWidth, Shape, write_all,
+    BytesOut, DeviceFailed, Form, RepeatedRows, RowSlice, Rows, SampleSlice, SampleWidth, Shape,
+    write_all,
 };
 
-/// Writes the header and the rows of an image.
-#[inline(never)]
-pub fn write_image<W: BytesOut>(
-    writer: &mut W,
-    buffer: &mut WriteBuffer,
-    form: Form,
-    head: &Head,
-    rows: &Rows,
-) -> Result<(), DeviceFailed>
-    requires { AllByRecursion (IsRowOf head.now.shape) rows.now }
-    ensures { WriteCall W.held W.failures W.same writer.old writer.new result
-        (header_text form head.now ++ rows_bytes form head.now.shape rows.now) }
-{
-    write_header(writer, buffer, form, head)?;
-    write_rows(writer, buffer, form, head.shape(), rows)
-}
-
-/// Writes rows of an image of this shape as often as they come.
+/// Writes rows of an image of this shape as often as they come, if some do.
 pub fn write_repeated<W: BytesOut>(
     writer: &mut W,
     buffer: &mut WriteBuffer,
     form: Form,
     shape: Shape,
-    rows: &Rows,
-    times: u32,
+    rows: &Option<RepeatedRows>,
 ) -> Result<(), DeviceFailed>
-    requires { AllByRecursion (IsRowOf shape) rows.now }
+    requires { AllByRecursion (IsRowOf shape) (rows_list rows.now) }
     ensures { WriteCall W.held W.failures W.same writer.old writer.new result
-        (rows_bytes form shape (repeated times rows.now)) }
+        (rows_bytes form shape (rows_list rows.now)) }
 {
+    let Some(rows) = rows else {
+        return Ok(());
+    };
+    let (held, times) = rows.parts();
     for _time in 0..times {
-        write_rows(writer, buffer, form, shape, rows)?;
+        write_rows(writer, buffer, form, shape, held)?;
     }
     Ok(())
 }

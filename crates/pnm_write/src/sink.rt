@@ -18,7 +18,7 @@ ghost use Rattle.pnm_write.specs.Internal.WriteCalls.{WriteCall};
 
 use crate::fault::SinkFault;
 use crate::header::write_header;
-use crate::rows::{write_image, write_repeated};
+use crate::rows::write_repeated;
 use crate::write_buffer::WriteBuffer;
 use pnm_image::{BytesOut, DeviceFailed, Form, Head, Kind, Packet, Place};
 use std::alloc::{AllocError, Global};
@@ -232,10 +232,11 @@ fn head_of(packet: &Packet) -> Option<&Head>
     ensures none { IfNone result (BeginsNone (messages_in packet.now)) }
 {
     match packet {
-        Packet::Begin(head) => Some(head),
-        Packet::Image(head, _) => Some(head),
-        Packet::Rows(_) => None,
-        Packet::ImageEnd | Packet::StreamEnd | Packet::Stop => None,
+        Packet::Part(part) => match part.parts().0 {
+            Some(head) => Some(head),
+            None => None,
+        },
+        Packet::StreamEnd | Packet::Stop => None,
     }
 }
 
@@ -257,7 +258,7 @@ fn head_fault(form: Form, has_begun: bool, head: &Head) -> Option<SinkFault>
     }
 }
 
-/// Writes the bytes of a packet that comes at this place.
+/// Writes the bytes of a packet that comes at this place. The end of an image has none.
 fn write_packet<W: BytesOut>(
     writer: &mut W,
     buffer: &mut WriteBuffer,
@@ -269,16 +270,16 @@ fn write_packet<W: BytesOut>(
     ensures { WriteCall W.held W.failures W.same writer.old writer.new result
         (bytes_from form place (messages_in packet.now)) }
 {
-    match packet {
-        Packet::Begin(head) => write_header(writer, buffer, form, head),
-        Packet::Rows(rows) => {
-            let (held, times) = rows.parts();
-            match place {
-                Place::Inside(shape, _) => write_repeated(writer, buffer, form, shape, held, times),
-                Place::Between | Place::After => Ok(()),
-            }
-        }
-        Packet::Image(head, rows) => write_image(writer, buffer, form, head, rows),
-        Packet::ImageEnd | Packet::StreamEnd | Packet::Stop => Ok(()),
+    let Packet::Part(part) = packet else {
+        return Ok(());
+    };
+    let (head, rows, _) = part.parts();
+    if let Some(head) = head {
+        write_header(writer, buffer, form, head)?;
+        return write_repeated(writer, buffer, form, head.shape(), rows);
+    }
+    match place {
+        Place::Inside(shape, _) => write_repeated(writer, buffer, form, shape, rows),
+        Place::Between | Place::After => Ok(()),
     }
 }

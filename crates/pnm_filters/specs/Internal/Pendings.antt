@@ -1,27 +1,10 @@
--- Between functions: what a tool at work has still to give for the message that it accepted last.
-use Rattle.std.specs.Prelude.{Bool, true, false, Option, Some, None}
+-- Between functions: whether messages may come, by what a tool at work has still to give.
+use Rattle.std.specs.Prelude.{◌≡◌, Bool, true, List, Option, Some, None}
 use Rattle.pnm_image.specs.declared.message.Message.{Message}
-use Rattle.pnm_filters.specs.declared.state.Phase.{Phase}
-use Rattle.pnm_filters.specs.declared.state.Phase.TheVariants.{Idle, One, Rest, RestAndEnd, Done}
-use Rattle.pnm_filters.specs.Pendings.{Pending, AllGiven, Waiting, Rows, RowsAndEnd, Nothing}
+use Rattle.pnm_image.specs.declared.place.Place.{Place}
+use Rattle.pnm_image.specs.Places.{IsLawfulFrom, LeadsTo}
 
--- what is due, where this message waits
-abbrev pub pending_of : Phase → Option Message → Pending
-pending_of Idle waiting = AllGiven
-pending_of One (Some message) = Waiting message
-pending_of One None = Nothing
-pending_of Rest waiting = Rows
-pending_of RestAndEnd waiting = RowsAndEnd
-pending_of Done waiting = Nothing
-
--- what is due once the message that waits was given: if none did, the caller knows
-abbrev pub after_one : Option Message → Pending
-after_one None = AllGiven
-after_one (Some message) = Nothing
-
-abbrev pub is_idle : Phase → Bool
-is_idle Idle = true
-is_idle One = false
-is_idle Rest = false
-is_idle RestAndEnd = false
-is_idle Done = false
+-- the place to which they lead, if all was given and they may come
+abbrev pub LeadsOn : Bool → Place → List Message → Option Place → Type 0
+LeadsOn all_given place ms (Some after) = (all_given ≡ true) × LeadsTo place ms (Some after)
+LeadsOn all_given place ms None = (all_given ≡ true) × IsLawfulFrom place ms → ⊥

@@ -4,7 +4,9 @@ use Rattle.pnm_image.specs.declared.message.Message.{Message}
 use Rattle.pnm_tools.specs.declared.tool.Tool.{Tool}
 use Rattle.pnm_tools.specs.declared.fused_filter.FusedFilter.{FusedFilter}
 use Rattle.pnm_filters.specs.declared.any_tool.AnyTool.{AnyTool}
-use Rattle.pnm_filters.specs.States.{StateValue, IsToolAt, is_all_given, ToolAt}
+use Rattle.pnm_filters.specs.AnyTools.{IsToolAt, ToolAt}
+use Rattle.pnm_filters.specs.Pendings.{is_all_given}
+use Rattle.pnm_filters.specs.States.{StateValue}
 use Rattle.pnm_serial.specs.SerialChains.{FiltersAt}
 
 abbrev pub ToolsAt : List (FusedFilter (StateValue AnyTool)) → List Tool → List Message → List Message → Type 0

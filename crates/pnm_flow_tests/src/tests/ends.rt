@@ -104,7 +104,7 @@ fn send_bytes(
     let Ok(rows) = cut_into(alloc, samples, bytes as usize, 1) else {
         return false;
     };
-    sender.send_reserved(Packet::Rows(RepeatedRows::once(rows)));
+    sender.send_reserved(Packet::rows(RepeatedRows::once(rows)));
     true
 }
 

@@ -3,16 +3,16 @@
 use super::chains::{LAST_COLUMN, channel, is_chain};
 use super::is_so;
 use super::lanes::{dealt, rings};
-use super::rings::{IMAGE, holding_written, holds, next_is};
+use super::rings::{IMAGE, holding_written, holds};
 use super::threads::{INVERTED, ran};
 use super::ways::{Way, run_by};
 use pnm_flow::{
     ChainDone, NoStart, OpenGate, Receiver, RunFault, Sender, StageDone, StageEnd, Summary,
     new_ring, run_stage,
 };
-use pnm_image::{Device, Form, Kind};
+use pnm_image::{Device, Form, Kind, Packet};
 use pnm_read::InputFault;
-use pnm_test_support::Part;
+use pnm_test_support::{Part, are_made_of};
 use pnm_tools::{FlipWay, Tool, ToolFault};
 use std::alloc::Global;
 use std::process::Abort;
@@ -223,15 +223,23 @@ fn passes_rows_with_memory(rt: HostRuntime) {
 /// Whether the ring holds Stop. If it does, there is a prefix of these before it, and nothing after it; otherwise the
 /// ring holds all of these, and nothing more.
 fn ends_by_stop(rt: &impl Abort, input: &mut Receiver, whole: &[Part<'_>]) -> bool {
-    for part in whole {
-        let Some((is_stop, is_next)) = next_is(input, *part) else {
-            return false;
-        };
-        if is_stop {
-            holds(rt, input, &[], "nothing after Stop");
-            return true;
+    let mut come = 0;
+    for _ in 0..whole.len() {
+        if come < whole.len() {
+            if !input.has_message() {
+                return false;
+            }
+            let packet = input.receive_known();
+            if matches!(packet, Packet::Stop) {
+                holds(rt, input, &[], "nothing after Stop");
+                return true;
+            }
+            is_so(
+                rt,
+                are_made_of(&packet, whole, &mut come),
+                &"a prefix of the answer",
+            );
         }
-        is_so(rt, is_next, &"a prefix of the answer");
     }
     holds(rt, input, &[], "nothing after the answer");
     false

@@ -3,8 +3,8 @@
 
 use super::is_so;
 use pnm_flow::{Packet, Receiver, Sender, StageEnd, new_ring};
-use pnm_image::{Kind, Message, Rows, Several};
-use pnm_test_support::{Part, is_made_of, message, packets_of};
+use pnm_image::Kind;
+use pnm_test_support::{Part, are_made_of, is_made_of, message, packets_of};
 use std::alloc::Global;
 use std::process::Abort;
 use std::thread;
@@ -39,7 +39,7 @@ pub fn send_all(alloc: Global, output: &mut Sender, parts: &[Part<'_>]) -> bool 
     true
 }
 
-/// Whether the packet is a message that is made of this. Rows that came together, or a whole image, are no message.
+/// Whether the packet is a message that is made of this. Messages that came together are none.
 pub fn is_one_of(packet: Packet, part: Part<'_>) -> bool {
     match packet.into_message() {
         Ok(message) => is_made_of(&message, part),
@@ -47,30 +47,18 @@ pub fn is_one_of(packet: Packet, part: Part<'_>) -> bool {
     }
 }
 
-/// Receives a message, if there is one. Returns whether it is Stop, and whether it is made of this.
-pub fn next_is(input: &mut Receiver, part: Part<'_>) -> Option<(bool, bool)> {
-    if !input.has_message() {
-        return None;
-    }
-    match input.receive_known().into_message() {
-        Ok(message) => Some((is_made_of(&message, Part::Stop), is_made_of(&message, part))),
-        Err(_) => Some((false, false)),
-    }
+/// Receives what comes next, if anything does. Returns whether it is made of the parts from this one on, and passes
+/// them.
+fn has_next(input: &mut Receiver, parts: &[Part<'_>], come: &mut usize) -> bool {
+    input.has_message() && are_made_of(&input.receive_known(), parts, come)
 }
 
-/// Receives a message, if there is one. Returns whether there was one, and it is made of this.
-fn has_next(input: &mut Receiver, part: Part<'_>) -> bool {
-    match next_is(input, part) {
-        Some((_, is_part)) => is_part,
-        None => false,
-    }
-}
-
-/// Receives these from the ring. Returns the index of the first one that isn't there, if any.
+/// Receives these from the ring, one by one or together. Returns the index of one before which one isn't there, if any.
 pub fn first_missing(input: &mut Receiver, parts: &[Part<'_>]) -> Option<usize> {
-    for (index, part) in parts.iter().enumerate() {
-        if !has_next(input, *part) {
-            return Some(index);
+    let mut come = 0;
+    for _ in 0..parts.len() {
+        if come < parts.len() && !has_next(input, parts, &mut come) {
+            return Some(come);
         }
     }
     None
@@ -89,8 +77,8 @@ pub fn holding(
     are_sent.then_some((sender, receiver))
 }
 
-/// A ring of capacity 8 that holds what is written, with the rows between braces together, and its sending end. Returns
-/// `None` if there is no memory.
+/// A ring of capacity 8 that holds what is written, with what stands between braces together, and its sending end.
+/// Returns `None` if there is no memory.
 pub fn holding_written(alloc: Global, text: &[u8]) -> Option<(Sender, Receiver)> {
     let written = packets_of(alloc, text, true).ok()?;
     let mut ends = new_ring(alloc, 8)?;
@@ -158,72 +146,20 @@ pub fn comes(input: &mut Receiver, part: Part<'_>) -> bool {
     }
 }
 
-/// Whether these come, each by a counted number of tries: rows one by one or together.
-pub fn all_come(alloc: Global, input: &mut Receiver, parts: &[Part<'_>]) -> bool {
+/// Whether these come, each by a counted number of tries: one by one or together.
+pub fn all_come(input: &mut Receiver, parts: &[Part<'_>]) -> bool {
     let mut come = 0;
     for _ in 0..parts.len() {
-        if come >= parts.len() {
-            break;
-        }
-        let Some(packet) = next_packet(input) else {
-            return false;
-        };
-        let count = count_in(&packet);
-        if !is_made_from(alloc, packet, parts, come) {
-            return false;
-        }
-        come = come.saturating_add(count);
-    }
-    come == parts.len()
-}
-
-/// How many messages the packet stands for.
-fn count_in(packet: &Packet) -> usize {
-    match packet {
-        Packet::Rows(rows) => rows.parts().0.count() as usize,
-        Packet::Image(_, rows) => rows.count() as usize + 2,
-        _ => 1,
-    }
-}
-
-/// Whether the packet is made of the parts from this one on.
-fn is_made_from(alloc: Global, packet: Packet, parts: &[Part<'_>], from: usize) -> bool {
-    match packet.into_message() {
-        Ok(message) => is_made_at(&message, parts, from),
-        Err(Several::Rows(rows)) => match rows.into_once() {
-            Ok(rows) => are_made_from(alloc, &rows, parts, from),
-            Err(_) => false,
-        },
-        Err(Several::Image(head, rows)) => {
-            let first = from.saturating_add(1);
-            let end = first.saturating_add(rows.count() as usize);
-            is_made_at(&Message::Begin(head), parts, from)
-                && are_made_from(alloc, &rows, parts, first)
-                && is_made_at(&Message::ImageEnd, parts, end)
-        }
-    }
-}
-
-/// Whether the rows are made of the parts from this one on.
-fn are_made_from(alloc: Global, rows: &Rows, parts: &[Part<'_>], from: usize) -> bool {
-    for at in 0..rows.count() {
-        let Ok(row) = rows.row(alloc, at) else {
-            return false;
-        };
-        let place = from.saturating_add(at as usize);
-        if !is_made_at(&Message::Row(row), parts, place) {
-            return false;
+        if come < parts.len() {
+            let Some(packet) = next_packet(input) else {
+                return false;
+            };
+            if !are_made_of(&packet, parts, &mut come) {
+                return false;
+            }
         }
     }
     true
-}
-
-/// Whether the message is made of the part in this place.
-fn is_made_at(message: &Message, parts: &[Part<'_>], at: usize) -> bool {
-    match parts.get(at) {
-        Some(part) => is_made_of(message, *part),
-        None => false,
-    }
 }
 
 /// Sends a message to a thread, and takes what comes of it. Returns whether it came as it was sent.

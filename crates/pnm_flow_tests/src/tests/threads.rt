@@ -411,7 +411,7 @@ const SAMPLE_DOUBLED: &[Step<'static>] = &[
 
 /// Sends a message, and takes all that comes of it. Returns whether it all came.
 fn gives(alloc: Global, producer: &mut Sender, consumer: &mut Receiver, step: &Step<'_>) -> bool {
-    sends(alloc, producer, step.0) && all_come(alloc, consumer, step.1)
+    sends(alloc, producer, step.0) && all_come(consumer, step.1)
 }
 
 /// Sends each message only once all that comes of the one before was taken. Returns whether it all came.

@@ -1,11 +1,9 @@
 //! What a source answers to a text, and to each prefix of it.
 
 use super::reads::{Reading, write_recorded};
-use pnm_image::{BytesIn, Device, Head, Packet, RepeatedRows, Rows};
+use pnm_image::{BytesIn, Device, Packet, Part};
 use pnm_read::{InputFault, ReadBuffer, Source, SpareRows};
-use pnm_test_support::{
-    width_of, write_change, write_each_row, write_head, write_packet, write_rows,
-};
+use pnm_test_support::{width_of, write_change, write_packet, write_part};
 use std::alloc::{AllocError, Global};
 
 /// More answers than there are to any case.
@@ -33,9 +31,9 @@ pub fn source_by<R: BytesIn + Drop>(
     }
 }
 
-/// Adds all that a source answers up to its end, and a word if it doesn't stay there. Rows that come together, at most
-/// `most_rows`, and whole images stand between braces; where rows come one by one, an image of one row doesn't. All
-/// rows that were told become spare ones.
+/// Adds all that a source answers up to its end, and a word if it doesn't stay there. What comes together, at most
+/// `most_rows` rows, stands between braces, but not where rows come one by one. All rows that were told become spare
+/// ones.
 pub fn write_answers<R: BytesIn>(
     alloc: Global,
     source: &mut Source<R>,
@@ -70,57 +68,31 @@ fn write_given(
     out: &mut String,
     spares: &mut SpareRows,
 ) -> Result<(), AllocError> {
-    match packet {
-        Packet::Rows(rows) => write_together(alloc, rows, out, spares),
-        Packet::Image(head, rows) => {
-            let outcome = write_image(alloc, &head, &rows, most_rows, out);
-            spares.keep_rows(rows);
-            outcome
-        }
-        other => write_packet(alloc, out, other),
-    }
-}
-
-/// Adds rows, between braces if they are several; they become spare ones.
-fn write_together(
-    alloc: Global,
-    rows: RepeatedRows,
-    out: &mut String,
-    spares: &mut SpareRows,
-) -> Result<(), AllocError> {
-    match rows.into_once() {
-        Ok(rows) => {
-            let outcome = if rows.count() == 1 {
-                write_each_row(alloc, out, &rows)
-            } else {
-                write_rows(alloc, out, &rows)
-            };
-            spares.keep_rows(rows);
-            outcome
-        }
-        Err(repeated) => write_packet(alloc, out, Packet::Rows(repeated)),
-    }
-}
-
-/// Adds a whole image, between braces unless it has one row and rows come one by one.
-fn write_image(
-    alloc: Global,
-    head: &Head,
-    rows: &Rows,
-    most_rows: u32,
-    out: &mut String,
-) -> Result<(), AllocError> {
-    let are_one_by_one = most_rows == 1 && rows.count() == 1;
-    let (before, after) = if are_one_by_one {
-        ("", "")
-    } else {
-        (" {", " }")
+    let outcome = match (&packet, most_rows) {
+        (Packet::Part(part), 1) if !has_several_rows(part) => write_part(alloc, out, part),
+        _ => write_packet(alloc, out, &packet),
     };
-    out.push_str(before)?;
-    write_head(out, head)?;
-    write_each_row(alloc, out, rows)?;
-    out.push_str(" ImageEnd")?;
-    out.push_str(after)
+    spare_rows(packet, spares);
+    outcome
+}
+
+/// Whether rows came together.
+fn has_several_rows(part: &Part) -> bool {
+    match part.parts().1 {
+        Some(rows) => rows.are_several(),
+        None => false,
+    }
+}
+
+/// Drops what was given at once, but for its rows, which become spare ones.
+fn spare_rows(packet: Packet, spares: &mut SpareRows) {
+    let Packet::Part(part) = packet else {
+        return;
+    };
+    let (_, rows, _) = part.into_parts();
+    if let Some(rows) = rows {
+        spares.keep_rows(rows.into_parts().0);
+    }
 }
 
 /// Adds a word if the source answers anything but the fault, or anything but `None` if there is no fault.
@@ -206,26 +178,27 @@ pub fn write_width(alloc: Global, text: &[u8], out: &mut String) -> Result<(), A
     out.push_str(first_width(alloc, &mut source))
 }
 
-/// How the samples of the first row are held.
+/// How the samples of the first row are held, which comes with the head or alone.
 fn first_width<R: BytesIn>(alloc: Global, source: &mut Source<R>) -> &'static str {
     let mut spares = SpareRows::none(alloc);
-    match source.next(&mut spares, 1) {
-        Ok(Some(Packet::Image(_, rows))) => held_width(rows),
-        Ok(Some(Packet::Begin(_))) => width_of_next(source, &mut spares),
-        _ => NO_ROW,
+    match next_width(source, &mut spares) {
+        Some(width) => width,
+        None => next_width(source, &mut spares).unwrap_or(NO_ROW),
     }
 }
 
-/// How the samples of a row are held, which the source gives next.
-fn width_of_next<R: BytesIn>(source: &mut Source<R>, spares: &mut SpareRows) -> &'static str {
+/// How the samples of the next row are held, if it comes at once.
+fn next_width<R: BytesIn>(source: &mut Source<R>, spares: &mut SpareRows) -> Option<&'static str> {
     match source.next(spares, 1) {
-        Ok(Some(Packet::Rows(rows))) => held_width(rows.into_parts().0),
-        _ => NO_ROW,
+        Ok(Some(Packet::Part(part))) => width_in(&part),
+        _ => None,
     }
 }
 
-/// How the samples of the first of these rows are held.
-fn held_width(rows: Rows) -> &'static str {
-    let row = rows.into_first();
-    width_of(row.as_slice())
+/// How the samples of the part's first row are held, if it has rows.
+fn width_in(part: &Part) -> Option<&'static str> {
+    let (rows, _) = part.parts().1.as_ref()?.parts();
+    // No effect at run time: from this, a proof learns that there is a row.
+    let _ = rows.count();
+    Some(width_of(rows.row_slice(0)))
 }

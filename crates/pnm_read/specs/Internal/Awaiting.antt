@@ -1,29 +1,44 @@
 -- Between functions: what is still to be said where something is awaited, and what is given of it.
-use Rattle.std.specs.Prelude.{◌≡◌, ℕ, ◌≤◌, ◌⊎◌, Bool, true, false, List, [], length}
+use Rattle.std.specs.Prelude.{◌≡◌, ℕ, ◌<◌, ◌≤◌, ◌⊎◌, Bool, true, false, List, [], length}
 use Rattle.std.specs.Prelude.{Result, Ok, Err}
+use Rattle.std.specs.Coded.{Unit-prop, le_prop}
 use Rattle.pnm_image.specs.declared.packet.Packet.{Packet}
-use Rattle.pnm_image.specs.declared.packet.Packet.TheVariants.{Begin, Rows, Image, ImageEnd, StreamEnd, Stop}
+use Rattle.pnm_image.specs.declared.packet.Packet.TheVariants.{Part, StreamEnd, Stop}
 use Rattle.pnm_image.specs.Packets.{messages_in}
 use Rattle.pnm_read.specs.declared.fault.InputFault.{InputFault}
 use Rattle.pnm_read.specs.declared.source.Awaited.{Awaited}
-use Rattle.pnm_read.specs.declared.source.Awaited.TheVariants.{ImageOrEnd, End}
+use Rattle.pnm_read.specs.declared.source.Awaited.TheVariants.{FirstImage, Row, ImageOrEnd, End}
 use Rattle.pnm_read.specs.declared.source.State.{State}
-use Rattle.pnm_read.specs.Said.{later_said, says_fault}
-use Rattle.pnm_read.specs.Said.{image_said, after_messages}
-use Rattle.pnm_read.specs.Said.{IsOutsideFault}
+use Rattle.pnm_read.specs.declared.source.State.TheVariants.{Awaits, Ended, Failed}
+use Rattle.pnm_read.specs.Said.{image_said, later_said, says_fault, after_messages, IsOutsideFault}
 use Rattle.pnm_read.specs.Awaiting.{due_at, state_due, is_ended}
 
--- what is awaited after an image, by whether it is plain: what follows a plain one is ignored
-abbrev pub awaited_after : Bool → Awaited
-awaited_after true = End
-awaited_after false = ImageOrEnd
+-- where a row is awaited, its raster has one left
+abbrev pub HasRow : Awaited → Type 0
+HasRow FirstImage = Unit {0}
+HasRow (Row raster) = raster.y < raster.shape.height
+HasRow ImageOrEnd = Unit {0}
+HasRow End = Unit {0}
+
+abbrev pub HasRowNext : State → Type 0
+HasRowNext (Awaits awaited) = HasRow awaited
+HasRowNext Ended = Unit {0}
+HasRowNext (Failed fault) = Unit {0}
+
+HasRow-prop : (awaited : Awaited) → IsProp (HasRow awaited)
+HasRow-prop FirstImage = Unit-prop
+HasRow-prop (Row raster) = le_prop
+HasRow-prop ImageOrEnd = Unit-prop
+HasRow-prop End = Unit-prop
+
+pub HasRowNext-prop : (state : State) → IsProp (HasRowNext state)
+HasRowNext-prop (Awaits awaited) = HasRow-prop awaited
+HasRowNext-prop Ended = Unit-prop
+HasRowNext-prop (Failed fault) = Unit-prop
 
 -- a packet stands for at least one message; the end of the stream leads to its state, and Stop isn't given
 abbrev pub MayBeGiven : Packet → State → Type 0
-MayBeGiven (Begin head) state = Unit {0}
-MayBeGiven (Rows rows) state = 1 ≤ length rows
-MayBeGiven (Image head rows) state = Unit {0}
-MayBeGiven ImageEnd state = Unit {0}
+MayBeGiven (Part part) state = 1 ≤ length part
 MayBeGiven StreamEnd state = is_ended state ≡ true
 MayBeGiven Stop state = ⊥
 

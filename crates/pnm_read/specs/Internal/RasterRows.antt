@@ -12,7 +12,7 @@ use Rattle.pnm_image.specs.declared.sample_width.SampleWidth.{SampleWidth}
 use Rattle.pnm_image.specs.declared.sample_width.SampleWidth.TheVariants.{Bits, Bytes, Words}
 use Rattle.pnm_image.specs.Heads.{row_length}
 use Rattle.pnm_read.specs.declared.raster.Raster.{Raster}
-use Rattle.pnm_read.specs.Said.{in_turn, units_in_row, raw_row, rows_said, later_said, says_fault}
+use Rattle.pnm_read.specs.Said.{Said, in_turn, units_in_row, raw_row, rows_said, later_said, says_fault}
 use Rattle.pnm_read.specs.Said.{after_messages}
 use Rattle.pnm_read.specs.Items.{plain_sample}
 use Rattle.pnm_read.specs.Internal.Units.{AreBytesWithin, samples_of_bytes}
@@ -46,13 +46,17 @@ abbrev pub TakesRows : Shape → ℕ → List (List ℕ) → List ℕ → List �
 TakesRows s count rows before after = (rest : List ℕ)
     → in_turn (raw_row s) count (before ++ rest) ≡ Ok (rows, after ++ rest)
 
+-- what is still to be said of a raster, and of what follows it, after so many more rows
+abbrev pub due_after : ℕ → Raster → List ℕ → Said
+due_after count raster text =
+    rows_said later_said raster.format raster.shape (raster.shape.height - raster.y - count) text
+
 -- Rows come next of the raster, and these bytes are left after them; or the first of them is at fault.
 abbrev pub FindsRows : Raster → Result (List (List ℕ)) InputFault → List ℕ → List ℕ → Type 0
 FindsRows raster (Ok rows) before after =
     (1 ≤ length rows) × (length rows ≤ raster.shape.height - raster.y)
     × (rows_said later_said raster.format raster.shape (raster.shape.height - raster.y) before
-    ≡ after_messages (row_messages rows)
-    (rows_said later_said raster.format raster.shape (raster.shape.height - raster.y - length rows) after))
+    ≡ after_messages (row_messages rows) (due_after (length rows) raster after))
 FindsRows raster (Err fault) before after =
     (rows_said later_said raster.format raster.shape (raster.shape.height - raster.y) before ≡ says_fault fault)
     ⊎ IsOutsideFault fault

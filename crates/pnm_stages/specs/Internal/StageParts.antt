@@ -12,7 +12,7 @@ use Rattle.pnm_tools.specs.declared.fused_filter.FusedFilter.{FusedFilter}
 use Rattle.pnm_stages.specs.declared.stage.StageEnd.{StageEnd}
 use Rattle.pnm_stages.specs.declared.stage.StageEnd.TheVariants.{Fault, PeerGone}
 use Rattle.pnm_stages.specs.Rings.{HasDrainedAfter}
-use Rattle.pnm_tools.specs.FusedFilters.{FilterAt}
+use Rattle.pnm_tools.specs.FusedFilters.{FilterAt, FilterBusy}
 
 -- what was given answers a prefix of what was received
 pub record HasAnsweredPart (tool : Tool) (received given : List Message) : Type 0 where
@@ -20,6 +20,17 @@ pub record HasAnsweredPart (tool : Tool) (received given : List Message) : Type 
   pub rest : List Message
   pub parts : received ≡ accepted ++ rest
   pub answers : Answers tool accepted given
+
+-- a tool has sent answers: all that was due, or until the other end was seen dropped
+pub record HasSentAnswers {F : Type 0} (at : F → Tool → List Message → List Message → Type 0) (all_given : F → Bool)
+    (stopped : F → Option ToolFault) (all : Bool) (old new : FusedFilter F) (sent_old sent_new : List Message)
+    : Type 0 where
+  pub more : List Message
+  pub added : sent_new ≡ sent_old ++ more
+  pub full : all ≡ true → (tool : Tool) (l g : List Message) → FilterBusy at stopped old tool l g
+      → FilterAt at all_given stopped new tool l (g ++ more)
+  pub part : (tool : Tool) (l g : List Message) → FilterBusy at stopped old tool l g
+      → HasAnsweredPart tool l (g ++ more)
 
 -- a tool was passed these messages and its answers were sent: all of them, or until the other end was seen dropped
 pub record HasPassed {F : Type 0} (at : F → Tool → List Message → List Message → Type 0) (all_given : F → Bool)

@@ -2,7 +2,7 @@
 
 use super::{is_so, new_head, same};
 use pnm_filters::{RowState, RowWise, StartTool, ToolState};
-use pnm_image::{Kind, Shape};
+use pnm_image::{Kind, Packet, Shape};
 use pnm_test_support::{Part, is_made_of, message};
 use pnm_tools::{CutBox, Filter, FlipWay, Tool, ToolFault};
 use std::alloc::Global;
@@ -88,7 +88,11 @@ fn feed<F: Filter>(
     filter: &mut F,
     part: Part<'_>,
 ) -> Result<(), ToolFault> {
-    filter.feed(message(alloc, part).expect(rt, "a message"))
+    let message = message(alloc, part).expect(rt, "a message");
+    match filter.feed(Packet::from(message)) {
+        Ok(answer) => answer,
+        Err(_) => panic!(rt; "a message is given back"),
+    }
 }
 
 /// The filter gives this next, or nothing more.

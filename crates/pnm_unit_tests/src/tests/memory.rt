@@ -6,7 +6,7 @@ use super::rows_memory::are_wanted;
 use super::tools::{WHOLE, channel, picks, stays};
 use super::{holds, same};
 use pnm_filters::{ToolState, result_head, start_tool};
-use pnm_image::{Head, Kind, Message, Several, Shape};
+use pnm_image::{Head, Kind, Message, Packet, Shape};
 use pnm_test_support::{Part, head_of, is_made_of, message};
 use pnm_tools::{CutBox, Filter, FlipWay, Tool, ToolFault};
 use std::alloc::Global;
@@ -169,72 +169,50 @@ fn is_part<P: fmt::Debug>(rt: &impl Abort, message: &Message, want: Part<'_>, pl
     holds(rt, is_made_of(message, want), message, &want, place);
 }
 
-/// Asserts that there is a wanted part, and that the message that the tool gives is made of it.
-fn is_wanted(rt: &impl Abort, message: &Message, want: Option<&Part<'_>>) {
-    match want {
-        Some(want) => is_part(rt, message, *want, &"a tool"),
-        None => holds(rt, false, message, &"no answer", &"a tool"),
-    }
-}
-
 /// Asserts that memory ran out.
 fn is_memory(rt: &impl Abort, fault: ToolFault) {
     same(rt, &fault, &ToolFault::Memory, &"a tool");
 }
 
 /// Asserts that memory ran out, and that the tool answers that for good.
-pub(super) fn has_run_out<F: Filter>(rt: &impl Abort, state: &mut F, fault: ToolFault) {
+fn has_run_out<F: Filter>(rt: &impl Abort, state: &mut F, fault: ToolFault) {
     is_memory(rt, fault);
     stays(rt, state, ToolFault::Memory);
 }
 
-/// Takes what the tool gives, and asserts that it is made of the next of the wanted parts. Returns true if the tool
-/// goes on.
-pub(super) fn takes<F: Filter>(
+/// Feeds the tool at work the packet, and asserts that it answers with the next of the wanted parts, or with `Memory`.
+/// Returns true if the tool goes on.
+pub(super) fn answers<F: Filter>(
     rt: &impl Abort,
     state: &mut F,
+    packet: Packet,
     wants: &[Part<'_>],
     given: &mut usize,
 ) -> bool {
+    match state.feed(packet) {
+        Ok(Ok(())) => takes(rt, state, wants, given),
+        Ok(Err(fault)) => {
+            has_run_out(rt, state, fault);
+            false
+        }
+        Err(_) => panic!(rt; "what may come is given back"),
+    }
+}
+
+/// Takes what the tool gives, and asserts that it is made of the next of the wanted parts. Returns true if the tool
+/// goes on.
+fn takes<F: Filter>(rt: &impl Abort, state: &mut F, wants: &[Part<'_>], given: &mut usize) -> bool {
     for _ in 0..wants.len() + 1 {
-        if let Some(goes_on) = takes_next(rt, state, wants, given) {
-            return goes_on;
+        match state.next() {
+            Ok(Some(packet)) => are_wanted(rt, &packet, wants, given),
+            Ok(None) => return true,
+            Err(fault) => {
+                has_run_out(rt, state, fault);
+                return false;
+            }
         }
     }
     panic!(rt; "the answers have no end")
-}
-
-/// Takes what the tool gives next, and asserts that it is made of the next of the wanted parts. If the tool gives
-/// nothing, returns whether it goes on.
-fn takes_next<F: Filter>(
-    rt: &impl Abort,
-    state: &mut F,
-    wants: &[Part<'_>],
-    given: &mut usize,
-) -> Option<bool> {
-    match state.next() {
-        Ok(Some(packet)) => {
-            match packet.into_message() {
-                Ok(message) => {
-                    is_wanted(rt, &message, wants.get(*given));
-                    *given = given.wrapping_add(1);
-                }
-                Err(Several::Rows(rows)) => match rows.into_once() {
-                    Ok(rows) => are_wanted(rt, &rows, wants, given),
-                    // No row of these images is so long that it is given once for all times.
-                    Err(_rows) => holds(rt, false, &"rows", &"come once", given),
-                },
-                // A tool gives no whole image at once.
-                Err(Several::Image(head, _rows)) => holds(rt, false, &head, &"rows", given),
-            }
-            None
-        }
-        Ok(None) => Some(true),
-        Err(fault) => {
-            has_run_out(rt, state, fault);
-            Some(false)
-        }
-    }
 }
 
 /// Returns the tool, which has to be lawful, at work, or `None` if memory ran out.
@@ -278,44 +256,16 @@ fn answers_all<F: Filter>(
     wants: &[Part<'_>],
 ) -> bool {
     let mut given = 0;
-    let goes_on = answers_parts(rt, alloc, state, IMAGE, wants, &mut given);
-    if goes_on {
-        holds(rt, given == wants.len(), &given, &wants, &"a tool");
-    }
-    goes_on
-}
-
-/// Asserts that the tool at work answers messages that are made of these parts with the next of the wanted ones, or
-/// with `Memory` from some message on. Returns true if it goes on.
-pub(super) fn answers_parts<F: Filter>(
-    rt: &impl Abort,
-    alloc: Global,
-    state: &mut F,
-    parts: &[Part<'_>],
-    wants: &[Part<'_>],
-    given: &mut usize,
-) -> bool {
-    for part in parts {
-        if !feeds(rt, alloc, state, *part) || !takes(rt, state, wants, given) {
+    for part in IMAGE {
+        let Ok(message) = message(alloc, *part) else {
+            return false;
+        };
+        if !answers(rt, state, Packet::from(message), wants, &mut given) {
             return false;
         }
     }
+    same(rt, &given, &wants.len(), &"a tool");
     true
-}
-
-/// Feeds the tool at work the message that is made of this part. If the tool refuses it, asserts that the fault is
-/// `Memory`. Returns true if the tool goes on. If no message can be made, the test ends.
-fn feeds<F: Filter>(rt: &impl Abort, alloc: Global, state: &mut F, part: Part<'_>) -> bool {
-    let Ok(message) = message(alloc, part) else {
-        return false;
-    };
-    match state.feed(message) {
-        Ok(()) => true,
-        Err(fault) => {
-            has_run_out(rt, state, fault);
-            false
-        }
-    }
 }
 
 /// Asserts that the head rule answers the image's head with this part, or first with `Memory` and then with this part.

@@ -3,9 +3,9 @@
 
 use super::rows_memory::are_wanted;
 use super::{holds, same};
-use pnm_image::{BytesIn, Device, Kind, Message, Packet, Several};
+use pnm_image::{BytesIn, Device, Kind};
 use pnm_read::{InputFault, Source, SpareRows};
-use pnm_test_support::{Part, is_made_of};
+use pnm_test_support::Part;
 use std::alloc::Global;
 use std::process::Abort;
 
@@ -21,41 +21,14 @@ const PARTS: &[Part<'static>] = &[
     Part::StreamEnd,
 ];
 
-/// The plain form of the image. Its rows come together, and the last one alone.
+/// The plain form of the image. Its rows come together, and the last one with the image's end.
 const PLAIN: &[u8] = b"P2\n2 3\n9\n1 2\n3 4\n5 6\n";
 
 /// How many packets the parts come in: the image and the end of the stream.
 const AT_ONCE: usize = 2;
 
-/// How many packets those of the plain image come in: the head, two rows, the last one, and the two ends.
-const IN_PARTS: usize = 5;
-
-/// Asserts that the message is the next of the parts.
-fn is_next(rt: &impl Abort, message: &Message, given: &mut usize) {
-    let want = PARTS.get(*given);
-    let is_wanted = match want {
-        Some(part) => is_made_of(message, *part),
-        None => false,
-    };
-    holds(rt, is_wanted, message, &want, given);
-    *given = given.wrapping_add(1);
-}
-
-/// Asserts that what the packet stands for are the next of the parts.
-fn are_next(rt: &impl Abort, packet: Packet, given: &mut usize) {
-    match packet.into_message() {
-        Ok(message) => is_next(rt, &message, given),
-        Err(Several::Rows(rows)) => match rows.into_once() {
-            Ok(rows) => are_wanted(rt, &rows, PARTS, given),
-            Err(_rows) => holds(rt, false, &"rows", &"come once", given),
-        },
-        Err(Several::Image(head, rows)) => {
-            is_next(rt, &Message::Begin(head), given);
-            are_wanted(rt, &rows, PARTS, given);
-            is_next(rt, &Message::ImageEnd, given);
-        }
-    }
-}
+/// How many packets those of the plain image come in: the head, two rows, the last one, and the end of the stream.
+const IN_PARTS: usize = 4;
 
 /// Asserts that the source gives the parts, or answers `Memory` in the place of those that are left. Returns how many
 /// packets it has given.
@@ -67,7 +40,7 @@ fn gives_parts<R: BytesIn>(rt: &impl Abort, alloc: Global, source: &mut Source<R
             return packets;
         }
         match source.next(&mut spares, u32::MAX) {
-            Ok(Some(packet)) => are_next(rt, packet, &mut given),
+            Ok(Some(packet)) => are_wanted(rt, &packet, PARTS, &mut given),
             Ok(None) => holds(rt, false, &"an end", &"the next part", &given),
             Err(fault) => {
                 same(rt, &fault, &InputFault::Memory, &given);

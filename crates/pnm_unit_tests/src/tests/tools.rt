@@ -1,7 +1,7 @@
 //! Tools of the tests, and what is wanted of them.
 
 use super::{holds, same};
-use pnm_image::{Message, Packet};
+use pnm_image::Packet;
 use pnm_test_support::Unmade;
 use pnm_tools::{CutBox, Filter, Planes, Tool, ToolFault};
 use std::alloc::Global;
@@ -38,19 +38,17 @@ pub(super) fn picks(rt: &impl Abort, tool: &Tool, numbers: &[u16], tuple_type: &
 
 /// Asserts that the state answers nothing but this fault, whatever it is asked.
 pub(super) fn stays<F: Filter>(rt: &impl Abort, state: &mut F, fault: ToolFault) {
-    refuses_again(rt, state, Message::StreamEnd, fault);
-    refuses_again(rt, state, Message::Stop, fault);
-    refuses_again(rt, state, Message::ImageEnd, fault);
+    refuses_again(rt, state, Packet::StreamEnd, fault);
+    refuses_again(rt, state, Packet::Stop, fault);
+    refuses_again(rt, state, Packet::image_end(), fault);
 }
 
-/// Asserts that the state gives nothing but this fault, and answers this message with it.
-fn refuses_again<F: Filter>(rt: &impl Abort, state: &mut F, message: Message, fault: ToolFault) {
-    gives_fault(rt, state.next(), fault);
-    same(rt, &state.feed(message), &Err(fault), &"feed");
-}
-
-/// Asserts that the answer is this fault.
-fn gives_fault(rt: &impl Abort, answer: Result<Option<Packet>, ToolFault>, fault: ToolFault) {
+/// Asserts that the state gives nothing but this fault, and answers this packet with it.
+fn refuses_again<F: Filter>(rt: &impl Abort, state: &mut F, packet: Packet, fault: ToolFault) {
+    let answer = state.next();
     let is_so = matches!(&answer, Err(other) if *other == fault);
     holds(rt, is_so, &answer, &fault, &"next");
+    let answer = state.feed(packet);
+    let is_so = matches!(&answer, Ok(Err(other)) if *other == fault);
+    holds(rt, is_so, &answer, &fault, &"feed");
 }

@@ -11,9 +11,9 @@ returns-in-More-clause-put g c = λ form start l was.
     let same = sym c.ending.ensures ∙ c.in-More.is in
     let packet = c.args.packet.now in
     record {
-      ended = rw (c.requires.going) (ends_by More c.args.has_ended.now l packet c.requires.going was.ended same);
+      ended = rw (c.requires.going) (ends_by More c.args.has_ended.now l packet c.requires.ends c.requires.going was.ended same);
       taken = subst (λ (x : List Message). HasTaken g.W.BytesOut.held g.W.BytesOut.failures form start x c.put.new.self)
-          (keeps_packet More c.args.has_ended.now l packet tt c.requires.going was.ended same)
+          (keeps_packet More c.args.has_ended.now l packet c.requires.ends tt c.requires.going was.ended same)
           (c.put.ensures.taken form start (without_stop l) was.taken);
     }
 
@@ -22,9 +22,9 @@ returns-in-Whole-clause-put g c = λ form start l was.
     let same = sym c.ending.ensures ∙ c.in-Whole.is in
     let packet = c.args.packet.now in
     record {
-      ended = inl (ends_by Whole c.args.has_ended.now l packet c.requires.going was.ended same);
+      ended = inl (ends_by Whole c.args.has_ended.now l packet c.requires.ends c.requires.going was.ended same);
       taken = subst (λ (x : List Message). HasTaken g.W.BytesOut.held g.W.BytesOut.failures form start x c.put-in-Whole.new.self)
-          (keeps_packet Whole c.args.has_ended.now l packet tt c.requires.going was.ended same)
+          (keeps_packet Whole c.args.has_ended.now l packet c.requires.ends tt c.requires.going was.ended same)
           (c.put-in-Whole.ensures.taken form start (without_stop l) was.taken);
     }
 
@@ -33,7 +33,7 @@ returns-in-BrokenOff-clause-put g c = λ form start l was.
     let same = sym c.ending.ensures ∙ c.in-BrokenOff.is in
     let packet = c.args.packet.now in
     record {
-      ended = inr (ends_by BrokenOff c.args.has_ended.now l packet c.requires.going was.ended same);
+      ended = inr (ends_by BrokenOff c.args.has_ended.now l packet c.requires.ends c.requires.going was.ended same);
       taken = subst (λ (x : List Message). HasTaken g.W.BytesOut.held g.W.BytesOut.failures form start x c.args.fused_sink.now)
           (cuts_stop c.args.has_ended.now l packet c.requires.going was.ended same) was.taken;
     }

@@ -1,21 +1,25 @@
-use Rattle.std.proofs.Common.{[], ◌∷◌, ◌∙◌, ap, sym}
+use Rattle.std.proofs.Common.{◌≡◌, Bool, true, false, List, ap, sym, ◌∙◌}
+use Rattle.pnm_image.specs.declared.message.Message.{Message}
 use Rattle.pnm_image.specs.Packets.{messages_in}
-use Rattle.pnm_image.specs.Rows.{row_messages}
-use Rattle.pnm_image.specs.declared.message.Message.TheVariants.{ImageEnd}
-use Rattle.pnm_image.specs.declared.packet.Packet.{Packet}
-use Rattle.pnm_serial.specs.Counts.{image_count_after, images_in}
-use Rattle.pnm_serial.proofs.MessageSteps.{images_in-append, images_in-rows}
+use Rattle.pnm_image.specs.Parts.{part_messages}
+use Rattle.pnm_serial.specs.Counts.{images_in}
+use Rattle.pnm_serial.proofs.MessageSteps.{images_in-part}
 use Rattle.pnm_io_loop.proofs.image_count.count_image.Goals as goal
 
-pub returns-in-Rows : goal.returns-in-Rows
-returns-in-Rows c =
+pub returns-then-parts : goal.returns-then-parts
+returns-then-parts c =
     let n = c.args.images.now in
-    sym (images_in-rows n c.in-Rows.field-0) ∙ ap (λ (p : Packet). images_in n (messages_in p)) (sym c.in-Rows.is)
+    let head = c.parts.result.0.now in
+    let rows = c.parts.result.1.now in
+    let same : messages_in c.args.packet.now ≡ part_messages head rows true = ap messages_in c.in-Part.is ∙ c.parts.ensures.parts
+    ∙ ap (λ (ends : Bool). part_messages head rows ends) c.if-parts.true in
+    c.saturating_add.ensures ∙ sym (images_in-part n head rows true) ∙ ap (λ (l : List Message). images_in n l) (sym same)
 
-pub returns-in-Image : goal.returns-in-Image
-returns-in-Image c =
+pub returns-else-parts : goal.returns-else-parts
+returns-else-parts c =
     let n = c.args.images.now in
-    let rows = c.in-Image.field-1 in
-    c.saturating_add.ensures
-    ∙ ap (λ k. image_count_after k ImageEnd) (sym (images_in-rows n rows))
-    ∙ sym (images_in-append n (row_messages rows) (ImageEnd ∷ [])) ∙ ap (λ (p : Packet). images_in n (messages_in p)) (sym c.in-Image.is)
+    let head = c.parts.result.0.now in
+    let rows = c.parts.result.1.now in
+    let same : messages_in c.args.packet.now ≡ part_messages head rows false = ap messages_in c.in-Part.is ∙ c.parts.ensures.parts
+    ∙ ap (λ (ends : Bool). part_messages head rows ends) c.if-parts.false in
+    sym (images_in-part n head rows false) ∙ ap (λ (l : List Message). images_in n l) (sym same)

@@ -1,6 +1,9 @@
 use Rattle.std.proofs.Common.{refl, sym, subst, ◌∙◌}
 use Rattle.pnm_stages.specs.Rings.{received, known_items}
 use Rattle.pnm_image.specs.declared.place.Place.{Place}
+use Rattle.pnm_image.specs.declared.message.Ending.{Ending}
+use Rattle.pnm_image.specs.Messages.{EndsBy}
+use Rattle.pnm_image.specs.Packets.{messages_in}
 use Rattle.pnm_image.specs.declared.message.Ending.TheVariants.{More, Whole, BrokenOff}
 use Rattle.pnm_stages.specs.declared.stage.StageEnd.TheVariants.{PeerGone}
 use Rattle.pnm_stages.proofs.RingSteps.{itself_input, same_input}
@@ -42,7 +45,8 @@ returns-then-is_end_dealt-clause-dealt g c =
     ends_gone end ending (received c.args.input.now) (received c.receive.new.self) (known_items c.receive.new.self) c.args.outputs.now
     c.deal_packet.new.outputs (interrupts_packet end ending c.loop.place c.deal_packet.new.place (received c.args.input.now) (received
     c.wake_before_input.new.input) (received c.receive.new.self) c.args.outputs.now nows c.deal_packet.new.outputs c.in-Some-receive.packet
-    c.deal_packet.result dealing c.in-Some-receive.ensures.taken c.in-Some-receive.ensures.messages (sym c.ending-ending.ensures)
+    c.deal_packet.result dealing c.in-Some-receive.ensures.taken c.in-Some-receive.ensures.messages
+    (subst (λ (e : Ending). EndsBy e (messages_in c.in-Some-receive.packet)) (sym c.ending-ending.ensures) c.in-Some-receive.ensures.ends)
     c.deal_packet.ensures c.in-Some-deal_packet.is) (c.is_end_dealt.ensures.yes c.if-is_end_dealt.true)
 
 pub returns-in-Some-deal_packet-clause-dealt : goal.returns-in-Some-deal_packet-clause-dealt
@@ -58,7 +62,8 @@ returns-in-Some-deal_packet-clause-dealt g c =
     c.break_off-in-Some-deal_packet.new.outputs (cuts end ending (received c.args.input.now) (received c.receive.new.self) c.args.outputs.now
     c.deal_packet.new.outputs (interrupts_packet end ending c.loop.place c.deal_packet.new.place (received c.args.input.now) (received
     c.wake_before_input.new.input) (received c.receive.new.self) c.args.outputs.now nows c.deal_packet.new.outputs c.in-Some-receive.packet
-    c.deal_packet.result dealing c.in-Some-receive.ensures.taken c.in-Some-receive.ensures.messages (sym c.ending-ending.ensures)
+    c.deal_packet.result dealing c.in-Some-receive.ensures.taken c.in-Some-receive.ensures.messages
+    (subst (λ (e : Ending). EndsBy e (messages_in c.in-Some-receive.packet)) (sym c.ending-ending.ensures) c.in-Some-receive.ensures.ends)
     c.deal_packet.ensures c.in-Some-deal_packet.is) (c.is_end_dealt.ensures.no c.if-is_end_dealt.false)) refl
     c.break_off-in-Some-deal_packet.ensures.broken
 
@@ -74,7 +79,9 @@ loop-preserved g c =
           c.deal_packet.auto.outputs) (subst IsLaneCount (sym (woken_count c.loop.outputs nows c.wake_before_input.ensures.outputs)) c.loop.invariant.1),
       deals_packet More c.loop.place c.deal_packet.new.place (received c.args.input.now) (received c.wake_before_input.new.input) (received
           c.receive.new.self) c.args.outputs.now nows c.deal_packet.new.outputs c.in-Some-receive.packet c.deal_packet.result dealing
-          c.in-Some-receive.ensures.taken c.in-Some-receive.ensures.messages (sym c.ending-ending.ensures ∙ c.in-More.is) c.deal_packet.ensures
+          c.in-Some-receive.ensures.taken c.in-Some-receive.ensures.messages
+          (subst (λ (e : Ending). EndsBy e (messages_in c.in-Some-receive.packet)) (sym c.ending-ending.ensures ∙ c.in-More.is)
+          c.in-Some-receive.ensures.ends) c.deal_packet.ensures
           c.in_default-deal_packet.is,
     )
 
@@ -87,7 +94,8 @@ returns-in-Whole-clause-dealt g c =
     ends_whole c.deal_packet.new.place (received c.args.input.now) (received c.receive.new.self) (known_items c.receive.new.self) c.args.outputs.now
     c.deal_packet.new.outputs (deals_packet Whole c.loop.place c.deal_packet.new.place (received c.args.input.now) (received
     c.wake_before_input.new.input) (received c.receive.new.self) c.args.outputs.now nows c.deal_packet.new.outputs c.in-Some-receive.packet
-    c.deal_packet.result dealing c.in-Some-receive.ensures.taken c.in-Some-receive.ensures.messages (sym c.ending-ending.ensures ∙ c.in-Whole.is)
+    c.deal_packet.result dealing c.in-Some-receive.ensures.taken c.in-Some-receive.ensures.messages
+    (subst (λ (e : Ending). EndsBy e (messages_in c.in-Some-receive.packet)) (sym c.ending-ending.ensures ∙ c.in-Whole.is) c.in-Some-receive.ensures.ends)
     c.deal_packet.ensures c.in_default-deal_packet.is)
 
 pub returns-in-BrokenOff-clause-dealt : goal.returns-in-BrokenOff-clause-dealt
@@ -99,7 +107,8 @@ returns-in-BrokenOff-clause-dealt g c =
     ends_broken c.deal_packet.new.place (received c.args.input.now) (received c.receive.new.self) (known_items c.receive.new.self) c.args.outputs.now
     c.deal_packet.new.outputs (deals_packet BrokenOff c.loop.place c.deal_packet.new.place (received c.args.input.now) (received
     c.wake_before_input.new.input) (received c.receive.new.self) c.args.outputs.now nows c.deal_packet.new.outputs c.in-Some-receive.packet
-    c.deal_packet.result dealing c.in-Some-receive.ensures.taken c.in-Some-receive.ensures.messages (sym c.ending-ending.ensures ∙ c.in-BrokenOff.is)
+    c.deal_packet.result dealing c.in-Some-receive.ensures.taken c.in-Some-receive.ensures.messages
+    (subst (λ (e : Ending). EndsBy e (messages_in c.in-Some-receive.packet)) (sym c.ending-ending.ensures ∙ c.in-BrokenOff.is) c.in-Some-receive.ensures.ends)
     c.deal_packet.ensures c.in_default-deal_packet.is)
 
 pub returns-in_default-clause-input : goal.returns-in_default-clause-input

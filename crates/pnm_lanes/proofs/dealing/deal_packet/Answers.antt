@@ -1,8 +1,11 @@
-use Rattle.std.proofs.Common.{List, sym, subst}
-use Rattle.pnm_image.specs.declared.message.Message.{Message}
-use Rattle.pnm_image.specs.declared.packet.Packet.{Packet}
+use Rattle.std.proofs.Common.{◌≡◌, [], ◌∷◌, List, Option, None, Some, ap, sym, subst, ◌∙◌}
+use Rattle.pnm_image.specs.Heads.{HeadValue}
 use Rattle.pnm_image.specs.Packets.{messages_in}
+use Rattle.pnm_image.specs.Parts.{rest_messages, part_messages}
+use Rattle.pnm_image.specs.declared.message.Message.{Message}
+use Rattle.pnm_image.specs.declared.message.Message.TheVariants.{Begin}
 use Rattle.pnm_lanes.specs.Internal.DealParts.{HasDealtMessages}
+use Rattle.pnm_lanes.proofs.MessageSteps.{deals_then, leaves_rest}
 use Rattle.pnm_lanes.proofs.dealing.deal_packet.Goals as goal
 
 pub returns-in-Ok : goal.returns-in-Ok
@@ -10,12 +13,42 @@ returns-in-Ok g c =
     subst (λ (l : List Message). HasDealtMessages c.args.place.now c.deal_message.new.place l c.deal_message.result c.args.outputs.now
     c.deal_message.new.outputs) (sym c.in-Ok.ensures.one) c.deal_message.ensures
 
-pub returns-in-Err-Rows : goal.returns-in-Err-Rows
-returns-in-Err-Rows g c = let is = rw c.in-Err-Rows.field-0-is at c.in-Err-Rows.ensures.several.0 in
-    subst (λ (p : Packet). HasDealtMessages c.args.place.now c.deal_repeated.new.place (messages_in p) c.deal_repeated.result c.args.outputs.now
-    c.deal_repeated.new.outputs) (sym is) c.deal_repeated.ensures
+-- the part has no head
+pub returns-in_default : goal.returns-in_default
+returns-in_default g c =
+    let rows = c.into_parts-head.result.1 in
+    let ends = c.into_parts-head.result.2 in
+    let same : messages_in c.args.packet ≡ part_messages None rows ends = ap messages_in c.in-Err.ensures.several.0 ∙ c.into_parts-head.ensures.parts
+    ∙ ap (λ (head : Option HeadValue). part_messages head rows ends) c.in_default.is in
+    subst (λ (l : List Message). HasDealtMessages c.args.place.now c.deal_rest.new.place l c.deal_rest.result c.args.outputs.now
+    c.deal_rest.new.outputs) (sym same) c.deal_rest.ensures
 
-pub returns-in-Err-Image : goal.returns-in-Err-Image
-returns-in-Err-Image g c = let is = rw c.in-Err-Image.field-0-is at c.in-Err-Image.ensures.several.0 in
-    subst (λ (p : Packet). HasDealtMessages c.args.place.now c.deal_image.new.place (messages_in p) c.deal_image.result c.args.outputs.now
-    c.deal_image.new.outputs) (sym is) c.deal_image.ensures
+-- the head wasn't dealt
+pub returns-in-Some-deal_message : goal.returns-in-Some-deal_message
+returns-in-Some-deal_message g c =
+    let rows = c.into_parts-head.result.1 in
+    let ends = c.into_parts-head.result.2 in
+    let same : messages_in c.args.packet ≡ part_messages (Some c.in-Some.head) rows ends =
+    ap messages_in c.in-Err.ensures.several.0 ∙ c.into_parts-head.ensures.parts
+    ∙ ap (λ (head : Option HeadValue). part_messages head rows ends) c.in-Some.is in
+    subst (λ (l : List Message). HasDealtMessages c.args.place.now c.deal_message-2.new.place l (Some c.in-Some-deal_message.end) c.args.outputs.now
+    c.deal_message-2.new.outputs) (sym same)
+    (leaves_rest c.in-Some-deal_message.end c.args.place.now (Begin c.in-Some.head ∷ []) (rest_messages rows ends) c.args.outputs.now
+    c.deal_message-2.new.outputs
+    (subst (λ (u : Option _). HasDealtMessages c.args.place.now c.deal_message-2.new.place (Begin c.in-Some.head ∷ []) u c.args.outputs.now
+    c.deal_message-2.new.outputs) c.in-Some-deal_message.is c.deal_message-2.ensures))
+
+-- it was, and then the rest
+pub returns : goal.returns
+returns g c =
+    let rows = c.into_parts-head.result.1 in
+    let ends = c.into_parts-head.result.2 in
+    let same : messages_in c.args.packet ≡ part_messages (Some c.in-Some.head) rows ends =
+    ap messages_in c.in-Err.ensures.several.0 ∙ c.into_parts-head.ensures.parts
+    ∙ ap (λ (head : Option HeadValue). part_messages head rows ends) c.in-Some.is in
+    subst (λ (l : List Message). HasDealtMessages c.args.place.now c.deal_rest-2.new.place l c.deal_rest-2.result c.args.outputs.now
+    c.deal_rest-2.new.outputs) (sym same)
+    (deals_then c.args.place.now c.deal_message-2.new.place c.deal_rest-2.new.place (Begin c.in-Some.head ∷ []) (rest_messages rows ends)
+    c.deal_rest-2.result c.args.outputs.now c.deal_message-2.new.outputs c.deal_rest-2.new.outputs
+    (subst (λ (u : Option _). HasDealtMessages c.args.place.now c.deal_message-2.new.place (Begin c.in-Some.head ∷ []) u c.args.outputs.now
+    c.deal_message-2.new.outputs) c.in_default-deal_message.is c.deal_message-2.ensures) c.deal_rest-2.ensures)

@@ -10,7 +10,7 @@ pub returns-in-Some : goal.returns-in-Some
 returns-in-Some g c =
     let raster = c.args.raster.now in
     let rows = c.in-Some.rows in
-    let some = rw c.in-Some.is at c.in_ok-rows.ensures.least in
+    let some = rw c.in-Some.is at c.in_ok-rows.ensures.some in
     let left = rw c.in-Some.is at c.in_ok-rows.ensures.left in
     let taken = rw c.in-Some.is at c.in_ok-rows.ensures.rows in
     call_held tt (Ok rows) (no_fault rows ReadFailed) c.in_ok-rows.ensures.reader c.in_ok-rows.ensures.ended

@@ -1,27 +1,47 @@
-use Rattle.std.proofs.Common.{◌≡◌, ◌<◌, true, length, map, refl, arith}
-use Rattle.std.proofs.lemmas.List.{length-map}
-use Rattle.std.proofs.lemmas.Bool.Decides.{nat_tests}
-use Rattle.std.proofs.lemmas.Grind.{common_steps}
-use Rattle.pnm_image.specs.declared.message.Message.TheVariants.{Row}
-use Rattle.pnm_stages.specs.RingPackets.{is_rows_together}
-use Rattle.pnm_stages.proofs.PacketLaws.{rows_are_messages, image_is_messages}
+use Rattle.std.proofs.Common.{◌≡◌, None, Some, Option, ap, sym, subst, ◌∙◌}
+use Rattle.std.specs.List.{AllByRecursion}
+use Rattle.pnm_image.specs.Heads.{HeadValue}
+use Rattle.pnm_image.specs.Messages.{IsMessage, EndsBy}
+use Rattle.pnm_image.specs.Packets.{messages_in, ending_of_packet}
+use Rattle.pnm_image.specs.Parts.{part_messages}
+use Rattle.pnm_image.specs.declared.message.Ending.TheVariants.{More}
+use Rattle.pnm_image.specs.declared.packet.Packet.{Packet}
+use Rattle.pnm_stages.specs.RingPackets.{is_together}
+use Rattle.pnm_stages.proofs.PacketLaws.{rest_is_messages, part_is_messages, part_ends_nothing, several_by}
 use Rattle.pnm_stages.proofs.receiver.recognise.Goals as goal
 
-pub returns-in-Rows-clause-some : goal.returns-in-Rows-clause-some
-returns-in-Rows-clause-some c =
-    let count : length (map Row c.in-Rows.rows) ≡ length c.in-Rows.rows = length-map c.in-Rows.rows Row in
-    let some : 0 < length (map Row c.in-Rows.rows) = omega (arith, count, c.are_several.ensures.some) in
-    rw (c.in-Rows.is) some
+pub returns-in-Some-clause-messages : goal.returns-in-Some-clause-messages
+returns-in-Some-clause-messages c =
+    let rows = c.parts.result.1.now in
+    let ends = c.parts.result.2 in
+    let same : messages_in c.args.packet.now ≡ part_messages (Some c.in-Some.head) rows ends =
+    ap messages_in c.in-Part.is ∙ c.parts.ensures.parts ∙ ap (λ (head : Option HeadValue). part_messages head rows ends) c.in-Some.is in
+    subst (AllByRecursion IsMessage) (sym same) (part_is_messages c.in-Some.head rows ends c.shape.ensures.sound)
 
-pub returns-in-Rows-clause-messages : goal.returns-in-Rows-clause-messages
-returns-in-Rows-clause-messages c = rw (c.in-Rows.is) (rows_are_messages c.in-Rows.rows)
+pub returns-in-Some-clause-ends : goal.returns-in-Some-clause-ends
+returns-in-Some-clause-ends c =
+    subst (λ (packet : Packet). EndsBy (ending_of_packet packet) (messages_in packet)) (sym c.in-Part.is)
+    (subst (EndsBy More) (sym c.parts.ensures.parts) (part_ends_nothing c.parts.result.0.now c.parts.result.1.now c.parts.result.2))
 
-pub returns-in-Image-clause-messages : goal.returns-in-Image-clause-messages
-returns-in-Image-clause-messages c = rw (c.in-Image.is) (image_is_messages c.in-Image.head c.in-Image.rows c.shape-in-Image.ensures.sound)
+pub returns-clause-messages : goal.returns-clause-messages
+returns-clause-messages c =
+    let rows = c.parts.result.1.now in
+    let ends = c.parts.result.2 in
+    let same : messages_in c.args.packet.now ≡ part_messages None rows ends =
+    ap messages_in c.in-Part.is ∙ c.parts.ensures.parts ∙ ap (λ (head : Option HeadValue). part_messages head rows ends) c.in_default-0₀.is in
+    subst (AllByRecursion IsMessage) (sym same) (rest_is_messages rows ends)
 
-pub returns-in-Rows-clause-rows : goal.returns-in-Rows-clause-rows
-returns-in-Rows-clause-rows c =
-    let several : c.are_several.result ≡ is_rows_together c.args.packet.now = grind (arith, common_steps, nat_tests) in several
+pub returns-clause-ends : goal.returns-clause-ends
+returns-clause-ends c =
+    subst (λ (packet : Packet). EndsBy (ending_of_packet packet) (messages_in packet)) (sym c.in-Part.is)
+    (subst (EndsBy More) (sym c.parts.ensures.parts) (part_ends_nothing c.parts.result.0.now c.parts.result.1.now c.parts.result.2))
 
-pub returns-in-Image-clause-rows : goal.returns-in-Image-clause-rows
-returns-in-Image-clause-rows c = let image : true ≡ is_rows_together c.args.packet.now = rw c.in-Image.is refl in image
+pub returns-in-Some-clause-together : goal.returns-in-Some-clause-together
+returns-in-Some-clause-together c =
+    let several : c.is_several.result ≡ is_together c.args.packet.now =
+    several_by c.args.packet.now c.in-Part.part c.is_several.result c.in-Part.is c.is_several.ensures.several in several
+
+pub returns-clause-together : goal.returns-clause-together
+returns-clause-together c =
+    let several : c.is_several-2.result ≡ is_together c.args.packet.now =
+    several_by c.args.packet.now c.in-Part.part c.is_several-2.result c.in-Part.is c.is_several-2.ensures.several in several

@@ -1,10 +1,9 @@
-use Rattle.std.proofs.Common.{true, false, refl}
-use Rattle.pnm_image.specs.Packets.{messages_in}
+use Rattle.std.proofs.Common.{refl}
+use Rattle.pnm_image.specs.Packets.{messages_in, ending_of_packet}
 use Rattle.pnm_tools.specs.Unfed.{unfed_in}
 use Rattle.pnm_stages.specs.Rings.{sent}
-use Rattle.pnm_stages.specs.Internal.HeldImages.{held_messages}
 use Rattle.pnm_stages.proofs.RingSteps.{itself_output, same_output}
-use Rattle.pnm_stages.proofs.HoldingSteps.{feeds_nothing_yet, feeds_more, loses_rest, sends_rest}
+use Rattle.pnm_stages.proofs.PassingSteps.{feeds_nothing_yet, feeds_more, loses_rest, drops_rest}
 use Rattle.pnm_stages.proofs.stage.pass.Goals as goal
 
 pub loop-alloc-init : goal.loop-alloc-init
@@ -20,10 +19,9 @@ loop-alloc-smaller g c = c.loop-alloc-test.ensures.fewer refl
 pub loop-alloc-preserved : goal.loop-alloc-preserved
 loop-alloc-preserved g c = (
   same_output c.args.output.now c.loop-alloc.output c.send_answers.new.output c.loop-alloc.invariant.0 c.send_answers.ensures.output,
-  feeds_more g.F.Filter.at g.F.Filter.all_given g.F.Filter.stopped true c.args.stage.now c.loop-alloc.stage c.feed_next.new.self c.send_answers.new.stage
-      (messages_in c.args.packet) (unfed_in c.loop-alloc.unfed) (unfed_in c.feed_next.new.unfed) (held_messages c.loop-alloc.held)
-      (held_messages c.send_answers.new.held) (sent c.args.output.now) (sent c.loop-alloc.output) (sent c.send_answers.new.output)
-      c.loop-alloc.invariant.1 (c.loop-alloc-test.ensures.fed refl) c.if-not-send_answers.ensures.held,
+  feeds_more g.F.Filter.at g.F.Filter.all_given g.F.Filter.stopped c.args.stage.now c.loop-alloc.stage c.feed_next.new.self c.send_answers.new.stage
+      (messages_in c.args.packet) (unfed_in c.loop-alloc.unfed) (unfed_in c.feed_next.new.unfed) (sent c.args.output.now) (sent c.loop-alloc.output)
+      (sent c.send_answers.new.output) c.loop-alloc.invariant.1 (c.loop-alloc-test.ensures.fed refl) c.if-not-send_answers.ensures.sent,
 )
 
 pub returns-then-not-send_answers-clause-output : goal.returns-then-not-send_answers-clause-output
@@ -32,18 +30,15 @@ returns-then-not-send_answers-clause-output g c =
 
 pub returns-then-not-send_answers-clause-passed : goal.returns-then-not-send_answers-clause-passed
 returns-then-not-send_answers-clause-passed g c =
-    loses_rest g.F.Filter.at g.F.Filter.all_given g.F.Filter.stopped c.args.stage.now c.send_answers.new.stage (messages_in c.args.packet)
-    (unfed_in c.feed_next.new.unfed) (held_messages c.send_answers.new.held) (sent c.args.output.now) (sent c.send_answers.new.output)
-    (feeds_more g.F.Filter.at g.F.Filter.all_given g.F.Filter.stopped false c.args.stage.now c.loop-alloc.stage c.feed_next.new.self c.send_answers.new.stage
-    (messages_in c.args.packet) (unfed_in c.loop-alloc.unfed) (unfed_in c.feed_next.new.unfed) (held_messages c.loop-alloc.held)
-    (held_messages c.send_answers.new.held) (sent c.args.output.now) (sent c.loop-alloc.output) (sent c.send_answers.new.output)
-    c.loop-alloc.invariant.1 (c.loop-alloc-test.ensures.fed refl) c.if-not-send_answers.ensures.held)
+    loses_rest g.F.Filter.at g.F.Filter.all_given g.F.Filter.stopped c.args.stage.now c.loop-alloc.stage c.feed_next.new.self c.send_answers.new.stage
+    (messages_in c.args.packet) (unfed_in c.loop-alloc.unfed) (unfed_in c.feed_next.new.unfed) (sent c.args.output.now) (sent c.loop-alloc.output)
+    (sent c.send_answers.new.output) c.loop-alloc.invariant.1 (c.loop-alloc-test.ensures.fed refl) c.if-not-send_answers.ensures.sent
 
 pub returns-clause-output : goal.returns-clause-output
-returns-clause-output g c = same_output c.args.output.now c.loop-alloc.output c.send_held.new.output c.loop-alloc.invariant.0 c.send_held.ensures.output
+returns-clause-output g c = c.loop-alloc.invariant.0
 
 pub returns-clause-passed : goal.returns-clause-passed
 returns-clause-passed g c =
-    sends_rest g.F.Filter.at g.F.Filter.all_given g.F.Filter.stopped c.send_held.result c.args.stage.now c.loop-alloc.stage c.feed_next.new.self c.args.packet
-    (unfed_in c.loop-alloc.unfed) (held_messages c.loop-alloc.held) (sent c.args.output.now) (sent c.loop-alloc.output) (sent c.send_held.new.output)
-    c.loop-alloc.invariant.1 (c.loop-alloc-test.ensures.dropped refl) c.send_held.ensures.sent
+    drops_rest g.F.Filter.at g.F.Filter.all_given g.F.Filter.stopped c.args.stage.now c.loop-alloc.stage c.feed_next.new.self
+    (ending_of_packet c.args.packet) (messages_in c.args.packet) (unfed_in c.loop-alloc.unfed) (sent c.args.output.now) (sent c.loop-alloc.output)
+    c.requires c.loop-alloc.invariant.1 (c.loop-alloc-test.ensures.dropped refl)

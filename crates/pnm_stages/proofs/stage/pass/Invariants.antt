@@ -1,16 +1,15 @@
-use Rattle.std.proofs.Common.{true, length}
+use Rattle.std.proofs.Common.{length}
 use Rattle.pnm_image.specs.Packets.{messages_in}
 use Rattle.pnm_tools.specs.Unfed.{unfed_in}
 use Rattle.pnm_stages.specs.Rings.{sent, SameSender}
-use Rattle.pnm_stages.specs.Internal.HeldImages.{held_messages}
-use Rattle.pnm_stages.proofs.HoldingSteps.{IsFeeding}
+use Rattle.pnm_stages.proofs.PassingSteps.{IsFeeding}
 use Rattle.pnm_stages.proofs.stage.pass.Given as goal
 
--- what was fed of the packet so far, and sent or held back
+-- what was fed of the packet so far, and sent
 abbrev pub invariant-loop-alloc : goal.invariant-loop-alloc
 invariant-loop-alloc g l = SameSender l.fn.output l.output
-    × IsFeeding g.F.Filter.at g.F.Filter.all_given g.F.Filter.stopped true l.fn.stage l.stage (messages_in l.fn.packet) (unfed_in l.unfed)
-    (held_messages l.held) (sent l.fn.output) (sent l.output)
+    × IsFeeding g.F.Filter.at g.F.Filter.all_given g.F.Filter.stopped l.fn.stage l.stage (messages_in l.fn.packet) (unfed_in l.unfed)
+    (sent l.fn.output) (sent l.output)
 
 abbrev pub decreases-loop-alloc : goal.decreases-loop-alloc
 decreases-loop-alloc g l = length (unfed_in l.unfed)

@@ -31,7 +31,7 @@ returns-then-not-pass-clause-ran g c tool fresh =
     (received c.args.input.now) (received c.loop.input) (received c.receive_known-packet.new.self) (received c.drain_after.new.self) (known_items
     c.drain_after.new.self)
     (sent c.args.output.now) (sent c.has_next.new.output) (sent c.pass.new.output) tool
-    (still_sent c.loop.invariant.2 c.has_next.ensures.sent) came c.receive_known-packet.ensures.messages
+    (still_sent c.loop.invariant.2 c.has_next.ensures.sent) came c.receive_known-packet.ensures.messages c.receive_known-packet.ensures.ends
     c.if-not-pass.ensures.passed c.ending-ending.ensures c.drain_after.ensures.drained fresh
 
 pub returns-in-Some-fault-clause-ran : goal.returns-in-Some-fault-clause-ran
@@ -45,7 +45,7 @@ returns-in-Some-fault-clause-ran g c tool fresh =
     (passes_packet g.F.Filter.at g.F.Filter.all_given g.F.Filter.stopped c.args.stage.now c.loop.stage c.pass.new.stage
     c.receive_known-packet.result (received c.args.input.now) (received c.loop.input) (received c.receive_known-packet.new.self) (sent c.args.output.now)
     (sent c.has_next.new.output) (sent c.pass.new.output)
-    (still_sent c.loop.invariant.2 c.has_next.ensures.sent) came c.receive_known-packet.ensures.messages
+    (still_sent c.loop.invariant.2 c.has_next.ensures.sent) came c.receive_known-packet.ensures.messages c.receive_known-packet.ensures.ends
     c.if-not-pass.ensures.passed)
     c.ending-ending.ensures (sym c.fault-in-loop.ensures ∙ c.in-Some-fault.is) c.break_off-in-Some-fault.ensures.broken fresh
 
@@ -63,7 +63,7 @@ loop-preserved g c =
           c.receive_known-packet.result (received c.args.input.now) (received c.loop.input) (received c.receive_known-packet.new.self) (sent
           c.args.output.now)
           (sent c.has_next.new.output) (sent c.pass.new.output)
-          (still_sent c.loop.invariant.2 c.has_next.ensures.sent) came c.receive_known-packet.ensures.messages
+          (still_sent c.loop.invariant.2 c.has_next.ensures.sent) came c.receive_known-packet.ensures.messages c.receive_known-packet.ensures.ends
           c.if-not-pass.ensures.passed) (sym c.ending-ending.ensures ∙ c.in-More.is),
       (sym c.fault-in-loop.ensures ∙ c.in_default-fault.is),
     )
@@ -78,7 +78,7 @@ returns-in-Whole-clause-ran g c tool fresh =
     (passes_packet g.F.Filter.at g.F.Filter.all_given g.F.Filter.stopped c.args.stage.now c.loop.stage c.pass.new.stage
     c.receive_known-packet.result (received c.args.input.now) (received c.loop.input) (received c.receive_known-packet.new.self) (sent c.args.output.now)
     (sent c.has_next.new.output) (sent c.pass.new.output)
-    (still_sent c.loop.invariant.2 c.has_next.ensures.sent) came c.receive_known-packet.ensures.messages
+    (still_sent c.loop.invariant.2 c.has_next.ensures.sent) came c.receive_known-packet.ensures.messages c.receive_known-packet.ensures.ends
     c.if-not-pass.ensures.passed)
     ((sym c.in-Whole.is) ∙ c.ending-ending.ensures) (sym c.fault-in-loop.ensures ∙ c.in_default-fault.is) fresh
 
@@ -92,7 +92,7 @@ returns-in-BrokenOff-clause-ran g c tool fresh =
     (passes_packet g.F.Filter.at g.F.Filter.all_given g.F.Filter.stopped c.args.stage.now c.loop.stage c.pass.new.stage
     c.receive_known-packet.result (received c.args.input.now) (received c.loop.input) (received c.receive_known-packet.new.self) (sent c.args.output.now)
     (sent c.has_next.new.output) (sent c.pass.new.output)
-    (still_sent c.loop.invariant.2 c.has_next.ensures.sent) came c.receive_known-packet.ensures.messages
+    (still_sent c.loop.invariant.2 c.has_next.ensures.sent) came c.receive_known-packet.ensures.messages c.receive_known-packet.ensures.ends
     c.if-not-pass.ensures.passed)
     ((sym c.in-BrokenOff.is) ∙ c.ending-ending.ensures) (sym c.fault-in-loop.ensures ∙ c.in_default-fault.is) fresh
 
@@ -165,3 +165,6 @@ returns-in-BrokenOff-clause-output g c =
 
 pub receive_known-packet-requires : goal.receive_known-packet-requires
 receive_known-packet-requires g c = c.if-not-has_next.ensures.some refl
+
+pub pass-requires : goal.pass-requires
+pass-requires g c = c.receive_known-packet.ensures.ends

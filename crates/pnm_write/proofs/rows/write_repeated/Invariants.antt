@@ -8,4 +8,4 @@ use Rattle.pnm_write.proofs.rows.write_repeated.Given as goal
 abbrev pub invariant-loop-time : goal.invariant-loop-time
 invariant-loop-time g l =
     Sending g.W.BytesOut.held g.W.BytesOut.failures g.W.BytesOut.same l.initial.writer l.writer
-    (rows_bytes l.form l.shape (repeated l.times l.rows)) (rows_bytes l.form l.shape (repeated (l.times - l._time) l.rows))
+    (rows_bytes l.form l.shape (repeated l.times l.held)) (rows_bytes l.form l.shape (repeated (l.times - l._time) l.held))

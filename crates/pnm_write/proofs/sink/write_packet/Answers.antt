@@ -1,55 +1,71 @@
-use Rattle.std.proofs.Common.{◌≡◌, ◌∙◌, ◌++◌, ◌∷◌, [], List, ℕ, ap, sym, subst, rules}
-use Rattle.std.specs.List.{AllByRecursion}
-use Rattle.pnm_image.specs.declared.message.Message.TheVariants.{ImageEnd}
-use Rattle.pnm_image.specs.declared.packet.Packet.{Packet}
-use Rattle.pnm_image.specs.declared.place.Place.{Place}
+use Rattle.std.proofs.Common.{◌++◌, refl, rules, ap, ◌∙◌}
 use Rattle.pnm_image.specs.Packets.{messages_in}
-use Rattle.pnm_image.specs.Places.{IsLawfulFrom, IsRowOf}
-use Rattle.pnm_image.specs.Repeats.{repeated}
-use Rattle.pnm_image.specs.Rows.{row_messages}
-use Rattle.pnm_image.proofs.RepeatLaws.{each_once}
-use Rattle.pnm_write.specs.Encoding.{header_text, bytes_from}
+use Rattle.pnm_image.specs.Rows.{rows_list}
+use Rattle.pnm_image.proofs.Written.{sending_part}
+use Rattle.pnm_write.specs.Encoding.{header_text}
 use Rattle.pnm_write.specs.Internal.Encoding.{rows_bytes}
-use Rattle.pnm_write.specs.Internal.WriteCalls.{WriteCall}
-use Rattle.pnm_write.proofs.RowMessages.{bytes_inside, bytes_outside, rows_of_image, image_of_rows, bytes_of_image}
+use Rattle.pnm_write.proofs.PartLaws.{begin_sending}
+use Rattle.pnm_write.proofs.RowMessages.{begun_bytes, begun_rows, inside_bytes, inside_rows, outside_bytes}
+use Rattle.pnm_write.proofs.WriteCallSteps.{call_failed, call_on}
 use Rattle.pnm_write.proofs.sink.write_packet.Goals as goal
 
 pub write_repeated-requires : goal.write_repeated-requires
 write_repeated-requires g c =
-    let rows = c.in-Rows.rows in
-    let lawful = subst (λ (p : Packet). IsLawfulFrom c.args.place (messages_in p)) c.in-Rows.is c.requires in
-    let inside = subst (λ (p : Place). IsLawfulFrom p (row_messages rows)) c.in-Inside.is lawful in
-    let each = rows_of_image c.in-Inside.shape c.in-Inside.field-1 rows inside in
-    each_once (IsRowOf c.in-Inside.shape) c.parts-times.result.1 c.parts-times.result.0.now c.parts-times.ensures.some
-    (subst (λ (l : List (List ℕ)). AllByRecursion (IsRowOf c.in-Inside.shape) l) c.parts-times.ensures.rows each)
+    let part = c.parts.result in
+    let is = ap messages_in c.in-Part.is ∙ c.parts.ensures.parts in
+    rw (c.shape.ensures.shape) (begun_rows c.args.place c.in-Some.head part.0.now part.1.now part.2 (messages_in c.args.packet.now) c.in-Some.is is c.requires)
 
-pub write_image-requires : goal.write_image-requires
-write_image-requires g c =
-    let lawful = subst (λ (p : Packet). IsLawfulFrom c.args.place (messages_in p)) c.in-Image.is c.requires in
-    image_of_rows c.in-Image.head.shape 0 c.in-Image.rows (ImageEnd ∷ []) lawful.1
+pub write_repeated-requires-in-Inside : goal.write_repeated-requires-in-Inside
+write_repeated-requires-in-Inside g c =
+    let part = c.parts.result in
+    let is = ap messages_in c.in-Part.is ∙ c.parts.ensures.parts in
+    inside_rows c.args.place c.in-Inside.shape c.in-Inside.field-1 part.0.now part.1.now part.2 (messages_in c.args.packet.now) c.in-Inside.is
+    c.in_default-head.is is c.requires
+
+pub returns-in_err-write_header : goal.returns-in_err-write_header
+returns-in_err-write_header g c =
+    let part = c.parts.result in
+    let is = ap messages_in c.in-Part.is ∙ c.parts.ensures.parts in
+    let head = c.in-Some.head in
+    let header = header_text c.args.form head in
+    let rows = rows_bytes c.args.form head.shape (rows_list part.1.now) in
+    let writer = c.args.writer.now in
+    rw (begun_bytes c.args.form c.args.place head part.0.now part.1.now part.2 (messages_in c.args.packet.now) c.in-Some.is is)
+    (call_failed g.W.BytesOut.held g.W.BytesOut.failures g.W.BytesOut.same writer writer c.write_header.new.writer (header ++ rows) (header ++ rows) header rows
+    c.from_residual.result c.from_residual.ensures.0 refl
+    (begin_sending g.W.BytesOut.held g.W.BytesOut.failures g.W.BytesOut.same writer (header ++ rows) (g.met.W.BytesOut.same_at_once writer))
+    c.in_err-write_header.ensures.failed c.in_err-write_header.ensures.same_device)
+
+pub returns-in-Some : goal.returns-in-Some
+returns-in-Some g c =
+    let part = c.parts.result in
+    let is = ap messages_in c.in-Part.is ∙ c.parts.ensures.parts in
+    let head = c.in-Some.head in
+    let header = header_text c.args.form head in
+    let rows = rows_bytes c.args.form head.shape (rows_list part.1.now) in
+    let writer = c.args.writer.now in
+    let wrote = c.in_ok-write_header.ensures in
+    let start = begin_sending g.W.BytesOut.held g.W.BytesOut.failures g.W.BytesOut.same writer (header ++ rows) (g.met.W.BytesOut.same_at_once writer) in
+    let first = sending_part g.W.BytesOut.held g.W.BytesOut.failures g.W.BytesOut.same writer writer c.write_header.new.writer (header ++ rows) (header ++ rows)
+    header rows refl start wrote.written wrote.count wrote.same_device in
+    let rest = rw (c.shape.ensures.shape) at c.write_repeated.ensures in
+    rw (begun_bytes c.args.form c.args.place head part.0.now part.1.now part.2 (messages_in c.args.packet.now) c.in-Some.is is)
+    (call_on g.W.BytesOut.held g.W.BytesOut.failures g.W.BytesOut.same writer c.write_header.new.writer c.write_repeated.new.writer (header ++ rows) rows
+    c.write_repeated.result first rest
+    (g.met.W.BytesOut.same_later _ _ _ wrote.same_device c.write_repeated.ensures.same_device))
 
 pub returns-in-Inside : goal.returns-in-Inside
 returns-in-Inside g c =
-    let rows = c.in-Rows.rows in
-    let same : rows_bytes c.args.form c.in-Inside.shape (repeated c.parts-times.result.1 c.parts-times.result.0.now)
-    ≡ bytes_from c.args.form c.args.place (messages_in c.args.packet.now) =
-    ap (rows_bytes c.args.form c.in-Inside.shape) (sym c.parts-times.ensures.rows)
-    ∙ sym (bytes_inside c.args.form c.in-Inside.shape c.in-Inside.field-1 rows)
-    ∙ ap (λ (p : Place). bytes_from c.args.form p (row_messages rows)) (sym c.in-Inside.is)
-    ∙ ap (λ (p : Packet). bytes_from c.args.form c.args.place (messages_in p)) (sym c.in-Rows.is) in
-    subst (WriteCall g.W.BytesOut.held g.W.BytesOut.failures g.W.BytesOut.same c.args.writer.now c.write_repeated.new.writer c.write_repeated.result) same
-    c.write_repeated.ensures
+    let part = c.parts.result in
+    let is = ap messages_in c.in-Part.is ∙ c.parts.ensures.parts in
+    rw (inside_bytes c.args.form c.args.place c.in-Inside.shape c.in-Inside.field-1 part.0.now part.1.now part.2 (messages_in c.args.packet.now) c.in-Inside.is
+    c.in_default-head.is is)
+    c.write_repeated-in-Inside.ensures
 
 pub returns-in-Between : goal.returns-in-Between
 returns-in-Between g c =
-    let none = bytes_outside c.args.form c.args.place c.in-Rows.rows c.in-Between.is in
-    rw (c.in-Rows.is) (rw (none) (search rules))
-
-pub returns-in-Image : goal.returns-in-Image
-returns-in-Image g c =
-    let same : header_text c.args.form c.in-Image.head ++ rows_bytes c.args.form c.in-Image.head.shape c.in-Image.rows
-    ≡ bytes_from c.args.form c.args.place (messages_in c.args.packet.now) =
-    ap (λ (l : List ℕ). header_text c.args.form c.in-Image.head ++ l) (sym (bytes_of_image c.args.form c.in-Image.head.shape 0 c.in-Image.rows))
-    ∙ ap (λ (p : Packet). bytes_from c.args.form c.args.place (messages_in p)) (sym c.in-Image.is) in
-    subst (WriteCall g.W.BytesOut.held g.W.BytesOut.failures g.W.BytesOut.same c.args.writer.now c.write_image.new.writer c.write_image.result) same
-    c.write_image.ensures
+    let part = c.parts.result in
+    let is = ap messages_in c.in-Part.is ∙ c.parts.ensures.parts in
+    rw (outside_bytes c.args.form c.args.place part.0.now part.1.now part.2 (messages_in c.args.packet.now) c.in-Between.is c.in_default-head.is
+    is)
+    (search rules)

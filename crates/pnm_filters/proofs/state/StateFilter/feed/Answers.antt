@@ -1,40 +1,51 @@
-use Rattle.std.proofs.Common.{Err, subst, sym, ◌∙◌}
-use Rattle.pnm_tools.specs.Answers.{Judges}
-use Rattle.pnm_filters.specs.Internal.Pendings.{pending_of}
-use Rattle.pnm_filters.specs.States.{StateValue, is_all_given}
-use Rattle.pnm_filters.specs.Internal.States.{state_value}
-use Rattle.pnm_filters.proofs.StateSteps.{fed, judged, sound_fed}
+use Rattle.std.proofs.Common.{◌≡◌, Err, length, subst, sym, arith}
+use Rattle.pnm_image.specs.Packets.{messages_in}
+use Rattle.pnm_tools.specs.declared.fault.ToolFault.{ToolFault}
+use Rattle.pnm_tools.specs.Answers.{JudgesAll}
 use Rattle.pnm_tools.specs.Tools.{IsLawfulTool}
+use Rattle.pnm_filters.specs.Pendings.{is_all_given, is_idle}
+use Rattle.pnm_filters.specs.States.{StateValue}
+use Rattle.pnm_filters.specs.Internal.States.{state_value}
+use Rattle.pnm_filters.proofs.StateSteps.{all_may_come, fed, judged, judged_out_of_order, sound_fed}
 use Rattle.pnm_filters.proofs.state.StateFilter.feed.Goals as goal
+use Rattle.pnm_filters.proofs.state.StateFilter.feed.Goals.{in-Some-place_after+in-Err, in-None-2}
 
 pub returns-in-Ok-clause-accepted : goal.returns-in-Ok-clause-accepted
 returns-in-Ok-clause-accepted g c = λ t l given at.
     let s = c.self.inside in
     let is_at = rw (← c.self.view_is) at at in
-    fed g.T.ImageTool.tool g.T.ImageTool.ready g.T.ImageTool.due g.T.ImageTool.kept (state_value s.work s.place (pending_of s.phase s.waiting) s.fault)
-    c.answer.new.work c.answer.new.place c.args.message (pending_of c.answer.new.phase c.answer.new.waiting) s.fault t l given is_at c.in-Ok.ensures
+    let leads = c.in-Some-place_after.ensures in
+    fed g.T.ImageTool.tool g.T.ImageTool.ready g.T.ImageTool.due g.T.ImageTool.kept (state_value s.work s.place s.pending s.fault) c.take.new.work
+    c.in-Some-place_after.after (messages_in c.args.packet) c.in-Ok.pending s.fault t l given is_at leads.0 leads.1.0 leads.1.1 c.in-Ok.ensures
 
-pub returns-in-Err-clause-judged : goal.returns-in-Err-clause-judged
-returns-in-Err-clause-judged g c = λ none t l given at.
+pub returns-clause-judged : goal.returns-clause-judged
+returns-clause-judged g c = λ none t l given at.
     let s = c.self.inside in
     let is_at = rw (← c.self.view_is) at at in
-    subst (λ (z : StateValue _). Judges (is_all_given z.pending) t l c.args.message (Err c.in-Err.refusal)) c.self.view_is
-    (judged g.T.ImageTool.tool g.T.ImageTool.ready g.T.ImageTool.due g.T.ImageTool.kept (state_value s.work s.place (pending_of s.phase s.waiting) s.fault)
-    c.args.message c.in-Err.refusal t l given is_at c.in-Err.ensures.0)
-
-pub answer-requires-clause-ready : goal.answer-requires-clause-ready
-answer-requires-clause-ready g c =
-    let sound = rw c.in_default.is at c.self.invariant.1 in
-    sound.0
+    let old = state_value s.work s.place s.pending s.fault in
+    let ms = messages_in c.args.packet in
+    subst (λ (z : StateValue _). JudgesAll (is_all_given z.pending) t l ms (Err c.match-place_after.fault)) c.self.view_is (elim c.match-place_after.branch [
+      | in-Some-place_after+in-Err w ↦
+          let leads = w.in-Some-place_after.ensures in
+          subst (λ (f : ToolFault). JudgesAll (is_idle s.pending.phase) t l ms (Err f)) (sym w.fault-is) (
+            judged g.T.ImageTool.tool g.T.ImageTool.ready g.T.ImageTool.due g.T.ImageTool.kept old ms w.in-Err.fault t l given is_at leads.0 leads.1.0
+                w.in-Err.ensures.0,
+            λ several.
+                all_may_come g.T.ImageTool.tool g.T.ImageTool.ready g.T.ImageTool.due g.T.ImageTool.kept old ms t l given is_at leads.0 leads.1.0,
+          )
+      | in-None-2 w ↦
+          let one : length ms ≡ 1 = grind (arith, w.is_several.ensures.several, w.is_several.ensures.some, w.if-is_several.false) in
+          subst (λ (f : ToolFault). JudgesAll (is_idle s.pending.phase) t l ms (Err f)) (sym w.fault-is) (
+            judged_out_of_order g.T.ImageTool.tool g.T.ImageTool.ready g.T.ImageTool.due g.T.ImageTool.kept old ms t l given is_at one w.in-None.ensures,
+            λ several. let no : ⊥ = omega (arith, one, several) in absurd no,
+          )
+    ])
 
 pub invariant_of-self : goal.invariant_of-self
 invariant_of-self g c =
-    let s = c.self.inside in (
+    let s = c.self.inside in
+    let leads = c.in-Some-place_after.ensures in (
       subst IsLawfulTool (sym c.in-Ok.ensures.tool) c.self.invariant.0,
-      sound_fed g.T.ImageTool.tool g.T.ImageTool.ready g.T.ImageTool.due g.T.ImageTool.kept s.work c.answer.new.work s.place c.answer.new.place c.args.message
-          (pending_of s.phase s.waiting) (pending_of c.answer.new.phase c.answer.new.waiting) s.fault c.in_default.is c.self.invariant.1 c.in-Ok.ensures,
+      sound_fed g.T.ImageTool.tool g.T.ImageTool.ready g.T.ImageTool.due g.T.ImageTool.kept s.work c.take.new.work s.place c.in-Some-place_after.after
+          (messages_in c.args.packet) s.pending c.in-Ok.pending s.fault c.in_default.is c.self.invariant.1 leads.0 leads.1.1 c.in-Ok.ensures,
     )
-
-pub invariant_of-self-in-Err : goal.invariant_of-self-in-Err
-invariant_of-self-in-Err g c =
-    (subst IsLawfulTool (sym (c.release.ensures.same ∙ c.in-Err.ensures.1)) c.self.invariant.0, c.release.ensures.kept)

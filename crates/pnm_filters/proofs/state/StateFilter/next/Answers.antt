@@ -1,4 +1,3 @@
-use Rattle.pnm_filters.specs.Internal.Pendings.{pending_of}
 use Rattle.pnm_filters.specs.Internal.States.{state_value}
 use Rattle.pnm_filters.proofs.GivingSteps.{given_by, stop_alone_by, full_by, wanted_memory}
 use Rattle.std.proofs.Common.{subst, sym, ◌∙◌}
@@ -10,23 +9,23 @@ pub returns-in-Ok-clause-given : goal.returns-in-Ok-clause-given
 returns-in-Ok-clause-given g c =
     let s = c.self.inside in
     rw (← c.self.view_is)
-    (given_by g.T.ImageTool.tool g.T.ImageTool.ready g.T.ImageTool.due g.T.ImageTool.kept (state_value s.work s.place (pending_of s.phase s.waiting) s.fault)
-    c.give.new.work (pending_of c.give.new.phase c.give.new.waiting) s.fault c.in-Ok.given c.in-Ok.ensures)
+    (given_by g.T.ImageTool.tool g.T.ImageTool.ready g.T.ImageTool.due g.T.ImageTool.kept (state_value s.work s.place s.pending s.fault)
+    c.give.new.work c.give.new.pending s.fault c.in-Ok.given c.in-Ok.ensures)
 
 pub returns-in-Ok-clause-stop_alone : goal.returns-in-Ok-clause-stop_alone
 returns-in-Ok-clause-stop_alone g c =
     let s = c.self.inside in
     rw (← c.self.view_is)
     (stop_alone_by g.T.ImageTool.tool g.T.ImageTool.ready g.T.ImageTool.due g.T.ImageTool.kept
-    (state_value s.work s.place (pending_of s.phase s.waiting) s.fault) c.give.new.work (pending_of c.give.new.phase c.give.new.waiting) c.in-Ok.given
+    (state_value s.work s.place s.pending s.fault) c.give.new.work c.give.new.pending c.in-Ok.given
     c.in-Ok.ensures)
 
 pub returns-in-Ok-clause-full : goal.returns-in-Ok-clause-full
 returns-in-Ok-clause-full g c =
     let s = c.self.inside in
     rw (← c.self.view_is)
-    (full_by g.T.ImageTool.tool g.T.ImageTool.ready g.T.ImageTool.due g.T.ImageTool.kept (state_value s.work s.place (pending_of s.phase s.waiting) s.fault)
-    c.give.new.work (pending_of c.give.new.phase c.give.new.waiting) s.fault c.in-Ok.given c.in-Ok.ensures)
+    (full_by g.T.ImageTool.tool g.T.ImageTool.ready g.T.ImageTool.due g.T.ImageTool.kept (state_value s.work s.place s.pending s.fault)
+    c.give.new.work c.give.new.pending s.fault c.in-Ok.given c.in-Ok.ensures)
 
 pub returns-in-Err-clause-failed : goal.returns-in-Err-clause-failed
 returns-in-Err-clause-failed g c = λ none. (
@@ -34,7 +33,7 @@ returns-in-Err-clause-failed g c = λ none. (
   λ t l given at.
       let s = c.self.inside in
       let is_at = rw (← c.self.view_is) at at in
-      wanted_memory g.T.ImageTool.tool g.T.ImageTool.ready g.T.ImageTool.due g.T.ImageTool.kept (state_value s.work s.place (pending_of s.phase s.waiting)
+      wanted_memory g.T.ImageTool.tool g.T.ImageTool.ready g.T.ImageTool.due g.T.ImageTool.kept (state_value s.work s.place s.pending
       s.fault)
       t l given is_at c.in-Err.ensures.1,
 )
@@ -44,7 +43,7 @@ invariant_of-self g c =
     let s = c.self.inside in (
       subst IsLawfulTool (sym c.in-Ok.ensures.tool) c.self.invariant.0,
       sound_given g.T.ImageTool.tool g.T.ImageTool.ready g.T.ImageTool.due g.T.ImageTool.kept s.work c.give.new.work s.place c.in-Ok.given
-          (pending_of s.phase s.waiting) (pending_of c.give.new.phase c.give.new.waiting) s.fault c.in_default.is c.self.invariant.1 c.in-Ok.ensures,
+          s.pending c.give.new.pending s.fault c.in_default.is c.self.invariant.1 c.in-Ok.ensures,
     )
 
 pub invariant_of-self-in-Err : goal.invariant_of-self-in-Err

@@ -1,8 +1,9 @@
 use Rattle.std.proofs.Common.{Ok, ap, ◌∙◌}
 use Rattle.std.proofs.lemmas.Result.{err_from_is_err_and}
 use Rattle.pnm_read.specs.declared.fault.InputFault.TheVariants.{ReadFailed}
-use Rattle.pnm_read.proofs.ReadCalls.{call_then, call_held, call_ok_so, call_err_so, no_fault}
-use Rattle.pnm_read.proofs.AwaitedSteps.{no_format, no_head, no_memory, begins, begins_whole}
+use Rattle.pnm_image.specs.Rows.{rows_list}
+use Rattle.pnm_read.proofs.ReadCalls.{call_then, call_held, call_err_so, no_fault}
+use Rattle.pnm_read.proofs.AwaitedSteps.{no_format, no_head, no_memory, begins, held_come}
 use Rattle.pnm_read.proofs.source.Source.begin.Goals as goal
 
 pub returns-in_err-format : goal.returns-in_err-format
@@ -25,21 +26,15 @@ returns-in_err-rows g c =
     rw (p.1, p.2) (no_memory c.args.is_first c.args.self.now.state c.in_err-rows.field-0.0 c.in_ok-head.head refused.0 refused.1
     (call_then c.in_ok-format.format g.met.R.BytesIn.same_later c.in_ok-format.ensures c.in_ok-head.ensures))
 
-pub returns-in-Some : goal.returns-in-Some
-returns-in-Some g c =
-    let rows = c.in-Some.rows in
-    let raw = rw c.in-Some.is at c.in_ok-rows.ensures.raw in
-    let all = rw c.in-Some.is at c.in_ok-rows.ensures.all in
-    let taken = rw c.in-Some.is at c.in_ok-rows.ensures.rows in
-    call_held c.in_ok-head.head (Ok _) (no_fault _ ReadFailed) c.in_ok-rows.ensures.reader c.in_ok-rows.ensures.ended
-    (λ b rest _ o. begins_whole c.args.is_first c.in_ok-format.format c.in_ok-head.head c.new-raster.result rows c.after_image.result b o.0 _ _ o.1 o.2
-    c.new-raster.ensures.format (c.new-raster.ensures.shape ∙ c.shape.ensures.shape) c.new-raster.ensures.y raw all c.after_image.ensures (taken rest))
-    (call_then c.in_ok-format.format g.met.R.BytesIn.same_later c.in_ok-format.ensures c.in_ok-head.ensures)
-
-pub returns-in-None : goal.returns-in-None
-returns-in-None g c =
-    rw (c.in_ok-rows.ensures.none (ap (λ r. Ok r) c.in-None.is))
-    (call_ok_so c.in_ok-head.head (Ok _) (no_fault _ ReadFailed)
-    (λ b a o. begins c.args.is_first c.in_ok-format.format c.in_ok-head.head c.new-raster.result b o.0 a o.1 o.2 c.new-raster.ensures.format
-    (c.new-raster.ensures.shape ∙ c.shape.ensures.shape) c.new-raster.ensures.y)
+pub returns : goal.returns
+returns g c =
+    let mid = c.in_ok-head.head in
+    let rows = c.in_ok-rows.rows in
+    let came = c.in_ok-rows.ensures in
+    rw c.part.ensures.input
+    (call_held mid (Ok _) (no_fault _ ReadFailed) came.reader came.ended
+    (λ b rest _ o. begins c.args.is_first c.in_ok-format.format mid c.new-raster.result (rows_list rows) c.part.result c.part.new.self.state b o.0 _ _ o.1 o.2
+    c.new-raster.ensures.format (c.new-raster.ensures.shape ∙ c.shape.ensures.shape) c.new-raster.ensures.y
+    (held_come c.new-raster.result rows _ _ rest came.raw came.left came.rows (λ e. came.none (ap (λ r. Ok r) e)))
+    (c.part.ensures.said _) c.part.ensures.given)
     (call_then c.in_ok-format.format g.met.R.BytesIn.same_later c.in_ok-format.ensures c.in_ok-head.ensures))

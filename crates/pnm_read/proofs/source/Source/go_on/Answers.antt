@@ -15,5 +15,5 @@ returns-in-End g c =
     (λ b a o. plain_ends packet c.end.new.self.state b a c.end.ensures.packet c.end.ensures.state)
     (call_taken {A = Unit {0}} {result = Ok tt} [] g.met.R.BytesIn.same_at_once (no_fault tt ReadFailed) refl refl refl))
 
-pub returns-in-RowOrEnd : goal.returns-in-RowOrEnd
-returns-in-RowOrEnd g c = rw c.in-RowOrEnd.is c.give_rows.ensures
+pub returns-in-Row : goal.returns-in-Row
+returns-in-Row g c = rw c.in-Row.is c.give_rows.ensures

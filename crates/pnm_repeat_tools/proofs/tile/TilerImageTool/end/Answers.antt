@@ -1,13 +1,14 @@
-use Rattle.std.proofs.Common.{rules, ◌≡◌, ℕ, ◌<◌, map, take, min, ap, ap₂, subst, sym, ◌∙◌, arith}
+use Rattle.std.proofs.Common.{rules, ◌≡◌, ℕ, ◌<◌, ◌++◌, List, map, take, min, ap, ap₂, subst, sym, ◌∙◌, arith}
 use Rattle.pnm_repeat_tools.specs.Keeping.{Tiled, tiled, tiled_due, shown_row}
 use Rattle.pnm_repeat_tools.specs.Internal.Keeping.{HasTiles}
 use Rattle.pnm_tools.specs.Tile.{tiled_at_end}
-use Rattle.pnm_repeat_tools.proofs.TileRowLaws.{due_at_end, tiles_at_end, rows_within_at_end}
+use Rattle.pnm_repeat_tools.proofs.TileRowLaws.{due_at_end, none_due, tiles_at_end, rows_within_at_end}
 use Rattle.pnm_repeat_tools.proofs.tile.TilerImageTool.end.Goals as goal
 
 pub returns-clause-due : goal.returns-clause-due
 returns-clause-due c = λ come count ready.
     let x = c.self.inside in
+    let was = c.args.self.now in
     let s = c.args.shape in
     let across = ap (λ (w : Tiled). w.width) c.self.view_is in
     let down = ap (λ (w : Tiled). w.height) c.self.view_is in
@@ -16,6 +17,7 @@ returns-clause-due c = λ come count ready.
     ap (λ (n : ℕ). tiled_due (tiled x.width x.height n s.depth x.rows x.height)) least
     ∙ due_at_end x.width x.height s x.rows come rows count ready.some ready.lengths
     ∙ ap (λ (w : Tiled). tiled_at_end w.width w.height s come) c.self.view_is
+    ∙ ap (λ (l : List (List ℕ)). l ++ tiled_at_end was.width was.height s come) (sym (none_due was ready.none_given))
 
 pub invariant_of-self : goal.invariant_of-self
 invariant_of-self c = λ wanted.

@@ -1,28 +1,41 @@
-use Rattle.std.proofs.Common.{◌∷◌, [], ◌∙◌, ℕ, List, ap, append-nil, sym}
-use Rattle.pnm_image.specs.Packets.{messages_in}
-use Rattle.pnm_image.specs.Rows.{row_messages}
+use Rattle.std.proofs.Common.{◌≡◌, ℕ, Bool, true, false, List, ap, sym, ◌∙◌}
+use Rattle.pnm_image.specs.declared.message.Message.{Message}
 use Rattle.pnm_image.specs.declared.message.Message.TheVariants.{ImageEnd}
-use Rattle.pnm_image.specs.declared.packet.Packet.{Packet}
+use Rattle.pnm_image.specs.Packets.{messages_in}
+use Rattle.pnm_image.specs.Parts.{part_messages}
 use Rattle.pnm_serial.specs.Counts.{image_count_after, images_in, rows_in}
-use Rattle.pnm_serial.proofs.MessageSteps.{images_in-append, images_in-rows, rows_in-append}
+use Rattle.pnm_serial.proofs.MessageSteps.{images_in-part, rows_in-part}
 use Rattle.pnm_serial.proofs.summary.Summary.count.Goals as goal
 
-pub returns-in-Rows-clause-images : goal.returns-in-Rows-clause-images
-returns-in-Rows-clause-images c =
+pub returns-then-ends_image-clause-images : goal.returns-then-ends_image-clause-images
+returns-then-ends_image-clause-images c =
     let n = c.args.self.now.images in
-    c.count_rows.ensures.images ∙ sym (images_in-rows n c.in-Rows.rows) ∙ ap (λ (p : Packet). images_in n (messages_in p)) (sym c.in-Rows.is)
+    let head = c.parts-ends_image.result.0.now in
+    let rows = c.parts-ends_image.result.1.now in
+    let same : messages_in c.args.packet.now ≡ part_messages head rows true = ap messages_in c.in-Part.is ∙ c.parts-ends_image.ensures.parts
+    ∙ ap (λ (ends : Bool). part_messages head rows ends) c.if-ends_image.true in
+    c.saturating_add-self.ensures ∙ ap (λ (k : ℕ). image_count_after k ImageEnd) c.count_rows.ensures.images ∙ sym (images_in-part n head rows true)
+    ∙ ap (λ (l : List Message). images_in n l) (sym same)
 
-pub returns-in-Image-clause-images : goal.returns-in-Image-clause-images
-returns-in-Image-clause-images c =
+pub returns-else-ends_image-clause-images : goal.returns-else-ends_image-clause-images
+returns-else-ends_image-clause-images c =
     let n = c.args.self.now.images in
-    let rows = c.in-Image.rows in
-    c.saturating_add-self.ensures
-    ∙ ap (λ (k : ℕ). image_count_after k ImageEnd) (c.count_rows-in-Image.ensures.images ∙ sym (images_in-rows n rows))
-    ∙ sym (images_in-append n (row_messages rows) (ImageEnd ∷ [])) ∙ ap (λ (p : Packet). images_in n (messages_in p)) (sym c.in-Image.is)
+    let head = c.parts-ends_image.result.0.now in
+    let rows = c.parts-ends_image.result.1.now in
+    let same : messages_in c.args.packet.now ≡ part_messages head rows false = ap messages_in c.in-Part.is ∙ c.parts-ends_image.ensures.parts
+    ∙ ap (λ (ends : Bool). part_messages head rows ends) c.if-ends_image.false in
+    c.count_rows.ensures.images ∙ sym (images_in-part n head rows false) ∙ ap (λ (l : List Message). images_in n l) (sym same)
 
-pub returns-in-Image-clause-rows : goal.returns-in-Image-clause-rows
-returns-in-Image-clause-rows c =
+pub returns-then-ends_image-clause-rows : goal.returns-then-ends_image-clause-rows
+returns-then-ends_image-clause-rows c =
     let n = c.args.self.now.rows in
-    let rows = c.in-Image.rows in
-    c.count_rows-in-Image.ensures.rows ∙ ap (λ (l : List (List ℕ)). rows_in n (row_messages l)) (append-nil rows)
-    ∙ sym (rows_in-append n (row_messages rows) (ImageEnd ∷ [])) ∙ ap (λ (p : Packet). rows_in n (messages_in p)) (sym c.in-Image.is)
+    let part = c.parts-ends_image.result in
+    c.count_rows.ensures.rows ∙ sym (rows_in-part n part.0.now part.1.now part.2)
+    ∙ ap (λ (l : List Message). rows_in n l) (sym (ap messages_in c.in-Part.is ∙ c.parts-ends_image.ensures.parts))
+
+pub returns-else-ends_image-clause-rows : goal.returns-else-ends_image-clause-rows
+returns-else-ends_image-clause-rows c =
+    let n = c.args.self.now.rows in
+    let part = c.parts-ends_image.result in
+    c.count_rows.ensures.rows ∙ sym (rows_in-part n part.0.now part.1.now part.2)
+    ∙ ap (λ (l : List Message). rows_in n l) (sym (ap messages_in c.in-Part.is ∙ c.parts-ends_image.ensures.parts))

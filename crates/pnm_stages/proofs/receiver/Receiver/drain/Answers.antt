@@ -11,14 +11,14 @@ pub loop-preserved : goal.loop-preserved
 loop-preserved g c = (
   same_input c.args.self.now c.loop.self c.receive.new.self c.loop.invariant.0 c.receive.ensures.ring,
   packet_goes_on (received c.args.self.now) (received c.loop.self) (received c.receive.new.self) c.in-Some-receive.packet c.loop.invariant.1
-      c.in-Some-receive.ensures.taken c.in-Some-receive.ensures.messages (sym c.ending-ending.ensures ∙ c.in-More.is),
+      c.in-Some-receive.ensures.taken c.in-Some-receive.ensures.messages c.in-Some-receive.ensures.ends (sym c.ending-ending.ensures ∙ c.in-More.is),
 )
 
 pub returns-in-Whole : goal.returns-in-Whole
 returns-in-Whole g c = record {
   ring = same_input c.args.self.now c.loop.self c.receive.new.self c.loop.invariant.0 c.receive.ensures.ring;
   drained = packet_ends (received c.args.self.now) (received c.loop.self) (received c.receive.new.self) c.in-Some-receive.packet c.loop.invariant.1
-      c.in-Some-receive.ensures.taken c.in-Some-receive.ensures.messages
+      c.in-Some-receive.ensures.taken c.in-Some-receive.ensures.messages c.in-Some-receive.ensures.ends
       (packet_says_end c.ending-ending.result c.in-Some-receive.packet c.ending-ending.ensures c.in-Whole.is);
 }
 

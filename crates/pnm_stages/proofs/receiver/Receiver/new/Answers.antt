@@ -1,7 +1,7 @@
 use Rattle.std.proofs.Common.{ap, sym, ◌∙◌}
-use Rattle.pnm_stages.specs.RingPackets.{has_rows_together}
+use Rattle.pnm_stages.specs.RingPackets.{has_together}
 use Rattle.pnm_stages.proofs.PacketLaws.{none_together}
 use Rattle.pnm_stages.proofs.receiver.Receiver.new.Goals as goal
 
 pub invariant_of-result : goal.invariant_of-result
-invariant_of-result c = record { rows = sym (ap has_rows_together c.requires ∙ none_together) }
+invariant_of-result c = record { rows = sym (ap has_together c.requires ∙ none_together) }
