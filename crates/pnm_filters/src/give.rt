@@ -38,7 +38,7 @@ pub fn give<T: ImageTool>(
 }
 
 /// The head that waits, and the next rows that the tool gives.
-#[inline(always)]
+#[inline(never)]
 fn give_rows<T: ImageTool>(
     alloc: Global,
     work: &mut T,

@@ -1,9 +1,9 @@
 //! Packets: what a place of a ring holds, and what a filter takes and gives at once.
 
-ghost use Rattle.std.specs.Prelude.{◌≡◌};
+ghost use Rattle.std.specs.Prelude.{◌≡◌, ◌++◌, IfOk, length};
 ghost use Rattle.pnm_image.specs.Packets.{ending_of_packet};
+ghost use Rattle.pnm_image.specs.Rows.{rows_list};
 
-use crate::head::Head;
 use crate::message::{Ending, Message};
 use crate::part::Part;
 use crate::repeated_rows::RepeatedRows;
@@ -30,9 +30,9 @@ impl From<Message> for Packet {
     #[inline(always)]
     fn from(message: Message) -> Packet {
         match message {
-            Message::Begin(head) => Packet::head(head),
+            Message::Begin(head) => Packet::Part(Part::new(Some(head), None, false)),
             Message::Row(row) => Packet::rows(RepeatedRows::once(Rows::one(row))),
-            Message::ImageEnd => Packet::image_end(),
+            Message::ImageEnd => Packet::Part(Part::new(None, None, true)),
             Message::StreamEnd => Packet::StreamEnd,
             Message::Stop => Packet::Stop,
         }
@@ -41,17 +41,8 @@ impl From<Message> for Packet {
 
 impl Packet {
     ghost use Rattle.std.specs.Prelude.{◌≡◌, ◌≤◌, ◌↔◌, [], ◌∷◌, ◌++◌, IfOk, IfErr, IsTrue, length};
-    ghost use Rattle.pnm_image.specs.declared.message.Message.TheVariants.{Begin, ImageEnd};
     ghost use Rattle.pnm_image.specs.Packets.{messages_in, packet_list};
     ghost use Rattle.pnm_image.specs.Rows.{row_messages};
-
-    /// The head of an image alone.
-    #[inline(always)]
-    pub fn head(head: Head) -> Packet
-        ensures { messages_in result ≡ Begin head ∷ [] }
-    {
-        Packet::Part(Part::new(Some(head), None, false))
-    }
 
     /// Rows of an image alone.
     #[inline(always)]
@@ -61,14 +52,6 @@ impl Packet {
         // No effect at run time: from this, a proof learns that there is a row.
         let _ = rows.are_several();
         Packet::Part(Part::new(None, Some(rows), false))
-    }
-
-    /// The end of an image alone.
-    #[inline(always)]
-    pub fn image_end() -> Packet
-        ensures { messages_in result ≡ ImageEnd ∷ [] }
-    {
-        Packet::Part(Part::new(None, None, true))
     }
 
     /// The message that the packet stands for, without a copy. That can be a single row, too.
@@ -81,10 +64,23 @@ impl Packet {
         ensures one { IfOk result (λ message. messages_in self ≡ message ∷ []) }
         ensures several { IfErr result (λ part. (self ≡ Packet.Part part) × (2 ≤ length part)) }
     {
-        match self {
-            Packet::Part(part) => part.into_message(),
-            Packet::StreamEnd => Ok(Message::StreamEnd),
-            Packet::Stop => Ok(Message::Stop),
+        let is_several = self.is_several();
+        let part = match self {
+            Packet::Part(part) if is_several => return Err(part),
+            Packet::Part(part) => part,
+            Packet::StreamEnd => return Ok(Message::StreamEnd),
+            Packet::Stop => return Ok(Message::Stop),
+        };
+        let (head, rows, _) = part.into_parts();
+        if let Some(head) = head {
+            return Ok(Message::Begin(head));
+        }
+        let Some(rows) = rows else {
+            return Ok(Message::ImageEnd);
+        };
+        match rows.into_one() {
+            Ok(row) => Ok(Message::Row(row)),
+            Err(_) => unreachable!(),
         }
     }
 
@@ -94,9 +90,18 @@ impl Packet {
         ensures several { IsTrue result ↔ 2 ≤ length (messages_in self.now) }
         ensures some { 1 ≤ length (messages_in self.now) }
     {
-        match self {
-            Packet::Part(part) => part.is_several(),
-            Packet::StreamEnd | Packet::Stop => false,
+        let Packet::Part(part) = self else {
+            return false;
+        };
+        match part.parts() {
+            (Some(_), Some(rows), _) => {
+                // No effect at run time: from this, a proof learns that there is a row.
+                let _ = rows.are_several();
+                true
+            }
+            (Some(_), None, ends_image) => ends_image,
+            (None, Some(rows), ends_image) => rows.are_several() || ends_image,
+            (None, None, _) => false,
         }
     }
 
@@ -104,12 +109,16 @@ impl Packet {
     #[inline(always)]
     pub fn repeats(&self) -> bool {
         match self {
-            Packet::Part(part) => part.repeats(),
+            Packet::Part(part) => match part.parts().1 {
+                Some(rows) => rows.parts().1 > 1,
+                None => false,
+            },
             Packet::StreamEnd | Packet::Stop => false,
         }
     }
 
-    /// Of a part, its head with the first copies of its rows, and what is left (`Part::split_copies`).
+    /// Of a part, its head with the first copies of its rows, and what is left. The copies are as many as take at most
+    /// 65,536 bytes, or one, so that rows which repeat are never made all at once.
     ///
     /// # Errors
     ///
@@ -117,17 +126,26 @@ impl Packet {
     pub fn split_copies(self, alloc: Global) -> Result<(Packet, Option<Packet>), AllocError>
         ensures { IfOk result (λ parts. messages_in self ≡ messages_in parts.0 ++ packet_list parts.1) }
     {
-        match self {
-            Packet::Part(part) => {
-                let (copies, rest) = part.split_copies(alloc)?;
-                Ok((Packet::Part(copies), rest.map(Packet::Part)))
-            }
-            Packet::StreamEnd => Ok((Packet::StreamEnd, None)),
-            Packet::Stop => Ok((Packet::Stop, None)),
+        let part = match self {
+            Packet::Part(part) => part,
+            whole => return Ok((whole, None)),
+        };
+        let (head, rows, ends_image) = part.into_parts();
+        let Some(rows) = rows else {
+            return Ok((Packet::Part(Part::new(head, None, ends_image)), None));
+        };
+        let (copies, rest) = rows.next_copies(alloc)?;
+        let copies = Some(RepeatedRows::once(copies));
+        match rest {
+            Some(rest) => Ok((
+                Packet::Part(Part::new(head, copies, false)),
+                Part::of(None, Some(rest), ends_image).map(Packet::Part),
+            )),
+            None => Ok((Packet::Part(Part::new(head, copies, ends_image)), None)),
         }
     }
 
-    /// The first message, as a packet of its own, and what is left (`Part::split_first`).
+    /// The first message, as a packet of its own, and what is left.
     ///
     /// # Errors
     ///
@@ -136,14 +154,21 @@ impl Packet {
         ensures parts { IfOk result (λ parts. messages_in self ≡ messages_in parts.0 ++ packet_list parts.1) }
         ensures one { IfOk result (λ parts. length (messages_in parts.0) ≡ 1) }
     {
-        match self {
-            Packet::Part(part) => {
-                let (first, rest) = part.split_first(alloc)?;
-                Ok((Packet::Part(first), rest.map(Packet::Part)))
-            }
-            Packet::StreamEnd => Ok((Packet::StreamEnd, None)),
-            Packet::Stop => Ok((Packet::Stop, None)),
+        let part = match self {
+            Packet::Part(part) => part,
+            whole => return Ok((whole, None)),
+        };
+        let (head, rows, ends_image) = part.into_parts();
+        if head.is_some() {
+            let rest = Part::of(None, rows, ends_image);
+            return Ok((Packet::Part(Part::new(head, None, false)), rest.map(Packet::Part)));
         }
+        let Some(rows) = rows else {
+            return Ok((Packet::Part(Part::new(None, None, ends_image)), None));
+        };
+        let (row, rest) = split_row(alloc, rows.into_rows(alloc)?)?;
+        let rest = Part::of(None, rest.map(RepeatedRows::once), ends_image);
+        Ok((Packet::rows(RepeatedRows::once(row)), rest.map(Packet::Part)))
     }
 
     /// How the packet's last message ends its stream.
@@ -166,4 +191,22 @@ impl Packet {
             Packet::StreamEnd | Packet::Stop => false,
         }
     }
+}
+
+/// The first row, and those behind it.
+///
+/// # Errors
+///
+/// If there is no memory for them.
+fn split_row(alloc: Global, rows: Rows) -> Result<(Rows, Option<Rows>), AllocError>
+    ensures rows { IfOk result (λ parts. rows ≡ parts.0 ++ rows_list parts.1) }
+    ensures one { IfOk result (λ parts. length parts.0 ≡ 1) }
+{
+    let count = rows.count();
+    if count == 1 {
+        return Ok((rows, None));
+    }
+    let first = rows.part(alloc, 0, 1)?;
+    let rest = rows.part(alloc, 1, count - 1)?;
+    Ok((first, Some(rest)))
 }

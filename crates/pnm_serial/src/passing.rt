@@ -1,9 +1,15 @@
 //! Packets, passed through the tools of a chain in one thread.
 
-ghost use Rattle.std.specs.Prelude.{◌<◌, length};
+ghost use Rattle.std.specs.Prelude.{◌<◌, ◌≤◌, ◌++◌, List, length, IsTrue, IsFalse};
+ghost use Rattle.pnm_image.specs.Messages.{EndsBy};
 ghost use Rattle.pnm_image.specs.Packets.{messages_in};
+ghost use Rattle.pnm_image.specs.declared.message.Ending.TheVariants.{More};
+ghost use Rattle.pnm_image.specs.declared.message.Message.{Message as MessageValue};
 ghost use Rattle.pnm_serial.specs.FusedSinks.{output_of};
 ghost use Rattle.pnm_serial.specs.SerialChains.{FiltersAt};
+ghost use Rattle.pnm_tools.specs.declared.tool.Tool.{Tool as ToolValue};
+ghost use Rattle.pnm_tools.specs.FusedFilters.{FilterAt};
+ghost use Rattle.pnm_tools.specs.Unfed.{unfed_in, HasFedNext};
 ghost use Rattle.pnm_serial.specs.Internal.SerialChains.{FeedsThrough, FiltersBusy, GivesThrough};
 
 use crate::fused_sink::FusedSink;
@@ -28,9 +34,23 @@ pub fn feed_through<F: Filter + Drop, W: BytesOut + Drop>(
         return;
     }
     let mut unfed = Unfed::of(packet);
-    while stages[0].feed_next(alloc, &mut unfed) {
+    while feed_next(alloc, &mut stages[0], &mut unfed) {
         pass_answers(alloc, stages, fused_sink);
     }
+}
+
+/// `FusedFilter::feed_next`, once on the stack, whatever the number of tools.
+#[inline(never)]
+fn feed_next<F: Filter + Drop>(alloc: Global, stage: &mut FusedFilter<F>, unfed: &mut Unfed) -> bool
+    ensures fed { IsTrue result → HasFedNext F.at F.all_given F.stopped stage.old stage.new
+        (unfed_in unfed.old) (unfed_in unfed.new) }
+    ensures fewer { IsTrue result → length (unfed_in unfed.new) < length (unfed_in unfed.old) }
+    ensures dropped { IsFalse result → (tool : ToolValue) (l g : List MessageValue)
+        → FilterAt F.at F.all_given F.stopped stage.old tool l g
+        → (1 ≤ length (unfed_in unfed.old) → EndsBy More l)
+        → FilterAt F.at F.all_given F.stopped stage.new tool (l ++ unfed_in unfed.old) g }
+{
+    stage.feed_next(alloc, unfed)
 }
 
 /// Passes what the first filter gives through the others, until it has given all, or refused.

@@ -262,7 +262,7 @@ fn recognise(packet: &Packet) -> bool
     };
     if let Some(head) = part.parts().0 {
         let _ = head.shape();
-        return part.is_several();
+        return packet.is_several();
     }
-    part.is_several()
+    packet.is_several()
 }

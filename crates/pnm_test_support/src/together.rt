@@ -185,7 +185,7 @@ fn write_rows(alloc: Global, out: &mut String, rows: &Rows) -> Result<(), AllocE
 /// the number of times that they come stands before the messages.
 pub fn write_packet(alloc: Global, out: &mut String, packet: &Packet) -> Result<(), AllocError> {
     match packet {
-        Packet::Part(part) if part.is_several() => write_together(alloc, out, part),
+        Packet::Part(part) if packet.is_several() => write_together(alloc, out, part),
         Packet::Part(part) => write_part(alloc, out, part),
         Packet::StreamEnd => write_message(out, &Message::StreamEnd),
         Packet::Stop => write_message(out, &Message::Stop),

@@ -28,7 +28,7 @@ impl Unfed {
         }
     }
 
-    /// Takes what comes next: of rows that repeat, the next copies (`Part::split_copies`).
+    /// Takes what comes next: of rows that repeat, the next copies (`Packet::split_copies`).
     ///
     /// # Errors
     ///

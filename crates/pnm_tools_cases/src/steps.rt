@@ -265,6 +265,6 @@ fn end_of(number: usize) -> Packet {
     match number {
         0 => Packet::StreamEnd,
         1 => Packet::Stop,
-        _ => Packet::image_end(),
+        _ => Packet::from(Message::ImageEnd),
     }
 }

@@ -1,7 +1,7 @@
 //! Tools of the tests, and what is wanted of them.
 
 use super::{holds, same};
-use pnm_image::Packet;
+use pnm_image::{Message, Packet};
 use pnm_test_support::Unmade;
 use pnm_tools::{CutBox, Filter, Planes, Tool, ToolFault};
 use std::alloc::Global;
@@ -40,7 +40,7 @@ pub(super) fn picks(rt: &impl Abort, tool: &Tool, numbers: &[u16], tuple_type: &
 pub(super) fn stays<F: Filter>(rt: &impl Abort, state: &mut F, fault: ToolFault) {
     refuses_again(rt, state, Packet::StreamEnd, fault);
     refuses_again(rt, state, Packet::Stop, fault);
-    refuses_again(rt, state, Packet::image_end(), fault);
+    refuses_again(rt, state, Packet::from(Message::ImageEnd), fault);
 }
 
 /// Asserts that the state gives nothing but this fault, and answers this packet with it.

@@ -32,7 +32,7 @@ feed_through-loop-alloc-preserved g t c =
 pub feed_through-returns-clause-fed : goal.feed_through-returns-clause-fed
 feed_through-returns-clause-fed g t c =
     let some : 0 < length c.loop-alloc.stages = grind (arith, nat_tests, c.loop-alloc.auto.stages, c.is_empty.ensures, c.if-is_empty.false) in
-    c.loop-alloc.invariant.0 _ _ (drops_rest g.F.Filter.at _ _ _ _ c.loop-alloc.stages _ c.index-stages-0.result c.feed_next.new.self _ _ refl some
+    c.loop-alloc.invariant.0 _ _ (drops_rest g.F.Filter.at _ _ _ _ c.loop-alloc.stages _ c.index-stages-0.result c.feed_next.new.stage _ _ refl some
     (c.feed_next.ensures.dropped c.loop-alloc-test.false))
 
 -- ---- pass_answers
