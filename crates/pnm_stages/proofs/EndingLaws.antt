@@ -1,13 +1,7 @@
 -- How lists of messages end.
-use Rattle.std.proofs.Common.{◌≡◌, inl, inr, List, [], ◌∷◌, ◌++◌, refl, sym, ◌∙◌}
-use Rattle.pnm_image.specs.declared.message.Message.{Message}
-use Rattle.pnm_image.specs.declared.message.Message.TheVariants.{Begin, Row, ImageEnd, StreamEnd, Stop}
-use Rattle.pnm_image.specs.Images.{Image, rows_of, messages_of_image, messages_of_stream}
-use Rattle.pnm_image.specs.Messages.{EndsStream, ending_of, EndsBy}
-use Rattle.pnm_image.specs.declared.message.Ending.{Ending}
-use Rattle.pnm_image.specs.declared.message.Ending.TheVariants.{More, Whole, BrokenOff}
-use Rattle.pnm_tools.proofs.InFullLaws.{ends_after, end_ends_nothing}
-use Rattle.pnm_stages.specs.Rings.{IsEnded}
+use Rattle.pnm_stages.proofs.Words.{◌≡◌, inl, inr, List, [], ◌∷◌, ◌++◌, refl, sym, ◌∙◌, Message, Begin, Row, ImageEnd, StreamEnd, Stop, Image, rows_of}
+use Rattle.pnm_stages.proofs.Words.{messages_of_image, messages_of_stream, EndsStream, ending_of, EndsBy, Ending, More, Whole, BrokenOff, ends_after}
+use Rattle.pnm_stages.proofs.Words.{end_ends_nothing, IsEnded}
 
 -- what comes before a message goes on
 pub prefix_goes_on : (e : Ending) (a : List Message) (m : Message) (b : List Message) → EndsBy e (a ++ m ∷ b) → EndsBy More a

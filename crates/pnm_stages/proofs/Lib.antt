@@ -1,3 +1,4 @@
+mod Words
 pub mod RingSteps
 pub mod PacketLaws
 pub mod EndingLaws

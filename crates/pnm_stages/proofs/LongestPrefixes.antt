@@ -1,17 +1,7 @@
 -- Whether a message may come is decided, and so every list has a longest lawful prefix.
-use Rattle.std.proofs.Common.{◌≡◌, ◌⊎◌, inl, inr, ℕ, ◌≤◌, List, [], ◌∷◌, ◌++◌, length, refl, sym, ap, subst, arith}
-use Rattle.std.specs.List.{AllByRecursion}
-use Rattle.std.proofs.lemmas.Bool.{cases_lt}
-use Rattle.std.proofs.lemmas.List.Elements.{All-from_recursion, recursion_from_All}
-use Rattle.pnm_image.specs.declared.message.Message.{Message}
-use Rattle.pnm_image.specs.declared.message.Message.TheVariants.{Begin, Row, ImageEnd, StreamEnd, Stop}
-use Rattle.pnm_image.specs.declared.place.Place.{Place}
-use Rattle.pnm_image.specs.declared.place.Place.TheVariants.{Between, Inside, After}
-use Rattle.pnm_image.specs.declared.shape.Shape.{Shape}
-use Rattle.pnm_image.specs.Heads.{row_length}
-use Rattle.pnm_image.specs.Places.{Accepts, IsLawfulFrom, IsRowOf, place_after, place_of}
-use Rattle.pnm_image.proofs.Lists.{same_first}
-use Rattle.pnm_stages.specs.Prefixes.{IsLongestLawfulPrefix}
+use Rattle.pnm_stages.proofs.Words.{◌≡◌, ◌⊎◌, inl, inr, ℕ, ◌≤◌, List, [], ◌∷◌, ◌++◌, length, refl, sym, ap, subst, arith, AllByRecursion, cases_lt}
+use Rattle.pnm_stages.proofs.Words.{All-from_recursion, recursion_from_All, Message, Begin, Row, ImageEnd, StreamEnd, Stop, Place, Between, Inside, After}
+use Rattle.pnm_stages.proofs.Words.{Shape, row_length, Accepts, IsLawfulFrom, IsRowOf, place_after, place_of, same_first, IsLongestLawfulPrefix}
 
 -- it holds, or it doesn't
 abbrev IsDecided : Type 0 → Type 0

@@ -1,28 +1,11 @@
 -- The messages of packets.
-use Rattle.std.specs.Prelude.{IsTrue, IsFalse, ◌↔◌, Bool, true, false, ◌||◌}
-use Rattle.std.proofs.Common.{◌≡◌, ◌≤◌, ◌⊎◌, inl, inr, subst, ℕ, nat_lt, length, arith, Option}
-use Rattle.std.proofs.Common.{Some, None, List, [], ◌∷◌, ◌++◌, refl, sym, ap, ◌∙◌, append-nil, append_assoc}
-use Rattle.std.specs.List.{AllByRecursion}
-use Rattle.std.proofs.lemmas.Grind.{flat_map-append, common_steps}
-use Rattle.std.proofs.lemmas.Bool.Decides.{nat_tests}
-use Rattle.std.proofs.lemmas.List.Concat.{flat_map-cons}
-use Rattle.std.proofs.lemmas.List.Folds.{list_any-append}
-use Rattle.std.proofs.Math.Bool.{or-false}
-use Rattle.pnm_image.specs.declared.message.Message.{Message}
-use Rattle.pnm_image.specs.declared.message.Message.TheVariants.{Begin}
-use Rattle.pnm_image.specs.declared.message.Ending.TheVariants.{More, Whole, BrokenOff}
-use Rattle.pnm_image.specs.declared.message.Ending.{Ending}
-use Rattle.pnm_image.specs.Messages.{IsMessage, EndsBy}
-use Rattle.pnm_image.specs.Heads.{HeadValue}
-use Rattle.pnm_image.specs.Rows.{row_messages, rows_list}
-use Rattle.pnm_image.specs.Parts.{end_messages, rest_messages, part_messages}
-use Rattle.pnm_tools.proofs.InFullLaws.{ends_after}
-use Rattle.pnm_image.specs.declared.packet.Packet.{Packet}
-use Rattle.pnm_image.specs.declared.packet.Packet.TheVariants.{Part}
-use Rattle.pnm_tools.proofs.SoundLaws.{both_all}
-use Rattle.pnm_stages.specs.Rings.{Extends, IsEnded}
-use Rattle.pnm_image.specs.Packets.{messages_in, ending_of_packet}
-use Rattle.pnm_stages.specs.RingPackets.{messages_of, is_together, has_together}
+use Rattle.pnm_stages.proofs.Words.{IsTrue, IsFalse, ◌↔◌, ◌||◌, ◌≡◌, ◌≤◌, ◌⊎◌, inl, inr, subst, ℕ, nat_lt, length, arith, Option, Some, None, List, [], ◌∷◌}
+use Rattle.pnm_stages.proofs.Words.{◌++◌, refl, sym, ap, ◌∙◌, append-nil, append_assoc, AllByRecursion, flat_map-append, common_steps, nat_tests, flat_map-cons}
+use Rattle.pnm_stages.proofs.Words.{list_any-append, or-false, Message, Begin, More, Whole, BrokenOff, Ending, IsMessage, EndsBy, HeadValue, row_messages}
+use Rattle.pnm_stages.proofs.Words.{rows_list, end_messages, rest_messages, part_messages, ends_after, Packet, Part, both_all, Extends, IsEnded, messages_in}
+use Rattle.pnm_stages.proofs.Words.{ending_of_packet, is_together}
+use Rattle.std.specs.Prelude.{Bool, true, false}
+use Rattle.pnm_stages.specs.RingPackets.{messages_of, has_together}
 use Rattle.pnm_stages.proofs.RingSteps.{ends_nothing}
 
 -- no packets
@@ -31,9 +14,9 @@ unfolding messages_of
 none_of = refl
 
 -- none are known where a look shows none
-pub none_known : (packets : List Packet) (count : ℕ) → count ≡ length packets → IsFalse (nat_lt 0 count) → messages_of packets ≡ []
-none_known [] count same none = none_of
-none_known (packet ∷ packets) count same none = let no : ⊥ = grind (arith, same, none) in absurd no
+pub none_known : (packets : List Packet) {count : ℕ} → count ≡ length packets → IsFalse (nat_lt 0 count) → messages_of packets ≡ []
+none_known [] same none = none_of
+none_known (packet ∷ packets) same none = let no : ⊥ = grind (arith, same, none) in absurd no
 
 -- one packet more
 pub one_more : (packets : List Packet) (packet : Packet) → messages_of (packets ++ packet ∷ []) ≡ messages_of packets ++ messages_in packet
@@ -82,9 +65,9 @@ part_ends_nothing None rows ends = rest_ends_nothing rows ends
 part_ends_nothing (Some head) rows ends = ends_after More (Begin head ∷ []) (rest_messages rows ends) (refl, tt) (rest_ends_nothing rows ends)
 
 -- whether a part is several messages, as a function answers it
-pub several_by : (packet : Packet) (part : List Message) (several : Bool) → packet ≡ Part part → IsTrue several ↔ 2 ≤ length part
+pub several_by : {packet : Packet} {part : List Message} (several : Bool) → packet ≡ Part part → IsTrue several ↔ 2 ≤ length part
     → several ≡ is_together packet
-several_by packet part several is answer = rw is (grind (arith, common_steps, nat_tests, answer))
+several_by several is answer = rw is (grind (arith, common_steps, nat_tests, answer))
 
 -- a packet that ends so ends a list so
 pub ends_with_packet : (l : List Message) (packet : Packet) → EndsBy (ending_of_packet packet) (messages_in packet) → EndsBy More l
@@ -105,25 +88,25 @@ pub ends_as_packet : (e : Ending) (l : List Message) (packet : Packet) → EndsB
     → ending_of_packet packet ≡ e → EndsBy e (l ++ messages_in packet)
 ends_as_packet e l packet ends more same = subst (λ (x : Ending). EndsBy x (l ++ messages_in packet)) same (ends_with_packet l packet ends more)
 
-pub packet_goes_on : (l now new : List Message) (packet : Packet) → Extends l now (EndsBy More) → new ≡ now ++ messages_in packet
+pub packet_goes_on : {l now new : List Message} (packet : Packet) → Extends l now (EndsBy More) → new ≡ now ++ messages_in packet
     → AllByRecursion IsMessage (messages_in packet) → EndsBy (ending_of_packet packet) (messages_in packet) → ending_of_packet packet ≡ More
     → Extends l new (EndsBy More)
-packet_goes_on l now new packet extends added are ends same =
+packet_goes_on {l} {now} {new} packet extends added are ends same =
     extends_by_packet (EndsBy More) l now new packet extends added are (ends_as_packet More extends.more packet ends extends.holds same)
 
-pub packet_ends : (l now new : List Message) (packet : Packet) → Extends l now (EndsBy More) → new ≡ now ++ messages_in packet
+pub packet_ends : {l now new : List Message} (packet : Packet) → Extends l now (EndsBy More) → new ≡ now ++ messages_in packet
     → AllByRecursion IsMessage (messages_in packet) → EndsBy (ending_of_packet packet) (messages_in packet)
     → (ending_of_packet packet ≡ Whole) ⊎ (ending_of_packet packet ≡ BrokenOff) → Extends l new IsEnded
-packet_ends l now new packet extends added are ends (inl whole) =
+packet_ends {l} {now} {new} packet extends added are ends (inl whole) =
     extends_by_packet IsEnded l now new packet extends added are (inl (ends_as_packet Whole extends.more packet ends extends.holds whole))
-packet_ends l now new packet extends added are ends (inr broken) =
+packet_ends {l} {now} {new} packet extends added are ends (inr broken) =
     extends_by_packet IsEnded l now new packet extends added are (inr (ends_as_packet BrokenOff extends.more packet ends extends.holds broken))
 
 -- by how a packet ends the stream, as a function answers it
-pub packet_says_end : (a : Ending) (packet : Packet) → a ≡ ending_of_packet packet → (a ≡ Whole) ⊎ (a ≡ BrokenOff)
+pub packet_says_end : {a : Ending} (packet : Packet) → a ≡ ending_of_packet packet → (a ≡ Whole) ⊎ (a ≡ BrokenOff)
     → (ending_of_packet packet ≡ Whole) ⊎ (ending_of_packet packet ≡ BrokenOff)
-packet_says_end a packet says (inl whole) = inl (sym says ∙ whole)
-packet_says_end a packet says (inr broken) = inr (sym says ∙ broken)
+packet_says_end packet says (inl whole) = inl (sym says ∙ whole)
+packet_says_end packet says (inr broken) = inr (sym says ∙ broken)
 
 -- the first of several packets, and the others
 pub known_by : {packet : Packet} {packets others : List Packet} → packets ≡ packet ∷ others → messages_of packets ≡ messages_in packet ++ messages_of others

@@ -1,18 +1,7 @@
 -- What was sent is a prefix of what is due, for the longest lawful prefix of what was received.
-use Rattle.std.proofs.Common.{◌≡◌, ◌⊎◌, inl, inr, List, [], ◌∷◌, ◌++◌, refl, sym, ap, subst, ◌∙◌, append_assoc}
-use Rattle.pnm_image.specs.declared.message.Message.{Message}
-use Rattle.pnm_image.specs.declared.message.Message.TheVariants.{Begin, Row, ImageEnd, StreamEnd, Stop}
-use Rattle.pnm_image.specs.declared.place.Place.TheVariants.{Between}
-use Rattle.pnm_image.specs.Images.{Image, messages_of_stream}
-use Rattle.pnm_image.specs.Messages.{without_stop, EndsBy}
-use Rattle.pnm_image.specs.Places.{IsLawful}
-use Rattle.pnm_image.specs.Completion.{IsPrefixOf, Completes}
-use Rattle.pnm_image.proofs.Lists.{same_first, same_rest}
-use Rattle.pnm_image.proofs.Places.{next_may_come}
-use Rattle.pnm_image.specs.declared.message.Ending.TheVariants.{More}
-use Rattle.pnm_tools.proofs.FullLaws.{prefix_of_prefix}
-use Rattle.pnm_tools.proofs.SoundLaws.{unbroken_keeps_all}
-use Rattle.pnm_stages.specs.Prefixes.{IsLongestLawfulPrefix, IsPrefixOfDue}
+use Rattle.pnm_stages.proofs.Words.{◌≡◌, ◌⊎◌, inl, inr, List, [], ◌∷◌, ◌++◌, refl, sym, ap, subst, ◌∙◌, append_assoc, Message, Begin, Row, ImageEnd, StreamEnd}
+use Rattle.pnm_stages.proofs.Words.{Stop, Between, Image, messages_of_stream, without_stop, EndsBy, IsLawful, IsPrefixOf, Completes, same_first, same_rest}
+use Rattle.pnm_stages.proofs.Words.{next_may_come, More, prefix_of_prefix, unbroken_keeps_all, IsLongestLawfulPrefix, IsPrefixOfDue}
 
 -- ---- a last Stop
 
@@ -54,15 +43,14 @@ prefix_without_stop (m ∷ n ∷ a) b =
 abbrev GoesOn : List Message → List Message → List Message → List Message → Type 0
 GoesOn a b c d = IsPrefixOf a c ⊎ ((m : Message) × (ms : List Message) × (a ≡ c ++ m ∷ ms) × (d ≡ m ∷ (ms ++ b)))
 
-after_first : (x y : Message) (a b c d : List Message) → x ≡ y → GoesOn a b c d → GoesOn (x ∷ a) b (y ∷ c) d
-after_first x y a b c d same (inl prefix) = inl (prefix.0, ap (λ (z : Message). z ∷ c) (sym same) ∙ ap (λ (l : List Message). x ∷ l) prefix.1)
-after_first x y a b c d same (inr later) = inr (later.0, later.1, ap (λ (z : Message). z ∷ a) same ∙ ap (λ (l : List Message). y ∷ l) later.2, later.3)
+after_first : {x y : Message} {a b c d : List Message} → x ≡ y → GoesOn a b c d → GoesOn (x ∷ a) b (y ∷ c) d
+after_first {x} {c} same (inl prefix) = inl (prefix.0, ap (λ (z : Message). z ∷ c) (sym same) ∙ ap (λ (l : List Message). x ∷ l) prefix.1)
+after_first {y} {a} same (inr later) = inr (later.0, later.1, ap (λ (z : Message). z ∷ a) same ∙ ap (λ (l : List Message). y ∷ l) later.2, later.3)
 
-two_prefixes : (a b c d : List Message) → a ++ b ≡ c ++ d → GoesOn a b c d
-two_prefixes [] b c d same = inl (c, refl)
-two_prefixes (x ∷ a) b [] d same = inr (x, a, refl, sym same)
-two_prefixes (x ∷ a) b (y ∷ c) d same =
-    after_first x y a b c d (same_first x y (a ++ b) (c ++ d) same) (two_prefixes a b c d (same_rest x y (a ++ b) (c ++ d) same))
+two_prefixes : (a : List Message) {b : List Message} (c : List Message) {d : List Message} → a ++ b ≡ c ++ d → GoesOn a b c d
+two_prefixes [] c same = inl (c, refl)
+two_prefixes (x ∷ a) [] same = inr (x, a, refl, sym same)
+two_prefixes (x ∷ a) {b} (y ∷ c) {d} same = after_first (same_first x y (a ++ b) (c ++ d) same) (two_prefixes a c (same_rest x y (a ++ b) (c ++ d) same))
 
 -- ---- what is due
 
@@ -88,17 +76,16 @@ due_goes_on due l g more of_due = record {
 }
 
 -- the longest lawful prefix is completed by no other images than a shorter one
-accepted_prefix : (accepted rest prefix l : List Message) → IsLawful accepted → (longest : IsLongestLawfulPrefix prefix l)
+accepted_prefix : {accepted rest prefix l : List Message} → IsLawful accepted → (longest : IsLongestLawfulPrefix prefix l)
     → GoesOn accepted rest prefix longest.rest → IsPrefixOf accepted prefix
-accepted_prefix accepted rest prefix l lawful longest (inl is) = is
-accepted_prefix accepted rest prefix l lawful longest (inr more) =
+accepted_prefix lawful longest (inl is) = is
+accepted_prefix {rest} {prefix} lawful longest (inr more) =
     absurd (longest.longest more.0 (more.1 ++ rest) more.3 (next_may_come Between prefix more.0 more.1 (subst IsLawful more.2 lawful)))
 
 -- a lawful prefix is a prefix of the longest
 pub lawful_prefix_of_longest : (accepted rest prefix l : List Message) → l ≡ accepted ++ rest → IsLawful accepted → IsLongestLawfulPrefix prefix l
     → IsPrefixOf accepted prefix
-lawful_prefix_of_longest accepted rest prefix l parts lawful longest =
-    accepted_prefix accepted rest prefix l lawful longest (two_prefixes accepted rest prefix longest.rest (sym parts ∙ longest.parts))
+lawful_prefix_of_longest accepted rest prefix l parts lawful longest = accepted_prefix lawful longest (two_prefixes accepted prefix (sym parts ∙ longest.parts))
 
 -- what is a prefix of what is due for a lawful prefix is one for the longest
 pub longest_prefix_is_due : (due : List Image → List Message) (l g prefix : List Message) (is : List Image) → IsPrefixOfDue due l g

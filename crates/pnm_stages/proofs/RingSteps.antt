@@ -1,13 +1,6 @@
 -- What a ring has passed, message by message.
-use Rattle.std.proofs.Common.{◌≡◌, List, [], ◌∷◌, ◌++◌, ap, refl, sym, subst, ◌∙◌}
-use Rattle.pnm_image.specs.declared.message.Message.{Message}
-use Rattle.pnm_image.specs.Messages.{ending_of, EndsBy}
-use Rattle.pnm_image.specs.declared.message.Ending.{Ending}
-use Rattle.pnm_image.specs.declared.message.Ending.TheVariants.{More}
-use Rattle.pnm_stages.specs.declared.sender.Sender.{Sender}
-use Rattle.pnm_stages.specs.declared.receiver.Receiver.{Receiver}
-use Rattle.pnm_tools.proofs.InFullLaws.{EndNothing, ends_after}
-use Rattle.pnm_stages.specs.Rings.{IsPair, SameSender, SameReceiver}
+use Rattle.pnm_stages.proofs.Words.{◌≡◌, List, [], ◌∷◌, ◌++◌, ap, refl, sym, subst, ◌∙◌, Message, ending_of, EndsBy, Ending, More, Sender, Receiver, EndNothing}
+use Rattle.pnm_stages.proofs.Words.{ends_after, IsPair, SameSender, SameReceiver}
 
 -- no message of a list that goes on ends it
 pub ends_nothing : (l : List Message) → EndsBy More l → EndNothing l

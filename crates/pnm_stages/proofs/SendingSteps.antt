@@ -1,13 +1,6 @@
 -- What a tool at work sends, answer by answer.
-use Rattle.std.proofs.Common.{◌≡◌, Bool, true, false, List, [], ◌++◌, Option, sym, ap, subst, ◌∙◌, append_assoc, append-nil}
-use Rattle.pnm_image.specs.declared.message.Message.{Message}
-use Rattle.pnm_tools.specs.declared.fault.ToolFault.{ToolFault}
-use Rattle.pnm_tools.specs.declared.tool.Tool.{Tool}
-use Rattle.pnm_tools.specs.Answers.{Answers}
-use Rattle.pnm_tools.specs.declared.fused_filter.FusedFilter.{FusedFilter}
-use Rattle.pnm_tools.specs.declared.fused_filter.FusedFilter.TheVariants.{AtWork, Refused}
-use Rattle.pnm_tools.specs.FusedFilters.{FilterAt, FilterBusy}
-use Rattle.pnm_stages.specs.Internal.StageParts.{HasAnsweredPart, HasSentAnswers}
+use Rattle.pnm_stages.proofs.Words.{◌≡◌, Bool, true, false, List, [], ◌++◌, Option, sym, ap, subst, ◌∙◌, append_assoc, append-nil, Message, ToolFault, Tool}
+use Rattle.pnm_stages.proofs.Words.{Answers, FusedFilter, AtWork, Refused, FilterAt, FilterBusy, HasAnsweredPart, HasSentAnswers}
 
 -- what a tool has sent so far of its answers
 pub record IsSending {F : Type 0} (at : F → Tool → List Message → List Message → Type 0) (stopped : F → Option ToolFault) (old now : FusedFilter F)
@@ -20,14 +13,15 @@ pub record IsSending {F : Type 0} (at : F → Tool → List Message → List Mes
 abbrev pub GivesAnswers : {F : Type 0} → (F → Tool → List Message → List Message → Type 0) → Type 0
 GivesAnswers at = (s : _) (tool : Tool) (l g : List Message) → at s tool l g → Answers tool l g
 
-part_of : {F : Type 0} (at : F → Tool → List Message → List Message → Type 0) (stopped : F → Option ToolFault) → GivesAnswers at
-    → (stage : FusedFilter F) (tool : Tool) (l g : List Message) → FilterBusy at stopped stage tool l g → HasAnsweredPart tool l g
-part_of at stopped law (AtWork filter) tool l g busy = record { accepted = l; rest = []; parts = sym (append-nil l); answers = law filter tool l g busy.state }
-part_of at stopped law (Refused fault) tool l g busy = record { accepted = busy.accepted; rest = busy.rest; parts = busy.parts; answers = busy.answers }
+part_of : {F : Type 0} (at : F → Tool → List Message → List Message → Type 0) (stopped : F → Option ToolFault) → GivesAnswers at → (stage : FusedFilter F)
+    {tool : Tool} {l g : List Message} → FilterBusy at stopped stage tool l g → HasAnsweredPart tool l g
+part_of at stopped law (AtWork filter) {tool} {l} {g} busy = record
+    { accepted = l; rest = []; parts = sym (append-nil l); answers = law filter tool l g busy.state }
+part_of at stopped law (Refused fault) busy = record { accepted = busy.accepted; rest = busy.rest; parts = busy.parts; answers = busy.answers }
 
-pub sends_nothing_yet : {F : Type 0} (at : F → Tool → List Message → List Message → Type 0) (stopped : F → Option ToolFault) (stage : FusedFilter F)
-    (s : List Message) → IsSending at stopped stage stage s s
-sends_nothing_yet at stopped stage s =
+pub sends_nothing_yet : {F : Type 0} {at : F → Tool → List Message → List Message → Type 0} {stopped : F → Option ToolFault} {stage : FusedFilter F}
+    {s : List Message} → IsSending at stopped stage stage s s
+sends_nothing_yet {at} {stopped} {stage} {s} =
     record { more = []; added = sym (append-nil s); busy = λ tool l g busy. subst (FilterBusy at stopped stage tool l) (sym (append-nil g)) busy }
 
 -- an answer more was sent
@@ -50,7 +44,7 @@ loses_answer at all_given stopped law old now next s s_now s_new sending same = 
   more = sending.more;
   added = same ∙ sending.added;
   full = λ all. absurd cc;
-  part = λ tool l g busy. part_of at stopped law now tool l (g ++ sending.more) (sending.busy tool l g busy);
+  part = λ tool l g busy. part_of at stopped law now (sending.busy tool l g busy);
 }
 
 -- all was sent
@@ -62,5 +56,5 @@ sends_all at all_given stopped law old now next s s_now sending full = record {
   more = sending.more;
   added = sending.added;
   full = λ all tool l g busy. full tool l (g ++ sending.more) (sending.busy tool l g busy);
-  part = λ tool l g busy. part_of at stopped law now tool l (g ++ sending.more) (sending.busy tool l g busy);
+  part = λ tool l g busy. part_of at stopped law now (sending.busy tool l g busy);
 }

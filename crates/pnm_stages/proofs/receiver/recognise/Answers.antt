@@ -1,12 +1,5 @@
-use Rattle.std.proofs.Common.{◌≡◌, None, Some, Option, ap, sym, subst, ◌∙◌}
-use Rattle.std.specs.List.{AllByRecursion}
-use Rattle.pnm_image.specs.Heads.{HeadValue}
-use Rattle.pnm_image.specs.Messages.{IsMessage, EndsBy}
-use Rattle.pnm_image.specs.Packets.{messages_in, ending_of_packet}
-use Rattle.pnm_image.specs.Parts.{part_messages}
-use Rattle.pnm_image.specs.declared.message.Ending.TheVariants.{More}
-use Rattle.pnm_image.specs.declared.packet.Packet.{Packet}
-use Rattle.pnm_stages.specs.RingPackets.{is_together}
+use Rattle.pnm_stages.proofs.Words.{◌≡◌, None, Some, Option, ap, sym, subst, ◌∙◌, AllByRecursion, HeadValue, IsMessage, EndsBy, messages_in, ending_of_packet}
+use Rattle.pnm_stages.proofs.Words.{part_messages, More, Packet, is_together}
 use Rattle.pnm_stages.proofs.PacketLaws.{rest_is_messages, part_is_messages, part_ends_nothing, several_by}
 use Rattle.pnm_stages.proofs.receiver.recognise.Goals as goal
 
@@ -38,10 +31,9 @@ returns-clause-ends c =
 
 pub returns-in-Some-clause-together : goal.returns-in-Some-clause-together
 returns-in-Some-clause-together c =
-    let several : c.is_several.result ≡ is_together c.args.packet.now =
-    several_by c.args.packet.now c.in-Part.part c.is_several.result c.in-Part.is c.is_several.ensures.several in several
+    let several : c.is_several.result ≡ is_together c.args.packet.now = several_by c.is_several.result c.in-Part.is c.is_several.ensures.several in several
 
 pub returns-clause-together : goal.returns-clause-together
 returns-clause-together c =
     let several : c.is_several-2.result ≡ is_together c.args.packet.now =
-    several_by c.args.packet.now c.in-Part.part c.is_several-2.result c.in-Part.is c.is_several-2.ensures.several in several
+    several_by c.is_several-2.result c.in-Part.is c.is_several-2.ensures.several in several

@@ -1,6 +1,5 @@
-use Rattle.std.proofs.Common.{ap, ◌∙◌}
+use Rattle.pnm_stages.proofs.Words.{ap, ◌∙◌, messages_of}
 use Rattle.rtrb.specs.Ring.{sent, received}
-use Rattle.pnm_stages.specs.RingPackets.{messages_of}
 use Rattle.pnm_stages.proofs.PacketLaws.{none_of}
 use Rattle.pnm_stages.proofs.ring.new_ring.Goals as goal
 

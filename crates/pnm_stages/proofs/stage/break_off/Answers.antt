@@ -1,4 +1,4 @@
-use Rattle.std.proofs.Common.{rules}
+use Rattle.pnm_stages.proofs.Words.{rules}
 use Rattle.pnm_stages.proofs.stage.break_off.Goals as goal
 
 pub returns-then-drained-clause-broken : goal.returns-then-drained-clause-broken

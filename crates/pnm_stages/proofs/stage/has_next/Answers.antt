@@ -1,4 +1,4 @@
-use Rattle.std.proofs.Common.{refl}
+use Rattle.pnm_stages.proofs.Words.{refl}
 use Rattle.pnm_stages.proofs.RingSteps.{itself_input, itself_output}
 use Rattle.pnm_stages.proofs.stage.has_next.Goals as goal
 

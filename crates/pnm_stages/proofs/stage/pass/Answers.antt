@@ -1,7 +1,4 @@
-use Rattle.std.proofs.Common.{refl}
-use Rattle.pnm_image.specs.Packets.{messages_in, ending_of_packet}
-use Rattle.pnm_tools.specs.Unfed.{unfed_in}
-use Rattle.pnm_stages.specs.Rings.{sent}
+use Rattle.pnm_stages.proofs.Words.{refl, messages_in, ending_of_packet, unfed_in, sent}
 use Rattle.pnm_stages.proofs.RingSteps.{itself_output, same_output}
 use Rattle.pnm_stages.proofs.PassingSteps.{feeds_nothing_yet, feeds_more, loses_rest, drops_rest}
 use Rattle.pnm_stages.proofs.stage.pass.Goals as goal
@@ -29,16 +26,10 @@ returns-then-not-send_answers-clause-output g c =
     same_output c.args.output.now c.loop-alloc.output c.send_answers.new.output c.loop-alloc.invariant.0 c.send_answers.ensures.output
 
 pub returns-then-not-send_answers-clause-passed : goal.returns-then-not-send_answers-clause-passed
-returns-then-not-send_answers-clause-passed g c =
-    loses_rest g.F.Filter.at g.F.Filter.all_given g.F.Filter.stopped c.args.stage.now c.loop-alloc.stage c.feed_next.new.self c.send_answers.new.stage
-    (messages_in c.args.packet) (unfed_in c.loop-alloc.unfed) (unfed_in c.feed_next.new.unfed) (sent c.args.output.now) (sent c.loop-alloc.output)
-    (sent c.send_answers.new.output) c.loop-alloc.invariant.1 (c.loop-alloc-test.ensures.fed refl) c.if-not-send_answers.ensures.sent
+returns-then-not-send_answers-clause-passed g c = loses_rest c.loop-alloc.invariant.1 (c.loop-alloc-test.ensures.fed refl) c.if-not-send_answers.ensures.sent
 
 pub returns-clause-output : goal.returns-clause-output
 returns-clause-output g c = c.loop-alloc.invariant.0
 
 pub returns-clause-passed : goal.returns-clause-passed
-returns-clause-passed g c =
-    drops_rest g.F.Filter.at g.F.Filter.all_given g.F.Filter.stopped c.args.stage.now c.loop-alloc.stage c.feed_next.new.self
-    (ending_of_packet c.args.packet) (messages_in c.args.packet) (unfed_in c.loop-alloc.unfed) (sent c.args.output.now) (sent c.loop-alloc.output)
-    c.requires c.loop-alloc.invariant.1 (c.loop-alloc-test.ensures.dropped refl)
+returns-clause-passed g c = drops_rest (ending_of_packet c.args.packet) c.requires c.loop-alloc.invariant.1 (c.loop-alloc-test.ensures.dropped refl)

@@ -1,7 +1,4 @@
-use Rattle.std.proofs.Common.{length}
-use Rattle.pnm_image.specs.Packets.{messages_in}
-use Rattle.pnm_tools.specs.Unfed.{unfed_in}
-use Rattle.pnm_stages.specs.Rings.{sent, SameSender}
+use Rattle.pnm_stages.proofs.Words.{length, messages_in, unfed_in, sent, SameSender}
 use Rattle.pnm_stages.proofs.PassingSteps.{IsFeeding}
 use Rattle.pnm_stages.proofs.stage.pass.Given as goal
 

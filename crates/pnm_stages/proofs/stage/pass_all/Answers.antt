@@ -1,53 +1,33 @@
-use Rattle.std.proofs.Common.{refl, sym, ◌∙◌}
-use Rattle.pnm_stages.specs.Rings.{sent, received, known_items}
-use Rattle.pnm_image.specs.declared.message.Ending.TheVariants.{More}
-use Rattle.pnm_image.specs.Packets.{ending_of_packet, messages_in}
+use Rattle.pnm_stages.proofs.Words.{refl, sym, ◌∙◌, sent, received, More, ending_of_packet, messages_in}
+use Rattle.pnm_stages.specs.Rings.{known_items}
 use Rattle.pnm_stages.proofs.RingSteps.{arrived, same_input, same_output, itself_input, itself_output}
 use Rattle.pnm_stages.proofs.StagedSteps.{passes_nothing, passes_packet, still_sent, still_going, input_gone, output_gone, breaks_off, ends_well, ends_broken}
 use Rattle.pnm_stages.proofs.stage.pass_all.Goals as goal
 
 pub returns-in-Some-clause-ran : goal.returns-in-Some-clause-ran
-returns-in-Some-clause-ran g c tool fresh =
-    breaks_off g.F.Filter.at g.F.Filter.all_given g.F.Filter.stopped More c.args.stage.now c.args.stage.now c.in-Some.fault More c.break_off.result
-    (received c.args.input.now) (received c.args.input.now) (received c.break_off.new.input) (known_items c.break_off.new.input) (sent c.args.output.now)
-    (sent c.args.output.now) (sent c.break_off.new.output) tool
-    (passes_nothing g.F.Filter.at g.F.Filter.all_given g.F.Filter.stopped c.args.stage.now (received c.args.input.now) (sent c.args.output.now)) refl
-    (sym c.fault.ensures ∙ c.in-Some.is) c.break_off.ensures.broken fresh
+returns-in-Some-clause-ran g c tool fresh = breaks_off (passes_nothing) refl (sym c.fault.ensures ∙ c.in-Some.is) c.break_off.ensures.broken fresh
 
 pub returns-then-not-has_next-clause-ran : goal.returns-then-not-has_next-clause-ran
 returns-then-not-has_next-clause-ran g c tool fresh =
-    input_gone g.F.Filter.at g.F.Filter.all_given g.F.Filter.stopped c.args.stage.now c.loop.stage c.send.result (received c.args.input.now)
-    (received c.loop.input) (received c.has_next.new.input) (known_items c.has_next.new.input) (sent c.args.output.now) (sent c.has_next.new.output)
-    (sent c.send.new.self) tool
+    input_gone c.loop.stage c.send.result
     (still_sent c.loop.invariant.2 c.has_next.ensures.sent) (c.has_next.ensures.received, c.if-not-has_next.ensures.none refl) c.send.ensures.given
-    c.send.ensures.gone
-    c.loop.invariant.3 fresh
+    c.send.ensures.gone c.loop.invariant.3 fresh
 
 pub returns-then-not-pass-clause-ran : goal.returns-then-not-pass-clause-ran
 returns-then-not-pass-clause-ran g c tool fresh =
     let came = arrived (messages_in c.receive_known-packet.result) c.has_next.ensures.received c.receive_known-packet.ensures.received in
-    output_gone g.F.Filter.at g.F.Filter.all_given g.F.Filter.stopped c.args.stage.now c.loop.stage c.pass.new.stage
-    c.receive_known-packet.result c.ending-ending.result c.drain_after.result
-    (received c.args.input.now) (received c.loop.input) (received c.receive_known-packet.new.self) (received c.drain_after.new.self) (known_items
-    c.drain_after.new.self)
-    (sent c.args.output.now) (sent c.has_next.new.output) (sent c.pass.new.output) tool
+    output_gone c.receive_known-packet.result c.drain_after.result
     (still_sent c.loop.invariant.2 c.has_next.ensures.sent) came c.receive_known-packet.ensures.messages c.receive_known-packet.ensures.ends
     c.if-not-pass.ensures.passed c.ending-ending.ensures c.drain_after.ensures.drained fresh
 
 pub returns-in-Some-fault-clause-ran : goal.returns-in-Some-fault-clause-ran
 returns-in-Some-fault-clause-ran g c tool fresh =
     let came = arrived (messages_in c.receive_known-packet.result) c.has_next.ensures.received c.receive_known-packet.ensures.received in
-    breaks_off g.F.Filter.at g.F.Filter.all_given g.F.Filter.stopped (ending_of_packet c.receive_known-packet.result) c.args.stage.now c.pass.new.stage
-    c.in-Some-fault.fault c.ending-ending.result c.break_off-in-Some-fault.result
-    (received c.args.input.now) (received c.receive_known-packet.new.self) (received c.break_off-in-Some-fault.new.input) (known_items
-    c.break_off-in-Some-fault.new.input)
-    (sent c.args.output.now) (sent c.pass.new.output) (sent c.break_off-in-Some-fault.new.output) tool
-    (passes_packet g.F.Filter.at g.F.Filter.all_given g.F.Filter.stopped c.args.stage.now c.loop.stage c.pass.new.stage
+    breaks_off (passes_packet g.F.Filter.at g.F.Filter.all_given g.F.Filter.stopped c.args.stage.now c.loop.stage c.pass.new.stage
     c.receive_known-packet.result (received c.args.input.now) (received c.loop.input) (received c.receive_known-packet.new.self) (sent c.args.output.now)
     (sent c.has_next.new.output) (sent c.pass.new.output)
     (still_sent c.loop.invariant.2 c.has_next.ensures.sent) came c.receive_known-packet.ensures.messages c.receive_known-packet.ensures.ends
-    c.if-not-pass.ensures.passed)
-    c.ending-ending.ensures (sym c.fault-in-loop.ensures ∙ c.in-Some-fault.is) c.break_off-in-Some-fault.ensures.broken fresh
+    c.if-not-pass.ensures.passed) c.ending-ending.ensures (sym c.fault-in-loop.ensures ∙ c.in-Some-fault.is) c.break_off-in-Some-fault.ensures.broken fresh
 
 pub loop-preserved : goal.loop-preserved
 loop-preserved g c =
@@ -55,13 +35,9 @@ loop-preserved g c =
     let came = arrived (messages_in c.receive_known-packet.result) c.has_next.ensures.received c.receive_known-packet.ensures.received in (
       same_input c.args.input.now c.loop.input c.receive_known-packet.new.self c.loop.invariant.0 ring,
       same_output c.args.output.now c.has_next.new.output c.pass.new.output
-          (same_output c.args.output.now c.loop.output c.has_next.new.output c.loop.invariant.1 c.has_next.ensures.output)
-          c.pass.ensures.output,
-      still_going g.F.Filter.at g.F.Filter.all_given g.F.Filter.stopped (ending_of_packet c.receive_known-packet.result) c.args.stage.now c.pass.new.stage
-          (received c.args.input.now) (received c.receive_known-packet.new.self) (sent c.args.output.now) (sent c.pass.new.output)
-          (passes_packet g.F.Filter.at g.F.Filter.all_given g.F.Filter.stopped c.args.stage.now c.loop.stage c.pass.new.stage
-          c.receive_known-packet.result (received c.args.input.now) (received c.loop.input) (received c.receive_known-packet.new.self) (sent
-          c.args.output.now)
+          (same_output c.args.output.now c.loop.output c.has_next.new.output c.loop.invariant.1 c.has_next.ensures.output) c.pass.ensures.output,
+      still_going (passes_packet g.F.Filter.at g.F.Filter.all_given g.F.Filter.stopped c.args.stage.now c.loop.stage c.pass.new.stage
+          c.receive_known-packet.result (received c.args.input.now) (received c.loop.input) (received c.receive_known-packet.new.self) (sent c.args.output.now)
           (sent c.has_next.new.output) (sent c.pass.new.output)
           (still_sent c.loop.invariant.2 c.has_next.ensures.sent) came c.receive_known-packet.ensures.messages c.receive_known-packet.ensures.ends
           c.if-not-pass.ensures.passed) (sym c.ending-ending.ensures ∙ c.in-More.is),
@@ -71,36 +47,26 @@ loop-preserved g c =
 pub returns-in-Whole-clause-ran : goal.returns-in-Whole-clause-ran
 returns-in-Whole-clause-ran g c tool fresh =
     let came = arrived (messages_in c.receive_known-packet.result) c.has_next.ensures.received c.receive_known-packet.ensures.received in
-    ends_well g.F.Filter.at g.F.Filter.all_given g.F.Filter.stopped (ending_of_packet c.receive_known-packet.result) c.args.stage.now c.pass.new.stage
-    (received c.args.input.now) (received c.receive_known-packet.new.self) (known_items c.receive_known-packet.new.self) (sent c.args.output.now) (sent
-    c.pass.new.output)
-    tool
-    (passes_packet g.F.Filter.at g.F.Filter.all_given g.F.Filter.stopped c.args.stage.now c.loop.stage c.pass.new.stage
+    ends_well (passes_packet g.F.Filter.at g.F.Filter.all_given g.F.Filter.stopped c.args.stage.now c.loop.stage c.pass.new.stage
     c.receive_known-packet.result (received c.args.input.now) (received c.loop.input) (received c.receive_known-packet.new.self) (sent c.args.output.now)
     (sent c.has_next.new.output) (sent c.pass.new.output)
     (still_sent c.loop.invariant.2 c.has_next.ensures.sent) came c.receive_known-packet.ensures.messages c.receive_known-packet.ensures.ends
-    c.if-not-pass.ensures.passed)
-    ((sym c.in-Whole.is) ∙ c.ending-ending.ensures) (sym c.fault-in-loop.ensures ∙ c.in_default-fault.is) fresh
+    c.if-not-pass.ensures.passed) ((sym c.in-Whole.is) ∙ c.ending-ending.ensures) (sym c.fault-in-loop.ensures ∙ c.in_default-fault.is) fresh
 
 pub returns-in-BrokenOff-clause-ran : goal.returns-in-BrokenOff-clause-ran
 returns-in-BrokenOff-clause-ran g c tool fresh =
     let came = arrived (messages_in c.receive_known-packet.result) c.has_next.ensures.received c.receive_known-packet.ensures.received in
-    ends_broken g.F.Filter.at g.F.Filter.all_given g.F.Filter.stopped (ending_of_packet c.receive_known-packet.result) c.args.stage.now c.pass.new.stage
-    (received c.args.input.now) (received c.receive_known-packet.new.self) (known_items c.receive_known-packet.new.self) (sent c.args.output.now) (sent
-    c.pass.new.output)
-    tool
-    (passes_packet g.F.Filter.at g.F.Filter.all_given g.F.Filter.stopped c.args.stage.now c.loop.stage c.pass.new.stage
+    ends_broken (passes_packet g.F.Filter.at g.F.Filter.all_given g.F.Filter.stopped c.args.stage.now c.loop.stage c.pass.new.stage
     c.receive_known-packet.result (received c.args.input.now) (received c.loop.input) (received c.receive_known-packet.new.self) (sent c.args.output.now)
     (sent c.has_next.new.output) (sent c.pass.new.output)
     (still_sent c.loop.invariant.2 c.has_next.ensures.sent) came c.receive_known-packet.ensures.messages c.receive_known-packet.ensures.ends
-    c.if-not-pass.ensures.passed)
-    ((sym c.in-BrokenOff.is) ∙ c.ending-ending.ensures) (sym c.fault-in-loop.ensures ∙ c.in_default-fault.is) fresh
+    c.if-not-pass.ensures.passed) ((sym c.in-BrokenOff.is) ∙ c.ending-ending.ensures) (sym c.fault-in-loop.ensures ∙ c.in_default-fault.is) fresh
 
 pub loop-init : goal.loop-init
 loop-init g c = (
   itself_input c.args.input.now,
   itself_output c.args.output.now,
-  passes_nothing g.F.Filter.at g.F.Filter.all_given g.F.Filter.stopped c.args.stage.now (received c.args.input.now) (sent c.args.output.now),
+  passes_nothing,
   (sym c.fault.ensures ∙ c.in_default.is),
 )
 

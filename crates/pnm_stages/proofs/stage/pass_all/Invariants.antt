@@ -1,7 +1,4 @@
-use Rattle.std.proofs.Common.{◌≡◌, None}
-use Rattle.pnm_stages.specs.Rings.{sent, received, SameSender, SameReceiver}
-use Rattle.pnm_image.specs.declared.message.Ending.TheVariants.{More}
-use Rattle.pnm_tools.specs.FusedFilters.{refusal_in}
+use Rattle.pnm_stages.proofs.Words.{◌≡◌, None, sent, received, SameSender, SameReceiver, More, refusal_in}
 use Rattle.pnm_stages.proofs.StagedSteps.{IsPassing}
 use Rattle.pnm_stages.proofs.stage.pass_all.Given as goal
 

@@ -1,4 +1,4 @@
-use Rattle.std.proofs.Common.{rules}
+use Rattle.pnm_stages.proofs.Words.{rules}
 use Rattle.pnm_stages.proofs.RingSteps.{same_output}
 use Rattle.pnm_stages.proofs.stage.run_filter.Goals as goal
 

@@ -1,11 +1,10 @@
-use Rattle.pnm_image.specs.Packets.{messages_in}
-use Rattle.pnm_stages.specs.Rings.{sent}
+use Rattle.pnm_stages.proofs.Words.{messages_in, sent}
 use Rattle.pnm_stages.proofs.RingSteps.{itself_output, same_output}
 use Rattle.pnm_stages.proofs.SendingSteps.{sends_nothing_yet, sends_on, loses_answer, sends_all}
 use Rattle.pnm_stages.proofs.stage.send_answers.Goals as goal
 
 pub loop-answer-init : goal.loop-answer-init
-loop-answer-init g c = (itself_output c.args.output.now, sends_nothing_yet g.F.Filter.at g.F.Filter.stopped c.args.stage.now (sent c.args.output.now))
+loop-answer-init g c = (itself_output c.args.output.now, sends_nothing_yet)
 
 pub loop-answer-preserved : goal.loop-answer-preserved
 loop-answer-preserved g c = (

@@ -1,5 +1,4 @@
-use Rattle.pnm_stages.specs.Rings.{sent, SameSender}
-use Rattle.pnm_tools.specs.FusedFilters.{waiting_at}
+use Rattle.pnm_stages.proofs.Words.{sent, SameSender, waiting_at}
 use Rattle.pnm_stages.proofs.SendingSteps.{IsSending}
 use Rattle.pnm_stages.proofs.stage.send_answers.Given as goal
 

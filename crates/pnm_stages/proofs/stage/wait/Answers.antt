@@ -1,4 +1,4 @@
-use Rattle.std.proofs.Common.{◌∙◌}
+use Rattle.pnm_stages.proofs.Words.{◌∙◌}
 use Rattle.pnm_stages.proofs.RingSteps.{same_input}
 use Rattle.pnm_stages.proofs.stage.wait.Goals as goal
 

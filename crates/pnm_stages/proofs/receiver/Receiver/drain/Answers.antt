@@ -1,8 +1,4 @@
-use Rattle.std.proofs.Common.{List, sym, subst, ◌∙◌}
-use Rattle.pnm_image.specs.declared.message.Message.{Message}
-use Rattle.pnm_image.specs.declared.message.Ending.TheVariants.{More}
-use Rattle.pnm_image.specs.Messages.{EndsBy}
-use Rattle.pnm_stages.specs.Rings.{received, Extends}
+use Rattle.pnm_stages.proofs.Words.{List, sym, subst, ◌∙◌, Message, More, EndsBy, received, Extends}
 use Rattle.pnm_stages.proofs.RingSteps.{same_input}
 use Rattle.pnm_stages.proofs.PacketLaws.{packet_goes_on, packet_ends, packet_says_end}
 use Rattle.pnm_stages.proofs.receiver.Receiver.drain.Goals as goal
@@ -10,16 +6,16 @@ use Rattle.pnm_stages.proofs.receiver.Receiver.drain.Goals as goal
 pub loop-preserved : goal.loop-preserved
 loop-preserved g c = (
   same_input c.args.self.now c.loop.self c.receive.new.self c.loop.invariant.0 c.receive.ensures.ring,
-  packet_goes_on (received c.args.self.now) (received c.loop.self) (received c.receive.new.self) c.in-Some-receive.packet c.loop.invariant.1
+  packet_goes_on c.in-Some-receive.packet c.loop.invariant.1
       c.in-Some-receive.ensures.taken c.in-Some-receive.ensures.messages c.in-Some-receive.ensures.ends (sym c.ending-ending.ensures ∙ c.in-More.is),
 )
 
 pub returns-in-Whole : goal.returns-in-Whole
 returns-in-Whole g c = record {
   ring = same_input c.args.self.now c.loop.self c.receive.new.self c.loop.invariant.0 c.receive.ensures.ring;
-  drained = packet_ends (received c.args.self.now) (received c.loop.self) (received c.receive.new.self) c.in-Some-receive.packet c.loop.invariant.1
+  drained = packet_ends c.in-Some-receive.packet c.loop.invariant.1
       c.in-Some-receive.ensures.taken c.in-Some-receive.ensures.messages c.in-Some-receive.ensures.ends
-      (packet_says_end c.ending-ending.result c.in-Some-receive.packet c.ending-ending.ensures c.in-Whole.is);
+      (packet_says_end c.in-Some-receive.packet c.ending-ending.ensures c.in-Whole.is);
 }
 
 pub returns-in_default : goal.returns-in_default

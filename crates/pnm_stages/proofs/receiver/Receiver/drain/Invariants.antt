@@ -1,7 +1,4 @@
-use Rattle.pnm_stages.specs.Rings.{received, SameReceiver}
-use Rattle.pnm_image.specs.declared.message.Ending.TheVariants.{More}
-use Rattle.pnm_image.specs.Messages.{EndsBy}
-use Rattle.pnm_stages.specs.Rings.{Extends}
+use Rattle.pnm_stages.proofs.Words.{received, SameReceiver, More, EndsBy, Extends}
 use Rattle.pnm_stages.proofs.receiver.Receiver.drain.Given as goal
 
 -- what was received hasn't ended

@@ -1,4 +1,4 @@
-use Rattle.std.proofs.Common.{rules}
+use Rattle.pnm_stages.proofs.Words.{rules}
 use Rattle.pnm_stages.proofs.receiver.Receiver.drain_after.Goals as goal
 
 pub returns-in-Whole : goal.returns-in-Whole

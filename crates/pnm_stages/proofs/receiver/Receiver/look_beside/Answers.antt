@@ -1,4 +1,4 @@
-use Rattle.std.proofs.Common.{arith}
+use Rattle.pnm_stages.proofs.Words.{arith}
 use Rattle.pnm_stages.proofs.PacketLaws.{of_both}
 use Rattle.pnm_stages.proofs.receiver.Receiver.look_beside.Goals as goal
 

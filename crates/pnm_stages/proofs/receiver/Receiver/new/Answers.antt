@@ -1,5 +1,4 @@
-use Rattle.std.proofs.Common.{ap, sym, ◌∙◌}
-use Rattle.pnm_stages.specs.RingPackets.{has_together}
+use Rattle.pnm_stages.proofs.Words.{ap, sym, ◌∙◌, has_together}
 use Rattle.pnm_stages.proofs.PacketLaws.{none_together}
 use Rattle.pnm_stages.proofs.receiver.Receiver.new.Goals as goal
 

@@ -1,6 +1,6 @@
-use Rattle.std.proofs.Common.{◌≡◌, Bool, ◌||◌, ap, sym, ◌∙◌}
+use Rattle.pnm_stages.proofs.Words.{◌≡◌, Bool, ap, sym, ◌∙◌, messages_of, is_together, has_together}
+use Rattle.std.proofs.Common.{◌||◌}
 use Rattle.pnm_stages.proofs.PacketLaws.{one_more, together_with}
-use Rattle.pnm_stages.specs.RingPackets.{messages_of, is_together, has_together}
 use Rattle.rtrb.specs.Ring.{received}
 use Rattle.pnm_stages.proofs.receiver.Receiver.receive_known.Goals as goal
 use Rattle.pnm_stages.proofs.receiver.Receiver.receive_known.Goals.{then-self, else-self}

@@ -1,7 +1,4 @@
-use Rattle.std.proofs.Common.{◌≡◌, arith}
-use Rattle.std.proofs.lemmas.Grind.{common_steps}
-use Rattle.pnm_stages.specs.RingPackets.{BeginsByNoMessage}
-use Rattle.pnm_stages.specs.Rings.{received, known_packets}
+use Rattle.pnm_stages.proofs.Words.{◌≡◌, arith, common_steps, BeginsByNoMessage, received, known_packets}
 use Rattle.pnm_stages.proofs.receiver.Receiver.receive_message.Goals as goal
 
 pub returns-then-recognise-clause-none : goal.returns-then-recognise-clause-none

@@ -1,5 +1,4 @@
-use Rattle.std.proofs.Common.{refl, ◌∙◌}
-use Rattle.std.proofs.lemmas.Bool.{true≢false}
+use Rattle.pnm_stages.proofs.Words.{refl, ◌∙◌, true≢false}
 use Rattle.pnm_stages.proofs.RingSteps.{itself_input, same_input}
 use Rattle.pnm_stages.proofs.receiver.Receiver.wait_for_message.Goals as goal
 

@@ -1,5 +1,4 @@
-use Rattle.std.proofs.Common.{◌≡◌}
-use Rattle.pnm_stages.specs.Rings.{received, SameReceiver}
+use Rattle.pnm_stages.proofs.Words.{◌≡◌, received, SameReceiver}
 use Rattle.pnm_stages.proofs.receiver.Receiver.wait_for_message.Given as goal
 
 -- nothing was received

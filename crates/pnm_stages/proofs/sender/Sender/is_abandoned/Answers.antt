@@ -1,5 +1,4 @@
-use Rattle.std.proofs.Common.{arith}
-use Rattle.std.proofs.lemmas.Grind.{common_steps}
+use Rattle.pnm_stages.proofs.Words.{arith, common_steps}
 use Rattle.pnm_stages.proofs.sender.Sender.is_abandoned.Goals as goal
 
 pub returns-clause-sent : goal.returns-clause-sent

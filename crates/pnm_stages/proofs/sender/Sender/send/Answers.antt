@@ -1,7 +1,5 @@
-use Rattle.std.proofs.Common.{◌≡◌, ◌++◌, IsTrue, true, arith}
-use Rattle.std.proofs.lemmas.Grind.{common_steps}
-use Rattle.pnm_image.specs.Packets.{messages_in}
-use Rattle.pnm_stages.specs.Rings.{sent}
+use Rattle.pnm_stages.proofs.Words.{◌≡◌, ◌++◌, true, arith, common_steps, messages_in, sent}
+use Rattle.std.proofs.Common.{IsTrue}
 use Rattle.pnm_stages.proofs.sender.Sender.send.Goals as goal
 
 pub send_reserved-requires : goal.send_reserved-requires

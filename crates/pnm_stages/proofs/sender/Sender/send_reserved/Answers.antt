@@ -1,7 +1,5 @@
-use Rattle.std.proofs.Common.{ap, ◌∙◌, arith}
-use Rattle.std.proofs.lemmas.Grind.{common_steps}
+use Rattle.pnm_stages.proofs.Words.{ap, ◌∙◌, arith, common_steps, messages_of}
 use Rattle.pnm_stages.proofs.PacketLaws.{one_more}
-use Rattle.pnm_stages.specs.RingPackets.{messages_of}
 use Rattle.rtrb.specs.Ring.{sent}
 use Rattle.pnm_stages.proofs.sender.Sender.send_reserved.Goals as goal
 

@@ -1,5 +1,4 @@
-use Rattle.std.proofs.Common.{refl, ◌∙◌}
-use Rattle.std.proofs.lemmas.Bool.{false≢true}
+use Rattle.pnm_stages.proofs.Words.{refl, ◌∙◌, false≢true}
 use Rattle.pnm_stages.proofs.RingSteps.{itself_output, same_output}
 use Rattle.pnm_stages.proofs.sender.Sender.wait_for_room.Goals as goal
 

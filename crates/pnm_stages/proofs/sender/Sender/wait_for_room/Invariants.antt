@@ -1,5 +1,4 @@
-use Rattle.std.proofs.Common.{◌≡◌}
-use Rattle.pnm_stages.specs.Rings.{sent, SameSender}
+use Rattle.pnm_stages.proofs.Words.{◌≡◌, sent, SameSender}
 use Rattle.pnm_stages.proofs.sender.Sender.wait_for_room.Given as goal
 
 -- nothing was sent
