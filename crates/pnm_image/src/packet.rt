@@ -161,14 +161,20 @@ impl Packet {
         let (head, rows, ends_image) = part.into_parts();
         if head.is_some() {
             let rest = Part::of(None, rows, ends_image);
-            return Ok((Packet::Part(Part::new(head, None, false)), rest.map(Packet::Part)));
+            return Ok((
+                Packet::Part(Part::new(head, None, false)),
+                rest.map(Packet::Part),
+            ));
         }
         let Some(rows) = rows else {
             return Ok((Packet::Part(Part::new(None, None, ends_image)), None));
         };
         let (row, rest) = split_row(alloc, rows.into_rows(alloc)?)?;
         let rest = Part::of(None, rest.map(RepeatedRows::once), ends_image);
-        Ok((Packet::rows(RepeatedRows::once(row)), rest.map(Packet::Part)))
+        Ok((
+            Packet::rows(RepeatedRows::once(row)),
+            rest.map(Packet::Part),
+        ))
     }
 
     /// How the packet's last message ends its stream.
