@@ -1,25 +1,12 @@
 -- Each text spells one chain and has no fault, or it spells none and has one.
-use Rattle.std.proofs.Common.{◌≡◌, ℕ, suc, ◌==◌, Bool, true, false, if◌then◌else◌, Option, Some, None, List, [], ◌∷◌, length, refl, sym, ap, subst, ◌∙◌, arith}
-use Rattle.std.specs.Prelude.{nat_lt}
-use Rattle.std.specs.List.{list_all}
-use Rattle.std.proofs.lemmas.Bool.Decides.{nat_tests}
-use Rattle.std.proofs.lemmas.List.Splits.{slice_split-cons_no}
-use Rattle.std.specs.List.{onto_first}
-use Rattle.std.proofs.lemmas.Bool.{and_parts, false_from_ne_true, ltb-false, le-ltb}
-use Rattle.pnm_image.specs.Texts.{is_white, words}
-use Rattle.pnm_image.proofs.Words.{begins_in_word, words_by, words-cons, words-nil}
-use Rattle.pnm_tools.specs.declared.tool.Tool.{Tool}
-use Rattle.pnm_chain.specs.declared.chain_text.ChainFault.{ChainFault}
-use Rattle.pnm_chain.specs.declared.chain_text.ChainKind.{ChainKind}
-use Rattle.pnm_chain.specs.declared.chain_text.ChainKind.TheVariants.{Empty, TooLong, TooMany}
-use Rattle.pnm_chain.specs.declared.options.ToolName.{ToolName}
-use Rattle.pnm_chain.specs.Options.{tool_named}
-use Rattle.pnm_chain.specs.StageWords.{items_of, meant_by}
-use Rattle.pnm_chain.specs.ChainText.{SpellsTool, SpellTools, SpellsChain, stage_texts, named_fault, words_fault, stage_fault, fault_from, whole_fault}
-use Rattle.pnm_chain.specs.ChainText.{chain_fault_of, IsOneChainOrOneFault}
+use Rattle.pnm_chain.proofs.Words.{◌≡◌, ℕ, suc, ◌==◌, Bool, true, false, if◌then◌else◌, Option, Some, None, List, [], ◌∷◌, length, refl, sym, ap, subst, ◌∙◌}
+use Rattle.pnm_chain.proofs.Words.{arith, nat_lt, list_all, nat_tests, slice_split-cons_no, onto_first, and_parts, false_from_ne_true, ltb-false, le-ltb}
+use Rattle.pnm_chain.proofs.Words.{is_white, words, begins_in_word, words_by, words-cons, words-nil, Tool, ChainFault, ChainKind, Empty, TooLong, TooMany}
+use Rattle.pnm_chain.proofs.Words.{ToolName, tool_named, items_of, meant_by, SpellsTool, SpellTools, SpellsChain, stage_texts, named_fault, words_fault}
+use Rattle.pnm_chain.proofs.Words.{stage_fault, whole_fault, IsOneChainOrOneFault, MAX_TEXT_LENGTH, MAX_TOOLS}
+use Rattle.pnm_chain.specs.ChainText.{fault_from}
+use Rattle.pnm_chain.specs.ChainText.{chain_fault_of}
 use Rattle.pnm_chain.proofs.ItemLaws.{items_mean, meaning_has_no_fault}
-use Rattle.pnm_chain.specs.declared.chain_text.TheConstants.{MAX_TEXT_LENGTH}
-use Rattle.pnm_tools.specs.declared.limits.TheConstants.{MAX_TOOLS}
 
 -- ---- a stage
 

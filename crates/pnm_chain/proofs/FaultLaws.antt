@@ -1,23 +1,11 @@
 -- The faults of chains' texts: each is of the whole text or of a stage by its number, and none is want of memory.
-use Rattle.std.proofs.Common.{◌≡◌, ◌≤◌, ◌<◌, inl, inr, ℕ, suc, ◌+◌, Bool, true, false, Option, Some, None, IfSome, List, [], ◌∷◌, ◌++◌, length, refl, sym}
-use Rattle.std.proofs.Common.{subst, arith}
-use Rattle.std.specs.Prelude.{nat_le, nat_lt, ◌≢◌}
-use Rattle.std.specs.List.{list_all}
-use Rattle.std.proofs.lemmas.Bool.{ltb-false}
-use Rattle.pnm_image.specs.Texts.{is_white, words}
-use Rattle.pnm_chain.specs.declared.chain_text.ChainFault.{ChainFault}
-use Rattle.pnm_chain.specs.declared.chain_text.ChainKind.{ChainKind}
-use Rattle.pnm_chain.specs.declared.chain_text.ChainKind.TheVariants.{Empty, TooLong, TooMany, Memory}
-use Rattle.pnm_chain.specs.declared.options.ToolName.{ToolName}
-use Rattle.pnm_chain.specs.declared.options.ToolOption.{ToolOption}
-use Rattle.pnm_chain.specs.Options.{tool_named, wants_value, takes_value, most_arguments, takes_argument}
-use Rattle.pnm_chain.specs.StageWords.{Item, Argument, Given, Unknown, items_of, arguments_of, is_there, value_fault, is_conflict, is_missing, item_fault}
-use Rattle.pnm_chain.specs.StageWords.{fault_after}
-use Rattle.pnm_chain.specs.ChainText.{stage_texts, named_fault, words_fault, stage_fault, fault_from, chain_fault_of, is_of_stage, IsPlaced}
+use Rattle.pnm_chain.proofs.Words.{◌≡◌, ◌≤◌, ◌<◌, inl, inr, ℕ, suc, ◌+◌, Bool, true, false, Option, Some, None, IfSome, List, [], ◌∷◌, ◌++◌, length, refl, sym}
+use Rattle.pnm_chain.proofs.Words.{subst, arith, nat_le, nat_lt, ◌≢◌, list_all, ltb-false, is_white, words, ChainFault, ChainKind, Empty, TooLong, TooMany}
+use Rattle.pnm_chain.proofs.Words.{Memory, ToolName, ToolOption, tool_named, wants_value, takes_value, most_arguments, takes_argument, Item, Argument, Given}
+use Rattle.pnm_chain.proofs.Words.{Unknown, items_of, arguments_of, is_there, value_fault, is_conflict, is_missing, item_fault, fault_after, stage_texts}
+use Rattle.pnm_chain.proofs.Words.{named_fault, words_fault, stage_fault, fault_from, chain_fault_of, is_of_stage, IsPlaced, MAX_TEXT_LENGTH, MAX_TOOLS}
 use Rattle.pnm_chain.proofs.ItemLaws.{argument_by, option_by, value_by, missing_by, end_by, after_by, fault_after-cons, fault_after-nil}
 use Rattle.pnm_chain.proofs.ChainLaws.{from_by, fault_from-cons, fault_from-nil, chain_fault_by, chain_fault_is}
-use Rattle.pnm_chain.specs.declared.chain_text.TheConstants.{MAX_TEXT_LENGTH}
-use Rattle.pnm_tools.specs.declared.limits.TheConstants.{MAX_TOOLS}
 
 -- ---- kinds of a stage's faults
 

@@ -1,21 +1,12 @@
 -- Items without a fault mean one tool, and items that mean a tool have no fault.
-use Rattle.std.proofs.Common.{◌≡◌, ◌≤◌, ℕ, ◌+◌, ◌==◌, ◌||◌, Bool, true, false, not, if◌then◌else◌, Option, Some, None, is_some, unwrap_or, List, [], ◌∷◌, ◌++◌}
-use Rattle.std.proofs.Common.{length, refl, sym, ap, subst, ◌∙◌, append-nil, append_assoc, arith}
-use Rattle.std.specs.List.{AllByRecursion, IsDistinct}
-use Rattle.std.specs.Prelude.{nat_le}
-use Rattle.std.proofs.lemmas.List.{length-append}
-use Rattle.std.proofs.Math.Bool.{or-false, or_assoc}
-use Rattle.std.proofs.lemmas.Bool.Decides.{nat_tests}
-use Rattle.std.proofs.lemmas.Bool.{or_parts, or_from, not-true, leb-false, lt-leb}
-use Rattle.std.proofs.lemmas.Map.Keys.{IsDistinct-cons}
-use Rattle.pnm_tools.specs.declared.tool.Tool.{Tool}
-use Rattle.pnm_chain.specs.declared.chain_text.ChainKind.{ChainKind}
-use Rattle.pnm_chain.specs.declared.chain_text.ChainKind.TheVariants.{BadValue, MissingValue, Conflict, MissingArgument, ExtraArgument}
-use Rattle.pnm_chain.specs.declared.options.ToolName.{ToolName}
-use Rattle.pnm_chain.specs.declared.options.ToolOption.{ToolOption}
-use Rattle.pnm_chain.specs.Options.{most_arguments, takes_argument, takes_value, wants_value, slot_of, excludes}
-use Rattle.pnm_chain.specs.StageWords.{Item, Argument, Given, Unknown, arguments_of, is_there, option_value, options_of, value_fault, IsFormed, is_conflict}
-use Rattle.pnm_chain.specs.StageWords.{is_missing, Means, meant_by, item_fault, end_fault, fault_after}
+use Rattle.pnm_chain.proofs.Words.{◌≡◌, ◌≤◌, ℕ, ◌+◌, ◌==◌, ◌||◌, Bool, true, false, not, if◌then◌else◌, Option, Some, None, is_some, unwrap_or, List, [], ◌∷◌}
+use Rattle.pnm_chain.proofs.Words.{◌++◌, length, refl, sym, ap, subst, ◌∙◌, append-nil, append_assoc, arith, AllByRecursion, nat_le, length-append, or-false}
+use Rattle.pnm_chain.proofs.Words.{or_assoc, nat_tests, or_parts, or_from, not-true, leb-false, lt-leb, IsDistinct-cons, Tool, ChainKind, BadValue}
+use Rattle.pnm_chain.proofs.Words.{MissingValue, Conflict, MissingArgument, ExtraArgument, ToolName, ToolOption, most_arguments, takes_argument, takes_value}
+use Rattle.pnm_chain.proofs.Words.{wants_value, slot_of, excludes, Item, Argument, Given, Unknown, arguments_of, is_there, option_value, options_of}
+use Rattle.pnm_chain.proofs.Words.{value_fault, IsFormed, is_conflict, is_missing, Means, meant_by, item_fault, end_fault}
+use Rattle.std.specs.List.{IsDistinct}
+use Rattle.pnm_chain.specs.StageWords.{fault_after}
 
 -- ---- arguments of items that follow others
 

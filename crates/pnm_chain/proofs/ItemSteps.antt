@@ -1,22 +1,11 @@
 -- An option's word taken apart, and the item that words begin with.
-use Rattle.std.proofs.Common.{◌≡◌, ◌⊎◌, inl, inr, ℕ, ◌+◌, ◌-◌, ◌≤◌, ◌==◌, Bool, true, false, not, ◌&&◌, cond, if◌then◌else◌, Option, Some, None, is_some, List}
-use Rattle.std.proofs.Common.{[], ◌∷◌, length, take, drop, nat_eq, refl, sym, ap, ◌∙◌, arith}
-use Rattle.std.specs.Prelude.{nat_lt}
-use Rattle.std.specs.List.{list_any, position_or_len, position, before_first, after_first, starts_with}
-use Rattle.std.specs.Option.{option_or, option_map_or}
-use Rattle.std.proofs.lemmas.Bool.Decides.{nat_tests}
-use Rattle.std.proofs.lemmas.List.{take_all, length-drop}
-use Rattle.std.proofs.lemmas.List.Folds.{list_any_at, list_any_none}
-use Rattle.std.proofs.lemmas.List.Quantifiers.{position-Some}
-use Rattle.std.proofs.lemmas.List.Sums.{fails_before_first}
-use denote.Ref.{Bor}
-use Rattle.std.proofs.lemmas.Bool.{ltb-false, and_right, not_from_true}
-use Rattle.std.proofs.lemmas.Option.{cond_some}
-use Rattle.pnm_chain.specs.declared.options.ToolName.{ToolName}
-use Rattle.pnm_chain.specs.declared.options.ToolOption.{ToolOption}
-use Rattle.pnm_chain.specs.Options.{option_named, wants_value, begins_with_dash}
-use Rattle.pnm_chain.specs.StageWords.{Item, Argument, Given, Unknown, without_dashes, name_in, value_in, takes_next, given_as, item_of, items_of}
-use Rattle.pnm_chain.specs.Internal.Settings.{value_read}
+use Rattle.pnm_chain.proofs.Words.{◌≡◌, ◌⊎◌, inl, inr, ℕ, ◌+◌, ◌-◌, ◌≤◌, ◌==◌, Bool, true, false, not, ◌&&◌, cond, if◌then◌else◌, Option, Some, None, is_some}
+use Rattle.pnm_chain.proofs.Words.{List, [], ◌∷◌, length, take, drop, nat_eq, refl, sym, ap, ◌∙◌, arith, nat_lt, list_any, position_or_len, position}
+use Rattle.pnm_chain.proofs.Words.{before_first, after_first, starts_with, option_or, option_map_or, nat_tests, take_all, length-drop, list_any_at}
+use Rattle.pnm_chain.proofs.Words.{list_any_none, position-Some, fails_before_first, Bor, ltb-false, and_right, not_from_true, cond_some, ToolName, ToolOption}
+use Rattle.pnm_chain.proofs.Words.{option_named, wants_value, begins_with_dash, Item, Argument, Given, Unknown, without_dashes, name_in, value_in, takes_next}
+use Rattle.pnm_chain.proofs.Words.{given_as, item_of, value_read}
+use Rattle.pnm_chain.specs.StageWords.{items_of}
 
 -- ---- the name and the value in an option's word
 

@@ -1,33 +1,17 @@
 -- The tools that a text spells are a chain that can be run: 1 to MAX_TOOLS, with options in their ranges.
-use Rattle.std.proofs.Common.{◌≡◌, ◌≤◌, ℕ, zero, suc, ◌+◌, ◌-◌, ◌==◌, ◌&&◌, Bool, true, false, not, if◌then◌else◌, ℤ, pos, Option, Some, None, is_some}
-use Rattle.std.proofs.Common.{option_map, unwrap_or, IfSome, IsSome, List, [], ◌∷◌, length, map, drop, refl, sym, ap, subst, ◌∙◌, arith}
-use Rattle.std.specs.Prelude.{◌≢◌, nat_le, nat_lt, slice_index, slice_index_or, neg_ℤ, unsigned_abs, All}
-use Rattle.std.specs.Option.{option_or}
-use Rattle.std.specs.List.{AllByRecursion, list_all, list_any, after_first, onto_first, position_or_len}
-use Rattle.std.proofs.lemmas.List.{length-map}
-use Rattle.std.proofs.lemmas.List.Elements.{All-cons, All-nil}
-use Rattle.std.proofs.lemmas.List.Splits.{length-slice_split}
-use Rattle.std.proofs.lemmas.Bool.Decides.{nat_tests}
-use Rattle.std.proofs.lemmas.Bool.{and_parts, and_from, or_parts, leb-true, ltb-false, eqb-true, not-true, both_ways, false≢true}
-use Rattle.pnm_image.specs.declared.limits.TheConstants.{MAX_DEPTH, MAX_MAXVAL, MAX_TUPLE_TYPE_LENGTH}
-use Rattle.pnm_image.specs.Heads.{IsTupleType}
-use Rattle.pnm_image.specs.Texts.{is_blank, is_white, words, decimal_value}
-use Rattle.pnm_image.proofs.Words.{begins_in_word, words_by, words-cons, words-nil}
-use Rattle.pnm_tools.specs.declared.tool.Tool.{Tool}
-use Rattle.pnm_tools.specs.Cut.{IsEdge, IsLawfulAxis}
-use Rattle.pnm_tools.specs.ToolLimits.{IsExtent}
-use Rattle.pnm_tools.specs.Chains.{AreLawfulTools, IsChain}
-use Rattle.pnm_tools.specs.Tools.{IsLawfulTool}
-use Rattle.pnm_chain.specs.declared.options.ToolName.{ToolName}
-use Rattle.pnm_chain.specs.declared.options.ToolName.TheVariants.{Invert, Cut, Depth, Channel, Enlarge, Flip, Tile}
-use Rattle.pnm_chain.specs.declared.options.ToolOption.{ToolOption}
-use Rattle.pnm_chain.specs.declared.options.ToolOption.TheVariants.{Left, Right, Top, Bottom, Width, Height, TupleType, XScale, YScale, Way}
-use Rattle.pnm_chain.specs.Options.{option_named, wants_value, takes_value, slot_of, excludes, takes_argument, most_arguments, is_numeral, spells_number}
-use Rattle.pnm_chain.specs.Options.{factor_by, spells_offset, offset_value, begins_with_dash, without_dash}
-use Rattle.pnm_chain.specs.StageWords.{Item, Argument, Given, Unknown, without_dashes, name_in, value_in, takes_next, given_as, item_of, items_of, arguments_of}
-use Rattle.pnm_chain.specs.StageWords.{option_value, meant_by, IsFormed, is_conflict, is_missing}
-use Rattle.pnm_chain.specs.ChainText.{SpellsTool, SpellTools, SpellsChain, stage_texts}
-use Rattle.pnm_tools.specs.declared.limits.TheConstants.{MAX_EXTENT, MAX_TOOLS}
+use Rattle.pnm_chain.proofs.Words.{◌≡◌, ◌≤◌, ℕ, zero, suc, ◌+◌, ◌-◌, ◌==◌, ◌&&◌, Bool, true, false, not, if◌then◌else◌, ℤ, pos, Option, Some, None, is_some}
+use Rattle.pnm_chain.proofs.Words.{option_map, unwrap_or, IfSome, IsSome, List, [], ◌∷◌, length, map, drop, refl, sym, ap, subst, ◌∙◌, arith, ◌≢◌, nat_le}
+use Rattle.pnm_chain.proofs.Words.{nat_lt, slice_index, slice_index_or, neg_ℤ, unsigned_abs, All, option_or, AllByRecursion, list_all, list_any, after_first}
+use Rattle.pnm_chain.proofs.Words.{onto_first, position_or_len, length-map, All-cons, All-nil, length-slice_split, nat_tests, and_parts, and_from, or_parts}
+use Rattle.pnm_chain.proofs.Words.{leb-true, ltb-false, eqb-true, not-true, both_ways, false≢true, MAX_DEPTH, MAX_MAXVAL, MAX_TUPLE_TYPE_LENGTH, IsTupleType}
+use Rattle.pnm_chain.proofs.Words.{is_blank, is_white, words, decimal_value, begins_in_word, words_by, words-cons, words-nil, Tool, IsEdge, IsLawfulAxis}
+use Rattle.pnm_chain.proofs.Words.{IsExtent, AreLawfulTools, IsChain, IsLawfulTool, ToolName, Invert, Cut, Depth, Channel, Enlarge, Flip, Tile, ToolOption}
+use Rattle.pnm_chain.proofs.Words.{Left, Right, Top, Bottom, Width, Height, TupleType, XScale, YScale, Way, option_named, wants_value, takes_value, slot_of}
+use Rattle.pnm_chain.proofs.Words.{excludes, takes_argument, most_arguments, is_numeral, spells_number, factor_by, spells_offset, offset_value}
+use Rattle.pnm_chain.proofs.Words.{begins_with_dash, without_dash, Item, Argument, Given, Unknown, without_dashes, name_in, value_in, takes_next, given_as}
+use Rattle.pnm_chain.proofs.Words.{item_of, arguments_of, option_value, meant_by, IsFormed, is_conflict, is_missing, SpellsTool, SpellTools, SpellsChain}
+use Rattle.pnm_chain.proofs.Words.{stage_texts, MAX_EXTENT, MAX_TOOLS}
+use Rattle.pnm_chain.specs.StageWords.{items_of}
 
 -- ---- options that are the same
 

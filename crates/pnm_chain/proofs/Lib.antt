@@ -1,3 +1,4 @@
+mod Words
 pub mod NameLaws
 pub mod WordLaws
 pub mod ItemSteps

@@ -1,15 +1,7 @@
 -- The tool that settings mean, and their fault, are those of their items.
-use Rattle.std.proofs.Common.{◌≡◌, Bool, true, false, None, List, Result, IfOk, IfErr, inl, inr, sym, ap, ◌∙◌}
-use Rattle.std.proofs.lemmas.Result.{IfOk-weaker, IfErr-weaker}
-use Rattle.pnm_chain.specs.declared.chain_text.ChainKind.{ChainKind}
-use Rattle.pnm_chain.specs.declared.chain_text.ChainKind.TheVariants.{Conflict, Memory, MissingArgument}
-use Rattle.pnm_tools.specs.declared.tool.Tool.{Tool}
-use Rattle.pnm_chain.specs.declared.options.ToolName.{ToolName}
-use Rattle.pnm_chain.specs.declared.settings.Settings.{Settings}
-use Rattle.pnm_chain.specs.Options.{Said, tool_rule}
-use Rattle.pnm_chain.specs.StageWords.{Item, is_conflict, is_missing, meant_by, end_fault}
-use Rattle.pnm_chain.specs.Internal.Settings.{AreSettingsOf, AreTaken, said_by}
-use Rattle.pnm_chain.specs.Internal.ChainText.{IsRefusal}
+use Rattle.pnm_chain.proofs.Words.{◌≡◌, Bool, true, false, None, List, Result, IfOk, IfErr, inl, inr, sym, ap, ◌∙◌, IfOk-weaker, IfErr-weaker, ChainKind}
+use Rattle.pnm_chain.proofs.Words.{Conflict, Memory, MissingArgument, Tool, ToolName, Settings, Said, tool_rule, Item, is_conflict, is_missing, meant_by}
+use Rattle.pnm_chain.proofs.Words.{end_fault, AreSettingsOf, AreTaken, said_by, IsRefusal}
 use Rattle.pnm_chain.proofs.ItemLaws.{end_by}
 
 module _ (tool : ToolName) (s : Settings) where

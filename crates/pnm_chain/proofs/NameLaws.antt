@@ -1,7 +1,6 @@
 -- The names of tools and options, one after another.
-use Rattle.std.proofs.Common.{◌≡◌, Bool, true, false, Option, Some, refl}
+use Rattle.pnm_chain.proofs.Words.{◌≡◌, Bool, true, false, Option, Some, refl, option_or}
 use Rattle.std.specs.Prelude.{if◌then◌else◌}
-use Rattle.std.specs.Option.{option_or}
 
 -- what is tried after a test is tried where the test fails
 pub tried_after : {T : Type 0} (test : Bool) (named : T) (before after : Option T)

@@ -1,23 +1,14 @@
 -- The numbers that words spell: what `parse` reads, and an offset with a dash.
-use Rattle.std.proofs.Common.{◌≡◌, ◌≢◌, ℕ, ◌-◌, ◌<◌, ◌≤◌, ◌^◌, ℤ, pos, neg_ℤ, ◌-ℤ◌, to_z, of_z, w32, Bool, true, false, ◌&&◌, if◌then◌else◌, Option, Some, None}
-use Rattle.std.proofs.Common.{Result, Ok, Err, MatchResult, List, [], ◌∷◌, length, get_or, take, drop, ◌==◌, nat_eq, nat_le, refl, sym, ap, subst, ◌∙◌, arith}
+use Rattle.pnm_chain.proofs.Words.{◌≡◌, ℕ, ◌-◌, ◌<◌, ◌≤◌, ◌^◌, ℤ, pos, ◌-ℤ◌, to_z, of_z, w32, Bool, true, false, ◌&&◌, if◌then◌else◌, Option, Some, None}
+use Rattle.pnm_chain.proofs.Words.{Result, Ok, Err, MatchResult, List, [], ◌∷◌, length, get_or, take, drop, ◌==◌, nat_eq, refl, sym, ap, subst, ◌∙◌, arith}
+use Rattle.pnm_chain.proofs.Words.{list_all, starts_with, OkIff, result_ok, IsAscii, IsUtf8, ParsesUnsigned, eq-eqb, and_parts, and_from, and_left, cond-true}
+use Rattle.pnm_chain.proofs.Words.{cond-false, false_from_ne_true, nat_tests, ints, take_all, same_Some, IsUtf8-from_ascii, IsAscii-nil, IsAscii-cons}
+use Rattle.pnm_chain.proofs.Words.{IsDigitsTest, IsNumeralModel, numerals_by_value, parse_plain, is_digit, decimal_value, begins_with_dash, is_numeral}
+use Rattle.pnm_chain.proofs.Words.{offset_value, spells_number, spells_offset, without_dash, MAX_EXTENT}
+use Rattle.std.proofs.Common.{◌≢◌, neg_ℤ}
+use Rattle.std.proofs.Common.{nat_le}
 use denote.Bor.{Bor}
-use Rattle.std.specs.List.{list_all, starts_with}
-use Rattle.std.specs.Result.{OkIff, result_ok}
-use Rattle.std.specs.Str.{IsAscii, IsUtf8}
-use Rattle.std.specs.Str.Parse.{ParsesUnsigned}
-use Rattle.std.proofs.lemmas.Bool.{eq-eqb, and_parts, and_from, and_left, cond-true, cond-false, false_from_ne_true}
-use Rattle.std.proofs.lemmas.Bool.Decides.{nat_tests}
-use Rattle.std.proofs.lemmas.Int.{ints}
-use Rattle.std.proofs.lemmas.List.{take_all}
-use Rattle.std.proofs.lemmas.Option.{same_Some}
-use Rattle.std.proofs.lemmas.Str.{IsUtf8-from_ascii}
-use Rattle.std.proofs.lemmas.Str.Ascii.{IsAscii-nil, IsAscii-cons}
-use Rattle.std.proofs.lemmas.Str.Parse.{IsDigitsTest, IsNumeralModel, numerals_by_value, parse_plain}
-use Rattle.pnm_image.specs.Texts.{is_digit, decimal_value}
-use Rattle.pnm_chain.specs.Options.{begins_with_dash, is_numeral, offset_value, spells_number, spells_offset, without_dash}
 use Rattle.pnm_chain.proofs.LawfulLaws.{in_range as spelled_in_range}
-use Rattle.pnm_tools.specs.declared.limits.TheConstants.{MAX_EXTENT}
 
 abbrev AreDigits : List ℕ → Type 0
 AreDigits word = list_all is_digit word ≡ true

@@ -1,24 +1,10 @@
 -- A chain while it is read, stage by stage.
-use Rattle.std.proofs.Common.{◌≡◌, ◌≤◌, ◌<◌, ◌⊎◌, inl, inr, ℕ, suc, ◌+◌, ◌&&◌, Bool, true, false, Option, Some, None, is_some, List, [], ◌∷◌, ◌++◌, length}
-use Rattle.std.proofs.Common.{take, drop, get_or, refl, sym, ap, subst, ◌∙◌, arith}
-use Rattle.std.specs.Prelude.{nat_lt, MatchOption}
-use Rattle.std.specs.List.{list_all, onto_first}
-use denote.Ref.{Bor}
-use Rattle.std.proofs.Math.Seq.{take-length, drop-cons}
-use Rattle.std.proofs.lemmas.List.{take_more, length-append}
-use Rattle.std.proofs.lemmas.Bool.{false_from_ne_true, le-ltb, lt-ltb}
-use Rattle.pnm_image.specs.Texts.{is_white, words}
-use Rattle.pnm_image.proofs.Lists.{not_nil}
-use Rattle.pnm_image.proofs.Words.{begins_in_word, words_by, words-cons}
-use Rattle.pnm_tools.specs.declared.tool.Tool.{Tool}
-use Rattle.pnm_chain.specs.declared.chain_text.ChainFault.{ChainFault}
-use Rattle.pnm_chain.specs.declared.chain_text.ChainKind.{ChainKind}
-use Rattle.pnm_chain.specs.declared.chain_text.ChainKind.TheVariants.{Empty, TooLong, TooMany, Memory}
-use Rattle.pnm_chain.specs.ChainText.{SpellsTool, SpellTools, SpellsChain, stage_texts, stage_fault, fault_from, whole_fault, chain_fault_of}
-use Rattle.pnm_chain.specs.Internal.Settings.{AreRead}
+use Rattle.pnm_chain.proofs.Words.{◌≡◌, ◌≤◌, ◌<◌, ◌⊎◌, inl, inr, ℕ, suc, ◌+◌, ◌&&◌, Bool, true, false, Option, Some, None, is_some, List, [], ◌∷◌, ◌++◌, length}
+use Rattle.pnm_chain.proofs.Words.{take, drop, get_or, refl, sym, ap, subst, ◌∙◌, arith, nat_lt, MatchOption, list_all, onto_first, Bor, take-length, drop-cons}
+use Rattle.pnm_chain.proofs.Words.{take_more, length-append, false_from_ne_true, le-ltb, lt-ltb, is_white, words, not_nil, begins_in_word, words_by, words-cons}
+use Rattle.pnm_chain.proofs.Words.{Tool, ChainFault, ChainKind, Empty, TooLong, TooMany, Memory, SpellsTool, SpellTools, SpellsChain, stage_texts, stage_fault}
+use Rattle.pnm_chain.proofs.Words.{fault_from, whole_fault, chain_fault_of, AreRead, MAX_TEXT_LENGTH, MAX_TOOLS}
 use Rattle.pnm_chain.proofs.ChainLaws.{no_words, from_by, fault_from-cons, chain_fault_by, chain_fault_is}
-use Rattle.pnm_chain.specs.declared.chain_text.TheConstants.{MAX_TEXT_LENGTH}
-use Rattle.pnm_tools.specs.declared.limits.TheConstants.{MAX_TOOLS}
 
 -- ---- stages
 

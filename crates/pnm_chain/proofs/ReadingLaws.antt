@@ -1,16 +1,8 @@
 -- A stage while it is read, item by item.
-use Rattle.std.proofs.Common.{◌≡◌, ◌⊎◌, inl, inr, ℕ, Option, Some, None, List, [], ◌∷◌, ◌++◌, refl, sym, ap, subst, ◌∙◌, append-nil, append_assoc}
+use Rattle.pnm_chain.proofs.Words.{◌≡◌, ◌⊎◌, inl, inr, ℕ, Option, Some, None, List, [], ◌∷◌, ◌++◌, refl, sym, ap, subst, ◌∙◌, append-nil, append_assoc, words}
+use Rattle.pnm_chain.proofs.Words.{Tool, ChainKind, Memory, ToolName, Settings, tool_named, Item, items_of, Means, meant_by, item_fault, end_fault, fault_after}
+use Rattle.pnm_chain.proofs.Words.{AreSettingsOf, IsReading, SpellsTool, named_fault, words_fault, stage_fault}
 use Rattle.std.specs.Prelude.{Result, Ok, Err, IfOk, IfErr}
-use Rattle.pnm_image.specs.Texts.{words}
-use Rattle.pnm_tools.specs.declared.tool.Tool.{Tool}
-use Rattle.pnm_chain.specs.declared.chain_text.ChainKind.{ChainKind}
-use Rattle.pnm_chain.specs.declared.chain_text.ChainKind.TheVariants.{Memory}
-use Rattle.pnm_chain.specs.declared.options.ToolName.{ToolName}
-use Rattle.pnm_chain.specs.declared.settings.Settings.{Settings}
-use Rattle.pnm_chain.specs.Options.{tool_named}
-use Rattle.pnm_chain.specs.StageWords.{Item, items_of, Means, meant_by, item_fault, end_fault, fault_after}
-use Rattle.pnm_chain.specs.Internal.Settings.{AreSettingsOf, IsReading}
-use Rattle.pnm_chain.specs.ChainText.{SpellsTool, named_fault, words_fault, stage_fault}
 use Rattle.pnm_chain.proofs.ItemSteps.{items_of-nil}
 use Rattle.pnm_chain.proofs.ItemLaws.{after_by, fault_after-cons, fault_after-nil, items_mean}
 

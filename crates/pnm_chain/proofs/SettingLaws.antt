@@ -1,23 +1,12 @@
 -- The settings of items and of one item more, an option or an argument.
-use Rattle.std.proofs.Common.{◌≡◌, ◌≤◌, ℕ, Bool, true, false, nat_le, if◌then◌else◌, Option, Some, None, is_some, option_map, unwrap_or, Result}
-use Rattle.std.proofs.Common.{OnOk, IfErr, List, [], ◌∷◌, ◌++◌, length, map, ◌⊎◌, inr, refl, sym, ap, subst, ◌∙◌, append-nil}
-use Rattle.std.proofs.lemmas.Bool.{cond-true, cond-false}
-use Rattle.std.proofs.lemmas.List.{length-map, map-append}
-use Rattle.std.proofs.lemmas.List.Elements.{All-append, All-cons, All-nil}
-use Rattle.std.proofs.lemmas.Result.{IfErr-weaker, on_ok_weaker}
-use Rattle.std.specs.Option.{option_or}
-use Rattle.pnm_image.specs.Texts.{decimal_value}
-use Rattle.pnm_tools.specs.declared.flip.FlipWay.{FlipWay}
-use Rattle.pnm_chain.specs.declared.chain_text.ChainKind.{ChainKind}
-use Rattle.pnm_chain.specs.declared.chain_text.ChainKind.TheVariants.{Conflict, Memory, MissingValue}
-use Rattle.pnm_chain.specs.declared.options.ToolName.{ToolName}
-use Rattle.pnm_chain.specs.declared.options.ToolOption.{ToolOption}
-use Rattle.pnm_chain.specs.declared.options.ToolOption.TheVariants.{Left, Right, Top, Bottom, Width, Height, TupleType, XScale, YScale, Way}
-use Rattle.pnm_chain.specs.declared.settings.Settings.{Settings}
-use Rattle.pnm_chain.specs.Options.{Said, arguments_taken, excludes, most_arguments, offset_value, takes_argument, way_in, wants_value}
-use Rattle.pnm_chain.specs.StageWords.{Item, Argument, Given, Unknown, arguments_of, option_value, is_there, way_of, numbers_of}
-use Rattle.pnm_chain.specs.StageWords.{said_of, item_fault, value_fault}
-use Rattle.pnm_chain.specs.Internal.Settings.{AreSettingsOf, AreTaken, NowSay, argument_fault, has_option, said_by, with_number, with_option}
+use Rattle.pnm_chain.proofs.Words.{◌≡◌, ◌≤◌, ℕ, Bool, true, false, if◌then◌else◌, Option, Some, None, is_some, option_map, unwrap_or, Result, OnOk, IfErr, List}
+use Rattle.pnm_chain.proofs.Words.{[], ◌∷◌, ◌++◌, length, map, ◌⊎◌, inr, refl, sym, ap, subst, ◌∙◌, append-nil, cond-true, cond-false, length-map, map-append}
+use Rattle.pnm_chain.proofs.Words.{All-append, All-cons, All-nil, IfErr-weaker, on_ok_weaker, option_or, decimal_value, FlipWay, ChainKind, Conflict, Memory}
+use Rattle.pnm_chain.proofs.Words.{MissingValue, ToolName, ToolOption, Left, Right, Top, Bottom, Width, Height, TupleType, XScale, YScale, Way, Settings, Said}
+use Rattle.pnm_chain.proofs.Words.{arguments_taken, excludes, most_arguments, offset_value, takes_argument, way_in, wants_value, Item, Argument, Given, Unknown}
+use Rattle.pnm_chain.proofs.Words.{arguments_of, option_value, is_there, way_of, numbers_of, said_of, item_fault, value_fault, AreSettingsOf, AreTaken, NowSay}
+use Rattle.pnm_chain.proofs.Words.{argument_fault, has_option, said_by, with_number, with_option}
+use Rattle.std.proofs.Common.{nat_le}
 use Rattle.pnm_chain.proofs.ItemSteps.{or_none}
 use Rattle.pnm_chain.proofs.ItemLaws.{argument_by, argument_free, arguments_of-append}
 use Rattle.pnm_chain.proofs.LawfulLaws.{in_range}

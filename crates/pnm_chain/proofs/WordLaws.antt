@@ -1,13 +1,7 @@
 -- The first word of a text, and the words after it.
-use Rattle.std.proofs.Common.{◌≡◌, ◌⊎◌, inl, inr, ℕ, ◌+◌, ◌-◌, ◌<◌, ◌≤◌, Bool, true, false, not, ◌&&◌, List, [], ◌∷◌, ◌++◌, length, take, drop, get_or, sym, ap}
-use Rattle.std.proofs.Common.{◌∙◌, arith}
-use Rattle.std.specs.List.{list_all, onto_first}
-use Rattle.std.proofs.lemmas.List.Folds.{list_all_more}
-use Rattle.std.proofs.lemmas.List.{drop_more, drop_all, take-append-drop, length-take, length-drop}
-use Rattle.pnm_image.specs.Texts.{is_white, words}
-use Rattle.pnm_image.proofs.Lists.{first_and_rest}
-use Rattle.pnm_image.proofs.BoolLaws.{not_and_parts}
-use Rattle.pnm_image.proofs.Words.{begins_in_word, words_by, words-cons, words-nil}
+use Rattle.pnm_chain.proofs.Words.{◌≡◌, ◌⊎◌, inl, inr, ℕ, ◌+◌, ◌-◌, ◌<◌, ◌≤◌, Bool, true, false, not, ◌&&◌, List, [], ◌∷◌, ◌++◌, length, take, drop, get_or}
+use Rattle.pnm_chain.proofs.Words.{sym, ap, ◌∙◌, arith, list_all, onto_first, list_all_more, drop_more, drop_all, take-append-drop, length-take, length-drop}
+use Rattle.pnm_chain.proofs.Words.{is_white, words, first_and_rest, not_and_parts, begins_in_word, words_by, words-cons, words-nil}
 
 -- ---- white space before the first word
 

@@ -1,37 +1,11 @@
 -- How a tool at work gives what waits.
-use Rattle.std.proofs.Common.{◌≡◌, ◌≤◌, inl, inr, ℕ, true, List, [], ◌∷◌, ◌++◌, length, refl, sym, ap, subst, ◌∙◌, append_assoc, Option, Some, None, arith}
-use Rattle.std.specs.Prelude.{IfSome, IfNone}
-use Rattle.std.proofs.lemmas.List.{same_from_push}
-use Rattle.pnm_image.specs.declared.shape.Shape.{Shape}
-use Rattle.pnm_image.specs.declared.message.Message.{Message}
-use Rattle.pnm_image.specs.declared.message.Message.TheVariants.{Begin, Row, ImageEnd, StreamEnd, Stop}
-use Rattle.pnm_image.specs.declared.packet.Packet.{Packet}
-use Rattle.pnm_image.specs.Heads.{HeadValue}
-use Rattle.pnm_image.specs.Packets.{messages_in}
-use Rattle.pnm_image.specs.declared.place.Place.{Place}
-use Rattle.pnm_image.specs.declared.place.Place.TheVariants.{Between, Inside, After}
-use Rattle.pnm_image.specs.Places.{IsLawfulFrom, place_after, place_of}
-use Rattle.pnm_image.proofs.Places.{place_of-append}
-use Rattle.pnm_tools.specs.declared.fault.ToolFault.{ToolFault}
-use Rattle.pnm_filters.specs.declared.pending.Pending.{Pending}
-use Rattle.pnm_filters.specs.declared.pending.Phase.{Phase}
-use Rattle.pnm_filters.specs.declared.pending.Phase.TheVariants.{Idle, Rows, RowsAndEnd, Done}
-use Rattle.pnm_filters.specs.declared.pending.Phase.TheVariants.{StreamEnd as GivesEnd, Stop as GivesStop}
-use Rattle.pnm_filters.specs.Pendings.{is_all_given, is_idle, waiting_by, waiting_in}
-use Rattle.pnm_tools.specs.declared.tool.Tool.{Tool}
-use Rattle.pnm_image.specs.declared.message.Ending.TheVariants.{More, BrokenOff}
-use Rattle.pnm_image.specs.Messages.{EndsBy}
-use Rattle.pnm_tools.specs.Answers.{AnswersInFull}
-use Rattle.pnm_tools.specs.Answering.{answers_from, rows_come}
-use Rattle.pnm_filters.specs.States.{StateValue, IsAt, SuitsPlace}
-use Rattle.pnm_filters.specs.Internal.States.{state_value}
-use Rattle.pnm_tools.specs.Answering.{IsAnswering}
-use Rattle.pnm_filters.specs.Internal.Steps.{IsGiven, GivesRows}
-use Rattle.pnm_tools.proofs.AtLaws.{StopsLast, lawful_stops, not_broken, answering_answers}
-use Rattle.pnm_tools.proofs.FullLaws.{answering_in_full}
-use Rattle.pnm_tools.proofs.InFullLaws.{answers_end_so}
-use Rattle.pnm_tools.proofs.AnsweringLaws.{answers_from-append}
-use Rattle.pnm_tools.proofs.ToolLaws.{tool_answers_images}
+use Rattle.pnm_filters.proofs.Words.{◌≡◌, ◌≤◌, inl, inr, ℕ, true, List, [], ◌∷◌, ◌++◌, length, refl, sym, ap, subst, ◌∙◌, append_assoc, Option, Some, None}
+use Rattle.pnm_filters.proofs.Words.{arith, IfSome, IfNone, same_from_push, Shape, Message, Begin, Row, ImageEnd, StreamEnd, Stop, Packet, HeadValue}
+use Rattle.pnm_filters.proofs.Words.{messages_in, Place, Between, Inside, After, IsLawfulFrom, place_after, place_of, place_of-append, ToolFault, Pending}
+use Rattle.pnm_filters.proofs.Words.{Phase, Idle, Rows, RowsAndEnd, Done, GivesEnd, GivesStop, is_all_given, is_idle, waiting_by, waiting_in, Tool, More}
+use Rattle.pnm_filters.proofs.Words.{BrokenOff, EndsBy, AnswersInFull, answers_from, rows_come, StateValue, IsAt, SuitsPlace, state_value, IsAnswering, IsGiven}
+use Rattle.pnm_filters.proofs.Words.{GivesRows, StopsLast, lawful_stops, not_broken, answering_answers, answering_in_full, answers_end_so, answers_from-append}
+use Rattle.pnm_filters.proofs.Words.{tool_answers_images}
 
 -- the first of the messages that waited are given
 pub gave : {W : Type 0} (tool_at : W → Tool) (ready_for : W → Shape → List (List ℕ) → Type 0) (due kept : W → List (List ℕ)) (old : StateValue W) (new : W)

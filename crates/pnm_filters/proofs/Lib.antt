@@ -1,3 +1,4 @@
+mod Words
 pub mod TakingSteps
 pub mod StateSteps
 pub mod GivingSteps

@@ -1,20 +1,8 @@
 -- A row-wise tool at work in a lane takes and gives packets as the tool does.
-use Rattle.std.proofs.Common.{◌≡◌, ℕ, true, List, [], ◌∷◌, ◌++◌, Option, Some, None, Result, Ok, Err, OnOk, IfOk, IfSome, IfNone}
-use Rattle.std.specs.Prelude.{OnErr}
-use Rattle.pnm_image.specs.declared.message.Message.{Message}
-use Rattle.pnm_image.specs.declared.packet.Packet.{Packet}
-use Rattle.pnm_image.specs.Packets.{messages_in}
-use Rattle.pnm_tools.specs.declared.fault.ToolFault.{ToolFault}
-use Rattle.pnm_filters.specs.declared.row_state.RowState.{RowState}
-use Rattle.pnm_tools.specs.declared.tool.Tool.{Tool}
-use Rattle.pnm_filters.specs.declared.any_tool.AnyTool.{AnyTool}
-use Rattle.pnm_image.specs.declared.message.Ending.TheVariants.{BrokenOff}
-use Rattle.pnm_image.specs.Messages.{EndsBy}
-use Rattle.pnm_tools.specs.Answers.{AllMayCome, AnswersInFull, JudgesAll}
-use Rattle.pnm_filters.specs.RowStates.{IsRowWiseAt}
-use Rattle.pnm_filters.specs.AnyTools.{IsToolAt}
-use Rattle.pnm_filters.specs.Pendings.{is_all_given}
-use Rattle.pnm_filters.specs.States.{StateValue}
+use Rattle.pnm_filters.proofs.Words.{◌≡◌, ℕ, true, List, [], ◌∷◌, ◌++◌, Option, Some, None, Result, Ok, Err, OnOk, IfOk, OnErr, Message, Packet, messages_in}
+use Rattle.pnm_filters.proofs.Words.{ToolFault, RowState, Tool, AnyTool, BrokenOff, EndsBy, AllMayCome, AnswersInFull, JudgesAll, IsRowWiseAt, IsToolAt}
+use Rattle.pnm_filters.proofs.Words.{is_all_given, StateValue}
+use Rattle.std.proofs.Common.{IfSome, IfNone}
 
 abbrev pub lane_of : StateValue AnyTool → RowState
 lane_of s = record { state = s }

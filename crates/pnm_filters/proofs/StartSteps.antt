@@ -1,15 +1,6 @@
 -- A tool before its first message.
-use Rattle.std.proofs.Common.{[]}
-use Rattle.pnm_tools.specs.declared.tool.Tool.{Tool}
-use Rattle.pnm_filters.specs.declared.any_tool.AnyTool.{AnyTool}
-use Rattle.pnm_tools.specs.Answers.{Answers, AnswersInFull}
-use Rattle.pnm_filters.specs.declared.row_state.RowState.{RowState}
-use Rattle.pnm_filters.specs.RowStates.{IsRowWiseAt, IsFreshLane}
-use Rattle.pnm_filters.specs.AnyTools.{IsToolAt, IsFreshTool}
-use Rattle.pnm_filters.specs.Pendings.{is_all_given}
-use Rattle.pnm_filters.specs.States.{StateValue}
-use Rattle.pnm_tools.proofs.DueSoFarLaws.{nothing_yet}
-use Rattle.pnm_tools.specs.FusedFilters.{IsIdle}
+use Rattle.pnm_filters.proofs.Words.{[], Tool, AnyTool, Answers, AnswersInFull, RowState, IsRowWiseAt, IsFreshLane, IsToolAt, IsFreshTool, is_all_given}
+use Rattle.pnm_filters.proofs.Words.{StateValue, nothing_yet, IsIdle}
 
 -- nothing is a full answer to nothing
 nothing_is_full : (tool : Tool) → Answers tool [] [] → AnswersInFull tool [] []

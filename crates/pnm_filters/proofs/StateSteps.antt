@@ -1,32 +1,11 @@
 -- How a tool at work takes messages, and refuses the first of them.
-use Rattle.std.proofs.Common.{◌≡◌, ◌⊎◌, inl, inr, ℕ, Bool, true, List, [], ◌∷◌, ◌++◌, refl, sym, ap, subst, ◌∙◌, append-nil, length, Option, Some, None, Err}
-use Rattle.pnm_image.specs.declared.shape.Shape.{Shape}
-use Rattle.pnm_image.specs.declared.message.Message.{Message}
-use Rattle.pnm_image.specs.declared.packet.Packet.{Packet}
-use Rattle.pnm_image.specs.declared.message.Message.TheVariants.{Begin, Row, ImageEnd, StreamEnd, Stop}
-use Rattle.pnm_image.specs.declared.place.Place.{Place}
-use Rattle.pnm_image.specs.declared.place.Place.TheVariants.{Between}
-use Rattle.pnm_image.specs.Places.{Accepts, IsLawfulFrom, place_of}
-use Rattle.pnm_image.proofs.Places.{lawful_append, place_of-append}
-use Rattle.pnm_tools.specs.declared.fault.ToolFault.{ToolFault}
-use Rattle.pnm_tools.specs.declared.fault.ToolFault.TheVariants.{CutOutside, ChannelOutside, TooLarge, OutOfOrder, Memory}
-use Rattle.pnm_tools.specs.declared.tool.Tool.{Tool}
-use Rattle.pnm_tools.specs.Answers.{AllMayCome, Begins, RefusesFirst, RefusesHead, Judges}
-use Rattle.pnm_tools.specs.Answering.{IsAnswering, answers_from, rows_come}
-use Rattle.pnm_tools.specs.Tools.{AreTaken}
-use Rattle.pnm_tools.proofs.AtLaws.{answering_answers}
-use Rattle.pnm_tools.proofs.AnsweringLaws.{answers_from-append}
-use Rattle.pnm_tools.proofs.FusedSteps.{taken_append}
-use Rattle.pnm_tools.proofs.HeadFaultLaws.{head_is_refused_by_name}
-use Rattle.pnm_tools.proofs.ToolLaws.{tool_answers_images}
-use Rattle.pnm_filters.specs.declared.pending.Pending.{Pending}
-use Rattle.pnm_filters.specs.declared.pending.Phase.{Phase}
-use Rattle.pnm_filters.specs.declared.pending.Phase.TheVariants.{Idle, Rows, RowsAndEnd, Done}
-use Rattle.pnm_filters.specs.declared.pending.Phase.TheVariants.{StreamEnd as GivesEnd, Stop as GivesStop}
-use Rattle.pnm_filters.specs.Pendings.{is_idle, waiting_by, waiting_in}
-use Rattle.pnm_filters.specs.States.{StateValue, IsAt, IsReadyFor, SuitsPlace}
-use Rattle.pnm_filters.specs.Internal.States.{state_value, IsSoundState}
-use Rattle.pnm_filters.specs.Internal.Steps.{AreAccepted, IsFirstRefused, IsGiven}
+use Rattle.pnm_filters.proofs.Words.{◌≡◌, ◌⊎◌, inl, inr, ℕ, Bool, true, List, [], ◌∷◌, ◌++◌, refl, sym, ap, subst, ◌∙◌, append-nil, length, Option, Some, None}
+use Rattle.pnm_filters.proofs.Words.{Err, Shape, Message, Packet, Begin, Row, ImageEnd, StreamEnd, Stop, Place, Between, Accepts, IsLawfulFrom, place_of}
+use Rattle.pnm_filters.proofs.Words.{lawful_append, place_of-append, ToolFault, CutOutside, ChannelOutside, TooLarge, OutOfOrder, Memory, Tool, AllMayCome}
+use Rattle.pnm_filters.proofs.Words.{Begins, RefusesFirst, RefusesHead, Judges, IsAnswering, answers_from, rows_come, AreTaken, answering_answers}
+use Rattle.pnm_filters.proofs.Words.{answers_from-append, taken_append, head_is_refused_by_name, tool_answers_images, Pending, Phase, Idle, Rows, RowsAndEnd}
+use Rattle.pnm_filters.proofs.Words.{Done, GivesEnd, GivesStop, is_idle, waiting_by, waiting_in, StateValue, IsAt, IsReadyFor, SuitsPlace, state_value}
+use Rattle.pnm_filters.proofs.Words.{IsSoundState, AreAccepted, IsFirstRefused, IsGiven}
 use Rattle.pnm_filters.proofs.TakingSteps.{come_append}
 
 -- where all was given nothing waits

@@ -1,25 +1,10 @@
 -- How a tool at work takes a part of an image: its head, rows of it, and its end.
-use Rattle.std.proofs.Common.{◌≡◌, ◌≤◌, ℕ, ◌+◌, Bool, true, false, List, [], ◌∷◌, ◌++◌, length, Option, Some, None}
-use Rattle.std.proofs.Common.{refl, sym, ap, subst, ◌∙◌, append-nil, append_assoc, arith}
-use Rattle.std.proofs.lemmas.List.{map-append}
-use Rattle.pnm_image.specs.declared.shape.Shape.{Shape}
-use Rattle.pnm_image.specs.declared.message.Message.{Message}
-use Rattle.pnm_image.specs.declared.message.Message.TheVariants.{Row, ImageEnd}
-use Rattle.pnm_image.specs.declared.place.Place.{Place}
-use Rattle.pnm_image.specs.declared.place.Place.TheVariants.{Between, Inside, After}
-use Rattle.pnm_image.specs.Heads.{HeadValue}
-use Rattle.pnm_image.specs.Parts.{head_messages, end_messages, part_messages, rest_messages}
-use Rattle.pnm_image.specs.Places.{Accepts, IsLawfulFrom, place_of}
-use Rattle.pnm_image.specs.Rows.{row_messages, rows_list}
-use Rattle.pnm_image.proofs.Places.{lawful_prefix, lawful_suffix, place_of-append, place_of-rows}
-use Rattle.pnm_tools.specs.declared.tool.Tool.{Tool}
-use Rattle.pnm_tools.specs.Answering.{answers_from, rows_after, rows_answer, rows_come}
-use Rattle.pnm_tools.specs.Tools.{AreTaken, row_answer}
-use Rattle.pnm_tools.proofs.AnsweringLaws.{answers_from-append}
-use Rattle.pnm_tools.proofs.FusedSteps.{taken_append}
-use Rattle.pnm_filters.specs.Pendings.{is_idle, waiting_by}
-use Rattle.pnm_filters.specs.States.{IsReadyFor, SuitsPlace}
-use Rattle.pnm_filters.specs.Internal.Steps.{AreAccepted, HasBegun, HasEnded, HasTaken, IsReadyUnless, LiesInside, end_answer_if, phase_of}
+use Rattle.pnm_filters.proofs.Words.{◌≡◌, ◌≤◌, ℕ, ◌+◌, Bool, true, false, List, [], ◌∷◌, ◌++◌, length, Option, Some, None, refl, sym, ap, subst, ◌∙◌}
+use Rattle.pnm_filters.proofs.Words.{append-nil, append_assoc, arith, map-append, Shape, Message, Row, ImageEnd, Place, Between, Inside, After, HeadValue}
+use Rattle.pnm_filters.proofs.Words.{head_messages, end_messages, part_messages, rest_messages, Accepts, IsLawfulFrom, place_of, row_messages, rows_list}
+use Rattle.pnm_filters.proofs.Words.{lawful_prefix, lawful_suffix, place_of-append, place_of-rows, Tool, answers_from, rows_after, rows_answer, rows_come}
+use Rattle.pnm_filters.proofs.Words.{AreTaken, row_answer, answers_from-append, taken_append, is_idle, waiting_by, IsReadyFor, SuitsPlace, AreAccepted}
+use Rattle.pnm_filters.proofs.Words.{HasBegun, HasEnded, HasTaken, IsReadyUnless, LiesInside, end_answer_if, phase_of}
 
 -- ---- a part comes inside an image, once its head has come
 

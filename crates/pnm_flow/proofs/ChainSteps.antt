@@ -1,38 +1,13 @@
 -- The stages of a chain: one more, what is left between them, and what the chain has answered.
-use Rattle.std.proofs.Common.{◌≡◌, ◌≢◌, ℕ, suc, ◌+◌, ◌≤◌, ◌<◌, List, [], ◌∷◌, ◌++◌, length, Option, Some, Result, Ok, Err, refl, sym, ap, subst, ◌∙◌}
-use Rattle.std.proofs.Common.{append_assoc, append-nil, arith, true, ◌==◌}
-use Rattle.std.proofs.lemmas.Bool.Decides.{nat_tests}
-use Rattle.std.specs.Prelude.{IfOk, IfSome, vec_capacity}
-use Rattle.std.specs.List.{AllByRecursion}
-use Rattle.pnm_stages.specs.declared.sender.Sender.{Sender}
-use Rattle.pnm_stages.specs.declared.receiver.Receiver.{Receiver}
-use Rattle.pnm_stages.specs.Rings.{sent, received, known_items, SameSender, SameReceiver}
-use Rattle.pnm_image.specs.declared.message.Message.{Message}
-use Rattle.pnm_image.specs.Images.{Image, messages_of_stream}
-use Rattle.pnm_image.specs.Messages.{without_stop}
-use Rattle.pnm_image.specs.Completion.{IsPrefixOf, IsStreamOf}
-use Rattle.pnm_tools.specs.declared.tool.Tool.{Tool}
-use Rattle.pnm_tools.specs.Answers.{AreResults}
-use Rattle.pnm_tools.specs.Chains.{AreLawfulTools, AreResultsInTurn, due_in_turn}
-use Rattle.pnm_tools.specs.Tools.{IsLawfulTool, output_due}
-use Rattle.pnm_tools.proofs.PrefixLaws.{nothing_changes, prefix_by_results}
-use Rattle.pnm_tools.proofs.FullLaws.{prefix_of_prefix}
-use Rattle.pnm_tools.proofs.RefusalLaws.{results_are_images, same_in_turn, results_in_turn}
-use Rattle.pnm_flow.specs.declared.chain.ChainDone.{ChainDone}
+use Rattle.pnm_flow.proofs.Words.{◌≡◌, ◌≢◌, ℕ, suc, ◌+◌, ◌≤◌, ◌<◌, List, [], ◌∷◌, ◌++◌, length, Option, Some, Result, Ok, Err, refl, sym, ap, subst, ◌∙◌}
+use Rattle.pnm_flow.proofs.Words.{append_assoc, append-nil, arith, true, ◌==◌, nat_tests, IfOk, IfSome, AllByRecursion, Sender, Receiver, sent, received}
+use Rattle.pnm_flow.proofs.Words.{known_items, SameSender, SameReceiver, Message, Image, messages_of_stream, without_stop, IsPrefixOf, IsStreamOf, Tool}
+use Rattle.pnm_flow.proofs.Words.{AreResults, AreLawfulTools, AreResultsInTurn, due_in_turn, IsLawfulTool, output_due, nothing_changes, prefix_by_results}
+use Rattle.pnm_flow.proofs.Words.{prefix_of_prefix, results_are_images, same_in_turn, results_in_turn, ChainDone, StageDone, Link, StageEnd, Well, PeerGone}
+use Rattle.pnm_flow.proofs.Words.{IsPrefixOfDue, IsEnded, IsWhole, IsDrained, IsStageOver, FirstIsThere, AreStages, HasAnsweredStream, HasRunChain, HasRunTool}
+use Rattle.pnm_flow.proofs.Words.{HasRunStages, HasRunBetween, IsReserved, IsToolRun, HasEndedOver, nothing_follows, prefix_without_stop}
+use Rattle.std.specs.Prelude.{vec_capacity}
 use Rattle.pnm_stages.specs.declared.branches.NoStart.{NoStart}
-use Rattle.pnm_stages.specs.declared.stage.StageDone.{StageDone}
-use Rattle.pnm_flow.specs.declared.chain.Link.{Link}
-use Rattle.pnm_stages.specs.declared.stage.StageEnd.{StageEnd}
-use Rattle.pnm_stages.specs.declared.stage.StageEnd.TheVariants.{Well, PeerGone}
-use Rattle.pnm_stages.specs.Prefixes.{IsPrefixOfDue}
-use Rattle.pnm_stages.specs.Rings.{IsEnded}
-use Rattle.pnm_flow.specs.Links.{IsWhole, IsDrained}
-use Rattle.pnm_flow.specs.ChainRuns.{IsStageOver, FirstIsThere, AreStages, HasAnsweredStream, HasRunChain}
-use Rattle.pnm_flow.specs.Internal.ChainRuns.{HasRunTool, HasRunStages, HasRunBetween}
-use Rattle.pnm_flow.specs.Internal.ChainRuns.{IsReserved, IsToolRun}
-use Rattle.pnm_flow.specs.SentMessages.{HasEndedOver}
-use Rattle.pnm_stages.proofs.EndingLaws.{nothing_follows}
-use Rattle.pnm_stages.proofs.PrefixLaws.{prefix_without_stop}
 use Rattle.pnm_flow.proofs.ToolOverLaws.{stage_ended, ended_well, received_ended, sent_ended, stage_due}
 
 -- ---- what is left between two stages

@@ -1,21 +1,7 @@
 -- What a tool over several lanes has refused, as if it had run over one.
-use Rattle.std.proofs.Common.{inr, List, [], ◌∷◌, refl, sym, subst, append-nil}
-use Rattle.pnm_image.specs.declared.message.Message.{Message}
-use Rattle.pnm_image.specs.declared.message.Message.TheVariants.{Begin}
-use Rattle.pnm_image.specs.declared.place.Place.TheVariants.{Between}
-use Rattle.pnm_image.specs.Places.{IsLawful}
-use Rattle.pnm_image.proofs.Places.{lawful_prefix, next_may_come}
-use Rattle.pnm_tools.specs.declared.fault.ToolFault.{ToolFault}
-use Rattle.pnm_tools.specs.declared.fault.ToolFault.TheVariants.{CutOutside, ChannelOutside, TooLarge, OutOfOrder, Memory}
-use Rattle.pnm_tools.specs.declared.tool.Tool.{Tool}
-use Rattle.pnm_tools.specs.Answering.{answers_from}
-use Rattle.pnm_tools.specs.Answers.{AnswersInFull}
-use Rattle.pnm_tools.specs.ChainAnswers.{HasRefused, IsRefusedNext}
-use Rattle.pnm_tools.specs.Tools.{IsLawfulTool}
-use Rattle.pnm_tools.proofs.FullLaws.{answering_in_full}
-use Rattle.pnm_tools.proofs.ToolLaws.{tool_answers_images}
-use Rattle.pnm_lanes.specs.Lanes.{IsFirstRefusedHead, IsFaultOf}
-use Rattle.pnm_serial.proofs.EndSteps.{not_started}
+use Rattle.pnm_flow.proofs.Words.{inr, List, [], ◌∷◌, refl, sym, subst, append-nil, Message, Begin, Between, IsLawful, lawful_prefix, next_may_come, ToolFault}
+use Rattle.pnm_flow.proofs.Words.{CutOutside, ChannelOutside, TooLarge, OutOfOrder, Memory, Tool, answers_from, AnswersInFull, HasRefused, IsRefusedNext}
+use Rattle.pnm_flow.proofs.Words.{IsLawfulTool, answering_in_full, tool_answers_images, IsFirstRefusedHead, IsFaultOf, not_started}
 
 -- the answers to the messages before the first head that is refused
 before_refusal : (tool : Tool) (fault : ToolFault) (l : List Message) → IsLawfulTool tool → IsLawful l → (found : IsFirstRefusedHead tool fault l)

@@ -1,3 +1,4 @@
+mod Words
 pub mod ToolSteps
 pub mod LaneRefusals
 pub mod ToolOverLaws

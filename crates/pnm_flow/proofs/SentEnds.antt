@@ -1,47 +1,14 @@
 -- What one tool has sent for the messages of images: all its results, or those before a fault.
-use Rattle.std.proofs.Common.{◌≡◌, ◌≢◌, ◌⊎◌, inl, inr, ℕ, zero, suc, ◌<◌, ◌≤◌, Bool, true, false, List, [], ◌∷◌, ◌++◌, Option, Some, None, Result, Ok, Err}
-use Rattle.std.proofs.Common.{refl, sym, ap, subst, ◌∙◌, append-nil, arith}
-use Rattle.pnm_image.specs.declared.format.Form.{Form}
-use Rattle.pnm_image.specs.declared.format.Form.TheVariants.{Raw, Plain}
-use Rattle.pnm_image.specs.declared.message.Message.{Message}
-use Rattle.pnm_image.specs.declared.message.Message.TheVariants.{Begin, Row, ImageEnd, StreamEnd, Stop}
-use Rattle.pnm_image.specs.declared.message.Ending.TheVariants.{More, Whole, BrokenOff}
-use Rattle.pnm_image.specs.declared.place.Place.TheVariants.{Between}
-use Rattle.pnm_image.specs.Images.{Image, AreImages, messages_of_stream}
-use Rattle.pnm_image.specs.Messages.{ending_of, without_stop, EndsBy}
-use Rattle.pnm_image.specs.Places.{IsLawful}
-use Rattle.pnm_image.specs.Completion.{IsPrefixOf, IsStreamOf}
-use Rattle.pnm_image.proofs.Places.{lawful_prefix, next_may_come}
-use Rattle.pnm_image.proofs.Streams.{is_stream_of, stream_is_messages, stream_is_lawful, stream_ends}
-use Rattle.pnm_tools.specs.declared.fault.ToolFault.{ToolFault}
-use Rattle.pnm_tools.specs.declared.fault.ToolFault.TheVariants.{CutOutside, ChannelOutside, TooLarge, OutOfOrder, Memory}
-use Rattle.pnm_tools.specs.declared.tool.Tool.{Tool}
-use Rattle.pnm_tools.specs.Answers.{Answers, AnswersInFull, AreResults}
-use Rattle.pnm_tools.specs.Chains.{results_of}
-use Rattle.pnm_tools.specs.ChainAnswers.{IsRefusedNext}
-use Rattle.pnm_tools.specs.Laws.{IsFaultOfHead}
-use Rattle.pnm_tools.specs.Tools.{IsLawfulTool, is_row_wise, output_due}
-use Rattle.pnm_tools.proofs.FullLaws.{answering_in_full, prefix_of_prefix}
-use Rattle.pnm_tools.proofs.HeadFaultLaws.{head_is_refused_by_name}
-use Rattle.pnm_tools.proofs.PrefixLaws.{nothing_changes}
-use Rattle.pnm_tools.proofs.SoundLaws.{EndsUnbroken}
-use Rattle.pnm_tools.proofs.ToolLaws.{tool_answers_images}
-use Rattle.pnm_write.specs.declared.fault.SinkFault.{SinkFault}
-use Rattle.pnm_write.specs.Encoding.{bytes_of, written_of}
-use Rattle.pnm_write.specs.Forms.{form_fault_from, form_fault_of, has_begun_by}
-use Rattle.pnm_write.proofs.FormLaws.{form_fault-more, refused_before, taken_by-all}
-use Rattle.pnm_write.proofs.MessageLaws.{bytes_of_more}
-use Rattle.pnm_serial.proofs.LastRefusals.{FirstRefused, first_refused, due_of_one, due_of_others}
-use Rattle.pnm_serial.proofs.ResultSteps.{are_results}
-use Rattle.pnm_stages.specs.declared.stage.StageEnd.TheVariants.{Well, Fault}
-use Rattle.pnm_stages.specs.Stages.{HasEndedWell, HasFailed}
-use Rattle.pnm_stages.proofs.EndingLaws.{one_ending, prefix_goes_on, stream_ends_whole}
-use Rattle.pnm_stages.proofs.PrefixLaws.{prefix_without_stop, stop_is_cut}
-use Rattle.pnm_stages.proofs.RingSteps.{ends_with}
-use Rattle.pnm_lanes.specs.Lanes.{IsFaultOf, HasFailedInLanes}
-use Rattle.pnm_lanes.proofs.LaneStream.{answered_in_full}
-use Rattle.pnm_flow.specs.ChainRuns.{RunsInLanes}
-use Rattle.pnm_flow.specs.SentMessages.{HasEndedOver}
+use Rattle.pnm_flow.proofs.Words.{◌≡◌, ◌≢◌, ◌⊎◌, inl, inr, ℕ, zero, suc, ◌<◌, ◌≤◌, Bool, true, false, List, [], ◌∷◌, ◌++◌, Option, Some, None, Result, Ok, Err}
+use Rattle.pnm_flow.proofs.Words.{refl, sym, ap, subst, ◌∙◌, append-nil, arith, Form, Raw, Plain, Message, Begin, Row, ImageEnd, StreamEnd, Stop, More, Whole}
+use Rattle.pnm_flow.proofs.Words.{BrokenOff, Between, Image, AreImages, messages_of_stream, ending_of, without_stop, EndsBy, IsLawful, IsPrefixOf, IsStreamOf}
+use Rattle.pnm_flow.proofs.Words.{lawful_prefix, next_may_come, is_stream_of, stream_is_messages, stream_is_lawful, stream_ends, ToolFault, CutOutside}
+use Rattle.pnm_flow.proofs.Words.{ChannelOutside, TooLarge, OutOfOrder, Memory, Tool, Answers, AnswersInFull, AreResults, results_of, IsRefusedNext}
+use Rattle.pnm_flow.proofs.Words.{IsFaultOfHead, IsLawfulTool, is_row_wise, output_due, answering_in_full, prefix_of_prefix, head_is_refused_by_name}
+use Rattle.pnm_flow.proofs.Words.{nothing_changes, EndsUnbroken, tool_answers_images, SinkFault, bytes_of, written_of, form_fault_from, form_fault_of}
+use Rattle.pnm_flow.proofs.Words.{has_begun_by, form_fault-more, refused_before, taken_by-all, bytes_of_more, FirstRefused, first_refused, due_of_one}
+use Rattle.pnm_flow.proofs.Words.{due_of_others, are_results, Well, Fault, HasEndedWell, HasFailed, one_ending, prefix_goes_on, stream_ends_whole}
+use Rattle.pnm_flow.proofs.Words.{prefix_without_stop, stop_is_cut, ends_with, IsFaultOf, HasFailedInLanes, answered_in_full, RunsInLanes, HasEndedOver}
 
 -- ---- over several lanes or over one
 

@@ -1,43 +1,12 @@
 -- What the tools of a run over threads have sent, by what is promised of the run.
-use Rattle.std.proofs.Common.{◌≡◌, ◌≢◌, ◌⊎◌, inl, inr, ℕ, zero, suc, ◌+◌, ◌-◌, ◌<◌, List, [], ◌∷◌, ◌++◌, map, take, length, Option, Some, None, Result}
-use Rattle.std.proofs.Common.{Ok, Err, refl, sym, ap, subst, ◌∙◌, append-nil, arith}
-use Rattle.std.specs.Io.KnownBytes.{Appends}
-use Rattle.pnm_image.specs.Devices.{Failed}
-use Rattle.pnm_image.specs.declared.format.Form.{Form}
-use Rattle.pnm_image.specs.declared.message.Message.{Message}
-use Rattle.pnm_image.specs.declared.place.Place.TheVariants.{Between}
-use Rattle.pnm_image.specs.Images.{Image, AreImages, messages_of_stream}
-use Rattle.pnm_image.specs.Messages.{without_stop}
-use Rattle.pnm_image.specs.Completion.{IsPrefixOf, Completes}
-use Rattle.pnm_read.specs.declared.fault.InputFault.{InputFault}
-use Rattle.pnm_read.specs.Said.{said_of, AreSaid}
-use Rattle.pnm_tools.specs.declared.fault.ToolFault.{ToolFault}
-use Rattle.pnm_tools.specs.declared.fault.ToolFault.TheVariants.{Memory}
-use Rattle.pnm_tools.specs.declared.tool.Tool.{Tool}
-use Rattle.pnm_tools.specs.ChainAnswers.{AreSound}
-use Rattle.pnm_tools.specs.Tools.{IsLawfulTool}
-use Rattle.pnm_tools.specs.Chains.{AreLawfulTools, Refusal, due_in_turn, refusal_from, results_of}
-use Rattle.pnm_tools.proofs.ChainLaws.{prefix_of_due_is_sound}
-use Rattle.pnm_tools.proofs.PrefixLaws.{nothing_changes}
-use Rattle.pnm_tools.proofs.RefusalLaws.{refusal_by, results_are_images}
-use Rattle.pnm_tools.proofs.SoundLaws.{EndsUnbroken, sound_ends, sound_keeps_all, unbroken_keeps_all}
-use Rattle.pnm_write.specs.declared.fault.SinkFault.{SinkFault}
-use Rattle.pnm_write.specs.Encoding.{written_of}
-use Rattle.pnm_serial.specs.declared.fault.RunFault.{RunFault}
-use Rattle.pnm_serial.specs.declared.fault.RunFault.TheVariants.{NoStart, Input, Tool as OfTool, Output, PeerGone as Gone}
-use Rattle.pnm_serial.specs.declared.summary.Summary.{Summary}
-use Rattle.pnm_serial.specs.Jobs.{Job}
-use Rattle.pnm_serial.specs.Runs.{Change, MayFollow, MustGiveAll, HasRun}
-use Rattle.pnm_serial.specs.Verdicts.{RefusalIs, IsAnswer}
-use Rattle.pnm_serial.proofs.EndSteps.{rest_follows}
-use Rattle.pnm_serial.proofs.FeedingSteps.{rest_of, said_are_sound}
-use Rattle.pnm_serial.proofs.LastRefusals.{due_of_one, due_of_others}
-use Rattle.pnm_serial.proofs.ResultSteps.{are_results}
-use Rattle.pnm_serial.proofs.VerdictFaults.{verdict_is_of_text}
-use Rattle.pnm_stages.specs.declared.stage.StageEnd.{StageEnd}
-use Rattle.pnm_stages.specs.declared.stage.StageEnd.TheVariants.{Well, Fault, PeerGone}
-use Rattle.pnm_flow.specs.ThreadedRuns.{first_fault_from}
-use Rattle.pnm_flow.specs.SentMessages.{HasEndedOver, HaveEnded, IsAllSent, WhatTheToolsSent}
+use Rattle.pnm_flow.proofs.Words.{◌≡◌, ◌≢◌, ◌⊎◌, inl, inr, ℕ, zero, suc, ◌+◌, ◌-◌, ◌<◌, List, [], ◌∷◌, ◌++◌, map, take, length, Option, Some, None, Result, Ok}
+use Rattle.pnm_flow.proofs.Words.{Err, refl, sym, ap, subst, ◌∙◌, append-nil, arith, Appends, Failed, Form, Message, Between, Image, AreImages}
+use Rattle.pnm_flow.proofs.Words.{messages_of_stream, without_stop, IsPrefixOf, Completes, InputFault, said_of, AreSaid, ToolFault, Memory, Tool, AreSound}
+use Rattle.pnm_flow.proofs.Words.{IsLawfulTool, AreLawfulTools, Refusal, due_in_turn, refusal_from, results_of, prefix_of_due_is_sound, nothing_changes}
+use Rattle.pnm_flow.proofs.Words.{refusal_by, results_are_images, EndsUnbroken, sound_ends, sound_keeps_all, unbroken_keeps_all, SinkFault, written_of}
+use Rattle.pnm_flow.proofs.Words.{RunFault, NoStart, Input, OfTool, Output, Gone, Summary, Job, Change, MayFollow, MustGiveAll, HasRun, RefusalIs, IsAnswer}
+use Rattle.pnm_flow.proofs.Words.{rest_follows, rest_of, said_are_sound, due_of_one, due_of_others, are_results, verdict_is_of_text, StageEnd, Well, Fault}
+use Rattle.pnm_flow.proofs.Words.{PeerGone, first_fault_from, HasEndedOver, HaveEnded, IsAllSent, WhatTheToolsSent}
 use Rattle.pnm_flow.proofs.SentEnds.{Fails, in_lanes_or_alone, alone_is_one, ended_well_over, failed_somehow, last_sent}
 use Rattle.pnm_flow.proofs.StageEndLaws.{LastIsAlone}
 

@@ -1,25 +1,8 @@
 -- What the tools of a chain have answered to a whole stream, by how their stages have ended.
-use Rattle.std.proofs.Common.{◌≡◌, ◌≢◌, ℕ, ◌+◌, List, [], ◌∷◌, ◌++◌, map, length, Option, Some, None, refl, sym, ap, subst, ◌∙◌, append-nil, arith}
-use Rattle.pnm_stages.specs.Rings.{sent, received}
-use Rattle.pnm_image.specs.declared.message.Message.{Message}
-use Rattle.pnm_image.specs.declared.message.Message.TheVariants.{Stop}
-use Rattle.pnm_image.specs.Places.{IsLawful}
-use Rattle.pnm_tools.specs.declared.fault.ToolFault.{ToolFault}
-use Rattle.pnm_tools.specs.declared.fault.ToolFault.TheVariants.{Memory}
-use Rattle.pnm_tools.specs.declared.tool.Tool.{Tool}
-use Rattle.pnm_image.specs.declared.message.Ending.TheVariants.{More, Whole, BrokenOff}
-use Rattle.pnm_image.specs.Messages.{EndsBy}
-use Rattle.pnm_tools.specs.ChainAnswers.{HaveAnswered, AreWell, IsFirstFault}
-use Rattle.pnm_tools.specs.Chains.{AreLawfulTools}
-use Rattle.pnm_serial.specs.declared.fault.RunFault.TheVariants.{Tool as OfTool}
-use Rattle.pnm_flow.specs.declared.chain.Link.{Link}
-use Rattle.pnm_stages.specs.declared.stage.StageEnd.{StageEnd}
-use Rattle.pnm_stages.specs.declared.stage.StageEnd.TheVariants.{Well, Broken, Fault, PeerGone}
-use Rattle.pnm_flow.specs.ChainRuns.{FirstIsThere, AreStages}
-use Rattle.pnm_stages.specs.Stages.{HasEndedWell}
-use Rattle.pnm_flow.specs.ThreadedRuns.{first_fault_from}
-use Rattle.pnm_stages.proofs.EndingLaws.{one_ending, stream_ends_whole}
-use Rattle.pnm_serial.proofs.EndSteps.{not_started, none_started}
+use Rattle.pnm_flow.proofs.Words.{◌≡◌, ◌≢◌, ℕ, ◌+◌, List, [], ◌∷◌, ◌++◌, map, length, Option, Some, None, refl, sym, ap, subst, ◌∙◌, append-nil, arith, sent}
+use Rattle.pnm_flow.proofs.Words.{received, Message, Stop, IsLawful, ToolFault, Memory, Tool, More, Whole, BrokenOff, EndsBy, HaveAnswered, AreWell}
+use Rattle.pnm_flow.proofs.Words.{IsFirstFault, AreLawfulTools, OfTool, Link, StageEnd, Well, Broken, Fault, PeerGone, FirstIsThere, AreStages, HasEndedWell}
+use Rattle.pnm_flow.proofs.Words.{first_fault_from, one_ending, stream_ends_whole, not_started, none_started}
 use Rattle.pnm_flow.proofs.SentEnds.{IsAlone, alone_is_one}
 use Rattle.pnm_flow.proofs.ToolOverLaws.{stage_ended, ended_well, ended_broken, ended_refused, sent_in_order}
 

@@ -1,22 +1,8 @@
 -- What a run over threads answers once all have ended.
-use Rattle.std.proofs.Common.{◌≡◌, ◌≢◌, inl, inr, ℕ, suc, drop, get_or, ◌+◌, ◌<◌, Bool, true, false, List, [], ◌∷◌, length, Option, Some, None}
-use Rattle.std.proofs.Common.{Result, Ok, Err, refl, ap, subst, ◌∙◌, arith}
-use Rattle.std.proofs.Math.Seq.{drop-cons}
-use Rattle.pnm_read.specs.declared.fault.InputFault.{InputFault}
-use Rattle.pnm_read.specs.declared.fault.InputFault.TheVariants.{Memory as NoMemoryToRead}
-use Rattle.pnm_read.specs.declared.source.Source.{Source}
-use Rattle.pnm_read.specs.Sources.{reader_of}
-use Rattle.pnm_write.specs.declared.fault.SinkFault.{SinkFault}
-use Rattle.pnm_serial.specs.declared.fault.RunFault.{RunFault}
-use Rattle.pnm_serial.specs.declared.fault.RunFault.TheVariants.{NoStart, Input, Tool as OfTool, Output, PeerGone as Gone}
-use Rattle.pnm_stages.specs.declared.stage.StageEnd.{StageEnd}
-use Rattle.pnm_stages.specs.declared.stage.StageEnd.TheVariants.{Well, Broken, Fault, PeerGone}
-use Rattle.pnm_serial.specs.declared.summary.Summary.{Summary}
-use Rattle.pnm_serial.specs.Jobs.{Job}
-use Rattle.pnm_serial.specs.Runs.{Change, change, HasRun}
-use Rattle.pnm_flow.specs.ThreadedRuns.{fault_of_end, first_fault_from}
-use Rattle.pnm_flow.specs.Internal.ThreadedRuns.{answer_over}
-use Rattle.pnm_serial.proofs.EndSteps.{ended_has_run, unread_has_run as serial_unread}
+use Rattle.pnm_flow.proofs.Words.{◌≡◌, ◌≢◌, inl, inr, ℕ, suc, drop, get_or, ◌+◌, ◌<◌, Bool, true, false, List, [], ◌∷◌, length, Option, Some, None, Result, Ok}
+use Rattle.pnm_flow.proofs.Words.{Err, refl, ap, subst, ◌∙◌, arith, drop-cons, InputFault, NoMemoryToRead, Source, reader_of, SinkFault, RunFault, NoStart}
+use Rattle.pnm_flow.proofs.Words.{Input, OfTool, Output, Gone, StageEnd, Well, Broken, Fault, PeerGone, Summary, Job, Change, change, HasRun, fault_of_end}
+use Rattle.pnm_flow.proofs.Words.{first_fault_from, answer_over, ended_has_run, serial_unread}
 use Rattle.pnm_flow.proofs.ThreadedRunSteps.{Over, gone_has_run, ended_over, well_stages, refused_stages}
 
 -- ---- the answer

@@ -1,52 +1,14 @@
 -- What a run over threads knows once all have ended, and what follows of it for its answer.
-use Rattle.std.proofs.Common.{◌≡◌, ◌⊎◌, inl, inr, ℕ, ◌+◌, ◌≤◌, Bool, true, false, List, [], ◌∷◌, ◌++◌, length, Option, Some, None, Result, Ok, Err}
-use Rattle.std.proofs.Common.{refl, sym, ap, subst, ◌∙◌, append_assoc, append-nil, arith}
-use Rattle.std.specs.Io.KnownBytes.{Consumes, Keeps}
-use Rattle.pnm_stages.specs.Rings.{sent, received, IsEnded}
-use Rattle.pnm_image.specs.declared.message.Message.{Message}
-use Rattle.pnm_image.specs.declared.message.Message.TheVariants.{Stop}
-use Rattle.pnm_image.specs.Images.{Image, messages_of_stream}
-use Rattle.pnm_image.specs.Messages.{without_stop, EndsBy}
-use Rattle.pnm_image.specs.Completion.{IsPrefixOf, Completes}
-use Rattle.pnm_read.specs.declared.fault.InputFault.{InputFault}
-use Rattle.pnm_read.specs.declared.fault.InputFault.TheVariants.{ReadFailed}
-use Rattle.pnm_read.specs.declared.source.Source.{Source}
-use Rattle.pnm_read.specs.Said.{said_of}
-use Rattle.pnm_read.specs.Sources.{reader_of}
-use Rattle.pnm_read.proofs.StreamLaws.{given_is_prefix}
-use Rattle.pnm_read.proofs.TextLaws.{said_text_is_spelled}
-use Rattle.pnm_read.proofs.ReadCalls.{no_fault}
-use Rattle.pnm_tools.specs.declared.fault.ToolFault.{ToolFault}
-use Rattle.pnm_tools.specs.declared.tool.Tool.{Tool}
-use Rattle.pnm_image.specs.declared.message.Ending.TheVariants.{More, Whole}
-use Rattle.pnm_tools.specs.ChainAnswers.{AreSound}
-use Rattle.pnm_tools.specs.Chains.{AreLawfulTools, due_in_turn}
-use Rattle.pnm_tools.proofs.ChainLaws.{prefix_of_due_is_sound}
-use Rattle.pnm_tools.proofs.FullLaws.{prefix_of_prefix}
-use Rattle.pnm_tools.proofs.SoundLaws.{sound_keeps_all, unbroken_keeps_all}
-use Rattle.pnm_write.specs.declared.fault.SinkFault.{SinkFault}
-use Rattle.pnm_serial.specs.declared.fused_sink.FusedSink.{FusedSink}
-use Rattle.pnm_serial.specs.declared.fault.RunFault.TheVariants.{Tool as OfTool, PeerGone as Gone}
-use Rattle.pnm_flow.specs.declared.chain.Link.{Link}
-use Rattle.pnm_stages.specs.declared.stage.StageEnd.{StageEnd}
-use Rattle.pnm_serial.specs.declared.summary.Summary.{Summary}
-use Rattle.pnm_flow.specs.ChainRuns.{FirstIsThere, AreStages}
-use Rattle.pnm_io_loop.specs.Egresses.{EndedBy}
-use Rattle.pnm_serial.specs.FusedSinks.{output_of, HasTaken, AnswersFlushes}
-use Rattle.pnm_io_loop.specs.Ingresses.{HasAskedAll, HasAskedBy, closing_messages}
-use Rattle.pnm_serial.specs.Feeding.{IsSaidOf, HasMore, MayFollowRead}
-use Rattle.pnm_serial.specs.Jobs.{Job}
-use Rattle.pnm_serial.specs.Runs.{Change, change, MayFollow, HasRun}
-use Rattle.pnm_serial.specs.Internal.SerialRuns.{answer_by}
-use Rattle.pnm_stages.specs.Prefixes.{IsPrefixOfDue}
-use Rattle.pnm_flow.specs.ThreadedRuns.{first_fault_from}
+use Rattle.pnm_flow.proofs.Words.{◌≡◌, ◌⊎◌, inl, inr, ℕ, ◌+◌, ◌≤◌, Bool, true, false, List, [], ◌∷◌, ◌++◌, length, Option, Some, None, Result, Ok, Err, refl}
+use Rattle.pnm_flow.proofs.Words.{sym, ap, subst, ◌∙◌, append_assoc, append-nil, arith, Consumes, Keeps, sent, received, IsEnded, Message, Stop, Image}
+use Rattle.pnm_flow.proofs.Words.{messages_of_stream, without_stop, EndsBy, IsPrefixOf, Completes, InputFault, ReadFailed, Source, said_of, reader_of}
+use Rattle.pnm_flow.proofs.Words.{given_is_prefix, said_text_is_spelled, no_fault, ToolFault, Tool, More, Whole, AreSound, AreLawfulTools, due_in_turn}
+use Rattle.pnm_flow.proofs.Words.{prefix_of_due_is_sound, prefix_of_prefix, sound_keeps_all, unbroken_keeps_all, SinkFault, FusedSink, OfTool, Gone, Link}
+use Rattle.pnm_flow.proofs.Words.{StageEnd, Summary, FirstIsThere, AreStages, EndedBy, output_of, HasTaken, AnswersFlushes, HasAskedAll, HasAskedBy}
+use Rattle.pnm_flow.proofs.Words.{closing_messages, IsSaidOf, HasMore, MayFollowRead, Job, Change, change, MayFollow, HasRun, answer_by, IsPrefixOfDue}
+use Rattle.pnm_flow.proofs.Words.{first_fault_from, nothing_follows, stream_ends_whole, prefix_without_stop, stop_is_cut, ends_with, Ended, StagesAnswered}
+use Rattle.pnm_flow.proofs.Words.{ended_so, given_is_sound, may_give, Ran, run_due, run_begun, output_all, sound_is_writable}
 use Rattle.pnm_flow.proofs.ToolOverLaws.{stage_ended, received_ended}
-use Rattle.pnm_stages.proofs.EndingLaws.{nothing_follows, stream_ends_whole}
-use Rattle.pnm_stages.proofs.PrefixLaws.{prefix_without_stop, stop_is_cut}
-use Rattle.pnm_stages.proofs.RingSteps.{ends_with}
-use Rattle.pnm_serial.proofs.EndSteps.{Ended, HaveEnded as StagesAnswered, ended_so}
-use Rattle.pnm_serial.proofs.FeedingSteps.{given_is_sound, may_give}
-use Rattle.pnm_serial.proofs.RunSteps.{Ran, run_due, run_begun, output_all, sound_is_writable}
 use Rattle.pnm_flow.proofs.StageEndLaws.{all_answered, answered_until, next_is_well, next_is_there}
 
 -- where nothing is left, a part is all

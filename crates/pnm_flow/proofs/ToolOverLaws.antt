@@ -1,25 +1,8 @@
 -- What holds of a tool of a chain however many lanes it runs over.
-use Rattle.std.proofs.Common.{◌≡◌, ◌≢◌, inl, inr, ℕ, List, [], ◌∷◌, ◌++◌, refl, sym, subst}
-use Rattle.pnm_image.specs.declared.message.Message.{Message}
-use Rattle.pnm_image.specs.declared.message.Message.TheVariants.{Stop}
-use Rattle.pnm_image.specs.Places.{IsLawful}
-use Rattle.pnm_image.proofs.Streams.{stream_is_lawful}
-use Rattle.pnm_tools.specs.declared.fault.ToolFault.{ToolFault}
-use Rattle.pnm_tools.specs.declared.tool.Tool.{Tool}
-use Rattle.pnm_image.specs.declared.message.Ending.TheVariants.{More, Whole, BrokenOff}
-use Rattle.pnm_image.specs.Messages.{EndsBy}
-use Rattle.pnm_tools.specs.ChainAnswers.{HasRefused}
-use Rattle.pnm_tools.specs.Tools.{IsLawfulTool, output_due}
-use Rattle.pnm_tools.proofs.RefusalLaws.{results_are_images}
-use Rattle.pnm_stages.specs.declared.stage.StageEnd.{StageEnd}
-use Rattle.pnm_stages.specs.declared.stage.StageEnd.TheVariants.{Well, Broken, Fault, PeerGone}
-use Rattle.pnm_stages.specs.Prefixes.{IsPrefixOfDue}
-use Rattle.pnm_stages.specs.Rings.{IsEnded}
-use Rattle.pnm_stages.specs.Stages.{HasEndedWell, HasBrokenOff}
-use Rattle.pnm_stages.proofs.EndingLaws.{stream_ends_whole}
-use Rattle.pnm_stages.proofs.RingSteps.{ends_with}
-use Rattle.pnm_flow.specs.ChainRuns.{RunsInLanes, IsStageOver}
-use Rattle.pnm_flow.specs.SentMessages.{HasEndedOver}
+use Rattle.pnm_flow.proofs.Words.{◌≡◌, ◌≢◌, inl, inr, ℕ, List, [], ◌∷◌, ◌++◌, refl, sym, subst, Message, Stop, IsLawful, stream_is_lawful, ToolFault, Tool}
+use Rattle.pnm_flow.proofs.Words.{More, Whole, BrokenOff, EndsBy, HasRefused, IsLawfulTool, output_due, results_are_images, StageEnd, Well, Broken, Fault}
+use Rattle.pnm_flow.proofs.Words.{PeerGone, IsPrefixOfDue, IsEnded, HasEndedWell, HasBrokenOff, stream_ends_whole, ends_with, RunsInLanes, IsStageOver}
+use Rattle.pnm_flow.proofs.Words.{HasEndedOver}
 use Rattle.pnm_flow.proofs.LaneRefusals.{refused_in_lanes}
 
 -- ---- its end

@@ -1,24 +1,8 @@
 -- What comes of a tool's threads, and of what is done beside them.
-use Rattle.std.proofs.Common.{◌≡◌, ℕ, List, [], ◌∷◌, ◌∙◌, length, Option, Some, None, inl, sym, ap, subst}
-use Rattle.std.specs.Prelude.{IfSome, vec_capacity}
-use Rattle.std.specs.Global.{Vec}
-use Rattle.pnm_tools.specs.declared.tool.Tool.{Tool}
-use Rattle.pnm_stages.specs.declared.sender.Sender.{Sender}
-use Rattle.pnm_stages.specs.declared.receiver.Receiver.{Receiver}
-use Rattle.pnm_stages.specs.declared.stage.StageDone.{StageDone}
-use Rattle.pnm_flow.specs.declared.tool_run.Plan.{Plan}
-use Rattle.pnm_flow.specs.declared.tool_run.Plan.TheVariants.{Lanes}
-use Rattle.pnm_lanes.specs.declared.around.OuterRingEnds.{OuterRingEnds}
-use Rattle.pnm_lanes.specs.declared.merging.LanesDone.{LanesDone}
-use Rattle.pnm_lanes.specs.declared.lane_rings.LaneRingEnds.{LaneRingEnds}
-use Rattle.pnm_lanes.specs.declared.lane_rings.LaneRings.{LaneRings}
-use Rattle.pnm_image.specs.declared.message.Message.{Message}
-use Rattle.pnm_stages.specs.Rings.{sent, received, known_items, SameSender}
-use Rattle.pnm_stages.specs.Stages.{HasRunStage}
-use Rattle.pnm_stages.proofs.RingSteps.{same_output}
-use Rattle.pnm_lanes.specs.LaneRuns.{AreLanesRun, HaveDealtAndGathered, HaveRun, IsLaneRun}
-use Rattle.pnm_flow.specs.ChainRuns.{RunsInLanes}
-use Rattle.pnm_flow.specs.Internal.ChainRuns.{IsPlan, IsToolRun, IsLanesRun}
+use Rattle.pnm_flow.proofs.Words.{◌≡◌, ℕ, List, [], ◌∷◌, ◌∙◌, length, Option, Some, None, inl, sym, ap, subst, IfSome, Vec, Tool, Sender, Receiver, StageDone}
+use Rattle.pnm_flow.proofs.Words.{Plan, Lanes, OuterRingEnds, LanesDone, LaneRingEnds, LaneRings, Message, sent, received, known_items, SameSender, HasRunStage}
+use Rattle.pnm_flow.proofs.Words.{same_output, AreLanesRun, HaveDealtAndGathered, HaveRun, IsLaneRun, RunsInLanes, IsPlan, IsToolRun, IsLanesRun}
+use Rattle.std.specs.Prelude.{vec_capacity}
 
 -- what threads, and what was done beside them, came back with
 pub came_so : {B : Type 0} (P : B → Type 0) (result : Option B) (b : B) → IfSome result P → result ≡ Some b → P b

@@ -1,13 +1,6 @@
 -- The tools of a chain before the first message.
-use Rattle.std.proofs.Common.{ℕ, zero, suc, ◌<◌, List, [], ◌∷◌, ◌++◌, length, get_or, refl, arith}
-use Rattle.pnm_tools.specs.declared.tool.Tool.{Tool}
-use Rattle.pnm_filters.specs.declared.any_tool.AnyTool.{AnyTool}
-use Rattle.pnm_tools.specs.Chains.{AreLawfulTools}
-use Rattle.pnm_filters.specs.States.{StateValue}
-use Rattle.pnm_tools.specs.Tools.{IsLawfulTool}
-use Rattle.pnm_tools.specs.declared.fused_filter.FusedFilter.{FusedFilter}
-use Rattle.pnm_flow.specs.Internal.SerialTools.{ToolsAt, AreFresh}
-use Rattle.pnm_filters.specs.AnyTools.{ToolAt}
+use Rattle.pnm_flow.proofs.Words.{ℕ, zero, suc, ◌<◌, List, [], ◌∷◌, ◌++◌, length, get_or, refl, arith, Tool, AnyTool, AreLawfulTools, StateValue, IsLawfulTool}
+use Rattle.pnm_flow.proofs.Words.{FusedFilter, ToolsAt, AreFresh, ToolAt}
 
 -- one tool more
 pub fresh_more : (stages : List (FusedFilter (StateValue AnyTool))) (tools : List Tool) (stage : FusedFilter (StateValue AnyTool)) (tool : Tool)

@@ -1,35 +1,22 @@
 -- A packet that is taken from the ring behind the last tool of a run, and put.
-use Rattle.std.proofs.Common.{◌≡◌, ℕ, Bool, true, false, List, [], ◌∷◌, ◌++◌, Option, length, refl, sym, ap, ◌∙◌, append_assoc}
-use Rattle.pnm_stages.specs.Rings.{received}
-use Rattle.pnm_image.specs.declared.format.Form.{Form}
-use Rattle.pnm_image.specs.declared.message.Message.{Message}
-use Rattle.pnm_image.specs.declared.packet.Packet.TheVariants.{Part, StreamEnd as EndsStream, Stop as Stops}
-use Rattle.pnm_image.specs.Packets.{messages_in, ending_of_packet}
-use Rattle.pnm_image.specs.Messages.{without_stop, EndsBy}
-use Rattle.pnm_image.specs.declared.message.Ending.{Ending}
-use Rattle.pnm_image.specs.declared.message.Ending.TheVariants.{More, BrokenOff}
-use Rattle.pnm_tools.proofs.SoundLaws.{IsUnbroken, unbroken_keeps_all}
-use Rattle.pnm_image.specs.declared.packet.Packet.{Packet}
-use Rattle.pnm_io_loop.specs.declared.egress.Egress.{Egress}
-use Rattle.pnm_serial.specs.Counts.{images_in}
-use Rattle.pnm_serial.proofs.MessageSteps.{images_in-append}
-use Rattle.pnm_io_loop.specs.Egresses.{EndedBy, HasReceived, IsEgress, receiving_is_over}
-use Rattle.pnm_stages.proofs.PacketLaws.{ends_as_packet}
-use Rattle.pnm_stages.proofs.PrefixLaws.{stop_is_cut}
+use Rattle.pnm_io_loop.proofs.Words.{◌≡◌, ℕ, Bool, true, false, List, [], ◌∷◌, ◌++◌, Option, length, refl, sym, ap, ◌∙◌, append_assoc, received, Form, Message}
+use Rattle.pnm_io_loop.proofs.Words.{Part, EndsStream, Stops, messages_in, ending_of_packet, without_stop, EndsBy, Ending, More, BrokenOff, IsUnbroken}
+use Rattle.pnm_io_loop.proofs.Words.{unbroken_keeps_all, Packet, Egress, images_in, images_in-append, EndedBy, HasReceived, IsEgress, receiving_is_over}
+use Rattle.pnm_io_loop.proofs.Words.{ends_as_packet, stop_is_cut}
 
 -- ---- a packet behind messages
 
 -- whether they have ended then
-pub ends_by : (e : Ending) (b : Bool) (l : List Message) (p : Packet) → EndsBy (ending_of_packet p) (messages_in p) → b ≡ false → EndedBy b l
+pub ends_by : {e : Ending} (b : Bool) (l : List Message) (p : Packet) → EndsBy (ending_of_packet p) (messages_in p) → b ≡ false → EndedBy b l
     → ending_of_packet p ≡ e → EndsBy e (l ++ messages_in p)
-ends_by e true l p ends going ended same = absurd cc
-ends_by e false l p ends going ended same = ends_as_packet e l p ends ended same
+ends_by true l p ends going ended same = absurd cc
+ends_by {e} false l p ends going ended same = ends_as_packet e l p ends ended same
 
 -- every message but Stop is written
-pub keeps_packet : (e : Ending) (b : Bool) (l : List Message) (p : Packet) → EndsBy (ending_of_packet p) (messages_in p) → IsUnbroken e → b ≡ false
+pub keeps_packet : {e : Ending} (b : Bool) (l : List Message) (p : Packet) → EndsBy (ending_of_packet p) (messages_in p) → IsUnbroken e → b ≡ false
     → EndedBy b l → ending_of_packet p ≡ e → without_stop l ++ messages_in p ≡ without_stop (l ++ messages_in p)
-keeps_packet e true l p ends unbroken going ended same = absurd cc
-keeps_packet e false l p ends unbroken going ended same =
+keeps_packet true l p ends unbroken going ended same = absurd cc
+keeps_packet {e} false l p ends unbroken going ended same =
     ap (λ (x : List Message). x ++ messages_in p) (unbroken_keeps_all More l tt ended)
     ∙ sym (unbroken_keeps_all e (l ++ messages_in p) unbroken (ends_as_packet e l p ends ended same))
 
@@ -57,8 +44,9 @@ collects_some held failures form start before some old new added puts count was 
 }
 
 -- what was left came in part
-pub still_all : (old new left now sent some : List Message) → old ++ left ≡ sent → new ≡ old ++ some → left ≡ some ++ now → new ++ now ≡ sent
-still_all old new left now sent some all added first =
+pub still_all : (old : List Message) {new left : List Message} (now : List Message) {sent : List Message} (some : List Message) → old ++ left ≡ sent
+    → new ≡ old ++ some → left ≡ some ++ now → new ++ now ≡ sent
+still_all old now some all added first =
     ap (λ (x : List Message). x ++ now) added ∙ append_assoc old some now ∙ ap (λ (x : List Message). old ++ x) (sym first) ∙ all
 
 -- what is seen first comes first
@@ -66,8 +54,8 @@ abbrev first_or : Packet → List Packet → Packet
 first_or m [] = m
 first_or m (n ∷ l) = n
 
-pub first_is : (m n : Packet) (k l : List Packet) → m ∷ k ≡ n ∷ l → m ≡ n
-first_is m n k l same = ap (first_or m) same
+pub first_is : {m n : Packet} {k l : List Packet} → m ∷ k ≡ n ∷ l → m ≡ n
+first_is {m} same = ap (first_or m) same
 
 -- none are left
 pub none_left : (left : List Message) → length left ≡ 0 → left ≡ []
@@ -87,7 +75,7 @@ over_if_gone true = refl
 over_if_gone false = refl
 
 -- and goes on if it isn't
-pub still_going : (has_ended is_gone now : Bool) → receiving_is_over has_ended is_gone ≡ false → now ≡ false
+pub still_going : (has_ended is_gone : Bool) {now : Bool} → receiving_is_over has_ended is_gone ≡ false → now ≡ false
     → receiving_is_over has_ended now ≡ receiving_is_over has_ended is_gone
-still_going true is_gone now going same = refl
-still_going false is_gone now going same = same ∙ sym going
+still_going true is_gone going same = refl
+still_going false is_gone going same = same ∙ sym going

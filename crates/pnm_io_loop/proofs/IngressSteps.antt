@@ -1,23 +1,9 @@
 -- What an ingress has sent, once it has asked its source for one packet more.
-use Rattle.std.proofs.Common.{◌≡◌, ◌⊎◌, ℕ, List, [], ◌∷◌, ◌++◌, Option, Some, None, Ok, Err, refl, sym, ap, subst, ◌∙◌, append_assoc, append-nil}
-use Rattle.pnm_stages.specs.Rings.{sent}
-use Rattle.pnm_stages.specs.declared.sender.Sender.{Sender}
-use Rattle.pnm_image.specs.Devices.{Failed}
-use Rattle.pnm_image.specs.declared.message.Message.{Message}
-use Rattle.pnm_image.specs.declared.message.Message.TheVariants.{Stop}
-use Rattle.pnm_image.specs.declared.packet.Packet.{Packet}
-use Rattle.pnm_image.specs.Packets.{messages_in}
-use Rattle.pnm_read.specs.declared.fault.InputFault.{InputFault}
-use Rattle.pnm_read.specs.declared.fault.InputFault.TheVariants.{ReadFailed}
-use Rattle.pnm_read.specs.declared.source.Source.{Source}
-use Rattle.pnm_read.specs.Sources.{reader_of, stopped_by, MayGive, SeesEnd, Tells}
-use Rattle.pnm_read.proofs.Consumed.{consumes_then}
-use Rattle.pnm_read.proofs.ReadCalls.{no_fault}
-use Rattle.pnm_io_loop.specs.declared.ingress.Ingress.{Ingress}
-use Rattle.pnm_io_loop.specs.Ingresses.{HasAsked, HasAskedAll, HasAskedBy, IsIngress, closing_messages}
-use Rattle.pnm_serial.specs.Counts.{images_in}
-use Rattle.pnm_serial.proofs.MessageSteps.{images_in-append}
-use Rattle.pnm_serial.proofs.FeedingSteps.{may_give, IsUnreadAfter, unread_after, read_failure, fault_answer, given_is_sound, open_in_call, failed_in_call}
+use Rattle.pnm_io_loop.proofs.Words.{◌≡◌, ◌⊎◌, ℕ, List, [], ◌∷◌, ◌++◌, Option, Some, None, Ok, Err, refl, sym, ap, subst, ◌∙◌, append_assoc, append-nil, sent}
+use Rattle.pnm_io_loop.proofs.Words.{Sender, Failed, Message, Stop, Packet, messages_in, InputFault, ReadFailed, Source, reader_of, stopped_by, MayGive}
+use Rattle.pnm_io_loop.proofs.Words.{SeesEnd, Tells, consumes_then, no_fault, Ingress, HasAsked, HasAskedAll, HasAskedBy, IsIngress, closing_messages}
+use Rattle.pnm_io_loop.proofs.Words.{images_in, images_in-append, may_give, IsUnreadAfter, unread_after, read_failure, fault_answer, given_is_sound}
+use Rattle.pnm_io_loop.proofs.Words.{open_in_call, failed_in_call}
 
 -- ---- the source
 
@@ -84,41 +70,33 @@ asked_until left failures first source next given fault asked t unread anything 
 
 -- ---- the ingress
 
--- where the source hasn't ended, all that it gave was sent
-sent_so_far : {R : Type 0} (left : R → Option (List ℕ)) (failures : R → ℕ) (first : Source R) (before : List Message) (f : Ingress R)
-    → f.input ≡ None → (sending : IsIngress left failures first before f) → sent f.output ≡ before ++ sending.given
-sent_so_far left failures first before f input sending =
-    sending.passed ∙ ap (λ i. before ++ (sending.given ++ closing_messages i)) input ∙ ap (λ g. before ++ g) (append-nil sending.given)
+module _ {R : Type 0} {left : R → Option (List ℕ)} {failures : R → ℕ} {first : Source R} {before : List Message} {f : Ingress R} where
+  -- where the source hasn't ended, all that it gave was sent
+  sent_so_far : f.input ≡ None → (sending : IsIngress left failures first before f) → sent f.output ≡ before ++ sending.given
+  sent_so_far input sending =
+      sending.passed ∙ ap (λ i. before ++ (sending.given ++ closing_messages i)) input ∙ ap (λ g. before ++ g) (append-nil sending.given)
 
--- the source hasn't ended
-asked_of : {R : Type 0} (left : R → Option (List ℕ)) (failures : R → ℕ) (first : Source R) (before : List Message) (f : Ingress R)
-    → f.input ≡ None → (sending : IsIngress left failures first before f) → HasAsked left failures first f.source sending.given
-asked_of left failures first before f input sending = subst (HasAskedBy left failures first f.source sending.given) input sending.asked
+  -- the source hasn't ended
+  asked_of : f.input ≡ None → (sending : IsIngress left failures first before f) → HasAsked left failures first f.source sending.given
+  asked_of input sending = subst (HasAskedBy left failures first f.source sending.given) input sending.asked
 
--- a packet was given, and sent
-pub feeds_packet : {R : Type 0} (left : R → Option (List ℕ)) (failures : R → ℕ) (first : Source R) (before : List Message) (f : Ingress R)
-    (next : Source R) (packet : Packet) (output : Sender) (images : ℕ)
-    → f.input ≡ None
-    → sent output ≡ sent f.output ++ messages_in packet
-    → Tells left f.source (Ok (Some packet)) next
-    → (SeesEnd left f.source → SeesEnd left next)
-    → IsUnreadAfter left f.source next
-    → failures (reader_of next) ≡ failures (reader_of f.source)
-    → images ≡ images_in f.images (messages_in packet)
-    → IsIngress left failures first before f
-    → IsIngress left failures first before (record f { source = next; output = output; images = images })
-feeds_packet left failures first before f next packet output images input added t end unread count counted sending =
-    let all : List Message = sending.given ++ messages_in packet in
-    let asked : HasAsked left failures first next all =
-    asked_more left failures first f.source next sending.given packet (asked_of left failures first before f input sending) t end unread count in
-    record {
-      given = all;
-      asked = subst (HasAskedBy left failures first next all) (sym input) asked;
-      passed = added ∙ ap (λ s. s ++ messages_in packet) (sent_so_far left failures first before f input sending)
-          ∙ append_assoc before sending.given (messages_in packet)
-          ∙ ap (λ g. before ++ g) (sym (append-nil all)) ∙ ap (λ i. before ++ (all ++ closing_messages i)) (sym input);
-      counted = counted ∙ ap (λ (n : ℕ). images_in n (messages_in packet)) sending.counted ∙ sym (images_in-append 0 sending.given (messages_in packet));
-    }
+  -- a packet was given, and sent
+  pub feeds_packet : {next : Source R} {packet : Packet} (output : Sender) {images : ℕ} → f.input ≡ None → sent output ≡ sent f.output ++ messages_in packet
+      → Tells left f.source (Ok (Some packet)) next → (SeesEnd left f.source → SeesEnd left next) → IsUnreadAfter left f.source next
+      → failures (reader_of next) ≡ failures (reader_of f.source) → images ≡ images_in f.images (messages_in packet) → IsIngress left failures first before f
+      → IsIngress left failures first before (record f { source = next; output = output; images = images })
+  feeds_packet {next} {packet} output input added t end unread count counted sending =
+      let all : List Message = sending.given ++ messages_in packet in
+      let asked : HasAsked left failures first next all =
+      asked_more left failures first f.source next sending.given packet (asked_of input sending) t end unread count in
+      record {
+        given = all;
+        asked = subst (HasAskedBy left failures first next all) (sym input) asked;
+        passed = added ∙ ap (λ s. s ++ messages_in packet) (sent_so_far input sending)
+            ∙ append_assoc before sending.given (messages_in packet)
+            ∙ ap (λ g. before ++ g) (sym (append-nil all)) ∙ ap (λ i. before ++ (all ++ closing_messages i)) (sym input);
+        counted = counted ∙ ap (λ (n : ℕ). images_in n (messages_in packet)) sending.counted ∙ sym (images_in-append 0 sending.given (messages_in packet));
+      }
 
 -- the stream has ended
 pub feeds_all : {R : Type 0} (left : R → Option (List ℕ)) (failures : R → ℕ) (first : Source R) (before : List Message) (f : Ingress R) (next : Source R)
@@ -130,7 +108,7 @@ pub feeds_all : {R : Type 0} (left : R → Option (List ℕ)) (failures : R → 
     → IsIngress left failures first before (record f { source = next; input = Some (Ok tt) })
 feeds_all left failures first before f next input t unread count sending = record {
   given = sending.given;
-  asked = asked_all left failures first f.source next sending.given (asked_of left failures first before f input sending) t unread count;
+  asked = asked_all left failures first f.source next sending.given (asked_of input sending) t unread count;
   passed = sending.passed ∙ ap (λ i. before ++ (sending.given ++ closing_messages i)) input;
   counted = sending.counted;
 }
@@ -149,8 +127,8 @@ pub feeds_until : {R : Type 0} (left : R → Option (List ℕ)) (failures : R �
     → IsIngress left failures first before (record f { source = next; output = output; input = Some (Err fault) })
 feeds_until left failures first before f next fault output input added t unread anything failed count sending = record {
   given = sending.given;
-  asked = asked_until left failures first f.source next sending.given fault (asked_of left failures first before f input sending) t unread anything failed
+  asked = asked_until left failures first f.source next sending.given fault (asked_of input sending) t unread anything failed
       count;
-  passed = added ∙ ap (λ s. s ++ Stop ∷ []) (sent_so_far left failures first before f input sending) ∙ append_assoc before sending.given (Stop ∷ []);
+  passed = added ∙ ap (λ s. s ++ Stop ∷ []) (sent_so_far input sending) ∙ append_assoc before sending.given (Stop ∷ []);
   counted = sending.counted;
 }

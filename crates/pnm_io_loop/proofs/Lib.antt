@@ -1,3 +1,4 @@
+mod Words
 pub mod IngressSteps
 pub mod EgressSteps
 pub mod IoLoopSteps

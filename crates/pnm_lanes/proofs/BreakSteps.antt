@@ -1,33 +1,11 @@
 -- How dealing is broken off.
-use Rattle.std.proofs.Common.{◌≡◌, ◌⊎◌, inl, inr, ℕ, Bool, true, false, List, [], ◌∷◌, ◌++◌, length, Option, None, Some, refl, sym, ap, subst, ◌∙◌}
-use Rattle.std.proofs.Common.{append_assoc, append-nil}
-use Rattle.std.specs.List.{AllByRecursion}
-use Rattle.pnm_image.specs.declared.packet.Packet.{Packet}
-use Rattle.pnm_stages.specs.declared.sender.Sender.{Sender}
-use Rattle.pnm_image.specs.Packets.{messages_in}
-use Rattle.pnm_stages.specs.Rings.{sent}
-use Rattle.pnm_image.specs.declared.message.Message.{Message}
-use Rattle.pnm_image.specs.declared.message.Message.TheVariants.{Stop}
-use Rattle.pnm_image.specs.declared.place.Place.{Place}
-use Rattle.pnm_image.specs.declared.place.Place.TheVariants.{Between}
-use Rattle.pnm_image.specs.Messages.{IsMessage, ending_of, EndsBy}
-use Rattle.pnm_image.specs.Places.{Accepts, IsLawful, place_of}
-use Rattle.pnm_image.proofs.Lists.{same_first}
-use Rattle.pnm_image.proofs.Places.{lawful_more, next_may_come, place_of-append}
-use Rattle.pnm_tools.specs.declared.fault.ToolFault.TheVariants.{OutOfOrder, Memory}
-use Rattle.pnm_image.specs.declared.message.Ending.{Ending}
-use Rattle.pnm_image.specs.declared.message.Ending.TheVariants.{More, Whole, BrokenOff}
-use Rattle.pnm_tools.specs.Dealing.{dealt_message, dealt}
-use Rattle.pnm_tools.proofs.SoundLaws.{both_all}
-use Rattle.pnm_tools.proofs.InFullLaws.{EndNothing, ends_after}
-use Rattle.pnm_stages.specs.declared.stage.StageEnd.{StageEnd}
-use Rattle.pnm_stages.specs.declared.stage.StageEnd.TheVariants.{Fault, PeerGone}
-use Rattle.pnm_stages.specs.Prefixes.{IsLongestLawfulPrefix}
-use Rattle.pnm_stages.specs.Rings.{IsEnded, EndsAtMostOnce, HasDrainedAfter}
-use Rattle.pnm_stages.proofs.EndingLaws.{prefix_goes_on}
-use Rattle.pnm_stages.proofs.RingSteps.{ends_nothing, same_output}
-use Rattle.pnm_lanes.specs.Deals.{AtEach, HasReceivedSo, HasSentSo, HasLane, HasDealt}
-use Rattle.pnm_lanes.specs.Internal.DealParts.{part_at, IsSentPart, HasBrokenOffDealing, HasDealtAll, IsReason, HasLeftOff, HasDealtMessages}
+use Rattle.pnm_lanes.proofs.Words.{◌≡◌, ◌⊎◌, inl, inr, ℕ, Bool, true, false, List, [], ◌∷◌, ◌++◌, length, Option, None, Some, refl, sym, ap, subst, ◌∙◌}
+use Rattle.pnm_lanes.proofs.Words.{append_assoc, append-nil, AllByRecursion, Packet, Sender, messages_in, sent, Message, Stop, Place, Between, IsMessage}
+use Rattle.pnm_lanes.proofs.Words.{ending_of, EndsBy, Accepts, IsLawful, place_of, same_first, lawful_more, next_may_come, place_of-append, OutOfOrder, Memory}
+use Rattle.pnm_lanes.proofs.Words.{Ending, More, Whole, BrokenOff, dealt_message, dealt, both_all, EndNothing, ends_after, StageEnd, Fault, PeerGone}
+use Rattle.pnm_lanes.proofs.Words.{IsLongestLawfulPrefix, IsEnded, EndsAtMostOnce, HasDrainedAfter, prefix_goes_on, ends_nothing, same_output, AtEach}
+use Rattle.pnm_lanes.proofs.Words.{HasReceivedSo, HasSentSo, HasLane, HasDealt, part_at, IsSentPart, HasBrokenOffDealing, HasDealtAll, IsReason, HasLeftOff}
+use Rattle.pnm_lanes.proofs.Words.{HasDealtMessages}
 use Rattle.pnm_lanes.proofs.EachLaws.{each-map, each-then}
 use Rattle.pnm_lanes.proofs.MessageSteps.{all_then, dealt_then}
 use Rattle.pnm_lanes.proofs.DealSteps.{HasAll, IsDealing, parts_of, HasPrefix, all_is_prefix, part_is_prefix, IsAccepted, all_accepted}
@@ -70,12 +48,12 @@ out_of_order lanes took m after lawful refused = record {
 }
 
 -- there was no memory, or the other end of a ring was seen dropped
-for_reason : (end : StageEnd) (all : Bool) (lanes : ℕ) (accepted took : List Message) → (end ≡ Fault Memory) ⊎ (end ≡ PeerGone)
+for_reason : {end : StageEnd} {all : Bool} {lanes : ℕ} {accepted took : List Message} → (end ≡ Fault Memory) ⊎ (end ≡ PeerGone)
     → MayEndSo end all lanes accepted took
-for_reason end all lanes accepted took (inl memory) =
+for_reason {all} {lanes} {accepted} {took} (inl memory) =
     subst (λ (e : StageEnd). MayEndSo e all lanes accepted took) (sym memory)
     (record { input = λ more ended. ended; output = λ lane more g goes_on full. (g, refl, goes_on, tt) })
-for_reason end all lanes accepted took (inr gone) =
+for_reason {all} {lanes} {accepted} {took} (inr gone) =
     subst (λ (e : StageEnd). MayEndSo e all lanes accepted took) (sym gone) (record { input = λ more ended. tt; output = λ lane more g goes_on full. tt })
 
 -- ---- what was received before and while the input was drained
@@ -110,9 +88,9 @@ once_ended l (inl whole) = (Whole, whole)
 once_ended l (inr broken) = (BrokenOff, broken)
 
 -- nothing, after a message that ends the stream
-nothing_drained : (drained : Bool) (took received_now received_new left : List Message) → IsEnded took → received_new ≡ received_now
+nothing_drained : {drained : Bool} {took received_now received_new left : List Message} → IsEnded took → received_new ≡ received_now
     → IsDrained drained took received_now received_new left
-nothing_drained drained took received_now received_new left ended same =
+nothing_drained {took} {received_now} ended same =
     let still : IsEnded (took ++ []) = subst IsEnded (sym (append-nil took)) ended in
     record {
       more = [];
@@ -143,18 +121,19 @@ is_drained More false took received_now received_new left ends (extends, none) =
   nothing = inr none;
   ended = λ all. absurd cc;
 }
-is_drained Whole drained took received_now received_new left ends same = nothing_drained drained took received_now received_new left (inl ends) same.1
+is_drained Whole drained took received_now received_new left ends same = nothing_drained (inl ends) same.1
 is_drained BrokenOff drained took received_now received_new left ends same =
-    nothing_drained drained took received_now received_new left (inr ends) same.1
+    nothing_drained (inr ends) same.1
 
 -- ---- and how it ends then
 
 -- Stop was sent to all, and the input was drained
-ends_so : (end answer : StageEnd) (ending : Ending) (unstopped : Option StageEnd) (drained : Bool) (received_old received_now received_new left : List Message)
-    (olds nows news : List Sender) (cut : IsCut end ending received_old received_now olds nows)
-    → AtEach (IsSentPart (λ lane. Stop ∷ []) unstopped) nows news → IsDrained drained cut.took received_now received_new left
-    → ((unstopped ≡ None) × (drained ≡ true) × (answer ≡ end)) ⊎ (answer ≡ PeerGone) → HasDealt answer received_old received_new left olds news
-ends_so end answer ending unstopped drained received_old received_now received_new left olds nows news cut is_sent rest (inl (none, all, same)) =
+ends_so : (end : StageEnd) {answer : StageEnd} (ending : Ending) (unstopped : Option StageEnd) {drained : Bool}
+    {received_old received_now received_new left : List Message} {olds : List Sender} (nows : List Sender) {news : List Sender}
+    (cut : IsCut end ending received_old received_now olds nows) → AtEach (IsSentPart (λ lane. Stop ∷ []) unstopped) nows news
+    → IsDrained drained cut.took received_now received_new left → ((unstopped ≡ None) × (drained ≡ true) × (answer ≡ end)) ⊎ (answer ≡ PeerGone)
+    → HasDealt answer received_old received_new left olds news
+ends_so end ending unstopped {received_old} {received_new} {left} {olds} nows {news} cut is_sent rest (inl (none, all, same)) =
     let took = cut.took ++ rest.more in
     subst (λ (e : StageEnd). HasDealt e received_old received_new left olds news) (sym same) (record {
       took = took;
@@ -164,11 +143,10 @@ ends_so end answer ending unstopped drained received_old received_now received_n
       once = rest.once;
       ended = cut.may.input rest.more (rest.ended all);
       lanes = each-then (HasPrefix cut.all (length olds) cut.accepted) (IsSentPart (λ lane. Stop ∷ []) unstopped) (HasLane end (length olds) took) 0 olds nows
-          news
-          (sent_lane end cut.all (length olds) cut.accepted took unstopped none (accepted_more cut.accepted cut.took rest.more cut.is)
+          news (sent_lane cut.all unstopped none (accepted_more cut.accepted cut.took rest.more cut.is)
           (λ lane g goes_on full. cut.may.output lane rest.more g goes_on full)) cut.lanes is_sent;
     })
-ends_so end answer ending unstopped drained received_old received_now received_new left olds nows news cut is_sent rest (inr same) =
+ends_so end ending unstopped {received_old} {received_new} {left} {olds} nows {news} cut is_sent rest (inr same) =
     let took = cut.took ++ rest.more in
     subst (λ (e : StageEnd). HasDealt e received_old received_new left olds news) (sym same) (record {
       took = took;
@@ -178,30 +156,8 @@ ends_so end answer ending unstopped drained received_old received_now received_n
       once = rest.once;
       ended = tt;
       lanes = each-then (HasPrefix cut.all (length olds) cut.accepted) (IsSentPart (λ lane. Stop ∷ []) unstopped) (HasLane PeerGone (length olds) took) 0 olds
-          nows
-          news
-          (lost_lane cut.all (length olds) cut.accepted took unstopped (accepted_more cut.accepted cut.took rest.more cut.is)) cut.lanes is_sent;
+          nows news (lost_lane cut.all (length olds) cut.accepted took unstopped (accepted_more cut.accepted cut.took rest.more cut.is)) cut.lanes is_sent;
     })
-
-pub breaks_off : (end answer : StageEnd) (ending : Ending) (e : Ending) (received_old received_now received_new left : List Message)
-    (olds nows news : List Sender) (cut : IsCut end e received_old received_now olds nows)
-    → ending ≡ e → HasBrokenOffDealing end ending answer received_now received_new left nows news
-    → HasDealt answer received_old received_new left olds news
-breaks_off end answer ending e received_old received_now received_new left olds nows news cut says broken =
-    let same : EndsBy ending cut.took = subst (λ (x : Ending). EndsBy x cut.took) (sym says) cut.ends in
-    ends_so end answer ending broken.unstopped broken.drained received_old received_now received_new left olds nows news
-    (record {
-      took = cut.took;
-      accepted = cut.accepted;
-      all = cut.all;
-      input = cut.input;
-      messages = cut.messages;
-      ends = same;
-      is = cut.is;
-      may = cut.may;
-      lanes = cut.lanes;
-    })
-    broken.lanes (is_drained ending broken.drained cut.took received_now received_new left same broken.input) broken.answered
 
 -- ---- where it is broken off
 
@@ -220,44 +176,6 @@ pub record IsInterrupted (end : StageEnd) (ending : Ending) (received_old receiv
   pub dealt : HasDealtAll Between before olds nows
   pub reason : IsReason end (place_of Between before) at nows news
 
-interrupts : (end : StageEnd) (ending : Ending) (place : Place) (received_old received_now received_new l : List Message) (olds nows news : List Sender)
-    → IsDealing More place received_old received_now olds nows → received_new ≡ received_now ++ l → AllByRecursion IsMessage l → EndsBy ending l
-    → HasLeftOff end place l nows news → IsInterrupted end ending received_old received_new olds news
-interrupts end ending place received_old received_now received_new l olds nows news dealing added are ends left =
-    let took = dealing.took in
-    let first = left.before in
-    let rest : List Message = left.at ∷ left.after in
-    let goes : EndsBy More first = prefix_goes_on ending first left.at left.after (subst (EndsBy ending) left.parts ends) in
-    let here : place_of place first ≡ place_of Between (took ++ first) =
-    ap (λ (p : Place). place_of p first) dealing.here ∙ sym (place_of-append Between took first) in
-    record {
-      took = took ++ l;
-      before = took ++ first;
-      at = left.at;
-      after = left.after;
-      input = added ∙ ap (λ (x : List Message). x ++ l) dealing.input ∙ append_assoc received_old took l;
-      messages = both_all IsMessage took l dealing.messages are;
-      ends = ends_after ending took l (ends_nothing took dealing.ends) ends;
-      parts = ap (λ (x : List Message). took ++ x) left.parts ∙ sym (append_assoc took first rest);
-      goes = ends_after More took first (ends_nothing took dealing.ends) goes;
-      nows = left.nows;
-      dealt = dealt_then Between took first olds nows left.nows (dealing.lawful, dealing.lanes)
-          (subst (λ (p : Place). HasDealtAll p first nows left.nows) dealing.here left.dealt);
-      reason = subst (λ (p : Place). IsReason end p left.at left.nows news) here left.reason;
-    }
-
--- at a packet of which not all was dealt
-pub interrupts_packet : (end : StageEnd) (ending : Ending) (place here : Place) (received_old received_now received_new : List Message)
-    (olds nows news : List Sender) (packet : Packet) (unsent : Option StageEnd)
-    → IsDealing More place received_old received_now olds nows → received_new ≡ received_now ++ messages_in packet
-    → AllByRecursion IsMessage (messages_in packet) → EndsBy ending (messages_in packet)
-    → HasDealtMessages place here (messages_in packet) unsent nows news → unsent ≡ Some end
-    → IsInterrupted end ending received_old received_new olds news
-interrupts_packet end ending place here received_old received_now received_new olds nows news packet unsent dealing added are ends left some =
-    interrupts end ending place received_old received_now received_new (messages_in packet) olds nows news dealing added are
-    ends
-    (subst (λ (u : Option StageEnd). HasDealtMessages place here (messages_in packet) u nows news) some left)
-
 goes_within : (before : List Message) (m : Message) (after : List Message) → EndNothing (before ++ m ∷ after) → ending_of m ≡ More
 goes_within [] m after nothing = nothing.0
 goes_within (n ∷ before) m after nothing = goes_within before m after nothing.1
@@ -271,20 +189,20 @@ with_message took before m after parts lawful accepts = record {
 }
 
 -- it may end so before the message
-before_message : (end : StageEnd) (lanes : ℕ) (before : List Message) (m : Message) (after : List Message) → IsLawful before
+before_message : {end : StageEnd} {lanes : ℕ} {before : List Message} (m : Message) (after : List Message) → IsLawful before
     → ((end ≡ Fault OutOfOrder) × (Accepts (place_of Between before) m → ⊥)) ⊎ (end ≡ Fault Memory) → MayEndSo end true lanes before (before ++ m ∷ after)
-before_message end lanes before m after lawful (inl (same, refused)) =
+before_message {lanes} {before} m after lawful (inl (same, refused)) =
     subst (λ (e : StageEnd). MayEndSo e true lanes before (before ++ m ∷ after)) (sym same) (out_of_order lanes before m after lawful refused)
-before_message end lanes before m after lawful (inr memory) = for_reason end true lanes before (before ++ m ∷ after) (inl memory)
+before_message m after lawful (inr memory) = for_reason (inl memory)
 
-not_of_order : (end : StageEnd) → end ≡ Fault OutOfOrder → (end ≡ Fault Memory) ⊎ (end ≡ PeerGone) → ⊥
-not_of_order end same (inl memory) = let e : Fault OutOfOrder ≡ Fault Memory = sym same ∙ memory in absurd cc
-not_of_order end same (inr gone) = let e : Fault OutOfOrder ≡ PeerGone = sym same ∙ gone in absurd cc
+not_of_order : {end : StageEnd} → end ≡ Fault OutOfOrder → (end ≡ Fault Memory) ⊎ (end ≡ PeerGone) → ⊥
+not_of_order same (inl memory) = let e : Fault OutOfOrder ≡ Fault Memory = sym same ∙ memory in absurd cc
+not_of_order same (inr gone) = let e : Fault OutOfOrder ≡ PeerGone = sym same ∙ gone in absurd cc
 
-goes_on_there : (end : StageEnd) (ending : Ending) (took before : List Message) (m : Message) (after : List Message) → EndsBy ending took
+goes_on_there : (end : StageEnd) (ending : Ending) {took : List Message} (before : List Message) (m : Message) (after : List Message) → EndsBy ending took
     → took ≡ before ++ m ∷ after → (end ≡ Fault Memory) ⊎ (end ≡ PeerGone) → (end ≡ Fault OutOfOrder) ⊎ (ending ≡ More) → ending_of m ≡ More
-goes_on_there end ending took before m after ends parts reason (inl same) = absurd (not_of_order end same reason)
-goes_on_there end ending took before m after ends parts reason (inr more) =
+goes_on_there end ending before m after ends parts reason (inl same) = absurd (not_of_order same reason)
+goes_on_there end ending {took} before m after ends parts reason (inr more) =
     goes_within before m after (subst EndNothing parts (ends_nothing took (subst (λ (e : Ending). EndsBy e took) more ends)))
 
 -- nothing was sent of the message; or not each lane was sent its part
@@ -299,14 +217,14 @@ cut_by end ending received_old received_new olds news i goes (inl (same, why)) =
   messages = i.messages;
   ends = i.ends;
   is = record { rest = i.at ∷ i.after; parts = i.parts; lawful = i.dealt.0 };
-  may = subst (MayEndSo end true (length olds) i.before) (sym i.parts) (before_message end (length olds) i.before i.at i.after i.dealt.0 why);
+  may = subst (MayEndSo end true (length olds) i.before) (sym i.parts) (before_message i.at i.after i.dealt.0 why);
   lanes = subst (λ (l : List Sender). AtEach (HasPrefix true (length olds) i.before) olds l) (sym same)
       (each-map (HasAll (length olds) i.before) (HasPrefix true (length olds) i.before) 0 olds i.nows (all_is_prefix (length olds) i.before i.goes) i.dealt.1);
 }
 cut_by end ending received_old received_new olds news i goes (inr (accepts, parts)) =
     let place = place_of Between i.before in
     let accepted : List Message = i.before ++ i.at ∷ [] in
-    let goes_on : ending_of i.at ≡ More = goes_on_there end ending i.took i.before i.at i.after i.ends i.parts parts.reason goes in
+    let goes_on : ending_of i.at ≡ More = goes_on_there end ending i.before i.at i.after i.ends i.parts parts.reason goes in
     record {
       took = i.took;
       accepted = accepted;
@@ -315,69 +233,115 @@ cut_by end ending received_old received_new olds news i goes (inr (accepts, part
       messages = i.messages;
       ends = i.ends;
       is = with_message i.took i.before i.at i.after i.parts i.dealt.0 accepts;
-      may = for_reason end false (length olds) accepted i.took parts.reason;
+      may = for_reason parts.reason;
       lanes = each-then (HasAll (length olds) i.before) (IsSentPart (part_at (length olds) place i.at) (Some end)) (HasPrefix false (length olds) accepted) 0
           olds i.nows news (part_is_prefix place (length olds) i.before i.at (Some end) i.goes goes_on refl) i.dealt.1
-          (parts_of place i.at olds i.nows news i.before (Some end) i.dealt.1 parts).lanes;
+          (parts_of place i.at olds i.before i.dealt.1 parts).lanes;
     }
-
--- at a message that can't come, or in an image
-pub cuts : (end : StageEnd) (ending : Ending) (received_old received_new : List Message) (olds news : List Sender)
-    → IsInterrupted end ending received_old received_new olds news → (end ≡ Fault OutOfOrder) ⊎ (ending ≡ More)
-    → IsCut end ending received_old received_new olds news
-cuts end ending received_old received_new olds news i goes = cut_by end ending received_old received_new olds news i goes i.reason
 
 -- ---- where the other end of a ring was seen dropped
 
 -- the message was dealt to those lanes that it could be sent to
-last_lane : (lanes : ℕ) (before : List Message) (m : Message) (l : List Message) (end : StageEnd) → IsAccepted before l → IsAccepted (before ++ m ∷ []) l
-    → (lane : ℕ) (old now new : Sender)
-    → HasAll lanes before lane old now → IsSentPart (part_at lanes (place_of Between before) m) (Some end) lane now new → HasLane PeerGone lanes l lane old new
-last_lane lanes before m l end without is lane old now new all (same, inl added) =
-    whole_lane PeerGone lanes (before ++ m ∷ []) l is (λ n. tt) lane old new
-    (all_then Between before (m ∷ []) lanes lane old now new all
+last_lane : {lanes : ℕ} (before : List Message) (m : Message) {l : List Message} (end : StageEnd) → IsAccepted before l → IsAccepted (before ++ m ∷ []) l
+    → (lane : ℕ) (old now new : Sender) → HasAll lanes before lane old now → IsSentPart (part_at lanes (place_of Between before) m) (Some end) lane now new
+    → HasLane PeerGone lanes l lane old new
+last_lane {lanes} before m {l} end without is lane old now new all (same, inl added) =
+    whole_lane PeerGone lanes (before ++ m ∷ []) l is (λ n. tt) lane old new (all_then Between before (m ∷ []) lanes lane old now new all
     (same, added ∙ ap (λ (x : List Message). sent now ++ x) (sym (append-nil (dealt_message lane lanes (place_of Between before) m)))))
-last_lane lanes before m l end without is lane old now new all (same, inr lost) =
+last_lane {lanes} before m {l} end without is lane old now new all (same, inr lost) =
     whole_lane PeerGone lanes before l without (λ n. tt) lane old new (same_output old now new all.0 same, lost.0 ∙ all.1)
-
-last_lanes : (end : StageEnd) (ending : Ending) (received_old received_new : List Message) (olds news : List Sender)
-    (i : IsInterrupted end ending received_old received_new olds news) → IsReason end (place_of Between i.before) i.at i.nows news
-    → AtEach (HasLane PeerGone (length olds) i.took) olds news
-last_lanes end ending received_old received_new olds news i (inl (same, why)) =
-    subst (λ (l : List Sender). AtEach (HasLane PeerGone (length olds) i.took) olds l) (sym same)
-    (each-map (HasAll (length olds) i.before) (HasLane PeerGone (length olds) i.took) 0 olds i.nows
-    (whole_lane PeerGone (length olds) i.before i.took (record { rest = i.at ∷ i.after; parts = i.parts; lawful = i.dealt.0 }) (λ n. tt)) i.dealt.1)
-last_lanes end ending received_old received_new olds news i (inr (accepts, parts)) =
-    let place = place_of Between i.before in
-    each-then (HasAll (length olds) i.before) (IsSentPart (part_at (length olds) place i.at) (Some end)) (HasLane PeerGone (length olds) i.took) 0
-    olds i.nows news
-    (last_lane (length olds) i.before i.at i.took end (record { rest = i.at ∷ i.after; parts = i.parts; lawful = i.dealt.0 })
-    (with_message i.took i.before i.at i.after i.parts i.dealt.0 accepts)) i.dealt.1
-    (parts_of place i.at olds i.nows news i.before (Some end) i.dealt.1 parts).lanes
 
 is_ended_so : (ending : Ending) (l : List Message) → EndsBy ending l → (ending ≡ Whole) ⊎ (ending ≡ BrokenOff) → IsEnded l
 is_ended_so ending l ends (inl whole) = inl (subst (λ (e : Ending). EndsBy e l) whole ends)
 is_ended_so ending l ends (inr broken) = inr (subst (λ (e : Ending). EndsBy e l) broken ends)
 
-pub ends_gone : (end : StageEnd) (ending : Ending) (received_old received_new left : List Message) (olds news : List Sender)
-    → IsInterrupted end ending received_old received_new olds news → (ending ≡ Whole) ⊎ (ending ≡ BrokenOff)
-    → HasDealt PeerGone received_old received_new left olds news
-ends_gone end ending received_old received_new left olds news i so =
-    let ended : IsEnded i.took = is_ended_so ending i.took i.ends so in
-    record {
-      took = i.took;
-      input = i.input;
-      seen_taken = inl ended;
-      messages = i.messages;
-      once = once_ended i.took ended;
-      ended = tt;
-      lanes = last_lanes end ending received_old received_new olds news i i.reason;
-    }
+module _ {end : StageEnd} {ending : Ending} {received_old received_new : List Message} {olds news : List Sender} where
+  pub breaks_off : {answer : StageEnd} {e : Ending} {received_now left : List Message} {nows : List Sender}
+      (cut : IsCut end e received_old received_now olds nows) → ending ≡ e → HasBrokenOffDealing end ending answer received_now received_new left nows news
+      → HasDealt answer received_old received_new left olds news
+  breaks_off {received_now} {left} {nows} cut says broken =
+      let same : EndsBy ending cut.took = subst (λ (x : Ending). EndsBy x cut.took) (sym says) cut.ends in
+      ends_so end ending broken.unstopped nows (record {
+        took = cut.took;
+        accepted = cut.accepted;
+        all = cut.all;
+        input = cut.input;
+        messages = cut.messages;
+        ends = same;
+        is = cut.is;
+        may = cut.may;
+        lanes = cut.lanes;
+      }) broken.lanes (is_drained ending broken.drained cut.took received_now received_new left same broken.input) broken.answered
+
+  interrupts : {place : Place} {received_now l : List Message} {nows : List Sender} → IsDealing More place received_old received_now olds nows
+      → received_new ≡ received_now ++ l → AllByRecursion IsMessage l → EndsBy ending l → HasLeftOff end place l nows news
+      → IsInterrupted end ending received_old received_new olds news
+  interrupts {place} {l} {nows} dealing added are ends left =
+      let took = dealing.took in
+      let first = left.before in
+      let rest : List Message = left.at ∷ left.after in
+      let goes : EndsBy More first = prefix_goes_on ending first left.at left.after (subst (EndsBy ending) left.parts ends) in
+      let here : place_of place first ≡ place_of Between (took ++ first) =
+      ap (λ (p : Place). place_of p first) dealing.here ∙ sym (place_of-append Between took first) in
+      record {
+        took = took ++ l;
+        before = took ++ first;
+        at = left.at;
+        after = left.after;
+        input = added ∙ ap (λ (x : List Message). x ++ l) dealing.input ∙ append_assoc received_old took l;
+        messages = both_all IsMessage took l dealing.messages are;
+        ends = ends_after ending took l (ends_nothing took dealing.ends) ends;
+        parts = ap (λ (x : List Message). took ++ x) left.parts ∙ sym (append_assoc took first rest);
+        goes = ends_after More took first (ends_nothing took dealing.ends) goes;
+        nows = left.nows;
+        dealt = dealt_then Between took first olds nows left.nows (dealing.lawful, dealing.lanes)
+            (subst (λ (p : Place). HasDealtAll p first nows left.nows) dealing.here left.dealt);
+        reason = subst (λ (p : Place). IsReason end p left.at left.nows news) here left.reason;
+      }
+
+  -- at a packet of which not all was dealt
+  pub interrupts_packet : {place : Place} (here : Place) {received_now : List Message} {nows : List Sender} (packet : Packet) {unsent : Option StageEnd}
+      → IsDealing More place received_old received_now olds nows → received_new ≡ received_now ++ messages_in packet
+      → AllByRecursion IsMessage (messages_in packet) → EndsBy ending (messages_in packet)
+      → HasDealtMessages place here (messages_in packet) unsent nows news → unsent ≡ Some end → IsInterrupted end ending received_old received_new olds news
+  interrupts_packet {place} here {nows} packet dealing added are ends left some =
+      interrupts dealing added are ends (subst (λ (u : Option StageEnd). HasDealtMessages place here (messages_in packet) u nows news) some left)
+
+  -- at a message that can't come, or in an image
+  pub cuts : IsInterrupted end ending received_old received_new olds news → (end ≡ Fault OutOfOrder) ⊎ (ending ≡ More)
+      → IsCut end ending received_old received_new olds news
+  cuts i goes = cut_by end ending received_old received_new olds news i goes i.reason
+
+  last_lanes : (i : IsInterrupted end ending received_old received_new olds news) → IsReason end (place_of Between i.before) i.at i.nows news
+      → AtEach (HasLane PeerGone (length olds) i.took) olds news
+  last_lanes i (inl (same, why)) =
+      subst (λ (l : List Sender). AtEach (HasLane PeerGone (length olds) i.took) olds l) (sym same)
+      (each-map (HasAll (length olds) i.before) (HasLane PeerGone (length olds) i.took) 0 olds i.nows
+      (whole_lane PeerGone (length olds) i.before i.took (record { rest = i.at ∷ i.after; parts = i.parts; lawful = i.dealt.0 }) (λ n. tt)) i.dealt.1)
+  last_lanes i (inr (accepts, parts)) =
+      let place = place_of Between i.before in
+      each-then (HasAll (length olds) i.before) (IsSentPart (part_at (length olds) place i.at) (Some end)) (HasLane PeerGone (length olds) i.took) 0
+      olds i.nows news (last_lane i.before i.at end (record { rest = i.at ∷ i.after; parts = i.parts; lawful = i.dealt.0 })
+      (with_message i.took i.before i.at i.after i.parts i.dealt.0 accepts)) i.dealt.1 (parts_of place i.at olds i.before i.dealt.1 parts).lanes
+
+  pub ends_gone : {left : List Message} → IsInterrupted end ending received_old received_new olds news → (ending ≡ Whole) ⊎ (ending ≡ BrokenOff)
+      → HasDealt PeerGone received_old received_new left olds news
+  ends_gone i so =
+      let ended : IsEnded i.took = is_ended_so ending i.took i.ends so in
+      record {
+        took = i.took;
+        input = i.input;
+        seen_taken = inl ended;
+        messages = i.messages;
+        once = once_ended i.took ended;
+        ended = tt;
+        lanes = last_lanes i i.reason;
+      }
 
 -- no message can be taken
-pub cut_here : (place : Place) (received_old received_now received_new : List Message) (olds nows : List Sender)
+pub cut_here : {place : Place} {received_old received_now received_new : List Message} {olds nows : List Sender}
     → IsDealing More place received_old received_now olds nows → received_new ≡ received_now → IsCut PeerGone More received_old received_new olds nows
-cut_here place received_old received_now received_new olds nows dealing same =
+cut_here {olds} {nows} dealing same =
     let took = dealing.took in
     record {
       took = took;
@@ -386,8 +350,8 @@ cut_here place received_old received_now received_new olds nows dealing same =
       input = same ∙ dealing.input;
       messages = dealing.messages;
       ends = dealing.ends;
-      is = all_accepted took dealing.lawful;
-      may = for_reason PeerGone true (length olds) took took (inr refl);
+      is = all_accepted dealing.lawful;
+      may = for_reason (inr refl);
       lanes = each-map (HasAll (length olds) took) (HasPrefix true (length olds) took) 0 olds nows (all_is_prefix
           (length olds) took dealing.ends) dealing.lanes;
     }

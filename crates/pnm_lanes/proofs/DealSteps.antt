@@ -1,31 +1,10 @@
 -- What has been dealt so far, and how the dealing ends.
-use Rattle.std.proofs.Common.{◌≡◌, inl, inr, ℕ, Bool, true, false, List, [], ◌∷◌, ◌++◌, length, Option, None, Some, refl, sym, ap, subst, ◌∙◌, append_assoc}
-use Rattle.std.proofs.Common.{append-nil}
-use Rattle.std.specs.List.{AllByRecursion}
-use Rattle.pnm_image.specs.declared.packet.Packet.{Packet}
-use Rattle.pnm_stages.specs.declared.sender.Sender.{Sender}
-use Rattle.pnm_image.specs.Packets.{messages_in}
-use Rattle.pnm_stages.specs.Rings.{sent, SameSender}
-use Rattle.pnm_image.specs.declared.message.Message.{Message}
-use Rattle.pnm_image.specs.declared.message.Message.TheVariants.{Stop}
-use Rattle.pnm_image.specs.declared.place.Place.{Place}
-use Rattle.pnm_image.specs.declared.place.Place.TheVariants.{Between}
-use Rattle.pnm_image.specs.Messages.{IsMessage, without_stop, ending_of, EndsBy}
-use Rattle.pnm_image.specs.Places.{IsLawful, place_of}
-use Rattle.pnm_image.specs.Completion.{IsPrefixOf}
-use Rattle.pnm_image.proofs.Places.{place_of-append}
-use Rattle.pnm_image.specs.declared.message.Ending.{Ending}
-use Rattle.pnm_image.specs.declared.message.Ending.TheVariants.{More, Whole, BrokenOff}
-use Rattle.pnm_tools.specs.Dealing.{dealt_message, dealt}
-use Rattle.pnm_tools.proofs.FullLaws.{prefix_of_prefix}
-use Rattle.pnm_tools.proofs.InFullLaws.{ends_after}
-use Rattle.pnm_tools.proofs.SoundLaws.{both_all}
-use Rattle.pnm_stages.specs.declared.stage.StageEnd.{StageEnd}
-use Rattle.pnm_stages.specs.declared.stage.StageEnd.TheVariants.{Well, Broken, PeerGone}
-use Rattle.pnm_stages.proofs.RingSteps.{ends_nothing, same_output}
-use Rattle.pnm_stages.proofs.PrefixLaws.{stop_is_cut}
-use Rattle.pnm_lanes.specs.Deals.{AtEach, HasSentSo, IsPrefixOfDealt, HasLane, HasDealt}
-use Rattle.pnm_lanes.specs.Internal.DealParts.{part_at, IsSameEnd, IsSentPart, HasSentParts, IsSentAll, HasDealtAll, HasDealtMessages}
+use Rattle.pnm_lanes.proofs.Words.{◌≡◌, inl, inr, ℕ, Bool, true, false, List, [], ◌∷◌, ◌++◌, length, Option, None, Some, refl, sym, ap, subst, ◌∙◌}
+use Rattle.pnm_lanes.proofs.Words.{append_assoc, append-nil, AllByRecursion, Packet, Sender, messages_in, sent, SameSender, Message, Stop, Place, Between}
+use Rattle.pnm_lanes.proofs.Words.{IsMessage, without_stop, ending_of, EndsBy, IsLawful, place_of, IsPrefixOf, place_of-append, Ending, More, Whole, BrokenOff}
+use Rattle.pnm_lanes.proofs.Words.{dealt_message, dealt, prefix_of_prefix, ends_after, both_all, StageEnd, Well, Broken, PeerGone, ends_nothing, same_output}
+use Rattle.pnm_lanes.proofs.Words.{stop_is_cut, AtEach, HasSentSo, IsPrefixOfDealt, HasLane, HasDealt, part_at, IsSameEnd, IsSentPart, HasSentParts, IsSentAll}
+use Rattle.pnm_lanes.proofs.Words.{HasDealtAll, HasDealtMessages}
 use Rattle.pnm_lanes.proofs.EachLaws.{each-map, each-then, each-count}
 use Rattle.pnm_lanes.proofs.DealtLaws.{dealt_more, dealt_goes_on, dealt_part_goes_on, itself_prefix, before_stop_prefix}
 use Rattle.pnm_lanes.proofs.MessageSteps.{none_dealt, dealt_then}
@@ -78,41 +57,37 @@ wakes_dealing place received_old received_now received_new olds nows news dealin
 }
 
 -- the parts of the lanes, by the number of lanes at the beginning
-pub parts_of : (place : Place) (m : Message) (olds nows news : List Sender) (took : List Message) (unsent : Option StageEnd)
-    → AtEach (HasAll (length olds) took) olds nows
-    → HasSentParts (part_at (length nows) place m) unsent nows news → HasSentParts (part_at (length olds) place m) unsent nows news
-parts_of place m olds nows news took unsent all parts =
+pub parts_of : (place : Place) (m : Message) (olds : List Sender) {nows news : List Sender} (took : List Message) {unsent : Option StageEnd}
+    → AtEach (HasAll (length olds) took) olds nows → HasSentParts (part_at (length nows) place m) unsent nows news
+    → HasSentParts (part_at (length olds) place m) unsent nows news
+parts_of place m olds {nows} {news} took {unsent} all parts =
     subst (λ (n : ℕ). HasSentParts (part_at n place m) unsent nows news) (each-count (HasAll (length olds) took) 0 olds nows all) parts
 
--- messages were dealt
-deals_on : (ending : Ending) (place : Place) (received_old received_now received_new l : List Message) (olds nows news : List Sender)
-    → IsDealing More place received_old received_now olds nows → received_new ≡ received_now ++ l → AllByRecursion IsMessage l → EndsBy ending l
-    → HasDealtAll place l nows news → IsDealing ending (place_of place l) received_old received_new olds news
-deals_on ending place received_old received_now received_new l olds nows news dealing added are ends dealt_here =
-    let took = dealing.took in
-    let all : HasDealtAll Between (took ++ l) olds news =
-    dealt_then Between took l olds nows news (dealing.lawful, dealing.lanes) (subst (λ (p : Place). HasDealtAll p l nows news) dealing.here dealt_here) in
-    record {
-      took = took ++ l;
-      input = added ∙ ap (λ (x : List Message). x ++ l) dealing.input ∙ append_assoc received_old took l;
-      messages = both_all IsMessage took l dealing.messages are;
-      lawful = all.0;
-      ends = ends_after ending took l (ends_nothing took dealing.ends) ends;
-      here = ap (λ (p : Place). place_of p l) dealing.here ∙ sym (place_of-append Between took l);
-      lanes = all.1;
-    }
+module _ {ending : Ending} {place : Place} {received_old received_now received_new : List Message} {olds nows news : List Sender} where
+  -- messages were dealt
+  deals_on : (l : List Message) → IsDealing More place received_old received_now olds nows → received_new ≡ received_now ++ l → AllByRecursion IsMessage l
+      → EndsBy ending l → HasDealtAll place l nows news → IsDealing ending (place_of place l) received_old received_new olds news
+  deals_on l dealing added are ends dealt_here =
+      let took = dealing.took in
+      let all : HasDealtAll Between (took ++ l) olds news =
+      dealt_then Between took l olds nows news (dealing.lawful, dealing.lanes) (subst (λ (p : Place). HasDealtAll p l nows news) dealing.here dealt_here) in
+      record {
+        took = took ++ l;
+        input = added ∙ ap (λ (x : List Message). x ++ l) dealing.input ∙ append_assoc received_old took l;
+        messages = both_all IsMessage took l dealing.messages are;
+        lawful = all.0;
+        ends = ends_after ending took l (ends_nothing took dealing.ends) ends;
+        here = ap (λ (p : Place). place_of p l) dealing.here ∙ sym (place_of-append Between took l);
+        lanes = all.1;
+      }
 
--- a packet was dealt
-pub deals_packet : (ending : Ending) (place here : Place) (received_old received_now received_new : List Message) (olds nows news : List Sender)
-    (packet : Packet) (unsent : Option StageEnd)
-    → IsDealing More place received_old received_now olds nows → received_new ≡ received_now ++ messages_in packet
-    → AllByRecursion IsMessage (messages_in packet) → EndsBy ending (messages_in packet)
-    → HasDealtMessages place here (messages_in packet) unsent nows news → unsent ≡ None → IsDealing ending here received_old received_new olds news
-deals_packet ending place here received_old received_now received_new olds nows news packet None dealing added are ends parts none =
-    subst (λ (p : Place). IsDealing ending p received_old received_new olds news) (sym parts.0)
-    (deals_on ending place received_old received_now received_new (messages_in packet) olds nows news dealing added are ends
-    parts.1)
-deals_packet ending place here received_old received_now received_new olds nows news packet (Some end) dealing added are ends parts none = absurd cc
+  -- a packet was dealt
+  pub deals_packet : {here : Place} (packet : Packet) (unsent : Option StageEnd) → IsDealing More place received_old received_now olds nows
+      → received_new ≡ received_now ++ messages_in packet → AllByRecursion IsMessage (messages_in packet) → EndsBy ending (messages_in packet)
+      → HasDealtMessages place here (messages_in packet) unsent nows news → unsent ≡ None → IsDealing ending here received_old received_new olds news
+  deals_packet packet None dealing added are ends parts none =
+      subst (λ (p : Place). IsDealing ending p received_old received_new olds news) (sym parts.0) (deals_on (messages_in packet) dealing added are ends parts.1)
+  deals_packet packet (Some end) dealing added are ends parts none = absurd cc
 
 -- ---- the end of the stream
 
@@ -122,8 +97,8 @@ pub record IsAccepted (accepted l : List Message) : Type 0 where
   pub parts : l ≡ accepted ++ rest
   pub lawful : IsLawful accepted
 
-pub all_accepted : (l : List Message) → IsLawful l → IsAccepted l l
-all_accepted l lawful = record { rest = []; parts = sym (append-nil l); lawful = lawful }
+pub all_accepted : {l : List Message} → IsLawful l → IsAccepted l l
+all_accepted {l} lawful = record { rest = []; parts = sym (append-nil l); lawful = lawful }
 
 -- all of what was accepted was dealt to the lane
 pub whole_lane : (end : StageEnd) (lanes : ℕ) (accepted l : List Message) → IsAccepted accepted l
@@ -147,7 +122,7 @@ ends_whole place received_old received_new left olds news dealing = record {
   once = (Whole, dealing.ends);
   ended = (dealing.lawful, dealing.ends);
   lanes = each-map (HasAll (length olds) dealing.took) (HasLane Well (length olds) dealing.took) 0 olds news
-      (whole_lane Well (length olds) dealing.took dealing.took (all_accepted dealing.took dealing.lawful) (λ lane. refl)) dealing.lanes;
+      (whole_lane Well (length olds) dealing.took dealing.took (all_accepted dealing.lawful) (λ lane. refl)) dealing.lanes;
 }
 
 pub ends_broken : (place : Place) (received_old received_new left : List Message) (olds news : List Sender)
@@ -160,7 +135,7 @@ ends_broken place received_old received_new left olds news dealing = record {
   once = (BrokenOff, dealing.ends);
   ended = (dealing.lawful, dealing.ends);
   lanes = each-map (HasAll (length olds) dealing.took) (HasLane Broken (length olds) dealing.took) 0 olds news
-      (whole_lane Broken (length olds) dealing.took dealing.took (all_accepted dealing.took dealing.lawful) (λ lane. refl)) dealing.lanes;
+      (whole_lane Broken (length olds) dealing.took dealing.took (all_accepted dealing.lawful) (λ lane. refl)) dealing.lanes;
 }
 
 -- ---- a lane that is sent Stop
@@ -182,7 +157,7 @@ pub part_is_prefix : (place : Place) (lanes : ℕ) (took : List Message) (m : Me
     → place ≡ place_of Between took → (lane : ℕ) (old now new : Sender)
     → HasAll lanes took lane old now → IsSentPart (part_at lanes place m) unsent lane now new → HasPrefix false lanes (took ++ m ∷ []) lane old new
 part_is_prefix place lanes took m unsent more goes here lane old now new all (same, inl is) =
-    let more_dealt = dealt_more lane lanes place took m here in (
+    let more_dealt = dealt_more lane lanes took m here in (
       same_output old now new all.0 same,
       (
         dealt lane lanes took ++ dealt_message lane lanes place m,
@@ -199,7 +174,7 @@ part_is_prefix place lanes took m unsent more goes here lane old now new all (sa
     dealt lane lanes took,
     lost.0 ∙ all.1,
     dealt_goes_on lane lanes took more,
-    (dealt_message lane lanes place m, dealt_more lane lanes place took m here),
+    (dealt_message lane lanes place m, dealt_more lane lanes took m here),
     λ e. absurd cc,
   ),
 )
@@ -211,9 +186,9 @@ accepted_more accepted took more is = record {
   lawful = is.lawful;
 }
 
-pub prefix_of_dealt : (lane lanes : ℕ) (accepted l g : List Message) → IsAccepted accepted l → IsPrefixOf (without_stop g) (dealt lane lanes accepted)
+pub prefix_of_dealt : {lane lanes : ℕ} {accepted l g : List Message} → IsAccepted accepted l → IsPrefixOf (without_stop g) (dealt lane lanes accepted)
     → IsPrefixOfDealt lane lanes l g
-prefix_of_dealt lane lanes accepted l g is prefix = record { accepted = accepted; rest = is.rest; parts = is.parts; lawful = is.lawful; prefix = prefix }
+prefix_of_dealt {accepted} is prefix = record { accepted = accepted; rest = is.rest; parts = is.parts; lawful = is.lawful; prefix = prefix }
 
 -- the lane was sent Stop
 stopped_lane : (end : StageEnd) (all : Bool) (lanes : ℕ) (accepted l : List Message) → IsAccepted accepted l
@@ -225,18 +200,19 @@ stopped_lane end all lanes accepted l is so lane old now new (same_now, (g, outp
   gave = g ++ Stop ∷ [];
   output = added ∙ ap (λ (x : List Message). x ++ Stop ∷ []) output ∙ append_assoc (sent old) g (Stop ∷ []);
   ended = so lane g more full;
-  prefix = prefix_of_dealt lane lanes accepted l (g ++ Stop ∷ []) is
+  prefix = prefix_of_dealt is
       (subst (λ (x : List Message). IsPrefixOf x (dealt lane lanes accepted)) (sym (stop_is_cut g)) prefix);
 }
 
-pub sent_lane : (end : StageEnd) (all : Bool) (lanes : ℕ) (accepted l : List Message) (unstopped : Option StageEnd) → unstopped ≡ None → IsAccepted accepted l
+pub sent_lane : {end : StageEnd} (all : Bool) {lanes : ℕ} {accepted l : List Message} (unstopped : Option StageEnd) → unstopped ≡ None
+    → IsAccepted accepted l
     → ((lane : ℕ) (g : List Message) → EndsBy More g → (all ≡ true → g ≡ dealt lane lanes accepted) → HasSentSo end lane lanes l (g ++ Stop ∷ []))
-    → (lane : ℕ) (old now new : Sender)
-    → HasPrefix all lanes accepted lane old now → IsSentPart (λ n. Stop ∷ []) unstopped lane now new → HasLane end lanes l lane old new
-sent_lane end all lanes accepted l unstopped none is so lane old now new prefix (same, inl added) =
+    → (lane : ℕ) (old now new : Sender) → HasPrefix all lanes accepted lane old now → IsSentPart (λ n. Stop ∷ []) unstopped lane now new
+    → HasLane end lanes l lane old new
+sent_lane {end} all {lanes} {accepted} {l} unstopped none is so lane old now new prefix (same, inl added) =
     stopped_lane end all lanes accepted l is so lane old now new prefix same added
-sent_lane end all lanes accepted l None none is so lane old now new prefix (same, inr lost) = let lost_one = lost.1 in absurd cc
-sent_lane end all lanes accepted l (Some e) none is so lane old now new prefix (same, inr lost) = absurd cc
+sent_lane all None none is so lane old now new prefix (same, inr lost) = let lost_one = lost.1 in absurd cc
+sent_lane all (Some e) none is so lane old now new prefix (same, inr lost) = absurd cc
 
 -- or wasn't, where the other end of a ring was seen dropped
 pub lost_lane : (all : Bool) (lanes : ℕ) (accepted l : List Message) (unstopped : Option StageEnd) → IsAccepted accepted l → (lane : ℕ) (old now new : Sender)
@@ -248,5 +224,5 @@ lost_lane all lanes accepted l unstopped is lane old now new (same_now, (g, outp
   gave = g;
   output = lost.0 ∙ output;
   ended = tt;
-  prefix = prefix_of_dealt lane lanes accepted l g is (prefix_of_prefix (without_stop g) g (dealt lane lanes accepted) (before_stop_prefix g) prefix);
+  prefix = prefix_of_dealt is (prefix_of_prefix (without_stop g) g (dealt lane lanes accepted) (before_stop_prefix g) prefix);
 }

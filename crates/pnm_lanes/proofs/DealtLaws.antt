@@ -1,21 +1,8 @@
 -- Messages that are dealt to a lane: one after another, how they end, and their prefixes.
-use Rattle.std.proofs.Common.{◌≡◌, ℕ, Bool, true, false, ◌%◌, List, [], ◌∷◌, ◌++◌, map, refl, sym, ap, subst, ◌∙◌, append_assoc, append-nil}
-use Rattle.std.specs.Prelude.{◌==◌, if◌then◌else◌}
-use Rattle.pnm_image.specs.declared.message.Message.{Message}
-use Rattle.pnm_image.specs.declared.message.Message.TheVariants.{Begin, Row, ImageEnd, StreamEnd, Stop}
-use Rattle.pnm_image.specs.declared.place.Place.{Place}
-use Rattle.pnm_image.specs.declared.place.Place.TheVariants.{Between, Inside, After}
-use Rattle.pnm_image.specs.Messages.{without_stop, ending_of, EndsBy}
-use Rattle.pnm_image.specs.Places.{place_after, place_of}
-use Rattle.pnm_image.specs.Completion.{IsPrefixOf}
-use Rattle.pnm_image.specs.declared.message.Ending.TheVariants.{More}
-use Rattle.pnm_tools.specs.Dealing.{dealt_message, dealt_from, dealt}
-use Rattle.pnm_tools.proofs.FullLaws.{prefix_of_prefix}
-use Rattle.pnm_tools.proofs.InFullLaws.{EndNothing, ends_after}
-use Rattle.pnm_stages.specs.Prefixes.{IsLongestLawfulPrefix}
-use Rattle.pnm_stages.proofs.RingSteps.{ends_nothing}
-use Rattle.pnm_stages.proofs.PrefixLaws.{stop_is_cut, prefix_without_stop, lawful_prefix_of_longest}
-use Rattle.pnm_lanes.specs.Deals.{IsPrefixOfDealt}
+use Rattle.pnm_lanes.proofs.Words.{◌≡◌, ℕ, Bool, true, false, ◌%◌, List, [], ◌∷◌, ◌++◌, map, refl, sym, ap, subst, ◌∙◌, append_assoc, append-nil, ◌==◌}
+use Rattle.pnm_lanes.proofs.Words.{if◌then◌else◌, Message, Begin, Row, ImageEnd, StreamEnd, Stop, Place, Between, Inside, After, without_stop, ending_of}
+use Rattle.pnm_lanes.proofs.Words.{EndsBy, place_after, place_of, IsPrefixOf, More, dealt_message, dealt_from, dealt, prefix_of_prefix, EndNothing, ends_after}
+use Rattle.pnm_lanes.proofs.Words.{IsLongestLawfulPrefix, ends_nothing, stop_is_cut, prefix_without_stop, lawful_prefix_of_longest, IsPrefixOfDealt}
 
 -- ---- one after another
 
@@ -34,10 +21,9 @@ dealt_from-push lane lanes place l m =
     ∙ ap (λ (x : List Message). dealt_from lane lanes place l ++ x) (append-nil (dealt_message lane lanes (place_of place l) m))
 
 -- at this place
-pub dealt_more : (lane lanes : ℕ) (place : Place) (l : List Message) (m : Message) → place ≡ place_of Between l
+pub dealt_more : (lane lanes : ℕ) {place : Place} (l : List Message) (m : Message) → place ≡ place_of Between l
     → dealt lane lanes (l ++ m ∷ []) ≡ dealt lane lanes l ++ dealt_message lane lanes place m
-dealt_more lane lanes place l m here =
-    dealt_from-push lane lanes Between l m ∙ ap (λ (p : Place). dealt lane lanes l ++ dealt_message lane lanes p m) (sym here)
+dealt_more lane lanes l m here = dealt_from-push lane lanes Between l m ∙ ap (λ (p : Place). dealt lane lanes l ++ dealt_message lane lanes p m) (sym here)
 
 -- ---- ends
 

@@ -1,23 +1,11 @@
 -- What lanes get of messages that go on, and of the messages of images.
-use Rattle.std.proofs.Common.{◌≡◌, ◌≢◌, ◌⊎◌, inl, inr, ℕ, ◌==◌, Bool, true, false, List, [], ◌∷◌, ◌++◌, map, refl, sym, ap, ◌∙◌, length, length-append, arith}
-use Rattle.std.specs.Prelude.{if◌then◌else◌, ◌%◌}
-use Rattle.std.specs.List.{AllByRecursion}
-use Rattle.pnm_image.specs.declared.message.Message.{Message}
-use Rattle.pnm_image.specs.declared.message.Message.TheVariants.{Begin, Row, ImageEnd, StreamEnd, Stop}
-use Rattle.pnm_image.specs.declared.place.Place.{Place}
-use Rattle.pnm_image.specs.declared.place.Place.TheVariants.{Between, Inside, After}
-use Rattle.pnm_image.specs.Completion.{IsPrefixOf}
-use Rattle.pnm_image.proofs.Lists.{same_first, same_rest}
-use Rattle.pnm_image.specs.Images.{Image, AreImages, rows_of, messages_of_stream}
-use Rattle.pnm_image.specs.Messages.{IsMessage, without_stop, ending_of, EndsBy}
-use Rattle.pnm_image.specs.Places.{IsLawfulFrom, place_after, place_of}
-use Rattle.pnm_image.specs.declared.message.Ending.TheVariants.{More, Whole}
-use Rattle.pnm_tools.specs.Dealing.{dealt_head, dealt_message, dealt_from}
-use Rattle.pnm_tools.proofs.DealingLaws.{dealt_head_is_head}
-use Rattle.pnm_tools.proofs.InFullLaws.{EndNothing}
-use Rattle.pnm_stages.proofs.RingSteps.{ends_nothing}
-use Rattle.pnm_lanes.specs.Gathers.{BeginsOrEnds}
-use Rattle.pnm_lanes.specs.Internal.GatherParts.{IsOfStream}
+use Rattle.pnm_lanes.proofs.Words.{◌≡◌, ◌≢◌, ◌⊎◌, inl, inr, ℕ, Bool, true, false, List, [], ◌∷◌, ◌++◌, map, refl, sym, ap, ◌∙◌, length, arith, if◌then◌else◌}
+use Rattle.pnm_lanes.proofs.Words.{AllByRecursion, Message, Begin, Row, ImageEnd, StreamEnd, Stop, Place, Between, Inside, After, IsPrefixOf, same_first}
+use Rattle.pnm_lanes.proofs.Words.{same_rest, Image, AreImages, rows_of, messages_of_stream, IsMessage, without_stop, ending_of, EndsBy, IsLawfulFrom}
+use Rattle.pnm_lanes.proofs.Words.{place_after, place_of, More, Whole, dealt_head, dealt_message, dealt_from, dealt_head_is_head, EndNothing, ends_nothing}
+use Rattle.pnm_lanes.proofs.Words.{BeginsOrEnds, IsOfStream}
+use Rattle.std.proofs.Common.{◌==◌, length-append}
+use Rattle.std.specs.Prelude.{◌%◌}
 use Rattle.pnm_lanes.proofs.PartLaws.{begins_so}
 use Rattle.pnm_lanes.proofs.TakenParts.{message_of_stream}
 
@@ -124,14 +112,14 @@ pub record GetsPart (lane lanes : ℕ) (place : Place) (m : Message) : Type 0 wh
   pub gets : dealt_message lane lanes place m ≡ part ∷ []
   pub is_part : part ≢ Stop
 
-pub gets_part : (lane lanes : ℕ) (place : Place) (m : Message) → BeginsOrEnds m → GetsPart lane lanes place m
-gets_part lane lanes place (Begin head) is = record { part = Begin (dealt_head lane lanes head); gets = refl; is_part = λ e. absurd cc }
-gets_part lane lanes place (Row row) is = absurd is
-gets_part lane lanes Between ImageEnd is = record { part = ImageEnd; gets = refl; is_part = λ e. absurd cc }
-gets_part lane lanes (Inside s y) ImageEnd is = record { part = ImageEnd; gets = refl; is_part = λ e. absurd cc }
-gets_part lane lanes After ImageEnd is = record { part = ImageEnd; gets = refl; is_part = λ e. absurd cc }
-gets_part lane lanes place StreamEnd is = absurd is
-gets_part lane lanes place Stop is = absurd is
+pub gets_part : {lane lanes : ℕ} (place : Place) (m : Message) → BeginsOrEnds m → GetsPart lane lanes place m
+gets_part {lane} {lanes} place (Begin head) is = record { part = Begin (dealt_head lane lanes head); gets = refl; is_part = λ e. absurd cc }
+gets_part place (Row row) is = absurd is
+gets_part Between ImageEnd is = record { part = ImageEnd; gets = refl; is_part = λ e. absurd cc }
+gets_part (Inside s y) ImageEnd is = record { part = ImageEnd; gets = refl; is_part = λ e. absurd cc }
+gets_part After ImageEnd is = record { part = ImageEnd; gets = refl; is_part = λ e. absurd cc }
+gets_part place StreamEnd is = absurd is
+gets_part place Stop is = absurd is
 
 -- ---- the messages of images
 
@@ -146,17 +134,17 @@ images_of_stream (i ∷ is) are = (are.0.head, rows_of_stream (rows_of i) (messa
 
 -- ---- two prefixes of one list
 
-later : (m n : Message) (a c : List Message) → m ≡ n → IsPrefixOf c a ⊎ ((x : Message) × (xs : List Message) × (c ≡ a ++ x ∷ xs)) → IsPrefixOf (n ∷ c) (m ∷ a)
-    ⊎ ((x : Message) × (xs : List Message) × (n ∷ c ≡ (m ∷ a) ++ x ∷ xs))
-later m n a c same (inl prefix) = inl (prefix.0, ap (λ (x : Message). x ∷ a) same ∙ ap (λ (l : List Message). n ∷ l) prefix.1)
-later m n a c same (inr more) = inr (more.0, more.1, ap (λ (x : Message). x ∷ c) (sym same) ∙ ap (λ (l : List Message). m ∷ l) more.2)
+later : {m n : Message} (a c : List Message) → m ≡ n → IsPrefixOf c a ⊎ ((x : Message) × (xs : List Message) × (c ≡ a ++ x ∷ xs)) → IsPrefixOf (n ∷ c)
+    (m ∷ a) ⊎ ((x : Message) × (xs : List Message) × (n ∷ c ≡ (m ∷ a) ++ x ∷ xs))
+later {n} a c same (inl prefix) = inl (prefix.0, ap (λ (x : Message). x ∷ a) same ∙ ap (λ (l : List Message). n ∷ l) prefix.1)
+later {m} a c same (inr more) = inr (more.0, more.1, ap (λ (x : Message). x ∷ c) (sym same) ∙ ap (λ (l : List Message). m ∷ l) more.2)
 
 -- the second goes no further than the first, or goes on after it
 pub prefixes_in_order : (a b c d : List Message) → a ++ b ≡ c ++ d → IsPrefixOf c a ⊎ ((x : Message) × (xs : List Message) × (c ≡ a ++ x ∷ xs))
 prefixes_in_order a b [] d same = inl (a, refl)
 prefixes_in_order [] b (n ∷ c) d same = inr (n, c, refl)
 prefixes_in_order (m ∷ a) b (n ∷ c) d same =
-    later m n a c (same_first m n (a ++ b) (c ++ d) same) (prefixes_in_order a b c d (same_rest m n (a ++ b) (c ++ d) same))
+    later a c (same_first m n (a ++ b) (c ++ d) same) (prefixes_in_order a b c d (same_rest m n (a ++ b) (c ++ d) same))
 
 -- what is left of a list that ends by a message does so
 pub last_stays : (a : List Message) (m x : Message) (xs l : List Message) → l ++ m ∷ [] ≡ a ++ x ∷ xs → (ys : List Message) × (x ∷ xs ≡ ys ++ m ∷ [])

@@ -1,32 +1,13 @@
 -- A message of each lane, and the message of the whole stream that they are.
-use Rattle.std.proofs.Common.{◌≡◌, ◌≢◌, inl, inr, ℕ, ◌+◌, ◌<◌, ◌≤◌, List, [], ◌∷◌, ◌++◌, length, get_or, set, take, refl, sym, ap, subst, ◌∙◌, arith, le_refl}
-use Rattle.std.proofs.Common.{Err, Option, Some, None}
-use Rattle.std.specs.Prelude.{nat_lt, if◌then◌else◌}
-use Rattle.std.specs.List.{AllByRecursion}
-use Rattle.std.specs.Option.{IfSome, IfNone, ok_or}
-use Rattle.std.proofs.lemmas.Bool.{cases_eq, cases_lt}
-use Rattle.std.proofs.lemmas.Bool.Decides.{nat_tests}
-use Rattle.std.proofs.lemmas.List.{get_or-set_same, get_or-set_other, get_or-take, length-take-le}
-use Rattle.pnm_image.specs.declared.message.Message.{Message}
-use Rattle.pnm_image.specs.declared.message.Message.TheVariants.{Begin, Row, ImageEnd, StreamEnd, Stop}
-use Rattle.pnm_image.specs.declared.place.Place.{Place}
-use Rattle.pnm_image.specs.declared.place.Place.TheVariants.{Between, Inside, After}
-use Rattle.pnm_image.specs.Completion.{IsPrefixOf}
-use Rattle.pnm_image.specs.Heads.{HeadValue, IsHead, with_height}
-use Rattle.pnm_image.specs.declared.limits.TheConstants.{MAX_SIDE}
-use Rattle.pnm_image.specs.Places.{Accepts, IsLawfulFrom, place_after}
-use Rattle.pnm_tools.specs.declared.fault.ToolFault.{ToolFault}
-use Rattle.pnm_tools.specs.declared.fault.ToolFault.TheVariants.{OutOfOrder}
-use Rattle.pnm_image.specs.Messages.{ending_of}
-use Rattle.pnm_tools.specs.Dealing.{dealt_height, dealt_head, dealt_message, dealt_from}
-use Rattle.pnm_stages.specs.declared.stage.StageEnd.{StageEnd}
-use Rattle.pnm_stages.specs.declared.stage.StageEnd.TheVariants.{Well, Broken, Fault, PeerGone}
-use Rattle.pnm_lanes.specs.declared.lane.LaneState.{LaneState}
-use Rattle.pnm_lanes.specs.declared.lane.LaneState.TheVariants.{Open}
-use Rattle.pnm_lanes.specs.Internal.GatherParts.{IsOfStream, LaneHasGiven, HasTakenFrom, state_at, AreOpen, AwaitsNoRow, HasTakenParts, HasTakenWhole}
-use Rattle.pnm_lanes.specs.Internal.GatherParts.{HasTakenNone}
-use Rattle.pnm_lanes.specs.Internal.GatherParts.{HasTakenNext, BeginsNone, IsAgreed, IsNotAgreed, AreDealtHeights, AreAlike, height_in}
-use Rattle.pnm_lanes.specs.Internal.GatherParts.{HasTakenLike, HasTakenAlike}
+use Rattle.pnm_lanes.proofs.Words.{◌≡◌, ◌≢◌, inl, inr, ℕ, ◌+◌, ◌<◌, ◌≤◌, List, [], ◌∷◌, ◌++◌, length, get_or, set, take, refl, sym, ap, subst, ◌∙◌, arith}
+use Rattle.pnm_lanes.proofs.Words.{le_refl, Err, Option, Some, None, nat_lt, if◌then◌else◌, AllByRecursion, IfNone, ok_or, cases_eq, cases_lt, nat_tests}
+use Rattle.pnm_lanes.proofs.Words.{get_or-set_same, get_or-set_other, get_or-take, length-take-le, Message, Begin, Row, ImageEnd, StreamEnd, Stop, Place}
+use Rattle.pnm_lanes.proofs.Words.{Between, Inside, After, IsPrefixOf, HeadValue, IsHead, with_height, MAX_SIDE, Accepts, IsLawfulFrom, place_after, ToolFault}
+use Rattle.pnm_lanes.proofs.Words.{OutOfOrder, ending_of, dealt_height, dealt_head, dealt_message, dealt_from, StageEnd, Well, Broken, Fault, PeerGone}
+use Rattle.pnm_lanes.proofs.Words.{LaneState, Open, IsOfStream, LaneHasGiven, HasTakenFrom, state_at, AreOpen, AwaitsNoRow, HasTakenParts, HasTakenWhole}
+use Rattle.pnm_lanes.proofs.Words.{HasTakenNone, HasTakenNext, BeginsNone, IsAgreed, IsNotAgreed, AreDealtHeights, AreAlike, height_in, HasTakenLike}
+use Rattle.pnm_lanes.proofs.Words.{HasTakenAlike}
+use Rattle.std.specs.Option.{IfSome}
 use Rattle.pnm_lanes.proofs.PartLaws.{begins_so, no_prefix, same_begin}
 use Rattle.pnm_lanes.proofs.TakenParts.{one_more_of, more_here, more_there, one_of_stream, message_of_stream, state_stays, none_taken, taken_more, taken_same}
 use Rattle.pnm_lanes.proofs.TakenParts.{taken_none}
@@ -85,9 +66,9 @@ part_may_come lane lanes place StreamEnd may = may
 part_may_come lane lanes place Stop may = may
 
 -- the first lane's message is out of place
-pub first_out_of_place : (lanes : ℕ) (place : Place) (first : Message) (taken : ℕ → List Message) → 0 < lanes → AwaitsNoRow place → ¬ Accepts place first
+pub first_out_of_place : (lanes : ℕ) (place : Place) {first : Message} (taken : ℕ → List Message) → 0 < lanes → AwaitsNoRow place → ¬ Accepts place first
     → taken 0 ≡ first ∷ [] → BeginsNone lanes place taken
-first_out_of_place lanes place first taken some none refused given rest lawful are prefixes =
+first_out_of_place lanes place {first} taken some none refused given rest lawful are prefixes =
     let prefix = subst (λ (l : List Message). IsPrefixOf l (dealt_from 0 lanes place rest)) given (prefixes 0 some) in
     let next = next_part lanes place rest 0 first none lawful are prefix in
     refused (subst (Accepts place) (sym (next.parts 0 first prefix)) (part_may_come 0 lanes place next.next next.may))
@@ -103,9 +84,9 @@ parts_are_alike lane lanes place StreamEnd none may is = tt
 parts_are_alike lane lanes place Stop none may is = absurd is
 
 -- another lane's message isn't like the first lane's
-pub not_alike : (lanes lane : ℕ) (place : Place) (first m : Message) (taken : ℕ → List Message) → 0 < lanes → lane < lanes → AwaitsNoRow place
+pub not_alike : (lanes lane : ℕ) (place : Place) {first m : Message} (taken : ℕ → List Message) → 0 < lanes → lane < lanes → AwaitsNoRow place
     → ¬ AreAlike first m → taken 0 ≡ first ∷ [] → taken lane ≡ m ∷ [] → BeginsNone lanes place taken
-not_alike lanes lane place first m taken some below none differ given other rest lawful are prefixes =
+not_alike lanes lane place {first} {m} taken some below none differ given other rest lawful are prefixes =
     let prefix = subst (λ (l : List Message). IsPrefixOf l (dealt_from 0 lanes place rest)) given (prefixes 0 some) in
     let prefix_here = subst (λ (l : List Message). IsPrefixOf l (dealt_from lane lanes place rest)) other (prefixes lane below) in
     let next = next_part lanes place rest 0 first none lawful are prefix in
@@ -148,8 +129,8 @@ is_like StreamEnd StreamEnd alike = refl
 is_like StreamEnd Stop alike = absurd alike
 is_like Stop m alike = absurd alike
 
-head_of_height : (head : HeadValue) (height : ℕ) → IsHead head → height ≤ MAX_SIDE → IsHead (with_height head height)
-head_of_height head height is within =
+head_of_height : {head : HeadValue} (height : ℕ) → IsHead head → height ≤ MAX_SIDE → IsHead (with_height head height)
+head_of_height height is within =
     let limits = is.limits in
     record {
       limits = record {
@@ -166,7 +147,7 @@ head_of_height head height is within =
     }
 
 like_of_stream : (m : Message) (height : ℕ) → IsOfStream m → height ≤ MAX_SIDE → IsOfStream (like m height)
-like_of_stream (Begin head) height is within = head_of_height head height is within
+like_of_stream (Begin head) height is within = head_of_height height is within
 like_of_stream (Row row) height is within = tt
 like_of_stream ImageEnd height is within = tt
 like_of_stream StreamEnd height is within = tt
@@ -177,13 +158,6 @@ like_of_stream Stop height is within = absurd is
 -- the lanes before this one have given messages like the first one, with these heights
 abbrev pub until : ℕ → Message → List ℕ → ℕ → List Message
 until lane first heights other = if nat_lt other lane then like first (get_or heights other 0) ∷ [] else []
-
-until_before : (lane : ℕ) (first : Message) (heights : List ℕ) (other : ℕ) → other < lane → until lane first heights other ≡ like first (get_or heights other 0)
-    ∷ []
-until_before lane first heights other below = grind (arith, nat_tests)
-
-until_from : (lane : ℕ) (first : Message) (heights : List ℕ) (other : ℕ) → lane ≤ other → until lane first heights other ≡ []
-until_from lane first heights other reached = grind (arith, nat_tests)
 
 pub record IsTakingEach (lanes : ℕ) (place : Place) (first : Message) (heights : List ℕ) (lane : ℕ) (states : List LaneState)
     (start now : ℕ → List Message) : Type 0 where
@@ -199,23 +173,30 @@ pub record IsTakingEach (lanes : ℕ) (place : Place) (first : Message) (heights
 like_first : (m : Message) (heights : List ℕ) → get_or heights 0 0 ≡ height_in m → like m (get_or heights 0 0) ≡ m
 like_first m heights same = ap (like m) same ∙ like_itself m
 
-other_until : (lane : ℕ) (first : Message) (heights new : List ℕ) (other : ℕ) → other ≢ lane → get_or new other 0 ≡ get_or heights other 0
-    → until lane first heights other ≡ until (lane + 1) first new other
-other_until lane first heights new other differ same = grind (arith, nat_tests, ap (λ (h : ℕ). like first h ∷ []) same)
+module _ (lane : ℕ) (first : Message) (heights : List ℕ) (other : ℕ) where
+  until_before : other < lane → until lane first heights other ≡ like first (get_or heights other 0) ∷ []
+  until_before below = grind (arith, nat_tests)
 
--- the next one
-next_until : (lane : ℕ) (first m : Message) (heights : List ℕ) (other : ℕ) → lane < length heights → AreAlike first m
-    → one_more_of lane m (until lane first heights) other ≡ until (lane + 1) first (set heights lane (height_in m)) other
-next_until lane first m heights other below alike =
-    let new : List ℕ = set heights lane (height_in m) in
-    elim (cases_eq other lane) [
-      | inl same ↦ subst (λ (o : ℕ). one_more_of lane m (until lane first heights) o ≡ until (lane + 1) first new o) (sym same)
-          (more_here lane m (until lane first heights)
-          ∙ ap (λ (x : Message). x ∷ []) (is_like first m alike ∙ ap (like first) (sym (get_or-set_same heights lane (height_in m) 0 below)))
-          ∙ sym (until_before (lane + 1) first new lane (omega arith)))
-      | inr differ ↦ more_there lane m (until lane first heights) other differ
-          ∙ other_until lane first heights new other differ (get_or-set_other heights lane other (height_in m) 0 differ)
-    ]
+  until_from : lane ≤ other → until lane first heights other ≡ []
+  until_from reached = grind (arith, nat_tests)
+
+  other_until : (new : List ℕ) → other ≢ lane → get_or new other 0 ≡ get_or heights other 0
+      → until lane first heights other ≡ until (lane + 1) first new other
+  other_until new differ same = grind (arith, nat_tests, ap (λ (h : ℕ). like first h ∷ []) same)
+
+  -- the next one
+  next_until : (m : Message) → lane < length heights → AreAlike first m
+      → one_more_of lane m (until lane first heights) other ≡ until (lane + 1) first (set heights lane (height_in m)) other
+  next_until m below alike =
+      let new : List ℕ = set heights lane (height_in m) in
+      elim (cases_eq other lane) [
+        | inl same ↦ subst (λ (o : ℕ). one_more_of lane m (until lane first heights) o ≡ until (lane + 1) first new o) (sym same)
+            (more_here lane m (until lane first heights)
+            ∙ ap (λ (x : Message). x ∷ []) (is_like first m alike ∙ ap (like first) (sym (get_or-set_same heights lane (height_in m) 0 below)))
+            ∙ sym (Rattle.pnm_lanes.proofs.EachSteps.until_before (lane + 1) first new lane (omega arith)))
+        | inr differ ↦ more_there lane m (until lane first heights) other differ
+            ∙ other_until new differ (get_or-set_other heights lane other (height_in m) 0 differ)
+      ]
 
 -- none of them is Stop
 until_of_stream : (lane : ℕ) (first : Message) (heights : List ℕ) → IsOfStream first → ((other : ℕ) → get_or heights other 0 ≤ MAX_SIDE) → (other : ℕ)
@@ -244,7 +225,7 @@ pub next_taken : (lanes lane height : ℕ) (place : Place) (first : Message) (he
     → IsTakingEach lanes place first (set heights lane height) (lane + 1) states_new start new
 next_taken lanes lane height place first heights states_old states_new start old new taking below reserved enough taken = record {
   parts = taken_same lanes states_new start new (one_more_of lane taken.message (until lane first heights)) (until (lane + 1) first (set heights lane height))
-      (λ other b. next_until lane first taken.message heights other reserved taken.alike
+      (λ other b. next_until lane first heights other taken.message reserved taken.alike
       ∙ ap (λ (h : ℕ). until (lane + 1) first (set heights lane h) other) (sym taken.is_height))
       (taken_more lanes lane states_old states_new start old new (until lane first heights) taken.message (omega arith)
       (taking.others lane (le_refl lane) below) (until_from lane first heights lane (le_refl lane)) (message_of_stream taken.message taken.taken.0)
@@ -260,59 +241,35 @@ next_taken lanes lane height place first heights states_old states_new start old
 
 -- ---- there is no next message
 
-pub first_failed : (lanes : ℕ) (place : Place) (end : StageEnd) (states_old states_new : List LaneState) (old new : ℕ → List Message) → 1 ≤ lanes
-    → lanes ≤ length states_old → AreOpen states_old
-    → HasTakenFrom 0 (Err end) states_old states_new old new → HasTakenNone lanes place end states_new old new
-first_failed lanes place end states_old states_new old new some enough opens from =
-    taken_none lanes 0 place end states_old states_new old old new (λ lane. []) (omega arith) (opens 0 (omega arith)) refl (omega arith)
-    (none_taken lanes states_old old enough opens) from
+module _ {lanes : ℕ} {place : Place} {states_new : List LaneState} {old new : ℕ → List Message} where
+  pub first_failed : {end : StageEnd} (states_old : List LaneState) → 1 ≤ lanes → lanes ≤ length states_old → AreOpen states_old
+      → HasTakenFrom 0 (Err end) states_old states_new old new → HasTakenNone lanes place end states_new old new
+  first_failed {end} states_old some enough opens from =
+      taken_none lanes 0 place end states_old states_new old old new (λ lane. []) (omega arith) (opens 0 (omega arith)) refl (omega arith)
+      (none_taken lanes states_old old enough opens) from
 
-pub first_refused : (lanes : ℕ) (place : Place) (first : Message) (states_old states_new : List LaneState) (old new : ℕ → List Message) → 1 ≤ lanes
-    → lanes ≤ length states_old → AreOpen states_old → AwaitsNoRow place → ¬ Accepts place first
-    → IsOfStream first × LaneHasGiven 0 first states_old states_new old new → HasTakenNone lanes place (Fault OutOfOrder) states_new old new
-first_refused lanes place first states_old states_new old new some enough opens none refused from =
-    let taken : ℕ → List Message = one_more_of 0 first (λ lane. []) in
-    record {
-      taken = taken;
-      parts = taken_more lanes 0 states_old states_new old old new (λ lane. []) first (omega arith) (opens 0 (omega arith)) refl
-          (message_of_stream first from.0) (none_taken lanes states_old old enough opens) (omega arith) from.1;
-      cause = (
-        refl,
-        λ lane below. one_of_stream 0 first (λ l. []) from.0 (λ l. tt) lane,
-        first_out_of_place lanes place first taken (omega arith) none refused
-            (more_here 0 first (λ lane. [])),
-      );
-    }
+  pub first_refused : {first : Message} {states_old : List LaneState} → 1 ≤ lanes → lanes ≤ length states_old → AreOpen states_old → AwaitsNoRow place
+      → ¬ Accepts place first → IsOfStream first × LaneHasGiven 0 first states_old states_new old new
+      → HasTakenNone lanes place (Fault OutOfOrder) states_new old new
+  first_refused {first} {states_old} some enough opens none refused from =
+      let taken : ℕ → List Message = one_more_of 0 first (λ lane. []) in
+      record {
+        taken = taken;
+        parts = taken_more lanes 0 states_old states_new old old new (λ lane. []) first (omega arith) (opens 0 (omega arith)) refl
+            (message_of_stream first from.0) (none_taken lanes states_old old enough opens) (omega arith) from.1;
+        cause = (
+          refl,
+          λ lane below. one_of_stream 0 first (λ l. []) from.0 (λ l. tt) lane,
+          first_out_of_place lanes place taken (omega arith) none refused (more_here 0 first (λ lane. [])),
+        );
+      }
 
-each_failed : (lanes lane : ℕ) (place : Place) (first : Message) (heights : List ℕ) (end : StageEnd) (states_old states_new : List LaneState)
-    (start old new : ℕ → List Message)
-    → IsTakingEach lanes place first heights lane states_old start old → lane < lanes → lanes ≤ length states_old
-    → HasTakenFrom lane (Err end) states_old states_new old new → HasTakenNone lanes place end states_new start new
-each_failed lanes lane place first heights end states_old states_new start old new taking below enough from =
-    taken_none lanes lane place end states_old states_new start old new (until lane first heights) (omega arith) (taking.others lane (le_refl lane) below)
-    (until_from lane first heights lane (le_refl lane)) below taking.parts from
-
-each_differs : (lanes lane : ℕ) (place : Place) (first m : Message) (heights : List ℕ) (states_old states_new : List LaneState)
-    (start old new : ℕ → List Message)
-    → IsTakingEach lanes place first heights lane states_old start old → lane < lanes → lanes ≤ length states_old → AwaitsNoRow place → ¬ AreAlike first m
-    → IsOfStream m × LaneHasGiven lane m states_old states_new old new → HasTakenNone lanes place (Fault OutOfOrder) states_new start new
-each_differs lanes lane place first m heights states_old states_new start old new taking below enough none differ from =
-    let before : ℕ → List Message = until lane first heights in
-    let taken : ℕ → List Message = one_more_of lane m before in
-    let some = taking.some in
-    let first_lane : taken 0 ≡ first ∷ [] =
-    more_there lane m before 0 (λ e. absurd (omega (arith, e, some))) ∙ until_before lane first heights 0 (omega arith)
-    ∙ ap (λ (x : Message). x ∷ []) (like_first first heights taking.height) in
-    record {
-      taken = taken;
-      parts = taken_more lanes lane states_old states_new start old new before m (omega arith) (taking.others lane (le_refl lane) below)
-          (until_from lane first heights lane (le_refl lane)) (message_of_stream m from.0) taking.parts below from.1;
-      cause = (
-        refl,
-        λ other b. one_of_stream lane m before from.0 (until_of_stream lane first heights taking.is taking.within) other,
-        not_alike lanes lane place first m taken (omega arith) below none differ first_lane (more_here lane m before),
-      );
-    }
+  each_failed : {lane : ℕ} {first : Message} {heights : List ℕ} {end : StageEnd} {states_old : List LaneState} {start : ℕ → List Message}
+      → IsTakingEach lanes place first heights lane states_old start old → lane < lanes → lanes ≤ length states_old
+      → HasTakenFrom lane (Err end) states_old states_new old new → HasTakenNone lanes place end states_new start new
+  each_failed {lane} {first} {heights} {end} {states_old} {start} taking below enough from =
+      taken_none lanes lane place end states_old states_new start old new (until lane first heights) (omega arith) (taking.others lane (le_refl lane) below)
+      (until_from lane first heights lane (le_refl lane)) below taking.parts from
 
 -- why another lane has given no message like the first one
 pub none_alike : (lane : ℕ) (first : Message) (end : StageEnd) (states_old states_new : List LaneState) (old new : ℕ → List Message)
@@ -321,19 +278,6 @@ none_alike lane first Well states_old states_new old new from = absurd from
 none_alike lane first Broken states_old states_new old new from = from
 none_alike lane first (Fault fault) states_old states_new old new from = absurd from
 none_alike lane first PeerGone states_old states_new old new from = from
-
-pub each_stops : (lanes lane : ℕ) (place : Place) (first : Message) (heights : List ℕ) (end : StageEnd) (states_old states_new : List LaneState)
-    (start old new : ℕ → List Message)
-    → IsTakingEach lanes place first heights lane states_old start old → lane < lanes → lanes ≤ length states_old → AwaitsNoRow place
-    → HasTakenAlike lane first (Err end) states_old states_new old new → HasTakenNone lanes place end states_new start new
-each_stops lanes lane place first heights Well states_old states_new start old new taking below enough none from = absurd from
-each_stops lanes lane place first heights Broken states_old states_new start old new taking below enough none from =
-    each_failed lanes lane place first heights Broken states_old states_new start old new taking below enough from
-each_stops lanes lane place first heights (Fault fault) states_old states_new start old new taking below enough none from =
-    subst (λ (f : ToolFault). HasTakenNone lanes place (Fault f) states_new start new) (sym from.0)
-    (each_differs lanes lane place first from.1.message heights states_old states_new start old new taking below enough none from.1.differs from.1.taken)
-each_stops lanes lane place first heights PeerGone states_old states_new start old new taking below enough none from =
-    each_failed lanes lane place first heights PeerGone states_old states_new start old new taking below enough from
 
 -- ---- all lanes have given one
 
@@ -350,7 +294,7 @@ heads_dealt lanes head heights (Begin whole) some parts is = (
   whole.shape.height,
   is.limits.height_high,
   λ lane below. ap (λ (h : HeadValue). h.shape.height)
-      (same_begin (with_height head (get_or heights lane 0)) (dealt_head lane lanes whole) (parts lane below)),
+      (same_begin (parts lane below)),
 )
 heads_dealt lanes head heights (Row row) some parts is = let first = parts 0 some in absurd cc
 heads_dealt lanes head heights ImageEnd some parts is = let first = parts 0 some in absurd cc
@@ -388,21 +332,6 @@ none_together lanes place ImageEnd heights some reserved none not rest lawful ar
 none_together lanes place StreamEnd heights some reserved none not rest lawful are prefixes = absurd not
 none_together lanes place Stop heights some reserved none not rest lawful are prefixes = absurd not
 
-pub each_not_together : (lanes : ℕ) (place : Place) (first : Message) (heights : List ℕ) (states : List LaneState) (start now : ℕ → List Message)
-    → IsTakingEach lanes place first heights lanes states start now → lanes ≤ length heights → AwaitsNoRow place → IsNotAgreed first (take lanes heights)
-    → HasTakenNone lanes place (Fault OutOfOrder) states start now
-each_not_together lanes place first heights states start now taking reserved none not =
-    let some = taking.some in
-    record {
-      taken = until lanes first heights;
-      parts = taking.parts;
-      cause = (
-        refl,
-        λ lane below. until_of_stream lanes first heights taking.is taking.within lane,
-        none_together lanes place first heights (omega arith) reserved none not,
-      );
-    }
-
 -- the message of the whole stream
 is_agreed : (lanes : ℕ) (place : Place) (first m : Message) (heights : List ℕ) → lanes ≤ length heights → Accepts place first → IsOfStream first
     → IsAgreed first (take lanes heights) m
@@ -412,7 +341,7 @@ is_agreed lanes place (Begin head) m heights reserved may is agreed =
     subst (λ (x : Message). Accepts place x × IsOfStream x
     × ((lane : ℕ) → lane < lanes → Begin (with_height head (get_or heights lane 0)) ≡ part_for lane lanes x)) (sym agreed.3) (
       accepts_begin place head whole may,
-      head_of_height head agreed.0 is agreed.1,
+      head_of_height agreed.0 is agreed.1,
       λ lane below. ap (λ (h : ℕ). Begin (with_height head h)) (dealt_of_prefix lanes agreed.0 heights reserved agreed.2 lane below),
     )
 is_agreed lanes place (Row row) m heights reserved may is agreed =
@@ -426,35 +355,75 @@ is_agreed lanes place StreamEnd m heights reserved may is agreed =
     (may, tt, λ lane below. refl)
 is_agreed lanes place Stop m heights reserved may is agreed = absurd is
 
-pub each_agreed : (lanes : ℕ) (place : Place) (first m : Message) (heights : List ℕ) (states : List LaneState) (start now : ℕ → List Message)
-    → IsTakingEach lanes place first heights lanes states start now → lanes ≤ length heights → AwaitsNoRow place → IsAgreed first (take lanes heights) m
-    → HasTakenWhole lanes place m states start now
-each_agreed lanes place first m heights states start now taking reserved none agreed =
-    let all = is_agreed lanes place first m heights reserved taking.may taking.is agreed in
-    record {
-      may = all.0;
-      is = all.1;
-      parts = taken_same lanes states start now (until lanes first heights) (λ lane. dealt_message lane lanes place m)
-          (λ lane below. until_before lanes first heights lane below ∙ ap (λ (x : Message). x ∷ []) (all.2 lane below)
-          ∙ sym (dealt_is_part lane lanes place m none all.0)) taking.parts;
-    }
+module _ {lanes : ℕ} {place : Place} {first : Message} {heights : List ℕ} {start : ℕ → List Message} where
+  each_differs : {lane : ℕ} {m : Message} {states_old states_new : List LaneState} {old new : ℕ → List Message}
+      → IsTakingEach lanes place first heights lane states_old start old → lane < lanes → lanes ≤ length states_old → AwaitsNoRow place → ¬ AreAlike first m
+      → IsOfStream m × LaneHasGiven lane m states_old states_new old new → HasTakenNone lanes place (Fault OutOfOrder) states_new start new
+  each_differs {lane} {m} {states_old} {states_new} {old} {new} taking below enough none differ from =
+      let before : ℕ → List Message = until lane first heights in
+      let taken : ℕ → List Message = one_more_of lane m before in
+      let some = taking.some in
+      let first_lane : taken 0 ≡ first ∷ [] =
+      more_there lane m before 0 (λ e. absurd (omega (arith, e, some))) ∙ until_before lane first heights 0 (omega arith)
+      ∙ ap (λ (x : Message). x ∷ []) (like_first first heights taking.height) in
+      record {
+        taken = taken;
+        parts = taken_more lanes lane states_old states_new start old new before m (omega arith) (taking.others lane (le_refl lane) below)
+            (until_from lane first heights lane (le_refl lane)) (message_of_stream m from.0) taking.parts below from.1;
+        cause = (
+          refl,
+          λ other b. one_of_stream lane m before from.0 (until_of_stream lane first heights taking.is taking.within) other,
+          not_alike lanes lane place taken (omega arith) below none differ first_lane (more_here lane m before),
+        );
+      }
 
-ends_so : (lanes : ℕ) (place : Place) (first : Message) (heights : List ℕ) (states : List LaneState) (start now : ℕ → List Message) (found : Option Message)
-    → IsTakingEach lanes place first heights lanes states start now → lanes ≤ length heights → AwaitsNoRow place
-    → IfSome found (λ m. IsAgreed first (take lanes heights) m) → IfNone found (IsNotAgreed first (take lanes heights))
-    → HasTakenNext lanes place (ok_or found (Fault OutOfOrder)) states start now
-ends_so lanes place first heights states start now (Some m) taking reserved none there missing =
-    each_agreed lanes place first m heights states start now taking reserved none there
-ends_so lanes place first heights states start now None taking reserved none there missing =
-    each_not_together lanes place first heights states start now taking reserved none missing
+  pub each_stops : {lane : ℕ} (end : StageEnd) {states_old states_new : List LaneState} {old new : ℕ → List Message}
+      → IsTakingEach lanes place first heights lane states_old start old → lane < lanes → lanes ≤ length states_old → AwaitsNoRow place
+      → HasTakenAlike lane first (Err end) states_old states_new old new → HasTakenNone lanes place end states_new start new
+  each_stops Well taking below enough none from = absurd from
+  each_stops Broken taking below enough none from = each_failed taking below enough from
+  each_stops (Fault fault) {states_new} {new} taking below enough none from =
+      subst (λ (f : ToolFault). HasTakenNone lanes place (Fault f) states_new start new) (sym from.0)
+      (each_differs taking below enough none from.1.differs from.1.taken)
+  each_stops PeerGone taking below enough none from = each_failed taking below enough from
 
-pub each_ends : (lanes lane count : ℕ) (place : Place) (first : Message) (heights : List ℕ) (states : List LaneState) (start now : ℕ → List Message)
-    (found : Option Message)
-    → IsTakingEach lanes place first heights lane states start now → lane ≡ lanes → count ≡ lanes → lanes ≤ length heights → AwaitsNoRow place
-    → IfSome found (λ m. IsAgreed first (take count heights) m) → IfNone found (IsNotAgreed first (take count heights))
-    → HasTakenNext lanes place (ok_or found (Fault OutOfOrder)) states start now
-each_ends lanes lane count place first heights states start now found taking at_end all reserved none there missing =
-    ends_so lanes place first heights states start now found (subst (λ (l : ℕ). IsTakingEach lanes place first heights l states start now) at_end taking)
-    reserved none
-    (subst (λ (n : ℕ). IfSome found (λ m. IsAgreed first (take n heights) m)) all there)
-    (subst (λ (n : ℕ). IfNone found (IsNotAgreed first (take n heights))) all missing)
+  pub each_not_together : {states : List LaneState} {now : ℕ → List Message} → IsTakingEach lanes place first heights lanes states start now
+      → lanes ≤ length heights → AwaitsNoRow place → IsNotAgreed first (take lanes heights) → HasTakenNone lanes place (Fault OutOfOrder) states start now
+  each_not_together taking reserved none not =
+      let some = taking.some in
+      record {
+        taken = until lanes first heights;
+        parts = taking.parts;
+        cause = (
+          refl,
+          λ lane below. until_of_stream lanes first heights taking.is taking.within lane,
+          none_together lanes place first heights (omega arith) reserved none not,
+        );
+      }
+
+  pub each_agreed : {m : Message} {states : List LaneState} {now : ℕ → List Message} → IsTakingEach lanes place first heights lanes states start now
+      → lanes ≤ length heights → AwaitsNoRow place → IsAgreed first (take lanes heights) m → HasTakenWhole lanes place m states start now
+  each_agreed {m} {states} {now} taking reserved none agreed =
+      let all = is_agreed lanes place first m heights reserved taking.may taking.is agreed in
+      record {
+        may = all.0;
+        is = all.1;
+        parts = taken_same lanes states start now (until lanes first heights) (λ lane. dealt_message lane lanes place m)
+            (λ lane below. until_before lanes first heights lane below ∙ ap (λ (x : Message). x ∷ []) (all.2 lane below)
+            ∙ sym (dealt_is_part lane lanes place m none all.0)) taking.parts;
+      }
+
+  ends_so : {states : List LaneState} {now : ℕ → List Message} (found : Option Message) → IsTakingEach lanes place first heights lanes states start now
+      → lanes ≤ length heights → AwaitsNoRow place → IfSome found (λ m. IsAgreed first (take lanes heights) m)
+      → IfNone found (IsNotAgreed first (take lanes heights)) → HasTakenNext lanes place (ok_or found (Fault OutOfOrder)) states start now
+  ends_so (Some m) taking reserved none there missing = each_agreed taking reserved none there
+  ends_so None taking reserved none there missing = each_not_together taking reserved none missing
+
+  pub each_ends : {lane : ℕ} (count : ℕ) {states : List LaneState} {now : ℕ → List Message} (found : Option Message)
+      → IsTakingEach lanes place first heights lane states start now → lane ≡ lanes → count ≡ lanes → lanes ≤ length heights → AwaitsNoRow place
+      → IfSome found (λ m. IsAgreed first (take count heights) m) → IfNone found (IsNotAgreed first (take count heights))
+      → HasTakenNext lanes place (ok_or found (Fault OutOfOrder)) states start now
+  each_ends count {states} {now} found taking at_end all reserved none there missing =
+      ends_so found (subst (λ (l : ℕ). IsTakingEach lanes place first heights l states start now) at_end taking) reserved none
+      (subst (λ (n : ℕ). IfSome found (λ m. IsAgreed first (take n heights) m)) all there)
+      (subst (λ (n : ℕ). IfNone found (IsNotAgreed first (take n heights))) all missing)

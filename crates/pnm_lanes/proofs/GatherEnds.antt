@@ -1,36 +1,12 @@
 -- How a gatherer ends.
-use Rattle.std.proofs.Common.{◌≡◌, ◌⊎◌, inl, inr, ℕ, ◌<◌, Bool, true, false, List, [], ◌∷◌, ◌++◌, length, drop, refl, sym, ap, subst, ◌∙◌, append_assoc}
-use Rattle.std.proofs.Common.{append-nil}
-use Rattle.std.specs.List.{AllByRecursion}
-use Rattle.std.proofs.lemmas.Bool.{false≢true}
-use Rattle.std.proofs.lemmas.List.{drop_at}
-use Rattle.pnm_image.specs.declared.message.Message.{Message}
-use Rattle.pnm_image.specs.declared.message.Message.TheVariants.{Stop}
-use Rattle.pnm_image.specs.declared.place.Place.{Place}
-use Rattle.pnm_image.specs.declared.place.Place.TheVariants.{Between}
-use Rattle.pnm_image.specs.Completion.{IsPrefixOf}
-use Rattle.pnm_image.specs.Images.{Image, messages_of_stream}
-use Rattle.pnm_image.specs.Messages.{IsMessage, without_stop, ending_of, EndsBy}
-use Rattle.pnm_image.specs.Places.{IsLawful, IsLawfulFrom, place_of}
-use Rattle.pnm_image.proofs.Lists.{each-push}
-use Rattle.pnm_image.proofs.Streams.{stream_is_lawful}
-use Rattle.pnm_image.specs.declared.message.Ending.TheVariants.{More, Whole, BrokenOff}
-use Rattle.pnm_tools.specs.Dealing.{dealt, dealt_message, dealt_from}
-use Rattle.pnm_tools.proofs.FullLaws.{prefix_of_prefix}
-use Rattle.pnm_stages.specs.declared.stage.StageEnd.{StageEnd}
-use Rattle.pnm_stages.specs.declared.stage.StageEnd.TheVariants.{Well, Broken, Fault, PeerGone}
-use Rattle.pnm_stages.specs.Rings.{Extends, IsEnded, EndsAtMostOnce}
-use Rattle.pnm_stages.proofs.EndingLaws.{one_ending, nothing_follows, stream_ends_whole}
-use Rattle.pnm_stages.proofs.PrefixLaws.{stop_is_cut, prefix_without_stop}
-use Rattle.pnm_stages.proofs.RingSteps.{ends_as}
-use Rattle.pnm_lanes.specs.declared.lane.LaneState.{LaneState}
-use Rattle.pnm_lanes.specs.declared.lane.LaneState.TheVariants.{Open, Ended, Gone}
-use Rattle.pnm_stages.specs.declared.receiver.Receiver.{Receiver}
-use Rattle.pnm_tools.specs.declared.fault.ToolFault.TheVariants.{OutOfOrder}
-use Rattle.pnm_lanes.specs.Gathers.{AreDealt, BeginsOrEnds, HasSentAll, HasPassedSo, HasGatheredSo, HasGathered, have_received_rows, HasGatheredOrRefused}
-use Rattle.pnm_lanes.specs.Internal.GatherParts.{IsOfStream, state_at, HasTakenWhole, HasTakenNone, BeginsNone, IsCause, IsLane, AreLanes, CarriesOn, IsDone}
-use Rattle.pnm_lanes.specs.Internal.GatherParts.{HasStopped}
-use Rattle.pnm_lanes.specs.Internal.GatherParts.{HasBrokenOffAll, HasDrainedAll, HasGatheredBy}
+use Rattle.pnm_lanes.proofs.Words.{◌≡◌, ◌⊎◌, inl, inr, ℕ, ◌<◌, Bool, true, false, List, [], ◌∷◌, ◌++◌, length, drop, refl, sym, ap, subst, ◌∙◌, append_assoc}
+use Rattle.pnm_lanes.proofs.Words.{append-nil, AllByRecursion, false≢true, drop_at, Message, Stop, Place, Between, IsPrefixOf, Image, messages_of_stream}
+use Rattle.pnm_lanes.proofs.Words.{IsMessage, without_stop, ending_of, EndsBy, IsLawful, IsLawfulFrom, place_of, each-push, stream_is_lawful, More, Whole}
+use Rattle.pnm_lanes.proofs.Words.{BrokenOff, dealt, dealt_message, dealt_from, prefix_of_prefix, StageEnd, Well, Broken, Fault, PeerGone, Extends, IsEnded}
+use Rattle.pnm_lanes.proofs.Words.{EndsAtMostOnce, one_ending, nothing_follows, stream_ends_whole, stop_is_cut, prefix_without_stop, ends_as, LaneState, Open}
+use Rattle.pnm_lanes.proofs.Words.{Ended, Gone, Receiver, OutOfOrder, AreDealt, BeginsOrEnds, HasSentAll, HasPassedSo, HasGatheredSo, HasGathered}
+use Rattle.pnm_lanes.proofs.Words.{have_received_rows, HasGatheredOrRefused, IsOfStream, state_at, HasTakenWhole, HasTakenNone, BeginsNone, IsCause, IsLane}
+use Rattle.pnm_lanes.proofs.Words.{AreLanes, CarriesOn, IsDone, HasStopped, HasBrokenOffAll, HasDrainedAll, HasGatheredBy}
 use Rattle.pnm_lanes.proofs.PartLaws.{dealt_from-append, prefix_cancel, parts_tell_the_whole}
 use Rattle.pnm_lanes.proofs.DealtParts.{all_of_both, all_of_rest, all_messages, stream_keeps_all, lawful_rest, dealt_of_stream, dealt_goes_on, dealt_end}
 use Rattle.pnm_lanes.proofs.DealtParts.{images_of_stream, gets_part, prefixes_in_order, last_stays, not_before_stop}
@@ -41,9 +17,9 @@ use Rattle.pnm_lanes.proofs.GatherSteps.{IsGoing, with_one_more, lanes_with_one,
 abbrev pub took_of : (ℕ → List Message) → (ℕ → List Message) → ℕ → List Message
 took_of start final lane = drop (length (start lane)) (final lane)
 
-what_was_added : (P : List Message → Type 0) (start final : List Message) → Extends start final P
+what_was_added : {P : List Message → Type 0} {start final : List Message} → Extends start final P
     → (final ≡ start ++ drop (length start) final) × AllByRecursion IsMessage (drop (length start) final) × P (drop (length start) final)
-what_was_added P start final extends =
+what_was_added {P} {start} {final} extends =
     let same : extends.more ≡ drop (length start) final = sym (ap (drop (length start)) extends.added ∙ drop_at start extends.more (length start) refl) in
     (extends.added ∙ ap (λ (l : List Message). start ++ l) same, subst (AllByRecursion IsMessage) same extends.messages, subst P same extends.holds)
 
@@ -59,13 +35,13 @@ ends_once : (l : List Message) → IsEnded l → EndsAtMostOnce l
 ends_once l (inl whole) = (Whole, whole)
 ends_once l (inr broken) = (BrokenOff, broken)
 
-lane_ended : (ended : Bool) (s : LaneState) (start final left : List Message) → IsDone ended s → IsLane s start final left → LaneEnded ended start final left
-lane_ended ended Open start final left done is = absurd done
-lane_ended ended Ended start final left done is =
-    let all = what_was_added IsEnded start final is in
+lane_ended : {ended : Bool} (s : LaneState) {start final left : List Message} → IsDone ended s → IsLane s start final left → LaneEnded ended start final left
+lane_ended Open done is = absurd done
+lane_ended Ended {start} {final} done is =
+    let all = what_was_added is in
     record { added = all.0; messages = all.1; once = ends_once (drop (length start) final) all.2; seen_taken = inl all.2; has_ended = λ e. all.2 }
-lane_ended ended Gone start final left done is =
-    let all = what_was_added (EndsBy More) start final is.0 in
+lane_ended Gone done is =
+    let all = what_was_added is.0 in
     record { added = all.0; messages = all.1; once = (More, all.2); seen_taken = inr is.1; has_ended = λ e. absurd (false≢true (sym done ∙ e)) }
 
 -- ---- where there is no next message
@@ -90,54 +66,10 @@ has_left lanes place start now new final taken sent_start sent_now going added p
       ap (drop (length (start lane))) all ∙ drop_at (start lane) ((here ++ taken lane) ++ rest) (length (start lane)) refl;
 }
 
-kept_prefix : (a b took : List Message) → AllByRecursion IsOfStream a → took ≡ a ++ b → IsPrefixOf a (without_stop took)
-kept_prefix a b took are same =
+kept_prefix : (a b : List Message) {took : List Message} → AllByRecursion IsOfStream a → took ≡ a ++ b → IsPrefixOf a (without_stop took)
+kept_prefix a b are same =
     subst (λ (l : List Message). IsPrefixOf a (without_stop l)) (sym same)
     (subst (λ (l : List Message). IsPrefixOf l (without_stop (a ++ b))) (stream_keeps_all a are) (prefix_without_stop a b))
-
--- what was sent is a prefix of the stream of the images that were dealt
-pub prefix_of_images : (lanes : ℕ) (gave : List Message) (taken took : ℕ → List Message) (is : List Image) → 0 < lanes → IsLawful gave
-    → AllByRecursion IsOfStream gave → HasLeft lanes gave taken took → AreDealt is lanes took → IsPrefixOf gave (messages_of_stream is)
-prefix_of_images lanes gave taken took is some lawful stream left are =
-    parts_tell_the_whole lanes Between gave (messages_of_stream is) some lawful (stream_is_lawful is are.images) stream (images_of_stream is are.images)
-    (λ lane below. prefix_of_prefix (dealt lane lanes gave) (without_stop (took lane)) (dealt lane lanes (messages_of_stream is))
-    (kept_prefix (dealt lane lanes gave) (taken lane ++ left.drained lane) (took lane) (dealt_of_stream lane lanes Between gave stream)
-    (left.parts lane below ∙ append_assoc (dealt lane lanes gave) (taken lane) (left.drained lane)))
-    (are.prefixes lane below))
-
--- no images were dealt to lanes that don't agree
-pub no_images : (lanes : ℕ) (place : Place) (gave : List Message) (taken took : ℕ → List Message) (is : List Image) → 0 < lanes → IsLawful gave
-    → AllByRecursion IsOfStream gave → place ≡ place_of Between gave
-    → HasLeft lanes gave taken took → ((lane : ℕ) → lane < lanes → AllByRecursion IsOfStream (taken lane)) → BeginsNone lanes place taken
-    → AreDealt is lanes took → ⊥
-no_images lanes place gave taken took is some lawful stream at_place left are_stream none are =
-    let prefix = prefix_of_images lanes gave taken took is some lawful stream left are in
-    let whole : List Message = messages_of_stream is in
-    let rest : List Message = prefix.0 in
-    let lawful_all : IsLawful (gave ++ rest) = subst IsLawful prefix.1 (stream_is_lawful is are.images) in
-    let stream_all : AllByRecursion IsOfStream (gave ++ rest) = subst (AllByRecursion IsOfStream) prefix.1 (images_of_stream is are.images) in
-    none rest (subst (λ (p : Place). IsLawfulFrom p rest) (sym at_place) (lawful_rest Between gave rest lawful_all))
-    (all_of_rest IsOfStream gave rest stream_all)
-    (λ lane below. subst (λ (p : Place). IsPrefixOf (taken lane) (dealt_from lane lanes p rest)) (sym at_place)
-    (prefix_cancel (dealt lane lanes gave) (taken lane) (dealt_from lane lanes (place_of Between gave) rest)
-    (subst (IsPrefixOf (dealt lane lanes gave ++ taken lane)) (ap (dealt lane lanes) prefix.1 ∙ dealt_from-append lane lanes Between gave rest)
-    (prefix_of_prefix (dealt lane lanes gave ++ taken lane) (without_stop (took lane)) (dealt lane lanes whole)
-    (kept_prefix (dealt lane lanes gave ++ taken lane) (left.drained lane) (took lane)
-    (all_of_both IsOfStream (dealt lane lanes gave) (taken lane) (dealt_of_stream lane lanes Between gave stream) (are_stream lane below))
-    (left.parts lane below))
-    (are.prefixes lane below)))))
-
--- a lane that gave Stop has given nothing else
-pub stopped_lane : (lanes lane : ℕ) (gave : List Message) (taken took : ℕ → List Message) → lane < lanes → EndsBy More gave → HasLeft lanes gave taken took
-    → taken lane ≡ Stop ∷ [] → IsEnded (took lane)
-    → took lane ≡ dealt lane lanes gave ++ Stop ∷ []
-stopped_lane lanes lane gave taken took below more left stop ended =
-    let here : List Message = dealt lane lanes gave in
-    let rest : List Message = left.drained lane in
-    let all : took lane ≡ (here ++ Stop ∷ []) ++ rest = left.parts lane below ∙ ap (λ (l : List Message). (here ++ l) ++ rest) stop in
-    let broken : EndsBy BrokenOff (here ++ Stop ∷ []) = ends_as BrokenOff here Stop (dealt_goes_on lane lanes Between gave more) refl in
-    let none : rest ≡ [] = nothing_follows (here ++ Stop ∷ []) rest (inr broken) (subst IsEnded all ended) in
-    all ∙ ap (λ (l : List Message). (here ++ Stop ∷ []) ++ l) none ∙ append-nil (here ++ Stop ∷ [])
 
 -- what begins or ends an image goes no further than what was sent, where a lane gave nothing more
 sent_before : (lanes lane : ℕ) (gave prefix : List Message) (m : Message) (took : ℕ → List Message) → BeginsOrEnds m
@@ -148,7 +80,7 @@ sent_before lanes lane gave prefix m took is given prefixes (inr more) =
     let here : List Message = dealt lane lanes gave in
     let place : Place = place_of Between gave in
     let last = last_stays gave m more.0 more.1 prefix more.2 in
-    let part = gets_part lane lanes (place_of place last.0) m is in
+    let part = gets_part (place_of place last.0) m is in
     let dealt_last : dealt lane lanes (prefix ++ m ∷ []) ≡ here ++ (dealt_from lane lanes place last.0 ++ part.part ∷ []) =
     ap (dealt lane lanes) (more.2 ∙ ap (λ (l : List Message). gave ++ l) last.1) ∙ dealt_from-append lane lanes Between gave (last.0 ++ m ∷ [])
     ∙ ap (λ (l : List Message). here ++ l) (dealt_from-append lane lanes place last.0 (m ∷ [])
@@ -157,15 +89,6 @@ sent_before lanes lane gave prefix m took is given prefixes (inr more) =
     (subst (IsPrefixOf (dealt lane lanes (prefix ++ m ∷ []))) given prefixes) in
     absurd (not_before_stop (dealt_from lane lanes place last.0) part.part part.is_part
     (prefix_cancel here (dealt_from lane lanes place last.0 ++ part.part ∷ []) (Stop ∷ []) both))
-
-pub has_sent_all : (lanes lane : ℕ) (gave : List Message) (taken took : ℕ → List Message) (is : List Image) → 0 < lanes → lane < lanes → IsLawful gave
-    → AllByRecursion IsOfStream gave → HasLeft lanes gave taken took → AreDealt is lanes took
-    → took lane ≡ dealt lane lanes gave ++ Stop ∷ [] → HasSentAll is lanes took (gave ++ Stop ∷ [])
-has_sent_all lanes lane gave taken took is some below lawful stream left are given prefix m begins whole prefixes =
-    let sent = prefix_of_images lanes gave taken took is some lawful stream left are in
-    let order = prefixes_in_order gave sent.0 (prefix ++ m ∷ []) whole.0 (sym sent.1 ∙ whole.1) in
-    prefix_of_prefix (prefix ++ m ∷ []) gave (gave ++ Stop ∷ []) (sent_before lanes lane gave prefix m took begins given (prefixes lane below) order)
-    (Stop ∷ [], refl)
 
 -- ---- what was sent in the end: Stop after it, or nothing more
 
@@ -178,7 +101,7 @@ with_stop : (lanes : ℕ) (place : Place) (start now : ℕ → List Message) (se
     → (going : IsGoing lanes place start now sent_start sent_now) → IsLastSent going.gave (going.gave ++ Stop ∷ [])
 with_stop lanes place start now sent_start sent_now going = record {
   keeps = stop_is_cut going.gave;
-  lawful = lawful_with_one lanes place Stop start now sent_start sent_now going going.stoppable;
+  lawful = lawful_with_one Stop going going.stoppable;
   not_whole = λ whole. let two = one_ending BrokenOff Whole (going.gave ++ Stop ∷ []) (ends_as BrokenOff going.gave Stop going.more refl) whole in absurd cc;
 }
 
@@ -190,55 +113,103 @@ without_more lanes place start now sent_start sent_now going = record {
   not_whole = λ whole. let two = one_ending More Whole going.gave going.more whole in absurd cc;
 }
 
--- all that is promised, where the lanes are done
-ends_so : (lanes : ℕ) (place : Place) (end : StageEnd) (ended : Bool) (states : List LaneState) (start now new final left taken : ℕ → List Message)
-    (sent_start sent_now sent_new gave : List Message)
-    → (going : IsGoing lanes place start now sent_start sent_now) → 0 < lanes → HasLeft lanes going.gave taken (took_of start final)
-    → AreLanes lanes states start final left → ((lane : ℕ) → lane < lanes → IsDone ended (state_at states lane))
-    → sent_new ≡ sent_start ++ gave → IsLastSent going.gave gave → HasPassedSo end lanes (took_of start final) gave
-    → ((is : List Image) → AreDealt is lanes (took_of start final) → HasGatheredSo end is lanes (took_of start final) gave)
-    → HasGathered end lanes start final left sent_start sent_new
-ends_so lanes place end ended states start now new final left taken sent_start sent_now sent_new gave going some left_so are done output last so images =
-    let all : (lane : ℕ) → lane < lanes → LaneEnded ended (start lane) (final lane) (left lane) =
-    λ lane below. lane_ended ended (state_at states lane) (start lane) (final lane) (left lane) (done lane below) (are lane below) in
-    record {
-      took = took_of start final;
-      gave = gave;
-      inputs = λ lane below. (all lane below).added;
-      output = output;
-      seen_taken = λ lane below. (all lane below).seen_taken;
-      gathered = record {
-        ended = so;
-        messages = λ lane below. (all lane below).messages;
-        once = λ lane below. (all lane below).once;
-        lawful = last.lawful;
-        parts = λ lane below. subst (λ (l : List Message). IsPrefixOf (dealt lane lanes l) (took_of start final lane)) (sym last.keeps)
-            (taken lane ++ left_so.drained lane, left_so.parts lane below ∙ append_assoc (dealt lane lanes going.gave) (taken lane) (left_so.drained lane));
-        whole = λ whole. absurd (last.not_whole whole);
-        images = λ is dealt_so. record {
-          prefix = subst (λ (l : List Message). IsPrefixOf l (messages_of_stream is)) (sym last.keeps)
-              (prefix_of_images lanes going.gave taken (took_of start final) is some going.lawful going.stream left_so dealt_so);
-          so = images is dealt_so;
+module _ {lanes : ℕ} {gave : List Message} {taken : ℕ → List Message} where
+  -- what was sent is a prefix of the stream of the images that were dealt
+  pub prefix_of_images : {took : ℕ → List Message} {is : List Image} → 0 < lanes → IsLawful gave → AllByRecursion IsOfStream gave
+      → HasLeft lanes gave taken took → AreDealt is lanes took → IsPrefixOf gave (messages_of_stream is)
+  prefix_of_images {took} {is} some lawful stream left are =
+      parts_tell_the_whole lanes Between gave (messages_of_stream is) some lawful (stream_is_lawful is are.images) stream (images_of_stream is are.images)
+      (λ lane below. prefix_of_prefix (dealt lane lanes gave) (without_stop (took lane)) (dealt lane lanes (messages_of_stream is))
+      (kept_prefix (dealt lane lanes gave) (taken lane ++ left.drained lane) (dealt_of_stream lane lanes Between gave stream)
+      (left.parts lane below ∙ append_assoc (dealt lane lanes gave) (taken lane) (left.drained lane))) (are.prefixes lane below))
+
+  -- no images were dealt to lanes that don't agree
+  pub no_images : {place : Place} {took : ℕ → List Message} {is : List Image} → 0 < lanes → IsLawful gave → AllByRecursion IsOfStream gave
+      → place ≡ place_of Between gave → HasLeft lanes gave taken took → ((lane : ℕ) → lane < lanes → AllByRecursion IsOfStream (taken lane))
+      → BeginsNone lanes place taken → AreDealt is lanes took → ⊥
+  no_images {took} {is} some lawful stream at_place left are_stream none are =
+      let prefix = prefix_of_images some lawful stream left are in
+      let whole : List Message = messages_of_stream is in
+      let rest : List Message = prefix.0 in
+      let lawful_all : IsLawful (gave ++ rest) = subst IsLawful prefix.1 (stream_is_lawful is are.images) in
+      let stream_all : AllByRecursion IsOfStream (gave ++ rest) = subst (AllByRecursion IsOfStream) prefix.1 (images_of_stream is are.images) in
+      none rest (subst (λ (p : Place). IsLawfulFrom p rest) (sym at_place) (lawful_rest Between gave rest lawful_all))
+      (all_of_rest IsOfStream gave rest stream_all) (λ lane below. subst (λ (p : Place). IsPrefixOf (taken lane) (dealt_from lane lanes p rest)) (sym at_place)
+      (prefix_cancel (dealt lane lanes gave) (taken lane) (dealt_from lane lanes (place_of Between gave) rest)
+      (subst (IsPrefixOf (dealt lane lanes gave ++ taken lane)) (ap (dealt lane lanes) prefix.1 ∙ dealt_from-append lane lanes Between gave rest)
+      (prefix_of_prefix (dealt lane lanes gave ++ taken lane) (without_stop (took lane)) (dealt lane lanes whole)
+      (kept_prefix (dealt lane lanes gave ++ taken lane) (left.drained lane)
+      (all_of_both IsOfStream (dealt lane lanes gave) (taken lane) (dealt_of_stream lane lanes Between gave stream) (are_stream lane below))
+      (left.parts lane below)) (are.prefixes lane below)))))
+
+  -- a lane that gave Stop has given nothing else
+  pub stopped_lane : (lane : ℕ) {took : ℕ → List Message} → lane < lanes → EndsBy More gave → HasLeft lanes gave taken took → taken lane ≡ Stop ∷ []
+      → IsEnded (took lane) → took lane ≡ dealt lane lanes gave ++ Stop ∷ []
+  stopped_lane lane {took} below more left stop ended =
+      let here : List Message = dealt lane lanes gave in
+      let rest : List Message = left.drained lane in
+      let all : took lane ≡ (here ++ Stop ∷ []) ++ rest = left.parts lane below ∙ ap (λ (l : List Message). (here ++ l) ++ rest) stop in
+      let broken : EndsBy BrokenOff (here ++ Stop ∷ []) = ends_as BrokenOff here Stop (dealt_goes_on lane lanes Between gave more) refl in
+      let none : rest ≡ [] = nothing_follows (here ++ Stop ∷ []) rest (inr broken) (subst IsEnded all ended) in
+      all ∙ ap (λ (l : List Message). (here ++ Stop ∷ []) ++ l) none ∙ append-nil (here ++ Stop ∷ [])
+
+  pub has_sent_all : (lane : ℕ) {took : ℕ → List Message} {is : List Image} → 0 < lanes → lane < lanes → IsLawful gave → AllByRecursion IsOfStream gave
+      → HasLeft lanes gave taken took → AreDealt is lanes took → took lane ≡ dealt lane lanes gave ++ Stop ∷ [] → HasSentAll is lanes took (gave ++ Stop ∷ [])
+  has_sent_all lane {took} some below lawful stream left are given prefix m begins whole prefixes =
+      let sent = prefix_of_images some lawful stream left are in
+      let order = prefixes_in_order gave sent.0 (prefix ++ m ∷ []) whole.0 (sym sent.1 ∙ whole.1) in
+      prefix_of_prefix (prefix ++ m ∷ []) gave (gave ++ Stop ∷ []) (sent_before lanes lane gave prefix m took begins given (prefixes lane below) order)
+      (Stop ∷ [], refl)
+
+  -- all that is promised, where the lanes are done
+  ends_so : {place : Place} {end : StageEnd} (ended : Bool) (states : List LaneState) {start now : ℕ → List Message} (new : ℕ → List Message)
+      {final left : ℕ → List Message} {sent_start sent_now sent_new : List Message} (going : IsGoing lanes place start now sent_start sent_now) → 0 < lanes
+      → HasLeft lanes going.gave taken (took_of start final) → AreLanes lanes states start final left
+      → ((lane : ℕ) → lane < lanes → IsDone ended (state_at states lane)) → sent_new ≡ sent_start ++ gave → IsLastSent going.gave gave
+      → HasPassedSo end lanes (took_of start final) gave
+      → ((is : List Image) → AreDealt is lanes (took_of start final) → HasGatheredSo end is lanes (took_of start final) gave)
+      → HasGathered end lanes start final left sent_start sent_new
+  ends_so ended states {start} new {final} {left} going some left_so are done output last so images =
+      let all : (lane : ℕ) → lane < lanes → LaneEnded ended (start lane) (final lane) (left lane) =
+      λ lane below. lane_ended (state_at states lane) (done lane below) (are lane below) in
+      record {
+        took = took_of start final;
+        gave = gave;
+        inputs = λ lane below. (all lane below).added;
+        output = output;
+        seen_taken = λ lane below. (all lane below).seen_taken;
+        gathered = record {
+          ended = so;
+          messages = λ lane below. (all lane below).messages;
+          once = λ lane below. (all lane below).once;
+          lawful = last.lawful;
+          parts = λ lane below. subst (λ (l : List Message). IsPrefixOf (dealt lane lanes l) (took_of start final lane)) (sym last.keeps)
+              (taken lane ++ left_so.drained lane, left_so.parts lane below ∙ append_assoc (dealt lane lanes going.gave) (taken lane) (left_so.drained lane));
+          whole = λ whole. absurd (last.not_whole whole);
+          images = λ is dealt_so. record {
+            prefix = subst (λ (l : List Message). IsPrefixOf l (messages_of_stream is)) (sym last.keeps)
+                (Rattle.pnm_lanes.proofs.GatherEnds.prefix_of_images some going.lawful going.stream left_so dealt_so);
+            so = images is dealt_so;
+          };
         };
-      };
-    }
+      }
 
--- ---- Stop was sent
+  -- ---- Stop was sent
 
--- by the cause
-stopped_so : (cause : StageEnd) (lanes : ℕ) (place : Place) (gave : List Message) (taken took : ℕ → List Message) → 0 < lanes → IsLawful gave
-    → AllByRecursion IsOfStream gave → EndsBy More gave → place ≡ place_of Between gave
-    → HasLeft lanes gave taken took → ((lane : ℕ) → lane < lanes → IsEnded (took lane)) → IsCause cause lanes place taken
-    → HasPassedSo cause lanes took (gave ++ Stop ∷ []) × ((is : List Image) → AreDealt is lanes took → HasGatheredSo cause is lanes took (gave ++ Stop ∷ []))
-stopped_so Well lanes place gave taken took some lawful stream more at_place left ended is = absurd is
-stopped_so Broken lanes place gave taken took some lawful stream more at_place left ended is =
-    let given = stopped_lane lanes is.0 gave taken took is.1 more left is.2 (ended is.0 is.1) in
-    let broken : EndsBy BrokenOff (took is.0) =
-    subst (EndsBy BrokenOff) (sym given) (ends_as BrokenOff (dealt is.0 lanes gave) Stop (dealt_goes_on is.0 lanes Between gave more) refl) in
-    ((ended, (is.0, is.1, broken), (gave, refl, more)), λ images are. has_sent_all lanes is.0 gave taken took images some is.1 lawful stream left are given)
-stopped_so (Fault fault) lanes place gave taken took some lawful stream more at_place left ended is =
-    ((is.0, ended, (gave, refl, more)), λ images are. no_images lanes place gave taken took images some lawful stream at_place left is.1 is.2 are)
-stopped_so PeerGone lanes place gave taken took some lawful stream more at_place left ended is = (tt, λ images are. tt)
+  -- by the cause
+  stopped_so : (cause : StageEnd) {place : Place} {took : ℕ → List Message} → 0 < lanes → IsLawful gave → AllByRecursion IsOfStream gave → EndsBy More gave
+      → place ≡ place_of Between gave → HasLeft lanes gave taken took → ((lane : ℕ) → lane < lanes → IsEnded (took lane)) → IsCause cause lanes place taken
+      → HasPassedSo cause lanes took (gave ++ Stop ∷ []) × ((is : List Image) → AreDealt is lanes took → HasGatheredSo cause is lanes took (gave ++ Stop ∷
+      []))
+  stopped_so Well some lawful stream more at_place left ended is = absurd is
+  stopped_so Broken {took} some lawful stream more at_place left ended is =
+      let given = stopped_lane is.0 is.1 more left is.2 (ended is.0 is.1) in
+      let broken : EndsBy BrokenOff (took is.0) =
+      subst (EndsBy BrokenOff) (sym given) (ends_as BrokenOff (dealt is.0 lanes gave) Stop (dealt_goes_on is.0 lanes Between gave more) refl) in
+      ((ended, (is.0, is.1, broken), (gave, refl, more)), λ images are. has_sent_all is.0 some is.1 lawful stream left are given)
+  stopped_so (Fault fault) some lawful stream more at_place left ended is =
+      ((is.0, ended, (gave, refl, more)), λ images are. no_images some lawful stream at_place left is.1 is.2 are)
+  stopped_so PeerGone some lawful stream more at_place left ended is = (tt, λ images are. tt)
 
 -- where it isn't stopped
 not_stopped : (end : StageEnd) (stopped : Bool) (lanes : ℕ) (start final left : ℕ → List Message) (sent_start sent_new : List Message) → stopped ≡ false
@@ -249,125 +220,108 @@ not_stopped end stopped lanes start final left sent_start sent_new is gathered =
   stop_sent = λ yes. absurd (false≢true (sym is ∙ yes));
 }
 
--- the gatherer was broken off
-broken_off_so : (lanes : ℕ) (place : Place) (cause end : StageEnd) (stopped : Bool) (states done : List LaneState)
-    (start now new final left_new left : ℕ → List Message) (sent_start sent_now sent_new : List Message)
-    → IsGoing lanes place start now sent_start sent_now → 0 < lanes → HasTakenNone lanes place cause states now new
-    → CarriesOn lanes states done new final left_new left → HasStopped cause end stopped lanes done sent_now sent_new
-    → HasGatheredBy end stopped lanes start final left sent_start sent_new
-unfolding ends_so
-broken_off_so lanes place cause end stopped states done start now new final left_new left sent_start sent_now sent_new going some none carried (inl is_sent) =
-    let took : ℕ → List Message = took_of start final in
-    let left_so = has_left lanes place start now new final none.taken sent_start sent_now going none.parts.added carried.prefixes in
-    let are = carried.lanes_are start (lanes_after lanes place states start now new left_new none.taken sent_start sent_now going none.parts) in
-    let ended : (lane : ℕ) → lane < lanes → IsEnded (took lane) =
-    λ lane below. (lane_ended true (state_at done lane) (start lane) (final lane) (left lane) (is_sent.2 lane below) (are lane below)).has_ended refl in
-    let so = stopped_so cause lanes place going.gave none.taken took some going.lawful going.stream going.more going.at_place left_so ended none.cause in
-    subst (λ (e : StageEnd). HasGatheredBy e stopped lanes start final left sent_start sent_new) (sym is_sent.0)
-    (record {
-      gathered = ends_so lanes place cause true done start now new final left none.taken sent_start sent_now sent_new (going.gave ++ Stop ∷ []) going some
-          left_so are is_sent.2
-          (sent_with_one sent_start sent_now sent_new going.gave Stop going.output is_sent.1) (with_stop lanes place start now sent_start sent_now going)
-          so.0 so.1;
-      ended = λ yes. ended;
-      stop_sent = λ yes. (going.gave, refl, going.more);
-    })
-broken_off_so lanes place cause end stopped states done start now new final left_new left sent_start sent_now sent_new going some none carried (inr gone) =
-    let left_so = has_left lanes place start now new final none.taken sent_start sent_now going none.parts.added carried.prefixes in
-    let are = carried.lanes_are start (lanes_after lanes place states start now new left_new none.taken sent_start sent_now going none.parts) in
-    not_stopped end stopped lanes start final left sent_start sent_new gone.1
-    (subst (λ (e : StageEnd). HasGathered e lanes start final left sent_start sent_new) (sym gone.0)
-    (elim gone.2 [
-      | inl stop ↦ ends_so lanes place PeerGone false done start now new final left none.taken sent_start sent_now sent_new (going.gave ++ Stop ∷ []) going some
-          left_so are gone.3
-          (sent_with_one sent_start sent_now sent_new going.gave Stop going.output stop) (with_stop lanes place start now sent_start sent_now going) tt
-          (λ is dealt_so. tt)
-      | inr same ↦ ends_so lanes place PeerGone false done start now new final left none.taken sent_start sent_now sent_new going.gave going some left_so are
-          gone.3
-          (same ∙ going.output) (without_more lanes place start now sent_start sent_now going) tt (λ is dealt_so. tt)
-    ]))
+module _ {lanes : ℕ} {place : Place} {states : List LaneState} {start now new : ℕ → List Message} {sent_start sent_now sent_new : List Message} where
+  module _ {done : List LaneState} {final left_new left : ℕ → List Message} where
+    -- the gatherer was broken off
+    broken_off_so : {cause end : StageEnd} {stopped : Bool} → IsGoing lanes place start now sent_start sent_now → 0 < lanes
+        → HasTakenNone lanes place cause states now new → CarriesOn lanes states done new final left_new left
+        → HasStopped cause end stopped lanes done sent_now sent_new → HasGatheredBy end stopped lanes start final left sent_start sent_new
+    unfolding ends_so
+    broken_off_so {cause} {stopped} going some none carried (inl is_sent) =
+        let took : ℕ → List Message = took_of start final in
+        let left_so = has_left lanes place start now new final none.taken sent_start sent_now going none.parts.added carried.prefixes in
+        let are = carried.lanes_are start (lanes_after left_new going none.parts) in
+        let ended : (lane : ℕ) → lane < lanes → IsEnded (took lane) =
+        λ lane below. (lane_ended (state_at done lane) (is_sent.2 lane below) (are lane below)).has_ended refl in
+        let so = stopped_so cause some going.lawful going.stream going.more going.at_place left_so ended none.cause in
+        subst (λ (e : StageEnd). HasGatheredBy e stopped lanes start final left sent_start sent_new) (sym is_sent.0) (record {
+          gathered = ends_so true done new going some left_so are is_sent.2
+              (sent_with_one sent_start going.gave Stop going.output is_sent.1) (with_stop lanes place start now sent_start sent_now going) so.0 so.1;
+          ended = λ yes. ended;
+          stop_sent = λ yes. (going.gave, refl, going.more);
+        })
+    broken_off_so {end} {stopped} going some none carried (inr gone) =
+        let left_so = has_left lanes place start now new final none.taken sent_start sent_now going none.parts.added carried.prefixes in
+        let are = carried.lanes_are start (lanes_after left_new going none.parts) in
+        not_stopped end stopped lanes start final left sent_start sent_new gone.1
+        (subst (λ (e : StageEnd). HasGathered e lanes start final left sent_start sent_new) (sym gone.0) (elim gone.2 [
+          | inl stop ↦ ends_so false done new going some left_so are gone.3
+              (sent_with_one sent_start going.gave Stop going.output stop) (with_stop lanes place start now sent_start sent_now going) tt (λ is dealt_so. tt)
+          | inr same ↦ ends_so false done new going some left_so are gone.3
+              (same ∙ going.output) (without_more lanes place start now sent_start sent_now going) tt (λ is dealt_so. tt)
+        ]))
 
-pub broken_off : (lanes count : ℕ) (place : Place) (cause end : StageEnd) (stopped : Bool) (states done : List LaneState)
-    (start now new final left_new left : ℕ → List Message) (sent_start sent_now sent_new : List Message)
-    → IsGoing lanes place start now sent_start sent_now → 0 < lanes → count ≡ lanes → HasTakenNone count place cause states now new
-    → HasBrokenOffAll cause end stopped count states done new final left_new left sent_now sent_new
-    → HasGatheredBy end stopped lanes start final left sent_start sent_new
-broken_off lanes count place cause end stopped states done start now new final left_new left sent_start sent_now sent_new going some same none broken =
-    broken_off_so lanes place cause end stopped states done start now new final left_new left sent_start sent_now sent_new going some
-    (subst (λ (n : ℕ). HasTakenNone n place cause states now new) same none)
-    (subst (λ (n : ℕ). CarriesOn n states done new final left_new left) same broken.carried)
-    (subst (λ (n : ℕ). HasStopped cause end stopped n done sent_now sent_new) same broken.breaks)
+    pub broken_off : {count : ℕ} {cause end : StageEnd} {stopped : Bool} → IsGoing lanes place start now sent_start sent_now → 0 < lanes → count ≡ lanes
+        → HasTakenNone count place cause states now new → HasBrokenOffAll cause end stopped count states done new final left_new left sent_now sent_new
+        → HasGatheredBy end stopped lanes start final left sent_start sent_new
+    broken_off {cause} {end} {stopped} going some same none broken =
+        broken_off_so going some (subst (λ (n : ℕ). HasTakenNone n place cause states now new) same none)
+        (subst (λ (n : ℕ). CarriesOn n states done new final left_new left) same broken.carried)
+        (subst (λ (n : ℕ). HasStopped cause end stopped n done sent_now sent_new) same broken.breaks)
 
--- ---- the message couldn't be sent
+    -- ---- the message couldn't be sent
 
-pub not_sent : (lanes count : ℕ) (place : Place) (m : Message) (ended : Bool) (states done : List LaneState) (start now new final left_new left : ℕ
-    → List Message) (sent_start sent_now sent_new : List Message)
-    → IsGoing lanes place start now sent_start sent_now → 0 < lanes → count ≡ lanes → HasTakenWhole count place m states now new → sent_new ≡ sent_now
-    → HasDrainedAll count ended states done new final left_new left
-    → HasGatheredBy PeerGone false lanes start final left sent_start sent_new
-not_sent lanes count place m ended states done start now new final left_new left sent_start sent_now sent_new going some same whole sent drained =
-    let taken = subst (λ (n : ℕ). HasTakenWhole n place m states now new) same whole in
-    let all = subst (λ (n : ℕ). HasDrainedAll n ended states done new final left_new left) same drained in
-    let part : ℕ → List Message = λ lane. dealt_message lane lanes place m in
-    let left_so = has_left lanes place start now new final part sent_start sent_now going taken.parts.added all.carried.prefixes in
-    let are = all.carried.lanes_are start (lanes_after lanes place states start now new left_new part sent_start sent_now going taken.parts) in
-    not_stopped PeerGone false lanes start final left sent_start sent_new refl
-    (ends_so lanes place PeerGone ended done start now new final left part sent_start sent_now sent_new going.gave going some left_so are all.done
-    (sent ∙ going.output) (without_more lanes place start now sent_start sent_now going) tt (λ is dealt_so. tt))
+    pub not_sent : {count : ℕ} {m : Message} {ended : Bool} → IsGoing lanes place start now sent_start sent_now → 0 < lanes → count ≡ lanes
+        → HasTakenWhole count place m states now new → sent_new ≡ sent_now → HasDrainedAll count ended states done new final left_new left
+        → HasGatheredBy PeerGone false lanes start final left sent_start sent_new
+    not_sent {m} {ended} going some same whole sent drained =
+        let taken = subst (λ (n : ℕ). HasTakenWhole n place m states now new) same whole in
+        let all = subst (λ (n : ℕ). HasDrainedAll n ended states done new final left_new left) same drained in
+        let part : ℕ → List Message = λ lane. dealt_message lane lanes place m in
+        let left_so = has_left lanes place start now new final part sent_start sent_now going taken.parts.added all.carried.prefixes in
+        let are = all.carried.lanes_are start (lanes_after left_new going taken.parts) in
+        not_stopped PeerGone false lanes start final left sent_start sent_new refl (ends_so ended done new going some left_so are all.done
+        (sent ∙ going.output) (without_more lanes place start now sent_start sent_now going) tt (λ is dealt_so. tt))
 
--- ---- the end of the stream was sent
+  -- ---- the end of the stream was sent
 
-pub ends_well : (lanes count : ℕ) (place : Place) (m : Message) (states : List LaneState) (start now new left : ℕ → List Message)
-    (sent_start sent_now sent_new : List Message)
-    → IsGoing lanes place start now sent_start sent_now → 0 < lanes → count ≡ lanes → HasTakenWhole count place m states now new → sent_new ≡ sent_now ++ m ∷ []
-    → ending_of m ≡ Whole
-    → HasGatheredBy Well false lanes start new left sent_start sent_new
-ends_well lanes count place m states start now new left sent_start sent_now sent_new going some same whole sent is_end =
-    let taken = subst (λ (n : ℕ). HasTakenWhole n place m states now new) same whole in
-    let gave : List Message = going.gave ++ m ∷ [] in
-    let took : ℕ → List Message = λ lane. dealt lane lanes gave in
-    let stream : AllByRecursion IsOfStream gave = each-push IsOfStream going.gave m going.stream taken.is in
-    let lawful : IsLawful gave = lawful_with_one lanes place m start now sent_start sent_now going taken.may in
-    let end_of : EndsBy Whole gave = ends_as Whole going.gave m going.more is_end in
-    let parts : (lane : ℕ) → dealt lane lanes gave ≡ dealt lane lanes going.gave ++ m ∷ [] = λ lane.
-    with_one_more lane lanes going.gave m
-    ∙ ap (λ (l : List Message). dealt lane lanes going.gave ++ l) (dealt_end lane lanes (place_of Between going.gave) m is_end) in
-    let ends : (lane : ℕ) → EndsBy Whole (took lane) = λ lane.
-    subst (EndsBy Whole) (sym (parts lane)) (ends_as Whole (dealt lane lanes going.gave) m (dealt_goes_on lane lanes Between going.gave going.more) is_end) in
-    let keeps : without_stop gave ≡ gave = stream_keeps_all gave stream in
-    let left_so : HasLeft lanes gave (λ lane. []) took =
-    record { drained = λ lane. []; parts = λ lane below. sym (append-nil (took lane ++ []) ∙ append-nil (took lane)) } in
-    not_stopped Well false lanes start new left sent_start sent_new refl
-    (record {
-      took = took;
-      gave = gave;
-      inputs = lanes_with_one lanes place m states start now new sent_start sent_now going taken;
-      output = sent_with_one sent_start sent_now sent_new going.gave m going.output sent;
-      seen_taken = λ lane below. inl (inl (ends lane));
-      gathered = record {
-        ended = (end_of, λ lane below. refl);
-        messages = λ lane below. all_messages (took lane) (dealt_of_stream lane lanes Between gave stream);
-        once = λ lane below. (Whole, ends lane);
-        lawful = lawful;
-        parts = λ lane below. ([], ap (dealt lane lanes) (sym keeps) ∙ sym (append-nil (dealt lane lanes (without_stop gave))));
-        whole = λ w lane below. ends lane;
-        images = λ is are.
-            let prefix = prefix_of_images lanes gave (λ lane. []) took is some lawful stream left_so are in
-            let none : prefix.0 ≡ [] = nothing_follows gave prefix.0 (inl end_of) (inl (subst (EndsBy Whole) prefix.1 (stream_ends_whole is))) in
-            record {
-              prefix = subst (λ (l : List Message). IsPrefixOf l (messages_of_stream is)) (sym keeps) prefix;
-              so = sym (prefix.1 ∙ ap (λ (l : List Message). gave ++ l) none ∙ append-nil gave);
-            };
-      };
-    })
+  pub ends_well : {count : ℕ} {m : Message} (left : ℕ → List Message) → IsGoing lanes place start now sent_start sent_now → 0 < lanes → count ≡ lanes
+      → HasTakenWhole count place m states now new → sent_new ≡ sent_now ++ m ∷ [] → ending_of m ≡ Whole
+      → HasGatheredBy Well false lanes start new left sent_start sent_new
+  ends_well {m} left going some same whole sent is_end =
+      let taken = subst (λ (n : ℕ). HasTakenWhole n place m states now new) same whole in
+      let gave : List Message = going.gave ++ m ∷ [] in
+      let took : ℕ → List Message = λ lane. dealt lane lanes gave in
+      let stream : AllByRecursion IsOfStream gave = each-push IsOfStream going.gave m going.stream taken.is in
+      let lawful : IsLawful gave = lawful_with_one m going taken.may in
+      let end_of : EndsBy Whole gave = ends_as Whole going.gave m going.more is_end in
+      let parts : (lane : ℕ) → dealt lane lanes gave ≡ dealt lane lanes going.gave ++ m ∷ [] = λ lane. with_one_more lane lanes going.gave m
+      ∙ ap (λ (l : List Message). dealt lane lanes going.gave ++ l) (dealt_end lane lanes (place_of Between going.gave) m is_end) in
+      let ends : (lane : ℕ) → EndsBy Whole (took lane) = λ lane.
+      subst (EndsBy Whole) (sym (parts lane)) (ends_as Whole (dealt lane lanes going.gave) m (dealt_goes_on lane lanes Between going.gave going.more) is_end) in
+      let keeps : without_stop gave ≡ gave = stream_keeps_all gave stream in
+      let left_so : HasLeft lanes gave (λ lane. []) took =
+      record { drained = λ lane. []; parts = λ lane below. sym (append-nil (took lane ++ []) ∙ append-nil (took lane)) } in
+      not_stopped Well false lanes start new left sent_start sent_new refl (record {
+        took = took;
+        gave = gave;
+        inputs = lanes_with_one going taken;
+        output = sent_with_one sent_start going.gave m going.output sent;
+        seen_taken = λ lane below. inl (inl (ends lane));
+        gathered = record {
+          ended = (end_of, λ lane below. refl);
+          messages = λ lane below. all_messages (took lane) (dealt_of_stream lane lanes Between gave stream);
+          once = λ lane below. (Whole, ends lane);
+          lawful = lawful;
+          parts = λ lane below. ([], ap (dealt lane lanes) (sym keeps) ∙ sym (append-nil (dealt lane lanes (without_stop gave))));
+          whole = λ w lane below. ends lane;
+          images = λ is are.
+              let prefix = prefix_of_images some lawful stream left_so are in
+              let none : prefix.0 ≡ [] = nothing_follows gave prefix.0 (inl end_of) (inl (subst (EndsBy Whole) prefix.1 (stream_ends_whole is))) in
+              record {
+                prefix = subst (λ (l : List Message). IsPrefixOf l (messages_of_stream is)) (sym keeps) prefix;
+                so = sym (prefix.1 ∙ ap (λ (l : List Message). gave ++ l) none ∙ append-nil gave);
+              };
+        };
+      })
 
 -- ---- rows came together
 
-pub refused_rows : (end : StageEnd) (stopped : Bool) (inputs : List Receiver) (lanes : ℕ) (start final left : ℕ → List Message)
-    (sent_start sent_new : List Message) → end ≡ PeerGone → stopped ≡ true → have_received_rows inputs ≡ true
+pub refused_rows : {end : StageEnd} {stopped : Bool} (inputs : List Receiver) {lanes : ℕ} {start final left : ℕ → List Message}
+    {sent_start sent_new : List Message} → end ≡ PeerGone → stopped ≡ true → have_received_rows inputs ≡ true
     → HasGatheredBy end stopped lanes start final left sent_start sent_new
     → HasGatheredOrRefused (Fault OutOfOrder) inputs lanes start final left sent_start sent_new
-refused_rows end stopped inputs lanes start final left sent_start sent_new gone is rows by =
+refused_rows {stopped} inputs {lanes} {start} {final} {left} {sent_start} {sent_new} gone is rows by =
     let there : HasGatheredBy PeerGone stopped lanes start final left sent_start sent_new =
     subst (λ (e : StageEnd). HasGatheredBy e stopped lanes start final left sent_start sent_new) gone by in
     inr (refl, record { together = rows; gathered = there.gathered; ended = there.ended is; stopped = there.stop_sent is })

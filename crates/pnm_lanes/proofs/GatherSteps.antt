@@ -1,21 +1,9 @@
 -- Gathering, message by message: what was sent so far is a prefix of a stream, and each lane has given its part of it.
-use Rattle.std.proofs.Common.{◌≡◌, ◌⊎◌, inl, inr, ℕ, zero, suc, take, ◌<◌, List, [], ◌∷◌, ◌++◌, refl, sym, ap, subst, ◌∙◌, append_assoc, append-nil}
-use Rattle.std.specs.List.{AllByRecursion}
-use Rattle.pnm_image.specs.declared.message.Message.{Message}
-use Rattle.pnm_image.specs.declared.message.Message.TheVariants.{Begin, Row, ImageEnd, StreamEnd, Stop}
-use Rattle.pnm_image.specs.declared.place.Place.{Place}
-use Rattle.pnm_image.specs.declared.place.Place.TheVariants.{Between, Inside, After}
-use Rattle.pnm_image.specs.Messages.{IsMessage, ending_of, EndsBy}
-use Rattle.pnm_image.specs.Places.{Accepts, IsLawful, place_after, place_of}
-use Rattle.pnm_image.proofs.Lists.{each-push}
-use Rattle.pnm_image.proofs.Places.{lawful_more, place_of-append}
-use Rattle.pnm_image.specs.declared.message.Ending.{Ending}
-use Rattle.pnm_image.specs.declared.message.Ending.TheVariants.{More, BrokenOff}
-use Rattle.pnm_tools.specs.Dealing.{dealt, dealt_message}
-use Rattle.pnm_stages.proofs.RingSteps.{ends_as}
-use Rattle.pnm_lanes.specs.declared.lane.LaneState.{LaneState}
-use Rattle.pnm_lanes.specs.declared.lane.LaneState.TheVariants.{Open, Ended, Gone}
-use Rattle.pnm_lanes.specs.Internal.GatherParts.{IsOfStream, state_at, IsLeftBy, HasTakenParts, HasTakenWhole, IsLane, AreLanes}
+use Rattle.pnm_lanes.proofs.Words.{◌≡◌, ◌⊎◌, inl, inr, ℕ, zero, suc, take, ◌<◌, List, [], ◌∷◌, ◌++◌, refl, sym, ap, subst, ◌∙◌, append_assoc, append-nil}
+use Rattle.pnm_lanes.proofs.Words.{AllByRecursion, Message, Begin, Row, ImageEnd, StreamEnd, Stop, Place, Between, Inside, After, IsMessage, ending_of, EndsBy}
+use Rattle.pnm_lanes.proofs.Words.{Accepts, IsLawful, place_after, place_of, each-push, lawful_more, place_of-append, Ending, More, BrokenOff, dealt}
+use Rattle.pnm_lanes.proofs.Words.{dealt_message, ends_as, LaneState, Open, Ended, Gone, IsOfStream, state_at, IsLeftBy, HasTakenParts, HasTakenWhole, IsLane}
+use Rattle.pnm_lanes.proofs.Words.{AreLanes}
 use Rattle.pnm_lanes.proofs.PartLaws.{dealt_from-append}
 use Rattle.pnm_lanes.proofs.DealtParts.{all_of_both, all_messages, dealt_of_stream, dealt_goes_on}
 use Rattle.pnm_lanes.proofs.DrainSteps.{ends_then, ended_then}
@@ -65,10 +53,10 @@ can_be_stopped place StreamEnd may more = absurd cc
 can_be_stopped place Stop may more = absurd cc
 
 -- the lanes' parts of one message more
-pub lanes_with_one : (lanes : ℕ) (place : Place) (m : Message) (states : List LaneState) (start now new : ℕ → List Message) (sent_start sent_now : List Message)
-    → (going : IsGoing lanes place start now sent_start sent_now) → HasTakenWhole lanes place m states now new → (lane : ℕ) → lane < lanes
-    → new lane ≡ start lane ++ dealt lane lanes (going.gave ++ m ∷ [])
-lanes_with_one lanes place m states start now new sent_start sent_now going taken lane below =
+pub lanes_with_one : {lanes : ℕ} {place : Place} {m : Message} {states : List LaneState} {start now new : ℕ → List Message}
+    {sent_start sent_now : List Message} (going : IsGoing lanes place start now sent_start sent_now) → HasTakenWhole lanes place m states now new
+    → (lane : ℕ) → lane < lanes → new lane ≡ start lane ++ dealt lane lanes (going.gave ++ m ∷ [])
+lanes_with_one {lanes} {place} {m} {start} going taken lane below =
     let gave : List Message = going.gave in
     let here : List Message = dealt lane lanes gave in
     let part : dealt_message lane lanes place m ≡ dealt_message lane lanes (place_of Between gave) m =
@@ -79,13 +67,13 @@ lanes_with_one lanes place m states start now new sent_start sent_now going take
     ∙ ap (λ (l : List Message). start lane ++ (here ++ l)) part
     ∙ ap (λ (l : List Message). start lane ++ l) (sym (with_one_more lane lanes gave m))
 
-pub lawful_with_one : (lanes : ℕ) (place : Place) (m : Message) (start now : ℕ → List Message) (sent_start sent_now : List Message)
-    → (going : IsGoing lanes place start now sent_start sent_now) → Accepts place m → IsLawful (going.gave ++ m ∷ [])
-lawful_with_one lanes place m start now sent_start sent_now going may =
-    lawful_more Between going.gave m going.lawful (subst (λ (p : Place). Accepts p m) going.at_place may)
+pub lawful_with_one : {lanes : ℕ} {place : Place} (m : Message) {start now : ℕ → List Message} {sent_start sent_now : List Message}
+    (going : IsGoing lanes place start now sent_start sent_now) → Accepts place m → IsLawful (going.gave ++ m ∷ [])
+lawful_with_one m going may = lawful_more Between going.gave m going.lawful (subst (λ (p : Place). Accepts p m) going.at_place may)
 
-pub sent_with_one : (start now new gave : List Message) (m : Message) → now ≡ start ++ gave → new ≡ now ++ m ∷ [] → new ≡ start ++ (gave ++ m ∷ [])
-sent_with_one start now new gave m before added = added ∙ ap (λ (l : List Message). l ++ m ∷ []) before ∙ append_assoc start gave (m ∷ [])
+pub sent_with_one : (start : List Message) {now new : List Message} (gave : List Message) (m : Message) → now ≡ start ++ gave → new ≡ now ++ m ∷ []
+    → new ≡ start ++ (gave ++ m ∷ [])
+sent_with_one start gave m before added = added ∙ ap (λ (l : List Message). l ++ m ∷ []) before ∙ append_assoc start gave (m ∷ [])
 
 -- by how a message ends the stream, as a function answers it
 broken_off_by_none : (m : Message) → BrokenOff ≡ ending_of m → IsOfStream m → ending_of m ≡ More
@@ -95,9 +83,9 @@ broken_off_by_none ImageEnd broken is = refl
 broken_off_by_none StreamEnd broken is = absurd cc
 broken_off_by_none Stop broken is = absurd is
 
-pub says_more : (a : Ending) (m : Message) → a ≡ ending_of m → (a ≡ More) ⊎ (a ≡ BrokenOff) → IsOfStream m → ending_of m ≡ More
-says_more a m says (inl more) is = sym says ∙ more
-says_more a m says (inr broken) is = broken_off_by_none m (sym (broken) ∙ says) is
+pub says_more : {a : Ending} (m : Message) → a ≡ ending_of m → (a ≡ More) ⊎ (a ≡ BrokenOff) → IsOfStream m → ending_of m ≡ More
+says_more m says (inl more) is = sym says ∙ more
+says_more m says (inr broken) is = broken_off_by_none m (sym (broken) ∙ says) is
 
 -- the next message was taken and sent
 pub still_going : (lanes : ℕ) (place next : Place) (m : Message) (states : List LaneState) (start now new : ℕ → List Message)
@@ -107,13 +95,13 @@ pub still_going : (lanes : ℕ) (place next : Place) (m : Message) (states : Lis
     → IsGoing lanes next start new sent_start sent_new
 still_going lanes place next m states start now new sent_start sent_now sent_new going taken added stepped more = record {
   gave = going.gave ++ m ∷ [];
-  output = sent_with_one sent_start sent_now sent_new going.gave m going.output added;
-  lawful = lawful_with_one lanes place m start now sent_start sent_now going taken.may;
+  output = sent_with_one sent_start going.gave m going.output added;
+  lawful = lawful_with_one m going taken.may;
   at_place = stepped ∙ ap (λ (p : Place). place_after p m) going.at_place ∙ sym (place_of-append Between going.gave (m ∷ []));
   stream = each-push IsOfStream going.gave m going.stream taken.is;
   more = ends_as More going.gave m going.more more;
   stoppable = subst (λ (p : Place). Accepts p Stop) (sym stepped) (can_be_stopped place m taken.may more);
-  lanes_are = lanes_with_one lanes place m states start now new sent_start sent_now going taken;
+  lanes_are = lanes_with_one going taken;
 }
 
 -- ---- once something was taken of each lane
@@ -134,24 +122,23 @@ lane_after Ended start old new given taken left before added are more is = recor
 }
 lane_after Gone start old new given taken left before added are more is = absurd is
 
--- what the lanes' states say
-pub lanes_after : (lanes : ℕ) (place : Place) (states : List LaneState) (start now new left taken : ℕ → List Message) (sent_start sent_now : List Message)
-    → IsGoing lanes place start now sent_start sent_now → HasTakenParts lanes states now new taken → AreLanes lanes states start new left
-lanes_after lanes place states start now new left taken sent_start sent_now going parts lane below =
-    let here : List Message = dealt lane lanes going.gave in
-    lane_after (state_at states lane) (start lane) (now lane) (new lane) here (taken lane) (left lane) (going.lanes_are lane below) (parts.added lane below)
-    (all_messages here (dealt_of_stream lane lanes Between going.gave going.stream)) (dealt_goes_on lane lanes Between going.gave going.more)
-    (parts.left lane below)
+module _ {lanes : ℕ} {place : Place} {states : List LaneState} {start now new : ℕ → List Message} {sent_start sent_now : List Message} where
+  -- what the lanes' states say
+  pub lanes_after : (left : ℕ → List Message) {taken : ℕ → List Message} → IsGoing lanes place start now sent_start sent_now
+      → HasTakenParts lanes states now new taken → AreLanes lanes states start new left
+  lanes_after left {taken} going parts lane below =
+      let here : List Message = dealt lane lanes going.gave in
+      lane_after (state_at states lane) (start lane) (now lane) (new lane) here (taken lane) (left lane) (going.lanes_are lane below) (parts.added lane below)
+      (all_messages here (dealt_of_stream lane lanes Between going.gave going.stream)) (dealt_goes_on lane lanes Between going.gave going.more)
+      (parts.left lane below)
 
--- what is gathered goes on where another list counts the lanes
-pub goes_further : (lanes count : ℕ) (place next : Place) (m : Message) (states : List LaneState) (start now new : ℕ → List Message)
-    (sent_start sent_now sent_new : List Message)
-    → IsGoing lanes place start now sent_start sent_now → count ≡ lanes → HasTakenWhole count place m states now new → sent_new ≡ sent_now ++ m ∷ []
-    → next ≡ place_after place m → ending_of m ≡ More
-    → IsGoing lanes next start new sent_start sent_new
-goes_further lanes count place next m states start now new sent_start sent_now sent_new going same whole added stepped more =
-    still_going lanes place next m states start now new sent_start sent_now sent_new going
-    (subst (λ (n : ℕ). HasTakenWhole n place m states now new) same whole) added stepped more
+  -- what is gathered goes on where another list counts the lanes
+  pub goes_further : {count : ℕ} {next : Place} {m : Message} {sent_new : List Message} → IsGoing lanes place start now sent_start sent_now → count ≡ lanes
+      → HasTakenWhole count place m states now new → sent_new ≡ sent_now ++ m ∷ [] → next ≡ place_after place m → ending_of m ≡ More
+      → IsGoing lanes next start new sent_start sent_new
+  goes_further {next} {m} {sent_new} going same whole added stepped more =
+      still_going lanes place next m states start now new sent_start sent_now sent_new going
+      (subst (λ (n : ℕ). HasTakenWhole n place m states now new) same whole) added stepped more
 
 -- ---- lanes of which nothing was taken
 

@@ -1,9 +1,6 @@
 -- How many rows a lane gets: one in each round of as many rows as there are lanes, and one of those that are left.
-use Rattle.std.proofs.Common.{◌≡◌, ℕ, zero, suc, ◌+◌, ◌*◌, ◌/◌, ◌%◌, ◌<◌, ◌≤◌, sym, ap, ◌∙◌, arith}
-use Rattle.std.specs.Prelude.{◌==◌, nat_lt, if◌then◌else◌}
-use Rattle.std.proofs.lemmas.Bool.Decides.{nat_tests}
-use Rattle.std.proofs.lemmas.Nat.{mod-mul-add, div-add-mod', mod_below}
-use Rattle.pnm_tools.specs.Dealing.{dealt_height}
+use Rattle.pnm_lanes.proofs.Words.{◌≡◌, ℕ, zero, suc, ◌+◌, ◌*◌, ◌/◌, ◌%◌, ◌<◌, ◌≤◌, sym, ap, ◌∙◌, arith, ◌==◌, nat_lt, if◌then◌else◌, nat_tests, mod-mul-add}
+use Rattle.pnm_lanes.proofs.Words.{div-add-mod', mod_below, dealt_height}
 
 -- the lane gets one of the first rows of a round, or none
 abbrev pub in_round : ℕ → ℕ → ℕ
@@ -17,15 +14,16 @@ one_row_more : (lane r : ℕ) → in_round lane r + this_row lane r ≡ in_round
 one_row_more lane r = grind (arith, nat_tests)
 
 -- after whole rounds
-after_rounds : (lane lanes q r : ℕ) → r ≤ lanes → dealt_height lane lanes (q * lanes) ≡ q → dealt_height lane lanes (q * lanes + r) ≡ q + in_round lane r
-after_rounds lane lanes q zero le whole =
+after_rounds : (lane lanes : ℕ) {q : ℕ} (r : ℕ) → r ≤ lanes → dealt_height lane lanes (q * lanes) ≡ q
+    → dealt_height lane lanes (q * lanes + r) ≡ q + in_round lane r
+after_rounds lane lanes {q} zero le whole =
     let same : q * lanes + 0 ≡ q * lanes = omega arith in
     let none : in_round lane 0 ≡ 0 = grind (arith, nat_tests) in
     ap (dealt_height lane lanes) same ∙ whole ∙ omega (arith, none)
-after_rounds lane lanes q (suc r) le whole =
+after_rounds lane lanes {q} (suc r) le whole =
     let next : q * lanes + suc r ≡ suc (q * lanes + r) = omega arith in
     let place : (q * lanes + r) % lanes ≡ r = mod-mul-add q lanes r (omega arith) in
-    let before : dealt_height lane lanes (q * lanes + r) ≡ q + in_round lane r = after_rounds lane lanes q r (omega arith) whole in
+    let before : dealt_height lane lanes (q * lanes + r) ≡ q + in_round lane r = after_rounds lane lanes r (omega arith) whole in
     let last : this_row lane ((q * lanes + r) % lanes) ≡ this_row lane r = ap (this_row lane) place in
     let one : in_round lane r + this_row lane r ≡ in_round lane (suc r) = one_row_more lane r in
     ap (dealt_height lane lanes) next ∙ omega (arith, before, last, one)
@@ -38,12 +36,12 @@ whole_rounds lane lanes (suc q) lt =
     let next : suc q * lanes ≡ q * lanes + lanes = grind arith in
     let got : in_round lane lanes ≡ 1 = grind (arith, nat_tests) in
     let round : dealt_height lane lanes (q * lanes + lanes) ≡ q + in_round lane lanes =
-    after_rounds lane lanes q lanes (omega arith) (whole_rounds lane lanes q lt) in
+    after_rounds lane lanes lanes (omega arith) (whole_rounds lane lanes q lt) in
     ap (dealt_height lane lanes) next ∙ omega (arith, round, got)
 
 -- by a division
 pub height_by_division : (lane lanes height : ℕ) → lane < lanes → dealt_height lane lanes height ≡ height / lanes + in_round lane (height % lanes)
 height_by_division lane lanes height lt =
     let below : height % lanes < lanes = mod_below height lanes (omega arith) in
-    ap (dealt_height lane lanes) (sym (div-add-mod' height lanes)) ∙ after_rounds lane lanes (height / lanes) (height % lanes) (omega (arith, below))
+    ap (dealt_height lane lanes) (sym (div-add-mod' height lanes)) ∙ after_rounds lane lanes (height % lanes) (omega (arith, below))
     (whole_rounds lane lanes (height / lanes) lt)

@@ -1,10 +1,6 @@
 -- The heights of the lanes' images are together that of the image.
-use Rattle.std.proofs.Common.{◌≡◌, ℕ, zero, suc, ◌+◌, ◌%◌, ◌<◌, List, [], ◌∷◌, length, get_or, sum, refl, sym, ap, ◌∙◌, arith}
-use Rattle.std.specs.Prelude.{◌==◌, nat_lt, if◌then◌else◌}
-use Rattle.std.proofs.lemmas.Bool.Decides.{nat_tests}
-use Rattle.std.proofs.lemmas.List.Sums.{sum_by-cons}
-use Rattle.std.proofs.lemmas.Nat.{mod_below}
-use Rattle.pnm_tools.specs.Dealing.{dealt_height}
+use Rattle.pnm_lanes.proofs.Words.{◌≡◌, ℕ, zero, suc, ◌+◌, ◌%◌, ◌<◌, List, [], ◌∷◌, length, get_or, sum, refl, sym, ap, ◌∙◌, arith, ◌==◌, nat_lt, if◌then◌else◌}
+use Rattle.pnm_lanes.proofs.Words.{nat_tests, sum_by-cons, mod_below, dealt_height}
 
 -- the sum of a function's values from one number on
 abbrev pub sum_from : (ℕ → ℕ) → ℕ → ℕ → ℕ

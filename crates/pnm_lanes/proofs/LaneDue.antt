@@ -1,39 +1,21 @@
 -- What lanes of a row-wise tool give is dealt from what is due, and what is gathered from it is what is due.
-use Rattle.std.proofs.Common.{◌≡◌, ◌⊎◌, inl, inr, ℕ, ◌<◌, true, List, [], ◌∷◌, ◌++◌, Result, Ok, Err, refl, sym, ap, subst, ◌∙◌, append_assoc, append-nil}
-use Rattle.pnm_image.specs.declared.message.Message.{Message}
-use Rattle.pnm_image.specs.declared.message.Message.TheVariants.{Begin, Row, ImageEnd, StreamEnd, Stop}
-use Rattle.pnm_image.specs.declared.place.Place.{Place}
-use Rattle.pnm_image.specs.declared.place.Place.TheVariants.{Between, Inside, After}
-use Rattle.pnm_image.specs.Images.{Image, IsImage, AreImages, rows_of, messages_of_image, messages_of_stream}
-use Rattle.pnm_image.specs.Messages.{without_stop, ending_of, EndsBy}
-use Rattle.pnm_image.specs.Places.{place_after}
-use Rattle.pnm_image.specs.Completion.{IsPrefixOf, Completes}
-use Rattle.pnm_tools.specs.declared.fault.ToolFault.{ToolFault}
-use Rattle.pnm_tools.specs.declared.tool.Tool.{Tool}
-use Rattle.pnm_image.specs.declared.message.Ending.{Ending}
-use Rattle.pnm_image.specs.declared.message.Ending.TheVariants.{More, Whole}
-use Rattle.pnm_tools.specs.Dealing.{dealt_message, dealt_from, dealt}
-use Rattle.pnm_tools.specs.Tools.{IsLawfulTool, is_row_wise, applied, output_due}
-use Rattle.pnm_tools.proofs.AnsweringLaws.{due_by, due_is}
-use Rattle.pnm_tools.proofs.FullLaws.{prefix_of_prefix}
-use Rattle.pnm_tools.proofs.InFullLaws.{ends_after, end_ends_nothing}
-use Rattle.pnm_tools.proofs.ResultLaws.{result_is_image}
-use Rattle.pnm_stages.specs.Prefixes.{IsPrefixOfDue}
-use Rattle.pnm_stages.proofs.EndingLaws.{one_ending, prefix_goes_on}
-use Rattle.pnm_stages.proofs.PrefixLaws.{prefix_without_stop}
-use Rattle.pnm_stages.proofs.RingSteps.{ends_as}
-use Rattle.pnm_lanes.specs.LaneLaws.{dealt_images, results_before}
+use Rattle.pnm_lanes.proofs.Words.{◌≡◌, ◌⊎◌, inl, inr, ℕ, ◌<◌, true, List, [], ◌∷◌, ◌++◌, Result, Ok, Err, refl, sym, ap, subst, ◌∙◌, append_assoc, append-nil}
+use Rattle.pnm_lanes.proofs.Words.{Message, Begin, Row, ImageEnd, StreamEnd, Stop, Place, Between, Inside, After, Image, IsImage, AreImages, rows_of}
+use Rattle.pnm_lanes.proofs.Words.{messages_of_image, messages_of_stream, without_stop, ending_of, EndsBy, place_after, IsPrefixOf, Completes, ToolFault, Tool}
+use Rattle.pnm_lanes.proofs.Words.{Ending, More, Whole, dealt_message, dealt_from, dealt, IsLawfulTool, is_row_wise, applied, due_by, due_is, prefix_of_prefix}
+use Rattle.pnm_lanes.proofs.Words.{ends_after, end_ends_nothing, result_is_image, IsPrefixOfDue, one_ending, prefix_goes_on, prefix_without_stop, ends_as}
+use Rattle.pnm_lanes.proofs.Words.{dealt_images, results_before}
+use Rattle.pnm_tools.specs.Tools.{output_due}
 use Rattle.pnm_lanes.proofs.DealtLaws.{dealt_prefix, part_ends_nothing}
 use Rattle.pnm_lanes.proofs.LaneLaws.{dealt_are_images, stream_is_dealt, due_is_dealt}
 
 -- ---- what a lane gives
 
 -- of what it gets of a stream
-pub lane_gives_due : (tool : Tool) (lane lanes : ℕ) (is : List Image) (l g : List Message) → IsLawfulTool tool → is_row_wise tool ≡ true → lane < lanes
-    → AreImages is
-    → IsPrefixOf (without_stop l) (dealt lane lanes (messages_of_stream is)) → IsPrefixOfDue (output_due tool) l g
+pub lane_gives_due : (tool : Tool) (lane lanes : ℕ) (is : List Image) {l g : List Message} → IsLawfulTool tool → is_row_wise tool ≡ true → lane < lanes
+    → AreImages is → IsPrefixOf (without_stop l) (dealt lane lanes (messages_of_stream is)) → IsPrefixOfDue (output_due tool) l g
     → IsPrefixOf (without_stop g) (dealt lane lanes (output_due tool is))
-lane_gives_due tool lane lanes is l g lawful row_wise below are gets of_due =
+lane_gives_due tool lane lanes is {l} {g} lawful row_wise below are gets of_due =
     let seen : IsPrefixOf (without_stop l) (messages_of_stream (dealt_images lane lanes is)) =
     subst (IsPrefixOf (without_stop l)) (stream_is_dealt lane lanes is are) gets in
     let first : IsPrefixOf (without_stop of_due.accepted) (without_stop l) =
@@ -76,14 +58,14 @@ due_of_results tool (i ∷ is) =
     subst (λ (x : List Message). IsDueOf x (results_before tool (i ∷ is))) (sym (due_is tool i is))
     (due_of_result tool is (applied tool i) (due_of_results tool is))
 
-results_by_are_images : (tool : Tool) (i : Image) (is : List Image) (r : Result Image ToolFault) → IsLawfulTool tool → IsImage i → applied tool i ≡ r
+results_by_are_images : (tool : Tool) {i : Image} (is : List Image) (r : Result Image ToolFault) → IsLawfulTool tool → IsImage i → applied tool i ≡ r
     → AreImages (results_before tool is) → AreImages (results_by tool is r)
-results_by_are_images tool i is (Ok j) lawful image made others = (result_is_image tool i j lawful image made, others)
-results_by_are_images tool i is (Err fault) lawful image made others = tt
+results_by_are_images tool {i} is (Ok j) lawful image made others = (result_is_image tool i j lawful image made, others)
+results_by_are_images tool is (Err fault) lawful image made others = tt
 
 pub results_before_are_images : (tool : Tool) (is : List Image) → IsLawfulTool tool → AreImages is → AreImages (results_before tool is)
 results_before_are_images tool [] lawful are = tt
-results_before_are_images tool (i ∷ is) lawful are = results_by_are_images tool i is (applied tool i) lawful are.0 refl
+results_before_are_images tool (i ∷ is) lawful are = results_by_are_images tool is (applied tool i) lawful are.0 refl
     (results_before_are_images tool is lawful are.1)
 
 -- what is due is a prefix of the stream of the results
@@ -117,20 +99,20 @@ prefix_or_all (x ∷ a) (y ∷ b) m prefix =
 
 -- ---- how dealt messages end
 
-last_ends : (lane lanes : ℕ) (place : Place) (m : Message) (e : Ending) → ending_of m ≡ e → EndsBy e (dealt_message lane lanes place m ++ [])
-last_ends lane lanes place (Begin head) e same = same
-last_ends lane lanes Between (Row row) e same = sym same
-last_ends lane lanes (Inside s y) (Row row) e same =
+last_ends : (lane lanes : ℕ) (place : Place) (m : Message) {e : Ending} → ending_of m ≡ e → EndsBy e (dealt_message lane lanes place m ++ [])
+last_ends lane lanes place (Begin head) same = same
+last_ends lane lanes Between (Row row) same = sym same
+last_ends lane lanes (Inside s y) (Row row) {e} same =
     ends_after e (dealt_message lane lanes (Inside s y) (Row row)) [] (part_ends_nothing lane lanes (Inside s y) (Row row) refl) (sym same)
-last_ends lane lanes After (Row row) e same = sym same
-last_ends lane lanes place ImageEnd e same = same
-last_ends lane lanes place StreamEnd e same = same
-last_ends lane lanes place Stop e same = same
+last_ends lane lanes After (Row row) same = sym same
+last_ends lane lanes place ImageEnd same = same
+last_ends lane lanes place StreamEnd same = same
+last_ends lane lanes place Stop same = same
 
 -- as the messages do
 dealt_ends_from : (e : Ending) (lane lanes : ℕ) (place : Place) (l : List Message) → EndsBy e l → EndsBy e (dealt_from lane lanes place l)
 dealt_ends_from e lane lanes place [] ends = ends
-dealt_ends_from e lane lanes place (m ∷ []) ends = last_ends lane lanes place m e ends
+dealt_ends_from e lane lanes place (m ∷ []) ends = last_ends lane lanes place m ends
 dealt_ends_from e lane lanes place (m ∷ n ∷ l) ends =
     ends_after e (dealt_message lane lanes place m) (dealt_from lane lanes (place_after place m) (n ∷ l)) (part_ends_nothing lane lanes place m ends.0)
     (dealt_ends_from e lane lanes (place_after place m) (n ∷ l) ends.1)

@@ -1,30 +1,10 @@
 -- How a dealer, lanes and a gatherer end together: well, broken off, or by a fault.
-use Rattle.std.proofs.Common.{◌≡◌, inl, inr, ℕ, ◌<◌, true, List, [], ◌∷◌, ◌++◌, refl, sym, ap, subst, ◌∙◌, append-nil}
-use Rattle.pnm_image.specs.declared.message.Message.{Message}
-use Rattle.pnm_image.specs.declared.message.Message.TheVariants.{Stop}
-use Rattle.pnm_image.specs.declared.place.Place.TheVariants.{Between}
-use Rattle.pnm_image.specs.Images.{Image, messages_of_stream}
-use Rattle.pnm_image.specs.Messages.{without_stop, EndsBy}
-use Rattle.pnm_image.specs.Places.{IsLawful, place_of}
-use Rattle.pnm_image.specs.Completion.{IsPrefixOf, Completes, IsStreamOf}
-use Rattle.pnm_image.proofs.Streams.{is_stream_of}
-use Rattle.pnm_tools.specs.declared.tool.Tool.{Tool}
-use Rattle.pnm_image.specs.declared.message.Ending.{Ending}
-use Rattle.pnm_image.specs.declared.message.Ending.TheVariants.{Whole, BrokenOff}
-use Rattle.pnm_tools.specs.Answers.{AnswersInFull, AreResults, images_ended, begun_of, begun_in, due_so_far}
-use Rattle.pnm_tools.specs.Dealing.{dealt}
-use Rattle.pnm_tools.specs.Tools.{IsLawfulTool, is_row_wise}
-use Rattle.pnm_tools.proofs.SoundLaws.{unbroken_keeps_all}
-use Rattle.pnm_stages.specs.declared.stage.StageEnd.{StageEnd}
-use Rattle.pnm_stages.specs.declared.stage.StageEnd.TheVariants.{Well, Broken, Fault, PeerGone}
-use Rattle.pnm_stages.specs.Rings.{IsEnded}
-use Rattle.pnm_stages.specs.Stages.{HasEndedWell, HasBrokenOff, HasEndedSo}
-use Rattle.pnm_stages.proofs.EndingLaws.{one_ending, stream_ends_whole, ends_stream}
-use Rattle.pnm_stages.proofs.PrefixLaws.{stop_is_cut}
-use Rattle.pnm_lanes.specs.Deals.{HasReceivedSo, HasSentSo}
-use Rattle.pnm_lanes.specs.Gathers.{HasSentAll}
-use Rattle.pnm_lanes.specs.LaneLaws.{results_before, dealt_images}
-use Rattle.pnm_lanes.specs.Lanes.{IsFine, HaveThreadsRun}
+use Rattle.pnm_lanes.proofs.Words.{◌≡◌, inl, inr, ℕ, ◌<◌, true, List, [], ◌∷◌, ◌++◌, refl, sym, ap, subst, ◌∙◌, append-nil, Message, Stop, Between, Image}
+use Rattle.pnm_lanes.proofs.Words.{messages_of_stream, without_stop, EndsBy, IsLawful, place_of, IsPrefixOf, Completes, IsStreamOf, is_stream_of, Tool, Ending}
+use Rattle.pnm_lanes.proofs.Words.{Whole, BrokenOff, AnswersInFull, AreResults, images_ended, begun_of, begun_in, due_so_far, dealt, IsLawfulTool, is_row_wise}
+use Rattle.pnm_lanes.proofs.Words.{unbroken_keeps_all, StageEnd, Well, Broken, Fault, PeerGone, IsEnded, HasEndedWell, HasBrokenOff, HasEndedSo, one_ending}
+use Rattle.pnm_lanes.proofs.Words.{stream_ends_whole, ends_stream, stop_is_cut, HasReceivedSo, HasSentSo, HasSentAll, results_before, dealt_images, IsFine}
+use Rattle.pnm_lanes.proofs.Words.{HaveThreadsRun}
 use Rattle.pnm_lanes.proofs.DealtLaws.{dealt_from-append, dealt_prefix}
 use Rattle.pnm_lanes.proofs.LaneDue.{dealt_ends}
 use Rattle.pnm_lanes.proofs.LaneHeads.{whole_is_taken}
@@ -62,14 +42,14 @@ pub record IsBrokenDeal (dealer : StageEnd) (l : List Message) : Type 0 where
   pub lawful : IsLawful l
   pub broken : EndsBy BrokenOff l
 
-broken_deal : (dealer : StageEnd) (lane lanes : ℕ) (l d i : List Message) → IsFine dealer → HasReceivedSo dealer l → HasSentSo dealer lane lanes l d
-    → IsPrefixOf i d → EndsBy BrokenOff i → IsBrokenDeal dealer l
-broken_deal Well lane lanes l d i fine input sent prefix broken =
+broken_deal : (dealer : StageEnd) (lane lanes : ℕ) {l : List Message} (d i : List Message) → IsFine dealer → HasReceivedSo dealer l
+    → HasSentSo dealer lane lanes l d → IsPrefixOf i d → EndsBy BrokenOff i → IsBrokenDeal dealer l
+broken_deal Well lane lanes {l} d i fine input sent prefix broken =
     let whole : EndsBy Whole d = subst (EndsBy Whole) (sym sent) (dealt_ends Whole lane lanes l input.1) in
     not_both d whole (subst (EndsBy BrokenOff) (sym (all_of_ended i d prefix (inr broken) (inl whole))) broken)
-broken_deal Broken lane lanes l d i fine input sent prefix broken = record { is_broken = refl; lawful = input.0; broken = input.1 }
-broken_deal (Fault fault) lane lanes l d i fine input sent prefix broken = absurd fine
-broken_deal PeerGone lane lanes l d i fine input sent prefix broken = absurd fine
+broken_deal Broken lane lanes d i fine input sent prefix broken = record { is_broken = refl; lawful = input.0; broken = input.1 }
+broken_deal (Fault fault) lane lanes d i fine input sent prefix broken = absurd fine
+broken_deal PeerGone lane lanes d i fine input sent prefix broken = absurd fine
 
 -- ---- well
 
@@ -115,38 +95,39 @@ pub record IsBrokenLane (tool : Tool) (lane lanes : ℕ) (l i o r : List Message
   pub all : r ≡ o
 
 -- the one that was broken off tells that the dealer was
-broken_tells : (tool : Tool) (dealer end : StageEnd) (lane lanes : ℕ) (l d i o r : List Message) → IsFine dealer → HasReceivedSo dealer l
-    → HasSentSo dealer lane lanes l d → IsPrefixOf i d → HasEndedSo tool end i o → IsFine end → IsPrefixOf r o → EndsBy BrokenOff r → IsBrokenDeal dealer l
-broken_tells tool dealer Well lane lanes l d i o r fine input sent received ended fine_lane taken broken =
+broken_tells : (tool : Tool) {dealer : StageEnd} (end : StageEnd) (lane lanes : ℕ) {l : List Message} (d i o r : List Message) → IsFine dealer
+    → HasReceivedSo dealer l → HasSentSo dealer lane lanes l d → IsPrefixOf i d → HasEndedSo tool end i o → IsFine end → IsPrefixOf r o → EndsBy BrokenOff r
+    → IsBrokenDeal dealer l
+broken_tells tool Well lane lanes d i o r fine input sent received ended fine_lane taken broken =
     let whole : EndsBy Whole o = subst (EndsBy Whole) (sym ended.answer) (stream_ends_whole ended.results) in
     not_both o whole (subst (EndsBy BrokenOff) (sym (all_of_ended r o taken (inr broken) (inl whole))) broken)
-broken_tells tool dealer Broken lane lanes l d i o r fine input sent received ended fine_lane taken broken =
-    broken_deal dealer lane lanes l d i fine input sent received ended.ends
-broken_tells tool dealer (Fault fault) lane lanes l d i o r fine input sent received ended fine_lane taken broken = absurd fine_lane
-broken_tells tool dealer PeerGone lane lanes l d i o r fine input sent received ended fine_lane taken broken = absurd fine_lane
+broken_tells tool {dealer} Broken lane lanes d i o r fine input sent received ended fine_lane taken broken =
+    broken_deal dealer lane lanes d i fine input sent received ended.ends
+broken_tells tool (Fault fault) lane lanes d i o r fine input sent received ended fine_lane taken broken = absurd fine_lane
+broken_tells tool PeerGone lane lanes d i o r fine input sent received ended fine_lane taken broken = absurd fine_lane
 
 -- then each lane was
-broken_lane : (tool : Tool) (end : StageEnd) (lane lanes : ℕ) (l d i o r : List Message) → EndsBy BrokenOff l → d ≡ dealt lane lanes l → IsPrefixOf i d
+broken_lane : {tool : Tool} (end : StageEnd) {lane lanes : ℕ} {l d i o r : List Message} → EndsBy BrokenOff l → d ≡ dealt lane lanes l → IsPrefixOf i d
     → HasEndedSo tool end i o → IsFine end → IsPrefixOf r o → IsEnded r → IsBrokenLane tool lane lanes l i o r
-broken_lane tool Well lane lanes l d i o r broken sent received ended fine taken gathered =
+broken_lane Well {lane} {lanes} {l} {d} {i} broken sent received ended fine taken gathered =
     let stopped : EndsBy BrokenOff d = subst (EndsBy BrokenOff) (sym sent) (dealt_ends BrokenOff lane lanes l broken) in
     let whole : EndsBy Whole i = subst (EndsBy Whole) (sym ended.stream.messages) (stream_ends_whole ended.images) in
     not_both i whole (subst (EndsBy BrokenOff) (all_of_ended i d received (inl whole) (inr stopped)) stopped)
-broken_lane tool Broken lane lanes l d i o r broken sent received ended fine taken gathered =
+broken_lane Broken {lane} {lanes} {l} {d} {i} {o} {r} broken sent received ended fine taken gathered =
     let stopped : EndsBy BrokenOff d = subst (EndsBy BrokenOff) (sym sent) (dealt_ends BrokenOff lane lanes l broken) in
     record {
       part = sym (all_of_ended i d received (inr ended.ends) (inr stopped)) ∙ sent;
       full = ended.full;
       all = sym (all_of_ended r o taken gathered (inr (ended.full.ends BrokenOff ended.ends)));
     }
-broken_lane tool (Fault fault) lane lanes l d i o r broken sent received ended fine taken gathered = absurd fine
-broken_lane tool PeerGone lane lanes l d i o r broken sent received ended fine taken gathered = absurd fine
+broken_lane (Fault fault) broken sent received ended fine taken gathered = absurd fine
+broken_lane PeerGone broken sent received ended fine taken gathered = absurd fine
 
 -- what is due from a lane for images that complete what was broken off
-lane_due : (tool : Tool) (lane lanes : ℕ) (l f o : List Message) (is : List Image) → IsLawfulTool tool → is_row_wise tool ≡ true → lane < lanes
-    → l ≡ f ++ Stop ∷ [] → Completes is l → AnswersInFull tool (dealt lane lanes l) o
+lane_due : {tool : Tool} (lane lanes : ℕ) {l : List Message} (f : List Message) {o : List Message} {is : List Image} → IsLawfulTool tool
+    → is_row_wise tool ≡ true → lane < lanes → l ≡ f ++ Stop ∷ [] → Completes is l → AnswersInFull tool (dealt lane lanes l) o
     → IsPrefixOf (dealt lane lanes (due_so_far tool (images_ended l) (begun_in l) is)) o
-lane_due tool lane lanes l f o is lawful row_wise below parts completes full =
+lane_due {tool} lane lanes {l} f {o} {is} lawful row_wise below parts completes full =
     let part : List Message = dealt lane lanes l in
     let cut : without_stop l ≡ f = ap without_stop parts ∙ stop_is_cut f in
     let split : part ≡ dealt lane lanes f ++ Stop ∷ [] = ap (dealt lane lanes) parts ∙ dealt_from-append lane lanes Between f (Stop ∷ []) in
@@ -183,10 +164,9 @@ pub together_broken : {tool : Tool} {lanes : ℕ} {dealer : StageEnd} {e : ℕ �
 together_broken {tool = tool} {lanes = lanes} {dealer = dealer} {e = e} {l = l} {g = g} {d = d} {i = i} {o = o} {r = r} run some lawful row_wise fine fines =
     let stopped = run.gathered.ended.1 in
     let at : ℕ = stopped.0 in
-    let deal = broken_tells tool dealer (e at) at lanes l (d at) (i at) (o at) (r at) fine run.input (run.dealt at stopped.1) (run.received at stopped.1)
+    let deal = broken_tells tool (e at) at lanes (d at) (i at) (o at) (r at) fine run.input (run.dealt at stopped.1) (run.received at stopped.1)
     (run.stages at stopped.1).ended (fines at stopped.1) (run.taken at stopped.1) stopped.2 in
-    let lane : (n : ℕ) → n < lanes → IsBrokenLane tool n lanes l (i n) (o n) (r n) = λ n below.
-    broken_lane tool (e n) n lanes l (d n) (i n) (o n) (r n) deal.broken
+    let lane : (n : ℕ) → n < lanes → IsBrokenLane tool n lanes l (i n) (o n) (r n) = λ n below. broken_lane (e n) deal.broken
     (subst (λ (x : StageEnd). HasSentSo x n lanes l (d n)) deal.is_broken (run.dealt n below)) (run.received n below) (run.stages n below).ended
     (fines n below) (run.taken n below) (run.gathered.ended.0 n below) in
     let part : (n : ℕ) (below : n < lanes) → AnswersInFull tool (dealt n lanes l) (o n) = λ n below. subst (λ (x : List Message). AnswersInFull tool x (o n))
@@ -212,8 +192,7 @@ together_broken {tool = tool} {lanes = lanes} {dealer = dealer} {e = e} {l = l} 
             (results_dealt run lawful row_wise is (completes_prefix is l common.accepted common.rest common.parts completes)) in
             sent_all (results_before tool is) lanes r (due_so_far tool (images_ended l) (begun_in l) is) g owes.1 owes.0
             (λ n below. subst (IsPrefixOf (dealt n lanes (due_so_far tool (images_ended l) (begun_in l) is))) (sym (lane n below).all)
-            (lane_due tool n lanes l split.0 (o n) is lawful row_wise below split.2 completes (part n below)))
-            gathered.so;
+            (lane_due n lanes split.0 lawful row_wise below split.2 completes (part n below))) gathered.so;
         ends = λ end is. subst (λ (x : Ending). EndsBy x g) (one_ending BrokenOff end l deal.broken is) ends;
       };
     }

@@ -1,38 +1,12 @@
 -- How a dealer, lanes and a gatherer end together by a fault.
-use Rattle.std.proofs.Common.{◌≡◌, ◌≢◌, inl, inr, ℕ, ◌+◌, ◌<◌, true, List, [], ◌∷◌, ◌++◌, refl, sym, ap, subst, ◌∙◌, append_assoc}
-use Rattle.std.specs.List.{AllByRecursion}
-use Rattle.pnm_image.specs.declared.message.Message.{Message}
-use Rattle.pnm_image.specs.declared.message.Message.TheVariants.{Begin, Row, ImageEnd, StreamEnd, Stop}
-use Rattle.pnm_image.specs.declared.place.Place.{Place}
-use Rattle.pnm_image.specs.declared.place.Place.TheVariants.{Between, Inside, After}
-use Rattle.pnm_image.specs.Images.{Image}
-use Rattle.pnm_image.specs.Messages.{IsMessage, without_stop, EndsBy}
-use Rattle.pnm_image.specs.Places.{Accepts, IsLawful, place_of}
-use Rattle.pnm_image.specs.Completion.{IsPrefixOf, Completes}
-use Rattle.pnm_image.proofs.Lists.{all_of_prefix}
-use Rattle.pnm_image.proofs.Places.{lawful_prefix, next_may_come}
-use Rattle.pnm_image.proofs.Streams.{completion, stream_is_lawful}
-use Rattle.pnm_tools.specs.declared.fault.ToolFault.{ToolFault}
-use Rattle.pnm_tools.specs.declared.fault.ToolFault.TheVariants.{CutOutside, ChannelOutside, TooLarge, OutOfOrder, Memory}
-use Rattle.pnm_tools.specs.declared.tool.Tool.{Tool}
-use Rattle.pnm_tools.specs.declared.tool.Tool.TheVariants.{Cut}
-use Rattle.pnm_image.specs.declared.message.Ending.TheVariants.{More, Whole, BrokenOff}
-use Rattle.pnm_tools.specs.Answers.{RefusesHead}
-use Rattle.pnm_tools.specs.ChainAnswers.{IsRefusedNext}
-use Rattle.pnm_tools.specs.Dealing.{dealt}
-use Rattle.pnm_tools.specs.Tools.{IsLawfulTool, is_row_wise, AreTaken}
-use Rattle.pnm_tools.proofs.FullLaws.{prefix_of_prefix}
-use Rattle.pnm_tools.proofs.HeadFaultLaws.{head_is_refused_by_name}
-use Rattle.pnm_stages.specs.declared.stage.StageEnd.{StageEnd}
-use Rattle.pnm_stages.specs.declared.stage.StageEnd.TheVariants.{Well, Broken, Fault, PeerGone}
-use Rattle.pnm_stages.specs.Rings.{IsEnded, EndsAtMostOnce}
-use Rattle.pnm_stages.specs.Stages.{HasFailed, HasEndedSo}
-use Rattle.pnm_stages.proofs.EndingLaws.{prefix_goes_on, stream_ends_whole}
-use Rattle.pnm_stages.proofs.RingSteps.{ends_as}
-use Rattle.pnm_lanes.specs.Deals.{HasReceivedSo, HasSentSo}
-use Rattle.pnm_lanes.specs.Gathers.{HasGatheredSo, IsGathered}
-use Rattle.pnm_lanes.specs.LaneLaws.{results_before, dealt_images}
-use Rattle.pnm_lanes.specs.Lanes.{AreThere, IsFine, IsFirstOfThreads, IsFirstRefusedHead, IsFaultOf, HasFailedInLanes, HaveThreadsRun}
+use Rattle.pnm_lanes.proofs.Words.{◌≡◌, ◌≢◌, inl, inr, ℕ, ◌+◌, ◌<◌, true, List, [], ◌∷◌, ◌++◌, refl, sym, ap, subst, ◌∙◌, append_assoc, AllByRecursion, Message}
+use Rattle.pnm_lanes.proofs.Words.{Begin, Row, ImageEnd, StreamEnd, Stop, Place, Between, Inside, After, Image, IsMessage, without_stop, EndsBy, Accepts}
+use Rattle.pnm_lanes.proofs.Words.{IsLawful, place_of, IsPrefixOf, Completes, all_of_prefix, lawful_prefix, next_may_come, completion, stream_is_lawful}
+use Rattle.pnm_lanes.proofs.Words.{ToolFault, CutOutside, ChannelOutside, TooLarge, OutOfOrder, Memory, Tool, Cut, More, Whole, BrokenOff, RefusesHead}
+use Rattle.pnm_lanes.proofs.Words.{IsRefusedNext, dealt, IsLawfulTool, is_row_wise, AreTaken, prefix_of_prefix, head_is_refused_by_name, StageEnd, Well, Broken}
+use Rattle.pnm_lanes.proofs.Words.{Fault, PeerGone, IsEnded, EndsAtMostOnce, HasFailed, HasEndedSo, prefix_goes_on, stream_ends_whole, ends_as, HasReceivedSo}
+use Rattle.pnm_lanes.proofs.Words.{HasSentSo, HasGatheredSo, IsGathered, results_before, dealt_images, AreThere, IsFine, IsFirstOfThreads, IsFirstRefusedHead}
+use Rattle.pnm_lanes.proofs.Words.{IsFaultOf, HasFailedInLanes, HaveThreadsRun}
 use Rattle.pnm_lanes.proofs.LaneDue.{dealt_ends}
 use Rattle.pnm_lanes.proofs.LaneHeads.{refused_head_is_dealt}
 use Rattle.pnm_lanes.proofs.LaneLaws.{dealt_are_images, stream_is_dealt}
@@ -109,58 +83,57 @@ no_head_cut_outside tool ImageEnd row_wise refused = refused
 no_head_cut_outside tool StreamEnd row_wise refused = refused
 no_head_cut_outside tool Stop row_wise refused = refused
 
--- a head that a lane refuses is dealt from the first that the tool refuses
-head_of_all : (tool : Tool) (lane lanes : ℕ) (l prefix rest i before after : List Message) (m : Message) (fault : ToolFault) → IsLawfulTool tool
-    → is_row_wise tool ≡ true → lane < lanes → AllByRecursion IsMessage l → l ≡ prefix ++ rest
-    → IsPrefixOf (without_stop i) (dealt lane lanes prefix) → i ≡ before ++ m ∷ after → AreTaken tool before → RefusesHead tool m fault
-    → IsFirstRefusedHead tool fault l
-head_of_all tool lane lanes l prefix rest i before after (Row row) fault lawful row_wise below messages parts gets is taken refused = absurd refused
-head_of_all tool lane lanes l prefix rest i before after ImageEnd fault lawful row_wise below messages parts gets is taken refused = absurd refused
-head_of_all tool lane lanes l prefix rest i before after StreamEnd fault lawful row_wise below messages parts gets is taken refused = absurd refused
-head_of_all tool lane lanes l prefix rest i before after Stop fault lawful row_wise below messages parts gets is taken refused = absurd refused
-head_of_all tool lane lanes l prefix rest i before after (Begin part) fault lawful row_wise below messages parts gets is taken refused =
-    let more : List Message = without_stop after ++ gets.0 in
-    let whole : dealt lane lanes prefix ≡ before ++ Begin part ∷ more =
-    gets.1 ∙ ap (λ (x : List Message). without_stop x ++ gets.0) is ∙ ap (λ (x : List Message). x ++ gets.0) (prefix_stays before (Begin part) after)
-    ∙ append_assoc before (Begin part ∷ without_stop after) gets.0 in
-    let found = refused_head_is_dealt tool lane lanes prefix before part more fault lawful row_wise below
-    (all_of_prefix IsMessage prefix rest (subst (AllByRecursion IsMessage) parts messages)) whole taken refused in
-    record {
-      prefix = found.0;
-      head = found.1;
-      rest = found.2 ++ rest;
-      parts = parts ∙ ap (λ (x : List Message). x ++ rest) found.3 ∙ append_assoc found.0 (Begin found.1 ∷ found.2) rest;
-      taken = found.4;
-      refused = found.5;
-    }
+module _ (lane lanes : ℕ) {l : List Message} (prefix rest : List Message) {i : List Message} where
+  -- a head that a lane refuses is dealt from the first that the tool refuses
+  head_of_all : {tool : Tool} (before after : List Message) (m : Message) {fault : ToolFault} → IsLawfulTool tool → is_row_wise tool ≡ true → lane < lanes
+      → AllByRecursion IsMessage l → l ≡ prefix ++ rest → IsPrefixOf (without_stop i) (dealt lane lanes prefix) → i ≡ before ++ m ∷ after
+      → AreTaken tool before → RefusesHead tool m fault → IsFirstRefusedHead tool fault l
+  head_of_all before after (Row row) lawful row_wise below messages parts gets is taken refused = absurd refused
+  head_of_all before after ImageEnd lawful row_wise below messages parts gets is taken refused = absurd refused
+  head_of_all before after StreamEnd lawful row_wise below messages parts gets is taken refused = absurd refused
+  head_of_all before after Stop lawful row_wise below messages parts gets is taken refused = absurd refused
+  head_of_all {tool} before after (Begin part) {fault} lawful row_wise below messages parts gets is taken refused =
+      let more : List Message = without_stop after ++ gets.0 in
+      let whole : dealt lane lanes prefix ≡ before ++ Begin part ∷ more =
+      gets.1 ∙ ap (λ (x : List Message). without_stop x ++ gets.0) is ∙ ap (λ (x : List Message). x ++ gets.0) (prefix_stays before (Begin part) after)
+      ∙ append_assoc before (Begin part ∷ without_stop after) gets.0 in
+      let found = refused_head_is_dealt tool lane lanes prefix before part more fault lawful row_wise below
+      (all_of_prefix IsMessage prefix rest (subst (AllByRecursion IsMessage) parts messages)) whole taken refused in
+      record {
+        prefix = found.0;
+        head = found.1;
+        rest = found.2 ++ rest;
+        parts = parts ∙ ap (λ (x : List Message). x ++ rest) found.3 ∙ append_assoc found.0 (Begin found.1 ∷ found.2) rest;
+        taken = found.4;
+        refused = found.5;
+      }
 
--- what a fault of a lane says of all messages, where they are lawful
-lane_refused : (tool : Tool) (fault : ToolFault) (lane lanes : ℕ) (l prefix rest i before after : List Message) → IsLawfulTool tool → is_row_wise tool ≡ true
-    → lane < lanes → AllByRecursion IsMessage l → IsLawful l → l ≡ prefix ++ rest
-    → IsPrefixOf (without_stop i) (dealt lane lanes prefix) → IsLawful (without_stop i) → EndsAtMostOnce i → i ≡ before ++ after → AreTaken tool before
-    → IsRefusedNext tool fault before after → IsFaultOf tool fault l
-lane_refused tool fault lane lanes l prefix rest i before [] lawful row_wise below messages whole parts gets ordered once is taken refused = absurd refused
-lane_refused tool CutOutside lane lanes l prefix rest i before (m ∷ after) lawful row_wise below messages whole parts gets ordered once is taken refused =
-    absurd (no_head_cut_outside tool m row_wise refused.1)
-lane_refused tool ChannelOutside lane lanes l prefix rest i before (m ∷ after) lawful row_wise below messages whole parts gets ordered once is taken refused =
-    (whole, head_of_all tool lane lanes l prefix rest i before after m ChannelOutside lawful row_wise below messages parts gets is taken refused.1)
-lane_refused tool TooLarge lane lanes l prefix rest i before (m ∷ after) lawful row_wise below messages whole parts gets ordered once is taken refused =
-    (whole, head_of_all tool lane lanes l prefix rest i before after m TooLarge lawful row_wise below messages parts gets is taken refused.1)
-lane_refused tool Memory lane lanes l prefix rest i before (m ∷ after) lawful row_wise below messages whole parts gets ordered once is taken refused = tt
-lane_refused tool OutOfOrder lane lanes l prefix rest i before (m ∷ after) lawful row_wise below messages whole parts gets ordered once is taken (inl not) =
-    absurd (not (refl, in_order before m after (subst (λ (x : List Message). IsLawful (without_stop x)) is ordered) (subst EndsAtMostOnce is once)))
-lane_refused tool OutOfOrder lane lanes l prefix rest i before (m ∷ after) lawful row_wise below messages whole parts gets ordered once is taken (inr refused) =
-    absurd (no_head_out_of_order tool m row_wise refused)
+  -- what a fault of a lane says of all messages, where they are lawful
+  lane_refused : (tool : Tool) (fault : ToolFault) (before after : List Message) → IsLawfulTool tool → is_row_wise tool ≡ true → lane < lanes
+      → AllByRecursion IsMessage l → IsLawful l → l ≡ prefix ++ rest → IsPrefixOf (without_stop i) (dealt lane lanes prefix) → IsLawful (without_stop i)
+      → EndsAtMostOnce i → i ≡ before ++ after → AreTaken tool before → IsRefusedNext tool fault before after → IsFaultOf tool fault l
+  lane_refused tool fault before [] lawful row_wise below messages whole parts gets ordered once is taken refused = absurd refused
+  lane_refused tool CutOutside before (m ∷ after) lawful row_wise below messages whole parts gets ordered once is taken refused =
+      absurd (no_head_cut_outside tool m row_wise refused.1)
+  lane_refused tool ChannelOutside before (m ∷ after) lawful row_wise below messages whole parts gets ordered once is taken refused =
+      (whole, head_of_all before after m lawful row_wise below messages parts gets is taken refused.1)
+  lane_refused tool TooLarge before (m ∷ after) lawful row_wise below messages whole parts gets ordered once is taken refused =
+      (whole, head_of_all before after m lawful row_wise below messages parts gets is taken refused.1)
+  lane_refused tool Memory before (m ∷ after) lawful row_wise below messages whole parts gets ordered once is taken refused = tt
+  lane_refused tool OutOfOrder before (m ∷ after) lawful row_wise below messages whole parts gets ordered once is taken (inl not) =
+      absurd (not (refl, in_order before m after (subst (λ (x : List Message). IsLawful (without_stop x)) is ordered) (subst EndsAtMostOnce is once)))
+  lane_refused tool OutOfOrder before (m ∷ after) lawful row_wise below messages whole parts gets ordered once is taken (inr refused) =
+      absurd (no_head_out_of_order tool m row_wise refused)
 
-lane_failed : (tool : Tool) (fault : ToolFault) (lane lanes : ℕ) (l prefix rest i o : List Message) → IsLawfulTool tool → is_row_wise tool ≡ true → lane < lanes
-    → AllByRecursion IsMessage l → IsLawful l → l ≡ prefix ++ rest
-    → IsPrefixOf (without_stop i) (dealt lane lanes prefix) → IsLawful (without_stop i) → EndsAtMostOnce i → HasFailed tool fault i o → IsFaultOf tool fault l
-lane_failed tool fault lane lanes l prefix rest i o lawful row_wise below messages whole parts gets ordered once failed =
-    elim failed.refused.refused [
-      | inl memory ↦ subst (λ (f : ToolFault). IsFaultOf tool f l) (sym memory.0) tt
-      | inr next ↦ lane_refused tool fault lane lanes l prefix rest i failed.refused.accepted failed.refused.rest lawful row_wise below messages whole parts
-          gets ordered once failed.refused.parts failed.refused.taken next.1
-    ]
+  lane_failed : {tool : Tool} {fault : ToolFault} {o : List Message} → IsLawfulTool tool → is_row_wise tool ≡ true → lane < lanes
+      → AllByRecursion IsMessage l → IsLawful l → l ≡ prefix ++ rest → IsPrefixOf (without_stop i) (dealt lane lanes prefix) → IsLawful (without_stop i)
+      → EndsAtMostOnce i → HasFailed tool fault i o → IsFaultOf tool fault l
+  lane_failed {tool} {fault} lawful row_wise below messages whole parts gets ordered once failed =
+      elim failed.refused.refused [
+        | inl memory ↦ subst (λ (f : ToolFault). IsFaultOf tool f l) (sym memory.0) tt
+        | inr next ↦ lane_refused tool fault failed.refused.accepted failed.refused.rest lawful row_wise below messages whole parts
+            gets ordered once failed.refused.parts failed.refused.taken next.1
+      ]
 
 -- ---- what the dealer and the gatherer refuse
 
@@ -188,56 +161,50 @@ dealer_ended (Fault OutOfOrder) l there input = input.0
 dealer_ended (Fault Memory) l there input = input
 dealer_ended PeerGone l there input = absurd (there refl)
 
-never_failed : (gatherer : StageEnd) (fault : ToolFault) (js : List Image) (lanes : ℕ) (r : ℕ → List Message) (g : List Message) → gatherer ≡ Fault fault
+never_failed : (gatherer : StageEnd) {fault : ToolFault} (js : List Image) (lanes : ℕ) (r : ℕ → List Message) (g : List Message) → gatherer ≡ Fault fault
     → HasGatheredSo gatherer js lanes r g → ⊥
-never_failed Well fault js lanes r g same so = absurd cc
-never_failed Broken fault js lanes r g same so = absurd cc
-never_failed (Fault other) fault js lanes r g same so = so
-never_failed PeerGone fault js lanes r g same so = absurd cc
+never_failed Well js lanes r g same so = absurd cc
+never_failed Broken js lanes r g same so = absurd cc
+never_failed (Fault other) js lanes r g same so = so
+never_failed PeerGone js lanes r g same so = absurd cc
 
 -- ---- together
 
--- images that complete what all lanes were dealt
-completed : {tool : Tool} {lanes : ℕ} {dealer : StageEnd} {e : ℕ → StageEnd} {gatherer : StageEnd} {l g : List Message} {d i o r : ℕ → List Message}
-    (run : HaveThreadsRun tool lanes dealer e gatherer l d i o r g) → (is : List Image) × Completes is (together run).accepted
-completed {l = l} run =
-    let common = together run in
-    let found = completion common.accepted (all_of_prefix IsMessage common.accepted common.rest (subst (AllByRecursion IsMessage) common.parts run.messages))
-    common.lawful in
-    (found.0, record { images = found.1; prefix = found.2 })
+module _ {tool : Tool} {lanes : ℕ} {dealer : StageEnd} {e : ℕ → StageEnd} {gatherer : StageEnd} {l g : List Message} {d i o r : ℕ → List Message}
+    (run : HaveThreadsRun tool lanes dealer e gatherer l d i o r g) where
+  -- images that complete what all lanes were dealt
+  completed : (is : List Image) × Completes is (together run).accepted
+  completed =
+      let common = together run in
+      let found = completion common.accepted (all_of_prefix IsMessage common.accepted common.rest (subst (AllByRecursion IsMessage) common.parts run.messages))
+      common.lawful in
+      (found.0, record { images = found.1; prefix = found.2 })
 
--- what a lane received is lawful without a last Stop
-lane_is_lawful : {tool : Tool} {lanes : ℕ} {dealer : StageEnd} {e : ℕ → StageEnd} {gatherer : StageEnd} {l g : List Message} {d i o r : ℕ → List Message}
-    (run : HaveThreadsRun tool lanes dealer e gatherer l d i o r g) (lane : ℕ) → lane < lanes → IsLawful (without_stop (i lane))
-lane_is_lawful {lanes = lanes} {i = i} run lane below =
-    let found = completed run in
-    let seen = subst (IsPrefixOf (without_stop (i lane))) (stream_is_dealt lane lanes found.0 found.1.images) (lane_receives run found.0 found.1 lane below) in
-    lawful_prefix Between (without_stop (i lane)) seen.0
-    (subst IsLawful seen.1 (stream_is_lawful (dealt_images lane lanes found.0) (dealt_are_images lane lanes found.0 found.1.images)))
+  -- what a lane received is lawful without a last Stop
+  lane_is_lawful : (lane : ℕ) → lane < lanes → IsLawful (without_stop (i lane))
+  lane_is_lawful lane below =
+      let found = completed in
+      let seen = subst (IsPrefixOf (without_stop (i lane))) (stream_is_dealt lane lanes found.0 found.1.images) (lane_receives run found.1 lane below) in
+      lawful_prefix Between (without_stop (i lane)) seen.0
+      (subst IsLawful seen.1 (stream_is_lawful (dealt_images lane lanes found.0) (dealt_are_images lane lanes found.0 found.1.images)))
 
-lane_cause : {tool : Tool} {lanes : ℕ} {dealer : StageEnd} {e : ℕ → StageEnd} {gatherer : StageEnd} {l g : List Message} {d i o r : ℕ → List Message}
-    (run : HaveThreadsRun tool lanes dealer e gatherer l d i o r g) (fault : ToolFault) (lane : ℕ)
-    → IsLawfulTool tool → is_row_wise tool ≡ true → lane < lanes → IsLawful l → e lane ≡ Fault fault → IsFaultOf tool fault l
-lane_cause {tool = tool} {lanes = lanes} {l = l} {d = d} {i = i} {o = o} run fault lane lawful row_wise below whole is =
-    let common = together run in
-    let gets = prefix_of_prefix (without_stop (i lane)) (without_stop (d lane)) (dealt lane lanes common.accepted)
-    (cut_prefix (i lane) (d lane) (run.received lane below)) (common.sent lane below) in
-    lane_failed tool fault lane lanes l common.accepted common.rest (i lane) (o lane) lawful row_wise below run.messages whole common.parts gets
-    (lane_is_lawful run lane below) (run.stages lane below).once
-    (subst (λ (x : StageEnd). HasEndedSo tool x (i lane) (o lane)) is (run.stages lane below).ended)
+  lane_cause : {fault : ToolFault} (lane : ℕ) → IsLawfulTool tool → is_row_wise tool ≡ true → lane < lanes → IsLawful l → e lane ≡ Fault fault
+      → IsFaultOf tool fault l
+  lane_cause lane lawful row_wise below whole is =
+      let common = together run in
+      let gets = prefix_of_prefix (without_stop (i lane)) (without_stop (d lane)) (dealt lane lanes common.accepted)
+      (cut_prefix (i lane) (d lane) (run.received lane below)) (common.sent lane below) in
+      lane_failed lane lanes common.accepted common.rest lawful row_wise below run.messages whole common.parts gets
+      (lane_is_lawful lane below) (run.stages lane below).once (subst (λ (x : StageEnd). HasEndedSo tool x (i lane) (o lane)) is (run.stages lane below).ended)
 
--- the cause of a fault
-cause_tells : {tool : Tool} {lanes : ℕ} {dealer : StageEnd} {e : ℕ → StageEnd} {gatherer : StageEnd} {l g : List Message} {d i o r : ℕ → List Message}
-    (run : HaveThreadsRun tool lanes dealer e gatherer l d i o r g) (fault : ToolFault)
-    → IsLawfulTool tool → is_row_wise tool ≡ true → IsFirstOfThreads lanes dealer e gatherer fault → IsFaultOf tool fault l
-cause_tells {tool = tool} {l = l} run fault lawful row_wise (inl dealer) =
-    dealer_failed tool fault l (subst (λ (x : StageEnd). HasReceivedSo x l) dealer run.input)
-cause_tells {dealer = dealer} {l = l} run fault lawful row_wise (inr (inl found)) =
-    lane_cause run fault found.1.0 lawful row_wise found.1.1 (dealer_fine dealer l found.0 run.input) found.1.2
-cause_tells {tool = tool} {lanes = lanes} {gatherer = gatherer} {g = g} {r = r} run fault lawful row_wise (inr (inr gathered)) =
-    let found = completed run in
-    let js : List Image = results_before tool found.0 in
-    absurd (never_failed gatherer fault js lanes r g gathered.2 (run.gathered.images js (results_dealt run lawful row_wise found.0 found.1)).so)
+  -- the cause of a fault
+  cause_tells : (fault : ToolFault) → IsLawfulTool tool → is_row_wise tool ≡ true → IsFirstOfThreads lanes dealer e gatherer fault → IsFaultOf tool fault l
+  cause_tells fault lawful row_wise (inl dealer) = dealer_failed tool fault l (subst (λ (x : StageEnd). HasReceivedSo x l) dealer run.input)
+  cause_tells fault lawful row_wise (inr (inl found)) = lane_cause found.1.0 lawful row_wise found.1.1 (dealer_fine dealer l found.0 run.input) found.1.2
+  cause_tells fault lawful row_wise (inr (inr gathered)) =
+      let found = completed in
+      let js : List Image = results_before tool found.0 in
+      absurd (never_failed gatherer js lanes r g gathered.2 (run.gathered.images js (results_dealt run lawful row_wise found.0 found.1)).so)
 
 -- where the gatherer ended well none has failed
 whole_part : {lanes : ℕ} {g : List Message} {r : ℕ → List Message} → IsGathered Well lanes r g → (lane : ℕ) → lane < lanes → EndsBy Whole (r lane)

@@ -1,38 +1,22 @@
 -- Heads, dealt to a lane: which ones a row-wise tool takes, and which one it refuses first.
-use Rattle.std.proofs.Common.{◌≡◌, ℕ, ◌+◌, ◌<◌, ◌%◌, Bool, true, false, List, [], ◌∷◌, ◌++◌, map, Result, Ok, Err, refl, sym, ap, subst, ◌∙◌}
-use Rattle.std.specs.Prelude.{◌==◌, if◌then◌else◌}
-use Rattle.pnm_image.specs.declared.message.Message.{Message}
-use Rattle.pnm_image.specs.declared.message.Message.TheVariants.{Begin, Row, ImageEnd, StreamEnd, Stop}
-use Rattle.pnm_image.specs.declared.place.Place.{Place}
-use Rattle.pnm_image.specs.declared.place.Place.TheVariants.{Between, Inside, After}
-use Rattle.pnm_image.specs.Heads.{HeadValue, IsHead}
-use Rattle.pnm_image.specs.Images.{Image, IsImage, AreImages, messages_of_stream}
-use Rattle.pnm_image.specs.Messages.{IsMessage}
-use Rattle.pnm_image.specs.Places.{place_after}
-use Rattle.pnm_image.proofs.Lists.{all_of_prefix, each-middle}
-use Rattle.pnm_image.proofs.Streams.{completion}
-use Rattle.std.specs.List.{AllByRecursion}
-use Rattle.pnm_tools.specs.declared.fault.ToolFault.{ToolFault}
-use Rattle.pnm_tools.specs.declared.tool.Tool.{Tool}
-use Rattle.pnm_tools.specs.Dealing.{dealt_head, dealt_image, dealt_message, dealt_from, dealt, dealt_result, IsRowWise}
-use Rattle.pnm_tools.specs.Formulas.{image_by}
-use Rattle.pnm_tools.specs.Tools.{IsLawfulTool, is_row_wise, result_head, result_sample, AreTaken}
-use Rattle.pnm_tools.proofs.AnsweringLaws.{taken_rest}
-use Rattle.pnm_tools.proofs.RowWiseLaws.{row_wise_tools_commute}
-use Rattle.pnm_lanes.specs.Internal.LaneLaws.{dealt_head_result}
+use Rattle.pnm_lanes.proofs.Words.{◌≡◌, ℕ, ◌+◌, ◌<◌, ◌%◌, Bool, true, false, List, [], ◌∷◌, ◌++◌, map, Result, Ok, Err, refl, sym, ap, subst, ◌∙◌, ◌==◌}
+use Rattle.pnm_lanes.proofs.Words.{if◌then◌else◌, Message, Begin, Row, ImageEnd, StreamEnd, Stop, Place, Between, Inside, After, HeadValue, IsHead, Image}
+use Rattle.pnm_lanes.proofs.Words.{IsImage, AreImages, messages_of_stream, IsMessage, place_after, all_of_prefix, each-middle, completion, AllByRecursion}
+use Rattle.pnm_lanes.proofs.Words.{ToolFault, Tool, dealt_head, dealt_image, dealt_message, dealt_from, dealt, dealt_result, IsRowWise, image_by, IsLawfulTool}
+use Rattle.pnm_lanes.proofs.Words.{is_row_wise, result_head, result_sample, AreTaken, taken_rest, row_wise_tools_commute, dealt_head_result}
 
 -- ---- one head
 
-first_head : (h : HeadValue) (is : List Image) (rest : List Message) → AreImages is → messages_of_stream is ≡ Begin h ∷ rest → (i : Image) × IsImage i
-    × (i.head ≡ h)
-first_head h [] rest are e = absurd cc
-first_head h (i ∷ is) rest are e = (i, are.0, cc)
+first_head : {h : HeadValue} (is : List Image) {rest : List Message} → AreImages is → messages_of_stream is ≡ Begin h ∷ rest
+    → (i : Image) × IsImage i × (i.head ≡ h)
+first_head [] are e = absurd cc
+first_head (i ∷ is) are e = (i, are.0, cc)
 
 -- each head is that of an image
-image_with_head : (h : HeadValue) → IsHead h → (i : Image) × IsImage i × (i.head ≡ h)
-image_with_head h is =
+image_with_head : {h : HeadValue} → IsHead h → (i : Image) × IsImage i × (i.head ≡ h)
+image_with_head {h} is =
     let c = completion (Begin h ∷ []) (is, tt) (tt, tt) in
-    first_head h c.0 c.2.0 c.1 c.2.1
+    first_head c.0 c.1 c.2.1
 
 abbrev applied_by : (HeadValue → Image) → Result HeadValue ToolFault → Result Image ToolFault
 applied_by make r = elim r [ Ok head ↦ Ok (make head) | Err fault ↦ Err fault ]
@@ -57,10 +41,10 @@ head_by_image lane lanes part whole (Ok a) (Err f) e = absurd cc
 head_by_image lane lanes part whole (Err f) (Ok b) e = absurd cc
 head_by_image lane lanes part whole (Err f) (Err g) e = ap (λ (k : ToolFault). Err k) (same_fault f g e)
 
-pub head_is_dealt : (tool : Tool) (lane lanes : ℕ) (h : HeadValue) → IsLawfulTool tool → is_row_wise tool ≡ true → lane < lanes → IsHead h
+pub head_is_dealt : (tool : Tool) (lane lanes : ℕ) {h : HeadValue} → IsLawfulTool tool → is_row_wise tool ≡ true → lane < lanes → IsHead h
     → result_head tool (dealt_head lane lanes h) ≡ dealt_head_result lane lanes (result_head tool h)
-head_is_dealt tool lane lanes h lawful row_wise below is =
-    let found = image_with_head h is in
+head_is_dealt tool lane lanes lawful row_wise below is =
+    let found = image_with_head is in
     let commutes : IsRowWise tool = (row_wise_tools_commute tool lawful).0 row_wise in
     subst (λ (k : HeadValue). result_head tool (dealt_head lane lanes k) ≡ dealt_head_result lane lanes (result_head tool k)) found.2
     (head_by_image lane lanes (result_sample tool (dealt_image lane lanes found.0)) (result_sample tool found.0)
@@ -68,17 +52,17 @@ head_is_dealt tool lane lanes h lawful row_wise below is =
 
 -- ---- heads that are taken
 
-taken_by : (lane lanes : ℕ) (r : Result HeadValue ToolFault) (result : HeadValue) → dealt_head_result lane lanes r ≡ Ok result
+taken_by : (lane lanes : ℕ) (r : Result HeadValue ToolFault) {result : HeadValue} → dealt_head_result lane lanes r ≡ Ok result
     → (whole : HeadValue) × (r ≡ Ok whole)
-taken_by lane lanes (Ok head) result e = (head, refl)
-taken_by lane lanes (Err fault) result e = absurd cc
+taken_by lane lanes (Ok head) e = (head, refl)
+taken_by lane lanes (Err fault) e = absurd cc
 
 -- where no head that a lane gets is refused, none is
 taken_from : (tool : Tool) (lane lanes : ℕ) (place : Place) (l : List Message) → IsLawfulTool tool → is_row_wise tool ≡ true → lane < lanes
     → AllByRecursion IsMessage l → AreTaken tool (dealt_from lane lanes place l) → AreTaken tool l
 taken_from tool lane lanes place [] lawful row_wise below are taken = tt
 taken_from tool lane lanes place (Begin head ∷ l) lawful row_wise below are taken = (
-  taken_by lane lanes (result_head tool head) taken.0.0 (sym (head_is_dealt tool lane lanes head lawful row_wise below are.0) ∙ taken.0.1),
+  taken_by lane lanes (result_head tool head) (sym (head_is_dealt tool lane lanes lawful row_wise below are.0) ∙ taken.0.1),
   taken_from tool lane lanes (place_after place (Begin head)) l lawful row_wise below are.1 taken.1,
 )
 taken_from tool lane lanes place (Row row ∷ l) lawful row_wise below are taken =
@@ -123,13 +107,13 @@ Finds lane lanes place l = (before : List Message) (part : HeadValue) (after : L
     → IsBeginIn lane lanes place l before part
 
 -- after a message that the lane gets as one that begins no image
-after_one : (lane lanes : ℕ) (place : Place) (m x : Message) (l : List Message) → dealt_message lane lanes place m ≡ x ∷ []
+after_one : (lane lanes : ℕ) (place : Place) (m : Message) {x : Message} (l : List Message) → dealt_message lane lanes place m ≡ x ∷ []
     → ((part : HeadValue) → x ≡ Begin part → ⊥) → Finds lane lanes (place_after place m) l → Finds lane lanes place (m ∷ l)
-after_one lane lanes place m x l one none finds [] part after e =
+after_one lane lanes place m {x} l one none finds [] part after e =
     let first : x ∷ dealt_from lane lanes (place_after place m) l ≡ Begin part ∷ after =
     ap (λ (y : List Message). y ++ dealt_from lane lanes (place_after place m) l) (sym one) ∙ e in
     absurd (none part cc)
-after_one lane lanes place m x l one none finds (y ∷ before) part after e =
+after_one lane lanes place m {x} l one none finds (y ∷ before) part after e =
     let first : x ∷ dealt_from lane lanes (place_after place m) l ≡ y ∷ (before ++ Begin part ∷ after) =
     ap (λ (z : List Message). z ++ dealt_from lane lanes (place_after place m) l) (sym one) ∙ e in
     let same : x ≡ y = cc in
@@ -146,13 +130,13 @@ after_none lane lanes place m l none finds before part after e =
     subst (λ (z : List Message). IsBeginIn lane lanes place (m ∷ l) z part) (ap (λ (z : List Message). z ++ before) none)
     (one_more lane lanes place m l before part (finds before part after rest))
 
-no_row_begins : (row : List ℕ) (part : HeadValue) → Row row ≡ Begin part → ⊥
-no_row_begins row part e = absurd cc
+no_row_begins : {row : List ℕ} (part : HeadValue) → Row row ≡ Begin part → ⊥
+no_row_begins part e = absurd cc
 
 after_row : (lane lanes : ℕ) (place : Place) (row : List ℕ) (l : List Message) (b : Bool)
     → dealt_message lane lanes place (Row row) ≡ map Row (if b then row ∷ [] else []) → Finds lane lanes (place_after place (Row row)) l
     → Finds lane lanes place (Row row ∷ l)
-after_row lane lanes place row l true e finds = after_one lane lanes place (Row row) (Row row) l e (no_row_begins row) finds
+after_row lane lanes place row l true e finds = after_one lane lanes place (Row row) l e (no_row_begins) finds
 after_row lane lanes place row l false e finds = after_none lane lanes place (Row row) l e finds
 
 nothing_begins : (lane lanes : ℕ) (place : Place) → Finds lane lanes place []
@@ -182,21 +166,21 @@ finds_begin lane lanes Between (Row row ∷ l) = after_none lane lanes Between (
 finds_begin lane lanes (Inside s y) (Row row ∷ l) = after_row lane lanes (Inside s y) row l ((y % lanes) == lane) refl
     (finds_begin lane lanes (Inside s (y + 1)) l)
 finds_begin lane lanes After (Row row ∷ l) = after_none lane lanes After (Row row) l refl (finds_begin lane lanes After l)
-finds_begin lane lanes place (ImageEnd ∷ l) = after_one lane lanes place ImageEnd ImageEnd l refl (λ part e. absurd cc)
+finds_begin lane lanes place (ImageEnd ∷ l) = after_one lane lanes place ImageEnd l refl (λ part e. absurd cc)
     (finds_begin lane lanes (place_after place ImageEnd) l)
-finds_begin lane lanes place (StreamEnd ∷ l) = after_one lane lanes place StreamEnd StreamEnd l refl (λ part e. absurd cc)
+finds_begin lane lanes place (StreamEnd ∷ l) = after_one lane lanes place StreamEnd l refl (λ part e. absurd cc)
     (finds_begin lane lanes (place_after place StreamEnd) l)
-finds_begin lane lanes place (Stop ∷ l) = after_one lane lanes place Stop Stop l refl (λ part e. absurd cc) (finds_begin lane lanes (place_after place Stop) l)
+finds_begin lane lanes place (Stop ∷ l) = after_one lane lanes place Stop l refl (λ part e. absurd cc) (finds_begin lane lanes (place_after place Stop) l)
 
-pub begin_is_dealt : (lane lanes : ℕ) (l before : List Message) (part : HeadValue) (after : List Message) → dealt lane lanes l ≡ before ++ Begin part ∷ after
+pub begin_is_dealt : {lane lanes : ℕ} {l before : List Message} {part : HeadValue} (after : List Message) → dealt lane lanes l ≡ before ++ Begin part ∷ after
     → IsBeginIn lane lanes Between l before part
-begin_is_dealt lane lanes l before part after e = finds_begin lane lanes Between l before part after e
+begin_is_dealt {lane} {lanes} {l} {before} {part} after e = finds_begin lane lanes Between l before part after e
 
 -- ---- the head that is refused
 
-refused_by : (lane lanes : ℕ) (r : Result HeadValue ToolFault) (fault : ToolFault) → dealt_head_result lane lanes r ≡ Err fault → r ≡ Err fault
-refused_by lane lanes (Ok head) fault e = absurd cc
-refused_by lane lanes (Err other) fault e = let same : other ≡ fault = cc in ap (λ (k : ToolFault). Err k) same
+refused_by : (lane lanes : ℕ) (r : Result HeadValue ToolFault) {fault : ToolFault} → dealt_head_result lane lanes r ≡ Err fault → r ≡ Err fault
+refused_by lane lanes (Ok head) e = absurd cc
+refused_by lane lanes (Err other) {fault} e = let same : other ≡ fault = cc in ap (λ (k : ToolFault). Err k) same
 
 -- the first head that a lane refuses comes from the first that the tool refuses, by the same fault
 pub refused_head_is_dealt : (tool : Tool) (lane lanes : ℕ) (l before : List Message) (part : HeadValue) (after : List Message) (fault : ToolFault)
@@ -205,7 +189,7 @@ pub refused_head_is_dealt : (tool : Tool) (lane lanes : ℕ) (l before : List Me
     → (prefix : List Message) × (head : HeadValue) × (rest : List Message) × (l ≡ prefix ++ Begin head ∷ rest) × AreTaken tool prefix
     × (result_head tool head ≡ Err fault)
 refused_head_is_dealt tool lane lanes l before part after fault lawful row_wise below are e taken refused =
-    let found = begin_is_dealt lane lanes l before part after e in
+    let found = begin_is_dealt after e in
     let messages : AllByRecursion IsMessage (found.prefix ++ Begin found.head ∷ found.rest) = subst (AllByRecursion IsMessage) found.parts are in
     let head : IsHead found.head = each-middle IsMessage found.prefix (Begin found.head) found.rest messages in (
       found.prefix,
@@ -214,6 +198,6 @@ refused_head_is_dealt tool lane lanes l before part after fault lawful row_wise 
       found.parts,
       whole_is_taken tool lane lanes found.prefix lawful row_wise below (all_of_prefix IsMessage found.prefix (Begin found.head ∷ found.rest) messages)
           (subst (AreTaken tool) found.earlier taken),
-      refused_by lane lanes (result_head tool found.head) fault (sym (head_is_dealt tool lane lanes found.head lawful row_wise below head)
+      refused_by lane lanes (result_head tool found.head) (sym (head_is_dealt tool lane lanes lawful row_wise below head)
           ∙ ap (result_head tool) (sym found.comes) ∙ refused),
     )

@@ -1,10 +1,6 @@
 -- Lists of ring ends, one for each lane.
-use Rattle.std.proofs.Common.{◌≡◌, ◌≢◌, ℕ, zero, suc, ◌<◌, List, [], ◌∷◌, length, get_or, set, refl, ap, arith}
-use Rattle.pnm_stages.specs.declared.receiver.Receiver.{Receiver}
-use Rattle.pnm_stages.specs.Rings.{SameReceiver}
-use Rattle.pnm_image.specs.declared.message.Message.{Message}
-use Rattle.pnm_stages.proofs.RingSteps.{same_input, itself_input}
-use Rattle.pnm_lanes.specs.Gathers.{at_lane, AreSameInputs}
+use Rattle.pnm_lanes.proofs.Words.{◌≡◌, ◌≢◌, ℕ, zero, suc, ◌<◌, List, [], ◌∷◌, length, get_or, set, refl, ap, arith, Receiver, SameReceiver, Message}
+use Rattle.pnm_lanes.proofs.Words.{same_input, itself_input, at_lane, AreSameInputs}
 
 -- ---- what has passed in the ring of a lane
 

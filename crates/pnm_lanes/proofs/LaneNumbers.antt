@@ -1,26 +1,9 @@
 -- What is known of each lane by its number, once all threads of a tool over several lanes have ended; and that they are a stage.
-use Rattle.std.proofs.Common.{◌≡◌, ◌≢◌, ◌⊎◌, inl, inr, ℕ, zero, suc, ◌+◌, ◌<◌, true, List, [], ◌∷◌, ◌++◌, length, refl, sym, ap, subst, ◌∙◌, arith}
-use Rattle.pnm_stages.specs.declared.sender.Sender.{Sender}
-use Rattle.pnm_stages.specs.declared.receiver.Receiver.{Receiver}
-use Rattle.pnm_stages.specs.Rings.{sent, received, known_items}
-use Rattle.pnm_image.specs.declared.message.Message.{Message}
-use Rattle.pnm_image.specs.Completion.{IsPrefixOf}
-use Rattle.pnm_tools.specs.declared.fault.ToolFault.{ToolFault}
-use Rattle.pnm_tools.specs.declared.tool.Tool.{Tool}
-use Rattle.pnm_tools.specs.Tools.{IsLawfulTool, is_row_wise}
-use Rattle.pnm_stages.specs.declared.stage.StageEnd.{StageEnd}
-use Rattle.pnm_stages.specs.declared.stage.StageEnd.TheVariants.{Well, Broken, Fault, PeerGone}
-use Rattle.pnm_stages.specs.Stages.{IsStage}
-use Rattle.pnm_stages.proofs.RingSteps.{still_pair}
-use Rattle.pnm_stages.specs.declared.stage.StageDone.{StageDone}
-use Rattle.pnm_lanes.specs.declared.merging.LanesDone.{LanesDone}
-use Rattle.pnm_lanes.specs.declared.lane_rings.LaneRingEnds.{LaneRingEnds}
-use Rattle.pnm_lanes.specs.declared.around.OuterRingEnds.{OuterRingEnds}
-use Rattle.pnm_lanes.specs.Deals.{AtEachFrom, HasLane, HasSentSo, IsPrefixOfDealt}
-use Rattle.pnm_lanes.specs.Gathers.{at_lane, AreSameInputs, IsGathered}
-use Rattle.pnm_lanes.specs.LaneRings.{AreUnused, ArePairs}
-use Rattle.pnm_lanes.specs.LaneRuns.{end_of_both, end_of_lanes, AreLanesRun, HaveRun, HasRunLanes}
-use Rattle.pnm_lanes.specs.Lanes.{IsFine, IsEndOfAll, HaveThreadsRun}
+use Rattle.pnm_lanes.proofs.Words.{◌≡◌, ◌≢◌, ◌⊎◌, inl, inr, ℕ, zero, suc, ◌+◌, ◌<◌, true, List, [], ◌∷◌, ◌++◌, length, refl, sym, ap, subst, ◌∙◌, arith, Sender}
+use Rattle.pnm_lanes.proofs.Words.{Receiver, sent, received, known_items, Message, IsPrefixOf, ToolFault, Tool, IsLawfulTool, is_row_wise, StageEnd, Well}
+use Rattle.pnm_lanes.proofs.Words.{Broken, Fault, PeerGone, IsStage, still_pair, StageDone, LanesDone, LaneRingEnds, OuterRingEnds, AtEachFrom, HasLane}
+use Rattle.pnm_lanes.proofs.Words.{HasSentSo, IsPrefixOfDealt, at_lane, AreSameInputs, IsGathered, AreUnused, ArePairs, end_of_both, end_of_lanes, AreLanesRun}
+use Rattle.pnm_lanes.proofs.Words.{HaveRun, HasRunLanes, IsFine, IsEndOfAll, HaveThreadsRun}
 use Rattle.pnm_lanes.proofs.MergeSteps.{HavePassed}
 use Rattle.pnm_lanes.proofs.LaneRuns.{lanes_are_a_stage}
 
@@ -85,8 +68,8 @@ nothing_passed (s ∷ ss) (e ∷ es) (r ∷ rs) unused =
     }
 
 -- what was added is all
-all_of_it : (old new more : List Message) → new ≡ old ++ more → old ≡ [] → more ≡ new
-all_of_it old new more added none = sym (added ∙ ap (λ (x : List Message). x ++ more) none)
+all_of_it : {old new : List Message} (more : List Message) → new ≡ old ++ more → old ≡ [] → more ≡ new
+all_of_it more added none = sym (added ∙ ap (λ (x : List Message). x ++ more) none)
 
 -- ---- the lane of a number
 
@@ -98,7 +81,7 @@ dealt_of end lanes n l [] ss' none dealt lane below = absurd (omega (arith, belo
 dealt_of end lanes n l (s ∷ ss) [] none dealt lane below = absurd dealt
 dealt_of end lanes n l (s ∷ ss) (s' ∷ ss') none dealt zero below =
     let one = dealt.0 in
-    let all : one.gave ≡ sent s' = all_of_it (sent s) (sent s') one.gave one.output (none 0) in
+    let all : one.gave ≡ sent s' = all_of_it one.gave one.output (none 0) in
     let here : n ≡ n + 0 = omega arith in
     subst (λ (k : ℕ). HasSentSo end k lanes l (sent s') × IsPrefixOfDealt k lanes l (sent s')) here
     (subst (λ (x : List Message). HasSentSo end n lanes l x × IsPrefixOfDealt n lanes l x) all (one.ended, one.prefix))
@@ -114,18 +97,17 @@ end_at (d ∷ ds) zero = d.end
 end_at (d ∷ ds) (suc lane) = end_at ds lane
 
 -- what it received and sent
-filter_of : (tool : Tool) (es : List LaneRingEnds) (ds : List StageDone) → ((lane : ℕ) → at_lane (λ (e : LaneRingEnds). received e.input) es lane ≡ [])
-    → ((lane : ℕ) → at_lane (λ (e : LaneRingEnds). sent e.output) es lane ≡ []) → AreLanesRun tool es ds
-    → (lane : ℕ) → lane < length es → IsStage tool (end_at ds lane) (at_lane (λ (d : StageDone). received d.input) ds lane)
-    (at_lane (λ (d : StageDone). sent d.output) ds lane)
-filter_of tool [] ds no_input no_output run lane below = absurd (omega (arith, below))
-filter_of tool (e ∷ es) [] no_input no_output run lane below = absurd run
-filter_of tool (e ∷ es) (d ∷ ds) no_input no_output run zero below =
+filter_of : {tool : Tool} (es : List LaneRingEnds) (ds : List StageDone) → ((lane : ℕ) → at_lane (λ (e : LaneRingEnds). received e.input) es lane ≡ [])
+    → ((lane : ℕ) → at_lane (λ (e : LaneRingEnds). sent e.output) es lane ≡ []) → AreLanesRun tool es ds → (lane : ℕ) → lane < length es
+    → IsStage tool (end_at ds lane) (at_lane (λ (d : StageDone). received d.input) ds lane) (at_lane (λ (d : StageDone). sent d.output) ds lane)
+filter_of [] ds no_input no_output run lane below = absurd (omega (arith, below))
+filter_of (e ∷ es) [] no_input no_output run lane below = absurd run
+filter_of {tool} (e ∷ es) (d ∷ ds) no_input no_output run zero below =
     let one = run.0.2 in
-    subst (λ (x : List Message). IsStage tool d.end x (sent d.output)) (all_of_it (received e.input) (received d.input) one.took one.input (no_input 0))
-    (subst (IsStage tool d.end one.took) (all_of_it (sent e.output) (sent d.output) one.gave one.output (no_output 0)) one.stage)
-filter_of tool (e ∷ es) (d ∷ ds) no_input no_output run (suc lane) below =
-    filter_of tool es ds (λ k. no_input (suc k)) (λ k. no_output (suc k)) run.1 lane (omega (arith, below))
+    subst (λ (x : List Message). IsStage tool d.end x (sent d.output)) (all_of_it one.took one.input (no_input 0))
+    (subst (IsStage tool d.end one.took) (all_of_it one.gave one.output (no_output 0)) one.stage)
+filter_of (e ∷ es) (d ∷ ds) no_input no_output run (suc lane) below =
+    filter_of es ds (λ k. no_input (suc k)) (λ k. no_output (suc k)) run.1 lane (omega (arith, below))
 
 -- what passed over its rings
 passed_of : (ss : List Sender) (ds : List StageDone) (rs : List Receiver) → HavePassed ss ds rs → (lane : ℕ) → lane < length ds
@@ -198,9 +180,9 @@ after_fine d ds gatherer (Fault fault) fine rest = (
 after_fine d ds gatherer PeerGone fine rest = tt
 
 -- and one that has a fault
-after_fault : (d : StageDone) (ds : List StageDone) (gatherer : StageEnd) (fault : _) → d.end ≡ Fault fault → LanesAreThere ds → gatherer ≢ PeerGone
+after_fault : (d : StageDone) (ds : List StageDone) (gatherer : StageEnd) {fault : _} → d.end ≡ Fault fault → LanesAreThere ds → gatherer ≢ PeerGone
     → IsEndOfRest (d ∷ ds) gatherer (Fault fault)
-after_fault d ds gatherer fault is there behind =
+after_fault d ds gatherer is there behind =
     (inl (0, omega arith, is, λ before below. absurd (omega (arith, below))), there_more d ds (λ gone. absurd cc) there, behind)
 
 one_lane_before : (d : StageDone) (ds : List StageDone) (gatherer first end : StageEnd) → d.end ≡ first → IsEndOfRest ds gatherer end
@@ -208,9 +190,9 @@ one_lane_before : (d : StageDone) (ds : List StageDone) (gatherer first end : St
 one_lane_before d ds gatherer Well end is rest = after_fine d ds gatherer end (subst IsFine (sym is) tt) rest
 one_lane_before d ds gatherer Broken end is rest = after_fine d ds gatherer end (subst IsFine (sym is) tt) rest
 one_lane_before d ds gatherer PeerGone end is rest = tt
-one_lane_before d ds gatherer (Fault fault) Well is rest = after_fault d ds gatherer fault is (all_there ds rest.1) (λ gone. let well = rest.0 in absurd cc)
-one_lane_before d ds gatherer (Fault fault) Broken is rest = after_fault d ds gatherer fault is (all_there ds rest.1) (λ gone. let broken = rest.0 in absurd cc)
-one_lane_before d ds gatherer (Fault fault) (Fault later) is rest = after_fault d ds gatherer fault is rest.1 rest.2
+one_lane_before d ds gatherer (Fault fault) Well is rest = after_fault d ds gatherer is (all_there ds rest.1) (λ gone. let well = rest.0 in absurd cc)
+one_lane_before d ds gatherer (Fault fault) Broken is rest = after_fault d ds gatherer is (all_there ds rest.1) (λ gone. let broken = rest.0 in absurd cc)
+one_lane_before d ds gatherer (Fault fault) (Fault later) is rest = after_fault d ds gatherer is rest.1 rest.2
 one_lane_before d ds gatherer (Fault fault) PeerGone is rest = tt
 
 nothing_before : (gatherer : StageEnd) → IsEndOfRest [] gatherer gatherer
@@ -250,13 +232,13 @@ end_of_all_threads (Fault fault) ds gatherer PeerGone rest = tt
 -- ---- all threads
 
 -- together they are a stage
-pub lanes_have_run : (tool : Tool) (es : List LaneRingEnds) (outer : OuterRingEnds) (reserved : ℕ) (done : LanesDone) (end : StageEnd)
+pub lanes_have_run : {tool : Tool} {es : List LaneRingEnds} {outer : OuterRingEnds} {reserved : ℕ} {done : LanesDone} {end : StageEnd}
     → AreUnused outer.outputs.items es outer.inputs.items → HaveRun tool es outer reserved done
     → HavePassed done.dealt.outputs.items done.lanes.items done.gathered.inputs.items
-    → end ≡ end_of_both done.dealt.end (end_of_lanes done.lanes.items done.gathered.end)
-    → 0 < length es → length done.lanes.items ≡ length es → IsLawfulTool tool → is_row_wise tool ≡ true
-    → HasRunLanes tool end (received outer.input) (received done.dealt.input) (known_items done.dealt.input) (sent outer.output) (sent done.gathered.output)
-lanes_have_run tool es outer reserved done end unused run passed end_is some count lawful row_wise =
+    → end ≡ end_of_both done.dealt.end (end_of_lanes done.lanes.items done.gathered.end) → 0 < length es → length done.lanes.items ≡ length es
+    → IsLawfulTool tool → is_row_wise tool ≡ true → HasRunLanes tool end (received outer.input) (received done.dealt.input) (known_items done.dealt.input)
+    (sent outer.output) (sent done.gathered.output)
+lanes_have_run {tool} {es} {outer} {done} {end} unused run passed end_is some count lawful row_wise =
     let ds = done.lanes.items in
     let many = as_many_unused outer.outputs.items es outer.inputs.items unused in
     let none = nothing_passed outer.outputs.items es outer.inputs.items unused in
@@ -281,9 +263,8 @@ lanes_have_run tool es outer reserved done end unused run passed end_is some cou
       dealt = λ lane below. (of_lane lane below).0;
       prefix = λ lane below. (of_lane lane below).1;
       received = λ lane below. (of_rings lane below).0;
-      stages = λ lane below. filter_of tool es ds none.by_lanes none.of_lanes run.lanes_run lane (omega (arith, below, count));
-      taken = λ lane below. subst (λ (x : List Message). IsPrefixOf x (at_lane (λ (d : StageDone). sent d.output) ds lane))
-          (sym (all_of_it (at_lane received outer.inputs.items lane) (at_lane received done.gathered.inputs.items lane) (gathered.took lane)
+      stages = λ lane below. filter_of es ds none.by_lanes none.of_lanes run.lanes_run lane (omega (arith, below, count));
+      taken = λ lane below. subst (λ (x : List Message). IsPrefixOf x (at_lane (λ (d : StageDone). sent d.output) ds lane)) (sym (all_of_it (gathered.took lane)
           (gathered.inputs lane (omega (arith, below, receivers))) (none.from_lanes lane))) (of_rings lane below).1;
       gathered = subst (λ (n : ℕ). IsGathered gatherer n gathered.took gathered.gave) receivers gathered.gathered;
     } in

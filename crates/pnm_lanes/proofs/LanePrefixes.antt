@@ -1,21 +1,8 @@
 -- Lanes together: what all of them were dealt is a prefix of one stream, dealt, and so is what each gives.
-use Rattle.std.proofs.Common.{◌≡◌, ◌⊎◌, inl, inr, ℕ, zero, suc, ◌<◌, List, [], ◌∷◌, ◌++◌, refl, sym, ap, subst, ◌∙◌, arith}
-use Rattle.pnm_image.specs.declared.message.Message.{Message}
-use Rattle.pnm_image.specs.declared.message.Message.TheVariants.{Begin, Row, ImageEnd, StreamEnd, Stop}
-use Rattle.pnm_image.specs.declared.place.Place.TheVariants.{Between}
-use Rattle.pnm_image.specs.Messages.{without_stop, ending_of, EndsBy}
-use Rattle.pnm_image.specs.Places.{IsLawful}
-use Rattle.pnm_image.specs.Completion.{IsPrefixOf}
-use Rattle.pnm_image.specs.declared.message.Ending.{Ending}
-use Rattle.pnm_image.specs.declared.message.Ending.TheVariants.{More, Whole, BrokenOff}
-use Rattle.pnm_tools.specs.Dealing.{dealt}
-use Rattle.pnm_tools.proofs.AnsweringLaws.{prefixes}
-use Rattle.pnm_tools.proofs.AtLaws.{StopsLast, lawful_stops, keeps_all}
-use Rattle.pnm_tools.proofs.FullLaws.{prefix_of_prefix}
-use Rattle.pnm_tools.proofs.SoundLaws.{unbroken_keeps_all}
-use Rattle.pnm_stages.specs.Rings.{EndsAtMostOnce}
-use Rattle.pnm_stages.proofs.PrefixLaws.{prefix_without_stop, stop_is_cut}
-use Rattle.pnm_lanes.specs.Deals.{IsPrefixOfDealt}
+use Rattle.pnm_lanes.proofs.Words.{◌≡◌, ◌⊎◌, inl, inr, ℕ, zero, suc, ◌<◌, List, [], ◌∷◌, ◌++◌, refl, sym, ap, subst, ◌∙◌, arith, Message, Begin, Row, ImageEnd}
+use Rattle.pnm_lanes.proofs.Words.{StreamEnd, Stop, Between, without_stop, ending_of, EndsBy, IsLawful, IsPrefixOf, Ending, More, Whole, BrokenOff, dealt}
+use Rattle.pnm_lanes.proofs.Words.{prefixes, StopsLast, lawful_stops, keeps_all, prefix_of_prefix, unbroken_keeps_all, EndsAtMostOnce, prefix_without_stop}
+use Rattle.pnm_lanes.proofs.Words.{stop_is_cut, IsPrefixOfDealt}
 use Rattle.pnm_lanes.proofs.DealtLaws.{dealt_from-append, dealt_prefix}
 use Rattle.pnm_lanes.proofs.LaneDue.{prefix_or_all}
 
@@ -103,9 +90,9 @@ below_or_last (suc lane) (suc count) below = elim (below_or_last lane count (ome
   | inr last ↦ inr (ap suc last)
 ]
 
-one_lane_more : (lanes count : ℕ) (l : List Message) (d : ℕ → List Message) → IsCommonPrefix lanes count l d → IsPrefixOfDealt count lanes l (d count)
+one_lane_more : {lanes count : ℕ} {l : List Message} {d : ℕ → List Message} → IsCommonPrefix lanes count l d → IsPrefixOfDealt count lanes l (d count)
     → IsCommonPrefix lanes (suc count) l d
-one_lane_more lanes count l d common one =
+one_lane_more {lanes} {count} {d} common one =
     elim (prefixes common.accepted common.rest one.accepted one.rest (sym common.parts ∙ one.parts)) [
       | inl longer ↦ record {
         accepted = common.accepted;
@@ -132,8 +119,7 @@ one_lane_more lanes count l d common one =
       }
     ]
 
-pub common_prefix : (lanes count : ℕ) (l : List Message) (d : ℕ → List Message) → ((lane : ℕ) → lane < count → IsPrefixOfDealt lane lanes l (d lane))
+pub common_prefix : {lanes : ℕ} (count : ℕ) {l : List Message} {d : ℕ → List Message} → ((lane : ℕ) → lane < count → IsPrefixOfDealt lane lanes l (d lane))
     → IsCommonPrefix lanes count l d
-common_prefix lanes zero l d each = record { accepted = []; rest = l; parts = refl; lawful = tt; sent = λ lane below. absurd (omega (arith, below)) }
-common_prefix lanes (suc count) l d each = one_lane_more lanes count l d (common_prefix lanes count l d (λ lane below. each lane (omega (arith, below))))
-    (each count (omega arith))
+common_prefix zero {l} each = record { accepted = []; rest = l; parts = refl; lawful = tt; sent = λ lane below. absurd (omega (arith, below)) }
+common_prefix (suc count) each = one_lane_more (common_prefix count (λ lane below. each lane (omega (arith, below)))) (each count (omega arith))

@@ -1,13 +1,7 @@
 -- The threads of lanes, one lane more.
-use Rattle.std.proofs.Common.{◌≡◌, ℕ, List, [], ◌∷◌, ◌++◌, length, suc, Option, Some, refl, sym, ap, subst, ◌∙◌}
-use Rattle.std.specs.Prelude.{IfSome, vec_capacity}
-use Rattle.std.specs.Global.{Vec}
-use Rattle.pnm_tools.specs.declared.tool.Tool.{Tool}
-use Rattle.pnm_stages.specs.declared.stage.StageDone.{StageDone}
-use Rattle.pnm_lanes.specs.declared.merging.LanesDone.{LanesDone}
-use Rattle.pnm_lanes.specs.declared.lane_rings.LaneRingEnds.{LaneRingEnds}
-use Rattle.pnm_lanes.specs.declared.around.OuterRingEnds.{OuterRingEnds}
-use Rattle.pnm_lanes.specs.LaneRuns.{IsLaneRun, AreLanesRun, HaveRun}
+use Rattle.pnm_lanes.proofs.Words.{◌≡◌, ℕ, List, [], ◌∷◌, ◌++◌, length, suc, Option, Some, refl, sym, ap, subst, ◌∙◌, IfSome, Vec, Tool, StageDone, LanesDone}
+use Rattle.pnm_lanes.proofs.Words.{LaneRingEnds, OuterRingEnds, IsLaneRun, AreLanesRun, HaveRun}
+use Rattle.std.specs.Prelude.{vec_capacity}
 
 lanes_run_more : (tool : Tool) (es : List LaneRingEnds) (ds : List StageDone) (e : LaneRingEnds) (d : StageDone) → AreLanesRun tool es ds
     → IsLaneRun tool e.input e.output d → AreLanesRun tool (es ++ e ∷ []) (ds ++ d ∷ [])

@@ -1,31 +1,10 @@
 -- A dealer, lanes and a gatherer together are a stage: what is due, and how it ends.
-use Rattle.std.proofs.Common.{◌≡◌, ◌≢◌, inl, inr, ℕ, ◌<◌, true, List, [], ◌∷◌, ◌++◌, refl, sym, ap, subst, ◌∙◌, append-nil}
-use Rattle.pnm_image.specs.declared.message.Message.{Message}
-use Rattle.pnm_image.specs.declared.message.Message.TheVariants.{Begin, Row, ImageEnd, StreamEnd, Stop}
-use Rattle.pnm_image.specs.declared.place.Place.{Place}
-use Rattle.pnm_image.specs.declared.place.Place.TheVariants.{Between}
-use Rattle.pnm_image.specs.Images.{Image, messages_of_stream}
-use Rattle.pnm_image.specs.Messages.{without_stop, ending_of, EndsBy}
-use Rattle.pnm_image.specs.Places.{Accepts, IsLawful, IsLawfulFrom, place_after}
-use Rattle.pnm_image.specs.Completion.{IsPrefixOf, Completes}
-use Rattle.pnm_tools.specs.declared.tool.Tool.{Tool}
-use Rattle.pnm_image.specs.declared.message.Ending.TheVariants.{More, Whole, BrokenOff}
-use Rattle.pnm_tools.specs.Dealing.{dealt}
-use Rattle.pnm_tools.specs.Tools.{IsLawfulTool, is_row_wise, output_due}
-use Rattle.pnm_tools.proofs.AtLaws.{StopsLast, lawful_stops, keeps_all}
-use Rattle.pnm_tools.proofs.FullLaws.{prefix_of_prefix}
-use Rattle.pnm_tools.proofs.SoundLaws.{unbroken_keeps_all}
-use Rattle.pnm_stages.specs.declared.stage.StageEnd.{StageEnd}
-use Rattle.pnm_stages.specs.declared.stage.StageEnd.TheVariants.{Well, Broken, Fault, PeerGone}
-use Rattle.pnm_stages.specs.Prefixes.{IsPrefixOfDue}
-use Rattle.pnm_stages.specs.Rings.{IsEnded}
-use Rattle.pnm_stages.specs.Stages.{HasEndedWell, HasEndedSo}
-use Rattle.pnm_stages.proofs.EndingLaws.{one_ending, nothing_follows, stream_ends_whole}
-use Rattle.pnm_stages.proofs.PrefixLaws.{prefix_without_stop, stop_is_cut}
-use Rattle.pnm_stages.proofs.RingSteps.{ends_as}
-use Rattle.pnm_lanes.specs.Gathers.{AreDealt, IsStopped}
-use Rattle.pnm_lanes.specs.LaneLaws.{results_before}
-use Rattle.pnm_lanes.specs.Lanes.{IsFine, HaveThreadsRun}
+use Rattle.pnm_lanes.proofs.Words.{◌≡◌, ◌≢◌, inl, inr, ℕ, ◌<◌, true, List, [], ◌∷◌, ◌++◌, refl, sym, ap, subst, ◌∙◌, append-nil, Message, Begin, Row, ImageEnd}
+use Rattle.pnm_lanes.proofs.Words.{StreamEnd, Stop, Place, Between, Image, messages_of_stream, without_stop, ending_of, EndsBy, Accepts, IsLawful, IsLawfulFrom}
+use Rattle.pnm_lanes.proofs.Words.{place_after, IsPrefixOf, Completes, Tool, More, Whole, BrokenOff, dealt, IsLawfulTool, is_row_wise, output_due, StopsLast}
+use Rattle.pnm_lanes.proofs.Words.{lawful_stops, keeps_all, prefix_of_prefix, unbroken_keeps_all, StageEnd, Well, Broken, Fault, PeerGone, IsPrefixOfDue}
+use Rattle.pnm_lanes.proofs.Words.{IsEnded, HasEndedWell, HasEndedSo, one_ending, nothing_follows, stream_ends_whole, prefix_without_stop, stop_is_cut, ends_as}
+use Rattle.pnm_lanes.proofs.Words.{AreDealt, IsStopped, results_before, IsFine, HaveThreadsRun}
 use Rattle.pnm_lanes.proofs.DealtLaws.{dealt_prefix}
 use Rattle.pnm_lanes.proofs.LaneDue.{lane_gives_due, lane_gives_results, results_before_are_images, gathered_is_due}
 use Rattle.pnm_lanes.proofs.LanePrefixes.{lane_gets, IsCommonPrefix, common_prefix}
@@ -118,40 +97,36 @@ fine_is_there PeerGone fine = absurd fine
 
 -- ---- what is due
 
--- what all lanes were dealt
-pub together : {tool : Tool} {lanes : ℕ} {dealer : StageEnd} {e : ℕ → StageEnd} {gatherer : StageEnd} {l g : List Message} {d i o r : ℕ → List Message}
-    → HaveThreadsRun tool lanes dealer e gatherer l d i o r g → IsCommonPrefix lanes lanes l d
-together {lanes = lanes} {l = l} {d = d} run = common_prefix lanes lanes l d run.prefix
+module _ {tool : Tool} {lanes : ℕ} {dealer : StageEnd} {e : ℕ → StageEnd} {gatherer : StageEnd} {l g : List Message} {d i o r : ℕ → List Message} where
+  -- what all lanes were dealt
+  pub together : HaveThreadsRun tool lanes dealer e gatherer l d i o r g → IsCommonPrefix lanes lanes l d
+  together run = common_prefix lanes run.prefix
 
--- what a lane receives of what images complete
-pub lane_receives : {tool : Tool} {lanes : ℕ} {dealer : StageEnd} {e : ℕ → StageEnd} {gatherer : StageEnd} {l g : List Message} {d i o r : ℕ → List Message}
-    (run : HaveThreadsRun tool lanes dealer e gatherer l d i o r g)
-    → (is : List Image) → Completes is (together run).accepted → (lane : ℕ) → lane < lanes
-    → IsPrefixOf (without_stop (i lane)) (dealt lane lanes (messages_of_stream is))
-lane_receives {lanes = lanes} {d = d} {i = i} run is completes lane below =
-    let common = together run in
-    let gets = lane_gets lane lanes common.accepted (d lane) (i lane) common.lawful (run.stages lane below).once (run.received lane below)
-    (common.sent lane below) in
-    prefix_of_prefix (without_stop (i lane)) (dealt lane lanes (without_stop common.accepted)) (dealt lane lanes (messages_of_stream is)) gets
-    (dealt_prefix lane lanes (without_stop common.accepted) (messages_of_stream is) completes.prefix)
+  -- what a lane receives of what images complete
+  pub lane_receives : (run : HaveThreadsRun tool lanes dealer e gatherer l d i o r g) {is : List Image} → Completes is (together run).accepted → (lane : ℕ)
+      → lane < lanes → IsPrefixOf (without_stop (i lane)) (dealt lane lanes (messages_of_stream is))
+  lane_receives run {is} completes lane below =
+      let common = together run in
+      let gets = lane_gets lane lanes common.accepted (d lane) (i lane) common.lawful (run.stages lane below).once (run.received lane below)
+      (common.sent lane below) in
+      prefix_of_prefix (without_stop (i lane)) (dealt lane lanes (without_stop common.accepted)) (dealt lane lanes (messages_of_stream is)) gets
+      (dealt_prefix lane lanes (without_stop common.accepted) (messages_of_stream is) completes.prefix)
 
--- what is gathered from a lane
-lane_is_due : {tool : Tool} {lanes : ℕ} {dealer : StageEnd} {e : ℕ → StageEnd} {gatherer : StageEnd} {l g : List Message} {d i o r : ℕ → List Message}
-    (run : HaveThreadsRun tool lanes dealer e gatherer l d i o r g)
-    → IsLawfulTool tool → is_row_wise tool ≡ true → (is : List Image) → Completes is (together run).accepted → (lane : ℕ) → lane < lanes
-    → IsPrefixOf (without_stop (r lane)) (dealt lane lanes (output_due tool is))
-lane_is_due {tool = tool} {lanes = lanes} {i = i} {o = o} {r = r} run lawful row_wise is completes lane below =
-    let gave = lane_gives_due tool lane lanes is (i lane) (o lane) lawful row_wise below completes.images (lane_receives run is completes lane below)
-    (run.stages lane below).due in
-    prefix_of_prefix (without_stop (r lane)) (without_stop (o lane)) (dealt lane lanes (output_due tool is))
-    (cut_prefix (r lane) (o lane) (run.taken lane below)) gave
+  -- what is gathered from a lane
+  lane_is_due : (run : HaveThreadsRun tool lanes dealer e gatherer l d i o r g) → IsLawfulTool tool → is_row_wise tool ≡ true → {is : List Image}
+      → Completes is (together run).accepted → (lane : ℕ) → lane < lanes → IsPrefixOf (without_stop (r lane)) (dealt lane lanes (output_due tool is))
+  lane_is_due run lawful row_wise {is} completes lane below =
+      let gave = lane_gives_due tool lane lanes is lawful row_wise below completes.images (lane_receives run completes lane below)
+      (run.stages lane below).due in
+      prefix_of_prefix (without_stop (r lane)) (without_stop (o lane)) (dealt lane lanes (output_due tool is))
+      (cut_prefix (r lane) (o lane) (run.taken lane below)) gave
 
 pub results_dealt : {tool : Tool} {lanes : ℕ} {dealer : StageEnd} {e : ℕ → StageEnd} {gatherer : StageEnd} {l g : List Message} {d i o r : ℕ → List Message}
     (run : HaveThreadsRun tool lanes dealer e gatherer l d i o r g)
     → IsLawfulTool tool → is_row_wise tool ≡ true → (is : List Image) → Completes is (together run).accepted → AreDealt (results_before tool is) lanes r
 results_dealt {tool = tool} {lanes = lanes} {r = r} run lawful row_wise is completes = record {
   images = results_before_are_images tool is lawful completes.images;
-  prefixes = λ lane below. lane_gives_results tool lane lanes is (without_stop (r lane)) (lane_is_due run lawful row_wise is completes lane below);
+  prefixes = λ lane below. lane_gives_results tool lane lanes is (without_stop (r lane)) (lane_is_due run lawful row_wise completes lane below);
 }
 
 -- what was sent is a prefix of what is due for a lawful prefix of what was received
@@ -167,8 +142,7 @@ together_due {tool = tool} {lanes = lanes} {g = g} {r = r} run some lawful row_w
       lawful = common.lawful;
       prefix = λ is completes.
           let images = run.gathered.images (results_before tool is) (results_dealt run lawful row_wise is completes) in
-          gathered_is_due tool 0 lanes is (without_stop (r 0)) (without_stop g) (lane_is_due run lawful row_wise is completes 0 some) images.prefix
-          (λ whole.
+          gathered_is_due tool 0 lanes is (without_stop (r 0)) (without_stop g) (lane_is_due run lawful row_wise completes 0 some) images.prefix (λ whole.
           let first = run.gathered.whole (whole_by g run.gathered.lawful (lawful_stops Between g run.gathered.lawful) whole) 0 some in
           subst (EndsBy Whole) (sym (unbroken_keeps_all Whole (r 0) tt first)) first);
     }

@@ -1,25 +1,10 @@
 -- A whole stream over lanes, and one that was broken off: what all lanes answer is what one tool answers.
-use Rattle.std.proofs.Common.{◌≡◌, ◌⊎◌, inl, inr, ℕ, zero, suc, Bool, true, false, List, [], ◌∷◌, ◌++◌, map, Result, Ok, Err, refl, sym, ap, subst, ◌∙◌}
-use Rattle.std.proofs.Common.{append_assoc, append-nil}
-use Rattle.pnm_image.specs.declared.message.Message.{Message}
-use Rattle.pnm_image.specs.declared.message.Message.TheVariants.{Begin, Row, ImageEnd}
-use Rattle.pnm_image.specs.declared.place.Place.TheVariants.{Between}
-use Rattle.pnm_image.specs.Heads.{HeadValue}
-use Rattle.pnm_image.specs.Images.{Image, AreImages, rows_of, messages_of_image, messages_of_stream}
-use Rattle.pnm_image.specs.Completion.{IsPrefixOf}
-use Rattle.pnm_image.proofs.Streams.{stream_is_lawful}
-use Rattle.pnm_tools.specs.declared.fault.ToolFault.{ToolFault}
-use Rattle.pnm_tools.specs.declared.tool.Tool.{Tool}
-use Rattle.pnm_tools.specs.Answering.{answers_from}
-use Rattle.pnm_tools.specs.Answers.{AnswersInFull, AreResults, due_so_far}
-use Rattle.pnm_tools.specs.Formulas.{image_by}
-use Rattle.pnm_tools.specs.Tools.{IsLawfulTool, result_head, result_sample, AreTaken, applied}
-use Rattle.pnm_tools.proofs.AnsweringLaws.{AnswersImages, answered_after_image}
-use Rattle.pnm_tools.proofs.FullLaws.{answering_in_full}
-use Rattle.pnm_tools.proofs.SoundLaws.{prefix_after}
-use Rattle.pnm_tools.proofs.ToolLaws.{tool_answers_images}
-use Rattle.pnm_lanes.specs.Gathers.{BeginsOrEnds}
-use Rattle.pnm_lanes.specs.LaneLaws.{results_before}
+use Rattle.pnm_lanes.proofs.Words.{◌≡◌, ◌⊎◌, inl, inr, ℕ, zero, suc, Bool, true, false, List, [], ◌∷◌, ◌++◌, map, Result, Ok, Err, refl, sym, ap, subst, ◌∙◌}
+use Rattle.pnm_lanes.proofs.Words.{append_assoc, append-nil, Message, Begin, Row, ImageEnd, Between, HeadValue, Image, AreImages, rows_of, messages_of_image}
+use Rattle.pnm_lanes.proofs.Words.{messages_of_stream, IsPrefixOf, stream_is_lawful, ToolFault, Tool, answers_from, AnswersInFull, AreResults, image_by}
+use Rattle.pnm_lanes.proofs.Words.{IsLawfulTool, result_head, result_sample, AreTaken, applied, AnswersImages, answered_after_image, answering_in_full}
+use Rattle.pnm_lanes.proofs.Words.{prefix_after, tool_answers_images, BeginsOrEnds, results_before}
+use Rattle.pnm_tools.specs.Answers.{due_so_far}
 
 -- ---- a whole stream
 
@@ -45,9 +30,9 @@ stream_answered tool (i ∷ is) (j ∷ js) answers images are =
 abbrev made_by : (HeadValue → Image) → Result HeadValue ToolFault → Result Image ToolFault
 made_by make r = elim r [ Ok head ↦ Ok (make head) | Err fault ↦ Err fault ]
 
-head_taken : (make : HeadValue → Image) (r : Result HeadValue ToolFault) (j : Image) → made_by make r ≡ Ok j → (result : HeadValue) × (r ≡ Ok result)
-head_taken make (Ok head) j made = (head, refl)
-head_taken make (Err fault) j made = absurd cc
+head_taken : (make : HeadValue → Image) (r : Result HeadValue ToolFault) {j : Image} → made_by make r ≡ Ok j → (result : HeadValue) × (r ≡ Ok result)
+head_taken make (Ok head) made = (head, refl)
+head_taken make (Err fault) made = absurd cc
 
 rows_taken : (tool : Tool) (rows : List (List ℕ)) (more : List Message) → AreTaken tool more → AreTaken tool ((map Row rows ++ ImageEnd ∷ []) ++ more)
 rows_taken tool [] more taken = taken
@@ -57,14 +42,14 @@ stream_taken : (tool : Tool) (is js : List Image) → AreResults tool is js → 
 stream_taken tool [] js are = tt
 stream_taken tool (i ∷ is) [] are = absurd are
 stream_taken tool (i ∷ is) (j ∷ js) are = (
-  head_taken (λ h. image_by h (result_sample tool i)) (result_head tool i.head) j are.0,
+  head_taken (λ h. image_by h (result_sample tool i)) (result_head tool i.head) are.0,
   rows_taken tool (rows_of i) (messages_of_stream is) (stream_taken tool is js are.1),
 )
 
 -- the stream of the results is a full answer
-stream_in_full : (tool : Tool) (is js : List Image) → IsLawfulTool tool → AreImages is → AreResults tool is js
-    → AnswersInFull tool (messages_of_stream is) (messages_of_stream js)
-stream_in_full tool is js lawful images are =
+stream_in_full : {tool : Tool} (is js : List Image) → IsLawfulTool tool → AreImages is → AreResults tool is js → AnswersInFull tool (messages_of_stream is)
+    (messages_of_stream js)
+stream_in_full {tool} is js lawful images are =
     answering_in_full tool (messages_of_stream is) (messages_of_stream js) (tool_answers_images tool lawful) (record {
       lawful = stream_is_lawful is images;
       taken = stream_taken tool is js are;
@@ -76,7 +61,7 @@ pub answered_in_full : (tool : Tool) (is js : List Image) (l g : List Message) �
     → l ≡ messages_of_stream is → g ≡ messages_of_stream js → AnswersInFull tool l g
 answered_in_full tool is js l g lawful images are stream answer =
     subst (λ (x : List Message). AnswersInFull tool x g) (sym stream)
-    (subst (AnswersInFull tool (messages_of_stream is)) (sym answer) (stream_in_full tool is js lawful images are))
+    (subst (AnswersInFull tool (messages_of_stream is)) (sym answer) (stream_in_full is js lawful images are))
 
 -- ---- what is due so far
 

@@ -1,3 +1,4 @@
+mod Words
 pub mod HeightLaws
 pub mod EachLaws
 pub mod DealtLaws

@@ -1,17 +1,7 @@
 -- The rings of lanes once all have ended: lane by lane from the last on, what has passed over them, and the end of all.
-use Rattle.std.proofs.Common.{◌≡◌, ℕ, suc, ◌+◌, Option, Some, Result, Ok, Err, IfOk, List}
-use Rattle.std.proofs.Common.{[], ◌∷◌, ◌++◌, length, refl, sym, ap, subst, ◌∙◌, append_assoc, append-nil, arith}
-use Rattle.std.specs.Result.{result_ok}
-use Rattle.std.proofs.lemmas.List.{length-append}
-use Rattle.pnm_stages.specs.declared.sender.Sender.{Sender}
-use Rattle.pnm_stages.specs.declared.receiver.Receiver.{Receiver}
-use Rattle.pnm_stages.specs.Rings.{sent, received, IsPair}
-use Rattle.pnm_image.specs.Completion.{IsPrefixOf}
-use Rattle.pnm_stages.specs.declared.stage.StageEnd.{StageEnd}
-use Rattle.pnm_stages.specs.declared.stage.StageDone.{StageDone}
-use Rattle.pnm_lanes.specs.declared.lane_rings.LaneRingEnds.{LaneRingEnds}
-use Rattle.pnm_lanes.specs.LaneRings.{AreUnused, ArePairs}
-use Rattle.pnm_lanes.specs.LaneRuns.{end_of_both, end_of_lanes}
+use Rattle.pnm_lanes.proofs.Words.{◌≡◌, ℕ, suc, ◌+◌, Option, Some, Result, Ok, Err, IfOk, List, [], ◌∷◌, ◌++◌, length, refl, sym, ap, subst, ◌∙◌, append_assoc}
+use Rattle.pnm_lanes.proofs.Words.{append-nil, arith, result_ok, length-append, Sender, Receiver, sent, received, IsPair, IsPrefixOf, StageEnd, StageDone}
+use Rattle.pnm_lanes.proofs.Words.{LaneRingEnds, AreUnused, ArePairs, end_of_both, end_of_lanes}
 
 one_more : {X : Type 0} (xs : List X) (x : X) → length (xs ++ x ∷ []) ≡ suc (length xs)
 one_more xs x = let both = length-append xs (x ∷ []) in omega (arith, both)
@@ -19,14 +9,14 @@ one_more xs x = let both = length-append xs (x ∷ []) in omega (arith, both)
 -- ---- rings that are made
 
 -- what a call promises of its value, where its `ok` gave this one
-pub made_so : {T E : Type 0} (P : T → Type 0) (r : Result T E) (given : Option T) (x : T) → given ≡ result_ok r → given ≡ Some x → IfOk r P → P x
-made_so P (Ok y) given x by is made =
+pub made_so : {T E : Type 0} (P : T → Type 0) (r : Result T E) {given : Option T} {x : T} → given ≡ result_ok r → given ≡ Some x → IfOk r P → P x
+made_so P (Ok y) {x} by is made =
     let same : y ≡ x = cc in
     subst P same made
-made_so P (Err e) given x by is made = absurd cc
+made_so P (Err e) by is made = absurd cc
 
-pub counted_more : {X : Type 0} (xs ys : List X) (x : X) (n : ℕ) → ys ≡ xs ++ x ∷ [] → length xs ≡ n → length ys ≡ n + 1
-counted_more xs ys x n is count = ap length is ∙ one_more xs x ∙ omega (arith, count)
+pub counted_more : {X : Type 0} (xs : List X) {ys : List X} (x : X) {n : ℕ} → ys ≡ xs ++ x ∷ [] → length xs ≡ n → length ys ≡ n + 1
+counted_more xs x is count = ap length is ∙ one_more xs x ∙ omega (arith, count)
 
 -- rings to and from one lane more
 pub unused_more : (ss : List Sender) (es : List LaneRingEnds) (rs : List Receiver) (s : Sender) (e : LaneRingEnds) (r : Receiver)
@@ -107,15 +97,12 @@ pub record IsTaken (ss ss' : List Sender) (ds ds' : List StageDone) (rs rs' : Li
   pub lane : ds ≡ ds' ++ d ∷ []
   pub receiver : rs ≡ rs' ++ r ∷ []
 
-pub taken_pairs : (all_ss : List Sender) (all_ds : List StageDone) (all_rs : List Receiver) (gatherer : StageEnd) (ss ss' : List Sender)
-    (ds ds' : List StageDone) (rs rs' : List Receiver) (end : StageEnd)
-    (s : Sender) (d : StageDone) (r : Receiver) → IsMerging all_ss all_ds all_rs gatherer ss ds rs end → IsTaken ss ss' ds ds' rs rs' s d r
-    → ArePairs ss' ds' rs' × IsPair s d.input × IsPair d.output r
-taken_pairs all_ss all_ds all_rs gatherer ss ss' ds ds' rs rs' end s d r merging taken =
-    pairs_last ss' ds' rs' s d r
-    (subst (λ (x : List Sender). ArePairs x (ds' ++ d ∷ []) (rs' ++ r ∷ [])) taken.sender
-    (subst (λ (x : List StageDone). ArePairs ss x (rs' ++ r ∷ [])) taken.lane
-    (subst (ArePairs ss ds) taken.receiver merging.pairs)))
+pub taken_pairs : {all_ss : List Sender} {all_ds : List StageDone} {all_rs : List Receiver} {gatherer : StageEnd} {ss : List Sender} (ss' : List Sender)
+    {ds : List StageDone} (ds' : List StageDone) {rs : List Receiver} (rs' : List Receiver) {end : StageEnd} (s : Sender) (d : StageDone) (r : Receiver)
+    → IsMerging all_ss all_ds all_rs gatherer ss ds rs end → IsTaken ss ss' ds ds' rs rs' s d r → ArePairs ss' ds' rs' × IsPair s d.input × IsPair d.output r
+taken_pairs {ss} ss' {ds} ds' rs' s d r merging taken =
+    pairs_last ss' ds' rs' s d r (subst (λ (x : List Sender). ArePairs x (ds' ++ d ∷ []) (rs' ++ r ∷ [])) taken.sender
+    (subst (λ (x : List StageDone). ArePairs ss x (rs' ++ r ∷ [])) taken.lane (subst (ArePairs ss ds) taken.receiver merging.pairs)))
 
 -- and looked at
 pub merges_one : (all_ss : List Sender) (all_ds : List StageDone) (all_rs : List Receiver) (gatherer : StageEnd) (ss ss' : List Sender) (ds ds' : List
@@ -133,7 +120,7 @@ merges_one all_ss all_ds all_rs gatherer ss ss' ds ds' rs rs' end next s d r mer
     merging.parts.1 ∙ ap (λ (x : List StageDone). x ++ merging.lanes) taken.lane ∙ append_assoc ds' (d ∷ []) merging.lanes,
     merging.parts.2 ∙ ap (λ (x : List Receiver). x ++ merging.from_lanes) taken.receiver ∙ append_assoc rs' (r ∷ []) merging.from_lanes,
   );
-  pairs = (taken_pairs all_ss all_ds all_rs gatherer ss ss' ds ds' rs rs' end s d r merging taken).0;
+  pairs = (taken_pairs ss' ds' rs' s d r merging taken).0;
   passed = (to, from, merging.passed);
   end_is = is ∙ ap (end_of_both d.end) merging.end_is;
 }
@@ -143,16 +130,15 @@ no_member : {X : Type 0} (xs : List X) → length xs ≡ 0 → xs ≡ []
 no_member [] none = refl
 no_member (x ∷ xs) none = absurd (omega (arith, none))
 
-pub merges_all : (all_ss : List Sender) (all_ds : List StageDone) (all_rs : List Receiver) (gatherer : StageEnd) (ss : List Sender) (ds : List StageDone)
-    (rs : List Receiver) (end : StageEnd)
-    → IsMerging all_ss all_ds all_rs gatherer ss ds rs end → length ds ≡ 0 → HavePassed all_ss all_ds all_rs × (end ≡ end_of_lanes all_ds gatherer)
-merges_all all_ss all_ds all_rs gatherer ss ds rs end merging none =
+pub merges_all : {all_ss : List Sender} {all_ds : List StageDone} {all_rs : List Receiver} {gatherer : StageEnd} {ss : List Sender} {ds : List StageDone}
+    {rs : List Receiver} {end : StageEnd} → IsMerging all_ss all_ds all_rs gatherer ss ds rs end → length ds ≡ 0
+    → HavePassed all_ss all_ds all_rs × (end ≡ end_of_lanes all_ds gatherer)
+merges_all {all_ss} {all_ds} {all_rs} {gatherer} {ss} {ds} {rs} merging none =
     let many = as_many_pairs ss ds rs merging.pairs in
     let of_ss : all_ss ≡ merging.to_lanes = merging.parts.0 ∙ ap (λ (x : List Sender). x ++ merging.to_lanes) (no_member ss (many.0 ∙ none)) in
     let of_ds : all_ds ≡ merging.lanes = merging.parts.1 ∙ ap (λ (x : List StageDone). x ++ merging.lanes) (no_member ds none) in
     let of_rs : all_rs ≡ merging.from_lanes = merging.parts.2 ∙ ap (λ (x : List Receiver). x ++ merging.from_lanes) (no_member rs (many.1 ∙ none)) in (
-      subst (λ (x : List Sender). HavePassed x all_ds all_rs) (sym of_ss)
-          (subst (λ (x : List StageDone). HavePassed merging.to_lanes x all_rs) (sym of_ds)
+      subst (λ (x : List Sender). HavePassed x all_ds all_rs) (sym of_ss) (subst (λ (x : List StageDone). HavePassed merging.to_lanes x all_rs) (sym of_ds)
           (subst (HavePassed merging.to_lanes merging.lanes) (sym of_rs) merging.passed)),
       merging.end_is ∙ ap (λ (x : List StageDone). end_of_lanes x gatherer) (sym of_ds),
     )

@@ -1,24 +1,10 @@
 -- Messages that are dealt one after another, from a place on.
-use Rattle.std.proofs.Common.{◌≡◌, inl, inr, ℕ, ◌+◌, ◌-◌, ◌<◌, ◌≤◌, List, [], ◌∷◌, ◌++◌, length, get_or, take, drop, Option, None, Some, refl, sym, ap}
-use Rattle.std.proofs.Common.{subst, ◌∙◌, append_assoc, append-nil, arith}
-use Rattle.std.proofs.lemmas.List.{take_all, take_at, take-append-drop, drop_more, length-take, length-append, map-append}
-use Rattle.pnm_stages.specs.declared.sender.Sender.{Sender}
-use Rattle.pnm_stages.specs.Rings.{sent}
-use Rattle.pnm_image.specs.declared.message.Message.{Message}
-use Rattle.pnm_image.specs.declared.message.Message.TheVariants.{Row}
-use Rattle.pnm_image.specs.declared.place.Place.{Place}
-use Rattle.pnm_image.specs.Places.{Accepts, IsLawfulFrom, place_after, place_of}
-use Rattle.pnm_image.specs.Repeats.{repeated}
-use Rattle.pnm_image.specs.Rows.{row_messages}
-use Rattle.pnm_image.proofs.Places.{place_of-append}
-use Rattle.pnm_image.proofs.RepeatLaws.{messages_from, messages_once_more}
-use Rattle.pnm_tools.specs.declared.fault.ToolFault.TheVariants.{OutOfOrder, Memory}
-use Rattle.pnm_tools.specs.Dealing.{dealt_message, dealt_from}
-use Rattle.pnm_stages.specs.declared.stage.StageEnd.{StageEnd}
-use Rattle.pnm_stages.specs.declared.stage.StageEnd.TheVariants.{Fault}
-use Rattle.pnm_stages.proofs.RingSteps.{same_output, itself_output}
-use Rattle.pnm_lanes.specs.Deals.{AtEach}
-use Rattle.pnm_lanes.specs.Internal.DealParts.{part_at, IsSentPart, HasSentParts, IsSentAll, HasDealtAll, IsReason, HasLeftOff, HasDealtMessages}
+use Rattle.pnm_lanes.proofs.Words.{◌≡◌, inl, inr, ℕ, ◌+◌, ◌-◌, ◌<◌, ◌≤◌, List, [], ◌∷◌, ◌++◌, length, get_or, take, drop, Option, None, Some, refl, sym, ap}
+use Rattle.pnm_lanes.proofs.Words.{subst, ◌∙◌, append_assoc, append-nil, arith, take_all, take_at, take-append-drop, drop_more, length-take, length-append}
+use Rattle.pnm_lanes.proofs.Words.{map-append, Sender, sent, Message, Row, Place, Accepts, IsLawfulFrom, place_after, place_of, repeated, row_messages}
+use Rattle.pnm_lanes.proofs.Words.{place_of-append, messages_from, messages_once_more, OutOfOrder, Memory, dealt_message, dealt_from, StageEnd, Fault}
+use Rattle.pnm_lanes.proofs.Words.{same_output, itself_output, AtEach, part_at, IsSentPart, HasSentParts, IsSentAll, HasDealtAll, IsReason, HasLeftOff}
+use Rattle.pnm_lanes.proofs.Words.{HasDealtMessages}
 use Rattle.pnm_lanes.proofs.EachLaws.{each-map, each-itself, each-then, each-count}
 use Rattle.pnm_lanes.proofs.DealtLaws.{dealt_from-append}
 
@@ -84,9 +70,9 @@ deals_then place here new first second (Some end) olds nows news before after =
     (left_then end place first second [] olds nows news before.1 (subst (λ (p : Place). HasLeftOff end p second nows news) before.0 after))
 
 -- not all of the first was dealt
-pub leaves_rest : (end : StageEnd) (place : Place) (first second : List Message) (olds news : List Sender) → HasLeftOff end place first olds news
-    → HasLeftOff end place (first ++ second) olds news
-leaves_rest end place first second olds news left = left_then end place [] first second olds olds news (none_dealt place olds) left
+pub leaves_rest : {end : StageEnd} {place : Place} {first : List Message} (second : List Message) {olds news : List Sender}
+    → HasLeftOff end place first olds news → HasLeftOff end place (first ++ second) olds news
+leaves_rest {end} {place} {first} second {olds} {news} left = left_then end place [] first second olds olds news (none_dealt place olds) left
 
 -- ---- a message
 
@@ -136,44 +122,43 @@ refuses_message place m outputs refused = record {
 abbrev pub HasDealtBefore : ℕ → List (List ℕ) → Place → Place → List Sender → List Sender → Type 0
 HasDealtBefore at rows place here olds nows = HasDealtMessages place here (row_messages (take at rows)) None olds nows
 
-rows_around : (at : ℕ) (rows : List (List ℕ)) (row : List ℕ) → rows ≡ take at rows ++ row ∷ drop (at + 1) rows
+rows_around : (at : ℕ) {rows : List (List ℕ)} (row : List ℕ) → rows ≡ take at rows ++ row ∷ drop (at + 1) rows
     → row_messages (take at rows) ++ Row row ∷ row_messages (drop (at + 1) rows) ≡ row_messages rows
-rows_around at rows row parts = sym (ap row_messages parts ∙ map-append Row (take at rows) (row ∷ drop (at + 1) rows))
+rows_around at {rows} row parts = sym (ap row_messages parts ∙ map-append Row (take at rows) (row ∷ drop (at + 1) rows))
 
-one_row_more : (at : ℕ) (rows : List (List ℕ)) (row : List ℕ) → at < length rows → rows ≡ take at rows ++ row ∷ drop (at + 1) rows
+one_row_more : (at : ℕ) {rows : List (List ℕ)} (row : List ℕ) → at < length rows → rows ≡ take at rows ++ row ∷ drop (at + 1) rows
     → row_messages (take (at + 1) rows) ≡ row_messages (take at rows) ++ Row row ∷ []
-one_row_more at rows row below parts =
+one_row_more at {rows} row below parts =
     let before : List (List ℕ) = take at rows in
     let count : length (before ++ row ∷ []) ≡ at + 1 = omega (arith, length-append before (row ∷ []), length-take at rows, below) in
     ap (λ (x : List (List ℕ)). row_messages (take (at + 1) x)) (parts ∙ sym (append_assoc before (row ∷ []) (drop (at + 1) rows)))
     ∙ ap row_messages (take_at (before ++ row ∷ []) (drop (at + 1) rows) (at + 1) count) ∙ map-append Row before (row ∷ [])
 
 -- and this one
-pub deals_row : (at : ℕ) (rows : List (List ℕ)) (row : List ℕ) (place here new : Place) (olds nows news : List Sender) → at < length rows
-    → rows ≡ take at rows ++ row ∷ drop (at + 1) rows → HasDealtBefore at rows place here olds nows
-    → HasDealtMessages here new (Row row ∷ []) None nows news → HasDealtBefore (at + 1) rows place new olds news
-deals_row at rows row place here new olds nows news below parts before dealt =
+pub deals_row : (at : ℕ) {rows : List (List ℕ)} (row : List ℕ) (place here new : Place) (olds nows news : List Sender) → at < length rows
+    → rows ≡ take at rows ++ row ∷ drop (at + 1) rows → HasDealtBefore at rows place here olds nows → HasDealtMessages here new (Row row ∷ []) None nows news
+    → HasDealtBefore (at + 1) rows place new olds news
+deals_row at {rows} row place here new olds nows news below parts before dealt =
     let l : List Message = row_messages (take at rows) in
-    let more : row_messages (take (at + 1) rows) ≡ l ++ Row row ∷ [] = one_row_more at rows row below parts in (
+    let more : row_messages (take (at + 1) rows) ≡ l ++ Row row ∷ [] = one_row_more at row below parts in (
       dealt.0 ∙ ap (λ (p : Place). place_of p (Row row ∷ [])) before.0 ∙ sym (place_of-append place l (Row row ∷ [])) ∙ ap (place_of place) (sym more),
-      subst (λ (x : List Message). HasDealtAll place x olds news) (sym more)
-          (dealt_then place l (Row row ∷ []) olds nows news before.1
+      subst (λ (x : List Message). HasDealtAll place x olds news) (sym more) (dealt_then place l (Row row ∷ []) olds nows news before.1
           (subst (λ (p : Place). HasDealtAll p (Row row ∷ []) nows news) before.0 dealt.1)),
     )
 
 -- or not this one
-pub leaves_row : (at : ℕ) (rows : List (List ℕ)) (row : List ℕ) (end : StageEnd) (place here : Place) (olds nows news : List Sender)
+pub leaves_row : (at : ℕ) {rows : List (List ℕ)} {row : List ℕ} {end : StageEnd} {place here : Place} {olds nows news : List Sender}
     → rows ≡ take at rows ++ row ∷ drop (at + 1) rows → HasDealtBefore at rows place here olds nows → HasLeftOff end here (Row row ∷ []) nows news
     → HasLeftOff end place (row_messages rows) olds news
-leaves_row at rows row end place here olds nows news parts before left =
-    subst (λ (x : List Message). HasLeftOff end place x olds news) (rows_around at rows row parts)
+leaves_row at {rows} {row} {end} {place} {olds} {nows} {news} parts before left =
+    subst (λ (x : List Message). HasLeftOff end place x olds news) (rows_around at row parts)
     (left_then end place (row_messages (take at rows)) (Row row ∷ []) (row_messages (drop (at + 1) rows)) olds nows news before.1
     (subst (λ (p : Place). HasLeftOff end p (Row row ∷ []) nows news) before.0 left))
 
 -- there was no memory for a copy of it
-pub runs_out : (at : ℕ) (rows : List (List ℕ)) (place here : Place) (olds nows : List Sender) → at < length rows
+pub runs_out : (at : ℕ) (rows : List (List ℕ)) {place : Place} (here : Place) {olds nows : List Sender} → at < length rows
     → HasDealtBefore at rows place here olds nows → HasLeftOff (Fault Memory) place (row_messages rows) olds nows
-runs_out at rows place here olds nows below before =
+runs_out at rows here {nows} below before =
     let row : List ℕ = get_or rows at [] in
     let parts : rows ≡ take at rows ++ row ∷ drop (at + 1) rows =
     sym (take-append-drop at rows) ∙ ap (λ (x : List (List ℕ)). take at rows ++ x) (drop_more rows at [] below) in
@@ -181,7 +166,7 @@ runs_out at rows place here olds nows below before =
       before = row_messages (take at rows);
       at = Row row;
       after = row_messages (drop (at + 1) rows);
-      parts = sym (rows_around at rows row parts);
+      parts = sym (rows_around at row parts);
       nows = nows;
       dealt = before.1;
       reason = inl (refl, inr refl);
@@ -204,8 +189,8 @@ deals_time n rows place here new unsent olds nows news before dealt =
     (deals_then place here new (row_messages (repeated n rows)) (row_messages rows) unsent olds nows news before dealt)
 
 -- they weren't dealt the other times
-pub leaves_times : (n times : ℕ) (rows all : List (List ℕ)) (end : StageEnd) (place : Place) (olds news : List Sender) → n ≤ times
+pub leaves_times : (n times : ℕ) (rows : List (List ℕ)) {all : List (List ℕ)} {end : StageEnd} {place : Place} {olds news : List Sender} → n ≤ times
     → all ≡ repeated times rows → HasLeftOff end place (row_messages (repeated n rows)) olds news → HasLeftOff end place (row_messages all) olds news
-leaves_times n times rows all end place olds news within is left =
+leaves_times n times rows {end} {place} {olds} {news} within is left =
     subst (λ (x : List Message). HasLeftOff end place x olds news) (sym (ap row_messages is ∙ messages_from n times rows within))
-    (leaves_rest end place (row_messages (repeated n rows)) (row_messages (repeated (times - n) rows)) olds news left)
+    (leaves_rest (row_messages (repeated (times - n) rows)) left)

@@ -1,20 +1,9 @@
 -- The lanes' parts of a stream tell the whole of it.
-use Rattle.std.proofs.Common.{◌≡◌, ℕ, ◌%◌, ◌<◌, List, [], ◌∷◌, ◌++◌, map, refl, sym, ap, subst, ◌∙◌, append_assoc, arith, eq-eqb}
-use Rattle.std.specs.Prelude.{if◌then◌else◌, Bool}
-use Rattle.std.specs.List.{AllByRecursion}
-use Rattle.std.proofs.lemmas.List.{append_cancel_left}
-use Rattle.std.proofs.lemmas.Nat.{mod_below}
-use Rattle.pnm_image.specs.declared.message.Message.{Message}
-use Rattle.pnm_image.specs.declared.message.Message.TheVariants.{Begin, Row, ImageEnd, StreamEnd, Stop}
-use Rattle.pnm_image.specs.declared.place.Place.{Place}
-use Rattle.pnm_image.specs.declared.place.Place.TheVariants.{Between, Inside, After}
-use Rattle.pnm_image.specs.declared.shape.Shape.{Shape}
-use Rattle.pnm_image.specs.Heads.{HeadValue, with_height}
-use Rattle.pnm_image.specs.Places.{Accepts, IsLawfulFrom, place_after, place_of}
-use Rattle.pnm_image.specs.Completion.{IsPrefixOf}
-use Rattle.pnm_image.proofs.Lists.{same_first}
-use Rattle.pnm_tools.specs.Dealing.{dealt_height, dealt_row, dealt_head, dealt_message, dealt_from}
-use Rattle.pnm_lanes.specs.Internal.GatherParts.{IsOfStream}
+use Rattle.pnm_lanes.proofs.Words.{◌≡◌, ℕ, ◌%◌, ◌<◌, List, [], ◌∷◌, ◌++◌, map, refl, sym, ap, subst, ◌∙◌, append_assoc, arith, eq-eqb, if◌then◌else◌}
+use Rattle.pnm_lanes.proofs.Words.{AllByRecursion, append_cancel_left, mod_below, Message, Begin, Row, ImageEnd, StreamEnd, Stop, Place, Between, Inside, After}
+use Rattle.pnm_lanes.proofs.Words.{Shape, HeadValue, with_height, Accepts, IsLawfulFrom, place_after, place_of, IsPrefixOf, same_first, dealt_height, dealt_row}
+use Rattle.pnm_lanes.proofs.Words.{dealt_head, dealt_message, dealt_from, IsOfStream}
+use Rattle.std.specs.Prelude.{Bool}
 use Rattle.pnm_lanes.proofs.HeightSums.{same_height}
 
 -- what a lane gets of two lists, one after the other
@@ -56,35 +45,35 @@ pub record GoesToLane (lanes : ℕ) (place : Place) (m : Message) : Type 0 where
   pub part : Message
   pub goes : dealt_message lane lanes place m ≡ part ∷ []
 
-goes_to_lane : (lanes : ℕ) (place : Place) (m : Message) → 0 < lanes → Accepts place m → IsOfStream m → GoesToLane lanes place m
-goes_to_lane lanes Between (Begin head) some may is = record { lane = 0; below = some; part = Begin (dealt_head 0 lanes head); goes = refl }
-goes_to_lane lanes Between (Row row) some may is = absurd may
-goes_to_lane lanes Between ImageEnd some may is = absurd may
-goes_to_lane lanes Between StreamEnd some may is = record { lane = 0; below = some; part = StreamEnd; goes = refl }
-goes_to_lane lanes Between Stop some may is = absurd is
-goes_to_lane lanes (Inside s y) (Begin head) some may is = absurd may
-goes_to_lane lanes (Inside s y) (Row row) some may is =
+goes_to_lane : {lanes : ℕ} (place : Place) (m : Message) → 0 < lanes → Accepts place m → IsOfStream m → GoesToLane lanes place m
+goes_to_lane {lanes} Between (Begin head) some may is = record { lane = 0; below = some; part = Begin (dealt_head 0 lanes head); goes = refl }
+goes_to_lane Between (Row row) some may is = absurd may
+goes_to_lane Between ImageEnd some may is = absurd may
+goes_to_lane Between StreamEnd some may is = record { lane = 0; below = some; part = StreamEnd; goes = refl }
+goes_to_lane Between Stop some may is = absurd is
+goes_to_lane (Inside s y) (Begin head) some may is = absurd may
+goes_to_lane {lanes} (Inside s y) (Row row) some may is =
     record { lane = y % lanes; below = mod_below y lanes some; part = Row row; goes = own_message lanes y s row }
-goes_to_lane lanes (Inside s y) ImageEnd some may is = record { lane = 0; below = some; part = ImageEnd; goes = refl }
-goes_to_lane lanes (Inside s y) StreamEnd some may is = absurd may
-goes_to_lane lanes (Inside s y) Stop some may is = absurd is
-goes_to_lane lanes After m some may is = absurd may
+goes_to_lane (Inside s y) ImageEnd some may is = record { lane = 0; below = some; part = ImageEnd; goes = refl }
+goes_to_lane (Inside s y) StreamEnd some may is = absurd may
+goes_to_lane (Inside s y) Stop some may is = absurd is
+goes_to_lane After m some may is = absurd may
 
 -- heads that are the same but for their heights
-same_head : (head other : HeadValue) (x y : ℕ) → with_height head x ≡ with_height other y → head.shape.height ≡ other.shape.height → head ≡ other
-same_head head other x y same height = ap (λ (h : HeadValue). with_height h head.shape.height) same ∙ ap (with_height other) height
+same_head : {head other : HeadValue} (x y : ℕ) → with_height head x ≡ with_height other y → head.shape.height ≡ other.shape.height → head ≡ other
+same_head {head} {other} x y same height = ap (λ (h : HeadValue). with_height h head.shape.height) same ∙ ap (with_height other) height
 
-pub same_begin : (head other : HeadValue) → Begin head ≡ Begin other → head ≡ other
-same_begin head other same = cc
+pub same_begin : {head other : HeadValue} → Begin head ≡ Begin other → head ≡ other
+same_begin same = cc
 
 -- heads of which the lanes get the same
 same_heads : (lanes : ℕ) (head other : HeadValue) → 0 < lanes
     → ((lane : ℕ) → lane < lanes → Begin (dealt_head lane lanes head) ≡ Begin (dealt_head lane lanes other)) → Begin head ≡ Begin other
 same_heads lanes head other some parts =
     let dealt : (lane : ℕ) → lane < lanes → dealt_head lane lanes head ≡ dealt_head lane lanes other =
-    λ lane below. same_begin (dealt_head lane lanes head) (dealt_head lane lanes other) (parts lane below) in
+    λ lane below. same_begin (parts lane below) in
     let height = same_height lanes head.shape.height other.shape.height some (λ lane below. ap (λ (h : HeadValue). h.shape.height) (dealt lane below)) in
-    ap Begin (same_head head other (dealt_height 0 lanes head.shape.height) (dealt_height 0 lanes other.shape.height) (dealt 0 some) height)
+    ap Begin (same_head (dealt_height 0 lanes head.shape.height) (dealt_height 0 lanes other.shape.height) (dealt 0 some) height)
 
 -- what the lanes have got and get of two lists
 abbrev ArePrefixes : ℕ → Place → Message → Message → (ℕ → List Message) → (ℕ → List Message) → Type 0
@@ -138,9 +127,9 @@ next_is_same lanes (Inside s z) ImageEnd Stop x y some first second is others pr
 -- ---- the whole
 
 -- what goes to no lane is nothing
-not_nothing : (lanes : ℕ) (place : Place) (m : Message) (x : ℕ → List Message) → GoesToLane lanes place m
+not_nothing : {lanes : ℕ} {place : Place} {m : Message} (x : ℕ → List Message) → GoesToLane lanes place m
     → ((lane : ℕ) → lane < lanes → IsPrefixOf (dealt_message lane lanes place m ++ x lane) []) → ⊥
-not_nothing lanes place m x goes prefixes =
+not_nothing x goes prefixes =
     no_prefix goes.part (x goes.lane) (subst (λ (l : List Message). IsPrefixOf (l ++ x goes.lane) []) goes.goes (prefixes goes.lane goes.below))
 
 -- where each lane's part of the one is a prefix of its part of the other, the one is a prefix of the other
@@ -149,7 +138,7 @@ pub parts_tell_the_whole : (lanes : ℕ) (place : Place) (a b : List Message) �
     → ((lane : ℕ) → lane < lanes → IsPrefixOf (dealt_from lane lanes place a) (dealt_from lane lanes place b)) → IsPrefixOf a b
 parts_tell_the_whole lanes place [] b some first second is others prefixes = (b, refl)
 parts_tell_the_whole lanes place (m ∷ a) [] some first second is others prefixes =
-    absurd (not_nothing lanes place m (λ lane. dealt_from lane lanes (place_after place m) a) (goes_to_lane lanes place m some first.0 is.0) prefixes)
+    absurd (not_nothing (λ lane. dealt_from lane lanes (place_after place m) a) (goes_to_lane place m some first.0 is.0) prefixes)
 parts_tell_the_whole lanes place (m ∷ a) (n ∷ b) some first second is others prefixes =
     let same : m ≡ n = next_is_same lanes place m n (λ lane. dealt_from lane lanes (place_after place m) a)
     (λ lane. dealt_from lane lanes (place_after place n) b) some first.0 second.0 is.0 others.0 prefixes in

@@ -1,18 +1,8 @@
 -- How the lanes are sent their parts, one lane after another.
-use Rattle.std.proofs.Common.{◌≡◌, ◌⊎◌, inl, inr, ℕ, ◌+◌, ◌%◌, ◌<◌, ◌≤◌, Bool, true, false, List, [], ◌∷◌, ◌++◌, length, map, get_or, Option, None, Some, refl}
-use Rattle.std.proofs.Common.{sym, ap, subst, ◌∙◌, append-nil, arith}
-use Rattle.std.specs.Prelude.{◌==◌, if◌then◌else◌, slice_set, IsSome, IfSome}
-use Rattle.std.proofs.lemmas.Bool.Decides.{nat_tests}
-use Rattle.pnm_stages.specs.declared.sender.Sender.{Sender}
-use Rattle.pnm_stages.specs.Rings.{sent, SameSender}
-use Rattle.pnm_image.specs.declared.message.Message.{Message}
-use Rattle.pnm_image.specs.declared.message.Message.TheVariants.{Row}
-use Rattle.pnm_tools.specs.declared.fault.ToolFault.TheVariants.{Memory}
-use Rattle.pnm_stages.specs.declared.stage.StageEnd.{StageEnd}
-use Rattle.pnm_stages.specs.declared.stage.StageEnd.TheVariants.{Fault, PeerGone}
-use Rattle.pnm_stages.proofs.RingSteps.{same_output, itself_output}
-use Rattle.pnm_lanes.specs.Deals.{AtEach}
-use Rattle.pnm_lanes.specs.Internal.DealParts.{row_part, IsSameEnd, IsSentPart, HasSentParts}
+use Rattle.pnm_lanes.proofs.Words.{◌≡◌, ◌⊎◌, inl, inr, ℕ, ◌+◌, ◌%◌, ◌<◌, ◌≤◌, Bool, true, false, List, [], ◌∷◌, ◌++◌, length, map, get_or, Option, None, Some}
+use Rattle.pnm_lanes.proofs.Words.{refl, sym, ap, subst, ◌∙◌, append-nil, arith, ◌==◌, if◌then◌else◌, slice_set, IsSome, IfSome, nat_tests, Sender, sent}
+use Rattle.pnm_lanes.proofs.Words.{SameSender, Message, Row, Memory, StageEnd, Fault, PeerGone, same_output, itself_output, AtEach, row_part, IsSameEnd}
+use Rattle.pnm_lanes.proofs.Words.{IsSentPart, HasSentParts}
 use Rattle.pnm_lanes.proofs.EachLaws.{each-map, each-itself, each-then, each-count, each-below, each-set}
 
 -- ---- one lane after another
@@ -108,8 +98,8 @@ leaves_off next part unsent olds nows sending = record {
 
 -- ---- a row
 
-its_row : (lane lanes y : ℕ) (row : List ℕ) → y % lanes ≡ lane → row_part lanes y row lane ≡ Row row ∷ []
-its_row lane lanes y row is =
+its_row : {lane : ℕ} (lanes y : ℕ) (row : List ℕ) → y % lanes ≡ lane → row_part lanes y row lane ≡ Row row ∷ []
+its_row {lane} lanes y row is =
     let its : ((y % lanes) == lane) ≡ true = grind (arith, nat_tests) in
     ap (λ (b : Bool). map Row (if b then row ∷ [] else [])) its
 
@@ -132,7 +122,7 @@ sends_row lane y row outputs was new other m here lt is same added m_is = record
       let same_was : IsSameEnd lane old was = subst (λ (x : Sender). IsSameEnd lane old x) (sym is) unchanged in (
         same_output old was new same_was.0 same,
         inl (added ∙ ap (λ (x : List Message). x ++ m) same_was.1
-            ∙ ap (λ (x : List Message). sent old ++ x) (m_is ∙ sym (its_row lane (length outputs) y row (sym here)))),
+            ∙ ap (λ (x : List Message). sent old ++ x) (m_is ∙ sym (its_row (length outputs) y row (sym here)))),
       ))
       (each-itself IsSameEnd 0 outputs (λ n x. (itself_output x, refl)));
   reason = tt;
@@ -154,11 +144,10 @@ misses_row lane y row outputs was new other lt is same none = record {
 -- ---- lanes that were woken, and sent nothing
 
 -- the end of one lane's ring was changed so
-pub wakes_one : (at : ℕ) (olds nows : List Sender) (was new other : Sender) → at < length nows → was ≡ get_or nows at other → SameSender was new
+pub wakes_one : (at : ℕ) (olds nows : List Sender) {was : Sender} (new other : Sender) → at < length nows → was ≡ get_or nows at other → SameSender was new
     → sent new ≡ sent was → AtEach IsSameEnd olds nows → AtEach IsSameEnd olds (slice_set nows at new)
-wakes_one at olds nows was new other lt is same none each =
-    each-set IsSameEnd IsSameEnd at 0 at olds nows other new (omega arith) lt (λ n old now differs unchanged. unchanged)
-    (λ old unchanged.
+wakes_one at olds nows {was} new other lt is same none each =
+    each-set IsSameEnd IsSameEnd at 0 at olds nows other new (omega arith) lt (λ n old now differs unchanged. unchanged) (λ old unchanged.
     let same_was : IsSameEnd at old was = subst (λ (x : Sender). IsSameEnd at old x) (sym is) unchanged in
     (same_output old was new same_was.0 same, none ∙ same_was.1)) each
 
@@ -196,9 +185,9 @@ part_then part unsent lane old now new same (ring, inl is) =
 part_then part unsent lane old now new same (ring, inr lost) = (same_output old now new same.0 ring, inr (lost.0 ∙ same.1, lost.1))
 
 -- all lanes were woken, and then a row was sent
-pub wakes_then_row : (y : ℕ) (row : List ℕ) (unsent : Option StageEnd) (olds nows news : List Sender) → AtEach IsSameEnd olds nows
+pub wakes_then_row : (y : ℕ) (row : List ℕ) {unsent : Option StageEnd} {olds nows news : List Sender} → AtEach IsSameEnd olds nows
     → HasSentParts (row_part (length nows) y row) unsent nows news → HasSentParts (row_part (length olds) y row) unsent olds news
-wakes_then_row y row unsent olds nows news woken sent_row =
+wakes_then_row y row {unsent} {olds} {nows} {news} woken sent_row =
     let count : length nows ≡ length olds = woken_count olds nows woken in
     let parts : HasSentParts (row_part (length olds) y row) unsent nows news =
     subst (λ (n : ℕ). HasSentParts (row_part n y row) unsent nows news) count sent_row in

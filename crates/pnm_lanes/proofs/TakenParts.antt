@@ -1,21 +1,9 @@
 -- What was taken of each lane, lane by lane.
-use Rattle.std.proofs.Common.{◌≡◌, ◌≢◌, inl, inr, ℕ, ◌<◌, ◌≤◌, List, [], ◌∷◌, ◌++◌, length, refl, sym, ap, subst, ◌∙◌, append-nil, arith, Err}
-use Rattle.std.specs.Prelude.{◌==◌, if◌then◌else◌}
-use Rattle.std.specs.List.{AllByRecursion}
-use Rattle.std.proofs.lemmas.Bool.{cases_eq}
-use Rattle.std.proofs.lemmas.Bool.Decides.{nat_tests}
-use Rattle.std.proofs.lemmas.List.{get_or-set_same, get_or-set_other}
-use Rattle.pnm_image.specs.declared.message.Message.{Message}
-use Rattle.pnm_image.specs.declared.message.Message.TheVariants.{Begin, Row, ImageEnd, StreamEnd, Stop}
-use Rattle.pnm_image.specs.declared.place.Place.{Place}
-use Rattle.pnm_image.specs.Messages.{IsMessage, ending_of}
-use Rattle.pnm_image.specs.declared.message.Ending.{Ending}
-use Rattle.pnm_image.specs.declared.message.Ending.TheVariants.{More, Whole, BrokenOff}
-use Rattle.pnm_stages.specs.declared.stage.StageEnd.{StageEnd}
-use Rattle.pnm_stages.specs.declared.stage.StageEnd.TheVariants.{Well, Broken, Fault, PeerGone}
-use Rattle.pnm_lanes.specs.declared.lane.LaneState.{LaneState}
-use Rattle.pnm_lanes.specs.declared.lane.LaneState.TheVariants.{Open, Ended}
-use Rattle.pnm_lanes.specs.Internal.GatherParts.{IsOfStream, LaneHasGiven, HasTakenFrom, states_after, state_at, AreOpen, IsLeftBy, HasTakenParts, HasTakenNone}
+use Rattle.pnm_lanes.proofs.Words.{◌≡◌, ◌≢◌, inl, inr, ℕ, ◌<◌, ◌≤◌, List, [], ◌∷◌, ◌++◌, length, refl, sym, ap, subst, ◌∙◌, append-nil, arith, Err, ◌==◌}
+use Rattle.pnm_lanes.proofs.Words.{if◌then◌else◌, AllByRecursion, cases_eq, nat_tests, get_or-set_same, get_or-set_other, Message, Begin, Row, ImageEnd}
+use Rattle.pnm_lanes.proofs.Words.{StreamEnd, Stop, Place, IsMessage, ending_of, Ending, More, Whole, BrokenOff, StageEnd, Well, Broken, Fault, PeerGone}
+use Rattle.pnm_lanes.proofs.Words.{LaneState, Open, Ended, IsOfStream, LaneHasGiven, HasTakenFrom, states_after, state_at, AreOpen, IsLeftBy, HasTakenParts}
+use Rattle.pnm_lanes.proofs.Words.{HasTakenNone}
 
 -- ---- one message more of one lane
 

@@ -1,15 +1,7 @@
 -- One message that is taken of a lane.
-use Rattle.std.proofs.Common.{◌≡◌, ◌⊎◌, inl, inr, ℕ, zero, suc, ◌<◌, List, [], ◌∷◌, ◌++◌, length, get_or, set, refl, sym, ap, ◌∙◌, arith}
-use Rattle.pnm_stages.specs.declared.receiver.Receiver.{Receiver}
-use Rattle.pnm_stages.specs.Rings.{received}
-use Rattle.pnm_image.specs.declared.message.Message.{Message}
-use Rattle.pnm_image.specs.declared.message.Message.TheVariants.{Begin, Row, ImageEnd, StreamEnd, Stop}
-use Rattle.pnm_image.specs.Messages.{IsMessage, ending_of}
-use Rattle.pnm_image.specs.declared.message.Ending.{Ending}
-use Rattle.pnm_image.specs.declared.message.Ending.TheVariants.{More, Whole, BrokenOff}
-use Rattle.pnm_lanes.specs.declared.lane.LaneState.{LaneState}
-use Rattle.pnm_lanes.specs.Gathers.{at_lane}
-use Rattle.pnm_lanes.specs.Internal.GatherParts.{IsOfStream, LaneHasGiven, states_after}
+use Rattle.pnm_lanes.proofs.Words.{◌≡◌, ◌⊎◌, inl, inr, ℕ, zero, suc, ◌<◌, List, [], ◌∷◌, ◌++◌, length, get_or, set, refl, sym, ap, ◌∙◌, arith, Receiver}
+use Rattle.pnm_lanes.proofs.Words.{received, Message, Begin, Row, ImageEnd, StreamEnd, Stop, IsMessage, ending_of, Ending, More, Whole, BrokenOff, LaneState}
+use Rattle.pnm_lanes.proofs.Words.{at_lane, IsOfStream, LaneHasGiven, states_after}
 use Rattle.pnm_lanes.proofs.LaneLists.{at_lane-get, at_lane-set, at_lane-others}
 
 -- the lane has given a message

@@ -1,20 +1,11 @@
 -- What is said of a text that begins with a raw image is what is said of that alone, and then of what follows it.
-use Rattle.std.proofs.Common.{◌≡◌, ℕ, zero, suc, ◌+◌, ◌*◌, ◌≤◌, Bool, true, false, if◌then◌else◌, List, [], ◌∷◌, ◌++◌, length, take, drop, Option, Some, None}
-use Rattle.std.proofs.Common.{Result, refl, sym, ap, ap₂, ◌∙◌, append_assoc, arith, zero-mul, suc-mul}
-use Rattle.std.proofs.lemmas.List.{take_at, drop_at, take-append-le, drop-append-le, take-append-drop, length-take-le, length-drop, length-append}
-use Rattle.std.proofs.lemmas.List.{nil_from_length}
-use Rattle.std.proofs.lemmas.Bool.{both_ways}
-use Rattle.pnm_image.specs.Formats.{is_plain_form}
-use Rattle.pnm_image.specs.Heads.{HeadValue}
-use Rattle.pnm_image.specs.declared.format.Format.{Format}
-use Rattle.pnm_image.specs.declared.message.Message.{Message}
-use Rattle.pnm_image.specs.declared.message.Message.TheVariants.{Begin, Row, ImageEnd}
-use Rattle.pnm_image.specs.declared.shape.Shape.{Shape}
-use Rattle.pnm_read.specs.declared.fault.InputFault.{InputFault}
-use Rattle.pnm_read.specs.Headers.{SpellsHeader}
-use Rattle.pnm_read.specs.Rasters.{bytes_in_row, raw_samples}
-use Rattle.pnm_read.specs.Said.{Said, raw_row, then_said, says_nothing, ends_stream, rows_said, head_said, format_said, image_said, later_said}
-use Rattle.pnm_read.specs.ImageSizes.{BeginsWithHeader, joined, followed_by, FirstImageStandsAlone}
+use Rattle.pnm_read.proofs.Words.{◌≡◌, ℕ, zero, suc, ◌+◌, ◌*◌, ◌≤◌, Bool, true, false, if◌then◌else◌, List, [], ◌∷◌, ◌++◌, length, take, drop, Option, Some}
+use Rattle.pnm_read.proofs.Words.{None, Result, refl, sym, ap, ap₂, ◌∙◌, append_assoc, arith, zero-mul, suc-mul, take_at, drop_at, take-append-le}
+use Rattle.pnm_read.proofs.Words.{drop-append-le, take-append-drop, length-take-le, length-drop, length-append, nil_from_length, both_ways, is_plain_form}
+use Rattle.pnm_read.proofs.Words.{HeadValue, Format, Message, Begin, Row, ImageEnd, Shape, InputFault, SpellsHeader, bytes_in_row, raw_samples, Said, raw_row}
+use Rattle.pnm_read.proofs.Words.{then_said, says_nothing, ends_stream, head_said, format_said, later_said, BeginsWithHeader, joined, followed_by}
+use Rattle.pnm_read.proofs.Words.{FirstImageStandsAlone}
+use Rattle.pnm_read.specs.Said.{rows_said, image_said}
 use Rattle.pnm_read.proofs.RawLaws.{IsPackable, sample_width_in, packable, row_read, row_at_raw}
 use Rattle.pnm_read.proofs.ReadHeaderLaws.{spelled_head}
 use Rattle.pnm_read.proofs.RowsInTurn.{said_from}
@@ -37,13 +28,13 @@ first_said m first next = joined_first m first.messages first.fault next
 -- ---- rows
 
 -- a row of a raster, before anything
-row_before : (s : Shape) (raster after : List ℕ) → IsPackable (sample_width_in s) s → bytes_in_row s ≤ length raster
+row_before : {s : Shape} (raster after : List ℕ) → IsPackable (sample_width_in s) s → bytes_in_row s ≤ length raster
     → raw_row s (raster ++ after) ≡ unit_if (are_within s.maxval (raw_samples s (take (bytes_in_row s) raster)))
     (raw_samples s (take (bytes_in_row s) raster)) (drop (bytes_in_row s) raster ++ after)
-row_before s raster after h long =
+row_before {s} raster after h long =
     let each : ℕ = bytes_in_row s in
     let row : List ℕ = raw_samples s (take each raster) in
-    row_read s (raster ++ after) h (omega (arith, length-append raster after))
+    row_read (raster ++ after) h (omega (arith, length-append raster after))
     ∙ ap (λ (l : List ℕ). unit_if (are_within s.maxval (raw_samples s l)) (raw_samples s l) (drop each (raster ++ after)))
     (take-append-le each raster after long)
     ∙ ap (λ (l : List ℕ). unit_if (are_within s.maxval row) row l) (drop-append-le each raster after long)
@@ -56,25 +47,25 @@ row_alone later format s n true row left after e =
     ap (then_said (Row row)) e ∙ first_said (Row row) (rows_said nothing_later format s n left) (later after)
 row_alone later format s n false row left after e = refl
 
-rows_alone : (later : List ℕ → Said) (format : Format) (s : Shape) (n : ℕ) (raster after : List ℕ) → is_plain_form format.form ≡ false
+rows_alone : (later : List ℕ → Said) (format : Format) {s : Shape} (n : ℕ) (raster after : List ℕ) → is_plain_form format.form ≡ false
     → IsPackable (sample_width_in s) s → length raster ≡ n * bytes_in_row s
     → rows_said later format s n (raster ++ after) ≡ followed_by (rows_said nothing_later format s n raster) (later after)
 unfolding rows_said
-rows_alone later format s zero raster after raw h size =
+rows_alone later format {s} zero raster after raw h size =
     let none : raster ≡ [] = nil_from_length raster (size ∙ zero-mul (bytes_in_row s)) in
     ap (λ (p : Bool). then_said ImageEnd (if p then ends_stream else later (raster ++ after))) raw
     ∙ ap (λ (t : List ℕ). then_said ImageEnd (later (t ++ after))) none
     ∙ sym (ap (λ (p : Bool). followed_by (then_said ImageEnd (if p then ends_stream else says_nothing)) (later after)) raw)
-rows_alone later format s (suc n) raster after raw h size =
+rows_alone later format {s} (suc n) raster after raw h size =
     let each : ℕ = bytes_in_row s in
     let total : length raster ≡ n * each + each = size ∙ suc-mul n each in
     let long : each ≤ length raster = omega arith in
     let left : length (drop each raster) ≡ n * each = omega (arith, length-drop each raster) in
     let row : List ℕ = raw_samples s (take each raster) in
-    ap (said_from later format s n) (row_at_raw format s n (raster ++ after) raw ∙ row_before s raster after h long)
-    ∙ row_alone later format s n (are_within s.maxval row) row (drop each raster) after (rows_alone later format s n (drop each raster) after raw h left)
+    ap (said_from later format s n) (row_at_raw format s n (raster ++ after) raw ∙ row_before raster after h long)
+    ∙ row_alone later format s n (are_within s.maxval row) row (drop each raster) after (rows_alone later format n (drop each raster) after raw h left)
     ∙ sym (ap (λ (r : Result (List ℕ × List ℕ) InputFault). followed_by (said_from nothing_later format s n r) (later after))
-    (row_at_raw format s n raster raw ∙ row_read s raster h long))
+    (row_at_raw format s n raster raw ∙ row_read raster h long))
 
 -- ---- the image
 
@@ -92,8 +83,7 @@ image_alone : (is_first : Bool) (header raster after : List ℕ) (format : Forma
 image_alone is_first header raster after format head raw h size =
     let alone : Said = rows_said nothing_later format head.shape head.shape.height raster in
     header_then later_said is_first header (raster ++ after) format head raw h
-    ∙ ap (then_said (Begin head))
-    (rows_alone later_said format head.shape head.shape.height raster after raw (packable head (spelled_head header format head h).sound) size)
+    ∙ ap (then_said (Begin head)) (rows_alone later_said format head.shape.height raster after raw (packable head (spelled_head header h).sound) size)
     ∙ first_said (Begin head) alone (later_said after)
     ∙ sym (ap (λ (x : Said). followed_by x (later_said after)) (header_then nothing_later is_first header raster format head raw h))
 

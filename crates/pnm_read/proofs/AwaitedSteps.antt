@@ -1,35 +1,14 @@
 -- The packets of a source, by what it awaits.
-use Rattle.pnm_image.specs.Formats.{is_plain_form}
-use Rattle.std.proofs.Common.{◌≡◌, ℕ, ◌+◌, ◌-◌, ◌<◌, Bool, true, false, List, [], ◌∷◌, length, Option, ◌==◌, sym, Result, Ok, Err, inl}
-use Rattle.std.proofs.Common.{inr, refl, ap, ap₂, subst, ◌∙◌, arith, ◌++◌, ◌≤◌, Some, None, append_assoc}
-use Rattle.std.specs.Prelude.{IfSome, IsSomeAnd, MatchOption}
-use Rattle.std.proofs.lemmas.List.{length-append, length-map}
-use Rattle.std.proofs.lemmas.Bool.Decides.{nat_tests}
-use Rattle.pnm_image.specs.declared.shape.Shape.{Shape}
-use Rattle.pnm_image.specs.declared.message.Message.{Message}
-use Rattle.pnm_image.specs.declared.message.Message.TheVariants.{Begin, Row as RowMessage, ImageEnd}
-use Rattle.pnm_image.specs.Packets.{messages_in}
-use Rattle.pnm_image.specs.Parts.{head_messages, end_messages}
-use Rattle.pnm_image.specs.declared.packet.Packet.{Packet}
-use Rattle.pnm_image.specs.declared.packet.Packet.TheVariants.{StreamEnd as EndsStream}
-use Rattle.pnm_image.specs.Heads.{HeadValue}
-use Rattle.pnm_image.specs.Rows.{row_messages, rows_list}
-use Rattle.pnm_read.specs.declared.fault.InputFault.{InputFault}
-use Rattle.pnm_read.specs.declared.fault.InputFault.TheVariants.{ReadFailed, Memory}
-use Rattle.pnm_image.specs.declared.format.Format.{Format}
-use Rattle.pnm_read.specs.declared.buffered_reader.BufferedReader.{BufferedReader}
-use Rattle.pnm_read.specs.declared.raster.Raster.{Raster}
-use Rattle.pnm_read.specs.declared.source.Awaited.{Awaited}
-use Rattle.pnm_read.specs.declared.source.Awaited.TheVariants.{FirstImage, Row, ImageOrEnd, End}
-use Rattle.pnm_read.specs.declared.source.State.{State}
-use Rattle.pnm_read.specs.declared.source.State.TheVariants.{Ended}
-use Rattle.pnm_read.specs.Said.{text_said, later_said, format_at, head_at, format_said, head_said, image_said, rows_said, then_said, after_messages}
+use Rattle.pnm_read.proofs.Words.{is_plain_form, ◌≡◌, ℕ, ◌+◌, ◌-◌, ◌<◌, Bool, true, false, List, [], ◌∷◌, length, Option, ◌==◌, sym, Result, Ok, Err, inl, inr}
+use Rattle.pnm_read.proofs.Words.{refl, ap, ap₂, subst, ◌∙◌, arith, ◌++◌, ◌≤◌, Some, None, append_assoc, IfSome, IsSomeAnd, MatchOption, length-append}
+use Rattle.pnm_read.proofs.Words.{length-map, nat_tests, Shape, Message, Begin, RowMessage, ImageEnd, messages_in, head_messages, end_messages, Packet}
+use Rattle.pnm_read.proofs.Words.{EndsStream, HeadValue, row_messages, rows_list, InputFault, ReadFailed, Memory, Format, BufferedReader, Raster, Awaited}
+use Rattle.pnm_read.proofs.Words.{FirstImage, ImageOrEnd, State, Ended, later_said, format_at, head_at, format_said, head_said, then_said, after_messages}
+use Rattle.pnm_read.proofs.Words.{held_of, ReadCall, Fills, Finds, HoldsEnough, due_at, state_due, Gives, GivesAtStart, MayBeGiven, SeesText, TakesRows}
+use Rattle.pnm_read.proofs.Words.{due_after}
+use Rattle.pnm_read.specs.declared.source.Awaited.TheVariants.{Row, End}
+use Rattle.pnm_read.specs.Said.{text_said, image_said, rows_said}
 use Rattle.pnm_read.proofs.EndSaid.{end_said}
-use Rattle.pnm_read.specs.BufferedReaders.{held_of}
-use Rattle.pnm_read.specs.Internal.BufferedReaders.{ReadCall, Fills, Finds, HoldsEnough}
-use Rattle.pnm_read.specs.Awaiting.{due_at, state_due}
-use Rattle.pnm_read.specs.Internal.Awaiting.{Gives, GivesAtStart, MayBeGiven, SeesText}
-use Rattle.pnm_read.specs.Internal.RasterRows.{TakesRows, due_after}
 use Rattle.pnm_read.proofs.GivenLaws.{after-append}
 use Rattle.pnm_read.proofs.ReadCalls.{no_fault, call_ok_so, call_err_so, call_seen, nothing_left, some_left}
 use Rattle.pnm_read.proofs.RowsTogether.{rows_are_said}
@@ -52,30 +31,27 @@ unfolding image_said
 no_head is_first state format k b m a f (inl e) = inl (ap (format_said later_said) f ∙ ap (head_said later_said format) e)
 no_head is_first state format k b m a f (inr o) = inr o
 
-rows_due : (format : Format) (head : HeadValue) (raster : Raster) (a : List ℕ) → raster.format ≡ format → raster.shape ≡ head.shape → raster.y ≡ 0
+rows_due : {format : Format} (head : HeadValue) (raster : Raster) (a : List ℕ) → raster.format ≡ format → raster.shape ≡ head.shape → raster.y ≡ 0
     → rows_said later_said format head.shape head.shape.height a ≡ due_at (Row raster) a
-rows_due format head raster a rf rs ry =
+rows_due head raster a rf rs ry =
     let rows : raster.shape.height - raster.y ≡ head.shape.height = let same = ap (λ (s : Shape). s.height) rs in omega arith in
     rw (rf, rows, rs) refl
 
-head_is_said : (is_first : Bool) (format : Format) (head : HeadValue) (raster : Raster) (b m a : List ℕ)
-    → Finds (format_at is_first) (Ok format) b m → Finds (head_at format) (Ok head) m a
-    → raster.format ≡ format → raster.shape ≡ head.shape → raster.y ≡ 0
+head_is_said : (is_first : Bool) {format : Format} (head : HeadValue) (raster : Raster) (b m a : List ℕ) → Finds (format_at is_first) (Ok format) b m
+    → Finds (head_at format) (Ok head) m a → raster.format ≡ format → raster.shape ≡ head.shape → raster.y ≡ 0
     → image_said later_said is_first b ≡ then_said (Begin head) (due_at (Row raster) a)
 unfolding image_said
-head_is_said is_first format head raster b m a f h rf rs ry =
-    ap (format_said later_said) f ∙ ap (head_said later_said format) h ∙ ap (then_said (Begin head)) (rows_due format head raster a rf rs ry)
+head_is_said is_first {format} head raster b m a f h rf rs ry =
+    ap (format_said later_said) f ∙ ap (head_said later_said format) h ∙ ap (then_said (Begin head)) (rows_due head raster a rf rs ry)
 
 -- a header, and the rows that come next of its raster
-pub begins : (is_first : Bool) (format : Format) (head : HeadValue) (raster : Raster) (rows : List (List ℕ)) (packet : Packet) (state : State)
-    (b m t a : List ℕ) → Finds (format_at is_first) (Ok format) b m → Finds (head_at format) (Ok head) m t
-    → raster.format ≡ format → raster.shape ≡ head.shape → raster.y ≡ 0
-    → due_at (Row raster) t ≡ after_messages (row_messages rows) (due_after (length rows) raster a)
-    → after_messages (head_messages (Some head) ++ row_messages rows) (due_after (length rows) raster a)
-    ≡ after_messages (messages_in packet) (state_due state a)
-    → MayBeGiven packet state → GivesAtStart is_first (Ok packet) state b a
-begins is_first format head raster rows packet state b m t a f h rf rs ry come said given =
-    (head_is_said is_first format head raster b m t f h rf rs ry ∙ ap (then_said (Begin head)) come ∙ said, given)
+pub begins : (is_first : Bool) {format : Format} (head : HeadValue) (raster : Raster) (rows : List (List ℕ)) (packet : Packet) (state : State)
+    (b m t a : List ℕ) → Finds (format_at is_first) (Ok format) b m → Finds (head_at format) (Ok head) m t → raster.format ≡ format
+    → raster.shape ≡ head.shape → raster.y ≡ 0 → due_at (Row raster) t ≡ after_messages (row_messages rows) (due_after (length rows) raster a)
+    → after_messages (head_messages (Some head) ++ row_messages rows) (due_after (length rows) raster a) ≡ after_messages (messages_in packet)
+    (state_due state a) → MayBeGiven packet state → GivesAtStart is_first (Ok packet) state b a
+begins is_first head raster rows packet state b m t a f h rf rs ry come said given =
+    (head_is_said is_first head raster b m t f h rf rs ry ∙ ap (then_said (Begin head)) come ∙ said, given)
 
 -- rows that are held come next; or nothing was taken
 pub held_come : {R : Type 0} (raster : Raster) (rows : Option (List (List ℕ))) (mid new : BufferedReader R) (rest : List ℕ)
@@ -92,29 +68,23 @@ held_come {R = R} raster (Some rows) mid new rest raw left taken none =
     rows_are_said later_said raster.format raster.shape (length rows) n (n - length rows) (held_of mid ++ rest) (held_of new ++ rest) rows raw
     (omega (arith, left)) (taken rest)
 
--- no memory for the rows
-pub no_memory : {R A : Type 0} {left : R → Option (List ℕ)} {failures : R → ℕ} {same : R → R → Type 0} {old mid new : BufferedReader R}
-    {o : List ℕ → List ℕ → Type 0} (is_first : Bool) (state : State) (k : InputFault) (x : A) → k ≡ Memory → new ≡ mid
-    → ReadCall left failures same old mid (Ok x) o → ReadCall {A = Packet} left failures same old new (Err k) (GivesAtStart is_first (Err k) state)
-no_memory is_first state k x is kept t = rw kept (call_ok_so x (Err k) (λ e. absurd cc) (λ b a o. inr (inr is)) t)
-
 -- ---- the raster
 
 -- what is said where no row is left
-no_row_said : (raster : Raster) (plain : Bool) (text : List ℕ) → raster.shape.height ≤ raster.y → is_plain_form raster.format.form ≡ plain
+no_row_said : (raster : Raster) {plain : Bool} (text : List ℕ) → raster.shape.height ≤ raster.y → is_plain_form raster.format.form ≡ plain
     → due_at (Row raster) text ≡ then_said ImageEnd (end_said later_said plain text)
 unfolding rows_said
-no_row_said raster plain text none is =
+no_row_said raster text none is =
     let left : raster.shape.height - raster.y ≡ 0 = omega (arith, none) in
     rw (left, ← is) refl
 
 pub plain_image_ends : (raster : Raster) (text : List ℕ) → raster.shape.height ≤ raster.y → is_plain_form raster.format.form ≡ true
     → due_at (Row raster) text ≡ after_messages (end_messages true) (due_at End text)
-plain_image_ends raster text none is = no_row_said raster true text none is
+plain_image_ends raster text none is = no_row_said raster text none is
 
 pub raw_image_ends : (raster : Raster) (text : List ℕ) → raster.shape.height ≤ raster.y → is_plain_form raster.format.form ≡ false
     → due_at (Row raster) text ≡ after_messages (end_messages true) (due_at ImageOrEnd text)
-raw_image_ends raster text none is = no_row_said raster false text none is
+raw_image_ends raster text none is = no_row_said raster text none is
 
 -- what is said of a raster after more of its rows
 after_due : (raster next : Raster) (count : ℕ) (text : List ℕ) → next.format ≡ raster.format → next.shape ≡ raster.shape → next.y ≡ raster.y + count
@@ -156,19 +126,13 @@ unfolding text_said
 first_begins (Ok packet) state b a s = s
 first_begins (Err k) state b a s = s
 
-pub first_call : {R : Type 0} {left : R → Option (List ℕ)} {failures : R → ℕ} {same : R → R → Type 0} {old new : BufferedReader R}
-    (result : Result Packet InputFault) (state : State) → ReadCall left failures same old new result (GivesAtStart true result state)
-    → ReadCall left failures same old new result (Gives FirstImage result state)
-first_call (Ok packet) state t = call_ok_so packet (Ok packet) (no_fault packet ReadFailed) (λ b a o. first_begins (Ok packet) state b a o) t
-first_call (Err k) state t = call_err_so k (λ b a o. first_begins (Err k) state b a o) t
-
 -- after a plain image the stream ends
-pub plain_ends : (packet : Packet) (state : State) (b a : List ℕ) → packet ≡ EndsStream → state ≡ Ended → Gives End (Ok packet) state b a
-plain_ends packet state b a is ss = rw (is, ss) (refl, refl)
+pub plain_ends : {packet : Packet} {state : State} (b a : List ℕ) → packet ≡ EndsStream → state ≡ Ended → Gives End (Ok packet) state b a
+plain_ends b a is ss = rw (is, ss) (refl, refl)
 
 -- after a raw image without a byte more it ends
-raw_ends : (packet : Packet) (state : State) (b a : List ℕ) → b ≡ [] → packet ≡ EndsStream → state ≡ Ended → Gives ImageOrEnd (Ok packet) state b a
-raw_ends packet state b a e is ss = rw (e, is, ss) (later_said-nothing, refl)
+raw_ends : {packet : Packet} {state : State} {b : List ℕ} (a : List ℕ) → b ≡ [] → packet ≡ EndsStream → state ≡ Ended → Gives ImageOrEnd (Ok packet) state b a
+raw_ends a e is ss = rw (e, is, ss) (later_said-nothing, refl)
 
 some_bytes : (text : List ℕ) → (text ≡ [] → ⊥) → 0 < length text
 some_bytes [] n = absurd (n refl)
@@ -189,35 +153,44 @@ seen_next : (ended : Bool) (result : Result Packet InputFault) (state : State) (
 seen_next true result state b m a e seen s = absurd cc
 seen_next false result state b m a e seen s = next_begins result state b a seen.0 (subst (λ (m : List ℕ). GivesAtStart false result state m a) seen.1 s)
 
--- the next image, where the text was seen to go on
-pub next_so : {R : Type 0} {left : R → Option (List ℕ)} {failures : R → ℕ} {same : R → R → Type 0} {old new : BufferedReader R} (ended : Bool)
-    (result : Result Packet InputFault) (state : State) → ended ≡ false
-    → ReadCall left failures same old new result (λ b a. (m : List ℕ) × SeesText (Ok ended) b m × GivesAtStart false result state m a)
-    → ReadCall left failures same old new result (Gives ImageOrEnd result state)
-next_so ended (Ok packet) state e t =
-    call_ok_so packet (Ok packet) (no_fault packet ReadFailed) (λ b a o. seen_next ended (Ok packet) state b o.0 a e o.1 o.2) t
-next_so ended (Err k) state e t = call_err_so k (λ b a o. seen_next ended (Err k) state b o.0 a e o.1 o.2) t
-
 -- the text was seen to end
-pub at_end_so : (ended : Bool) (packet : Packet) (state : State) (b a : List ℕ) → ended ≡ true → SeesText (Ok ended) b a → packet ≡ EndsStream
+pub at_end_so : (ended : Bool) {packet : Packet} {state : State} (b a : List ℕ) → ended ≡ true → SeesText (Ok ended) b a → packet ≡ EndsStream
     → state ≡ Ended → Gives ImageOrEnd (Ok packet) state b a
-at_end_so true packet state b a e seen is ss = raw_ends packet state b a seen.0 is ss
-at_end_so false packet state b a e seen is ss = absurd cc
+at_end_so true b a e seen is ss = raw_ends a seen.0 is ss
+at_end_so false b a e seen is ss = absurd cc
 
 -- ---- whether a byte is left
 
-no_bytes : (bytes held : List ℕ) → bytes ≡ held → true ≡ (length bytes == 0) → held ≡ []
-no_bytes bytes held e n = none_of_length bytes held e (grind (arith, nat_tests, n))
+no_bytes : {bytes held : List ℕ} → bytes ≡ held → true ≡ (length bytes == 0) → held ≡ []
+no_bytes {held} e n = none_of_length held e (grind (arith, nat_tests, n))
 
--- after asking for a byte, the text has ended where none is held
-pub text_seen : {R : Type 0} {left : R → Option (List ℕ)} {failures : R → ℕ} {same : R → R → Type 0} {old input : BufferedReader R} (ended : Bool)
-    (bytes : List ℕ) → ended ≡ (length bytes == 0) → bytes ≡ held_of input → HoldsEnough 1 input
-    → ReadCall {A = Unit {0}} left failures same old input (Ok tt) (Fills (Ok tt))
-    → ReadCall {A = Bool} left failures same old input (Ok ended) (SeesText (Ok ended))
-text_seen {input = input} true bytes is held enough t =
-    let none = no_bytes bytes (held_of input) held is in
-    call_ok_so tt (Ok true) (no_fault true ReadFailed)
-    (λ b a o. let nothing = nothing_left input a none (end_seen input enough none) o.1 in (o.0 ∙ nothing, nothing)) (call_seen t)
-text_seen {input = input} false bytes is held enough t =
-    call_ok_so tt (Ok false) (no_fault false ReadFailed)
-    (λ b a o. (λ none. some_left input bytes a held (sym is) o.1 (sym o.0 ∙ none), sym o.0)) (call_seen t)
+module _ {R : Type 0} {left : R → Option (List ℕ)} {failures : R → ℕ} {same : R → R → Type 0} {old : BufferedReader R} where
+  -- no memory for the rows
+  pub no_memory : {A : Type 0} {mid new : BufferedReader R} {o : List ℕ → List ℕ → Type 0} (is_first : Bool) (state : State) {k : InputFault} {x : A}
+      → k ≡ Memory → new ≡ mid → ReadCall left failures same old mid (Ok x) o → ReadCall {A = Packet} left failures same old new (Err k)
+      (GivesAtStart is_first (Err k) state)
+  no_memory is_first state {k} is kept t = rw kept (call_ok_so (Err k) (λ e. absurd cc) (λ b a o. inr (inr is)) t)
+
+  pub first_call : {new : BufferedReader R} (result : Result Packet InputFault) (state : State)
+      → ReadCall left failures same old new result (GivesAtStart true result state)
+      → ReadCall left failures same old new result (Gives FirstImage result state)
+  first_call (Ok packet) state t = call_ok_so (Ok packet) (no_fault packet ReadFailed) (λ b a o. first_begins (Ok packet) state b a o) t
+  first_call (Err k) state t = call_err_so (λ b a o. first_begins (Err k) state b a o) t
+
+  -- the next image, where the text was seen to go on
+  pub next_so : {new : BufferedReader R} {ended : Bool} (result : Result Packet InputFault) (state : State) → ended ≡ false
+      → ReadCall left failures same old new result (λ b a. (m : List ℕ) × SeesText (Ok ended) b m × GivesAtStart false result state m a)
+      → ReadCall left failures same old new result (Gives ImageOrEnd result state)
+  next_so {ended} (Ok packet) state e t = call_ok_so (Ok packet) (no_fault packet ReadFailed) (λ b a o. seen_next ended (Ok packet) state b o.0 a e o.1 o.2) t
+  next_so {ended} (Err k) state e t = call_err_so (λ b a o. seen_next ended (Err k) state b o.0 a e o.1 o.2) t
+
+  -- after asking for a byte, the text has ended where none is held
+  pub text_seen : {input : BufferedReader R} (ended : Bool) {bytes : List ℕ} → ended ≡ (length bytes == 0) → bytes ≡ held_of input → HoldsEnough 1 input
+      → ReadCall {A = Unit {0}} left failures same old input (Ok tt) (Fills (Ok tt)) → ReadCall {A = Bool} left failures same old input (Ok ended)
+      (SeesText (Ok ended))
+  text_seen {input = input} true is held enough t =
+      let none = no_bytes held is in
+      call_ok_so (Ok true) (no_fault true ReadFailed)
+      (λ b a o. let nothing = nothing_left input a none (end_seen input enough none) o.1 in (o.0 ∙ nothing, nothing)) (call_seen t)
+  text_seen {input = input} false {bytes} is held enough t =
+      call_ok_so (Ok false) (no_fault false ReadFailed) (λ b a o. (λ none. some_left input bytes held (sym is) o.1 (sym o.0 ∙ none), sym o.0)) (call_seen t)

@@ -1,6 +1,6 @@
 -- Comments, tests of last bytes and digits of a text that is read on.
-use Rattle.std.proofs.Common.{◌≡◌, ℕ, Bool, true, false, ◌==◌, List, [], ◌∷◌, ◌++◌, fold, refl, ap}
-use Rattle.pnm_read.specs.HeaderTexts.{commented, uncommented_from, ends_in_comment, ends_by}
+use Rattle.pnm_read.proofs.Words.{◌≡◌, ℕ, Bool, true, false, ◌==◌, List, [], ◌∷◌, ◌++◌, fold, refl, ap, commented, ends_in_comment}
+use Rattle.pnm_read.specs.HeaderTexts.{uncommented_from, ends_by}
 
 -- whether what follows a text is inside a comment, as it goes on
 abbrev pub commented_after : Bool → List ℕ → Bool

@@ -1,20 +1,8 @@
 -- A source over the bytes of a text, after which its reader fails: what it says of each text that begins with them.
-use Rattle.std.proofs.Common.{◌≡◌, inl, inr, ℕ, Bool, true, List, [], ◌∷◌, ◌++◌, Option, Some, None, Result, Ok, Err, refl}
-use Rattle.std.proofs.Common.{sym, ap, ◌∙◌, append_assoc}
-use Rattle.std.specs.Prelude.{IfOk}
-use Rattle.std.specs.Io.KnownBytes.{Consumes}
-use Rattle.std.proofs.lemmas.List.{append_cancel_right}
-use Rattle.pnm_image.specs.declared.message.Message.{Message}
-use Rattle.pnm_image.specs.declared.packet.Packet.{Packet}
-use Rattle.pnm_image.specs.Packets.{messages_in}
-use Rattle.pnm_read.specs.declared.fault.InputFault.{InputFault}
-use Rattle.pnm_read.specs.declared.source.Source.{Source}
-use Rattle.pnm_read.specs.Said.{IsOutsideFault}
-use Rattle.pnm_read.specs.Said.{said_of, fault_of}
-use Rattle.pnm_read.specs.Sources.{reader_of, MayGive, MayGiveMore, SeesEnd, HasGiven, Tells}
+use Rattle.pnm_read.proofs.Words.{◌≡◌, inl, inr, ℕ, Bool, true, List, [], ◌∷◌, ◌++◌, Option, Some, None, Result, Ok, Err, refl, sym, ap, ◌∙◌, append_assoc}
+use Rattle.pnm_read.proofs.Words.{IfOk, Consumes, append_cancel_right, Message, Packet, messages_in, InputFault, Source, IsOutsideFault, said_of, fault_of}
+use Rattle.pnm_read.proofs.Words.{reader_of, MayGive, MayGiveMore, SeesEnd, HasGiven, Tells, OpenReader, IsDecided}
 use Rattle.pnm_read.proofs.Consumed.{consumes_then}
-use Rattle.pnm_read.specs.declared.open_reader.OpenReader.{OpenReader}
-use Rattle.pnm_read.specs.ImageEnds.{IsDecided}
 
 -- what the reader tells of what is left
 abbrev pub left_of : OpenReader → Option (List ℕ)
@@ -53,9 +41,9 @@ rest_is : (text read rest : List ℕ) → text ++ 0 ∷ [] ≡ read ++ (rest ++ 
 rest_is text read rest e = append_cancel_right text (read ++ rest) (0 ∷ []) (e ∙ sym (append_assoc read rest (0 ∷ [])))
 
 -- what is said of all that may follow what was read is said of the text and of all that begins with it
-decided_by : (text read rest : List ℕ) (given : List Message) (fault : Option InputFault) → text ≡ read ++ rest
+decided_by : {text : List ℕ} (read rest : List ℕ) (given : List Message) (fault : Option InputFault) → text ≡ read ++ rest
     → ((more : List ℕ) → (said_of (read ++ more) ≡ given) × (fault_of (read ++ more) ≡ fault)) → IsDecided text
-decided_by text read rest given fault whole said more =
+decided_by {text} read rest given fault whole said more =
     let longer : text ++ more ≡ read ++ (rest ++ more) = ap (λ (t : List ℕ). t ++ more) whole ∙ append_assoc read rest more in
     let here = said rest in
     let there = said (rest ++ more) in (
@@ -64,32 +52,31 @@ decided_by text read rest given fault whole said more =
     )
 
 -- the stream has ended
-pub ended_is_decided : (text : List ℕ) (old new : Source OpenReader) → Reading text old → Tells left_of old (Ok None) new
+pub ended_is_decided : {text : List ℕ} {old new : Source OpenReader} → Reading text old → Tells left_of old (Ok None) new
     → (SeesEnd left_of old → MayGiveMore left_of new) → IsDecided text
-ended_is_decided text old new r tells unread =
+ended_is_decided {text} {old} {new} r tells unread =
     let read : List ℕ = r.read ++ tells.more in
     let whole = rest_is text read (reader_of new).rest.now
     (consumes_then (Some (text ++ 0 ∷ [])) (left_of (reader_of old)) (left_of (reader_of new)) r.read tells.more r.consumed tells.consumed) in
     let told = tells.told r.read r.given r.has_given in
-    decided_by text read (reader_of new).rest.now r.given None whole (λ more. told.1 more (all_may_come new (unread r.end) more))
+    decided_by read (reader_of new).rest.now r.given None whole (λ more. told.1 more (all_may_come new (unread r.end) more))
 
 -- the text has a fault of its own
-pub fault_is_decided : (text : List ℕ) (old new : Source OpenReader) (fault : InputFault) → Reading text old → Tells left_of old (Err fault) new
+pub fault_is_decided : {text : List ℕ} {old new : Source OpenReader} {fault : InputFault} → Reading text old → Tells left_of old (Err fault) new
     → (SeesEnd left_of old → MayGiveMore left_of new) → (IsOutsideFault fault → ⊥) → IsDecided text
-fault_is_decided text old new fault r tells unread own =
+fault_is_decided {text} {old} {new} {fault} r tells unread own =
     let read : List ℕ = r.read ++ tells.more in
     let whole = rest_is text read (reader_of new).rest.now
     (consumes_then (Some (text ++ 0 ∷ [])) (left_of (reader_of old)) (left_of (reader_of new)) r.read tells.more r.consumed tells.consumed) in
     let told = tells.told r.read r.given r.has_given in
-    decided_by text read (reader_of new).rest.now r.given (Some fault) whole (λ more.
-    elim (told more (all_may_come new (unread r.end) more)) [
+    decided_by read (reader_of new).rest.now r.given (Some fault) whole (λ more. elim (told more (all_may_come new (unread r.end) more)) [
       | inl said ↦ said
       | inr outside ↦ absurd (own outside.0)
     ])
 
 -- as it is answered
-pub fault_told : (text : List ℕ) (old new : Source OpenReader) (fault : InputFault) (result : Result Bool InputFault) → Reading text old
+pub fault_told : {text : List ℕ} {old new : Source OpenReader} {fault : InputFault} (result : Result Bool InputFault) → Reading text old
     → Tells left_of old (Err fault) new → (SeesEnd left_of old → MayGiveMore left_of new) → (result ≡ Ok true → IsOutsideFault fault → ⊥)
     → IfOk result (λ told. told ≡ true → IsDecided text)
-fault_told text old new fault (Err k) r tells unread own = tt
-fault_told text old new fault (Ok told) r tells unread own = λ is. fault_is_decided text old new fault r tells unread (own (ap Ok is))
+fault_told (Err k) r tells unread own = tt
+fault_told (Ok told) r tells unread own = λ is. fault_is_decided r tells unread (own (ap Ok is))

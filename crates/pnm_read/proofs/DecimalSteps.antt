@@ -1,24 +1,16 @@
 -- The scanner of a number of a plain raster, byte by byte.
-use Rattle.std.proofs.Common.{◌≡◌, inl, ℕ, ◌+◌, ◌-◌, ◌*◌, Bool, true, false, not, ◌&&◌, if◌then◌else◌, List, [], ◌∷◌, ◌++◌, refl, sym, ap, ◌∙◌, arith, subst}
-use Rattle.std.proofs.lemmas.Bool.{and_parts, and_right, not-true}
-use Rattle.std.proofs.lemmas.Bool.Decides.{nat_tests}
-use Rattle.std.proofs.lemmas.List.{length-append}
-use Rattle.pnm_read.specs.declared.scan_status.ScanStatus.{ScanStatus}
-use Rattle.pnm_read.specs.declared.scan_status.ScanStatus.TheVariants.{GoesOn, EndsWith, EndsBefore, Fails}
-use Rattle.pnm_read.specs.declared.decimal.DecimalScanner.{DecimalScanner}
-use Rattle.pnm_read.specs.HeaderTexts.{is_line_end, commented, ends_in_comment, ends_by, uncommented_from, number_in}
-use Rattle.pnm_image.specs.Texts.{is_digit}
-use Rattle.pnm_read.specs.Items.{decimal_item}
-use Rattle.pnm_read.specs.Internal.Scans.{JudgesByte}
-use Rattle.pnm_read.specs.Internal.Saturation.{saturate_u32, with_digit}
-use Rattle.pnm_read.specs.Internal.Scanners.{IsDecimalAfter, IsDecimalWhole, JudgesDecimal, PushesDecimal, is_numeral_byte}
+use Rattle.pnm_read.proofs.Words.{◌≡◌, inl, ℕ, ◌+◌, ◌-◌, ◌*◌, Bool, true, false, not, ◌&&◌, if◌then◌else◌, List, [], ◌∷◌, ◌++◌, refl, sym, ap, ◌∙◌, arith}
+use Rattle.pnm_read.proofs.Words.{subst, and_parts, and_right, not-true, nat_tests, length-append, ScanStatus, GoesOn, EndsWith, EndsBefore, Fails}
+use Rattle.pnm_read.proofs.Words.{DecimalScanner, is_line_end, commented, ends_in_comment, number_in, is_digit, decimal_item, JudgesByte, saturate_u32}
+use Rattle.pnm_read.proofs.Words.{with_digit, IsDecimalAfter, IsDecimalWhole, JudgesDecimal, PushesDecimal, is_numeral_byte}
+use Rattle.pnm_read.specs.HeaderTexts.{ends_by, uncommented_from}
 use Rattle.pnm_read.proofs.CommentLaws.{commented_after-push}
 use Rattle.pnm_read.proofs.PieceLaws.{number_in-digit, number_in-other, ends_in_digit-push, DecimalTold, decimal_told}
 use Rattle.pnm_read.proofs.WordLaws.{digit_is_not_sharp}
 
-pub decimal_fresh : (s : DecimalScanner) → s.length ≡ 0 → s.in_comment ≡ false → s.in_number ≡ false → s.value ≡ 0 → IsDecimalAfter s []
+pub decimal_fresh : {s : DecimalScanner} → s.length ≡ 0 → s.in_comment ≡ false → s.in_number ≡ false → s.value ≡ 0 → IsDecimalAfter s []
 unfolding ends_by uncommented_from
-decimal_fresh s l c d v = record { length_is = l; comment = c; digit = d; value = v }
+decimal_fresh l c d v = record { length_is = l; comment = c; digit = d; value = v }
 
 digit_ends_no_line : (b : ℕ) → is_digit b ≡ true → is_line_end b ≡ false
 digit_ends_no_line b e = grind (arith, nat_tests)
@@ -52,9 +44,9 @@ decimal_after old new b before a p = record {
 decimal_never_with : (before : List ℕ) (b : ℕ) → decimal_item before b ≡ EndsWith → ⊥
 decimal_never_with before b e = subst (DecimalTold before b) e (decimal_told before b)
 
-pub decimal_goes_on : (old new : DecimalScanner) (b : ℕ) (j : ScanStatus) → j ≡ GoesOn → JudgesDecimal old b j → PushesDecimal old b new
+pub decimal_goes_on : {old new : DecimalScanner} {b : ℕ} (j : ScanStatus) → j ≡ GoesOn → JudgesDecimal old b j → PushesDecimal old b new
     → JudgesByte decimal_item (IsDecimalAfter old) (IsDecimalAfter new) (IsDecimalWhole new) b j
-decimal_goes_on old new b j is h p before a = inl (h before a, rw is (decimal_after old new b before a p))
+decimal_goes_on {old} {new} {b} j is h p before a = inl (h before a, rw is (decimal_after old new b before a p))
 
 pub decimal_stops : (s : DecimalScanner) (b : ℕ) (j : ScanStatus) → (j ≡ GoesOn → ⊥) → JudgesDecimal s b j
     → JudgesByte decimal_item (IsDecimalAfter s) (IsDecimalAfter s) (IsDecimalWhole s) b j

@@ -1,31 +1,18 @@
 -- What a text's fault can be: neither a failed read nor want of memory.
-use Rattle.pnm_image.specs.Formats.{is_plain_form}
-use Rattle.std.proofs.Common.{◌≡◌, ℕ, zero, suc, ◌*◌, ◌+◌, Bool, true, false, not, ◌&&◌, ◌||◌, if◌then◌else◌, List, [], ◌∷◌, length, take, Some, None, Result}
-use Rattle.std.proofs.Common.{Ok, Err, subst}
-use Rattle.std.specs.Prelude.{nat_le}
-use Rattle.std.specs.List.{concat}
-use Rattle.pnm_image.specs.declared.shape.Shape.{Shape}
-use Rattle.pnm_image.specs.declared.shape.Kind.{Kind}
-use Rattle.pnm_image.specs.declared.shape.Kind.TheVariants.{Bit, Gray, Color, Pam}
-use Rattle.pnm_image.specs.Heads.{HeadValue, row_length}
-use Rattle.pnm_read.specs.declared.fault.InputFault.{InputFault}
-use Rattle.pnm_read.specs.declared.fault.InputFault.TheVariants.{TooLong, RasterCut, SampleAboveMaxval, BadSample, ReadFailed, Memory}
-use Rattle.pnm_image.specs.declared.format.Format.{Format}
-use Rattle.pnm_read.specs.declared.scan_status.ScanStatus.TheVariants.{EndsWith, EndsBefore}
-use Rattle.pnm_image.specs.declared.sample_width.SampleWidth.{SampleWidth}
-use Rattle.pnm_image.specs.declared.sample_width.SampleWidth.TheVariants.{Bits, Bytes, Words}
-use Rattle.pnm_read.specs.HeaderTexts.{is_apart, begins_apart, ends_in_comment, number_in}
-use Rattle.pnm_image.specs.Texts.{is_digit}
-use Rattle.pnm_image.specs.SampleWidths.{sample_width_of}
-use Rattle.pnm_read.specs.Items.{◌>>=◌, piece_from, raw_item, ends_in_digit, is_complete, decimal_item, decimal_end, is_pixel, pixel_item, pixel_end, pixel_in}
-use Rattle.pnm_read.specs.Items.{plain_pixel, sample_item, plain_decimal, plain_sample, after_last_item}
-use Rattle.pnm_read.specs.Said.{Said, in_turn, units_in_row, units_at, raw_row, plain_row, last_plain_row, row_in_form, row_at, rows_said, head_said}
-use Rattle.pnm_read.specs.Said.{format_said, image_said, later_said_in, later_said, format_at, head_at, text_said, fault_of}
+use Rattle.pnm_read.proofs.Words.{is_plain_form, ◌≡◌, ℕ, zero, suc, ◌*◌, ◌+◌, Bool, true, false, not, ◌&&◌, ◌||◌, if◌then◌else◌, List, [], ◌∷◌, length, take}
+use Rattle.pnm_read.proofs.Words.{Some, None, Result, Ok, Err, subst, nat_le, concat, Shape, Kind, Bit, Gray, Color, Pam, HeadValue, row_length, InputFault}
+use Rattle.pnm_read.proofs.Words.{TooLong, RasterCut, SampleAboveMaxval, BadSample, ReadFailed, Memory, Format, EndsWith, EndsBefore, SampleWidth, Bits, Bytes}
+use Rattle.pnm_read.proofs.Words.{Words, is_apart, begins_apart, ends_in_comment, number_in, is_digit, sample_width_of, ◌>>=◌, piece_from, ends_in_digit}
+use Rattle.pnm_read.proofs.Words.{is_complete, decimal_end, is_pixel, pixel_end, pixel_in, sample_item, plain_sample, Said, units_in_row, units_at, row_in_form}
+use Rattle.pnm_read.proofs.Words.{row_at, head_said, format_said, format_at, head_at, fault_of, GAP_LIMIT}
+use Rattle.pnm_read.specs.Items.{raw_item, decimal_item, pixel_item}
+use Rattle.pnm_read.specs.Items.{plain_pixel, plain_decimal, after_last_item}
+use Rattle.pnm_read.specs.Said.{in_turn, raw_row, plain_row, last_plain_row, rows_said}
+use Rattle.pnm_read.specs.Said.{image_said, later_said_in, later_said, text_said}
 use Rattle.pnm_read.proofs.EndSaid.{end_said}
 use Rattle.pnm_read.proofs.RowsInTurn.{said_from}
 use Rattle.pnm_read.proofs.HeaderFaults.{EndsByText, FailsByText, IsJudgedByText, bind_by_text, when_by_text, piece_by_text, three_by_text, format_by_text}
 use Rattle.pnm_read.proofs.HeaderFaults.{head_by_text}
-use Rattle.pnm_read.specs.declared.decimal.TheConstants.{GAP_LIMIT}
 
 -- ---- rows
 

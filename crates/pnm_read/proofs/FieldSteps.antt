@@ -1,23 +1,11 @@
 -- The fields of a header, line by line.
-use Rattle.std.proofs.Common.{◌≡◌, ◌⊎◌, inl, inr, ℕ, ◌≤◌, Bool, true, false, not, ◌==◌, if◌then◌else◌, List, [], ◌∷◌, ◌++◌, length, Option, Some, None, refl}
-use Rattle.std.proofs.Common.{sym, ap, subst, ◌∙◌, arith}
-use Rattle.std.specs.List.{list_all}
-use Rattle.std.proofs.lemmas.Bool.{ltb-false, ne_eqb}
-use Rattle.pnm_image.specs.declared.limits.TheConstants.{MAX_TUPLE_TYPE_LENGTH}
-use Rattle.pnm_read.specs.declared.fault.InputFault.TheVariants.{BadPamLine, BadNumber, DuplicateField, TooLong, Memory}
-use Rattle.pnm_read.specs.declared.scan_status.ScanStatus.{ScanStatus}
-use Rattle.pnm_read.specs.declared.scan_status.ScanStatus.TheVariants.{GoesOn, EndsWith, Fails}
-use Rattle.pnm_read.specs.declared.fields.Fields.{Fields}
-use Rattle.pnm_read.specs.declared.line.Field.{Field}
-use Rattle.pnm_read.specs.declared.line.Field.TheVariants.{Width, Height, Depth, Maxval}
-use Rattle.pnm_read.specs.declared.line.LineKind.TheVariants.{Nothing, Number, TupleType, End}
-use Rattle.pnm_image.specs.Texts.{is_digit, decimal_value}
-use Rattle.pnm_read.specs.Internal.Saturation.{saturate_u32}
-use Rattle.pnm_read.specs.PamLines.{second_token, value_of, line_kind, field_values, tuple_type_in}
-use Rattle.pnm_read.specs.Internal.LineWalks.{after_first, joined_with}
-use Rattle.pnm_read.specs.Items.{line_item, number_item, is_type_too_long, tuple_type_item}
-use Rattle.pnm_read.specs.Internal.PamScanners.{number_of, held_number, IsFields, TakesLine, JudgesLine, field_number, with_number, SetsNumber, IsWithTupleType}
-use Rattle.pnm_read.specs.Internal.PamScanners.{SetsTupleType, AddsTupleType}
+use Rattle.pnm_read.proofs.Words.{◌≡◌, ◌⊎◌, inl, inr, ℕ, ◌≤◌, Bool, true, false, not, ◌==◌, if◌then◌else◌, List, [], ◌∷◌, ◌++◌, length, Option, Some, None}
+use Rattle.pnm_read.proofs.Words.{refl, sym, ap, subst, ◌∙◌, arith, list_all, ltb-false, ne_eqb, MAX_TUPLE_TYPE_LENGTH, BadPamLine, BadNumber, DuplicateField}
+use Rattle.pnm_read.proofs.Words.{TooLong, Memory, ScanStatus, GoesOn, EndsWith, Fails, Fields, Field, Width, Height, Depth, Maxval, Nothing, Number, TupleType}
+use Rattle.pnm_read.proofs.Words.{End, is_digit, decimal_value, saturate_u32, second_token, value_of, line_kind, tuple_type_in, after_first, joined_with}
+use Rattle.pnm_read.proofs.Words.{line_item, number_item, is_type_too_long, tuple_type_item, number_of, held_number, IsFields, TakesLine, JudgesLine}
+use Rattle.pnm_read.proofs.Words.{field_number, with_number, SetsNumber, IsWithTupleType, SetsTupleType, AddsTupleType}
+use Rattle.pnm_read.specs.PamLines.{field_values}
 use Rattle.pnm_read.proofs.LineKinds.{is_number, is_type, values_same, values_first, type_same, type_joined}
 use Rattle.pnm_read.proofs.PamLineLaws.{line_is_judged}
 use Rattle.pnm_read.proofs.WalkLaws.{second_token_is, tuple_type_in-nil}
@@ -62,30 +50,29 @@ end_number Depth = refl
 end_number Maxval = refl
 
 -- a line was judged, and what it says was taken
-judges_so : (s : Fields) (lines : List (List ℕ)) (line : List ℕ) (j k : ScanStatus) → line_item lines line ≡ k → j ≡ k → TakesLine s k (lines ++ line ∷ [])
+judges_so : (s : Fields) (lines : List (List ℕ)) (line : List ℕ) {j k : ScanStatus} → line_item lines line ≡ k → j ≡ k → TakesLine s k (lines ++ line ∷ [])
     → ((j ≡ line_item lines line) × TakesLine s j (lines ++ line ∷ [])) ⊎ (j ≡ Fails Memory)
-judges_so s lines line j k item is t = inl (is ∙ sym item, subst (λ (k : ScanStatus). TakesLine s k (lines ++ line ∷ [])) (sym is) t)
+judges_so s lines line {k} item is t = inl (is ∙ sym item, subst (λ (k : ScanStatus). TakesLine s k (lines ++ line ∷ [])) (sym is) t)
 
 -- a line that says nothing
 pub line_of_nothing : (s : Fields) (line : List ℕ) → line_kind line ≡ Nothing → JudgesLine s line s GoesOn
 line_of_nothing s line e lines f =
-    judges_so s lines line GoesOn GoesOn (line_is_judged Nothing lines line e) refl
+    judges_so s lines line (line_is_judged lines line e) refl
     (fields_same s lines line (λ field. ap (is_number field) e ∙ nothing_number field) (ap is_type e) f)
 
 -- the last line
 pub line_of_end : (s : Fields) (line : List ℕ) → line_kind line ≡ End → JudgesLine s line s EndsWith
 line_of_end s line e lines f =
-    judges_so s lines line EndsWith EndsWith (line_is_judged End lines line e) refl
-    (fields_same s lines line (λ field. ap (is_number field) e ∙ end_number field) (ap is_type e) f)
+    judges_so s lines line (line_is_judged lines line e) refl (fields_same s lines line (λ field. ap (is_number field) e ∙ end_number field) (ap is_type e) f)
 
 -- ---- a number
 
 -- the number of a field that is held
-held_is : (field : Field) (s : Fields) (lines : List (List ℕ)) → IsFields s lines → field_number field s ≡ held_number (field_values field lines)
-held_is Width s lines f = f.width
-held_is Height s lines f = f.height
-held_is Depth s lines f = f.depth
-held_is Maxval s lines f = f.maxval
+held_is : (field : Field) {s : Fields} {lines : List (List ℕ)} → IsFields s lines → field_number field s ≡ held_number (field_values field lines)
+held_is Width f = f.width
+held_is Height f = f.height
+held_is Depth f = f.depth
+held_is Maxval f = f.maxval
 
 -- the fields of the lines with one more, which has the first number of a field
 with_width : (old : Fields) (lines : List (List ℕ)) (line : List ℕ) → line_kind line ≡ Number Width → field_values Width lines ≡ [] → IsFields old lines
@@ -175,18 +162,18 @@ number_by false true (v ∷ values) number field old new j lines s f =
     (s ∙ sym twice, subst (λ (k : ScanStatus). TakesLine new k lines) (sym twice) tt)
 
 -- the line of a number
-pub line_of_number : (field : Field) (old new : Fields) (line rest : List ℕ) (j : ScanStatus) → line_kind line ≡ Number field → rest ≡ after_first line
-    → SetsNumber old field rest new j → JudgesLine old line new j
-line_of_number field old new line rest j e is s lines f =
+pub line_of_number : {field : Field} (old new : Fields) (line : List ℕ) {rest : List ℕ} (j : ScanStatus) → line_kind line ≡ Number field
+    → rest ≡ after_first line → SetsNumber old field rest new j → JudgesLine old line new j
+line_of_number {field} old new line j e is s lines f =
     let sets : SetsNumber old field (after_first line) new j = subst (λ (l : List ℕ). SetsNumber old field l new j) is s in
     let of_second : Sets (length (second_token line) == 0) (number_of (second_token line)) (field_number field old) field old new j =
     subst (λ (token : List ℕ). Sets (length token == 0) (number_of token) (field_number field old) field old new j) (sym (second_token_is line)) sets in
     let held : Sets (length (second_token line) == 0) (number_of (second_token line)) (held_number (field_values field lines)) field old new j =
-    subst (λ (h : Option ℕ). Sets (length (second_token line) == 0) (number_of (second_token line)) h field old new j) (held_is field old lines f) of_second in
+    subst (λ (h : Option ℕ). Sets (length (second_token line) == 0) (number_of (second_token line)) h field old new j) (held_is field f) of_second in
     let p = number_by (length (second_token line) == 0) (list_all is_digit (second_token line)) (field_values field lines)
     (saturate_u32 (decimal_value (second_token line))) field old new j (lines ++ line ∷ []) held
     (λ same none. subst (λ (s : Fields). IsFields s (lines ++ line ∷ [])) (sym same) (with_field field old lines line e none f)) in
-    judges_so new lines line j (number_item lines field line) (line_is_judged (Number field) lines line e) p.0 p.1
+    judges_so new lines line (line_is_judged lines line e) p.0 p.1
 
 -- ---- a part of the tuple type
 
@@ -211,14 +198,14 @@ type_by true old new tuple_type j lines s f = (s, tt)
 type_by false old new tuple_type j lines s f = (s.0, f refl s.1)
 
 -- the line of a part of the tuple type
-pub line_of_type : (old new : Fields) (line text : List ℕ) (j : ScanStatus) → line_kind line ≡ TupleType → text ≡ value_of line → AddsTupleType old text new j
-    → JudgesLine old line new j
-line_of_type old new line text j e is (inr memory) lines f = inr memory
-line_of_type old new line text j e is (inl s) lines f =
+pub line_of_type : (old new : Fields) (line : List ℕ) {text : List ℕ} (j : ScanStatus) → line_kind line ≡ TupleType → text ≡ value_of line
+    → AddsTupleType old text new j → JudgesLine old line new j
+line_of_type old new line j e is (inr memory) lines f = inr memory
+line_of_type old new line {text} j e is (inl s) lines f =
     let all : joined_with old.tuple_type.items text ≡ tuple_type_in (lines ++ line ∷ []) =
     ap (λ (l : List ℕ). joined_with l text) f.tuple_type ∙ ap (joined_with (tuple_type_in lines)) is ∙ sym (type_joined lines line (ap is_type e)) in
     let sets : SetsTupleType (is_type_too_long (tuple_type_in (lines ++ line ∷ []))) old (tuple_type_in (lines ++ line ∷ [])) new j =
     subst (λ (l : List ℕ). SetsTupleType (is_type_too_long l) old l new j) all s in
     let p = type_by (is_type_too_long (tuple_type_in (lines ++ line ∷ []))) old new (tuple_type_in (lines ++ line ∷ [])) j (lines ++ line ∷ []) sets
     (λ short w. with_type old new lines line e f w (ltb-false MAX_TUPLE_TYPE_LENGTH (length (tuple_type_in (lines ++ line ∷ []))) short)) in
-    judges_so new lines line j (tuple_type_item lines line) (line_is_judged TupleType lines line e) p.0 p.1
+    judges_so new lines line (line_is_judged lines line e) p.0 p.1

@@ -1,7 +1,5 @@
 -- What is said after messages that were given.
-use Rattle.std.proofs.Common.{◌≡◌, List, [], ◌∷◌, ◌++◌, refl, ap}
-use Rattle.pnm_image.specs.declared.message.Message.{Message}
-use Rattle.pnm_read.specs.Said.{Said, then_said, after_messages}
+use Rattle.pnm_read.proofs.Words.{◌≡◌, List, [], ◌∷◌, ◌++◌, refl, ap, Message, Said, then_said, after_messages}
 
 pub messages_after : (given : List Message) (s : Said) → (after_messages given s).messages ≡ given ++ s.messages
 messages_after [] s = refl

@@ -1,33 +1,17 @@
 -- Steps that fail by a fault of the text, and that the magic and the header do: neither by a failed read nor for want of memory.
-use Rattle.std.proofs.Common.{ℕ, Bool, true, false, not, ◌==◌, ◌||◌, ◌&&◌, if◌then◌else◌, List, [], ◌∷◌, ◌++◌, length, Option, Some, None, Result, Ok, Err}
-use Rattle.std.specs.Prelude.{nat_le, nat_lt}
-use Rattle.std.specs.List.{list_all}
-use Rattle.pnm_image.specs.declared.head.HeadFault.{HeadFault}
+use Rattle.pnm_read.proofs.Words.{ℕ, Bool, true, false, not, ◌==◌, ◌||◌, ◌&&◌, if◌then◌else◌, List, [], ◌∷◌, ◌++◌, length, Option, Some, None, Result, Ok, Err}
+use Rattle.pnm_read.proofs.Words.{nat_le, nat_lt, list_all, HeadFault, Kind, Bit, Gray, Color, Pam, Shape, HeadValue, head_value, row_length, shape_fault}
+use Rattle.pnm_read.proofs.Words.{InputFault, BadMagic, TooLong, BadNumber, BadPamLine, DuplicateField, MissingField, PlainInStream, ReadFailed, Memory, Format}
+use Rattle.pnm_read.proofs.Words.{ScanStatus, GoesOn, EndsWith, EndsBefore, Fails, Field, LineKind, Nothing, Number, TupleType, End, Unknown, numbers_in}
+use Rattle.pnm_read.proofs.Words.{is_digit, format_of, is_plain_form, number_count, shape_of, ended_lines, last_line, second_token, line_kind, field_values}
+use Rattle.pnm_read.proofs.Words.{tuple_type_in, ◌>>=◌, header_limit, is_bad_in_header, is_delimiter, header_end, fault_of_head, pam_limit, number_item}
+use Rattle.pnm_read.proofs.Words.{is_type_too_long, tuple_type_item, line_item, shape_in, head_by, head_at, MAX_DEPTH, MAX_MAXVAL, MAX_ROW_LENGTH, MAX_SIDE}
 use Rattle.pnm_image.specs.declared.head.HeadFault.TheVariants as heads
-use Rattle.pnm_image.specs.declared.shape.Kind.{Kind}
-use Rattle.pnm_image.specs.declared.shape.Kind.TheVariants.{Bit, Gray, Color, Pam}
-use Rattle.pnm_image.specs.declared.shape.Shape.{Shape}
-use Rattle.pnm_image.specs.Heads.{HeadValue, head_value, row_length, shape_fault}
-use Rattle.pnm_read.specs.declared.fault.InputFault.{InputFault}
-use Rattle.pnm_read.specs.declared.fault.InputFault.TheVariants.{BadMagic, TooLong, BadNumber, BadPamLine, DuplicateField, MissingField, PlainInStream}
-use Rattle.pnm_read.specs.declared.fault.InputFault.TheVariants.{ReadFailed, Memory}
-use Rattle.pnm_image.specs.declared.format.Format.{Format}
-use Rattle.pnm_read.specs.declared.scan_status.ScanStatus.{ScanStatus}
-use Rattle.pnm_read.specs.declared.scan_status.ScanStatus.TheVariants.{GoesOn, EndsWith, EndsBefore, Fails}
-use Rattle.pnm_read.specs.declared.line.Field.{Field}
-use Rattle.pnm_read.specs.declared.line.LineKind.{LineKind}
-use Rattle.pnm_read.specs.declared.line.LineKind.TheVariants.{Nothing, Number, TupleType, End, Unknown}
-use Rattle.pnm_read.specs.HeaderTexts.{numbers_in}
-use Rattle.pnm_image.specs.Texts.{is_digit}
-use Rattle.pnm_image.specs.Formats.{format_of, is_plain_form}
-use Rattle.pnm_read.specs.HeaderNumbers.{number_count, shape_of}
-use Rattle.pnm_read.specs.PamLines.{ended_lines, last_line, second_token, line_kind, field_values, tuple_type_in}
-use Rattle.pnm_read.specs.Items.{◌>>=◌, piece_from, first_magic_item, second_magic_item, header_limit, is_bad_in_header, is_delimiter, header_item, header_end}
-use Rattle.pnm_read.specs.Items.{fault_of_head, numbers_item, line_feed_item, pam_limit, number_item, is_type_too_long, tuple_type_item, line_item, pam_item}
-use Rattle.pnm_read.specs.Items.{shape_in, lines_item}
-use Rattle.pnm_read.specs.Said.{format_at, pnm_head_at, pam_head_at, head_by, head_at}
+use Rattle.pnm_read.specs.Items.{piece_from, first_magic_item, second_magic_item, header_item}
+use Rattle.pnm_read.specs.Items.{numbers_item, line_feed_item, pam_item}
+use Rattle.pnm_read.specs.Items.{lines_item}
+use Rattle.pnm_read.specs.Said.{format_at, pnm_head_at, pam_head_at}
 use Rattle.pnm_read.proofs.PamLineLaws.{line_by}
-use Rattle.pnm_image.specs.declared.limits.TheConstants.{MAX_DEPTH, MAX_MAXVAL, MAX_ROW_LENGTH, MAX_SIDE}
 
 -- ---- faults of a text, and steps that fail by one
 

@@ -1,25 +1,14 @@
 -- The header of a text: how its bytes are judged, what is read of them, and that a header that is read is spelled.
 pub use Rattle.pnm_read.proofs.ShapeLaws.{limits_of}
-use Rattle.std.proofs.Common.{◌≡◌, ◌≢◌, ◌⊎◌, inl, inr, ℕ, ◌+◌, ◌-◌, ◌*◌, ◌<◌, ◌≤◌, Bool, true, false, not, ◌||◌, ◌&&◌, ◌==◌, if◌then◌else◌, List, [], ◌∷◌, ◌++◌}
-use Rattle.std.proofs.Common.{length, Result, Ok, Err, refl, sym, ap, subst, ◌∙◌, append_assoc, arith}
-use Rattle.std.specs.Prelude.{nat_le, slice_index}
-use Rattle.std.specs.List.{AllPass}
-use Rattle.std.proofs.lemmas.Bool.{eqb-true, leb-false, eqb-false}
-use Rattle.std.proofs.lemmas.List.{length-append}
-use Rattle.std.proofs.lemmas.List.Elements.{All-nil, All-push}
-use Rattle.pnm_image.specs.declared.shape.Shape.{Shape}
-use Rattle.pnm_image.specs.declared.shape.Kind.{Kind}
-use Rattle.pnm_image.specs.declared.shape.Kind.TheVariants.{Bit, Gray, Color, Pam}
-use Rattle.pnm_image.specs.Heads.{HeadValue, IsHead, IsTupleType, Suits, head_value, shape_fault}
-use Rattle.pnm_read.specs.declared.fault.InputFault.{InputFault}
-use Rattle.pnm_read.specs.declared.fault.InputFault.TheVariants.{TooLong, BadNumber}
-use Rattle.pnm_read.specs.declared.scan_status.ScanStatus.{ScanStatus}
-use Rattle.pnm_read.specs.declared.scan_status.ScanStatus.TheVariants.{GoesOn, EndsWith, EndsBefore, Fails}
-use Rattle.pnm_read.specs.HeaderTexts.{is_apart, begins_apart, ends_in_comment, uncommented, uncommented_from, ends_in_word, numbers_in}
-use Rattle.pnm_image.specs.Texts.{is_white, is_digit, words}
-use Rattle.pnm_image.specs.Formats.{plain}
-use Rattle.pnm_read.specs.HeaderNumbers.{number_count, planes, shape_of, header_numbers}
-use Rattle.pnm_read.specs.Items.{piece_from, header_limit, is_bad_in_header, is_delimiter, header_item, header_end, numbers_item}
+use Rattle.pnm_read.proofs.Words.{◌≡◌, ◌≢◌, ◌⊎◌, inl, inr, ℕ, ◌+◌, ◌-◌, ◌*◌, ◌<◌, ◌≤◌, Bool, true, false, not, ◌||◌, ◌&&◌, ◌==◌, if◌then◌else◌, List, [], ◌∷◌}
+use Rattle.pnm_read.proofs.Words.{◌++◌, length, Result, Ok, Err, refl, sym, ap, subst, ◌∙◌, append_assoc, arith, nat_le, slice_index, AllPass, eqb-true}
+use Rattle.pnm_read.proofs.Words.{leb-false, eqb-false, length-append, All-nil, All-push, Shape, Kind, Bit, Gray, Color, Pam, HeadValue, IsHead, IsTupleType}
+use Rattle.pnm_read.proofs.Words.{Suits, head_value, shape_fault, InputFault, TooLong, BadNumber, ScanStatus, GoesOn, EndsWith, EndsBefore, Fails, is_apart}
+use Rattle.pnm_read.proofs.Words.{begins_apart, ends_in_comment, uncommented, ends_in_word, numbers_in, is_white, is_digit, plain, number_count, planes}
+use Rattle.pnm_read.proofs.Words.{shape_of, header_numbers, header_limit, is_bad_in_header, is_delimiter, header_end}
+use Rattle.pnm_read.specs.HeaderTexts.{uncommented_from}
+use Rattle.pnm_image.specs.Texts.{words}
+use Rattle.pnm_read.specs.Items.{piece_from, header_item, numbers_item}
 use Rattle.pnm_read.proofs.ShapeLaws.{head_or_fault_ok}
 use Rattle.pnm_read.proofs.PieceLaws.{ok_is}
 use Rattle.pnm_read.proofs.WordLaws.{uncommented-plain, uncommented-comment, numbers-white, numbers-comment, numbers-first, numbers-next, ends_in_word-comment}
@@ -101,9 +90,9 @@ so_far-comment count before b s h begins = record {
   counted = rw (numbers-comment before b h, ends_in_word-comment before b h) s.counted;
 }
 
-so_far-white : (count : ℕ) (before : List ℕ) (b : ℕ) → SoFar count before → ends_in_comment before ≡ false → is_white b ≡ true
+so_far-white : {count : ℕ} {before : List ℕ} (b : ℕ) → SoFar count before → ends_in_comment before ≡ false → is_white b ≡ true
     → (length (numbers_in before) == count) ≡ false → begins_apart (before ++ b ∷ []) ≡ true → SoFar count (before ++ b ∷ [])
-so_far-white count before b s outside white others begins =
+so_far-white {count} {before} b s outside white others begins =
     let not_all : length (numbers_in before) ≡ count → ⊥ = eqb-false (length (numbers_in before)) count others in
     let within = s.counted.within in
     let less : length (numbers_in before) < count = omega arith in
@@ -113,15 +102,15 @@ so_far-white count before b s outside white others begins =
       counted = rw (numbers-white before b outside white) (record { within = s.counted.within; fewer = λ e. less });
     }
 
-digit_counted : (count : ℕ) (before : List ℕ) (b : ℕ) (goes_on : Bool) → ends_in_word (uncommented before) ≡ goes_on
+digit_counted : {count : ℕ} (before : List ℕ) (b : ℕ) (goes_on : Bool) → ends_in_word (uncommented before) ≡ goes_on
     → Counted count (length (numbers_in before)) goes_on → ends_in_comment before ≡ false → is_digit b ≡ true → length (numbers_in (before ++ b ∷ [])) ≤ count
-digit_counted count before b true e c outside digit =
+digit_counted before b true e c outside digit =
     let n = numbers-next before b outside digit e in
     let old : length (numbers_in before) ≡ length n.0 + 1 = ap (λ (t : List ℕ). length t) n.2 ∙ length-append n.0 (n.1 ∷ []) in
     let new : length (numbers_in (before ++ b ∷ [])) ≡ length n.0 + 1 = ap (λ (t : List ℕ). length t) n.3 ∙ length-append n.0 ((n.1 * 10 + (b - 48)) ∷ []) in
     let within = c.within in
     omega arith
-digit_counted count before b false e c outside digit =
+digit_counted before b false e c outside digit =
     let new : length (numbers_in (before ++ b ∷ [])) ≡ length (numbers_in before) + 1 = ap (λ (t : List ℕ). length t) (numbers-first before b outside digit e)
     ∙ length-append (numbers_in before) ((b - 48) ∷ []) in
     let fewer = c.fewer refl in
@@ -133,40 +122,38 @@ so_far-digit count before b s outside digit begins = record {
   begins = begins;
   decimal = decimal_push before b outside (digit_is_not_sharp b digit) (grind (arith, digit)) s.decimal;
   counted = rw (ends_in_word-digit before b outside digit)
-      (record { within = digit_counted count before b (ends_in_word (uncommented before)) refl s.counted outside digit; fewer = λ e. absurd cc });
+      (record { within = digit_counted before b (ends_in_word (uncommented before)) refl s.counted outside digit; fewer = λ e. absurd cc });
 }
 
 -- white space outside comments that ends no header
-pub not_last : (comment white all : Bool) → (not comment && white && all) ≡ false → comment ≡ false → white ≡ true → all ≡ false
-not_last comment white all e c w = grind arith
+pub not_last : {comment white : Bool} (all : Bool) → (not comment && white && all) ≡ false → comment ≡ false → white ≡ true → all ≡ false
+not_last all e c w = grind arith
 
 -- a byte outside comments that is neither white space nor begins a comment
-pub digit_left : (digit white sharp : Bool) → (digit || (white || sharp)) ≡ true → white ≡ false → sharp ≡ false → digit ≡ true
-digit_left digit white sharp e w s = grind arith
+pub digit_left : (digit : Bool) {white sharp : Bool} → (digit || (white || sharp)) ≡ true → white ≡ false → sharp ≡ false → digit ≡ true
+digit_left digit e w s = grind arith
 
-so_far_by : (comment sharp white : Bool) (count : ℕ) (before : List ℕ) (b : ℕ) → ends_in_comment before ≡ comment → (b == 35) ≡ sharp → is_white b ≡ white
-    → SoFar count before
-    → (ends_in_comment before ≡ false → (is_digit b || is_apart b) ≡ true) → is_delimiter count before b ≡ false → begins_apart (before ++ b ∷ []) ≡ true
-    → SoFar count (before ++ b ∷ [])
-so_far_by true sharp white count before b c h w s decimal last begins = so_far-comment count before b s (inl c) begins
-so_far_by false true white count before b c h w s decimal last begins = so_far-comment count before b s (inr (eqb-true b 35 h)) begins
-so_far_by false false true count before b c h w s decimal last begins =
-    so_far-white count before b s c w (not_last (ends_in_comment before) (is_white b) (length (numbers_in before) == count) last c w) begins
-so_far_by false false false count before b c h w s decimal last begins =
-    so_far-digit count before b s c (digit_left (is_digit b) (is_white b) (b == 35) (decimal c) w h) begins
+so_far_by : (comment sharp white : Bool) {count : ℕ} {before : List ℕ} (b : ℕ) → ends_in_comment before ≡ comment → (b == 35) ≡ sharp → is_white b ≡ white
+    → SoFar count before → (ends_in_comment before ≡ false → (is_digit b || is_apart b) ≡ true) → is_delimiter count before b ≡ false
+    → begins_apart (before ++ b ∷ []) ≡ true → SoFar count (before ++ b ∷ [])
+so_far_by true sharp white {count} {before} b c h w s decimal last begins = so_far-comment count before b s (inl c) begins
+so_far_by false true white {count} {before} b c h w s decimal last begins = so_far-comment count before b s (inr (eqb-true b 35 h)) begins
+so_far_by false false true {count} {before} b c h w s decimal last begins =
+    so_far-white b s c w (not_last (length (numbers_in before) == count) last c w) begins
+so_far_by false false false {count} {before} b c h w s decimal last begins = so_far-digit count before b s c (digit_left (is_digit b) (decimal c) w h) begins
 
 -- a byte more that went on
-so_far-push : (count : ℕ) (before : List ℕ) (b : ℕ) → SoFar count before → header_item count before b ≡ GoesOn → SoFar count (before ++ b ∷ [])
-so_far-push count before b s e =
+so_far-push : {count : ℕ} {before : List ℕ} (b : ℕ) → SoFar count before → header_item count before b ≡ GoesOn → SoFar count (before ++ b ∷ [])
+so_far-push {count} {before} b s e =
     let parts = goes_on_by (nat_le header_limit (length before)) (is_bad_in_header before b) (is_delimiter count before b) (sym (header_item_is count before b)
     ∙ e) in
     let byte = bad_parts (length before == 0) (is_apart b) (ends_in_comment before) (is_digit b || is_apart b) parts.1 in
-    so_far_by (ends_in_comment before) (b == 35) (is_white b) count before b refl refl refl s byte.1 parts.2 (begins_push before b s.begins byte.0)
+    so_far_by (ends_in_comment before) (b == 35) (is_white b) b refl refl refl s byte.1 parts.2 (begins_push before b s.begins byte.0)
 
 -- no byte so far
-pub so_far_none : (count : ℕ) → 0 < count → SoFar count []
+pub so_far_none : {count : ℕ} → 0 < count → SoFar count []
 unfolding words uncommented_from
-so_far_none count some = record { begins = refl; decimal = All-nil (λ b. is_decimal b ≡ true); counted = record { within = omega arith; fewer = λ e. some } }
+so_far_none some = record { begins = refl; decimal = All-nil (λ b. is_decimal b ≡ true); counted = record { within = omega arith; fewer = λ e. some } }
 
 -- ---- what is read is spelled
 
@@ -187,13 +174,12 @@ pieced scan_status count before b text = elim scan_status [
   | GoesOn ↦ piece_from (header_item count) header_end (before ++ b ∷ []) text
 ]
 
-body_by : (scan_status : ScanStatus) (count : ℕ) (before : List ℕ) (b : ℕ) (text piece rest : List ℕ) → header_item count before b ≡ scan_status
-    → SoFar count before
-    → pieced scan_status count before b text ≡ Ok (piece, rest)
-    → (SoFar count (before ++ b ∷ []) → piece_from (header_item count) header_end (before ++ b ∷ []) text ≡ Ok (piece, rest)
-    → Body count (before ++ b ∷ []) text piece rest) → Body count before (b ∷ text) piece rest
-body_by (Fails fault) count before b text piece rest j s e more = absurd cc
-body_by EndsWith count before b text piece rest j s e more =
+body_by : (scan_status : ScanStatus) {count : ℕ} {before : List ℕ} {b : ℕ} {text piece rest : List ℕ} → header_item count before b ≡ scan_status
+    → SoFar count before → pieced scan_status count before b text ≡ Ok (piece, rest)
+    → (SoFar count (before ++ b ∷ []) → piece_from (header_item count) header_end (before ++ b ∷ []) text ≡ Ok (piece, rest) → Body count (before ++ b ∷ [])
+    text piece rest) → Body count before (b ∷ text) piece rest
+body_by (Fails fault) j s e more = absurd cc
+body_by EndsWith {before} {b} {text} {piece} {rest} j s e more =
     let parts : (before ++ b ∷ [], text) ≡ (piece, rest) = ok_is (before ++ b ∷ [], text) (piece, rest) e in
     let prefix : before ++ b ∷ [] ≡ piece = ap (λ (p : List ℕ × List ℕ). p.0) parts in
     let back : text ≡ rest = ap (λ (p : List ℕ × List ℕ). p.1) parts in
@@ -206,11 +192,11 @@ body_by EndsWith count before b text piece rest j s e more =
       whole = sym (append_assoc before (b ∷ []) text)
           ∙ ap (λ (t : List ℕ). t ++ text) prefix ∙ ap (λ (t : List ℕ). piece ++ t) back;
     }
-body_by EndsBefore count before b text piece rest j s e more =
+body_by EndsBefore {count} {before} {b} j s e more =
     absurd (never_before_by (nat_le header_limit (length before)) (is_bad_in_header before b) (is_delimiter count before b) (sym (header_item_is count before b)
     ∙ j))
-body_by GoesOn count before b text piece rest j s e more =
-    let found = more (so_far-push count before b s j) e in
+body_by GoesOn {before} {b} {text} j s e more =
+    let found = more (so_far-push b s j) e in
     record {
       body = found.body;
       delimiter = found.delimiter;
@@ -220,12 +206,11 @@ body_by GoesOn count before b text piece rest j s e more =
       whole = sym (append_assoc before (b ∷ []) text) ∙ found.whole;
     }
 
-pub body_is_read : (count : ℕ) (before text piece rest : List ℕ) → SoFar count before → piece_from (header_item count) header_end before text ≡ Ok (piece, rest)
-    → Body count before text piece rest
+pub body_is_read : {count : ℕ} (before text : List ℕ) {piece rest : List ℕ} → SoFar count before
+    → piece_from (header_item count) header_end before text ≡ Ok (piece, rest) → Body count before text piece rest
 unfolding piece_from
-body_is_read count before [] piece rest s e = absurd cc
-body_is_read count before (b ∷ text) piece rest s e = body_by (header_item count before b) count before b text piece rest refl s e
-    (λ t f. body_is_read count (before ++ b ∷ []) text piece rest t f)
+body_is_read before [] s e = absurd cc
+body_is_read {count} before (b ∷ text) s e = body_by (header_item count before b) refl s e (λ t f. body_is_read (before ++ b ∷ []) text t f)
 
 -- what is known of a body where the header ends with the byte after it
 last_parts : (comment white all : Bool) → (not comment && white && all) ≡ true → (comment ≡ false) × (white ≡ true) × (all ≡ true)
@@ -245,10 +230,10 @@ ended count body delimiter e =
     record { short = leb-false header_limit (length body) parts.0; outside = last.0; white = last.1; all = eqb-true (length (numbers_in body)) count last.2 }
 
 -- a body with all its numbers ends with the last
-pub ends_in_last : (count : ℕ) (body : List ℕ) (ends : Bool) → ends_in_word (uncommented body) ≡ ends
-    → Counted count (length (numbers_in body)) (ends_in_word (uncommented body)) → length (numbers_in body) ≡ count → ends_in_word (uncommented body) ≡ true
-ends_in_last count body true e c all = e
-ends_in_last count body false e c all = let fewer = c.fewer e in absurd (omega arith)
+pub ends_in_last : {count : ℕ} (body : List ℕ) (ends : Bool) → ends_in_word (uncommented body) ≡ ends → Counted count (length (numbers_in body))
+    (ends_in_word (uncommented body)) → length (numbers_in body) ≡ count → ends_in_word (uncommented body) ≡ true
+ends_in_last body true e c all = e
+ends_in_last body false e c all = let fewer = c.fewer e in absurd (omega arith)
 
 -- ---- the numbers of a header
 
@@ -298,11 +283,11 @@ pub record Made (kind : Kind) (numbers : List ℕ) (head : HeadValue) : Type 0 w
   pub sound : IsHead head
   pub rows : 0 < head.shape.height
 
-pub numbers_make_head : (kind : Kind) (numbers : List ℕ) (head : HeadValue) → numbers_item kind numbers ≡ Ok head → Made kind numbers head
+pub numbers_make_head : {kind : Kind} {numbers : List ℕ} {head : HeadValue} → numbers_item kind numbers ≡ Ok head → Made kind numbers head
 unfolding numbers_item
-numbers_make_head kind numbers head e =
+numbers_make_head {kind} {numbers} e =
     let s : Shape = shape_of kind numbers in
-    let good = head_or_fault_ok (shape_fault s) (head_value s []) head e in
+    let good = head_or_fault_ok (shape_fault s) (head_value s []) e in
     let limits = limits_of s good.0 in
     let made : Made kind numbers (head_value s []) =
     record { head_is = refl; sound = record { limits = limits.0; suits = suits_kind kind numbers }; rows = limits.1 } in

@@ -1,19 +1,10 @@
 -- A shape whose numbers are held as u32s, and its head.
-use Rattle.std.proofs.Common.{◌≡◌, ◌⊎◌, inl, inr, ℕ, ◌*◌, ◌<◌, ◌≤◌, true, ◌==◌, List, Option, Some, None, Result, Ok, Err, refl, sym, ap, subst, ◌∙◌, arith}
-use Rattle.std.specs.Prelude.{nat_lt, MatchResult, IfOk, OnOk, IfErr, IsErrAnd}
-use Rattle.std.proofs.Math.Nat.{mul-le-mul_left}
-use Rattle.std.proofs.lemmas.Bool.{cases_lt, cases_eq, lt-ltb, le-ltb, eq-eqb, ne_eqb}
-use Rattle.pnm_image.specs.declared.shape.Shape.{Shape}
-use Rattle.pnm_image.specs.declared.shape.Kind.{Kind}
-use Rattle.pnm_image.specs.declared.head.HeadFault.{HeadFault}
+use Rattle.pnm_read.proofs.Words.{◌≡◌, ◌⊎◌, inl, inr, ℕ, ◌*◌, ◌<◌, ◌≤◌, true, ◌==◌, List, Option, Some, None, Result, Ok, Err, refl, sym, ap, subst, ◌∙◌, arith}
+use Rattle.pnm_read.proofs.Words.{nat_lt, MatchResult, IfOk, OnOk, IfErr, IsErrAnd, mul-le-mul_left, cases_lt, cases_eq, lt-ltb, le-ltb, eq-eqb, ne_eqb, Shape}
+use Rattle.pnm_read.proofs.Words.{Kind, HeadFault, HeadValue, head_value, shape_fault, InputFault, ReadFailed, Memory, fault_of_head, saturate_u32}
+use Rattle.pnm_read.proofs.Words.{GivesInMemory, MAX_DEPTH, MAX_MAXVAL, MAX_ROW_LENGTH, MAX_SIDE}
 use Rattle.pnm_image.specs.declared.head.HeadFault.TheVariants as heads
-use Rattle.pnm_image.specs.Heads.{HeadValue, head_value, shape_fault}
-use Rattle.pnm_read.specs.declared.fault.InputFault.{InputFault}
-use Rattle.pnm_read.specs.declared.fault.InputFault.TheVariants.{ReadFailed, Memory}
-use Rattle.pnm_read.specs.Items.{fault_of_head}
-use Rattle.pnm_read.specs.Internal.Saturation.{saturate_u32, GivesInMemory}
 use Rattle.pnm_read.proofs.ShapeLaws.{head_or_fault, limits_of}
-use Rattle.pnm_image.specs.declared.limits.TheConstants.{MAX_DEPTH, MAX_MAXVAL, MAX_ROW_LENGTH, MAX_SIDE}
 
 -- a limit below the greatest u32 is passed by a number where it is passed by the u32
 saturate_u32-limit : (limit n : ℕ) → limit < 4294967295 → nat_lt limit (saturate_u32 n) ≡ nat_lt limit n
@@ -110,37 +101,35 @@ abbrev pub head_item : Shape → List ℕ → Result HeadValue InputFault
 head_item s tuple_type = head_or_fault (shape_fault s) (head_value s tuple_type)
 
 -- what a shape makes, by what is wrong with it as it is held
-head_as : (held s : Shape) (tuple_type : List ℕ) (fault : Option HeadFault) → held ≡ saturated_shape s → shape_fault held ≡ fault
+head_as : {held : Shape} (s : Shape) (tuple_type : List ℕ) {fault : Option HeadFault} → held ≡ saturated_shape s → shape_fault held ≡ fault
     → head_item s tuple_type ≡ head_or_fault fault (head_value s tuple_type)
-head_as held s tuple_type fault same is = ap (λ (f : Option HeadFault). head_or_fault f (head_value s tuple_type))
-    (sym (same_fault s) ∙ ap shape_fault (sym same) ∙ is)
+head_as s tuple_type same is = ap (λ (f : Option HeadFault). head_or_fault f (head_value s tuple_type)) (sym (same_fault s) ∙ ap shape_fault (sym same) ∙ is)
 
 -- the head was made
-head_made : (held s : Shape) (tuple_type : List ℕ) (head : HeadValue) → held ≡ saturated_shape s → head ≡ head_value held tuple_type → shape_fault held ≡ None
-    → head_item s tuple_type ≡ Ok head
-head_made held s tuple_type head same made sound =
-    head_as held s tuple_type None same sound
+head_made : {held : Shape} (s : Shape) (tuple_type : List ℕ) {head : HeadValue} → held ≡ saturated_shape s → head ≡ head_value held tuple_type
+    → shape_fault held ≡ None → head_item s tuple_type ≡ Ok head
+head_made s tuple_type same made sound =
+    head_as s tuple_type same sound
     ∙ ap (λ (h : HeadValue). Ok h) (ap (λ (s : Shape). head_value s tuple_type) (sym (same ∙ same_shape s (ap shape_fault (sym same) ∙ sound))) ∙ sym made)
 
 -- the head was refused, or memory ran out
-head_refused : (held s : Shape) (tuple_type : List ℕ) (e : HeadFault) (fault : InputFault) → held ≡ saturated_shape s → fault ≡ fault_of_head e
-    → (shape_fault held ≡ Some e) ⊎ ((e ≡ heads.Memory) × (shape_fault held ≡ None))
-    → (fault ≡ Memory) ⊎ (head_item s tuple_type ≡ Err fault)
-head_refused held s tuple_type e fault same is why =
+head_refused : {held : Shape} (s : Shape) (tuple_type : List ℕ) (e : HeadFault) {fault : InputFault} → held ≡ saturated_shape s → fault ≡ fault_of_head e
+    → (shape_fault held ≡ Some e) ⊎ ((e ≡ heads.Memory) × (shape_fault held ≡ None)) → (fault ≡ Memory) ⊎ (head_item s tuple_type ≡ Err fault)
+head_refused s tuple_type e same is why =
     elim why [
-      | inl h ↦ inr (head_as held s tuple_type (Some e) same h ∙ ap (λ (f : InputFault). Err f) (sym is))
+      | inl h ↦ inr (head_as s tuple_type same h ∙ ap (λ (f : InputFault). Err f) (sym is))
       | inr h ↦ inl (is ∙ ap fault_of_head h.0)
     ]
 
 -- the head that was made of a shape and a tuple type, or what was wrong with it
-pub head_given : (held s : Shape) (tuple_type : List ℕ) (made : Result HeadValue HeadFault) (result : Result HeadValue InputFault) → held ≡ saturated_shape s
-    → IfOk made (λ head. head ≡ head_value held tuple_type) → OnOk made (shape_fault held ≡ None)
-    → IfErr made (λ e. (shape_fault held ≡ Some e) ⊎ ((e ≡ heads.Memory) × (shape_fault held ≡ None)))
-    → MatchResult made (λ head. result ≡ Ok head) (λ e. IsErrAnd result (λ fault. fault ≡ fault_of_head e)) → GivesInMemory result (head_item s tuple_type)
-head_given held s tuple_type (Ok head) result same made sound refused is =
-    subst (λ (r : Result HeadValue InputFault). GivesInMemory r (head_item s tuple_type)) (sym is) (head_made held s tuple_type head same made sound)
-head_given held s tuple_type (Err e) (Ok head) same made sound refused is = absurd is
-head_given held s tuple_type (Err e) (Err fault) same made sound refused is = head_refused held s tuple_type e fault same is refused
+pub head_given : {held : Shape} (s : Shape) (tuple_type : List ℕ) (made : Result HeadValue HeadFault) (result : Result HeadValue InputFault)
+    → held ≡ saturated_shape s → IfOk made (λ head. head ≡ head_value held tuple_type) → OnOk made (shape_fault held ≡ None)
+    → IfErr made (λ e. (shape_fault held ≡ Some e) ⊎ ((e ≡ heads.Memory) × (shape_fault held ≡ None))) → MatchResult made (λ head. result ≡ Ok head)
+    (λ e. IsErrAnd result (λ fault. fault ≡ fault_of_head e)) → GivesInMemory result (head_item s tuple_type)
+head_given s tuple_type (Ok head) result same made sound refused is =
+    subst (λ (r : Result HeadValue InputFault). GivesInMemory r (head_item s tuple_type)) (sym is) (head_made s tuple_type same made sound)
+head_given s tuple_type (Err e) (Ok head) same made sound refused is = absurd is
+head_given s tuple_type (Err e) (Err fault) same made sound refused is = head_refused s tuple_type e same is refused
 
 -- what is wrong with a shape isn't that the reader failed
 pub head_item_of_text : (fault : Option HeadFault) (head : HeadValue) → head_or_fault fault head ≡ Err ReadFailed → ⊥

@@ -1,22 +1,10 @@
 -- Rows of samples of two bytes that are held whole, and are taken together.
-use Rattle.std.proofs.Common.{◌≡◌, ℕ, zero, suc, ◌+◌, ◌-◌, ◌*◌, ◌<◌, ◌≤◌, min, List, [], ◌∷◌, ◌++◌, All, length, take, drop, Result, Ok}
-use Rattle.std.proofs.Common.{refl, sym, ap, ap₂, subst, ◌∙◌}
-use Rattle.std.proofs.Common.{append_assoc, arith, zero-mul, suc-mul, zero-add, suc-add}
-use Rattle.std.proofs.Math.Nat.{mul_assoc}
-use Rattle.std.specs.List.{concat}
-use Rattle.std.proofs.lemmas.List.{take_all, take_at, drop_at, take-append-drop, length-take-le, length-drop, nil_from_length}
-use Rattle.std.proofs.lemmas.List.Elements.{All-take, All-drop}
-use Rattle.pnm_image.specs.declared.shape.Shape.{Shape}
-use Rattle.pnm_image.specs.declared.sample_width.SampleWidth.TheVariants.{Words}
-use Rattle.pnm_image.specs.SampleWidths.{sample_width_of}
-use Rattle.pnm_image.specs.Heads.{row_length}
-use Rattle.pnm_image.specs.Images.{cut_rows}
-use Rattle.pnm_read.specs.declared.fault.InputFault.{InputFault}
-use Rattle.pnm_read.specs.declared.raster.Raster.{Raster}
-use Rattle.pnm_read.specs.Items.{◌>>=◌}
+use Rattle.pnm_read.proofs.Words.{◌≡◌, ℕ, zero, suc, ◌+◌, ◌-◌, ◌*◌, ◌<◌, ◌≤◌, min, List, [], ◌∷◌, ◌++◌, All, length, take, drop, Result, Ok, refl, sym, ap, ap₂}
+use Rattle.pnm_read.proofs.Words.{subst, ◌∙◌, append_assoc, arith, zero-mul, suc-mul, zero-add, suc-add, mul_assoc, concat, take_all, take_at, drop_at}
+use Rattle.pnm_read.proofs.Words.{take-append-drop, length-take-le, length-drop, nil_from_length, All-take, All-drop, Shape, Words, sample_width_of, row_length}
+use Rattle.pnm_read.proofs.Words.{cut_rows, InputFault, Raster, ◌>>=◌, in_turn, units_in_row, AreHeldWide, TakesRows}
 use Rattle.pnm_read.specs.Rasters.{wide_samples}
-use Rattle.pnm_read.specs.Said.{in_turn, units_in_row, raw_row}
-use Rattle.pnm_read.specs.Internal.RasterRows.{AreHeldWide, TakesRows}
+use Rattle.pnm_read.specs.Said.{raw_row}
 use Rattle.pnm_read.proofs.UnitLaws.{items_of, words_are_units}
 use Rattle.pnm_read.proofs.RawSteps.{units_as}
 use Rattle.pnm_read.proofs.RowsTogether.{row_done, row_before, no_rows}
@@ -46,7 +34,7 @@ unfolding raw_row
 first_wide_row s bytes rest is_width size within =
     let found = words_are_units s.maxval (row_length s) bytes [] (wide_samples bytes) rest size (refl, within) in
     ap (λ (r : Result (List (List ℕ) × List ℕ) InputFault). r >>= λ units. row_done (take (row_length s) (concat units.0)) units.1)
-    (units_as s Words (row_length s) (bytes ++ rest) is_width refl ∙ found.2)
+    (units_as s (bytes ++ rest) is_width refl ∙ found.2)
     ∙ ap (λ (l : List ℕ). row_done l rest)
     (ap (take (row_length s)) (sym found.1) ∙ take_all (row_length s) (wide_samples bytes) (omega (arith, length-wide (row_length s) bytes size)))
 
@@ -54,8 +42,7 @@ first_wide_row s bytes rest is_width size within =
 pub wide_rows_in_turn : (s : Shape) (count : ℕ) (bytes rest : List ℕ) → Words ≡ sample_width_of s.kind s.maxval → length bytes ≡ count * row_length s * 2
     → All (λ sample. sample ≤ s.maxval) (wide_samples bytes)
     → in_turn (raw_row s) count (bytes ++ rest) ≡ Ok (cut_rows count (row_length s) (wide_samples bytes), rest)
-wide_rows_in_turn s zero bytes rest is_width size within =
-    no_rows (raw_row s) bytes rest (nil_from_length bytes (omega (arith, size, zero-mul (row_length s))))
+wide_rows_in_turn s zero bytes rest is_width size within = no_rows (raw_row s) rest (nil_from_length bytes (omega (arith, size, zero-mul (row_length s))))
 wide_rows_in_turn s (suc count) bytes rest is_width size within =
     let each : ℕ = row_length s in
     let most : ℕ → Type 0 = λ (sample : ℕ). sample ≤ s.maxval in
@@ -81,10 +68,10 @@ wide_rows_in_turn s (suc count) bytes rest is_width size within =
     ∙ ap (λ (l : List ℕ). items_of (cut_rows (suc count) each l) rest) (sym both)
 
 -- so many rows lie in the bytes, where the size of one doesn't go past what can be counted
-pub wide_lie : (count units size most : ℕ) (bytes : List ℕ) → size ≡ min (units * 2) (most - 1) → length bytes < most - 1 → count * size ≤ length bytes
-    → count * units * 2 ≤ length bytes
-wide_lie zero units size most bytes is few lie = omega (arith, zero-mul units)
-wide_lie (suc count) units size most bytes is few lie =
+pub wide_lie : (count units : ℕ) {size : ℕ} (most : ℕ) (bytes : List ℕ) → size ≡ min (units * 2) (most - 1) → length bytes < most - 1
+    → count * size ≤ length bytes → count * units * 2 ≤ length bytes
+wide_lie zero units most bytes is few lie = omega (arith, zero-mul units)
+wide_lie (suc count) units {size} most bytes is few lie =
     let two : size ≡ units * 2 = omega (arith, suc-mul count size) in
     let all : suc count * units * 2 ≡ suc count * size = mul_assoc (suc count) units 2 ∙ ap (λ (n : ℕ). suc count * n) (sym two) in
     omega (arith, all)
@@ -93,22 +80,21 @@ wide_lie (suc count) units size most bytes is few lie =
 abbrev pub wide_held : Raster → ℕ → List ℕ → List ℕ
 wide_held raster count held = take (count * raster.units * 2) held
 
-units_of : (raster : Raster) (count : ℕ) (held : List ℕ) → AreHeldWide raster count held → raster.units ≡ row_length raster.shape
-units_of raster count held h = raster.count ∙ ap (λ p. units_in_row p raster.shape) h.sample_width
+units_of : {raster : Raster} {count : ℕ} {held : List ℕ} → AreHeldWide raster count held → raster.units ≡ row_length raster.shape
+units_of {raster} h = raster.count ∙ ap (λ p. units_in_row p raster.shape) h.sample_width
 
-pub samples_of_held : (raster : Raster) (count : ℕ) (held samples : List ℕ) → AreHeldWide raster count held
+pub samples_of_held : {raster : Raster} {count : ℕ} {held samples : List ℕ} → AreHeldWide raster count held
     → samples ≡ wide_samples (wide_held raster count held) → length samples ≡ count * raster.units
-samples_of_held raster count held samples h is =
+samples_of_held {raster} {count} {held} h is =
     ap length is ∙ length-wide (count * raster.units) (wide_held raster count held) (length-take-le (count * raster.units * 2) held h.long)
 
 -- they are taken
-pub wide_rows_taken : (raster : Raster) (count : ℕ) (held after samples : List ℕ) (rows : List (List ℕ)) → AreHeldWide raster count held
+pub wide_rows_taken : {raster : Raster} {count : ℕ} {held after samples : List ℕ} {rows : List (List ℕ)} → AreHeldWide raster count held
     → samples ≡ wide_samples (wide_held raster count held) → All (λ sample. sample ≤ raster.shape.maxval) (wide_samples (wide_held raster count held))
-    → rows ≡ cut_rows count raster.units samples
-    → after ≡ drop (count * raster.units * 2) held → TakesRows raster.shape count rows held after
-wide_rows_taken raster count held after samples rows h is within cut left = λ rest.
+    → rows ≡ cut_rows count raster.units samples → after ≡ drop (count * raster.units * 2) held → TakesRows raster.shape count rows held after
+wide_rows_taken {raster} {count} {held} {after} h is within cut left = λ rest.
     let bytes : List ℕ = wide_held raster count held in
-    let units : raster.units ≡ row_length raster.shape = units_of raster count held h in
+    let units : raster.units ≡ row_length raster.shape = units_of h in
     let size : length bytes ≡ count * row_length raster.shape * 2 =
     length-take-le (count * raster.units * 2) held h.long ∙ ap (λ (n : ℕ). count * n * 2) units in
     let text : held ++ rest ≡ bytes ++ (after ++ rest) =
@@ -116,5 +102,4 @@ wide_rows_taken raster count held after samples rows h is within cut left = λ r
     ∙ append_assoc bytes after rest in
     ap (in_turn (raw_row raster.shape) count) text
     ∙ wide_rows_in_turn raster.shape count bytes (after ++ rest) (sym h.sample_width ∙ raster.samples) size within
-    ∙ ap (λ (l : List (List ℕ)). items_of l (after ++ rest))
-    (ap₂ (λ (n : ℕ) (l : List ℕ). cut_rows count n l) (sym units) (sym is) ∙ sym cut)
+    ∙ ap (λ (l : List (List ℕ)). items_of l (after ++ rest)) (ap₂ (λ (n : ℕ) (l : List ℕ). cut_rows count n l) (sym units) (sym is) ∙ sym cut)

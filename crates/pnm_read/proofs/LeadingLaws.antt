@@ -1,27 +1,18 @@
 -- What the bytes of a plain raster tell by themselves of the samples that they begin with.
-use Rattle.std.proofs.Common.{◌≡◌, ℕ, suc, ◌+◌, ◌-◌, ◌*◌, ◌<◌, ◌≤◌, ◌⊎◌, Bool, true, false, ◌&&◌, ◌||◌, List, [], ◌∷◌, ◌++◌, length, take, drop, get_or, Result}
-use Rattle.std.proofs.Common.{Ok, Err, refl, sym, ap, ap₂, subst, inl, inr, ◌∙◌, append_assoc, append-nil, length-append, length-drop, drop-cons, arith}
-use Rattle.std.specs.Prelude.{◌==◌, IfOk}
-use Rattle.std.specs.List.{AllPass}
-use Rattle.std.specs.Int.{from_bool}
-use Rattle.std.proofs.lemmas.Int.Digits.{digits_value_push}
-use Rattle.std.proofs.Math.Seq.{take-add}
-use Rattle.std.proofs.lemmas.List.{drop-drop, take-append-drop, length-take-le, get_or-drop, drop-append-le}
-use Rattle.std.proofs.lemmas.List.Elements.{All-nil, All-cons, All-head, All-tail, All-push, All-append}
-use Rattle.pnm_image.specs.declared.shape.Kind.{Kind}
-use Rattle.pnm_image.specs.declared.shape.Kind.TheVariants.{Bit, Gray, Color, Pam}
-use Rattle.pnm_image.specs.Texts.{is_white, is_digit}
-use Rattle.pnm_read.specs.declared.fault.InputFault.{InputFault}
-use Rattle.pnm_read.specs.HeaderTexts.{is_apart, begins_apart, ends_in_comment, uncommented_from, uncommented}
-use Rattle.pnm_read.specs.Rasters.{IsGap, SpellsDecimal}
-use Rattle.pnm_read.specs.Items.{◌>>=◌, plain_pixel, plain_decimal, plain_sample}
+use Rattle.pnm_read.proofs.Words.{◌≡◌, ℕ, suc, ◌+◌, ◌-◌, ◌*◌, ◌<◌, ◌≤◌, ◌⊎◌, Bool, true, false, ◌&&◌, ◌||◌, List, [], ◌∷◌, ◌++◌, length, take, drop, get_or}
+use Rattle.pnm_read.proofs.Words.{Result, Ok, Err, refl, sym, ap, ap₂, subst, inl, inr, ◌∙◌, append_assoc, append-nil, drop-cons, arith, IfOk, AllPass}
+use Rattle.pnm_read.proofs.Words.{from_bool, digits_value_push, take-add, drop-drop, take-append-drop, length-take-le, get_or-drop, drop-append-le, All-nil}
+use Rattle.pnm_read.proofs.Words.{All-cons, All-head, All-tail, All-push, All-append, Kind, Bit, Gray, Color, Pam, is_white, is_digit, InputFault, is_apart}
+use Rattle.pnm_read.proofs.Words.{begins_apart, ends_in_comment, uncommented, IsGap, SpellsDecimal, ◌>>=◌, plain_pixel, plain_decimal, plain_sample}
+use Rattle.pnm_read.proofs.Words.{IsNumberFirst, IsSampleFirst, TakesSamples, GAP_LIMIT}
+use Rattle.std.proofs.Common.{length-append, length-drop}
+use Rattle.std.specs.Prelude.{◌==◌}
+use Rattle.pnm_read.specs.HeaderTexts.{uncommented_from}
 use Rattle.pnm_read.specs.Said.{in_turn}
-use Rattle.pnm_read.specs.Internal.Leading.{IsNumberFirst, IsSampleFirst, TakesSamples}
 use Rattle.pnm_read.proofs.SampleLaws.{spelled_piece_is_read}
 use Rattle.pnm_read.proofs.UnitLaws.{items_of, and_items, in_turn-add}
 use Rattle.pnm_read.proofs.PartLaws.{one_is_read}
 use Rattle.pnm_read.proofs.WordLaws.{white_is_not_sharp, digit_value_is}
-use Rattle.pnm_read.specs.declared.decimal.TheConstants.{GAP_LIMIT}
 
 -- ---- white space
 
@@ -39,8 +30,8 @@ white_is_outside (b ∷ text) all =
     let first : (b == 35) ≡ false = white_is_not_sharp b (All-head (λ x. is_white x ≡ true) b text all) in
     rw first (white_is_outside text (All-tail (λ x. is_white x ≡ true) b text all))
 
-white_is_gap : (text : List ℕ) → AllPass is_white text → IsGap text
-white_is_gap text all = record { white = subst (AllPass is_white) (sym (uncommented_white text all)) all; outside = white_is_outside text all }
+white_is_gap : {text : List ℕ} → AllPass is_white text → IsGap text
+white_is_gap {text} all = record { white = subst (AllPass is_white) (sym (uncommented_white text all)) all; outside = white_is_outside text all }
 
 white_is_apart : (b : ℕ) → is_white b ≡ true → is_apart b ≡ true
 white_is_apart b h = ap (λ (t : Bool). t || (b == 35)) h
@@ -101,46 +92,44 @@ abbrev pub numbers_of_five : ℕ → ℕ → ℕ → ℕ → ℕ → List ℕ
 numbers_of_five a b c d e = a ∷ (a * 10 + b) ∷ ((a * 10 + b) * 10 + c) ∷ (((a * 10 + b) * 10 + c) * 10 + d) ∷ ((((a * 10 + b) * 10 + c) * 10 + d) * 10 + e) ∷ []
 
 -- a number of one digit, two, three, four, five
-of_one : (a b : ℕ) (after : List ℕ) (va : ℕ) → is_digit a ≡ true → IsValue a va → is_white b ≡ true → IsNumberFirst (a ∷ b ∷ after) va 1
-of_one a b after va ha fa white = record { within = omega arith; spells = one_digit a va ha (fa ha); follows = white }
+of_one : {a b : ℕ} {after : List ℕ} {va : ℕ} → is_digit a ≡ true → IsValue a va → is_white b ≡ true → IsNumberFirst (a ∷ b ∷ after) va 1
+of_one {a} {va} ha fa white = record { within = omega arith; spells = one_digit a va ha (fa ha); follows = white }
 
-spells_two : (a b va vb : ℕ) → is_digit a ≡ true → IsValue a va → is_digit b ≡ true → IsValue b vb → SpellsDecimal (a ∷ b ∷ []) (va * 10 + vb)
-spells_two a b va vb ha fa hb fb = digit_more (a ∷ []) va b vb (one_digit a va ha (fa ha)) hb (fb hb)
+spells_two : {a b : ℕ} (va vb : ℕ) → is_digit a ≡ true → IsValue a va → is_digit b ≡ true → IsValue b vb → SpellsDecimal (a ∷ b ∷ []) (va * 10 + vb)
+spells_two {a} {b} va vb ha fa hb fb = digit_more (a ∷ []) va b vb (one_digit a va ha (fa ha)) hb (fb hb)
 
-spells_three : (a b c va vb vc : ℕ) → is_digit a ≡ true → IsValue a va → is_digit b ≡ true → IsValue b vb → is_digit c ≡ true → IsValue c vc
+spells_three : {a b c : ℕ} (va vb vc : ℕ) → is_digit a ≡ true → IsValue a va → is_digit b ≡ true → IsValue b vb → is_digit c ≡ true → IsValue c vc
     → SpellsDecimal (a ∷ b ∷ c ∷ []) ((va * 10 + vb) * 10 + vc)
-spells_three a b c va vb vc ha fa hb fb hc fc = digit_more (a ∷ b ∷ []) (va * 10 + vb) c vc (spells_two a b va vb ha fa hb fb) hc (fc hc)
+spells_three {a} {b} {c} va vb vc ha fa hb fb hc fc = digit_more (a ∷ b ∷ []) (va * 10 + vb) c vc (spells_two va vb ha fa hb fb) hc (fc hc)
 
-spells_four : (a b c d va vb vc vd : ℕ) → is_digit a ≡ true → IsValue a va → is_digit b ≡ true → IsValue b vb → is_digit c ≡ true → IsValue c vc
-    → is_digit d ≡ true → IsValue d vd
-    → SpellsDecimal (a ∷ b ∷ c ∷ d ∷ []) (((va * 10 + vb) * 10 + vc) * 10 + vd)
-spells_four a b c d va vb vc vd ha fa hb fb hc fc hd fd =
-    digit_more (a ∷ b ∷ c ∷ []) ((va * 10 + vb) * 10 + vc) d vd (spells_three a b c va vb vc ha fa hb fb hc fc) hd (fd hd)
+spells_four : {a b c d : ℕ} (va vb vc vd : ℕ) → is_digit a ≡ true → IsValue a va → is_digit b ≡ true → IsValue b vb → is_digit c ≡ true → IsValue c vc
+    → is_digit d ≡ true → IsValue d vd → SpellsDecimal (a ∷ b ∷ c ∷ d ∷ []) (((va * 10 + vb) * 10 + vc) * 10 + vd)
+spells_four {a} {b} {c} {d} va vb vc vd ha fa hb fb hc fc hd fd =
+    digit_more (a ∷ b ∷ c ∷ []) ((va * 10 + vb) * 10 + vc) d vd (spells_three va vb vc ha fa hb fb hc fc) hd (fd hd)
 
-number_of_four : (a b c d : ℕ) (after : List ℕ) (va vb vc : ℕ) (tb tc : Bool) → is_digit a ≡ true → IsValue a va → IsValue b vb → IsValue c vc → is_digit b ≡ tb
-    → is_digit c ≡ tc
-    → is_white (get_or (b ∷ c ∷ d ∷ []) (digits_of_two tb tc) 0) ≡ true
-    → IsNumberFirst (a ∷ b ∷ c ∷ d ∷ after) (get_or (numbers_of_three va vb vc) (digits_of_two tb tc) 0) (digits_of_two tb tc + 1)
-number_of_four a b c d after va vb vc false tc ha fa fb fc hb hc white = of_one a b (c ∷ d ∷ after) va ha fa white
-number_of_four a b c d after va vb vc true false ha fa fb fc hb hc white =
-    record { within = omega arith; spells = spells_two a b va vb ha fa hb fb; follows = white }
-number_of_four a b c d after va vb vc true true ha fa fb fc hb hc white =
-    record { within = omega arith; spells = spells_three a b c va vb vc ha fa hb fb hc fc; follows = white }
+number_of_four : {a b c d : ℕ} {after : List ℕ} (va vb vc : ℕ) (tb tc : Bool) → is_digit a ≡ true → IsValue a va → IsValue b vb → IsValue c vc
+    → is_digit b ≡ tb → is_digit c ≡ tc → is_white (get_or (b ∷ c ∷ d ∷ []) (digits_of_two tb tc) 0) ≡ true → IsNumberFirst (a ∷ b ∷ c ∷ d ∷ after)
+    (get_or (numbers_of_three va vb vc) (digits_of_two tb tc) 0) (digits_of_two tb tc + 1)
+number_of_four va vb vc false tc ha fa fb fc hb hc white = of_one ha fa white
+number_of_four va vb vc true false ha fa fb fc hb hc white =
+    record { within = omega arith; spells = spells_two va vb ha fa hb fb; follows = white }
+number_of_four va vb vc true true ha fa fb fc hb hc white =
+    record { within = omega arith; spells = spells_three va vb vc ha fa hb fb hc fc; follows = white }
 
 number_of_six : (a b c d e f : ℕ) (after : List ℕ) (va vb vc vd ve : ℕ) (tb tc td te : Bool) → is_digit a ≡ true → IsValue a va → IsValue b vb → IsValue c vc
     → IsValue d vd → IsValue e ve
     → is_digit b ≡ tb → is_digit c ≡ tc → is_digit d ≡ td → is_digit e ≡ te → is_white (get_or (b ∷ c ∷ d ∷ e ∷ f ∷ []) (digits_of_four tb tc td te) 0) ≡ true
     → IsNumberFirst (a ∷ b ∷ c ∷ d ∷ e ∷ f ∷ after) (get_or (numbers_of_five va vb vc vd ve) (digits_of_four tb tc td te) 0) (digits_of_four tb tc td te + 1)
-number_of_six a b c d e f after va vb vc vd ve false tc td te ha fa fb fc fd fe hb hc hd he white = of_one a b (c ∷ d ∷ e ∷ f ∷ after) va ha fa white
+number_of_six a b c d e f after va vb vc vd ve false tc td te ha fa fb fc fd fe hb hc hd he white = of_one ha fa white
 number_of_six a b c d e f after va vb vc vd ve true false td te ha fa fb fc fd fe hb hc hd he white =
-    record { within = omega arith; spells = spells_two a b va vb ha fa hb fb; follows = white }
+    record { within = omega arith; spells = spells_two va vb ha fa hb fb; follows = white }
 number_of_six a b c d e f after va vb vc vd ve true true false te ha fa fb fc fd fe hb hc hd he white =
-    record { within = omega arith; spells = spells_three a b c va vb vc ha fa hb fb hc fc; follows = white }
+    record { within = omega arith; spells = spells_three va vb vc ha fa hb fb hc fc; follows = white }
 number_of_six a b c d e f after va vb vc vd ve true true true false ha fa fb fc fd fe hb hc hd he white =
-    record { within = omega arith; spells = spells_four a b c d va vb vc vd ha fa hb fb hc fc hd fd; follows = white }
+    record { within = omega arith; spells = spells_four va vb vc vd ha fa hb fb hc fc hd fd; follows = white }
 number_of_six a b c d e f after va vb vc vd ve true true true true ha fa fb fc fd fe hb hc hd he white = record {
   within = omega arith;
-  spells = digit_more (a ∷ b ∷ c ∷ d ∷ []) (((va * 10 + vb) * 10 + vc) * 10 + vd) e ve (spells_four a b c d va vb vc vd ha fa hb fb hc fc hd fd) he (fe he);
+  spells = digit_more (a ∷ b ∷ c ∷ d ∷ []) (((va * 10 + vb) * 10 + vc) * 10 + vd) e ve (spells_four va vb vc vd ha fa hb fb hc fc hd fd) he (fe he);
   follows = white;
 }
 
@@ -156,8 +145,7 @@ short_number_is_first (a ∷ b ∷ []) va vb vc more four ha fa fb fc is white =
 short_number_is_first (a ∷ b ∷ c ∷ []) va vb vc more four ha fa fb fc is white = absurd (omega arith)
 short_number_is_first (a ∷ b ∷ c ∷ d ∷ after) va vb vc more four ha fa fb fc is white =
     subst (λ (n : ℕ). IsNumberFirst (a ∷ b ∷ c ∷ d ∷ after) (get_or (numbers_of_three va vb vc) n 0) (n + 1)) (sym is)
-    (number_of_four a b c d after va vb vc (is_digit b) (is_digit c) ha fa fb fc refl refl
-    (subst (λ (n : ℕ). is_white (get_or (b ∷ c ∷ d ∷ []) n 0) ≡ true) is white))
+    (number_of_four va vb vc (is_digit b) (is_digit c) ha fa fb fc refl refl (subst (λ (n : ℕ). is_white (get_or (b ∷ c ∷ d ∷ []) n 0) ≡ true) is white))
 
 -- by their first six
 pub number_is_first : (bytes : List ℕ) (va vb vc vd ve more : ℕ) → 6 ≤ length bytes → is_digit (get_or bytes 0 0) ≡ true → IsValue (get_or bytes 0 0) va
@@ -187,49 +175,42 @@ in_parts a b bytes rest = ap (λ (l : List ℕ). l ++ rest) (sym (take-append-dr
 ends_there : (bytes rest : List ℕ) (n : ℕ) → n < length bytes → is_white (get_or bytes n 0) ≡ true → begins_apart (drop n bytes ++ rest) ≡ true
 ends_there bytes rest n some white = ap (λ (l : List ℕ). begins_apart (l ++ rest)) (drop_at bytes n some) ∙ white_is_apart (get_or bytes n 0) white
 
-number_is_read : (maxval gap number count : ℕ) (bytes : List ℕ) → length bytes ≤ GAP_LIMIT → AllPass is_white (take gap bytes)
-    → IsNumberFirst (drop gap bytes) number count → number ≤ maxval
-    → IsSampleFirst (plain_decimal maxval) bytes number (gap + count)
-number_is_read maxval gap number count bytes short white t range =
+number_is_read : (maxval gap : ℕ) {number count : ℕ} {bytes : List ℕ} → length bytes ≤ GAP_LIMIT → AllPass is_white (take gap bytes)
+    → IsNumberFirst (drop gap bytes) number count → number ≤ maxval → IsSampleFirst (plain_decimal maxval) bytes number (gap + count)
+number_is_read maxval gap {number} {count} {bytes} short white t range =
     let some : gap + count < length bytes = omega (arith, t.within, length-drop gap bytes) in
     let most : gap + count ≤ length bytes = omega arith in
     let follows : is_white (get_or bytes (gap + count) 0) ≡ true = ap is_white (sym (get_or-drop gap bytes count 0)) ∙ t.follows in record {
       within = most;
-      read = λ rest.
-          ap (plain_decimal maxval) (in_parts gap count bytes rest)
-          ∙ spelled_piece_is_read Gray maxval (take (gap + count) bytes) (drop (gap + count) bytes ++ rest) number
-          (record {
+      read = λ rest. ap (plain_decimal maxval) (in_parts gap count bytes rest)
+          ∙ spelled_piece_is_read Gray maxval (take (gap + count) bytes) (drop (gap + count) bytes ++ rest) number (record {
             gap = take gap bytes;
             digits = take count (drop gap bytes);
             whole = take-add gap count bytes;
-            gap_is = white_is_gap (take gap bytes) white;
+            gap_is = white_is_gap white;
             digits_are = t.spells;
             short = omega (arith, length-take-le (gap + count) bytes most);
-          })
-          (ends_there bytes rest (gap + count) some follows) range;
+          }) (ends_there bytes rest (gap + count) some follows) range;
     }
 
-pixel_is_read : (gap b sample : ℕ) (bytes : List ℕ) → length bytes ≤ GAP_LIMIT → gap < length bytes → AllPass is_white (take gap bytes) → get_or bytes gap 0 ≡ b
-    → 48 ≤ b → sample ≡ 49 - b → b ≤ 49 → IsSampleFirst plain_pixel bytes sample (gap + 1)
-pixel_is_read gap b sample bytes short some white is low is_sample high =
+pixel_is_read : (gap : ℕ) {b sample : ℕ} {bytes : List ℕ} → length bytes ≤ GAP_LIMIT → gap < length bytes → AllPass is_white (take gap bytes)
+    → get_or bytes gap 0 ≡ b → 48 ≤ b → sample ≡ 49 - b → b ≤ 49 → IsSampleFirst plain_pixel bytes sample (gap + 1)
+pixel_is_read gap {b} {sample} {bytes} short some white is low is_sample high =
     let most : gap + 1 ≤ length bytes = omega arith in
     let small : sample ≤ 1 = omega arith in
     let back : b ≡ 49 - sample = omega arith in
     let text : take 1 (drop gap bytes) ≡ (49 - sample) ∷ [] = ap (λ (l : List ℕ). take 1 l) (drop_at bytes gap some) ∙ ap (λ (n : ℕ). n ∷ []) (is ∙ back) in
     record {
       within = most;
-      read = λ rest.
-          ap plain_pixel (in_parts gap 1 bytes rest)
-          ∙ spelled_piece_is_read Bit 1 (take (gap + 1) bytes) (drop (gap + 1) bytes ++ rest) sample
-          (record {
+      read = λ rest. ap plain_pixel (in_parts gap 1 bytes rest)
+          ∙ spelled_piece_is_read Bit 1 (take (gap + 1) bytes) (drop (gap + 1) bytes ++ rest) sample (record {
             gap = take gap bytes;
             digits = take 1 (drop gap bytes);
             whole = take-add gap 1 bytes;
-            gap_is = white_is_gap (take gap bytes) white;
+            gap_is = white_is_gap white;
             digits_are = (small, text);
             short = omega (arith, length-take-le (gap + 1) bytes most);
-          })
-          tt small;
+          }) tt small;
     }
 
 -- a sample is a number, unless it is a bit
@@ -243,9 +224,9 @@ number_by_kind Pam maxval is = refl
 
 -- ---- samples in turn
 
-pub takes_none : (item : List ℕ → Result (ℕ × List ℕ) InputFault) (bytes row : List ℕ) → TakesSamples item bytes row row 0
+pub takes_none : {item : List ℕ → Result (ℕ × List ℕ) InputFault} {bytes row : List ℕ} → TakesSamples item bytes row row 0
 unfolding in_turn
-takes_none item bytes row = record { samples = []; within = omega arith; appended = sym (append-nil row); read = λ rest. refl }
+takes_none {row} = record { samples = []; within = omega arith; appended = sym (append-nil row); read = λ rest. refl }
 
 one_more : (item : List ℕ → Result (ℕ × List ℕ) InputFault) (n sample : ℕ) (samples text now rest : List ℕ) → in_turn item n text ≡ Ok (samples, now)
     → item now ≡ Ok (sample, rest)
@@ -269,16 +250,15 @@ takes_more item bytes old now new taken sample count t f e = record {
 }
 
 -- samples of the first bytes are samples of all
-takes_of_prefix : (item : List ℕ → Result (ℕ × List ℕ) InputFault) (n : ℕ) (bytes old new : List ℕ) (taken : ℕ) → n ≤ length bytes
+takes_of_prefix : {item : List ℕ → Result (ℕ × List ℕ) InputFault} (n : ℕ) {bytes old new : List ℕ} {taken : ℕ} → n ≤ length bytes
     → TakesSamples item (take n bytes) old new taken → TakesSamples item bytes old new taken
-takes_of_prefix item n bytes old new taken some t =
+takes_of_prefix {item} n {bytes} {taken} some t =
     let long : length (take n bytes) ≡ n = length-take-le n bytes some in
     let whole : take n bytes ++ drop n bytes ≡ bytes = take-append-drop n bytes in record {
       samples = t.samples;
       within = omega (arith, t.within);
       appended = t.appended;
-      read = λ rest.
-          ap (λ (l : List ℕ). in_turn item (length t.samples) (l ++ rest)) (sym whole)
+      read = λ rest. ap (λ (l : List ℕ). in_turn item (length t.samples) (l ++ rest)) (sym whole)
           ∙ ap (in_turn item (length t.samples)) (append_assoc (take n bytes) (drop n bytes) rest) ∙ t.read (drop n bytes ++ rest)
           ∙ ap (λ (l : List ℕ). Ok (t.samples, l)) (sym (append_assoc (drop taken (take n bytes)) (drop n bytes) rest)
           ∙ ap (λ (l : List ℕ). l ++ rest) (sym (drop-append-le taken (take n bytes) (drop n bytes) t.within) ∙ ap (λ (l : List ℕ). drop taken l) whole));
@@ -287,7 +267,7 @@ takes_of_prefix item n bytes old new taken some t =
 -- a call takes what was found
 pub all_taken : {E : Type 0} (item : List ℕ → Result (ℕ × List ℕ) InputFault) (n : ℕ) (bytes old new : List ℕ) (r : Result ℕ E) → n ≤ length bytes
     → IfOk r (TakesSamples item (take n bytes) old new) → IfOk r (TakesSamples item bytes old new)
-all_taken item n bytes old new (Ok taken) some t = takes_of_prefix item n bytes old new taken some t
+all_taken item n bytes old new (Ok taken) some t = takes_of_prefix n some t
 all_taken item n bytes old new (Err e) some t = tt
 
 -- ---- steps
@@ -298,20 +278,19 @@ pub record IsWhiteFrom (bytes : List ℕ) (taken at : ℕ) : Type 0 where
   pub within : at ≤ length bytes
   pub white : AllPass is_white (take (at - taken) (drop taken bytes))
 
-pub white_at_once : (bytes : List ℕ) (at : ℕ) → at ≤ length bytes → IsWhiteFrom bytes at at
-white_at_once bytes at some =
+pub white_at_once : {bytes : List ℕ} {at : ℕ} → at ≤ length bytes → IsWhiteFrom bytes at at
+white_at_once {bytes} {at} some =
     let none : at - at ≡ 0 = omega arith in
     record {
       before = omega arith;
       within = some;
-      white = subst (λ (n : ℕ). AllPass is_white (take n (drop at bytes))) (sym none)
-          (All-nil (λ x. is_white x ≡ true));
+      white = subst (λ (n : ℕ). AllPass is_white (take n (drop at bytes))) (sym none) (All-nil (λ x. is_white x ≡ true));
     }
 
 -- one byte more
-pub white_more : (bytes : List ℕ) (taken at : ℕ) → IsWhiteFrom bytes taken at → at < length bytes → is_white (get_or bytes at 0) ≡ true
+pub white_more : {bytes : List ℕ} {taken at : ℕ} → IsWhiteFrom bytes taken at → at < length bytes → is_white (get_or bytes at 0) ≡ true
     → IsWhiteFrom bytes taken (at + 1)
-white_more bytes taken at w some white =
+white_more {bytes} {taken} {at} w some white =
     let one : (at - taken) + 1 ≡ at + 1 - taken = omega (arith, w.before) in record {
       before = omega (arith, w.before);
       within = omega arith;
@@ -319,42 +298,41 @@ white_more bytes taken at w some white =
     }
 
 -- a number more
-pub number_taken : (maxval : ℕ) (bytes old now new : List ℕ) (taken at skipped number count : ℕ) → length bytes ≤ GAP_LIMIT
-    → TakesSamples (plain_decimal maxval) bytes old now taken → IsWhiteFrom bytes taken at
-    → AllPass is_white (take skipped (drop at bytes)) → IsNumberFirst (drop (at + skipped) bytes) number count → number ≤ maxval → new ≡ now ++ number ∷ []
+pub number_taken : (maxval : ℕ) {bytes old now new : List ℕ} {taken at : ℕ} (skipped : ℕ) {number count : ℕ} → length bytes ≤ GAP_LIMIT
+    → TakesSamples (plain_decimal maxval) bytes old now taken → IsWhiteFrom bytes taken at → AllPass is_white (take skipped (drop at bytes))
+    → IsNumberFirst (drop (at + skipped) bytes) number count → number ≤ maxval → new ≡ now ++ number ∷ []
     → TakesSamples (plain_decimal maxval) bytes old new (at + skipped + count)
-number_taken maxval bytes old now new taken at skipped number count short t w white f range e =
+number_taken maxval {bytes} {old} {now} {new} {taken} {at} skipped {number} {count} short t w white f range e =
     let gap : taken + ((at - taken) + skipped) ≡ at + skipped = omega (arith, w.before) in
     let there : drop ((at - taken) + skipped) (drop taken bytes) ≡ drop (at + skipped) bytes = drop-drop ((at - taken) + skipped) taken bytes
     ∙ ap (λ (n : ℕ). drop n bytes) gap in
-    let read = number_is_read maxval ((at - taken) + skipped) number count (drop taken bytes) (omega (arith, length-drop taken bytes))
+    let read = number_is_read maxval ((at - taken) + skipped) (omega (arith, length-drop taken bytes))
     (white_on bytes taken at skipped w.before w.white white) (subst (λ (l : List ℕ). IsNumberFirst l number count) (sym there) f) range in
     let sum : taken + (((at - taken) + skipped) + count) ≡ at + skipped + count = omega (arith, w.before) in
     subst (λ (n : ℕ). TakesSamples (plain_decimal maxval) bytes old new n) sum
     (takes_more (plain_decimal maxval) bytes old now new taken number (((at - taken) + skipped) + count) t read e)
 
 -- the byte after it is white space
-pub white_after_number : (bytes : List ℕ) (start number count : ℕ) → IsNumberFirst (drop start bytes) number count
-    → IsWhiteFrom bytes (start + count) (start + count + 1)
-white_after_number bytes start number count f =
+pub white_after_number : {bytes : List ℕ} (start : ℕ) {number count : ℕ} → IsNumberFirst (drop start bytes) number count → IsWhiteFrom bytes (start + count)
+    (start + count + 1)
+white_after_number {bytes} start {count} f =
     let some : start + count < length bytes = omega (arith, f.within, length-drop start bytes) in
-    white_more bytes (start + count) (start + count) (white_at_once bytes (start + count) (omega arith)) some
-    (ap is_white (sym (get_or-drop start bytes count 0)) ∙ f.follows)
+    white_more (white_at_once (omega arith)) some (ap is_white (sym (get_or-drop start bytes count 0)) ∙ f.follows)
 
 -- a pixel more
-pub pixel_taken : (bytes old now new : List ℕ) (taken at sample : ℕ) → length bytes ≤ GAP_LIMIT → TakesSamples plain_pixel bytes old now taken
-    → IsWhiteFrom bytes taken at → at < length bytes → 48 ≤ get_or bytes at 0 → get_or bytes at 0 ≤ 49
-    → sample ≡ 49 - get_or bytes at 0 → new ≡ now ++ sample ∷ [] → TakesSamples plain_pixel bytes old new (at + 1)
-pixel_taken bytes old now new taken at sample short t w some low high is e =
+pub pixel_taken : {bytes old now new : List ℕ} {taken at sample : ℕ} → length bytes ≤ GAP_LIMIT → TakesSamples plain_pixel bytes old now taken
+    → IsWhiteFrom bytes taken at → at < length bytes → 48 ≤ get_or bytes at 0 → get_or bytes at 0 ≤ 49 → sample ≡ 49 - get_or bytes at 0
+    → new ≡ now ++ sample ∷ [] → TakesSamples plain_pixel bytes old new (at + 1)
+pixel_taken {bytes} {old} {now} {new} {taken} {at} {sample} short t w some low high is e =
     let on : taken + (at - taken) ≡ at = omega (arith, w.before) in
     let byte : get_or (drop taken bytes) (at - taken) 0 ≡ get_or bytes at 0 = get_or-drop taken bytes (at - taken) 0 ∙ ap (λ (n : ℕ). get_or bytes n 0) on in
-    let read = pixel_is_read (at - taken) (get_or bytes at 0) sample (drop taken bytes) (omega (arith, length-drop taken bytes))
+    let read = pixel_is_read (at - taken) (omega (arith, length-drop taken bytes))
     (omega (arith, length-drop taken bytes, w.before)) w.white byte low is high in
     let sum : taken + ((at - taken) + 1) ≡ at + 1 = omega (arith, w.before) in
     subst (λ (n : ℕ). TakesSamples plain_pixel bytes old new n) sum (takes_more plain_pixel bytes old now new taken sample ((at - taken) + 1) t read e)
 
 -- ---- how many of some tests hold
 
-pub at_most_one : (test : Bool) (n : ℕ) → n ≡ from_bool test → n ≤ 1
-at_most_one true n e = omega (arith, e)
-at_most_one false n e = omega (arith, e)
+pub at_most_one : (test : Bool) {n : ℕ} → n ≡ from_bool test → n ≤ 1
+at_most_one true e = omega (arith, e)
+at_most_one false e = omega (arith, e)

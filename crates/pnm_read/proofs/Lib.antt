@@ -1,3 +1,4 @@
+mod Words
 pub mod LineNames
 pub mod CommentLaws
 pub mod Consumed

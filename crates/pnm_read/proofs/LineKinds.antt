@@ -1,15 +1,8 @@
 -- What a line of each kind has.
-use Rattle.std.proofs.Common.{◌≡◌, ℕ, Bool, true, false, if◌then◌else◌, ◌==◌, List, [], ◌∷◌, ◌++◌, codes, refl, sym, ap, subst, ◌∙◌, append-nil}
-use Rattle.std.specs.Str.{bytes_eq}
-use Rattle.std.proofs.lemmas.Slice.Eq.{bytes_eq-Decides}
-use Rattle.pnm_read.specs.declared.line.Field.{Field}
-use Rattle.pnm_read.specs.declared.line.Field.TheVariants.{Width, Height, Depth, Maxval}
-use Rattle.pnm_read.specs.declared.line.LineKind.{LineKind}
-use Rattle.pnm_read.specs.declared.line.LineKind.TheVariants.{Nothing, Number, TupleType, End, Unknown}
-use Rattle.pnm_image.specs.Texts.{decimal_value}
-use Rattle.pnm_read.specs.PamLines.{first_token, second_token, value_of, name_of, kind_of_token, line_kind, field_values}
-use Rattle.pnm_read.specs.Internal.LineWalks.{begins_with, joined_with}
-use Rattle.pnm_read.specs.PamLines.{tuple_type_in}
+use Rattle.pnm_read.proofs.Words.{◌≡◌, ℕ, Bool, true, false, if◌then◌else◌, ◌==◌, List, [], ◌∷◌, ◌++◌, codes, refl, sym, ap, subst, ◌∙◌, append-nil, bytes_eq}
+use Rattle.pnm_read.proofs.Words.{bytes_eq-Decides, Field, Width, Height, Depth, Maxval, LineKind, Nothing, Number, TupleType, End, Unknown, decimal_value}
+use Rattle.pnm_read.proofs.Words.{first_token, second_token, value_of, name_of, line_kind, begins_with, joined_with, tuple_type_in}
+use Rattle.pnm_read.specs.PamLines.{kind_of_token, field_values}
 use Rattle.pnm_read.proofs.LineLaws.{joined_with-nothing, field_values-append, tuple_type_in-append}
 use Rattle.pnm_read.proofs.WalkLaws.{tuple_type_in-cons, tuple_type_in-nil}
 
@@ -147,16 +140,16 @@ begins_type_is line = type_by (bytes_eq (codes "TUPLTYPE") (first_token line)) (
 -- ---- one line more
 
 -- the numbers of one line
-one_value : (field : Field) (line : List ℕ) (test : Bool) → begins_with (name_of field) line ≡ test
+one_value : (field : Field) (line : List ℕ) {test : Bool} → begins_with (name_of field) line ≡ test
     → field_values field (line ∷ []) ≡ (if test then decimal_value (second_token line) ∷ [] else [])
 unfolding field_values
-one_value field line test e = ap (λ (t : Bool). if t then decimal_value (second_token line) ∷ [] else []) e
+one_value field line e = ap (λ (t : Bool). if t then decimal_value (second_token line) ∷ [] else []) e
 
 -- a line of another kind has no number of the field
 pub values_same : (field : Field) (lines : List (List ℕ)) (line : List ℕ) → is_number field (line_kind line) ≡ false
     → field_values field (lines ++ line ∷ []) ≡ field_values field lines
 values_same field lines line e =
-    field_values-append field lines (line ∷ []) ∙ ap (λ (l : List ℕ). field_values field lines ++ l) (one_value field line false (begins_is field line ∙ e))
+    field_values-append field lines (line ∷ []) ∙ ap (λ (l : List ℕ). field_values field lines ++ l) (one_value field line (begins_is field line ∙ e))
     ∙ append-nil (field_values field lines)
 
 -- the first number of the field
@@ -164,12 +157,12 @@ pub values_first : (field : Field) (lines : List (List ℕ)) (line : List ℕ) �
     → field_values field (lines ++ line ∷ []) ≡ decimal_value (second_token line) ∷ []
 values_first field lines line e none =
     field_values-append field lines (line ∷ []) ∙ ap (λ (l : List ℕ). l ++ field_values field (line ∷ [])) none
-    ∙ one_value field line true (begins_is field line ∙ e)
+    ∙ one_value field line (begins_is field line ∙ e)
 
 -- the tuple type of one line
-one_type : (line : List ℕ) (test : Bool) → begins_with (codes "TUPLTYPE") line ≡ test
+one_type : (line : List ℕ) {test : Bool} → begins_with (codes "TUPLTYPE") line ≡ test
     → tuple_type_in (line ∷ []) ≡ (if test then joined_with (value_of line) [] else [])
-one_type line test e =
+one_type line e =
     tuple_type_in-cons line []
     ∙ ap (λ (l : List ℕ). if begins_with (codes "TUPLTYPE") line then joined_with (value_of line) l else l) tuple_type_in-nil
     ∙ ap (λ (t : Bool). if t then joined_with (value_of line) [] else []) e
@@ -177,7 +170,7 @@ one_type line test e =
 -- a line of another kind leaves the tuple type
 pub type_same : (lines : List (List ℕ)) (line : List ℕ) → is_type (line_kind line) ≡ false → tuple_type_in (lines ++ line ∷ []) ≡ tuple_type_in lines
 type_same lines line e =
-    tuple_type_in-append lines (line ∷ []) ∙ ap (joined_with (tuple_type_in lines)) (one_type line false (begins_type_is line ∙ e))
+    tuple_type_in-append lines (line ∷ []) ∙ ap (joined_with (tuple_type_in lines)) (one_type line (begins_type_is line ∙ e))
     ∙ joined_with-nothing (tuple_type_in lines)
 
 -- a line of the tuple type joins its value to it
@@ -185,4 +178,4 @@ pub type_joined : (lines : List (List ℕ)) (line : List ℕ) → is_type (line_
     → tuple_type_in (lines ++ line ∷ []) ≡ joined_with (tuple_type_in lines) (value_of line)
 type_joined lines line e =
     tuple_type_in-append lines (line ∷ [])
-    ∙ ap (joined_with (tuple_type_in lines)) (one_type line true (begins_type_is line ∙ e) ∙ joined_with-nothing (value_of line))
+    ∙ ap (joined_with (tuple_type_in lines)) (one_type line (begins_type_is line ∙ e) ∙ joined_with-nothing (value_of line))

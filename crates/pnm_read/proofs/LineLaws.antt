@@ -1,14 +1,10 @@
 -- Lines of a PAM header that is read on by one byte, and what lines together have.
-use Rattle.std.proofs.Common.{◌≡◌, ℕ, Bool, true, false, not, ◌==◌, if◌then◌else◌, List, [], ◌∷◌, ◌++◌, refl, sym, ap, ap₂, subst}
-use Rattle.std.proofs.Common.{◌∙◌, append_assoc, append-nil, arith, codes}
-use Rattle.std.specs.List.{AllByRecursion, flat_map}
-use Rattle.std.proofs.lemmas.Bool.Decides.{nat_tests}
-use Rattle.std.proofs.lemmas.List.Elements.{All-push}
-use Rattle.pnm_read.specs.declared.line.Field.{Field}
-use Rattle.pnm_image.specs.Texts.{decimal_value}
-use Rattle.pnm_read.specs.PamLines.{ended_lines, last_line, second_token, value_of, name_of, field_values, tuple_type_in}
-use Rattle.pnm_read.specs.Internal.LineWalks.{ended_after, last_after, begins_with, joined_with}
-use Rattle.pnm_read.specs.Headers.{IsOneLine}
+use Rattle.pnm_read.proofs.Words.{◌≡◌, ℕ, Bool, true, false, not, ◌==◌, if◌then◌else◌, List, [], ◌∷◌, ◌++◌, refl, sym, ap, ap₂, subst, ◌∙◌, append_assoc}
+use Rattle.pnm_read.proofs.Words.{append-nil, arith, codes, AllByRecursion, nat_tests, All-push, Field, decimal_value, ended_lines, last_line, second_token}
+use Rattle.pnm_read.proofs.Words.{value_of, name_of, tuple_type_in, begins_with, joined_with, IsOneLine}
+use Rattle.std.specs.List.{flat_map}
+use Rattle.pnm_read.specs.PamLines.{field_values}
+use Rattle.pnm_read.specs.Internal.LineWalks.{ended_after, last_after}
 use Rattle.pnm_read.proofs.WalkLaws.{ended_lines_are, last_line_is, tuple_type_in-cons, tuple_type_in-nil}
 
 -- a choice between equal values is one choice
@@ -79,9 +75,9 @@ last_line-other text b e = rw (last_line_is (text ++ b ∷ []), last_line_is tex
 abbrev pub with_feeds : List (List ℕ) → List ℕ
 with_feeds lines = flat_map (λ line. line ++ 10 ∷ []) lines
 
-feed_after : (line : List ℕ) (c : ℕ) (text : List ℕ) → text ≡ with_feeds (ended_after [] text) ++ last_after [] text → (c == 10) ≡ true
+feed_after : (line : List ℕ) (c : ℕ) {text : List ℕ} → text ≡ with_feeds (ended_after [] text) ++ last_after [] text → (c == 10) ≡ true
     → line ++ c ∷ text ≡ with_feeds (line ∷ ended_after [] text) ++ last_after [] text
-feed_after line c text is e =
+feed_after line c {text} is e =
     let feed : c ≡ 10 = grind (arith, nat_tests, e) in
     ap (λ k. line ++ k ∷ text) feed
     ∙ ap (λ (l : List ℕ). line ++ 10 ∷ l) is
@@ -92,8 +88,7 @@ text_after : (line text : List ℕ) → line ++ text ≡ with_feeds (ended_after
 unfolding ended_after last_after
 text_after line [] = append-nil line
 text_after line (c ∷ text) =
-    if_known (λ (lines : List (List ℕ)) (last : List ℕ). line ++ c ∷ text ≡ with_feeds lines ++ last) (c == 10)
-    (λ e. feed_after line c text (text_after [] text) e)
+    if_known (λ (lines : List (List ℕ)) (last : List ℕ). line ++ c ∷ text ≡ with_feeds lines ++ last) (c == 10) (λ e. feed_after line c (text_after [] text) e)
     (λ e. sym (append_assoc line (c ∷ []) text) ∙ text_after (line ++ c ∷ []) text)
 
 -- a text is its ended lines, and then its last one

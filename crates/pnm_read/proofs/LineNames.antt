@@ -1,11 +1,8 @@
 -- The names of lines, one after another.
-use Rattle.std.proofs.Common.{◌≡◌, ℕ, ◌==◌, Bool, true, false, Option, Some, List, [], ◌∷◌, ◌<◌, length, codes, get_or, refl, arith}
+use Rattle.pnm_read.proofs.Words.{◌≡◌, ℕ, ◌==◌, Bool, true, false, Option, Some, List, [], ◌∷◌, ◌<◌, length, codes, get_or, refl, arith, option_or, unwrap_or}
+use Rattle.pnm_read.proofs.Words.{bytes_eq, Width, Height, Depth, Maxval, Number, TupleType, End, Unknown, name_of}
 use Rattle.std.specs.Prelude.{if◌then◌else◌}
-use Rattle.std.specs.Option.{option_or, unwrap_or}
-use Rattle.std.specs.Str.{bytes_eq}
-use Rattle.pnm_read.specs.declared.line.Field.TheVariants.{Width, Height, Depth, Maxval}
-use Rattle.pnm_read.specs.declared.line.LineKind.TheVariants.{Number, TupleType, End, Unknown}
-use Rattle.pnm_read.specs.PamLines.{name_of, kind_of_token}
+use Rattle.pnm_read.specs.PamLines.{kind_of_token}
 
 -- what is tried after a test is tried where the test fails
 pub tried_after : {T : Type 0} (test : Bool) (named : T) (before after : Option T)

@@ -1,19 +1,12 @@
 -- What the functions on a line's bytes find.
-use Rattle.std.proofs.Common.{◌≡◌, ◌⊎◌, inl, inr, ℕ, ◌+◌, ◌-◌, ◌*◌, ◌<◌, ◌≤◌, Bool, true, false, ◌&&◌, if◌then◌else◌, List, [], ◌∷◌, ◌++◌, length, take, drop}
-use Rattle.std.proofs.Common.{get_or, Some, None, refl, sym, ap, ◌∙◌, append_assoc, append-nil, arith}
-use Rattle.std.specs.List.{list_all}
-use Rattle.std.proofs.lemmas.Int.Digits.{digits_value_more}
-use Rattle.std.proofs.lemmas.List.Folds.{list_all_more, list_all_at}
-use Rattle.std.proofs.lemmas.List.{take_more, drop_more, take_all, drop_all}
-use Rattle.pnm_image.specs.Texts.{is_blank, is_digit, decimal_value}
-use Rattle.pnm_image.proofs.Lists.{first_and_rest}
-use Rattle.pnm_read.specs.Internal.Saturation.{saturate_u32, with_digit}
-use Rattle.pnm_read.specs.Internal.PamScanners.{number_of}
+use Rattle.pnm_read.proofs.Words.{◌≡◌, ◌⊎◌, inl, inr, ℕ, ◌+◌, ◌-◌, ◌*◌, ◌<◌, ◌≤◌, Bool, true, false, ◌&&◌, if◌then◌else◌, List, [], ◌∷◌, ◌++◌, length, take}
+use Rattle.pnm_read.proofs.Words.{drop, get_or, Some, None, refl, sym, ap, ◌∙◌, append_assoc, append-nil, arith, list_all, digits_value_more, list_all_more}
+use Rattle.pnm_read.proofs.Words.{list_all_at, take_more, drop_more, take_all, drop_all, is_blank, is_digit, decimal_value, first_and_rest, saturate_u32}
+use Rattle.pnm_read.proofs.Words.{with_digit, number_of, first_token, onto_trimmed}
 use Rattle.pnm_read.proofs.DecimalSteps.{with_digit-saturate_u32}
 use Rattle.pnm_read.proofs.WordLaws.{digit_value_is}
 use Rattle.pnm_read.proofs.TupleTypeLaws.{trimmed_start-same, trimmed_end-same}
-use Rattle.pnm_read.specs.PamLines.{first_token}
-use Rattle.pnm_read.specs.Internal.LineWalks.{trimmed_start, trimmed_end, onto_trimmed, token_of, after_token}
+use Rattle.pnm_read.specs.Internal.LineWalks.{trimmed_start, trimmed_end, token_of, after_token}
 use Rattle.pnm_read.proofs.WalkLaws.{first_token_is}
 
 -- ---- white space at the ends of a text
@@ -82,8 +75,8 @@ unfolding after_token
 after_other b text e = rw e refl
 
 -- one byte of the token more
-pub split_more : (text : List ℕ) (n : ℕ) → SplitAt text n → n < length text → is_blank (get_or text n 0) ≡ false → SplitAt text (n + 1)
-split_more text n s lt e =
+pub split_more : {text : List ℕ} {n : ℕ} → SplitAt text n → n < length text → is_blank (get_or text n 0) ≡ false → SplitAt text (n + 1)
+split_more {text} {n} s lt e =
     let place : drop n text ≡ get_or text n 0 ∷ drop (n + 1) text = drop_more text n 0 lt in
     record {
       within = omega arith;
@@ -127,13 +120,13 @@ all_after text n (inl le) = ap after_token (drop_all n text le) ∙ after_none �
 all_after text n (inr h) = ap after_token (drop_more text n 0 h.0) ∙ after_blank (get_or text n 0) (drop (n + 1) text) h.1 ∙ sym (drop_more text n 0 h.0)
 
 -- the token was found, and what follows it
-pub split_token_is : (text line : List ℕ) (n : ℕ) → text ≡ trimmed_start line → SplitAt text n → IsTokenEnd text n → take n text ≡ first_token line
-split_token_is text line n e s end = sym (append-nil (take n text)) ∙ ap (λ (l : List ℕ). take n text ++ l) (sym (no_token text n end)) ∙ sym s.token
+pub split_token_is : {text : List ℕ} (line : List ℕ) {n : ℕ} → text ≡ trimmed_start line → SplitAt text n → IsTokenEnd text n → take n text ≡ first_token line
+split_token_is {text} line {n} e s end = sym (append-nil (take n text)) ∙ ap (λ (l : List ℕ). take n text ++ l) (sym (no_token text n end)) ∙ sym s.token
     ∙ ap token_of e ∙ sym (first_token_is line)
 
-pub split_rest_is : (text line : List ℕ) (n : ℕ) → text ≡ trimmed_start line → SplitAt text n → IsTokenEnd text n
+pub split_rest_is : {text : List ℕ} (line : List ℕ) {n : ℕ} → text ≡ trimmed_start line → SplitAt text n → IsTokenEnd text n
     → drop n text ≡ after_token (trimmed_start line)
-split_rest_is text line n e s end = sym (all_after text n end) ∙ sym s.rest ∙ ap after_token e
+split_rest_is {text} line {n} e s end = sym (all_after text n end) ∙ sym s.rest ∙ ap after_token e
 
 -- ---- numbers
 
@@ -143,8 +136,8 @@ pub record DigitsSo (token : List ℕ) (n number : ℕ) : Type 0 where
   pub value : number ≡ saturate_u32 (decimal_value (take n token))
 
 -- no byte so far
-pub no_digits : (token : List ℕ) → DigitsSo token 0 0
-no_digits token = record { digits = refl; value = refl }
+pub no_digits : {token : List ℕ} → DigitsSo token 0 0
+no_digits = record { digits = refl; value = refl }
 
 -- one digit more
 pub digits_more : (token : List ℕ) (n old new : ℕ) → DigitsSo token n old → n < length token → is_digit (get_or token n 0) ≡ true
@@ -160,8 +153,8 @@ pub number_none : (token : List ℕ) (n : ℕ) → n < length token → is_digit
 number_none token n lt e = ap (λ (t : Bool). if t then Some (saturate_u32 (decimal_value token)) else None) (sym (list_all_at is_digit token n 0 lt e))
 
 -- all bytes are digits
-pub number_is : (token : List ℕ) (n number : ℕ) → DigitsSo token n number → length token ≤ n → Some number ≡ number_of token
-number_is token n number d le =
+pub number_is : {token : List ℕ} {n number : ℕ} → DigitsSo token n number → length token ≤ n → Some number ≡ number_of token
+number_is {token} {n} d le =
     let all : take n token ≡ token = take_all n token le in
     ap (λ (k : ℕ). Some k) (d.value ∙ ap (λ (l : List ℕ). saturate_u32 (decimal_value l)) all)
     ∙ ap (λ (t : Bool). if t then Some (saturate_u32 (decimal_value token)) else None) (sym (sym (ap (λ (l : List ℕ). list_all is_digit l) all) ∙ d.digits))

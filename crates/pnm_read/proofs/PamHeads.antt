@@ -1,31 +1,21 @@
 -- The head that the lines of a PAM header make together.
-use Rattle.std.proofs.Common.{◌≡◌, ℕ, ◌<◌, ◌≤◌, Bool, true, false, ◌==◌, ◌||◌, if◌then◌else◌, List, [], ◌∷◌, ◌++◌, length, Option, Result, Ok, Err, refl, sym}
-use Rattle.std.proofs.Common.{ap, subst, ◌∙◌, arith}
-use Rattle.std.specs.Prelude.{slice_index}
-use Rattle.std.specs.List.{AllByRecursion}
-use Rattle.pnm_image.specs.declared.shape.Shape.{Shape}
-use Rattle.pnm_image.specs.declared.shape.Kind.{Kind}
-use Rattle.pnm_image.specs.declared.shape.Kind.TheVariants.{Pam}
-use Rattle.pnm_image.specs.declared.head.HeadFault.{HeadFault}
-use Rattle.pnm_image.specs.Heads.{HeadValue, IsHead, head_value, shape_fault}
-use Rattle.pnm_read.specs.declared.fault.InputFault.{InputFault}
-use Rattle.pnm_read.specs.declared.fault.InputFault.TheVariants.{MissingField}
-use Rattle.pnm_read.specs.declared.line.Field.TheVariants.{Width, Height, Depth, Maxval}
-use Rattle.pnm_read.specs.declared.line.LineKind.TheVariants.{End}
-use Rattle.pnm_read.specs.PamLines.{line_kind, field_values, tuple_type_in}
-use Rattle.pnm_read.specs.Headers.{IsOneLine}
-use Rattle.pnm_read.specs.Items.{shape_in, lines_item}
+use Rattle.pnm_read.proofs.Words.{◌≡◌, ℕ, ◌<◌, ◌≤◌, Bool, true, false, ◌==◌, ◌||◌, if◌then◌else◌, List, [], ◌∷◌, ◌++◌, length, Option, Result, Ok, Err, refl}
+use Rattle.pnm_read.proofs.Words.{sym, ap, subst, ◌∙◌, arith, slice_index, AllByRecursion, Shape, Kind, Pam, HeadFault, HeadValue, IsHead, head_value}
+use Rattle.pnm_read.proofs.Words.{shape_fault, InputFault, MissingField, Width, Height, Depth, Maxval, End, line_kind, field_values, tuple_type_in, IsOneLine}
+use Rattle.pnm_read.proofs.Words.{shape_in}
+use Rattle.pnm_read.specs.Items.{lines_item}
 use Rattle.pnm_read.proofs.ShapeLaws.{head_or_fault, head_or_fault_ok, limits_of, no_shape_fault}
 use Rattle.pnm_read.proofs.TupleTypeLaws.{tuple_type_in-is}
 use Rattle.pnm_read.proofs.PamLineLaws.{values-end, tuple_type-end, StatusValue}
 
-missing_by : (w h d m : Bool) (made : Result HeadValue InputFault) (head : HeadValue)
-    → (if w || (h || (d || (m || false))) then Err MissingField else made) ≡ Ok head → (w ≡ false) × (h ≡ false) × (d ≡ false) × (m ≡ false) × (made ≡ Ok head)
-missing_by true h d m made head e = absurd cc
-missing_by false true d m made head e = absurd cc
-missing_by false false true m made head e = absurd cc
-missing_by false false false true made head e = absurd cc
-missing_by false false false false made head e = (refl, refl, refl, refl, e)
+missing_by : (w h d m : Bool) (made : Result HeadValue InputFault) {head : HeadValue}
+    → (if w || (h || (d || (m || false))) then Err MissingField else made) ≡ Ok head
+    → (w ≡ false) × (h ≡ false) × (d ≡ false) × (m ≡ false) × (made ≡ Ok head)
+missing_by true h d m made e = absurd cc
+missing_by false true d m made e = absurd cc
+missing_by false false true m made e = absurd cc
+missing_by false false false true made e = absurd cc
+missing_by false false false false made e = (refl, refl, refl, refl, e)
 
 -- a field with some number, and no two
 one_value : (values : List ℕ) → (length values == 0) ≡ false → length values ≤ 1 → values ≡ slice_index values 0 ∷ []
@@ -44,14 +34,13 @@ pub record MadeOf (lines : List (List ℕ)) (head : HeadValue) : Type 0 where
   pub sound : IsHead head
   pub rows : 0 < head.shape.height
 
-pub lines_make_head : (lines : List (List ℕ)) (head : HeadValue) → StatusValue lines → AllByRecursion IsOneLine lines → lines_item lines ≡ Ok head
+pub lines_make_head : {lines : List (List ℕ)} {head : HeadValue} → StatusValue lines → AllByRecursion IsOneLine lines → lines_item lines ≡ Ok head
     → MadeOf lines head
 unfolding lines_item
-lines_make_head lines head j one e =
+lines_make_head {lines} j one e =
     let parts = missing_by (length (field_values Width lines) == 0) (length (field_values Height lines) == 0) (length (field_values Depth lines) == 0)
-    (length (field_values Maxval lines) == 0)
-    (head_or_fault (shape_fault (shape_in lines)) (head_value (shape_in lines) (tuple_type_in lines))) head e in
-    let good = head_or_fault_ok (shape_fault (shape_in lines)) (head_value (shape_in lines) (tuple_type_in lines)) head parts.4 in
+    (length (field_values Maxval lines) == 0) (head_or_fault (shape_fault (shape_in lines)) (head_value (shape_in lines) (tuple_type_in lines))) e in
+    let good = head_or_fault_ok (shape_fault (shape_in lines)) (head_value (shape_in lines) (tuple_type_in lines)) parts.4 in
     let limits = limits_of (shape_in lines) good.0 in
     let made : MadeOf lines (head_value (shape_in lines) (tuple_type_in lines)) = record {
       width = one_value (field_values Width lines) parts.0 (j.single Width);
@@ -78,10 +67,9 @@ unfolding lines_item
 lines_item_is lines = refl
 
 -- lines that have the same make the same
-same_made : (lines : List (List ℕ)) (w h d m tuple_type : List ℕ) → field_values Width lines ≡ w → field_values Height lines ≡ h → field_values Depth lines ≡ d
-    → field_values Maxval lines ≡ m → tuple_type_in lines ≡ tuple_type
-    → lines_item lines ≡ made_by w h d m tuple_type
-same_made lines w h d m tuple_type width height depth maxval text =
+same_made : (lines : List (List ℕ)) {w h d m tuple_type : List ℕ} → field_values Width lines ≡ w → field_values Height lines ≡ h
+    → field_values Depth lines ≡ d → field_values Maxval lines ≡ m → tuple_type_in lines ≡ tuple_type → lines_item lines ≡ made_by w h d m tuple_type
+same_made lines {w} {h} {d} {m} width height depth maxval text =
     lines_item_is lines
     ∙ ap (λ (x : List ℕ). made_by x (field_values Height lines) (field_values Depth lines) (field_values Maxval lines) (tuple_type_in lines)) width
     ∙ ap (λ (x : List ℕ). made_by w x (field_values Depth lines) (field_values Maxval lines) (tuple_type_in lines)) height
@@ -90,26 +78,23 @@ same_made lines w h d m tuple_type width height depth maxval text =
     ∙ ap (λ (x : List ℕ). made_by w h d m x) text
 
 -- the head of PAM that a shape and a tuple type make
-pam_head_of : (head : HeadValue) (kind : Kind) → head.shape.kind ≡ kind → IsHead head → 0 < head.shape.height
+pam_head_of : {head : HeadValue} {kind : Kind} → head.shape.kind ≡ kind → IsHead head → 0 < head.shape.height
     → (let s : Shape = record { kind = kind; width = head.shape.width; height = head.shape.height; depth = head.shape.depth; maxval = head.shape.maxval } in
     head_or_fault (shape_fault s) (head_value s head.tuple_type)) ≡ Ok head
-pam_head_of head kind k sound rows =
+pam_head_of {head} {kind} k sound rows =
     ap (λ (x : Kind). let s : Shape =
     record { kind = x; width = head.shape.width; height = head.shape.height; depth = head.shape.depth; maxval = head.shape.maxval } in
     head_or_fault (shape_fault s) (head_value s head.tuple_type)) (sym k)
-    ∙ ap (λ (f : Option HeadFault). head_or_fault f head) (no_shape_fault head.shape sound.limits rows)
+    ∙ ap (λ (f : Option HeadFault). head_or_fault f head) (no_shape_fault sound.limits rows)
 
 -- such lines are read as the head
-pub made_is_found : (lines : List (List ℕ)) (head : HeadValue) → MadeOf lines head → lines_item lines ≡ Ok head
-made_is_found lines head m =
-    same_made lines (head.shape.width ∷ []) (head.shape.height ∷ []) (head.shape.depth ∷ []) (head.shape.maxval ∷ []) head.tuple_type m.width m.height m.depth
-    m.maxval m.tuple_type ∙ pam_head_of head Pam m.kind m.sound m.rows
+pub made_is_found : {lines : List (List ℕ)} {head : HeadValue} → MadeOf lines head → lines_item lines ≡ Ok head
+made_is_found {lines} m = same_made lines m.width m.height m.depth m.maxval m.tuple_type ∙ pam_head_of m.kind m.sound m.rows
 
 -- ENDHDR makes no difference
 pub lines_item-end : (lines : List (List ℕ)) (last : List ℕ) → line_kind last ≡ End → lines_item (lines ++ last ∷ []) ≡ lines_item lines
 lines_item-end lines last k =
-    same_made (lines ++ last ∷ []) (field_values Width lines) (field_values Height lines) (field_values Depth lines) (field_values Maxval lines)
-    (tuple_type_in lines)
+    same_made (lines ++ last ∷ [])
     (values-end Width lines last k) (values-end Height lines last k) (values-end Depth lines last k) (values-end Maxval lines last k)
     (tuple_type-end lines last k)
     ∙ sym (lines_item_is lines)

@@ -1,25 +1,13 @@
 -- The header of PAM: what is read is spelled, and what is spelled is read.
-use Rattle.std.proofs.Common.{◌≡◌, ℕ, ◌+◌, ◌<◌, ◌≤◌, Bool, true, false, not, ◌==◌, if◌then◌else◌, List, [], ◌∷◌, ◌++◌, length, Some, Ok, Err, refl, sym, ap}
-use Rattle.std.proofs.Common.{subst, ◌∙◌, append_assoc, append-nil, length-append, arith}
-use Rattle.std.specs.Prelude.{nat_le}
-use Rattle.std.specs.List.{AllByRecursion}
-use Rattle.std.proofs.lemmas.Bool.{eqb-true, leb-false, lt-leb, not-true}
-use Rattle.std.proofs.lemmas.List.Elements.{All-head, All-tail}
-use Rattle.pnm_image.specs.declared.shape.Kind.{Kind}
-use Rattle.pnm_image.specs.Heads.{HeadValue, IsTupleType, Suits}
-use Rattle.pnm_read.specs.declared.fault.InputFault.TheVariants.{TooLong, BadPamLine}
-use Rattle.pnm_image.specs.declared.format.Format.{Format}
-use Rattle.pnm_read.specs.declared.scan_status.ScanStatus.{ScanStatus}
-use Rattle.pnm_read.specs.declared.scan_status.ScanStatus.TheVariants.{GoesOn, EndsWith, EndsBefore, Fails}
-use Rattle.pnm_read.specs.declared.line.Field.{Field}
-use Rattle.pnm_read.specs.declared.line.Field.TheVariants.{Width, Height, Depth, Maxval}
-use Rattle.pnm_read.specs.declared.line.LineKind.TheVariants.{End}
-use Rattle.pnm_image.specs.Formats.{format_of}
-use Rattle.pnm_read.specs.PamLines.{ended_lines, last_line, line_kind, field_values, tuple_type_in}
+use Rattle.pnm_read.proofs.Words.{◌≡◌, ℕ, ◌+◌, ◌<◌, ◌≤◌, Bool, true, false, not, ◌==◌, if◌then◌else◌, List, [], ◌∷◌, ◌++◌, length, Some, Ok, Err, refl, sym, ap}
+use Rattle.pnm_read.proofs.Words.{subst, ◌∙◌, append_assoc, append-nil, arith, nat_le, AllByRecursion, eqb-true, leb-false, lt-leb, not-true, All-head}
+use Rattle.pnm_read.proofs.Words.{All-tail, Kind, HeadValue, IsTupleType, Suits, TooLong, BadPamLine, Format, ScanStatus, GoesOn, EndsWith, EndsBefore, Fails}
+use Rattle.pnm_read.proofs.Words.{Field, Width, Height, Depth, Maxval, End, format_of, last_line, line_kind, field_values, tuple_type_in, IsOneLine, IsPamLine}
+use Rattle.pnm_read.proofs.Words.{SpellsPamHeader, MAX_HEADER_LENGTH, ◌>>=◌, piece_from, header_end, pam_limit, line_item, lines_item}
+use Rattle.std.proofs.Common.{length-append}
+use Rattle.pnm_read.specs.PamLines.{ended_lines}
 use Rattle.pnm_read.specs.Internal.LineWalks.{ended_after, last_after}
-use Rattle.pnm_read.specs.Headers.{IsOneLine, IsPamLine, SpellsPamHeader}
-use Rattle.pnm_read.specs.declared.header.TheConstants.{MAX_HEADER_LENGTH}
-use Rattle.pnm_read.specs.Items.{◌>>=◌, piece_from, header_end, line_feed_item, pam_limit, line_item, pam_item, lines_item}
+use Rattle.pnm_read.specs.Items.{line_feed_item, pam_item}
 use Rattle.pnm_read.specs.Said.{pam_head_at}
 use Rattle.pnm_read.proofs.PieceLaws.{bind_ok, done, ok_is, piece_step, FoundBy, found_from, found_at_end, found_is_whole}
 use Rattle.pnm_read.proofs.HeaderPieces.{goes_on_through}
@@ -96,12 +84,12 @@ body_by EndsBefore before b text found e j h more =
     (ends_before_by (nat_le pam_limit (length before)) (b == 10) (line_item (ended_lines before) (last_line before)) (sym (pam_item_is before b) ∙ e)))
 body_by GoesOn before b text found e j h more = more (judged-byte before b j e) h
 
-body_is_read : (text before : List ℕ) (found : List ℕ × List ℕ) → StatusValue (ended_lines before) → piece_from pam_item header_end before text ≡ Ok found
+body_is_read : (text before : List ℕ) {found : List ℕ × List ℕ} → StatusValue (ended_lines before) → piece_from pam_item header_end before text ≡ Ok found
     → PamBody found.0
-body_is_read [] before found j e = let none = (found_at_end pam_item header_end before found e).0 in absurd cc
-body_is_read (b ∷ text) before found j e =
-    body_by (pam_item before b) before b text found refl j (found_from pam_item header_end before b text found e)
-    (λ on rest. body_is_read text (before ++ b ∷ []) found on rest)
+body_is_read [] before j e = let none = (found_at_end pam_item header_end before e).0 in absurd cc
+body_is_read (b ∷ text) before {found} j e =
+    body_by (pam_item before b) before b text found refl j (found_from pam_item header_end before b text e)
+    (λ on rest. body_is_read text (before ++ b ∷ []) on rest)
 
 no_lines : ended_lines [] ≡ []
 unfolding ended_lines
@@ -111,10 +99,10 @@ line_feed_by : (feed : Bool) (b : ℕ) (text rest : List ℕ) → (b == 10) ≡ 
 line_feed_by true b text rest h e = let first = eqb-true b 10 h in cc
 line_feed_by false b text rest h e = absurd cc
 
-line_feed_is : (text rest : List ℕ) → line_feed_item text ≡ Ok rest → text ≡ 10 ∷ rest
+line_feed_is : (text : List ℕ) {rest : List ℕ} → line_feed_item text ≡ Ok rest → text ≡ 10 ∷ rest
 unfolding line_feed_item
-line_feed_is [] rest e = absurd cc
-line_feed_is (b ∷ text) rest e = line_feed_by (b == 10) b text rest refl e
+line_feed_is [] e = absurd cc
+line_feed_is (b ∷ text) {rest} e = line_feed_by (b == 10) b text rest refl e
 
 -- the body and the head of a header that was read
 record PamRead (text : List ℕ) (head : HeadValue) (rest : List ℕ) : Type 0 where
@@ -126,14 +114,14 @@ record PamRead (text : List ℕ) (head : HeadValue) (rest : List ℕ) : Type 0 w
   pub made : MadeOf (ended_lines body) head
 
 -- the lines of a piece make what those of its body make
-lines_of_piece : (piece body : List ℕ) → piece ≡ body ++ 10 ∷ [] → line_kind (last_line body) ≡ End
+lines_of_piece : {piece : List ℕ} (body : List ℕ) → piece ≡ body ++ 10 ∷ [] → line_kind (last_line body) ≡ End
     → lines_item (ended_lines piece) ≡ lines_item (ended_lines body)
-lines_of_piece piece body e ends = ap (λ (t : List ℕ). lines_item (ended_lines t)) e ∙ ap lines_item (ended_lines-lf body)
+lines_of_piece body e ends = ap (λ (t : List ℕ). lines_item (ended_lines t)) e ∙ ap lines_item (ended_lines-lf body)
     ∙ lines_item-end (ended_lines body) (last_line body) ends
 
-whole_after : (text : List ℕ) (found : List ℕ × List ℕ) (body rest : List ℕ) → text ≡ found.0 ++ found.1 → found.0 ≡ body ++ 10 ∷ [] → found.1 ≡ rest
-    → text ≡ (body ++ 10 ∷ []) ++ rest
-whole_after text found body rest whole piece back = whole ∙ ap (λ (t : List ℕ). t ++ found.1) piece ∙ ap (λ (t : List ℕ). (body ++ 10 ∷ []) ++ t) back
+whole_after : {text : List ℕ} (found : List ℕ × List ℕ) (body : List ℕ) {rest : List ℕ} → text ≡ found.0 ++ found.1 → found.0 ≡ body ++ 10 ∷ []
+    → found.1 ≡ rest → text ≡ (body ++ 10 ∷ []) ++ rest
+whole_after found body whole piece back = whole ∙ ap (λ (t : List ℕ). t ++ found.1) piece ∙ ap (λ (t : List ℕ). (body ++ 10 ∷ []) ++ t) back
 
 -- a step has one head, and one rest
 both_are : (made head : HeadValue) (after rest : List ℕ) → done {A = HeadValue × List ℕ} (made, after) ≡ Ok (head, rest) → (made ≡ head) × (after ≡ rest)
@@ -141,27 +129,25 @@ both_are made head after rest e =
     let parts : (made, after) ≡ (head, rest) = ok_is (made, after) (head, rest) e in
     (ap (λ (p : HeadValue × List ℕ). p.0) parts, ap (λ (p : HeadValue × List ℕ). p.1) parts)
 
-pam_parts : (text : List ℕ) (head : HeadValue) (rest : List ℕ) → pam_head_at text ≡ Ok (head, rest) → PamRead text head rest
+pam_parts : {text : List ℕ} {head : HeadValue} {rest : List ℕ} → pam_head_at text ≡ Ok (head, rest) → PamRead text head rest
 unfolding pam_head_at
-pam_parts text head rest e =
+pam_parts {text} {head} {rest} e =
     let feed = bind_ok (line_feed_item text) (λ after. piece_from pam_item header_end [] after >>= λ piece. lines_item (ended_lines piece.0) >>= λ made.
-    Ok (made, piece.1)) (head, rest) e in
-    let piece = bind_ok (piece_from pam_item header_end [] feed.0) (λ found. lines_item (ended_lines found.0) >>= λ made. Ok (made, found.1))
-    (head, rest) feed.2 in
-    let made = bind_ok (lines_item (ended_lines piece.0.0)) (λ found. Ok (found, piece.0.1)) (head, rest) piece.2 in
+    Ok (made, piece.1)) e in
+    let piece = bind_ok (piece_from pam_item header_end [] feed.0) (λ found. lines_item (ended_lines found.0) >>= λ made. Ok (made, found.1)) feed.2 in
+    let made = bind_ok (lines_item (ended_lines piece.0.0)) (λ found. Ok (found, piece.0.1)) piece.2 in
     let parts = both_are made.0 head piece.0.1 rest made.2 in
-    let read = body_is_read feed.0 [] piece.0 (subst StatusValue (sym no_lines) judged_none) piece.1 in
-    let lines : lines_item (ended_lines piece.0.0) ≡ lines_item (ended_lines read.body) = lines_of_piece piece.0.0 read.body read.piece_is read.ends in
+    let read = body_is_read feed.0 [] (subst StatusValue (sym no_lines) judged_none) piece.1 in
+    let lines : lines_item (ended_lines piece.0.0) ≡ lines_item (ended_lines read.body) = lines_of_piece read.body read.piece_is read.ends in
     let whole : feed.0 ≡ (read.body ++ 10 ∷ []) ++ rest =
-    whole_after feed.0 piece.0 read.body rest (found_is_whole pam_item header_end feed.0 [] piece.0 piece.1) read.piece_is parts.1 in
-    let found : MadeOf (ended_lines read.body) made.0 = lines_make_head (ended_lines read.body) made.0 read.judged (ended_lines-are read.body)
-    (sym lines ∙ made.1) in
+    whole_after piece.0 read.body (found_is_whole pam_item header_end feed.0 [] piece.1) read.piece_is parts.1 in
+    let found : MadeOf (ended_lines read.body) made.0 = lines_make_head read.judged (ended_lines-are read.body) (sym lines ∙ made.1) in
     record {
       body = read.body;
       ends = read.ends;
       short = read.short;
       judged = read.judged;
-      whole = line_feed_is text feed.0 feed.1 ∙ ap (λ (t : List ℕ). 10 ∷ t) whole;
+      whole = line_feed_is text feed.1 ∙ ap (λ (t : List ℕ). 10 ∷ t) whole;
       made = subst (MadeOf (ended_lines read.body)) parts.0 found;
     }
 
@@ -174,10 +160,10 @@ short_header : (body : List ℕ) → length body < pam_limit → length (80 ∷ 
 short_header body h = omega (arith, length-append body (10 ∷ []))
 
 -- a header that is read is spelled
-pub pam_head_is_spelled : (text rest : List ℕ) (format : Format) (head : HeadValue) → format_of 55 ≡ Some format → pam_head_at text ≡ Ok (head, rest)
+pub pam_head_is_spelled : (text rest : List ℕ) {format : Format} (head : HeadValue) → format_of 55 ≡ Some format → pam_head_at text ≡ Ok (head, rest)
     → (header : List ℕ) × (80 ∷ 55 ∷ text ≡ header ++ rest) × SpellsPamHeader header format head
-pam_head_is_spelled text rest format head names e =
-    let read = pam_parts text head rest e in
+pam_head_is_spelled text rest head names e =
+    let read = pam_parts e in
     let lines : List (List ℕ) = ended_lines read.body in
     let last : List ℕ = last_line read.body in
     let body : read.body ++ 10 ∷ [] ≡ with_feeds lines ++ (last ++ 10 ∷ []) = ap (λ (t : List ℕ). t ++ 10 ∷ []) (text_of_lines read.body)
@@ -241,16 +227,16 @@ byte_goes_on false prefix b others e j short =
 last_feed_ends : (body : List ℕ) → length body < pam_limit → line_kind (last_line body) ≡ End → pam_item body 10 ≡ EndsWith
 last_feed_ends body short ends =
     let long : nat_le pam_limit (length body) ≡ false = lt-leb pam_limit (length body) short in
-    pam_item_is body 10 ∙ rw long (line_is_judged End (ended_lines body) (last_line body) ends)
+    pam_item_is body 10 ∙ rw long (line_is_judged (ended_lines body) (last_line body) ends)
 
 -- the body and its LF are read as the header's piece
 body_is_piece : (body rest : List ℕ) → StatusValue (ended_lines body) → length body < pam_limit → line_kind (last_line body) ≡ End
     → piece_from pam_item header_end [] (body ++ 10 ∷ rest) ≡ Ok (body ++ 10 ∷ [], rest)
 body_is_piece body rest j short ends =
-    goes_on_through pam_item header_end body [] body (10 ∷ rest) refl
+    goes_on_through pam_item header_end [] body (10 ∷ rest) refl
     (λ prefix b others e. byte_goes_on (b == 10) prefix b others refl (subst (λ (t : List ℕ). StatusValue (ended_lines t)) (sym e) j)
     (subst (λ (t : List ℕ). length t < pam_limit) (sym e) short))
-    ∙ piece_step pam_item header_end body 10 rest EndsWith (last_feed_ends body short ends)
+    ∙ piece_step pam_item header_end body 10 rest (last_feed_ends body short ends)
 
 -- ---- the lines of a header
 
@@ -297,46 +283,44 @@ may_stand : (lines : List (List ℕ)) → AllByRecursion IsPamLine lines → All
 may_stand [] are = tt
 may_stand (line ∷ lines) are = (are.0.says, may_stand lines are.1)
 
-one_of : (values : List ℕ) (n : ℕ) → values ≡ n ∷ [] → length values ≤ 1
-one_of values n e = let lengths = ap (λ (l : List ℕ). length l) e in omega arith
+one_of : {values : List ℕ} {n : ℕ} → values ≡ n ∷ [] → length values ≤ 1
+one_of e = let lengths = ap (λ (l : List ℕ). length l) e in omega arith
 
-single_values : (text : List ℕ) (format : Format) (head : HeadValue) → (s : SpellsPamHeader text format head) (field : Field)
+single_values : {text : List ℕ} {format : Format} {head : HeadValue} (s : SpellsPamHeader text format head) (field : Field)
     → length (field_values field s.lines) ≤ 1
-single_values text format head s Width = one_of (field_values Width s.lines) head.shape.width s.width
-single_values text format head s Height = one_of (field_values Height s.lines) head.shape.height s.height
-single_values text format head s Depth = one_of (field_values Depth s.lines) head.shape.depth s.depth
-single_values text format head s Maxval = one_of (field_values Maxval s.lines) head.shape.maxval s.maxval
+single_values s Width = one_of s.width
+single_values s Height = one_of s.height
+single_values s Depth = one_of s.depth
+single_values s Maxval = one_of s.maxval
 
 -- the lines of a header go on
-judged_lines : (text : List ℕ) (format : Format) (head : HeadValue) (s : SpellsPamHeader text format head) → StatusValue s.lines
-judged_lines text format head s =
+judged_lines : {text : List ℕ} {format : Format} {head : HeadValue} (s : SpellsPamHeader text format head) → StatusValue s.lines
+judged_lines {head} s =
     let suits : IsTupleType head.tuple_type = subst (λ (k : Kind). Suits k head.shape.depth head.shape.maxval head.tuple_type) s.kind s.sound.suits in
     let lengths : length (tuple_type_in s.lines) ≡ length head.tuple_type = ap (λ (l : List ℕ). length l) s.tuple_type in
     let short = suits.short in
-    record { say = may_stand s.lines s.lines_are; single = single_values text format head s; short = omega arith }
+    record { say = may_stand s.lines s.lines_are; single = single_values s; short = omega arith }
 
 -- a header within the limit has a body within it
-short_body : (text body : List ℕ) → text ≡ 80 ∷ 55 ∷ 10 ∷ (body ++ 10 ∷ []) → length text ≤ MAX_HEADER_LENGTH → length body < pam_limit
-short_body text body whole short =
+short_body : {text : List ℕ} (body : List ℕ) → text ≡ 80 ∷ 55 ∷ 10 ∷ (body ++ 10 ∷ []) → length text ≤ MAX_HEADER_LENGTH → length body < pam_limit
+short_body {text} body whole short =
     let lengths : length text ≡ length (body ++ 10 ∷ []) + 3 = ap (λ (t : List ℕ). length t) whole ∙ omega arith in
     omega (arith, length-append body (10 ∷ []))
 
 -- the head is read of the body, its LF and what follows
-head_is_read : (body rest : List ℕ) (lines : List (List ℕ)) (last : List ℕ) (head : HeadValue) → ended_lines body ≡ lines → last_line body ≡ last
-    → StatusValue lines
-    → line_kind last ≡ End → length body < pam_limit → MadeOf lines head
-    → pam_head_at (10 ∷ (body ++ 10 ∷ rest)) ≡ Ok (head, rest)
+head_is_read : (body rest : List ℕ) {lines : List (List ℕ)} {last : List ℕ} {head : HeadValue} → ended_lines body ≡ lines → last_line body ≡ last
+    → StatusValue lines → line_kind last ≡ End → length body < pam_limit → MadeOf lines head → pam_head_at (10 ∷ (body ++ 10 ∷ rest)) ≡ Ok (head, rest)
 unfolding pam_head_at line_feed_item
-head_is_read body rest lines last head e l judged ends short made =
+head_is_read body rest {head} e l judged ends short made =
     let piece = body_is_piece body rest (subst StatusValue (sym e) judged) short (ap line_kind l ∙ ends) in
     let found : lines_item (ended_lines (body ++ 10 ∷ [])) ≡ Ok head =
-    lines_of_piece (body ++ 10 ∷ []) body refl (ap line_kind l ∙ ends) ∙ ap lines_item e ∙ made_is_found lines head made in
+    lines_of_piece body refl (ap line_kind l ∙ ends) ∙ ap lines_item e ∙ made_is_found made in
     rw (piece, found) refl
 
 -- a header that is spelled is read
-pub spelled_pam_is_head : (header rest : List ℕ) (format : Format) (head : HeadValue) → SpellsPamHeader header format head
+pub spelled_pam_is_head : {header : List ℕ} (rest : List ℕ) {format : Format} {head : HeadValue} → SpellsPamHeader header format head
     → (text : List ℕ) × (header ++ rest ≡ 80 ∷ 55 ∷ text) × (pam_head_at text ≡ Ok (head, rest))
-spelled_pam_is_head header rest format head s =
+spelled_pam_is_head {header} rest {head} s =
     let body : List ℕ = with_feeds s.lines ++ s.last in
     let lines = lines_of_text s.lines s.last s.lines_are s.last_one_line in
     let whole : header ≡ 80 ∷ 55 ∷ 10 ∷ (body ++ 10 ∷ []) = s.whole
@@ -354,5 +338,5 @@ spelled_pam_is_head header rest format head s =
     } in (
       10 ∷ (body ++ 10 ∷ rest),
       ap (λ (t : List ℕ). t ++ rest) whole ∙ ap (λ (t : List ℕ). 80 ∷ 55 ∷ 10 ∷ t) (append_assoc body (10 ∷ []) rest),
-      head_is_read body rest s.lines s.last head lines.0 lines.1 (judged_lines header format head s) s.last_ends (short_body header body whole s.short) made,
+      head_is_read body rest lines.0 lines.1 (judged_lines s) s.last_ends (short_body body whole s.short) made,
     )

@@ -1,38 +1,26 @@
 -- The scanner of a PAM header, byte by byte, and the head of the header that it has taken.
-use Rattle.std.proofs.Common.{◌≡◌, inl, inr, ℕ, ◌+◌, ◌<◌, Bool, false, ◌==◌, List, [], ◌∷◌, ◌++◌, length, Result, Ok, Err, refl, sym, ap, subst, ◌∙◌, arith}
-use Rattle.std.specs.Prelude.{nat_le}
-use Rattle.std.proofs.lemmas.Bool.{ne_eqb}
-use Rattle.std.proofs.lemmas.Bool.Decides.{nat_tests}
-use Rattle.std.proofs.lemmas.List.{length-append}
-use Rattle.pnm_image.specs.Heads.{HeadValue, IsTupleType}
-use Rattle.pnm_read.specs.declared.fault.InputFault.{InputFault}
-use Rattle.pnm_read.specs.declared.fault.InputFault.TheVariants.{ReadFailed}
-use Rattle.pnm_read.specs.declared.scan_status.ScanStatus.{ScanStatus}
-use Rattle.pnm_read.specs.declared.scan_status.ScanStatus.TheVariants.{GoesOn, EndsWith, EndsBefore, Fails}
-use Rattle.pnm_read.specs.declared.fields.Fields.{Fields}
-use Rattle.pnm_read.specs.declared.pam.PamScanner.{PamScanner}
+use Rattle.pnm_read.proofs.Words.{◌≡◌, inl, inr, ℕ, ◌+◌, ◌<◌, Bool, false, ◌==◌, List, [], ◌∷◌, ◌++◌, length, Result, Ok, Err, refl, sym, ap, subst, ◌∙◌, arith}
+use Rattle.pnm_read.proofs.Words.{nat_le, ne_eqb, nat_tests, length-append, HeadValue, IsTupleType, InputFault, ReadFailed, ScanStatus, GoesOn, EndsWith}
+use Rattle.pnm_read.proofs.Words.{EndsBefore, Fails, Fields, PamScanner, ◌>>=◌, piece_from, pam_limit, line_item, pam_item, header_end, line_feed_item}
+use Rattle.pnm_read.proofs.Words.{lines_item, Finds, Passes, TakesJudged, JudgesByte, Scans, GivesInMemory, IsFields, TakesLine, JudgesLine, IsPamAfter}
+use Rattle.pnm_read.proofs.Words.{IsPamWhole}
 use Rattle.pnm_read.specs.PamLines.{ended_lines, last_line}
-use Rattle.pnm_read.specs.Items.{◌>>=◌, piece_from, pam_limit, line_item, pam_item, header_end, line_feed_item, lines_item}
 use Rattle.pnm_read.specs.Said.{pam_head_at}
-use Rattle.pnm_read.specs.Internal.BufferedReaders.{Finds, Passes}
-use Rattle.pnm_read.specs.Internal.Scans.{TakesJudged, JudgesByte, Scans}
-use Rattle.pnm_read.specs.Internal.Saturation.{GivesInMemory}
-use Rattle.pnm_read.specs.Internal.PamScanners.{IsFields, TakesLine, JudgesLine, IsPamAfter, IsPamWhole}
 use Rattle.pnm_read.proofs.LineLaws.{ended_lines-lf, last_line-lf, ended_lines-other, last_line-other, ended_lines-are}
 use Rattle.pnm_read.proofs.TupleTypeLaws.{tuple_type_in-is}
 use Rattle.pnm_read.proofs.PamShapes.{lines_of_text}
 use Rattle.pnm_read.proofs.PamLaws.{pam_by, pam_item_is}
 
 -- no byte so far
-pub pam_fresh : (s : PamScanner) → s.length ≡ 0 → s.line.items ≡ [] → IsFields s.fields [] → IsPamAfter s []
+pub pam_fresh : {s : PamScanner} → s.length ≡ 0 → s.line.items ≡ [] → IsFields s.fields [] → IsPamAfter s []
 unfolding ended_lines last_line
-pam_fresh s l line fields = record { length_is = l; line = line; fields = fields }
+pam_fresh l line fields = record { length_is = l; line = line; fields = fields }
 
 -- ---- one byte more
 
 -- the length is within the limit
-is_short : (s : PamScanner) (before : List ℕ) → IsPamAfter s before → s.length < pam_limit → nat_le pam_limit (length before) ≡ false
-is_short s before a lt = let same = a.length_is in grind (arith, nat_tests)
+is_short : {s : PamScanner} {before : List ℕ} → IsPamAfter s before → s.length < pam_limit → nat_le pam_limit (length before) ≡ false
+is_short a lt = let same = a.length_is in grind (arith, nat_tests)
 
 -- a byte of a line
 pub pam_goes_on : (old new : PamScanner) (b : ℕ) → old.length < pam_limit → (b ≡ 10 → ⊥) → new.length ≡ old.length + 1
@@ -47,7 +35,7 @@ pam_goes_on old new b lt other l line fields before a =
           (subst (IsFields old.fields) (sym (ended_lines-other before b no_feed)) a.fields);
     } in
     inl (
-      sym (pam_item_is before b ∙ ap (λ (long : Bool). pam_by long (b == 10) (line_item (ended_lines before) (last_line before))) (is_short old before a lt)
+      sym (pam_item_is before b ∙ ap (λ (long : Bool). pam_by long (b == 10) (line_item (ended_lines before) (last_line before))) (is_short a lt)
           ∙ ap (λ (feed : Bool). pam_by false feed (line_item (ended_lines before) (last_line before))) no_feed),
       after,
     )
@@ -65,20 +53,19 @@ feed_taken new EndsBefore before l line t = absurd t
 feed_taken new (Fails k) before l line t = tt
 
 -- the judgement of a LF is that of its line
-feed_judged : (old : PamScanner) (line : List ℕ) (j : ScanStatus) (before : List ℕ) → old.length < pam_limit → line ≡ old.line.items → IsPamAfter old before
+feed_judged : {old : PamScanner} {line : List ℕ} {j : ScanStatus} {before : List ℕ} → old.length < pam_limit → line ≡ old.line.items → IsPamAfter old before
     → j ≡ line_item (ended_lines before) line → j ≡ pam_item before 10
-feed_judged old line j before lt is a judged =
+feed_judged {before} lt is a judged =
     judged ∙ ap (line_item (ended_lines before)) (is ∙ a.line)
-    ∙ sym (pam_item_is before 10 ∙ ap (λ (long : Bool). pam_by long (10 == 10) (line_item (ended_lines before) (last_line before))) (is_short old before a lt))
+    ∙ sym (pam_item_is before 10 ∙ ap (λ (long : Bool). pam_by long (10 == 10) (line_item (ended_lines before) (last_line before))) (is_short a lt))
 
 -- a LF was judged and taken
-feed : (old new : PamScanner) (line : List ℕ) (j : ScanStatus) → old.length < pam_limit → new.length ≡ old.length + 1 → line ≡ old.line.items
-    → new.line.items ≡ [] → JudgesLine old.fields line new.fields j
-    → JudgesByte pam_item (IsPamAfter old) (IsPamAfter new) (IsPamWhole new) 10 j
-feed old new line j lt l is none judges before a =
+feed : (old new : PamScanner) {line : List ℕ} (j : ScanStatus) → old.length < pam_limit → new.length ≡ old.length + 1 → line ≡ old.line.items
+    → new.line.items ≡ [] → JudgesLine old.fields line new.fields j → JudgesByte pam_item (IsPamAfter old) (IsPamAfter new) (IsPamWhole new) 10 j
+feed old new {line} j lt l is none judges before a =
     elim (judges (ended_lines before) a.fields) [
       | inl taken ↦ inl (
-        feed_judged old line j before lt is a taken.0,
+        feed_judged lt is a taken.0,
         feed_taken new j before (l ∙ ap (λ (n : ℕ). n + 1) a.length_is) none
             (subst (λ (line : List ℕ). TakesLine new.fields j (ended_lines before ++ line ∷ [])) (is ∙ a.line) taken.1),
       )
@@ -86,11 +73,11 @@ feed old new line j lt l is none judges before a =
     ]
 
 -- a LF, after which the line is judged
-pub pam_feed : (old new : PamScanner) (b : ℕ) (line : List ℕ) (j : ScanStatus) → old.length < pam_limit → b ≡ 10 → new.length ≡ old.length + 1
-    → line ≡ old.line.items → new.line.items ≡ [] → JudgesLine old.fields line new.fields j
-    → JudgesByte pam_item (IsPamAfter old) (IsPamAfter new) (IsPamWhole new) b j
-pam_feed old new b line j lt e l is none judges = subst (λ (b : ℕ). JudgesByte pam_item (IsPamAfter old) (IsPamAfter new) (IsPamWhole new) b j) (sym e)
-    (feed old new line j lt l is none judges)
+pub pam_feed : (old new : PamScanner) {b : ℕ} {line : List ℕ} (j : ScanStatus) → old.length < pam_limit → b ≡ 10 → new.length ≡ old.length + 1
+    → line ≡ old.line.items → new.line.items ≡ [] → JudgesLine old.fields line new.fields j → JudgesByte pam_item (IsPamAfter old) (IsPamAfter new)
+    (IsPamWhole new) b j
+pam_feed old new {b} j lt e l is none judges = subst (λ (b : ℕ). JudgesByte pam_item (IsPamAfter old) (IsPamAfter new) (IsPamWhole new) b j) (sym e)
+    (feed old new j lt l is none judges)
 
 -- ---- the head
 
@@ -117,19 +104,18 @@ pam_no_feed fault text after (inl e) = inl (head_at_is text ∙ ap head_from e)
 pam_no_feed fault text after (inr outside) = inr outside
 
 -- the header is at fault
-pub pam_missed : (old : PamScanner) (is_whole : List ℕ → Type 0) (fault : InputFault) (text rest after : List ℕ) → IsPamAfter old []
-    → line_feed_item text ≡ Ok rest → Scans pam_item header_end (IsPamAfter old) is_whole (Err fault) rest after
-    → Finds pam_head_at (Err fault) text after
-pam_missed old is_whole fault text rest after fresh feed scans =
+pub pam_missed : {old : PamScanner} (is_whole : List ℕ → Type 0) (fault : InputFault) (text : List ℕ) {rest : List ℕ} (after : List ℕ) → IsPamAfter old []
+    → line_feed_item text ≡ Ok rest → Scans pam_item header_end (IsPamAfter old) is_whole (Err fault) rest after → Finds pam_head_at (Err fault) text after
+pam_missed is_whole fault text after fresh feed scans =
     elim (scans [] fresh) [
       | inl at_fault ↦ inl (head_at_is text ∙ ap head_from feed ∙ ap head_after at_fault)
       | inr outside ↦ inr outside
     ]
 
 -- the tuple type of a header that was taken
-pub pam_type : (old now : PamScanner) (rest after : List ℕ) → IsPamAfter old [] → Scans pam_item header_end (IsPamAfter old) (IsPamWhole now) (Ok tt) rest after
-    → IsTupleType now.fields.tuple_type.items
-pam_type old now rest after fresh scans =
+pub pam_type : {old : PamScanner} (now : PamScanner) (rest after : List ℕ) → IsPamAfter old [] → Scans pam_item header_end (IsPamAfter old) (IsPamWhole now)
+    (Ok tt) rest after → IsTupleType now.fields.tuple_type.items
+pam_type now rest after fresh scans =
     let s = scans [] fresh in
     subst IsTupleType (sym s.1.tuple_type) (tuple_type_in-is (ended_lines s.0) (ended_lines-are s.0) s.1.short)
 
@@ -138,23 +124,21 @@ abbrev pub HeadOfFields : Fields → Result HeadValue InputFault → Type 0
 HeadOfFields fields result = (lines : List (List ℕ)) → IsFields fields lines → GivesInMemory result (lines_item lines)
 
 -- the head of the lines of a piece
-given_after : (result : Result HeadValue InputFault) (text rest piece after : List ℕ) → line_feed_item text ≡ Ok rest
-    → piece_from pam_item header_end [] rest ≡ Ok (piece, after) → GivesInMemory result (lines_item (ended_lines piece))
-    → Finds pam_head_at result text after
-given_after (Ok head) text rest piece after feed p gives = head_at_is text ∙ ap head_from feed ∙ ap head_after p ∙ ap (head_with after) gives
-given_after (Err fault) text rest piece after feed p (inl memory) = inr (inr memory)
-given_after (Err fault) text rest piece after feed p (inr lines) = inl (head_at_is text ∙ ap head_from feed ∙ ap head_after p ∙ ap (head_with after) lines)
+given_after : (result : Result HeadValue InputFault) (text : List ℕ) {rest : List ℕ} (piece after : List ℕ) → line_feed_item text ≡ Ok rest
+    → piece_from pam_item header_end [] rest ≡ Ok (piece, after) → GivesInMemory result (lines_item (ended_lines piece)) → Finds pam_head_at result text after
+given_after (Ok head) text piece after feed p gives = head_at_is text ∙ ap head_from feed ∙ ap head_after p ∙ ap (head_with after) gives
+given_after (Err fault) text piece after feed p (inl memory) = inr (inr memory)
+given_after (Err fault) text piece after feed p (inr lines) = inl (head_at_is text ∙ ap head_from feed ∙ ap head_after p ∙ ap (head_with after) lines)
 
 -- the header was taken, and its head given
-pub pam_found : (old now : PamScanner) (result : Result HeadValue InputFault) (text rest after : List ℕ) → IsPamAfter old [] → HeadOfFields now.fields result
-    → line_feed_item text ≡ Ok rest
-    → Scans pam_item header_end (IsPamAfter old) (IsPamWhole now) (Ok tt) rest after → Finds pam_head_at result text after
-pam_found old now result text rest after fresh gives feed scans =
+pub pam_found : {old : PamScanner} (now : PamScanner) (result : Result HeadValue InputFault) (text : List ℕ) {rest : List ℕ} (after : List ℕ)
+    → IsPamAfter old [] → HeadOfFields now.fields result → line_feed_item text ≡ Ok rest → Scans pam_item header_end (IsPamAfter old) (IsPamWhole now)
+    (Ok tt) rest after → Finds pam_head_at result text after
+pam_found now result text after fresh gives feed scans =
     let s = scans [] fresh in
-    given_after result text rest s.0 after feed s.2 (gives (ended_lines s.0) s.1)
+    given_after result text s.0 after feed s.2 (gives (ended_lines s.0) s.1)
 
 -- its fault is none of the reader's
-pub pam_of_text : (old now : PamScanner) (result : Result HeadValue InputFault) (rest after : List ℕ) → IsPamAfter old [] → HeadOfFields now.fields result
-    → Scans pam_item header_end (IsPamAfter old) (IsPamWhole now) (Ok tt) rest after
-    → result ≡ Err ReadFailed → ⊥
-pam_of_text old now result rest after fresh gives scans = let s = scans [] fresh in lines_of_text (ended_lines s.0) result (gives (ended_lines s.0) s.1)
+pub pam_of_text : {old : PamScanner} (now : PamScanner) {result : Result HeadValue InputFault} (rest after : List ℕ) → IsPamAfter old []
+    → HeadOfFields now.fields result → Scans pam_item header_end (IsPamAfter old) (IsPamWhole now) (Ok tt) rest after → result ≡ Err ReadFailed → ⊥
+pam_of_text now {result} rest after fresh gives scans = let s = scans [] fresh in lines_of_text (ended_lines s.0) result (gives (ended_lines s.0) s.1)

@@ -1,22 +1,10 @@
 -- How a part of a raw row is read.
-use Rattle.std.proofs.Common.{◌≡◌, ℕ, ◌+◌, ◌*◌, ◌/◌, ◌<◌, ◌≤◌, min, List, [], ◌++◌, length, take, drop, Option, Ok, Err, inl, inr, refl, sym, ap, ap₂, subst}
-use Rattle.std.proofs.Common.{◌∙◌, arith, append_assoc}
-use Rattle.std.proofs.lemmas.List.{length-append, length-take-le, take-append-le, take-append-drop}
-use Rattle.std.proofs.lemmas.List.Elements.{All-nil, All-append}
-use Rattle.std.proofs.lemmas.Grind.{flat_map-append}
-use Rattle.std.proofs.Math.Seq.{take-append-add}
+use Rattle.pnm_read.proofs.Words.{◌≡◌, ℕ, ◌+◌, ◌*◌, ◌/◌, ◌<◌, ◌≤◌, min, List, [], ◌++◌, length, take, drop, Option, Ok, Err, inl, inr, refl, sym, ap, ap₂}
+use Rattle.pnm_read.proofs.Words.{subst, ◌∙◌, arith, append_assoc, length-append, length-take-le, take-append-le, take-append-drop, All-nil, All-append}
+use Rattle.pnm_read.proofs.Words.{flat_map-append, take-append-add, SampleWidth, Bits, Bytes, Words, InputFault, ReadFailed, RasterCut, SampleAboveMaxval}
+use Rattle.pnm_read.proofs.Words.{Memory, BufferedReader, raw_item, in_turn, held_of, ReadCall, Fills, Reads, HoldsEnough, AppendsWide, FindsPart}
+use Rattle.pnm_read.proofs.Words.{samples_of_bytes, AreBytesWithin}
 use Rattle.pnm_samples.specs.Pixels.{pixels}
-use Rattle.pnm_image.specs.declared.sample_width.SampleWidth.{SampleWidth}
-use Rattle.pnm_image.specs.declared.sample_width.SampleWidth.TheVariants.{Bits, Bytes, Words}
-use Rattle.pnm_read.specs.declared.fault.InputFault.{InputFault}
-use Rattle.pnm_read.specs.declared.fault.InputFault.TheVariants.{ReadFailed, RasterCut, SampleAboveMaxval, Memory}
-use Rattle.pnm_read.specs.declared.buffered_reader.BufferedReader.{BufferedReader}
-use Rattle.pnm_read.specs.Items.{raw_item}
-use Rattle.pnm_read.specs.Said.{in_turn}
-use Rattle.pnm_read.specs.BufferedReaders.{held_of}
-use Rattle.pnm_read.specs.Internal.BufferedReaders.{ReadCall, Fills, Reads, HoldsEnough}
-use Rattle.pnm_read.specs.Internal.RawParts.{AppendsWide, FindsPart}
-use Rattle.pnm_read.specs.Internal.Units.{samples_of_bytes, AreBytesWithin}
 use Rattle.pnm_read.proofs.UnitLaws.{unit_bytes, bytes_are_units, bytes_are_at_fault, words_are_units, words_are_at_fault}
 use Rattle.pnm_read.proofs.RawSteps.{cut_at_first}
 use Rattle.pnm_read.proofs.ReadCalls.{no_fault, IsLeft, call_ok_so, call_seen, call_advance}
@@ -60,50 +48,6 @@ some_bytes Bits = omega arith
 some_bytes Bytes = omega arith
 some_bytes Words = omega arith
 
-pub bytes_cut : {R : Type 0} {left : R → Option (List ℕ)} {failures : R → ℕ} {same : R → R → Type 0} {old new : BufferedReader R} (p : SampleWidth)
-    (maxval most count : ℕ) (target part : List ℕ) (samples : ℕ → List ℕ)
-    → ReadCall {A = ℕ} left failures same old new (Ok count) (Reads target (Ok count)) → count ≡ 0 → 0 < most
-    → ReadCall {A = ℕ} left failures same old new (Err RasterCut) (FindsPart p maxval most part samples (Err RasterCut))
-bytes_cut p maxval most count target part samples t none some =
-    call_ok_so {A = ℕ} {B = ℕ} count (Err RasterCut) (λ e. absurd cc) (λ b a o.
-    let prefix : take count target ≡ [] = ap (λ (n : ℕ). take n target) none in
-    let empty : b ≡ [] = o.0 ∙ ap₂ (λ (x y : List ℕ). x ++ y) prefix (o.2 none) in
-    inl (1, omega arith, cut_at_first p maxval b (omega (arith, some_bytes p, ap (λ (l : List ℕ). length l) empty))))
-    t
-
-pub bytes_above : {R : Type 0} {left : R → Option (List ℕ)} {failures : R → ℕ} {same : R → R → Type 0} {old new : BufferedReader R} (p : SampleWidth)
-    (maxval most count : ℕ) (target part : List ℕ) (samples : ℕ → List ℕ)
-    → ReadCall {A = ℕ} left failures same old new (Ok count) (Reads target (Ok count)) → length target ≡ most → (p ≡ Words → ⊥)
-    → (AreBytesWithin p maxval (take count target) → ⊥)
-    → ReadCall {A = ℕ} left failures same old new (Err SampleAboveMaxval) (FindsPart p maxval most part samples (Err SampleAboveMaxval))
-bytes_above p maxval most count target part samples t size n above =
-    call_ok_so {A = ℕ} {B = ℕ} count (Err SampleAboveMaxval) (λ e. absurd cc) (λ b a o.
-    let fits : count ≤ most = omega (arith, o.1) in
-    let prefix : length (take count target) ≡ count = length-take-le count target o.1 in
-    inl (
-      count,
-      fits,
-      ap (in_turn (raw_item p maxval) count) o.0 ∙ ap (λ (k : ℕ). in_turn (raw_item p maxval) k (take count target ++ a)) (sym prefix)
-          ∙ bytes_are_at_fault p maxval (take count target) a n above,
-    ))
-    t
-
-pub bytes_read : {R : Type 0} {left : R → Option (List ℕ)} {failures : R → ℕ} {same : R → R → Type 0} {old new : BufferedReader R} (p : SampleWidth)
-    (maxval most count : ℕ) (target : List ℕ) (samples : ℕ → List ℕ)
-    → ReadCall {A = ℕ} left failures same old new (Ok count) (Reads target (Ok count)) → length target ≡ most → (p ≡ Words → ⊥)
-    → AreBytesWithin p maxval (take count target) → samples count ≡ samples_of_bytes p (take count target)
-    → ReadCall {A = ℕ} left failures same old new (Ok count) (FindsPart p maxval most [] samples (Ok count))
-bytes_read p maxval most count target samples t size n within are =
-    call_ok_so {A = ℕ} {B = ℕ} count (Ok count) (no_fault count ReadFailed) (λ b a o.
-    let prefix : length (take count target) ≡ count = length-take-le count target o.1 in
-    let units = bytes_are_units p maxval (take count target) a n within in (
-      units.0,
-      are ∙ units.1,
-      omega (arith, o.1),
-      ap (in_turn (raw_item p maxval) count) o.0 ∙ ap (λ (k : ℕ). in_turn (raw_item p maxval) k (take count target ++ a)) (sym prefix) ∙ units.2,
-    ))
-    t
-
 -- ---- samples of two bytes
 
 -- all that is left is too short for one
@@ -112,56 +56,90 @@ short_left input text (inl enough) lt l = absurd (omega arith)
 short_left input text (inr ended) lt l =
     omega (arith, length-append (held_of input) l.0, ap (λ (t : List ℕ). length t) l.2, ap (λ (t : List ℕ). length t) (l.1 ended))
 
-pub words_cut : {R : Type 0} {left : R → Option (List ℕ)} {failures : R → ℕ} {same : R → R → Type 0} {old mid : BufferedReader R} (maxval most : ℕ)
-    (bytes part : List ℕ) (samples : ℕ → List ℕ)
-    → ReadCall {A = Unit {0}} left failures same old mid (Ok tt) (Fills (Ok tt)) → HoldsEnough 2 mid → bytes ≡ held_of mid → min (length bytes / 2) most ≡ 0
-    → 0 < most
-    → ReadCall {A = ℕ} left failures same old mid (Err RasterCut) (FindsPart Words maxval most part samples (Err RasterCut))
-words_cut {mid = mid} maxval most bytes part samples t enough is_held none some =
-    let lt : length (held_of mid) < 2 = omega (arith, ap (λ (l : List ℕ). length l) is_held) in
-    call_ok_so {A = Unit {0}} {B = ℕ} tt (Err RasterCut) (λ e. absurd cc)
-    (λ b a o. inl (1, omega arith, cut_at_first Words maxval b (subst (λ (l : List ℕ). length l < 2) (sym o.0) (short_left mid a enough lt o.1)))) (call_seen t)
-
 -- the first bytes of what is left
-parts_left : {R : Type 0} (count : ℕ) (input : BufferedReader R) (text rest : List ℕ) → text ≡ held_of input ++ rest
+parts_left : {R : Type 0} (count : ℕ) (input : BufferedReader R) {text : List ℕ} (rest : List ℕ) → text ≡ held_of input ++ rest
     → text ≡ take count (held_of input) ++ (drop count (held_of input) ++ rest)
-parts_left count input text rest e = e ∙ ap (λ (l : List ℕ). l ++ rest) (sym (take-append-drop count (held_of input)))
+parts_left count input rest e = e ∙ ap (λ (l : List ℕ). l ++ rest) (sym (take-append-drop count (held_of input)))
     ∙ append_assoc (take count (held_of input)) (drop count (held_of input)) rest
 
-pub words_fail : {R : Type 0} {left : R → Option (List ℕ)} {failures : R → ℕ} {same : R → R → Type 0} {old mid : BufferedReader R} (maxval most n : ℕ)
-    (k : InputFault) (row grown part : List ℕ) (samples : ℕ → List ℕ)
-    → ReadCall {A = Unit {0}} left failures same old mid (Ok tt) (Fills (Ok tt)) → n ≤ most → n * 2 ≤ length (held_of mid)
-    → AppendsWide maxval (take (n * 2) (held_of mid)) row grown (Err k)
-    → ReadCall {A = ℕ} left failures same old mid (Err k) (FindsPart Words maxval most part samples (Err k))
-words_fail maxval most n k row grown part samples t le fits (inl memory) =
-    call_ok_so {A = Unit {0}} {B = ℕ} tt (Err k) (λ e. absurd (let read : k ≡ ReadFailed = cc in let other : ReadFailed ≡ Memory = sym read ∙ memory in cc))
-    (λ b a o. inr (inr memory)) t
-words_fail {mid = mid} maxval most n k row grown part samples t le fits (inr above) =
-    call_ok_so {A = Unit {0}} {B = ℕ} tt (Err k)
-    (λ e. absurd (let read : k ≡ ReadFailed = cc in let other : ReadFailed ≡ SampleAboveMaxval = sym read ∙ above.0 in cc)) (λ b a o.
-    let count : length (take (n * 2) (held_of mid)) ≡ n * 2 = length-take-le (n * 2) (held_of mid) fits in
-    inl (
-      n,
-      le,
-      ap (in_turn (raw_item Words maxval) n) (parts_left (n * 2) mid b o.1.0 (o.0 ∙ o.1.2))
-          ∙ words_are_at_fault maxval n (take (n * 2) (held_of mid)) (drop (n * 2) (held_of mid) ++ o.1.0) count above.1
-          ∙ ap (λ (f : InputFault). Err f) (sym above.0),
-    ))
-    (call_seen t)
+module _ {R : Type 0} {left : R → Option (List ℕ)} {failures : R → ℕ} {same : R → R → Type 0} {old : BufferedReader R} where
+  pub bytes_cut : {new : BufferedReader R} (p : SampleWidth) (maxval most : ℕ) {count : ℕ} (target part : List ℕ) (samples : ℕ → List ℕ)
+      → ReadCall {A = ℕ} left failures same old new (Ok count) (Reads target (Ok count)) → count ≡ 0 → 0 < most
+      → ReadCall {A = ℕ} left failures same old new (Err RasterCut) (FindsPart p maxval most part samples (Err RasterCut))
+  bytes_cut p maxval most {count} target part samples t none some =
+      call_ok_so {A = ℕ} {B = ℕ} (Err RasterCut) (λ e. absurd cc) (λ b a o.
+      let prefix : take count target ≡ [] = ap (λ (n : ℕ). take n target) none in
+      let empty : b ≡ [] = o.0 ∙ ap₂ (λ (x y : List ℕ). x ++ y) prefix (o.2 none) in
+      inl (1, omega arith, cut_at_first p maxval b (omega (arith, some_bytes p, ap (λ (l : List ℕ). length l) empty)))) t
 
-pub words_read : {R : Type 0} {left : R → Option (List ℕ)} {failures : R → ℕ} {same : R → R → Type 0} {old mid new : BufferedReader R} (maxval most n : ℕ)
-    (row grown : List ℕ)
-    → ReadCall {A = Unit {0}} left failures same old mid (Ok tt) (Fills (Ok tt)) → n ≤ most → n * 2 ≤ length (held_of mid)
-    → AppendsWide maxval (take (n * 2) (held_of mid)) row grown (Ok tt)
-    → new.reader ≡ mid.reader → new.ended ≡ mid.ended → held_of new ≡ drop (n * 2) (held_of mid)
-    → ReadCall {A = ℕ} left failures same old new (Ok n) (FindsPart Words maxval most row (λ _. grown) (Ok n))
-words_read {mid = mid} maxval most n row grown t le fits appends reader ended held =
-    let count : length (take (n * 2) (held_of mid)) ≡ n * 2 = length-take-le (n * 2) (held_of mid) fits in
-    call_advance {A = Unit {0}} {B = ℕ} tt (Ok n) (n * 2) (no_fault n ReadFailed) reader ended held (λ b rest c o.
-    let units = words_are_units maxval n (take (n * 2) (held_of mid)) row grown (drop (n * 2) (held_of mid) ++ rest) count appends in (
-      units.0,
-      units.1,
-      le,
-      ap (in_turn (raw_item Words maxval) n) (parts_left (n * 2) mid b rest o) ∙ units.2,
-    ))
-    t
+  pub bytes_above : {new : BufferedReader R} (p : SampleWidth) (maxval : ℕ) {most count : ℕ} (target part : List ℕ) (samples : ℕ → List ℕ)
+      → ReadCall {A = ℕ} left failures same old new (Ok count) (Reads target (Ok count)) → length target ≡ most → (p ≡ Words → ⊥)
+      → (AreBytesWithin p maxval (take count target) → ⊥) → ReadCall {A = ℕ} left failures same old new (Err SampleAboveMaxval)
+      (FindsPart p maxval most part samples (Err SampleAboveMaxval))
+  bytes_above p maxval {most} {count} target part samples t size n above =
+      call_ok_so {A = ℕ} {B = ℕ} (Err SampleAboveMaxval) (λ e. absurd cc) (λ b a o.
+      let fits : count ≤ most = omega (arith, o.1) in
+      let prefix : length (take count target) ≡ count = length-take-le count target o.1 in
+      inl (
+        count,
+        fits,
+        ap (in_turn (raw_item p maxval) count) o.0 ∙ ap (λ (k : ℕ). in_turn (raw_item p maxval) k (take count target ++ a)) (sym prefix)
+            ∙ bytes_are_at_fault p maxval (take count target) a n above,
+      )) t
+
+  pub bytes_read : {new : BufferedReader R} (p : SampleWidth) (maxval : ℕ) {most count : ℕ} (target : List ℕ) (samples : ℕ → List ℕ)
+      → ReadCall {A = ℕ} left failures same old new (Ok count) (Reads target (Ok count)) → length target ≡ most → (p ≡ Words → ⊥)
+      → AreBytesWithin p maxval (take count target) → samples count ≡ samples_of_bytes p (take count target)
+      → ReadCall {A = ℕ} left failures same old new (Ok count) (FindsPart p maxval most [] samples (Ok count))
+  bytes_read p maxval {count} target samples t size n within are =
+      call_ok_so {A = ℕ} {B = ℕ} (Ok count) (no_fault count ReadFailed) (λ b a o.
+      let prefix : length (take count target) ≡ count = length-take-le count target o.1 in
+      let units = bytes_are_units p maxval (take count target) a n within in (
+        units.0,
+        are ∙ units.1,
+        omega (arith, o.1),
+        ap (in_turn (raw_item p maxval) count) o.0 ∙ ap (λ (k : ℕ). in_turn (raw_item p maxval) k (take count target ++ a)) (sym prefix) ∙ units.2,
+      )) t
+
+  pub words_cut : {mid : BufferedReader R} (maxval most : ℕ) {bytes : List ℕ} (part : List ℕ) (samples : ℕ → List ℕ)
+      → ReadCall {A = Unit {0}} left failures same old mid (Ok tt) (Fills (Ok tt)) → HoldsEnough 2 mid → bytes ≡ held_of mid
+      → min (length bytes / 2) most ≡ 0 → 0 < most → ReadCall {A = ℕ} left failures same old mid (Err RasterCut)
+      (FindsPart Words maxval most part samples (Err RasterCut))
+  words_cut {mid = mid} maxval most part samples t enough is_held none some =
+      let lt : length (held_of mid) < 2 = omega (arith, ap (λ (l : List ℕ). length l) is_held) in
+      call_ok_so {A = Unit {0}} {B = ℕ} (Err RasterCut) (λ e. absurd cc)
+      (λ b a o. inl (1, omega arith, cut_at_first Words maxval b (subst (λ (l : List ℕ). length l < 2) (sym o.0) (short_left mid a enough lt o.1))))
+      (call_seen t)
+
+  pub words_fail : {mid : BufferedReader R} (maxval most n : ℕ) {k : InputFault} (row grown part : List ℕ) (samples : ℕ → List ℕ)
+      → ReadCall {A = Unit {0}} left failures same old mid (Ok tt) (Fills (Ok tt)) → n ≤ most → n * 2 ≤ length (held_of mid)
+      → AppendsWide maxval (take (n * 2) (held_of mid)) row grown (Err k) → ReadCall {A = ℕ} left failures same old mid (Err k)
+      (FindsPart Words maxval most part samples (Err k))
+  words_fail maxval most n {k} row grown part samples t le fits (inl memory) =
+      call_ok_so {A = Unit {0}} {B = ℕ} (Err k) (λ e. absurd (let read : k ≡ ReadFailed = cc in let other : ReadFailed ≡ Memory = sym read ∙ memory in cc))
+      (λ b a o. inr (inr memory)) t
+  words_fail {mid = mid} maxval most n {k} row grown part samples t le fits (inr above) =
+      call_ok_so {A = Unit {0}} {B = ℕ} (Err k)
+      (λ e. absurd (let read : k ≡ ReadFailed = cc in let other : ReadFailed ≡ SampleAboveMaxval = sym read ∙ above.0 in cc)) (λ b a o.
+      let count : length (take (n * 2) (held_of mid)) ≡ n * 2 = length-take-le (n * 2) (held_of mid) fits in
+      inl (
+        n,
+        le,
+        ap (in_turn (raw_item Words maxval) n) (parts_left (n * 2) mid o.1.0 (o.0 ∙ o.1.2))
+            ∙ words_are_at_fault maxval n (take (n * 2) (held_of mid)) (drop (n * 2) (held_of mid) ++ o.1.0) count above.1
+            ∙ ap (λ (f : InputFault). Err f) (sym above.0),
+      )) (call_seen t)
+
+  pub words_read : {mid new : BufferedReader R} (maxval most : ℕ) {n : ℕ} (row grown : List ℕ) → ReadCall {A = Unit {0}} left failures same old mid (Ok tt)
+      (Fills (Ok tt)) → n ≤ most → n * 2 ≤ length (held_of mid) → AppendsWide maxval (take (n * 2) (held_of mid)) row grown (Ok tt) → new.reader ≡ mid.reader
+      → new.ended ≡ mid.ended → held_of new ≡ drop (n * 2) (held_of mid) → ReadCall {A = ℕ} left failures same old new (Ok n)
+      (FindsPart Words maxval most row (λ _. grown) (Ok n))
+  words_read {mid = mid} maxval most {n} row grown t le fits appends reader ended held =
+      let count : length (take (n * 2) (held_of mid)) ≡ n * 2 = length-take-le (n * 2) (held_of mid) fits in
+      call_advance {A = Unit {0}} {B = ℕ} (n * 2) (no_fault n ReadFailed) reader ended held (λ b rest c o.
+      let units = words_are_units maxval n (take (n * 2) (held_of mid)) row grown (drop (n * 2) (held_of mid) ++ rest) count appends in (
+        units.0,
+        units.1,
+        le,
+        ap (in_turn (raw_item Words maxval) n) (parts_left (n * 2) mid rest o) ∙ units.2,
+      )) t

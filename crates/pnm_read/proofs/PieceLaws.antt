@@ -1,23 +1,15 @@
 -- The bytes of a plain sample's piece: how each is judged, what a step of the piece finds, and how the gap before the sample is gone over.
-use Rattle.std.proofs.Common.{◌≡◌, ℕ, ◌+◌, ◌-◌, ◌*◌, ◌<◌, ◌≤◌, Bool, true, false, not, cond, ◌&&◌, ◌||◌, List, [], ◌∷◌, ◌++◌, length, Option, Some, None}
-use Rattle.std.proofs.Common.{Result, Ok, Err, refl, sym, ap, ap₂, subst, ◌∙◌, append_assoc, append-nil, length-append, arith, inl, inr}
-use Rattle.std.specs.Prelude.{◌==◌, nat_le, if◌then◌else◌, filter}
-use Rattle.std.specs.List.{AllPass}
-use Rattle.std.proofs.lemmas.Bool.{lt-leb, eqb-true, and_right}
-use Rattle.std.proofs.lemmas.Bool.Decides.{nat_tests}
-use Rattle.std.proofs.lemmas.Int.Digits.{digits_value_push}
-use Rattle.std.proofs.lemmas.List.Elements.{filter-append, All-head, All-tail, All-push}
-use Rattle.pnm_read.specs.declared.fault.InputFault.{InputFault}
-use Rattle.pnm_read.specs.declared.fault.InputFault.TheVariants.{TooLong, BadSample}
-use Rattle.pnm_read.specs.declared.scan_status.ScanStatus.{ScanStatus}
-use Rattle.pnm_read.specs.declared.scan_status.ScanStatus.TheVariants.{GoesOn, EndsWith, EndsBefore, Fails}
-use Rattle.pnm_read.specs.HeaderTexts.{is_line_end, is_apart, ends_by, commented, ends_in_comment, uncommented_from, uncommented, number_in}
-use Rattle.pnm_image.specs.Texts.{is_white, is_digit, decimal_value}
-use Rattle.pnm_read.specs.Rasters.{IsGap}
-use Rattle.pnm_read.specs.Items.{◌>>=◌, piece_from, ends_in_digit, is_complete, decimal_item, is_pixel, pixel_item}
+use Rattle.pnm_read.proofs.Words.{◌≡◌, ℕ, ◌+◌, ◌-◌, ◌*◌, ◌<◌, ◌≤◌, Bool, true, false, not, cond, ◌&&◌, ◌||◌, List, [], ◌∷◌, ◌++◌, length, Option, Some, None}
+use Rattle.pnm_read.proofs.Words.{Result, Ok, Err, refl, sym, ap, ap₂, subst, ◌∙◌, append_assoc, append-nil, arith, inl, inr, nat_le, filter, AllPass, lt-leb}
+use Rattle.pnm_read.proofs.Words.{eqb-true, and_right, nat_tests, digits_value_push, filter-append, All-head, All-tail, All-push, InputFault, TooLong}
+use Rattle.pnm_read.proofs.Words.{BadSample, ScanStatus, GoesOn, EndsWith, EndsBefore, Fails, is_line_end, is_apart, commented, ends_in_comment, uncommented}
+use Rattle.pnm_read.proofs.Words.{number_in, is_white, is_digit, decimal_value, IsGap, ◌>>=◌, ends_in_digit, is_complete, is_pixel, GAP_LIMIT}
+use Rattle.std.proofs.Common.{length-append}
+use Rattle.std.specs.Prelude.{◌==◌, if◌then◌else◌}
+use Rattle.pnm_read.specs.HeaderTexts.{ends_by, uncommented_from}
+use Rattle.pnm_read.specs.Items.{piece_from, decimal_item, pixel_item}
 use Rattle.pnm_read.proofs.CommentLaws.{commented_after-push, ends_by-push}
 use Rattle.pnm_read.proofs.WordLaws.{digit_is_not_sharp, digit_value_is, uncommented-plain, uncommented-comment}
-use Rattle.pnm_read.specs.declared.decimal.TheConstants.{GAP_LIMIT}
 
 -- ---- one byte more
 
@@ -52,9 +44,9 @@ number_in-other before b h = number_by before b (ends_in_comment before) refl h
 -- ---- steps
 
 -- the value of a step that did not fail
-pub bind_ok : {A B : Type 0} (r : Result A InputFault) (f : A → Result B InputFault) (y : B) → (r >>= f) ≡ Ok y → (x : A) × (r ≡ Ok x) × (f x ≡ Ok y)
-bind_ok (Ok x) f y e = (x, refl, e)
-bind_ok (Err d) f y e = absurd cc
+pub bind_ok : {A B : Type 0} (r : Result A InputFault) (f : A → Result B InputFault) {y : B} → (r >>= f) ≡ Ok y → (x : A) × (r ≡ Ok x) × (f x ≡ Ok y)
+bind_ok (Ok x) f e = (x, refl, e)
+bind_ok (Err d) f e = absurd cc
 
 -- a step that did not fail
 abbrev pub done : {A : Type 0} → A → Result A InputFault
@@ -78,13 +70,6 @@ piece_by item at_end before b text j = elim j [
   | GoesOn ↦ piece_from item at_end (before ++ b ∷ []) text
 ]
 
--- a piece from a byte on is as the byte is judged
-pub piece_step : (item : List ℕ → ℕ → ScanStatus) (at_end : List ℕ → Option InputFault) (before : List ℕ) (b : ℕ) (text : List ℕ) (j : ScanStatus)
-    → item before b ≡ j
-    → piece_from item at_end before (b ∷ text) ≡ piece_by item at_end before b text j
-unfolding piece_from
-piece_step item at_end before b text j e = ap (piece_by item at_end before b text) e
-
 -- what was found of a byte and what follows it: how the byte was judged, and what was found then
 abbrev pub FoundBy : (List ℕ → ℕ → ScanStatus) → (List ℕ → Option InputFault) → List ℕ → ℕ → List ℕ → List ℕ × List ℕ → ScanStatus → Type 0
 FoundBy item at_end before b text found (Fails fault) = ⊥
@@ -92,57 +77,15 @@ FoundBy item at_end before b text found EndsWith = (before ++ b ∷ [], text) �
 FoundBy item at_end before b text found EndsBefore = (before, b ∷ text) ≡ found
 FoundBy item at_end before b text found GoesOn = piece_from item at_end (before ++ b ∷ []) text ≡ Ok found
 
-found_by : (item : List ℕ → ℕ → ScanStatus) (at_end : List ℕ → Option InputFault) (before : List ℕ) (b : ℕ) (text : List ℕ) (found : List ℕ × List ℕ)
-    (j : ScanStatus)
-    → piece_by item at_end before b text j ≡ Ok found → FoundBy item at_end before b text found j
-found_by item at_end before b text found (Fails fault) e = cc
-found_by item at_end before b text found EndsWith e = ok_is (before ++ b ∷ [], text) found e
-found_by item at_end before b text found EndsBefore e = ok_is (before, b ∷ text) found e
-found_by item at_end before b text found GoesOn e = e
-
--- what a step found
-pub found_from : (item : List ℕ → ℕ → ScanStatus) (at_end : List ℕ → Option InputFault) (before : List ℕ) (b : ℕ) (text : List ℕ) (found : List ℕ × List ℕ)
-    → piece_from item at_end before (b ∷ text) ≡ Ok found → FoundBy item at_end before b text found (item before b)
-unfolding piece_from
-found_from item at_end before b text found e = found_by item at_end before b text found (item before b) e
-
 -- the piece where the text ends, by the fault that this is
 abbrev pub piece_at_end : List ℕ → Option InputFault → Result (List ℕ × List ℕ) InputFault
 piece_at_end before at_end = elim at_end [ Some fault ↦ Err fault | None ↦ Ok (before, []) ]
 
 -- where a text has ended and a piece was found, that is what came before
-ended_with : (at_end : Option InputFault) (before : List ℕ) (found : List ℕ × List ℕ) → piece_at_end before at_end ≡ Ok found
+ended_with : (at_end : Option InputFault) (before : List ℕ) {found : List ℕ × List ℕ} → piece_at_end before at_end ≡ Ok found
     → (at_end ≡ None) × ((before, []) ≡ found)
-ended_with (Some fault) before found e = absurd cc
-ended_with None before found e = (refl, ok_is (before, []) found e)
-
-pub found_at_end : (item : List ℕ → ℕ → ScanStatus) (at_end : List ℕ → Option InputFault) (before : List ℕ) (found : List ℕ × List ℕ)
-    → piece_from item at_end before [] ≡ Ok found → (at_end before ≡ None) × ((before, []) ≡ found)
-unfolding piece_from
-found_at_end item at_end before found e = ended_with (at_end before) before found e
-
--- a piece ends where the text does, if that is no fault
-pub piece_ends : (item : List ℕ → ℕ → ScanStatus) (at_end : List ℕ → Option InputFault) (before : List ℕ) → at_end before ≡ None
-    → piece_from item at_end before [] ≡ Ok (before, [])
-unfolding piece_from
-piece_ends item at_end before e = ap (piece_at_end before) e
-
--- a piece and its rest are the whole text
-whole_by : (item : List ℕ → ℕ → ScanStatus) (at_end : List ℕ → Option InputFault) (before : List ℕ) (b : ℕ) (text : List ℕ) (found : List ℕ × List ℕ)
-    (j : ScanStatus)
-    → (piece_from item at_end (before ++ b ∷ []) text ≡ Ok found → (before ++ b ∷ []) ++ text ≡ found.0 ++ found.1) → FoundBy item at_end before b text found j
-    → before ++ b ∷ text ≡ found.0 ++ found.1
-whole_by item at_end before b text found (Fails fault) on h = absurd h
-whole_by item at_end before b text found EndsWith on h = sym (append_assoc before (b ∷ []) text) ∙ ap (λ (f : List ℕ × List ℕ). f.0 ++ f.1) h
-whole_by item at_end before b text found EndsBefore on h = ap (λ (f : List ℕ × List ℕ). f.0 ++ f.1) h
-whole_by item at_end before b text found GoesOn on h = sym (append_assoc before (b ∷ []) text) ∙ on h
-
-pub found_is_whole : (item : List ℕ → ℕ → ScanStatus) (at_end : List ℕ → Option InputFault) (text before : List ℕ) (found : List ℕ × List ℕ)
-    → piece_from item at_end before text ≡ Ok found → before ++ text ≡ found.0 ++ found.1
-found_is_whole item at_end [] before found e = ap (λ (f : List ℕ × List ℕ). f.0 ++ f.1) (found_at_end item at_end before found e).1
-found_is_whole item at_end (b ∷ text) before found e =
-    whole_by item at_end before b text found (item before b) (found_is_whole item at_end text (before ++ b ∷ []) found)
-    (found_from item at_end before b text found e)
+ended_with (Some fault) before e = absurd cc
+ended_with None before {found} e = (refl, ok_is (before, []) found e)
 
 -- ---- bytes of a gap
 
@@ -215,34 +158,76 @@ abbrev pub AfterGap : (List ℕ → ℕ → ScanStatus) → (List ℕ → Option
 AfterGap item at_end before gap rest = (piece_from item at_end before (gap ++ rest) ≡ piece_from item at_end (before ++ gap) rest)
     × (ends_in_digit (before ++ gap) ≡ false)
 
-pub over_gap : (item : List ℕ → ℕ → ScanStatus) (at_end : List ℕ → Option InputFault) → GoesOverGaps item → (gap before rest : List ℕ)
-    → ends_in_digit before ≡ false
-    → AllPass is_white (uncommented_from (ends_in_comment before) gap) → length before + length gap ≤ GAP_LIMIT → AfterGap item at_end before gap rest
-over_gap item at_end on [] before rest out white short =
-    let whole : before ++ [] ≡ before = append-nil before in
-    (ap (λ (t : List ℕ). piece_from item at_end t rest) (sym whole), ap ends_in_digit whole ∙ out)
-over_gap item at_end on (b ∷ gap) before rest out white short =
-    let head = gap_head (ends_in_comment before) b gap white in
-    let here : item before b ≡ GoesOn = on before b (omega arith) out head.0 in
-    let no_digit : ends_in_digit (before ++ b ∷ []) ≡ false = ends_in_digit-push before b ∙ after_gap_byte (ends_in_comment before) b head.0 in
-    let left : AllPass is_white (uncommented_from (ends_in_comment (before ++ b ∷ [])) gap) =
-    subst (λ (i : Bool). AllPass is_white (uncommented_from i gap)) (sym (commented_after-push before b)) head.1 in
-    let long : length (before ++ b ∷ []) ≡ length before + 1 = length-append before (b ∷ []) in
-    let more = over_gap item at_end on gap (before ++ b ∷ []) rest no_digit left (omega arith) in
-    let whole : (before ++ b ∷ []) ++ gap ≡ before ++ b ∷ gap = append_assoc before (b ∷ []) gap in (
-      piece_step item at_end before b (gap ++ rest) GoesOn here ∙ more.0 ∙ ap (λ (t : List ℕ). piece_from item at_end t rest) whole,
-      ap ends_in_digit (sym whole) ∙ more.1,
-    )
-
 -- nothing ends in no digit
 pub nothing_ends : ends_in_digit [] ≡ false
 unfolding ends_by
 nothing_ends = refl
 
--- a whole gap is gone over
-pub over_whole_gap : (item : List ℕ → ℕ → ScanStatus) (at_end : List ℕ → Option InputFault) → GoesOverGaps item → (gap rest : List ℕ) → IsGap gap
-    → length gap ≤ GAP_LIMIT → AfterGap item at_end [] gap rest
-over_whole_gap item at_end on gap rest g short = over_gap item at_end on gap [] rest nothing_ends g.white (omega arith)
+module _ (item : List ℕ → ℕ → ScanStatus) (at_end : List ℕ → Option InputFault) where
+  -- a piece from a byte on is as the byte is judged
+  pub piece_step : (before : List ℕ) (b : ℕ) (text : List ℕ) {j : ScanStatus} → item before b ≡ j
+      → piece_from item at_end before (b ∷ text) ≡ piece_by item at_end before b text j
+  unfolding piece_from
+  piece_step before b text e = ap (piece_by item at_end before b text) e
+
+  found_by : (before : List ℕ) (b : ℕ) (text : List ℕ) {found : List ℕ × List ℕ} (j : ScanStatus) → piece_by item at_end before b text j ≡ Ok found
+      → FoundBy item at_end before b text found j
+  found_by before b text (Fails fault) e = cc
+  found_by before b text {found} EndsWith e = ok_is (before ++ b ∷ [], text) found e
+  found_by before b text {found} EndsBefore e = ok_is (before, b ∷ text) found e
+  found_by before b text GoesOn e = e
+
+  -- what a step found
+  pub found_from : (before : List ℕ) (b : ℕ) (text : List ℕ) {found : List ℕ × List ℕ} → piece_from item at_end before (b ∷ text) ≡ Ok found
+      → FoundBy item at_end before b text found (item before b)
+  unfolding piece_from
+  found_from before b text e = found_by before b text (item before b) e
+
+  pub found_at_end : (before : List ℕ) {found : List ℕ × List ℕ} → piece_from item at_end before [] ≡ Ok found
+      → (at_end before ≡ None) × ((before, []) ≡ found)
+  unfolding piece_from
+  found_at_end before e = ended_with (at_end before) before e
+
+  -- a piece ends where the text does, if that is no fault
+  pub piece_ends : (before : List ℕ) → at_end before ≡ None → piece_from item at_end before [] ≡ Ok (before, [])
+  unfolding piece_from
+  piece_ends before e = ap (piece_at_end before) e
+
+  -- a piece and its rest are the whole text
+  whole_by : (before : List ℕ) (b : ℕ) (text : List ℕ) (found : List ℕ × List ℕ) (j : ScanStatus)
+      → (piece_from item at_end (before ++ b ∷ []) text ≡ Ok found → (before ++ b ∷ []) ++ text ≡ found.0 ++ found.1)
+      → FoundBy item at_end before b text found j → before ++ b ∷ text ≡ found.0 ++ found.1
+  whole_by before b text found (Fails fault) on h = absurd h
+  whole_by before b text found EndsWith on h = sym (append_assoc before (b ∷ []) text) ∙ ap (λ (f : List ℕ × List ℕ). f.0 ++ f.1) h
+  whole_by before b text found EndsBefore on h = ap (λ (f : List ℕ × List ℕ). f.0 ++ f.1) h
+  whole_by before b text found GoesOn on h = sym (append_assoc before (b ∷ []) text) ∙ on h
+
+  pub found_is_whole : (text before : List ℕ) {found : List ℕ × List ℕ} → piece_from item at_end before text ≡ Ok found → before ++ text ≡ found.0 ++ found.1
+  found_is_whole [] before e = ap (λ (f : List ℕ × List ℕ). f.0 ++ f.1) (found_at_end before e).1
+  found_is_whole (b ∷ text) before {found} e =
+      whole_by before b text found (item before b) (found_is_whole text (before ++ b ∷ [])) (found_from before b text e)
+
+  pub over_gap : GoesOverGaps item → (gap before rest : List ℕ) → ends_in_digit before ≡ false
+      → AllPass is_white (uncommented_from (ends_in_comment before) gap) → length before + length gap ≤ GAP_LIMIT → AfterGap item at_end before gap rest
+  over_gap on [] before rest out white short =
+      let whole : before ++ [] ≡ before = append-nil before in
+      (ap (λ (t : List ℕ). piece_from item at_end t rest) (sym whole), ap ends_in_digit whole ∙ out)
+  over_gap on (b ∷ gap) before rest out white short =
+      let head = gap_head (ends_in_comment before) b gap white in
+      let here : item before b ≡ GoesOn = on before b (omega arith) out head.0 in
+      let no_digit : ends_in_digit (before ++ b ∷ []) ≡ false = ends_in_digit-push before b ∙ after_gap_byte (ends_in_comment before) b head.0 in
+      let left : AllPass is_white (uncommented_from (ends_in_comment (before ++ b ∷ [])) gap) =
+      subst (λ (i : Bool). AllPass is_white (uncommented_from i gap)) (sym (commented_after-push before b)) head.1 in
+      let long : length (before ++ b ∷ []) ≡ length before + 1 = length-append before (b ∷ []) in
+      let more = over_gap on gap (before ++ b ∷ []) rest no_digit left (omega arith) in
+      let whole : (before ++ b ∷ []) ++ gap ≡ before ++ b ∷ gap = append_assoc before (b ∷ []) gap in (
+        piece_step before b (gap ++ rest) here ∙ more.0 ∙ ap (λ (t : List ℕ). piece_from item at_end t rest) whole,
+        ap ends_in_digit (sym whole) ∙ more.1,
+      )
+
+  -- a whole gap is gone over
+  pub over_whole_gap : GoesOverGaps item → {gap : List ℕ} (rest : List ℕ) → IsGap gap → length gap ≤ GAP_LIMIT → AfterGap item at_end [] gap rest
+  over_whole_gap on {gap} rest g short = over_gap on gap [] rest nothing_ends g.white (omega arith)
 
 -- ---- bytes of a number
 
@@ -254,24 +239,9 @@ decimal_by long bad complete = if long && not complete then Fails TooLong else i
 abbrev pub is_bad_in_decimal : Bool → ℕ → Bool
 is_bad_in_decimal inside b = not inside && not (is_digit b || is_apart b)
 
-pub decimal_item_is : (before : List ℕ) (b : ℕ)
-    → decimal_item before b ≡ decimal_by (nat_le GAP_LIMIT (length before)) (is_bad_in_decimal (ends_in_comment before) b) (is_complete before b)
-unfolding decimal_item
-decimal_item_is before b = refl
-
--- each judgement, from the tests
-pub decimal_goes_on : (before : List ℕ) (b : ℕ) → length before < GAP_LIMIT → is_bad_in_decimal (ends_in_comment before) b ≡ false
-    → is_complete before b ≡ false → decimal_item before b ≡ GoesOn
-decimal_goes_on before b short good more = decimal_item_is before b ∙ rw (lt-leb GAP_LIMIT (length before) short, good, more) refl
-
-ends_before_by : (long bad complete : Bool) → bad ≡ false → complete ≡ true → decimal_by long bad complete ≡ EndsBefore
-ends_before_by true bad complete b c = rw (b, c) refl
-ends_before_by false bad complete b c = rw (b, c) refl
-
-pub decimal_ends_before : (before : List ℕ) (b : ℕ) → is_bad_in_decimal (ends_in_comment before) b ≡ false → is_complete before b ≡ true
-    → decimal_item before b ≡ EndsBefore
-decimal_ends_before before b good end =
-    decimal_item_is before b ∙ ends_before_by (nat_le GAP_LIMIT (length before)) (is_bad_in_decimal (ends_in_comment before) b) (is_complete before b) good end
+ends_before_by : (long : Bool) {bad complete : Bool} → bad ≡ false → complete ≡ true → decimal_by long bad complete ≡ EndsBefore
+ends_before_by true b c = rw (b, c) refl
+ends_before_by false b c = rw (b, c) refl
 
 -- the tests, from each judgement
 abbrev DecimalTests : Bool → Bool → Bool → ScanStatus → Type 0
@@ -293,11 +263,6 @@ decimal_tests false false false = (refl, refl, refl)
 abbrev pub DecimalTold : List ℕ → ℕ → ScanStatus → Type 0
 DecimalTold before b j = DecimalTests (nat_le GAP_LIMIT (length before)) (is_bad_in_decimal (ends_in_comment before) b) (is_complete before b) j
 
-pub decimal_told : (before : List ℕ) (b : ℕ) → DecimalTold before b (decimal_item before b)
-decimal_told before b =
-    subst (DecimalTold before b) (sym (decimal_item_is before b))
-    (decimal_tests (nat_le GAP_LIMIT (length before)) (is_bad_in_decimal (ends_in_comment before) b) (is_complete before b))
-
 -- ---- bytes of a pixel
 
 abbrev pub pixel_by : Bool → Bool → Bool → ScanStatus
@@ -306,19 +271,6 @@ pixel_by long bad pixel = if long then Fails TooLong else if bad then Fails BadS
 -- a byte that cannot stand in a plain raster of pixels
 abbrev pub is_bad_in_pixels : Bool → ℕ → Bool
 is_bad_in_pixels inside b = not inside && not (is_pixel b || is_apart b)
-
-pub pixel_item_is : (before : List ℕ) (b : ℕ) → pixel_item before b ≡ pixel_by (nat_le GAP_LIMIT (length before)) (is_bad_in_pixels (ends_in_comment before) b)
-    (not (ends_in_comment before) && is_pixel b)
-unfolding pixel_item
-pixel_item_is before b = refl
-
-pixel_goes_on : (before : List ℕ) (b : ℕ) → length before < GAP_LIMIT → is_bad_in_pixels (ends_in_comment before) b ≡ false
-    → (not (ends_in_comment before) && is_pixel b) ≡ false → pixel_item before b ≡ GoesOn
-pixel_goes_on before b short good more = pixel_item_is before b ∙ rw (lt-leb GAP_LIMIT (length before) short, good, more) refl
-
-pub pixel_ends_with : (before : List ℕ) (b : ℕ) → length before < GAP_LIMIT → is_bad_in_pixels (ends_in_comment before) b ≡ false
-    → (not (ends_in_comment before) && is_pixel b) ≡ true → pixel_item before b ≡ EndsWith
-pixel_ends_with before b short good end = pixel_item_is before b ∙ rw (lt-leb GAP_LIMIT (length before) short, good, end) refl
 
 abbrev PixelTests : Bool → Bool → Bool → ScanStatus → Type 0
 PixelTests long bad pixel (Fails fault) = Unit {0}
@@ -337,10 +289,42 @@ abbrev pub PixelTold : List ℕ → ℕ → ScanStatus → Type 0
 PixelTold before b j = PixelTests (nat_le GAP_LIMIT (length before)) (is_bad_in_pixels (ends_in_comment before) b) (not (ends_in_comment before) && is_pixel b)
     j
 
-pub pixel_told : (before : List ℕ) (b : ℕ) → PixelTold before b (pixel_item before b)
-pixel_told before b =
-    subst (PixelTold before b) (sym (pixel_item_is before b))
-    (pixel_tests (nat_le GAP_LIMIT (length before)) (is_bad_in_pixels (ends_in_comment before) b) (not (ends_in_comment before) && is_pixel b))
+module _ (before : List ℕ) (b : ℕ) where
+  pub decimal_item_is : decimal_item before b ≡ decimal_by (nat_le GAP_LIMIT (length before)) (is_bad_in_decimal (ends_in_comment before) b)
+      (is_complete before b)
+  unfolding decimal_item
+  decimal_item_is = refl
+
+  -- each judgement, from the tests
+  pub decimal_goes_on : length before < GAP_LIMIT → is_bad_in_decimal (ends_in_comment before) b ≡ false → is_complete before b ≡ false
+      → decimal_item before b ≡ GoesOn
+  decimal_goes_on short good more = decimal_item_is ∙ rw (lt-leb GAP_LIMIT (length before) short, good, more) refl
+
+  pub decimal_ends_before : is_bad_in_decimal (ends_in_comment before) b ≡ false → is_complete before b ≡ true → decimal_item before b ≡ EndsBefore
+  decimal_ends_before good end = decimal_item_is ∙ ends_before_by (nat_le GAP_LIMIT (length before)) good end
+
+  pub decimal_told : DecimalTold before b (decimal_item before b)
+  decimal_told =
+      subst (DecimalTold before b) (sym (decimal_item_is))
+      (decimal_tests (nat_le GAP_LIMIT (length before)) (is_bad_in_decimal (ends_in_comment before) b) (is_complete before b))
+
+  pub pixel_item_is : pixel_item before b ≡ pixel_by (nat_le GAP_LIMIT (length before)) (is_bad_in_pixels (ends_in_comment before) b)
+      (not (ends_in_comment before) && is_pixel b)
+  unfolding pixel_item
+  pixel_item_is = refl
+
+  pixel_goes_on : length before < GAP_LIMIT → is_bad_in_pixels (ends_in_comment before) b ≡ false → (not (ends_in_comment before) && is_pixel b) ≡ false
+      → pixel_item before b ≡ GoesOn
+  pixel_goes_on short good more = pixel_item_is ∙ rw (lt-leb GAP_LIMIT (length before) short, good, more) refl
+
+  pub pixel_ends_with : length before < GAP_LIMIT → is_bad_in_pixels (ends_in_comment before) b ≡ false → (not (ends_in_comment before) && is_pixel b) ≡ true
+      → pixel_item before b ≡ EndsWith
+  pixel_ends_with short good end = pixel_item_is ∙ rw (lt-leb GAP_LIMIT (length before) short, good, end) refl
+
+  pub pixel_told : PixelTold before b (pixel_item before b)
+  pixel_told =
+      subst (PixelTold before b) (sym (pixel_item_is))
+      (pixel_tests (nat_le GAP_LIMIT (length before)) (is_bad_in_pixels (ends_in_comment before) b) (not (ends_in_comment before) && is_pixel b))
 
 -- ---- gaps are gone over
 

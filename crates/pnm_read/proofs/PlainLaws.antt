@@ -1,27 +1,15 @@
 -- Plain rasters: of what spells an image its rows are said, and what is said without a fault spells an image.
-use Rattle.pnm_image.specs.Formats.{is_plain_form}
-use Rattle.std.proofs.Common.{◌≡◌, ℕ, zero, suc, ◌+◌, ◌*◌, ◌<◌, ◌≤◌, Bool, true, List, [], ◌∷◌, ◌++◌, length, take, drop, map, All, None, Result, Ok, Err, refl}
-use Rattle.std.proofs.Common.{sym, ap, subst, ◌∙◌, append_assoc, length-append, length-drop, arith, zero-mul, suc-mul}
+use Rattle.pnm_read.proofs.Words.{is_plain_form, ◌≡◌, ℕ, zero, suc, ◌+◌, ◌*◌, ◌<◌, ◌≤◌, Bool, true, List, [], ◌∷◌, ◌++◌, length, take, drop, map, All, None}
+use Rattle.pnm_read.proofs.Words.{Result, Ok, Err, refl, sym, ap, subst, ◌∙◌, append_assoc, arith, zero-mul, suc-mul, concat, nil_from_length, All-nil}
+use Rattle.pnm_read.proofs.Words.{All-cons, All-head, All-tail, All-append, All-drop, All-weaker, Row, ImageEnd, StreamEnd, Shape, Kind, Bit, Gray, Color, Pam}
+use Rattle.pnm_read.proofs.Words.{HeadValue, IsHead, Suits, row_length, Image, cut_rows, rows_of, IsRowOf, InputFault, BadSample, Format, begins_apart}
+use Rattle.pnm_read.proofs.Words.{SpellsPiece, MayFollowSample, SpellsPlainSamples, SpellsPlain, ◌>>=◌, plain_sample, Said, then_said, row_in_form, row_at}
+use Rattle.pnm_read.proofs.Words.{after_messages}
+use Rattle.std.proofs.Common.{length-append, length-drop}
 use Rattle.std.specs.Prelude.{if◌then◌else◌}
-use Rattle.std.specs.List.{concat}
-use Rattle.std.proofs.lemmas.List.{nil_from_length}
-use Rattle.std.proofs.lemmas.List.Elements.{All-nil, All-cons, All-head, All-tail, All-append, All-drop, All-weaker}
-use Rattle.pnm_image.specs.declared.message.Message.TheVariants.{Row, ImageEnd, StreamEnd}
-use Rattle.pnm_image.specs.declared.shape.Shape.{Shape}
-use Rattle.pnm_image.specs.declared.shape.Kind.{Kind}
-use Rattle.pnm_image.specs.declared.shape.Kind.TheVariants.{Bit, Gray, Color, Pam}
-use Rattle.pnm_image.specs.Heads.{HeadValue, IsHead, Suits, row_length}
-use Rattle.pnm_image.specs.Images.{Image, cut_rows, rows_of}
-use Rattle.pnm_image.specs.Places.{IsRowOf}
-use Rattle.pnm_read.specs.declared.fault.InputFault.{InputFault}
-use Rattle.pnm_read.specs.declared.fault.InputFault.TheVariants.{BadSample}
-use Rattle.pnm_image.specs.declared.format.Format.{Format}
-use Rattle.pnm_read.specs.HeaderTexts.{begins_apart}
-use Rattle.pnm_read.specs.Rasters.{SpellsPiece, MayFollowSample, SpellsPlainSamples, SpellsPlain}
-use Rattle.pnm_read.specs.Items.{◌>>=◌, plain_sample, after_last_item}
-use Rattle.pnm_read.specs.Said.{Said, then_said, in_turn, plain_row, last_plain_row, row_in_form, row_at, rows_said}
+use Rattle.pnm_read.specs.Items.{after_last_item}
+use Rattle.pnm_read.specs.Said.{in_turn, plain_row, last_plain_row, rows_said}
 use Rattle.pnm_read.proofs.EndSaid.{end_said}
-use Rattle.pnm_read.specs.Said.{after_messages}
 use Rattle.pnm_read.proofs.RowsInTurn.{RowsRead, rows_count, read_rows_are_said, all_read, no_more_to_come}
 use Rattle.pnm_read.proofs.PieceLaws.{bind_ok, done, ok_is, if_ok}
 use Rattle.pnm_read.proofs.SampleLaws.{IsInRange, spelled_piece_is_read, read_piece_is_spelled}
@@ -59,11 +47,10 @@ follows_less Pam prefix rest f = apart_less prefix rest f
 -- ---- samples that are spelled are read
 
 -- two items in turn, the first of which was read
-first_read : (kind : Kind) (maxval n : ℕ) (text : List ℕ) (first : ℕ × List ℕ) (more : List ℕ × List ℕ) → plain_sample kind maxval text ≡ Ok first
-    → in_turn (plain_sample kind maxval) n first.1 ≡ Ok more
-    → in_turn (plain_sample kind maxval) (suc n) text ≡ Ok (first.0 ∷ more.0, more.1)
+first_read : (kind : Kind) (maxval n : ℕ) (text : List ℕ) {first : ℕ × List ℕ} {more : List ℕ × List ℕ} → plain_sample kind maxval text ≡ Ok first
+    → in_turn (plain_sample kind maxval) n first.1 ≡ Ok more → in_turn (plain_sample kind maxval) (suc n) text ≡ Ok (first.0 ∷ more.0, more.1)
 unfolding in_turn
-first_read kind maxval n text first more e f =
+first_read kind maxval n text {first} e f =
     ap (λ (r : Result (ℕ × List ℕ) InputFault). r >>= λ x. in_turn (plain_sample kind maxval) n x.1 >>= λ y. Ok (x.0 ∷ y.0, y.1)) e
     ∙ ap (λ (r : Result (List ℕ × List ℕ) InputFault). r >>= λ y. Ok (first.0 ∷ y.0, y.1)) f
 
@@ -85,7 +72,7 @@ spelled_samples_are_read kind maxval (suc n) text (sample ∷ samples) rest le s
     spelled_piece_is_read kind maxval s.0 (s.1 ++ rest) sample s.3 (follows_more kind s.1 rest s.4 follows) (All-head (λ x. x ≤ maxval) sample samples range) in
     let whole : text ++ rest ≡ s.0 ++ (s.1 ++ rest) = ap (λ (t : List ℕ). t ++ rest) s.2 ∙ append_assoc s.0 s.1 rest in
     let here : plain_sample kind maxval (text ++ rest) ≡ Ok (sample, s.1 ++ rest) = ap (plain_sample kind maxval) whole ∙ first in
-    (more.0, first_read kind maxval n (text ++ rest) (sample, s.1 ++ rest) (take n samples, more.0 ++ rest) here more.1, more.2)
+    (more.0, first_read kind maxval n (text ++ rest) here more.1, more.2)
 
 -- ---- rows that are spelled are said
 
@@ -102,14 +89,14 @@ last_row_is_read s text row rest e apart =
     ∙ ap (λ (t : Bool). (if t then Ok rest else Err BadSample) >>= λ y. done (row, y)) apart
 
 -- a row that is read
-row_is_read : (s : Shape) (text : List ℕ) (found : List ℕ × List ℕ) → in_turn (plain_sample s.kind s.maxval) (row_length s) text ≡ Ok found
+row_is_read : (s : Shape) (text : List ℕ) {found : List ℕ × List ℕ} → in_turn (plain_sample s.kind s.maxval) (row_length s) text ≡ Ok found
     → plain_row s text ≡ Ok found
 unfolding plain_row
-row_is_read s text found e = e
+row_is_read s text e = e
 
 -- no samples are spelled by nothing
-nothing_left : (kind : Kind) (text samples : List ℕ) → samples ≡ [] → SpellsPlainSamples kind text samples → text ≡ []
-nothing_left kind text samples e s = subst (SpellsPlainSamples kind text) e s
+nothing_left : (kind : Kind) (text : List ℕ) {samples : List ℕ} → samples ≡ [] → SpellsPlainSamples kind text samples → text ≡ []
+nothing_left kind text e s = subst (SpellsPlainSamples kind text) e s
 
 -- a row of a plain raster is a plain one
 pub row_at_plain : (format : Format) (s : Shape) (n : ℕ) (text : List ℕ) → is_plain_form format.form ≡ true → row_at format s n text ≡ row_in_form true s n text
@@ -119,7 +106,7 @@ row_at_plain format s n text plain = ap (λ (b : Bool). row_in_form b s n text) 
 plain_row_by : (s : Shape) (n : ℕ) (text row left : List ℕ) → in_turn (plain_sample s.kind s.maxval) (row_length s) text ≡ Ok (row, left)
     → (n ≡ 0 → begins_apart left ≡ true) → row_in_form true s n text ≡ Ok (row, left)
 plain_row_by s zero text row left e last = last_row_is_read s text row left e (last refl)
-plain_row_by s (suc n) text row left e last = row_is_read s text (row, left) e
+plain_row_by s (suc n) text row left e last = row_is_read s text e
 
 -- rows that are spelled are read in turn
 pub plain_rows_in_turn : (format : Format) (s : Shape) (rows n : ℕ) (text samples : List ℕ) (more : ℕ) (rest : List ℕ) → is_plain_form format.form ≡ true
@@ -128,7 +115,7 @@ pub plain_rows_in_turn : (format : Format) (s : Shape) (rows n : ℕ) (text samp
     → RowsRead format s (cut_rows rows (row_length s) samples) n (text ++ rest) more rest
 plain_rows_in_turn format s zero n text samples more rest plain count size spelled range follows last =
     let none : samples ≡ [] = nil_from_length samples (size ∙ zero-mul (row_length s)) in
-    (omega arith, ap (λ (t : List ℕ). t ++ rest) (nothing_left s.kind text samples none spelled))
+    (omega arith, ap (λ (t : List ℕ). t ++ rest) (nothing_left s.kind text none spelled))
 plain_rows_in_turn format s (suc rows) zero text samples more rest plain count size spelled range follows last = absurd (omega arith)
 plain_rows_in_turn format s (suc rows) (suc n) text samples more rest plain count size spelled range follows last =
     let each : ℕ = row_length s in
@@ -138,7 +125,7 @@ plain_rows_in_turn format s (suc rows) (suc n) text samples more rest plain coun
     let ends : n ≡ 0 → begins_apart (r.0 ++ rest) ≡ true = λ z.
     let none : drop each samples ≡ [] = nil_from_length (drop each samples) (left ∙ ap (λ (k : ℕ). k * each) (let no_more : rows ≡ 0 = omega arith in no_more)
     ∙ zero-mul each) in
-    ap (λ (t : List ℕ). begins_apart (t ++ rest)) (nothing_left s.kind r.0 (drop each samples) none r.2) ∙ last (omega arith) (omega arith) in (
+    ap (λ (t : List ℕ). begins_apart (t ++ rest)) (nothing_left s.kind r.0 none r.2) ∙ last (omega arith) (omega arith) in (
       r.0 ++ rest,
       row_at_plain format s n (text ++ rest) plain ∙ plain_row_by s n (text ++ rest) (take each samples) (r.0 ++ rest) r.1 ends,
       plain_rows_in_turn format s rows n r.0 (drop each samples) more rest plain (omega arith) left r.2
@@ -153,11 +140,14 @@ after_rows later format s [] rest plain = ap (λ (p : Bool). then_said ImageEnd 
 after_rows later format s (row ∷ rows) rest plain = ap (then_said (Row row)) (after_rows later format s rows rest plain)
 
 -- of a raster that spells an image the rows are said, and the ends
-pub spelled_plain_is_said : (later : List ℕ → Said) (format : Format) (raster rest : List ℕ) (image : Image) → is_plain_form format.form ≡ true
+pub spelled_plain_is_said : (later : List ℕ → Said) (format : Format) {raster : List ℕ} (rest : List ℕ) {image : Image} → is_plain_form format.form ≡ true
     → image.head.shape.kind ≡ format.kind → 0 < image.head.shape.height → SpellsPlain raster image → begins_apart rest ≡ true
-    → rows_said later format image.head.shape image.head.shape.height (raster ++ rest)
-    ≡ record { messages = map Row (rows_of image) ++ ImageEnd ∷ StreamEnd ∷ []; fault = None }
-spelled_plain_is_said later format raster rest image plain kind some s apart =
+    → rows_said later format image.head.shape image.head.shape.height (raster ++ rest) ≡ record {
+      messages = map Row (rows_of image) ++ ImageEnd ∷ StreamEnd
+          ∷ [];
+      fault = None;
+    }
+spelled_plain_is_said later format {raster} rest {image} plain kind some s apart =
     let shape : Shape = image.head.shape in
     let height : ℕ = shape.height in
     let read = plain_rows_in_turn format shape height height raster image.samples zero rest plain (omega arith) s.sound.count s.samples s.sound.range
@@ -194,19 +184,19 @@ pub record IsRead (kind : Kind) (maxval n : ℕ) (text : List ℕ) (found : List
   pub range : All (IsInRange kind maxval) found.0
   pub spelled : SpellsOn kind text found.0 found.1
 
-pub read_samples_are_spelled : (kind : Kind) (maxval n : ℕ) (text : List ℕ) (found : List ℕ × List ℕ) → in_turn (plain_sample kind maxval) n text ≡ Ok found
-    → IsRead kind maxval n text found
+pub read_samples_are_spelled : {kind : Kind} {maxval : ℕ} (n : ℕ) (text : List ℕ) (found : List ℕ × List ℕ)
+    → in_turn (plain_sample kind maxval) n text ≡ Ok found → IsRead kind maxval n text found
 unfolding in_turn
-read_samples_are_spelled kind maxval zero text found e =
+read_samples_are_spelled {kind} {maxval} zero text found e =
     let none : IsRead kind maxval zero text ([], text) = record { count = refl; range = All-nil (IsInRange kind maxval); spelled = refl } in
     subst (IsRead kind maxval zero text) (ok_is ([], text) found e) none
-read_samples_are_spelled kind maxval (suc n) text found e =
-    let a = bind_ok (plain_sample kind maxval text) (λ first. in_turn (plain_sample kind maxval) n first.1 >>= λ more. Ok (first.0 ∷ more.0, more.1)) found e in
+read_samples_are_spelled {kind} {maxval} (suc n) text found e =
+    let a = bind_ok (plain_sample kind maxval text) (λ first. in_turn (plain_sample kind maxval) n first.1 >>= λ more. Ok (first.0 ∷ more.0, more.1)) e in
     let sample : ℕ = a.0.0 in
     let left : List ℕ = a.0.1 in
-    let b = bind_ok (in_turn (plain_sample kind maxval) n left) (λ more. Ok (sample ∷ more.0, more.1)) found a.2 in
+    let b = bind_ok (in_turn (plain_sample kind maxval) n left) (λ more. Ok (sample ∷ more.0, more.1)) a.2 in
     let s = read_piece_is_spelled kind maxval text left sample a.1 in
-    let more = read_samples_are_spelled kind maxval n left b.0 b.1 in
+    let more = read_samples_are_spelled n left b.0 b.1 in
     let here : IsRead kind maxval (suc n) text (sample ∷ b.0.0, b.0.1) = record {
       count = ap suc more.count;
       range = All-cons (IsInRange kind maxval) sample b.0.0 s.4 more.range;
@@ -216,25 +206,25 @@ read_samples_are_spelled kind maxval (suc n) text found e =
 
 -- ---- rows that are said are spelled
 
-pub read_row : (s : Shape) (text : List ℕ) (row : List ℕ × List ℕ) → plain_row s text ≡ Ok row → IsRead s.kind s.maxval (row_length s) text row
+pub read_row : (s : Shape) {text : List ℕ} {row : List ℕ × List ℕ} → plain_row s text ≡ Ok row → IsRead s.kind s.maxval (row_length s) text row
 unfolding plain_row
-read_row s text row e = read_samples_are_spelled s.kind s.maxval (row_length s) text row e
+read_row s {text} {row} e = read_samples_are_spelled (row_length s) text row e
 
-read_last_row : (s : Shape) (text : List ℕ) (row : List ℕ × List ℕ) → last_plain_row s text ≡ Ok row → IsRead s.kind s.maxval (row_length s) text row
-    × (begins_apart row.1 ≡ true)
+read_last_row : (s : Shape) {text : List ℕ} {row : List ℕ × List ℕ} → last_plain_row s text ≡ Ok row
+    → IsRead s.kind s.maxval (row_length s) text row × (begins_apart row.1 ≡ true)
 unfolding last_plain_row after_last_item
-read_last_row s text row e =
-    let a = bind_ok (plain_row s text) (λ x. after_last_item x.1 >>= λ y. Ok (x.0, y)) row e in
-    let b = bind_ok (after_last_item a.0.1) (λ y. Ok (a.0.0, y)) row a.2 in
+read_last_row s {text} {row} e =
+    let a = bind_ok (plain_row s text) (λ x. after_last_item x.1 >>= λ y. Ok (x.0, y)) e in
+    let b = bind_ok (after_last_item a.0.1) (λ y. Ok (a.0.0, y)) a.2 in
     let c = if_ok (begins_apart a.0.1) a.0.1 b.0 BadSample b.1 in
     let same : a.0 ≡ row = ap (λ (t : List ℕ). (a.0.0, t)) c.1 ∙ ok_is (a.0.0, b.0) row b.2 in
-    (subst (IsRead s.kind s.maxval (row_length s) text) same (read_row s text a.0 a.1), subst (λ (f : List ℕ × List ℕ). begins_apart f.1 ≡ true) same c.0)
+    (subst (IsRead s.kind s.maxval (row_length s) text) same (read_row s a.1), subst (λ (f : List ℕ × List ℕ). begins_apart f.1 ≡ true) same c.0)
 
 -- a plain row that was read, and what follows the last one
-pub plain_row_is_read : (s : Shape) (n : ℕ) (text : List ℕ) (found : List ℕ × List ℕ) → row_in_form true s n text ≡ Ok found
+pub plain_row_is_read : (s : Shape) (n : ℕ) {text : List ℕ} {found : List ℕ × List ℕ} → row_in_form true s n text ≡ Ok found
     → IsRead s.kind s.maxval (row_length s) text found × (n ≡ 0 → begins_apart found.1 ≡ true)
-plain_row_is_read s zero text found e = let r = read_last_row s text found e in (r.0, λ last. r.1)
-plain_row_is_read s (suc n) text found e = (read_row s text found e, λ last. absurd (omega arith))
+plain_row_is_read s zero e = let r = read_last_row s e in (r.0, λ last. r.1)
+plain_row_is_read s (suc n) e = (read_row s e, λ last. absurd (omega arith))
 
 pub plain_rows_are_read : (format : Format) (s : Shape) (rows : List (List ℕ)) (n : ℕ) (text : List ℕ) (more : ℕ) (rest : List ℕ)
     → is_plain_form format.form ≡ true → RowsRead format s rows n text more rest
@@ -243,7 +233,7 @@ plain_rows_are_read format s [] n text more rest plain read =
     record { count = sym (zero-mul (row_length s)); range = All-nil (IsInRange s.kind s.maxval); spelled = read.1 }
 plain_rows_are_read format s (row ∷ rows) zero text more rest plain read = absurd read
 plain_rows_are_read format s (row ∷ rows) (suc n) text more rest plain read =
-    let first = (plain_row_is_read s n text (row, read.0) (sym (row_at_plain format s n text plain) ∙ read.1)).0 in
+    let first = (plain_row_is_read s n (sym (row_at_plain format s n text plain) ∙ read.1)).0 in
     let others = plain_rows_are_read format s rows n read.0 more rest plain read.2 in
     record {
       count = omega (arith, length-append row (concat rows), first.count, others.count, suc-mul (length rows) (row_length s));
@@ -252,15 +242,15 @@ plain_rows_are_read format s (row ∷ rows) (suc n) text more rest plain read =
     }
 
 -- after the last row of a plain raster the text ends, or white space or # follows
-pub last_row_ends : (format : Format) (s : Shape) (rows : List (List ℕ)) (n : ℕ) (text : List ℕ) (more : ℕ) (rest : List ℕ) → is_plain_form format.form ≡ true
-    → RowsRead format s rows n text more rest → 0 < length rows → more ≡ 0 → begins_apart rest ≡ true
-last_row_ends format s [] n text more rest plain read some last = absurd (omega arith)
-last_row_ends format s (row ∷ rows) zero text more rest plain read some last = absurd read
-last_row_ends format s (row ∷ []) (suc n) text more rest plain read some last =
-    let first = plain_row_is_read s n text (row, read.0) (sym (row_at_plain format s n text plain) ∙ read.1) in
+pub last_row_ends : (format : Format) (s : Shape) (rows : List (List ℕ)) (n : ℕ) (text : List ℕ) {more : ℕ} (rest : List ℕ)
+    → is_plain_form format.form ≡ true → RowsRead format s rows n text more rest → 0 < length rows → more ≡ 0 → begins_apart rest ≡ true
+last_row_ends format s [] n text rest plain read some last = absurd (omega arith)
+last_row_ends format s (row ∷ rows) zero text rest plain read some last = absurd read
+last_row_ends format s (row ∷ []) (suc n) text {more} rest plain read some last =
+    let first = plain_row_is_read s n (sym (row_at_plain format s n text plain) ∙ read.1) in
     let none : n ≡ more = read.2.0 in
     sym (ap begins_apart read.2.1) ∙ first.1 (omega arith)
-last_row_ends format s (row ∷ next ∷ rows) (suc n) text more rest plain read some last = last_row_ends format s (next ∷ rows) n read.0 more rest plain read.2
+last_row_ends format s (row ∷ next ∷ rows) (suc n) text rest plain read some last = last_row_ends format s (next ∷ rows) n read.0 rest plain read.2
     (omega arith) last
 
 -- a sample in its kind's range is up to the maxval
@@ -272,9 +262,9 @@ range_by Color depth maxval tuple_type sample suits h = h
 range_by Pam depth maxval tuple_type sample suits h = h
 
 -- samples that were read as a row are a row of a head's shape
-samples_are_row : (head : HeadValue) (text : List ℕ) (row : List ℕ × List ℕ) → IsHead head
+samples_are_row : {head : HeadValue} {text : List ℕ} {row : List ℕ × List ℕ} → IsHead head
     → IsRead head.shape.kind head.shape.maxval (row_length head.shape) text row → IsRowOf head.shape row.0
-samples_are_row head text row h r =
+samples_are_row {head} {row} h r =
     let s : Shape = head.shape in
     record {
       count = r.count;
@@ -283,27 +273,27 @@ samples_are_row head text row h r =
     }
 
 -- a plain row that was read is a row of the head's shape
-pub plain_row_is_row : (head : HeadValue) (text : List ℕ) (row : List ℕ × List ℕ) → IsHead head → plain_row head.shape text ≡ Ok row → IsRowOf head.shape row.0
-plain_row_is_row head text row h e = samples_are_row head text row h (read_row head.shape text row e)
-
-pub last_plain_row_is_row : (head : HeadValue) (text : List ℕ) (row : List ℕ × List ℕ) → IsHead head → last_plain_row head.shape text ≡ Ok row
+pub plain_row_is_row : {head : HeadValue} (text : List ℕ) {row : List ℕ × List ℕ} → IsHead head → plain_row head.shape text ≡ Ok row
     → IsRowOf head.shape row.0
-last_plain_row_is_row head text row h e = samples_are_row head text row h (read_last_row head.shape text row e).0
+plain_row_is_row {head} text h e = samples_are_row h (read_row head.shape e)
+
+pub last_plain_row_is_row : {head : HeadValue} (text : List ℕ) {row : List ℕ × List ℕ} → IsHead head → last_plain_row head.shape text ≡ Ok row
+    → IsRowOf head.shape row.0
+last_plain_row_is_row {head} text h e = samples_are_row h (read_last_row head.shape e).0
 
 -- a raster whose rows are said without a fault spells the image of these rows, and what may follow it
-pub said_plain_is_spelled : (later : List ℕ → Said) (format : Format) (head : HeadValue) (text : List ℕ) → is_plain_form format.form ≡ true
+pub said_plain_is_spelled : (later : List ℕ → Said) (format : Format) {head : HeadValue} (text : List ℕ) → is_plain_form format.form ≡ true
     → head.shape.kind ≡ format.kind → IsHead head → 0 < head.shape.height → (rows_said later format head.shape head.shape.height text).fault ≡ None
-    → (image : Image) × (raster : List ℕ) × (rest : List ℕ) × (text ≡ raster ++ rest) × (image.head ≡ head) × SpellsPlain raster image
-    × (begins_apart rest ≡ true)
-    × ((rows_said later format head.shape head.shape.height text).messages ≡ map Row (rows_of image) ++ ImageEnd ∷ StreamEnd ∷ [])
-said_plain_is_spelled later format head text plain kind h some e =
+    → (image : Image) × (raster : List ℕ) × (rest : List ℕ) × (text ≡ raster ++ rest) × (image.head ≡ head) × SpellsPlain raster image × (begins_apart rest ≡
+    true) × ((rows_said later format head.shape head.shape.height text).messages ≡ map Row (rows_of image) ++ ImageEnd ∷ StreamEnd ∷ [])
+said_plain_is_spelled later format {head} text plain kind h some e =
     let s : Shape = head.shape in
-    let r = all_read format s s.height text in
+    let r = all_read format s.height text in
     let none : r.more ≡ zero = no_more_to_come later format s r.rows s.height text r.more r.rest r.read r.stop e in
     let read = subst (λ (k : ℕ). RowsRead format s r.rows s.height text k r.rest) none r.read in
     let is = plain_rows_are_read format s r.rows s.height text zero r.rest plain read in
     let height : length r.rows ≡ s.height = omega (arith, rows_count format s r.rows s.height text zero r.rest read) in
-    let apart = last_row_ends format s r.rows s.height text zero r.rest plain read (omega arith) refl in
+    let apart = last_row_ends format s r.rows s.height text r.rest plain read (omega arith) refl in
     let samples : List ℕ = concat r.rows in
     let rest : List ℕ = r.rest in
     let f = spelled_prefix s.kind text samples rest is.spelled in
@@ -313,5 +303,5 @@ said_plain_is_spelled later format head text plain kind h some e =
     let image : Image = record { head = head; samples = samples } in
     let spelled : SpellsPlain f.0 image =
     record { sound = record { head = h; count = is.count ∙ ap (λ (n : ℕ). n * row_length s) height; range = range }; samples = f.2 } in
-    let said = ap (rows_said later format s s.height) f.1 ∙ spelled_plain_is_said later format f.0 rest image plain kind some spelled apart in
+    let said = ap (rows_said later format s s.height) f.1 ∙ spelled_plain_is_said later format rest plain kind some spelled apart in
     (image, f.0, rest, f.1, refl, spelled, apart, ap (λ (x : Said). x.messages) said)

@@ -1,11 +1,8 @@
 -- The samples of a raw row, and the bytes that they lie in.
-use Rattle.std.proofs.Common.{◌≡◌, ℕ, ◌+◌, ◌-◌, ◌*◌, ◌≤◌, ◌<◌, ◌↔◌, All, Bool, true, false, IsTrue, List, [], ◌∷◌, ◌++◌, length, get_or, take, drop, Result, Ok}
-use Rattle.std.proofs.Common.{Err, OnOk, is_err, refl, sym, ap, ◌∙◌, subst, arith}
-use Rattle.std.specs.declared.slice.ChunksExact.{ChunksExact}
-use Rattle.std.specs.Slice.Iter.{chunks_exact_steps, chunks_exact_rest, chunks_exact_size}
-use Rattle.std.proofs.lemmas.List.{take_all, drop_at, length-append}
-use Rattle.std.proofs.lemmas.Iterator.{YieldsList}
-use Rattle.std.proofs.lemmas.Iterator.Splits.{YieldsList-from_shown_while}
+use Rattle.pnm_read.proofs.Words.{◌≡◌, ℕ, ◌+◌, ◌-◌, ◌*◌, ◌≤◌, ◌<◌, ◌↔◌, All, Bool, true, false, IsTrue, List, [], ◌∷◌, ◌++◌, length, get_or, take, drop, Result}
+use Rattle.pnm_read.proofs.Words.{Ok, Err, is_err, refl, sym, ap, ◌∙◌, subst, arith, ChunksExact, chunks_exact_steps, chunks_exact_rest, chunks_exact_size}
+use Rattle.pnm_read.proofs.Words.{take_all, drop_at, length-append, YieldsList, YieldsList-from_shown_while}
+use Rattle.std.proofs.Common.{OnOk}
 use Rattle.pnm_read.specs.Rasters.{wide_samples}
 
 -- ---- appended samples
@@ -16,16 +13,16 @@ at_no_error P (Ok x) e h = h
 at_no_error P (Err y) e h = absurd cc
 
 -- what comes after the old list is what was appended
-appended_end : (old samples new : List ℕ) (n : ℕ) → new ≡ old ++ samples → n ≡ length old → take (length new - n) (drop n new) ≡ samples
-appended_end old samples new n e count =
+appended_end : (old samples : List ℕ) {new : List ℕ} {n : ℕ} → new ≡ old ++ samples → n ≡ length old → take (length new - n) (drop n new) ≡ samples
+appended_end old samples {new} {n} e count =
     let left : drop n new ≡ samples = ap (drop n) e ∙ drop_at old samples n (sym count) in
     ap (take (length new - n)) left ∙ take_all (length new - n) samples (omega (arith, ap length e, length-append old samples))
 
 -- what decides whether the end of a list is within a bound decides it of what was appended
-pub within_of_appended : (old samples new : List ℕ) (n most : ℕ) (within : Bool) → new ≡ old ++ samples → n ≡ length old
+pub within_of_appended : (old samples : List ℕ) {new : List ℕ} (n most : ℕ) (within : Bool) → new ≡ old ++ samples → n ≡ length old
     → (IsTrue within ↔ All (λ sample. sample ≤ most) (take (length new - n) (drop n new))) → IsTrue within ↔ All (λ sample. sample ≤ most) samples
-within_of_appended old samples new n most within e count known =
-    subst (λ (l : List ℕ). IsTrue within ↔ All (λ sample. sample ≤ most) l) (appended_end old samples new n e count) known
+within_of_appended old samples n most within e count known =
+    subst (λ (l : List ℕ). IsTrue within ↔ All (λ sample. sample ≤ most) l) (appended_end old samples e count) known
 
 -- what is refused isn't within the bound
 pub refused_not_within : (samples : List ℕ) (most : ℕ) (within : Bool) → within ≡ false → (IsTrue within ↔ All (λ sample. sample ≤ most) samples)

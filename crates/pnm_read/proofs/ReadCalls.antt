@@ -1,63 +1,12 @@
 -- How calls that read follow one another.
-use Rattle.std.proofs.Common.{◌≡◌, ◌==◌, ℕ, true, false, List, [], ◌∷◌, ◌++◌, length, drop, Option, Result, Ok, Err, refl, sym, ap, subst, ◌∙◌, append_assoc}
-use Rattle.std.specs.Io.KnownBytes.{Consumes, IsAtEnd}
+use Rattle.pnm_read.proofs.Words.{◌≡◌, ◌==◌, ℕ, true, false, List, [], ◌∷◌, ◌++◌, length, drop, Option, Result, Ok, Err, refl, sym, ap, subst, ◌∙◌}
+use Rattle.pnm_read.proofs.Words.{append_assoc, Consumes, IsAtEnd, not_nil, InputFault, ReadFailed, BufferedReader, held_of, CanCome, ReadCall}
 use Rattle.pnm_image.specs.Devices.{Failed}
-use Rattle.pnm_image.proofs.Lists.{not_nil}
-use Rattle.pnm_read.specs.declared.fault.InputFault.{InputFault}
-use Rattle.pnm_read.specs.declared.fault.InputFault.TheVariants.{ReadFailed}
-use Rattle.pnm_read.specs.declared.buffered_reader.BufferedReader.{BufferedReader}
-use Rattle.pnm_read.specs.BufferedReaders.{held_of, CanCome}
-use Rattle.pnm_read.specs.Internal.BufferedReaders.{ReadCall}
 use Rattle.pnm_read.proofs.Consumed.{consumes_nothing, consumes_then}
 
 -- an answer is no fault
 pub no_fault : {A : Type 0} (x : A) (k : InputFault) → Ok x ≡ Err k → ⊥
 no_fault x k e = absurd cc
-
--- what a call found follows from what another found in the same call
-pub call_ok_so : {R A B : Type 0} {left : R → Option (List ℕ)} {failures : R → ℕ} {same : R → R → Type 0} {old new : BufferedReader R}
-    {o q : List ℕ → List ℕ → Type 0}
-    (x : A) (result : Result B InputFault) → (result ≡ Err ReadFailed → ⊥) → ((b a : List ℕ) → o b a → q b a)
-    → ReadCall left failures same old new (Ok x) o → ReadCall left failures same old new result q
-call_ok_so x (Ok y) n f t =
-    record {
-      read = t.read;
-      consumed = t.consumed;
-      comes = t.comes;
-      told = λ rest c. f _ _ (t.told rest c);
-      end = t.end;
-      same_device = t.same_device;
-      count = λ _. t.count (no_fault x ReadFailed);
-      read_failed = λ e. absurd (n e);
-    }
-call_ok_so x (Err k) n f t =
-    record {
-      read = t.read;
-      consumed = t.consumed;
-      comes = t.comes;
-      told = λ rest c. f _ _ (t.told rest c);
-      end = t.end;
-      same_device = t.same_device;
-      count = λ _. t.count (no_fault x ReadFailed);
-      read_failed = λ e. absurd (n e);
-    }
-
-pub call_err_so : {R A B : Type 0} {left : R → Option (List ℕ)} {failures : R → ℕ} {same : R → R → Type 0} {old new : BufferedReader R}
-    {o q : List ℕ → List ℕ → Type 0}
-    (k : InputFault) → ((b a : List ℕ) → o b a → q b a)
-    → ReadCall {A = A} left failures same old new (Err k) o → ReadCall {A = B} left failures same old new (Err k) q
-call_err_so k f t =
-    record {
-      read = t.read;
-      consumed = t.consumed;
-      comes = t.comes;
-      told = λ rest c. f _ _ (t.told rest c);
-      end = t.end;
-      same_device = t.same_device;
-      count = λ n. t.count (λ e. n (let same : k ≡ ReadFailed = cc in ap (λ (k : InputFault). Err k) same));
-      read_failed = λ e. let same : k ≡ ReadFailed = cc in
-          t.read_failed (ap (λ (k : InputFault). Err k) same);
-    }
 
 -- a call after another
 pub call_then : {R A B : Type 0} {left : R → Option (List ℕ)} {failures : R → ℕ} {same : R → R → Type 0} {old mid new : BufferedReader R}
@@ -101,21 +50,6 @@ call_taken {left = left} {failures = failures} {same = same} {old = old} {new = 
 abbrev pub IsLeft : {R : Type 0} → BufferedReader R → List ℕ → Type 0
 IsLeft input left = (rest : List ℕ) × CanCome input rest × (left ≡ held_of input ++ rest)
 
-pub call_seen : {R A : Type 0} {left : R → Option (List ℕ)} {failures : R → ℕ} {same : R → R → Type 0} {old new : BufferedReader R}
-    {o : List ℕ → List ℕ → Type 0} {result : Result A InputFault}
-    → ReadCall left failures same old new result o → ReadCall left failures same old new result (λ b a. o b a × IsLeft new a)
-call_seen t =
-    record {
-      read = t.read;
-      consumed = t.consumed;
-      comes = t.comes;
-      told = λ rest c. (t.told rest c, (rest, c, refl));
-      end = t.end;
-      same_device = t.same_device;
-      count = t.count;
-      read_failed = t.read_failed;
-    }
-
 -- nothing is left after the end
 pub nothing_left : {R : Type 0} (input : BufferedReader R) (left : List ℕ) → held_of input ≡ [] → input.ended ≡ true → IsLeft input left → left ≡ []
 nothing_left input left held ended s = s.2 ∙ ap (λ (l : List ℕ). l ++ s.0) held ∙ s.1 ended
@@ -137,18 +71,73 @@ call_held {left = left} {failures = failures} {same = same} {old = old} x result
   read_failed = λ e. absurd (f e);
 }
 
--- so many bytes of what is held were taken after a call
-pub call_advance : {R A B : Type 0} {left : R → Option (List ℕ)} {failures : R → ℕ} {same : R → R → Type 0} {old mid new : BufferedReader R}
-    {o q : List ℕ → List ℕ → Type 0}
-    (x : A) (result : Result B InputFault) (n : ℕ) → (result ≡ Err ReadFailed → ⊥) → new.reader ≡ mid.reader → new.ended ≡ mid.ended
-    → held_of new ≡ drop n (held_of mid)
-    → ((b rest : List ℕ) → CanCome mid rest → o b (held_of mid ++ rest) → q b (drop n (held_of mid) ++ rest))
-    → ReadCall left failures same old mid (Ok x) o → ReadCall left failures same old new result q
-call_advance {q = q} x result n f reader ended held g t =
-    call_held x result f reader ended (λ b rest c o. subst (λ (l : List ℕ). q b (l ++ rest)) (sym held) (g b rest c o)) t
+module _ {R A : Type 0} {left : R → Option (List ℕ)} {failures : R → ℕ} {same : R → R → Type 0} {old new : BufferedReader R}
+    {o : List ℕ → List ℕ → Type 0} where
+  -- what a call found follows from what another found in the same call
+  pub call_ok_so : {B : Type 0} {q : List ℕ → List ℕ → Type 0} {x : A} (result : Result B InputFault) → (result ≡ Err ReadFailed → ⊥)
+      → ((b a : List ℕ) → o b a → q b a) → ReadCall left failures same old new (Ok x) o → ReadCall left failures same old new result q
+  call_ok_so {x} (Ok y) n f t =
+      record {
+        read = t.read;
+        consumed = t.consumed;
+        comes = t.comes;
+        told = λ rest c. f _ _ (t.told rest c);
+        end = t.end;
+        same_device = t.same_device;
+        count = λ _. t.count (no_fault x ReadFailed);
+        read_failed = λ e. absurd (n e);
+      }
+  call_ok_so {x} (Err k) n f t =
+      record {
+        read = t.read;
+        consumed = t.consumed;
+        comes = t.comes;
+        told = λ rest c. f _ _ (t.told rest c);
+        end = t.end;
+        same_device = t.same_device;
+        count = λ _. t.count (no_fault x ReadFailed);
+        read_failed = λ e. absurd (n e);
+      }
+
+  pub call_err_so : {B : Type 0} {q : List ℕ → List ℕ → Type 0} {k : InputFault} → ((b a : List ℕ) → o b a → q b a)
+      → ReadCall {A = A} left failures same old new (Err k) o → ReadCall {A = B} left failures same old new (Err k) q
+  call_err_so {k} f t =
+      record {
+        read = t.read;
+        consumed = t.consumed;
+        comes = t.comes;
+        told = λ rest c. f _ _ (t.told rest c);
+        end = t.end;
+        same_device = t.same_device;
+        count = λ n. t.count (λ e. n (let same : k ≡ ReadFailed = cc in ap (λ (k : InputFault). Err k) same));
+        read_failed = λ e. let same : k ≡ ReadFailed = cc in
+            t.read_failed (ap (λ (k : InputFault). Err k) same);
+      }
+
+  pub call_seen : {result : Result A InputFault} → ReadCall left failures same old new result o
+      → ReadCall left failures same old new result (λ b a. o b a × IsLeft new a)
+  call_seen t =
+      record {
+        read = t.read;
+        consumed = t.consumed;
+        comes = t.comes;
+        told = λ rest c. (t.told rest c, (rest, c, refl));
+        end = t.end;
+        same_device = t.same_device;
+        count = t.count;
+        read_failed = t.read_failed;
+      }
+
+  -- so many bytes of what is held were taken after a call
+  pub call_advance : {B : Type 0} {mid : BufferedReader R} {q : List ℕ → List ℕ → Type 0} {x : A} {result : Result B InputFault} (n : ℕ)
+      → (result ≡ Err ReadFailed → ⊥) → new.reader ≡ mid.reader → new.ended ≡ mid.ended → held_of new ≡ drop n (held_of mid)
+      → ((b rest : List ℕ) → CanCome mid rest → o b (held_of mid ++ rest) → q b (drop n (held_of mid) ++ rest))
+      → ReadCall left failures same old mid (Ok x) o → ReadCall left failures same old new result q
+  call_advance {q = q} {x} {result} n f reader ended held g t =
+      call_held x result f reader ended (λ b rest c o. subst (λ (l : List ℕ). q b (l ++ rest)) (sym held) (g b rest c o)) t
 
 -- the text goes on where a byte is held
-pub some_left : {R : Type 0} (input : BufferedReader R) (bytes left : List ℕ) → bytes ≡ held_of input → (length bytes == 0) ≡ false → IsLeft input left
-    → left ≡ [] → ⊥
-some_left input [] left e n s none = absurd cc
-some_left input (b ∷ bytes) left e n s none = not_nil b (bytes ++ s.0) (ap (λ (l : List ℕ). l ++ s.0) e ∙ sym s.2 ∙ none)
+pub some_left : {R : Type 0} (input : BufferedReader R) (bytes : List ℕ) {left : List ℕ} → bytes ≡ held_of input → (length bytes == 0) ≡ false
+    → IsLeft input left → left ≡ [] → ⊥
+some_left input [] e n s none = absurd cc
+some_left input (b ∷ bytes) e n s none = not_nil b (bytes ++ s.0) (ap (λ (l : List ℕ). l ++ s.0) e ∙ sym s.2 ∙ none)

@@ -1,35 +1,12 @@
 -- Rows of a raw raster that are held whole, and are taken together.
-use Rattle.pnm_image.specs.Formats.{is_plain_form}
-use Rattle.std.proofs.Common.{◌≡◌, ℕ, zero, suc, ◌+◌, ◌-◌, ◌*◌, ◌<◌, ◌≤◌, List, [], ◌∷◌, ◌++◌, length, take, drop, Option, Result, Ok, Err}
-use Rattle.std.proofs.Common.{refl, sym, ap, ap₂, subst, ◌∙◌}
-use Rattle.std.proofs.Common.{false, append_assoc, arith, zero-mul, suc-mul}
-use Rattle.std.specs.List.{concat}
-use Rattle.std.proofs.lemmas.List.{take-append-drop, take-take, length-take-le, length-drop}
-use Rattle.std.proofs.lemmas.List.{nil_from_length}
-use Rattle.std.proofs.Common.{All, ◌⊎◌, inl, inr}
-use Rattle.std.proofs.lemmas.List.Elements.{All-take, All-drop, All-nil, All-cons}
-use Rattle.pnm_samples.specs.PixelRows.{bytes_for, rows_of_bytes}
-use Rattle.pnm_samples.proofs.PixelRowLaws.{byte_pixels_within}
-use Rattle.pnm_image.specs.HeldRows.{AreRowsWithin}
-use Rattle.pnm_samples.specs.Pixels.{all_pixels}
-use Rattle.pnm_samples.proofs.PixelLaws.{take-all_pixels}
-use Rattle.pnm_image.specs.declared.shape.Shape.{Shape}
-use Rattle.pnm_image.specs.declared.format.Format.{Format}
-use Rattle.pnm_image.specs.declared.sample_width.SampleWidth.{SampleWidth}
-use Rattle.pnm_image.specs.declared.sample_width.SampleWidth.TheVariants.{Bits, Bytes, Words}
-use Rattle.pnm_image.specs.SampleWidths.{sample_width_of}
-use Rattle.pnm_image.specs.Heads.{row_length}
-use Rattle.pnm_image.specs.Images.{cut_rows}
-use Rattle.pnm_image.specs.Rows.{row_messages}
-use Rattle.pnm_read.specs.declared.fault.InputFault.{InputFault}
-use Rattle.pnm_read.specs.Items.{◌>>=◌}
-use Rattle.pnm_read.specs.Said.{Said, in_turn, units_in_row, raw_row, rows_said, later_said, after_messages}
-use Rattle.pnm_read.specs.Internal.Units.{samples_of_bytes, AreBytesWithin}
-use Rattle.pnm_read.specs.declared.raster.Raster.{Raster}
-use Rattle.pnm_read.specs.Internal.RasterRows.{FitsBytes, AreHeld, TakesRows, FindsRows, rows_held}
-use Rattle.pnm_read.specs.declared.fault.InputFault.TheVariants.{ReadFailed}
-use Rattle.pnm_read.specs.declared.buffered_reader.BufferedReader.{BufferedReader}
-use Rattle.pnm_read.specs.Internal.BufferedReaders.{ReadCall, Fills, Finds}
+use Rattle.pnm_read.proofs.Words.{is_plain_form, ◌≡◌, ℕ, zero, suc, ◌+◌, ◌-◌, ◌*◌, ◌<◌, ◌≤◌, List, [], ◌∷◌, ◌++◌, length, take, drop, Option, Result, Ok, Err}
+use Rattle.pnm_read.proofs.Words.{refl, sym, ap, ap₂, subst, ◌∙◌, false, append_assoc, arith, zero-mul, suc-mul, concat, take-append-drop, take-take}
+use Rattle.pnm_read.proofs.Words.{length-take-le, length-drop, nil_from_length, All, ◌⊎◌, inl, inr, All-take, All-drop, All-nil, All-cons, bytes_for}
+use Rattle.pnm_read.proofs.Words.{rows_of_bytes, byte_pixels_within, AreRowsWithin, all_pixels, take-all_pixels, Shape, Format, SampleWidth, Bits, Bytes, Words}
+use Rattle.pnm_read.proofs.Words.{sample_width_of, row_length, cut_rows, row_messages, InputFault, ◌>>=◌, Said, units_in_row, rows_said, later_said}
+use Rattle.pnm_read.proofs.Words.{after_messages, samples_of_bytes, AreBytesWithin, Raster, FitsBytes, AreHeld, TakesRows, FindsRows, rows_held, ReadFailed}
+use Rattle.pnm_read.proofs.Words.{BufferedReader, ReadCall, Fills, Finds}
+use Rattle.pnm_read.specs.Said.{in_turn, raw_row}
 use Rattle.pnm_read.proofs.ReadCalls.{no_fault, call_ok_so, call_err_so, call_then}
 use Rattle.pnm_read.proofs.PieceLaws.{bind_ok}
 use Rattle.pnm_read.proofs.UnitLaws.{items_of, bytes_are_units}
@@ -66,13 +43,13 @@ abbrev pub row_done : List ℕ → List ℕ → Result (List ℕ × List ℕ) In
 row_done row rest = Ok (row, rest)
 
 -- the row that so many bytes are
-first_row : (p : SampleWidth) (s : Shape) (bytes rest : List ℕ) → p ≡ sample_width_of s.kind s.maxval → FitsBytes p s → length bytes ≡ units_in_row p s
+first_row : {p : SampleWidth} (s : Shape) (bytes rest : List ℕ) → p ≡ sample_width_of s.kind s.maxval → FitsBytes p s → length bytes ≡ units_in_row p s
     → AreBytesWithin p s.maxval bytes → raw_row s (bytes ++ rest) ≡ Ok (take (row_length s) (samples_of_bytes p bytes), rest)
 unfolding raw_row
-first_row p s bytes rest is_width fits count within =
+first_row {p} s bytes rest is_width fits count within =
     let found = bytes_are_units p s.maxval bytes rest (not_wide p s fits) within in
     ap (λ (r : Result (List (List ℕ) × List ℕ) InputFault). r >>= λ units. row_done (take (row_length s) (concat units.0)) units.1)
-    (units_as s p (length bytes) (bytes ++ rest) is_width count ∙ found.2)
+    (units_as s (bytes ++ rest) is_width count ∙ found.2)
     ∙ ap (λ (l : List ℕ). row_done l rest) (ap (take (row_length s)) (sym found.1))
 
 -- a row before others
@@ -83,16 +60,17 @@ row_before item n text left rest row rows first others =
     ap (λ (r : Result (List ℕ × List ℕ) InputFault). r >>= λ one. in_turn item n one.1 >>= λ more. items_of (one.0 ∷ more.0) more.1) first
     ∙ ap (λ (r : Result (List (List ℕ) × List ℕ) InputFault). r >>= λ more. items_of (row ∷ more.0) more.1) others
 
-pub no_rows : (item : List ℕ → Result (List ℕ × List ℕ) InputFault) (bytes rest : List ℕ) → bytes ≡ [] → in_turn item zero (bytes ++ rest) ≡ Ok ([], rest)
+pub no_rows : (item : List ℕ → Result (List ℕ × List ℕ) InputFault) {bytes : List ℕ} (rest : List ℕ) → bytes ≡ []
+    → in_turn item zero (bytes ++ rest) ≡ Ok ([], rest)
 unfolding in_turn
-no_rows item bytes rest none = ap (λ (l : List ℕ). items_of [] (l ++ rest)) none
+no_rows item rest none = ap (λ (l : List ℕ). items_of [] (l ++ rest)) none
 
 -- bytes of so many rows are these rows in turn
-pub rows_in_turn : (p : SampleWidth) (s : Shape) (count : ℕ) (bytes rest : List ℕ) → p ≡ sample_width_of s.kind s.maxval → FitsBytes p s
+pub rows_in_turn : {p : SampleWidth} (s : Shape) (count : ℕ) (bytes rest : List ℕ) → p ≡ sample_width_of s.kind s.maxval → FitsBytes p s
     → length bytes ≡ count * units_in_row p s → AreBytesWithin p s.maxval bytes
     → in_turn (raw_row s) count (bytes ++ rest) ≡ Ok (rows_held p s count bytes, rest)
-rows_in_turn p s zero bytes rest is_width fits size within = no_rows (raw_row s) bytes rest (nil_from_length bytes (size ∙ zero-mul (units_in_row p s)))
-rows_in_turn p s (suc count) bytes rest is_width fits size within =
+rows_in_turn {p} s zero bytes rest is_width fits size within = no_rows (raw_row s) rest (nil_from_length bytes (size ∙ zero-mul (units_in_row p s)))
+rows_in_turn {p} s (suc count) bytes rest is_width fits size within =
     let each : ℕ = units_in_row p s in
     let total : length bytes ≡ count * each + each = size ∙ suc-mul count each in
     let first : List ℕ = take each bytes in
@@ -104,8 +82,8 @@ rows_in_turn p s (suc count) bytes rest is_width fits size within =
     ap (λ (l : List ℕ). l ++ rest) (sym (take-append-drop each bytes)) ∙ append_assoc first later rest in
     ap (in_turn (raw_row s) (suc count)) text
     ∙ row_before (raw_row s) count (first ++ (later ++ rest)) (later ++ rest) rest row (rows_held p s count later)
-    (first_row p s first (later ++ rest) is_width fits size_first (within-take p s.maxval each bytes within))
-    (rows_in_turn p s count later rest is_width fits size_later (within-drop p s.maxval each bytes within))
+    (first_row s first (later ++ rest) is_width fits size_first (within-take p s.maxval each bytes within))
+    (rows_in_turn s count later rest is_width fits size_later (within-drop p s.maxval each bytes within))
 
 -- ---- rows of bits, and of bytes
 
@@ -144,25 +122,25 @@ cut_within (suc count) each most samples h =
 abbrev pub bytes_held : Raster → ℕ → List ℕ → List ℕ
 bytes_held raster count held = take (count * raster.units) held
 
-size_held : (raster : Raster) (count : ℕ) (held : List ℕ) → AreHeld raster count held
+size_held : {raster : Raster} {count : ℕ} {held : List ℕ} → AreHeld raster count held
     → length (bytes_held raster count held) ≡ count * units_in_row raster.sample_width raster.shape
-size_held raster count held h = length-take-le (count * raster.units) held h.long ∙ ap (λ (n : ℕ). count * n) raster.count
+size_held {raster} {count} {held} h = length-take-le (count * raster.units) held h.long ∙ ap (λ (n : ℕ). count * n) raster.count
 
 pub length-rows_held : (p : SampleWidth) (s : Shape) (count : ℕ) (bytes : List ℕ) → length (rows_held p s count bytes) ≡ count
 length-rows_held p s zero bytes = refl
 length-rows_held p s (suc count) bytes = ap suc (length-rows_held p s count (drop (units_in_row p s) bytes))
 
 -- they are taken
-pub rows_taken : (raster : Raster) (count : ℕ) (held after : List ℕ) (rows : List (List ℕ)) → AreHeld raster count held
-    → rows ≡ rows_held raster.sample_width raster.shape count (bytes_held raster count held)
-    → after ≡ drop (count * raster.units) held → TakesRows raster.shape count rows held after
-rows_taken raster count held after rows h is left = λ rest.
+pub rows_taken : {raster : Raster} {count : ℕ} {held after : List ℕ} {rows : List (List ℕ)} → AreHeld raster count held
+    → rows ≡ rows_held raster.sample_width raster.shape count (bytes_held raster count held) → after ≡ drop (count * raster.units) held
+    → TakesRows raster.shape count rows held after
+rows_taken {raster} {count} {held} {after} h is left = λ rest.
     let bytes : List ℕ = bytes_held raster count held in
     let text : held ++ rest ≡ bytes ++ (after ++ rest) =
     ap (λ (l : List ℕ). l ++ rest) (sym (take-append-drop (count * raster.units) held) ∙ ap (λ (l : List ℕ). bytes ++ l) (sym left))
     ∙ append_assoc bytes after rest in
     ap (in_turn (raw_row raster.shape) count) text
-    ∙ rows_in_turn raster.sample_width raster.shape count bytes (after ++ rest) raster.samples h.fits (size_held raster count held h) h.within
+    ∙ rows_in_turn raster.shape count bytes (after ++ rest) raster.samples h.fits (size_held h) h.within
     ∙ ap (λ (l : List (List ℕ)). items_of l (after ++ rest)) (sym is)
 
 -- ---- what is said of rows in turn
@@ -178,8 +156,8 @@ rows_read format s zero n more text found raw all e =
     subst (λ (rows : List (List ℕ)). RowsRead format s rows n text more found.1) rows (same, rest)
 rows_read format s (suc count) zero more text found raw all e = absurd (omega (arith, all))
 rows_read format s (suc count) (suc n) more text found raw all e =
-    let first = bind_ok (raw_row s text) (λ one. in_turn (raw_row s) count one.1 >>= λ more. items_of (one.0 ∷ more.0) more.1) found e in
-    let others = bind_ok (in_turn (raw_row s) count first.0.1) (λ more. items_of (first.0.0 ∷ more.0) more.1) found first.2 in
+    let first = bind_ok (raw_row s text) (λ one. in_turn (raw_row s) count one.1 >>= λ more. items_of (one.0 ∷ more.0) more.1) e in
+    let others = bind_ok (in_turn (raw_row s) count first.0.1) (λ more. items_of (first.0.0 ∷ more.0) more.1) first.2 in
     let rows : first.0.0 ∷ others.0.0 ≡ found.0 = cc in
     let rest : others.0.1 ≡ found.1 = cc in
     let read : RowsRead format s (first.0.0 ∷ others.0.0) (suc n) text more others.0.1 = (
@@ -208,41 +186,37 @@ rows_found raster rows b a raw some left e =
     (some, left, rows_are_said later_said raster.format raster.shape (length rows) n (n - length rows) b a rows raw all e)
 
 -- so does a row that was read
-row_comes : (raster : Raster) (row b m a : List ℕ) → is_plain_form raster.format.form ≡ false → raster.y < raster.shape.height
-    → b ≡ m → Finds (raw_row raster.shape) (Ok row) m a → FindsRows raster (Ok (row ∷ [])) b a
-row_comes raster row b m a raw lt is e =
+row_comes : (raster : Raster) (row : List ℕ) {b m : List ℕ} (a : List ℕ) → is_plain_form raster.format.form ≡ false → raster.y < raster.shape.height → b ≡ m
+    → Finds (raw_row raster.shape) (Ok row) m a → FindsRows raster (Ok (row ∷ [])) b a
+row_comes raster row {b} a raw lt is e =
     rows_found raster (row ∷ []) b a raw (omega arith) (omega (arith, lt))
-    (row_before (raw_row raster.shape) zero b a a row [] (ap (raw_row raster.shape) is ∙ e) (no_rows (raw_row raster.shape) [] a refl))
+    (row_before (raw_row raster.shape) zero b a a row [] (ap (raw_row raster.shape) is ∙ e) (no_rows (raw_row raster.shape) a refl))
 
 -- a row at fault
-row_stops : (raster : Raster) (k : InputFault) (b m a : List ℕ) → is_plain_form raster.format.form ≡ false → raster.y < raster.shape.height
+row_stops : (raster : Raster) (k : InputFault) {b m : List ℕ} (a : List ℕ) → is_plain_form raster.format.form ≡ false → raster.y < raster.shape.height
     → b ≡ m → Finds (raw_row raster.shape) (Err k) m a → FindsRows raster (Err k) b a
-row_stops raster k b m a raw lt is (inl e) =
+row_stops raster k {b} a raw lt is (inl e) =
     let s : Shape = raster.shape in
     let more : ℕ = s.height - raster.y - 1 in
-    inl (fault_is_said later_said raster.format s (s.height - raster.y) more b k (omega (arith, lt))
+    inl (fault_is_said later_said raster.format s (s.height - raster.y) more b (omega (arith, lt))
     (row_at_raw raster.format s more b raw ∙ ap (raw_row s) is ∙ e))
-row_stops raster k b m a raw lt is (inr o) = inr o
+row_stops raster k a raw lt is (inr o) = inr o
 
--- a row was read, behind bytes that were
-pub row_read : {R : Type 0} {left : R → Option (List ℕ)} {failures : R → ℕ} {same : R → R → Type 0} {old mid now new : BufferedReader R} (raster : Raster)
-    (row : List ℕ) (rows : List (List ℕ)) → ((a b c : R) → same a b → same b c → same a c) → is_plain_form raster.format.form ≡ false
-    → raster.y < raster.shape.height → now ≡ mid → rows ≡ row ∷ []
-    → ReadCall {A = Unit {0}} left failures same old mid (Ok tt) (Fills (Ok tt))
-    → ReadCall {A = List ℕ} left failures same now new (Ok row) (Finds (raw_row raster.shape) (Ok row))
-    → ReadCall {A = List (List ℕ)} left failures same old new (Ok rows) (FindsRows raster (Ok rows))
-row_read {left = left} {failures = failures} {same = same} {mid = mid} {new = new} raster row rows later raw lt kept is s t =
-    let then : ReadCall {A = List ℕ} left failures same mid new (Ok row) (Finds (raw_row raster.shape) (Ok row)) = rw (← kept) t in
-    call_ok_so {A = List ℕ} row (Ok rows) (no_fault rows ReadFailed)
-    (λ b a o. subst (λ (rows : List (List ℕ)). FindsRows raster (Ok rows) b a) (sym is) (row_comes raster row b o.0 a raw lt o.1 o.2))
-    (call_then tt later s then)
+module _ {R : Type 0} {left : R → Option (List ℕ)} {failures : R → ℕ} {same : R → R → Type 0} {old mid now new : BufferedReader R} (raster : Raster) where
+  -- a row was read, behind bytes that were
+  pub row_read : {row : List ℕ} {rows : List (List ℕ)} → ((a b c : R) → same a b → same b c → same a c) → is_plain_form raster.format.form ≡ false
+      → raster.y < raster.shape.height → now ≡ mid → rows ≡ row ∷ [] → ReadCall {A = Unit {0}} left failures same old mid (Ok tt) (Fills (Ok tt))
+      → ReadCall {A = List ℕ} left failures same now new (Ok row) (Finds (raw_row raster.shape) (Ok row))
+      → ReadCall {A = List (List ℕ)} left failures same old new (Ok rows) (FindsRows raster (Ok rows))
+  row_read {row} {rows} later raw lt kept is s t =
+      let then : ReadCall {A = List ℕ} left failures same mid new (Ok row) (Finds (raw_row raster.shape) (Ok row)) = rw (← kept) t in
+      call_ok_so {A = List ℕ} (Ok rows) (no_fault rows ReadFailed)
+      (λ b a o. subst (λ (rows : List (List ℕ)). FindsRows raster (Ok rows) b a) (sym is) (row_comes raster row a raw lt o.1 o.2)) (call_then tt later s then)
 
-pub row_unread : {R : Type 0} {left : R → Option (List ℕ)} {failures : R → ℕ} {same : R → R → Type 0} {old mid now new : BufferedReader R} (raster : Raster)
-    (k : InputFault) → ((a b c : R) → same a b → same b c → same a c) → is_plain_form raster.format.form ≡ false
-    → raster.y < raster.shape.height → now ≡ mid
-    → ReadCall {A = Unit {0}} left failures same old mid (Ok tt) (Fills (Ok tt))
-    → ReadCall {A = List ℕ} left failures same now new (Err k) (Finds (raw_row raster.shape) (Err k))
-    → ReadCall {A = List (List ℕ)} left failures same old new (Err k) (FindsRows raster (Err k))
-row_unread {left = left} {failures = failures} {same = same} {mid = mid} {new = new} raster k later raw lt kept s t =
-    let then : ReadCall {A = List ℕ} left failures same mid new (Err k) (Finds (raw_row raster.shape) (Err k)) = rw (← kept) t in
-    call_err_so k (λ b a o. row_stops raster k b o.0 a raw lt o.1 o.2) (call_then tt later s then)
+  pub row_unread : {k : InputFault} → ((a b c : R) → same a b → same b c → same a c) → is_plain_form raster.format.form ≡ false
+      → raster.y < raster.shape.height → now ≡ mid → ReadCall {A = Unit {0}} left failures same old mid (Ok tt) (Fills (Ok tt))
+      → ReadCall {A = List ℕ} left failures same now new (Err k) (Finds (raw_row raster.shape) (Err k))
+      → ReadCall {A = List (List ℕ)} left failures same old new (Err k) (FindsRows raster (Err k))
+  row_unread {k} later raw lt kept s t =
+      let then : ReadCall {A = List ℕ} left failures same mid new (Err k) (Finds (raw_row raster.shape) (Err k)) = rw (← kept) t in
+      call_err_so (λ b a o. row_stops raster k a raw lt o.1 o.2) (call_then tt later s then)

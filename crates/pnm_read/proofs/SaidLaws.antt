@@ -1,16 +1,10 @@
 -- What is said of a text may come in turn, and its end is said exactly where no fault is.
-use Rattle.pnm_image.specs.Formats.{is_plain_form}
-use Rattle.std.proofs.Common.{◌≡◌, ◌↔◌, ℕ, zero, suc, ◌+◌, Bool, true, false, List, [], ◌∷◌, length, None, Result, Ok, Err, refl, sym, subst, arith}
-use Rattle.pnm_image.specs.declared.shape.Shape.{Shape}
-use Rattle.pnm_image.specs.declared.place.Place.TheVariants.{Inside}
-use Rattle.pnm_image.specs.Heads.{HeadValue, IsHead}
+use Rattle.pnm_read.proofs.Words.{is_plain_form, ◌≡◌, ◌↔◌, ℕ, zero, suc, ◌+◌, Bool, true, false, List, [], ◌∷◌, length, None, Result, Ok, Err, refl, sym, subst}
+use Rattle.pnm_read.proofs.Words.{arith, Shape, Inside, HeadValue, IsHead, IsRowOf, IsLawfulFrom, IsLawful, stream_ends, InputFault, Format, Said, row_in_form}
+use Rattle.pnm_read.proofs.Words.{row_at, format_at, head_at, head_said, format_said, said_of, fault_of}
 use Rattle.pnm_image.specs.Messages.{EndsStream}
-use Rattle.pnm_image.specs.Places.{IsRowOf, IsLawfulFrom, IsLawful}
-use Rattle.pnm_image.proofs.Streams.{stream_ends}
-use Rattle.pnm_read.specs.declared.fault.InputFault.{InputFault}
-use Rattle.pnm_image.specs.declared.format.Format.{Format}
-use Rattle.pnm_read.specs.Said.{Said, row_in_form, row_at, format_at, head_at, rows_said, head_said, format_said, image_said, later_said_in}
-use Rattle.pnm_read.specs.Said.{later_said, text_said, said_of, fault_of}
+use Rattle.pnm_read.specs.Said.{rows_said, image_said, later_said_in}
+use Rattle.pnm_read.specs.Said.{later_said, text_said}
 use Rattle.pnm_read.proofs.EndSaid.{end_said}
 use Rattle.pnm_read.proofs.ReadHeaderLaws.{read_header_is_spelled, spelled_head}
 use Rattle.pnm_read.proofs.PlainLaws.{plain_row_is_row, last_plain_row_is_row}
@@ -21,11 +15,11 @@ use Rattle.pnm_read.proofs.TextLaws.{said_text_is_spelled}
 -- ---- what is said may come in turn
 
 -- a row that was read is a row of the head's shape
-pub row_is_row : (is_plain : Bool) (head : HeadValue) (more : ℕ) (text : List ℕ) (found : List ℕ × List ℕ) → IsHead head
+pub row_is_row : (is_plain : Bool) {head : HeadValue} (more : ℕ) (text : List ℕ) {found : List ℕ × List ℕ} → IsHead head
     → row_in_form is_plain head.shape more text ≡ Ok found → IsRowOf head.shape found.0
-row_is_row false head more text found h e = raw_row_is_row head text found h e
-row_is_row true head zero text found h e = last_plain_row_is_row head text found h e
-row_is_row true head (suc more) text found h e = plain_row_is_row head text found h e
+row_is_row false more text h e = raw_row_is_row text h e
+row_is_row true zero text h e = last_plain_row_is_row text h e
+row_is_row true (suc more) text h e = plain_row_is_row text h e
 
 -- what is said after a raw image may come in turn
 abbrev AreLawful : (List ℕ → Said) → Type 0
@@ -44,28 +38,26 @@ row_is_lawful : (later : List ℕ → Said) (format : Format) (s : Shape) (more 
 row_is_lawful later format s more y (Err fault) count row others = tt
 row_is_lawful later format s more y (Ok found) count row others = ((omega arith, row found refl), others found.1)
 
-rows_are_lawful : (later : List ℕ → Said) (format : Format) (head : HeadValue) (more y : ℕ) (text : List ℕ) → AreLawful later → IsHead head
+rows_are_lawful : (later : List ℕ → Said) (format : Format) {head : HeadValue} (more y : ℕ) (text : List ℕ) → AreLawful later → IsHead head
     → more + y ≡ head.shape.height → IsLawfulFrom (Inside head.shape y) (rows_said later format head.shape more text).messages
 unfolding rows_said
-rows_are_lawful later format head zero y text are h count = (omega arith, end_is_lawful later (is_plain_form format.form) text are)
-rows_are_lawful later format head (suc more) y text are h count =
-    row_is_lawful later format head.shape more y (row_at format head.shape more text) count
-    (λ found e. row_is_row (is_plain_form format.form) head more text found h e)
-    (λ rest. rows_are_lawful later format head more (y + 1) rest are h (omega arith))
+rows_are_lawful later format zero y text are h count = (omega arith, end_is_lawful later (is_plain_form format.form) text are)
+rows_are_lawful later format {head} (suc more) y text are h count =
+    row_is_lawful later format head.shape more y (row_at format head.shape more text) count (λ found e. row_is_row (is_plain_form format.form) more text h e)
+    (λ rest. rows_are_lawful later format more (y + 1) rest are h (omega arith))
 
 -- an image's messages may come where its head keeps the rules of heads
 head_is_lawful : (later : List ℕ → Said) (format : Format) (r : Result (HeadValue × List ℕ) InputFault) → AreLawful later
     → ((found : HeadValue × List ℕ) → r ≡ Ok found → IsHead found.0) → IsLawful (head_said later format r).messages
 head_is_lawful later format (Err fault) are sound = tt
-head_is_lawful later format (Ok found) are sound =
-    (tt, rows_are_lawful later format found.0 found.0.shape.height 0 found.1 are (sound found refl) (omega arith))
+head_is_lawful later format (Ok found) are sound = (tt, rows_are_lawful later format found.0.shape.height 0 found.1 are (sound found refl) (omega arith))
 
 -- the head of a header that was read
 pub read_head_is_header : (is_first : Bool) (text : List ℕ) (found : Format × List ℕ) (head : HeadValue × List ℕ) → format_at is_first text ≡ Ok found
     → head_at found.0 found.1 ≡ Ok head → IsHead head.0
 read_head_is_header is_first text found head e h =
     let s = read_header_is_spelled is_first text found.1 head.1 found.0 head.0 e h in
-    (spelled_head s.0 found.0 head.0 s.2).sound
+    (spelled_head s.0 s.2).sound
 
 format_is_lawful : (later : List ℕ → Said) (is_first : Bool) (text : List ℕ) (r : Result (Format × List ℕ) InputFault) → AreLawful later
     → format_at is_first text ≡ r → IsLawful (format_said later r).messages

@@ -1,41 +1,31 @@
 -- One plain sample: a piece that spells it is read as the sample, and what is read as a sample is spelled.
-use Rattle.std.proofs.Common.{◌≡◌, ℕ, zero, suc, ◌+◌, ◌-◌, ◌<◌, ◌≤◌, Bool, true, false, not, ◌&&◌, ◌||◌, List, [], ◌∷◌, ◌++◌, length, Some, None, Result, Ok}
-use Rattle.std.proofs.Common.{Err, refl, sym, ap, ap₂, subst, ◌∙◌, append_assoc, append-nil, length-append, arith}
-use Rattle.std.specs.Prelude.{◌==◌, nat_le, if◌then◌else◌, filter}
-use Rattle.std.specs.List.{AllPass}
-use Rattle.std.proofs.lemmas.Bool.{le-leb, leb-true, leb-false, and_right, not_from_true}
-use Rattle.std.proofs.lemmas.Bool.Decides.{nat_tests}
-use Rattle.std.proofs.lemmas.List.Elements.{filter-append, All-nil, All-cons, All-head, All-tail, All-push}
-use Rattle.pnm_read.specs.declared.fault.InputFault.{InputFault}
-use Rattle.pnm_read.specs.declared.fault.InputFault.TheVariants.{RasterCut, SampleAboveMaxval}
-use Rattle.pnm_read.specs.declared.scan_status.ScanStatus.{ScanStatus}
-use Rattle.pnm_read.specs.declared.scan_status.ScanStatus.TheVariants.{GoesOn, EndsWith, EndsBefore, Fails}
-use Rattle.pnm_image.specs.declared.shape.Kind.{Kind}
-use Rattle.pnm_image.specs.declared.shape.Kind.TheVariants.{Bit, Gray, Color, Pam}
-use Rattle.pnm_read.specs.HeaderTexts.{is_apart, begins_apart, ends_by, commented, ends_in_comment, uncommented_from, uncommented, number_in}
-use Rattle.pnm_image.specs.Texts.{is_white, is_digit, decimal_value}
-use Rattle.pnm_image.proofs.BoolLaws.{not_and_parts}
-use Rattle.pnm_read.specs.Internal.RasterRows.{greatest_in}
-use Rattle.pnm_read.specs.Rasters.{IsGap, SpellsDecimal, SpellsSample, SpellsPiece, MayFollowSample}
-use Rattle.pnm_read.specs.Items.{◌>>=◌, piece_from, ends_in_digit, is_complete, decimal_item, decimal_end, is_pixel, pixel_item, pixel_end, pixel_in}
-use Rattle.pnm_read.specs.Items.{plain_pixel, sample_item, plain_decimal, plain_sample}
+use Rattle.pnm_read.proofs.Words.{◌≡◌, ℕ, zero, suc, ◌+◌, ◌-◌, ◌<◌, ◌≤◌, Bool, true, false, not, ◌&&◌, ◌||◌, List, [], ◌∷◌, ◌++◌, length, Some, None, Result}
+use Rattle.pnm_read.proofs.Words.{Ok, Err, refl, sym, ap, ap₂, subst, ◌∙◌, append_assoc, append-nil, arith, nat_le, filter, AllPass, le-leb, leb-true}
+use Rattle.pnm_read.proofs.Words.{leb-false, and_right, not_from_true, nat_tests, filter-append, All-nil, All-cons, All-head, All-tail, All-push, InputFault}
+use Rattle.pnm_read.proofs.Words.{RasterCut, SampleAboveMaxval, ScanStatus, GoesOn, EndsWith, EndsBefore, Fails, Kind, Bit, Gray, Color, Pam, is_apart}
+use Rattle.pnm_read.proofs.Words.{begins_apart, ends_by, commented, ends_in_comment, uncommented, number_in, is_white, is_digit, decimal_value, not_and_parts}
+use Rattle.pnm_read.proofs.Words.{greatest_in, IsGap, SpellsDecimal, SpellsSample, SpellsPiece, MayFollowSample, ◌>>=◌, piece_from, ends_in_digit, is_complete}
+use Rattle.pnm_read.proofs.Words.{decimal_item, decimal_end, is_pixel, pixel_item, pixel_end, pixel_in, sample_item, plain_sample, GAP_LIMIT}
+use Rattle.std.proofs.Common.{length-append}
+use Rattle.std.specs.Prelude.{◌==◌, if◌then◌else◌}
+use Rattle.pnm_read.specs.HeaderTexts.{uncommented_from}
+use Rattle.pnm_read.specs.Items.{plain_pixel, plain_decimal}
 use Rattle.pnm_read.proofs.CommentLaws.{uncommented_from-append, ends_by-push}
 use Rattle.pnm_read.proofs.PieceLaws.{bind_ok, done, ok_is, piece_step, FoundBy, found_from, found_at_end, piece_ends, found_is_whole, in_gap}
 use Rattle.pnm_read.proofs.PieceLaws.{apart_is_no_digit, after_gap_byte, ends_in_digit-push, gap-push, nothing_ends, over_whole_gap, is_bad_in_decimal}
 use Rattle.pnm_read.proofs.PieceLaws.{decimal_goes_on, decimal_ends_before, DecimalTold, decimal_told, is_bad_in_pixels, pixel_ends_with, PixelTold, pixel_told}
 use Rattle.pnm_read.proofs.PieceLaws.{good_in_gap, decimals_go_over_gaps, pixels_go_over_gaps, if_ok}
 use Rattle.pnm_read.proofs.WordLaws.{digit_is_not_sharp, white_is_not_digit}
-use Rattle.pnm_read.specs.declared.decimal.TheConstants.{GAP_LIMIT}
 
 -- ---- digits
 
-bad_no_more : (inside digit apart : Bool) → digit ≡ true → (not inside && not (digit || apart)) ≡ false
-bad_no_more true digit apart e = refl
-bad_no_more false digit apart e = ap (λ (d : Bool). not (d || apart)) e
+bad_no_more : (inside : Bool) {digit : Bool} (apart : Bool) → digit ≡ true → (not inside && not (digit || apart)) ≡ false
+bad_no_more true apart e = refl
+bad_no_more false apart e = ap (λ (d : Bool). not (d || apart)) e
 
 -- a digit lets the piece go on
 digit_goes_on : (before : List ℕ) (b : ℕ) → length before < GAP_LIMIT → is_digit b ≡ true → decimal_item before b ≡ GoesOn
-digit_goes_on before b short h = decimal_goes_on before b short (bad_no_more (ends_in_comment before) (is_digit b) (is_apart b) h)
+digit_goes_on before b short h = decimal_goes_on before b short (bad_no_more (ends_in_comment before) (is_apart b) h)
     (and_right (ends_in_digit before) (not (is_digit b)) (not_from_true (is_digit b) h))
 
 -- a text outside comments and a digit end in a digit
@@ -58,7 +48,7 @@ over_digits (b ∷ digits) before rest out all short =
     (omega arith) in
     let whole : (before ++ b ∷ []) ++ digits ≡ before ++ b ∷ digits = append_assoc before (b ∷ []) digits in
     let short_here : length before < GAP_LIMIT = omega arith in (
-      piece_step decimal_item decimal_end before b (digits ++ rest) GoesOn (digit_goes_on before b short_here first) ∙ more.0
+      piece_step decimal_item decimal_end before b (digits ++ rest) (digit_goes_on before b short_here first) ∙ more.0
           ∙ ap (λ (t : List ℕ). piece_from decimal_item decimal_end t rest) whole,
       ap ends_in_digit (sym whole) ∙ more.1,
     )
@@ -74,24 +64,23 @@ digits_end before [] out apart = piece_ends decimal_item decimal_end before (ap 
 digits_end before (b ∷ rest) out apart =
     let no_digit = apart_is_no_digit b apart in
     let complete : is_complete before b ≡ true = ap₂ (λ (t d : Bool). t && not d) out no_digit in
-    piece_step decimal_item decimal_end before b rest EndsBefore (decimal_ends_before before b (apart_is_good (ends_in_comment before) b apart) complete)
+    piece_step decimal_item decimal_end before b rest (decimal_ends_before before b (apart_is_good (ends_in_comment before) b apart) complete)
 
 -- a gap and digits are read as one piece
-decimal_piece_is_read : (gap digits rest : List ℕ) → IsGap gap → 0 < length digits → AllPass is_digit digits → length (gap ++ digits) ≤ GAP_LIMIT
-    → begins_apart rest ≡ true
-    → piece_from decimal_item decimal_end [] ((gap ++ digits) ++ rest) ≡ Ok (gap ++ digits, rest)
-decimal_piece_is_read gap [] rest g some all short apart = absurd (omega (arith, some))
-decimal_piece_is_read gap (b ∷ digits) rest g some all short apart =
+decimal_piece_is_read : {gap : List ℕ} (digits rest : List ℕ) → IsGap gap → 0 < length digits → AllPass is_digit digits → length (gap ++ digits) ≤ GAP_LIMIT
+    → begins_apart rest ≡ true → piece_from decimal_item decimal_end [] ((gap ++ digits) ++ rest) ≡ Ok (gap ++ digits, rest)
+decimal_piece_is_read [] rest g some all short apart = absurd (omega (arith, some))
+decimal_piece_is_read {gap} (b ∷ digits) rest g some all short apart =
     let lengths : length (gap ++ b ∷ digits) ≡ length gap + suc (length digits) = length-append gap (b ∷ digits) in
     let within : length gap < GAP_LIMIT = omega arith in
     let first : is_digit b ≡ true = All-head (λ x. is_digit x ≡ true) b digits all in
-    let over = over_whole_gap decimal_item decimal_end decimals_go_over_gaps gap (b ∷ digits ++ rest) g (omega arith) in
+    let over = over_whole_gap decimal_item decimal_end decimals_go_over_gaps (b ∷ digits ++ rest) g (omega arith) in
     let long : length (gap ++ b ∷ []) ≡ length gap + 1 = length-append gap (b ∷ []) in
     let more = over_digits digits (gap ++ b ∷ []) rest (ends_in_digit-digit gap b g.outside first) (All-tail (λ x. is_digit x ≡ true) b digits all)
     (omega arith) in
     let whole : (gap ++ b ∷ []) ++ digits ≡ gap ++ b ∷ digits = append_assoc gap (b ∷ []) digits in
     ap (piece_from decimal_item decimal_end []) (append_assoc gap (b ∷ digits) rest) ∙ over.0
-    ∙ piece_step decimal_item decimal_end gap b (digits ++ rest) GoesOn (digit_goes_on gap b within first) ∙ more.0
+    ∙ piece_step decimal_item decimal_end gap b (digits ++ rest) (digit_goes_on gap b within first) ∙ more.0
     ∙ digits_end ((gap ++ b ∷ []) ++ digits) rest more.1 apart ∙ ap (λ (t : List ℕ). done (t, rest)) whole
 
 -- ---- the number of a piece
@@ -119,8 +108,8 @@ uncommented_digits (b ∷ digits) all =
     rw first (ap (λ (t : List ℕ). b ∷ t) (uncommented_digits digits (All-tail (λ x. is_digit x ≡ true) b digits all)))
 
 -- the number of a gap and digits is that of the digits
-number_of_piece : (gap digits : List ℕ) → IsGap gap → AllPass is_digit digits → number_in (gap ++ digits) ≡ decimal_value digits
-number_of_piece gap digits g all =
+number_of_piece : {gap : List ℕ} (digits : List ℕ) → IsGap gap → AllPass is_digit digits → number_in (gap ++ digits) ≡ decimal_value digits
+number_of_piece {gap} digits g all =
     let cut : uncommented (gap ++ digits) ≡ uncommented gap ++ digits =
     uncommented_from-append false gap digits ∙ ap (λ (i : Bool). uncommented gap ++ uncommented_from i digits) g.outside
     ∙ ap (λ (t : List ℕ). uncommented gap ++ t) (uncommented_digits digits all) in
@@ -132,13 +121,12 @@ number_of_piece gap digits g all =
 -- ---- what is spelled is read
 
 -- a number and the gap before it are read
-spelled_decimal_is_read : (maxval : ℕ) (gap digits rest : List ℕ) (sample : ℕ) → IsGap gap → SpellsDecimal digits sample → length (gap ++ digits) ≤ GAP_LIMIT
-    → begins_apart rest ≡ true → sample ≤ maxval
-    → plain_decimal maxval ((gap ++ digits) ++ rest) ≡ Ok (sample, rest)
+spelled_decimal_is_read : (maxval : ℕ) {gap digits : List ℕ} (rest : List ℕ) {sample : ℕ} → IsGap gap → SpellsDecimal digits sample
+    → length (gap ++ digits) ≤ GAP_LIMIT → begins_apart rest ≡ true → sample ≤ maxval → plain_decimal maxval ((gap ++ digits) ++ rest) ≡ Ok (sample, rest)
 unfolding plain_decimal
-spelled_decimal_is_read maxval gap digits rest sample g d short apart range =
-    let found = decimal_piece_is_read gap digits rest g d.some d.digits short apart in
-    let value : number_in (gap ++ digits) ≡ sample = number_of_piece gap digits g d.digits ∙ d.value in
+spelled_decimal_is_read maxval {gap} {digits} rest {sample} g d short apart range =
+    let found = decimal_piece_is_read digits rest g d.some d.digits short apart in
+    let value : number_in (gap ++ digits) ≡ sample = number_of_piece digits g d.digits ∙ d.value in
     ap (λ (r : Result (List ℕ × List ℕ) InputFault). r >>= λ piece. sample_item maxval (number_in piece.0) >>= λ number. Ok (number, piece.1)) found
     ∙ ap (λ (n : ℕ). sample_item maxval n >>= λ number. Ok (number, rest)) value
     ∙ ap (λ (t : Bool). (if t then Ok sample else Err SampleAboveMaxval) >>= λ number. Ok (number, rest)) (le-leb sample maxval range)
@@ -154,31 +142,31 @@ pixel_is_good true b e h = absurd cc
 pixel_is_good false b e h = (ap (λ (t : Bool). not (t || is_apart b)) h, h)
 
 -- a pixel and the gap before it are read
-spelled_pixel_is_read : (gap rest : List ℕ) (b : ℕ) → IsGap gap → is_pixel b ≡ true → length (gap ++ b ∷ []) ≤ GAP_LIMIT
+spelled_pixel_is_read : {gap : List ℕ} (rest : List ℕ) (b : ℕ) → IsGap gap → is_pixel b ≡ true → length (gap ++ b ∷ []) ≤ GAP_LIMIT
     → plain_pixel ((gap ++ b ∷ []) ++ rest) ≡ Ok (if b == 49 then 0 else 1, rest)
 unfolding plain_pixel
-spelled_pixel_is_read gap rest b g h short =
+spelled_pixel_is_read {gap} rest b g h short =
     let lengths : length (gap ++ b ∷ []) ≡ length gap + 1 = length-append gap (b ∷ []) in
     let within : length gap < GAP_LIMIT = omega arith in
-    let over = over_whole_gap pixel_item pixel_end pixels_go_over_gaps gap (b ∷ rest) g (omega arith) in
+    let over = over_whole_gap pixel_item pixel_end pixels_go_over_gaps (b ∷ rest) g (omega arith) in
     let good = pixel_is_good (ends_in_comment gap) b g.outside h in
     let found : piece_from pixel_item pixel_end [] ((gap ++ b ∷ []) ++ rest) ≡ Ok (gap ++ b ∷ [], rest) =
     ap (piece_from pixel_item pixel_end []) (append_assoc gap (b ∷ []) rest) ∙ over.0
-    ∙ piece_step pixel_item pixel_end gap b rest EndsWith (pixel_ends_with gap b within good.0 good.1) in
+    ∙ piece_step pixel_item pixel_end gap b rest (pixel_ends_with gap b within good.0 good.1) in
     ap (λ (r : Result (List ℕ × List ℕ) InputFault). r >>= λ piece. Ok (pixel_in piece.0, piece.1)) found
     ∙ ap (λ (t : Bool). done (if t then 0 else 1, rest)) (ends_by-push (λ c. c == 49) gap b)
 
-spelled_by_kind : (kind : Kind) (maxval : ℕ) (gap digits rest : List ℕ) (sample : ℕ) → IsGap gap → SpellsSample kind digits sample
+spelled_by_kind : (kind : Kind) (maxval : ℕ) {gap : List ℕ} (digits rest : List ℕ) (sample : ℕ) → IsGap gap → SpellsSample kind digits sample
     → length (gap ++ digits) ≤ GAP_LIMIT → MayFollowSample kind rest → sample ≤ maxval
     → plain_sample kind maxval ((gap ++ digits) ++ rest) ≡ Ok (sample, rest)
-spelled_by_kind Bit maxval gap digits rest sample g d short follows range =
+spelled_by_kind Bit maxval {gap} digits rest sample g d short follows range =
     let p = pixel_of_sample sample d.0 in
     let short_here : length (gap ++ (49 - sample) ∷ []) ≤ GAP_LIMIT = subst (λ (t : List ℕ). length (gap ++ t) ≤ GAP_LIMIT) d.1 short in
-    ap (λ (t : List ℕ). plain_pixel ((gap ++ t) ++ rest)) d.1 ∙ spelled_pixel_is_read gap rest (49 - sample) g p.0 short_here
+    ap (λ (t : List ℕ). plain_pixel ((gap ++ t) ++ rest)) d.1 ∙ spelled_pixel_is_read rest (49 - sample) g p.0 short_here
     ∙ ap (λ (n : ℕ). done (n, rest)) p.1
-spelled_by_kind Gray maxval gap digits rest sample g d short follows range = spelled_decimal_is_read maxval gap digits rest sample g d short follows range
-spelled_by_kind Color maxval gap digits rest sample g d short follows range = spelled_decimal_is_read maxval gap digits rest sample g d short follows range
-spelled_by_kind Pam maxval gap digits rest sample g d short follows range = spelled_decimal_is_read maxval gap digits rest sample g d short follows range
+spelled_by_kind Gray maxval digits rest sample g d short follows range = spelled_decimal_is_read maxval rest g d short follows range
+spelled_by_kind Color maxval digits rest sample g d short follows range = spelled_decimal_is_read maxval rest g d short follows range
+spelled_by_kind Pam maxval digits rest sample g d short follows range = spelled_decimal_is_read maxval rest g d short follows range
 
 -- a sample that is spelled is read
 pub spelled_piece_is_read : (kind : Kind) (maxval : ℕ) (piece rest : List ℕ) (sample : ℕ) → SpellsPiece kind piece sample → MayFollowSample kind rest
@@ -186,7 +174,7 @@ pub spelled_piece_is_read : (kind : Kind) (maxval : ℕ) (piece rest : List ℕ)
     → plain_sample kind maxval (piece ++ rest) ≡ Ok (sample, rest)
 spelled_piece_is_read kind maxval piece rest sample s follows range =
     let short : length (s.gap ++ s.digits) ≤ GAP_LIMIT = subst (λ (t : List ℕ). length t ≤ GAP_LIMIT) s.whole s.short in
-    ap (λ (t : List ℕ). plain_sample kind maxval (t ++ rest)) s.whole ∙ spelled_by_kind kind maxval s.gap s.digits rest sample s.gap_is s.digits_are short
+    ap (λ (t : List ℕ). plain_sample kind maxval (t ++ rest)) s.whole ∙ spelled_by_kind kind maxval s.digits rest sample s.gap_is s.digits_are short
     follows range
 
 -- ---- what is read is spelled
@@ -239,22 +227,22 @@ ends_apart_by false true true apart e h c = absurd cc
 ends_apart_by false true false true e h c = refl
 ends_apart_by false true false false e h c = absurd cc
 
-in_digits_by : (before : List ℕ) (b : ℕ) (text : List ℕ) (found : List ℕ × List ℕ) (j : ScanStatus) → InDigits before → DecimalTold before b j
+in_digits_by : {before : List ℕ} (b : ℕ) (text : List ℕ) {found : List ℕ × List ℕ} (j : ScanStatus) → InDigits before → DecimalTold before b j
     → FoundBy decimal_item decimal_end before b text found j
     → (InDigits (before ++ b ∷ []) → piece_from decimal_item decimal_end (before ++ b ∷ []) text ≡ Ok found → IsDecimal found) → IsDecimal found
-in_digits_by before b text found (Fails fault) s told f on = absurd f
-in_digits_by before b text found EndsWith s told f on = absurd told
-in_digits_by before b text found EndsBefore s told f on =
+in_digits_by b text (Fails fault) s told f on = absurd f
+in_digits_by b text EndsWith s told f on = absurd told
+in_digits_by {before} b text EndsBefore s told f on =
     subst IsDecimal f
     (record { read = s; follows = ends_apart_by (ends_in_comment before) (ends_by is_digit before) (is_digit b) (is_apart b) s.ends told.0 told.1 })
-in_digits_by before b text found GoesOn s told f on = on (digits-push before b s told.0 (goes_on_by (ends_in_digit before) (is_digit b) s.ends told.2)) f
+in_digits_by {before} b text GoesOn s told f on = on (digits-push before b s told.0 (goes_on_by (ends_in_digit before) (is_digit b) s.ends told.2)) f
 
 -- from digits on, a number is read
-in_digits : (text before : List ℕ) (found : List ℕ × List ℕ) → InDigits before → piece_from decimal_item decimal_end before text ≡ Ok found → IsDecimal found
-in_digits [] before found s e = subst IsDecimal (found_at_end decimal_item decimal_end before found e).1 (record { read = s; follows = refl })
-in_digits (b ∷ text) before found s e =
-    in_digits_by before b text found (decimal_item before b) s (decimal_told before b) (found_from decimal_item decimal_end before b text found e)
-    (in_digits text (before ++ b ∷ []) found)
+in_digits : (text before : List ℕ) {found : List ℕ × List ℕ} → InDigits before → piece_from decimal_item decimal_end before text ≡ Ok found → IsDecimal found
+in_digits [] before s e = subst IsDecimal (found_at_end decimal_item decimal_end before e).1 (record { read = s; follows = refl })
+in_digits (b ∷ text) before s e =
+    in_digits_by b text (decimal_item before b) s (decimal_told before b) (found_from decimal_item decimal_end before b text e)
+    (in_digits text (before ++ b ∷ []))
 
 -- a text that is a gap, or one that goes on in a comment
 record InGap (before : List ℕ) : Type 0 where
@@ -262,9 +250,9 @@ record InGap (before : List ℕ) : Type 0 where
   pub ends : ends_in_digit before ≡ false
 
 -- the first digit
-first_digit : (before : List ℕ) (b : ℕ) → InGap before → nat_le GAP_LIMIT (length before) ≡ false → (not (ends_in_comment before) && is_digit b) ≡ true
+first_digit : {before : List ℕ} (b : ℕ) → InGap before → nat_le GAP_LIMIT (length before) ≡ false → (not (ends_in_comment before) && is_digit b) ≡ true
     → InDigits (before ++ b ∷ [])
-first_digit before b s short h =
+first_digit {before} b s short h =
     let parts = not_and_parts (ends_in_comment before) (is_digit b) h in
     record {
       gap = before;
@@ -278,8 +266,8 @@ first_digit before b s short h =
     }
 
 -- one byte more of a gap
-gap_goes_on : (before : List ℕ) (b : ℕ) → InGap before → in_gap (ends_in_comment before) b ≡ true → InGap (before ++ b ∷ [])
-gap_goes_on before b s h = record { white = gap-push before b h s.white; ends = ends_in_digit-push before b ∙ after_gap_byte (ends_in_comment before) b h }
+gap_goes_on : {before : List ℕ} (b : ℕ) → InGap before → in_gap (ends_in_comment before) b ≡ true → InGap (before ++ b ∷ [])
+gap_goes_on {before} b s h = record { white = gap-push before b h s.white; ends = ends_in_digit-push before b ∙ after_gap_byte (ends_in_comment before) b h }
 
 -- a good byte that is no digit is one of a gap
 gap_byte_by : (inside digit apart : Bool) → (not inside && not (digit || apart)) ≡ false → (not inside && digit) ≡ false → (inside || apart) ≡ true
@@ -289,11 +277,11 @@ gap_byte_by false false true h d = refl
 gap_byte_by false false false h d = absurd cc
 
 -- where the piece goes on in a gap, by whether the byte is a digit
-go_on_by : (before : List ℕ) (b : ℕ) (text : List ℕ) (found : List ℕ × List ℕ) (digit : Bool) → (not (ends_in_comment before) && is_digit b) ≡ digit
-    → InGap before → DecimalTold before b GoesOn
-    → piece_from decimal_item decimal_end (before ++ b ∷ []) text ≡ Ok found → (InGap (before ++ b ∷ []) → IsDecimal found) → IsDecimal found
-go_on_by before b text found true d s told e on = in_digits text (before ++ b ∷ []) found (first_digit before b s told.0 d) e
-go_on_by before b text found false d s told e on = on (gap_goes_on before b s (gap_byte_by (ends_in_comment before) (is_digit b) (is_apart b) told.1 d))
+go_on_by : {before : List ℕ} (b : ℕ) (text : List ℕ) {found : List ℕ × List ℕ} (digit : Bool) → (not (ends_in_comment before) && is_digit b) ≡ digit
+    → InGap before → DecimalTold before b GoesOn → piece_from decimal_item decimal_end (before ++ b ∷ []) text ≡ Ok found
+    → (InGap (before ++ b ∷ []) → IsDecimal found) → IsDecimal found
+go_on_by {before} b text true d s told e on = in_digits text (before ++ b ∷ []) (first_digit b s told.0 d) e
+go_on_by {before} b text false d s told e on = on (gap_goes_on b s (gap_byte_by (ends_in_comment before) (is_digit b) (is_apart b) told.1 d))
 
 complete_ends : (ends digit : Bool) → ends ≡ false → (ends && not digit) ≡ true → ⊥
 complete_ends true digit e h = cc
@@ -303,20 +291,21 @@ not_at_end : (ends : Bool) → ends ≡ false → (if ends then None else Some R
 not_at_end true e h = cc
 not_at_end false e h = cc
 
-in_decimal_gap_by : (before : List ℕ) (b : ℕ) (text : List ℕ) (found : List ℕ × List ℕ) (j : ScanStatus) → InGap before → DecimalTold before b j
+in_decimal_gap_by : {before : List ℕ} (b : ℕ) (text : List ℕ) {found : List ℕ × List ℕ} (j : ScanStatus) → InGap before → DecimalTold before b j
     → FoundBy decimal_item decimal_end before b text found j
     → (InGap (before ++ b ∷ []) → piece_from decimal_item decimal_end (before ++ b ∷ []) text ≡ Ok found → IsDecimal found) → IsDecimal found
-in_decimal_gap_by before b text found (Fails fault) s told f on = absurd f
-in_decimal_gap_by before b text found EndsWith s told f on = absurd told
-in_decimal_gap_by before b text found EndsBefore s told f on = absurd (complete_ends (ends_in_digit before) (is_digit b) s.ends told.1)
-in_decimal_gap_by before b text found GoesOn s told f on = go_on_by before b text found (not (ends_in_comment before) && is_digit b) refl s told f (λ g. on g f)
+in_decimal_gap_by b text (Fails fault) s told f on = absurd f
+in_decimal_gap_by b text EndsWith s told f on = absurd told
+in_decimal_gap_by {before} b text EndsBefore s told f on = absurd (complete_ends (ends_in_digit before) (is_digit b) s.ends told.1)
+in_decimal_gap_by {before} b text GoesOn s told f on = go_on_by b text (not (ends_in_comment before) && is_digit b) refl s told f (λ g. on g f)
 
 -- from a gap on, a number is read
-in_decimal_gap : (text before : List ℕ) (found : List ℕ × List ℕ) → InGap before → piece_from decimal_item decimal_end before text ≡ Ok found → IsDecimal found
-in_decimal_gap [] before found s e = absurd (not_at_end (ends_in_digit before) s.ends (found_at_end decimal_item decimal_end before found e).0)
-in_decimal_gap (b ∷ text) before found s e =
-    in_decimal_gap_by before b text found (decimal_item before b) s (decimal_told before b) (found_from decimal_item decimal_end before b text found e)
-    (in_decimal_gap text (before ++ b ∷ []) found)
+in_decimal_gap : (text before : List ℕ) {found : List ℕ × List ℕ} → InGap before → piece_from decimal_item decimal_end before text ≡ Ok found
+    → IsDecimal found
+in_decimal_gap [] before s e = absurd (not_at_end (ends_in_digit before) s.ends (found_at_end decimal_item decimal_end before e).0)
+in_decimal_gap (b ∷ text) before s e =
+    in_decimal_gap_by b text (decimal_item before b) s (decimal_told before b) (found_from decimal_item decimal_end before b text e)
+    (in_decimal_gap text (before ++ b ∷ []))
 
 -- nothing is a gap
 no_bytes_yet : InGap []
@@ -333,16 +322,15 @@ BeginsWithPiece kind maxval text found = (piece : List ℕ) × (text ≡ piece +
     × IsInRange kind maxval found.0
 
 -- a number that is read is spelled
-read_decimal_is_spelled : (maxval : ℕ) (text : List ℕ) (found : ℕ × List ℕ) → plain_decimal maxval text ≡ Ok found → BeginsWithPiece Gray maxval text found
+read_decimal_is_spelled : (maxval : ℕ) (text : List ℕ) {found : ℕ × List ℕ} → plain_decimal maxval text ≡ Ok found → BeginsWithPiece Gray maxval text found
 unfolding plain_decimal
-read_decimal_is_spelled maxval text found e =
-    let a = bind_ok (piece_from decimal_item decimal_end [] text) (λ piece. sample_item maxval (number_in piece.0) >>= λ number. Ok (number, piece.1)) found
-    e in
+read_decimal_is_spelled maxval text {found} e =
+    let a = bind_ok (piece_from decimal_item decimal_end [] text) (λ piece. sample_item maxval (number_in piece.0) >>= λ number. Ok (number, piece.1)) e in
     let piece : List ℕ = a.0.0 in
-    let b = bind_ok (sample_item maxval (number_in piece)) (λ number. Ok (number, a.0.1)) found a.2 in
+    let b = bind_ok (sample_item maxval (number_in piece)) (λ number. Ok (number, a.0.1)) a.2 in
     let c = if_ok (nat_le (number_in piece) maxval) (number_in piece) b.0 SampleAboveMaxval b.1 in
-    let d : IsDecimal a.0 = in_decimal_gap text [] a.0 no_bytes_yet a.1 in
-    let value : decimal_value d.read.digits ≡ b.0 = sym (number_of_piece d.read.gap d.read.digits d.read.gap_is d.read.all) ∙ ap number_in (sym d.read.whole)
+    let d : IsDecimal a.0 = in_decimal_gap text [] no_bytes_yet a.1 in
+    let value : decimal_value d.read.digits ≡ b.0 = sym (number_of_piece d.read.digits d.read.gap_is d.read.all) ∙ ap number_in (sym d.read.whole)
     ∙ c.1 in
     let range : b.0 ≤ maxval = subst (λ (n : ℕ). n ≤ maxval) c.1 (leb-true (number_in piece) maxval c.0) in
     let spelled : SpellsPiece Gray piece b.0 = record {
@@ -355,7 +343,7 @@ read_decimal_is_spelled maxval text found e =
     } in
     subst (BeginsWithPiece Gray maxval text) (ok_is (b.0, a.0.1) found b.2) (
       piece,
-      found_is_whole decimal_item decimal_end text [] a.0 a.1,
+      found_is_whole decimal_item decimal_end text [] a.1,
       spelled,
       d.follows,
       range,
@@ -370,12 +358,12 @@ record IsPixelPiece (found : List ℕ × List ℕ) : Type 0 where
   pub pixel : is_pixel character ≡ true
   pub short : length found.0 ≤ GAP_LIMIT
 
-in_pixel_gap_by : (before : List ℕ) (b : ℕ) (text : List ℕ) (found : List ℕ × List ℕ) (j : ScanStatus) → AllPass is_white (uncommented before)
+in_pixel_gap_by : (before : List ℕ) (b : ℕ) (text : List ℕ) {found : List ℕ × List ℕ} (j : ScanStatus) → AllPass is_white (uncommented before)
     → PixelTold before b j → FoundBy pixel_item pixel_end before b text found j
     → (AllPass is_white (uncommented (before ++ b ∷ [])) → piece_from pixel_item pixel_end (before ++ b ∷ []) text ≡ Ok found → IsPixelPiece found)
     → IsPixelPiece found
-in_pixel_gap_by before b text found (Fails fault) white told f on = absurd f
-in_pixel_gap_by before b text found EndsWith white told f on =
+in_pixel_gap_by before b text (Fails fault) white told f on = absurd f
+in_pixel_gap_by before b text EndsWith white told f on =
     let parts = not_and_parts (ends_in_comment before) (is_pixel b) told.2 in
     let here : IsPixelPiece (before ++ b ∷ [], text) = record {
       gap = before;
@@ -386,29 +374,29 @@ in_pixel_gap_by before b text found EndsWith white told f on =
       short = short-push before b told.0;
     } in
     subst IsPixelPiece f here
-in_pixel_gap_by before b text found EndsBefore white told f on = absurd told
-in_pixel_gap_by before b text found GoesOn white told f on =
+in_pixel_gap_by before b text EndsBefore white told f on = absurd told
+in_pixel_gap_by before b text GoesOn white told f on =
     on (gap-push before b (gap_byte_by (ends_in_comment before) (is_pixel b) (is_apart b) told.1 told.2) white) f
 
 -- from a gap on, a pixel is read
-in_pixel_gap : (text before : List ℕ) (found : List ℕ × List ℕ) → AllPass is_white (uncommented before) → piece_from pixel_item pixel_end before text ≡ Ok found
-    → IsPixelPiece found
-in_pixel_gap [] before found white e = let ended : Some RasterCut ≡ None = (found_at_end pixel_item pixel_end before found e).0 in absurd cc
-in_pixel_gap (b ∷ text) before found white e =
-    in_pixel_gap_by before b text found (pixel_item before b) white (pixel_told before b) (found_from pixel_item pixel_end before b text found e)
-    (in_pixel_gap text (before ++ b ∷ []) found)
+in_pixel_gap : (text before : List ℕ) {found : List ℕ × List ℕ} → AllPass is_white (uncommented before)
+    → piece_from pixel_item pixel_end before text ≡ Ok found → IsPixelPiece found
+in_pixel_gap [] before white e = let ended : Some RasterCut ≡ None = (found_at_end pixel_item pixel_end before e).0 in absurd cc
+in_pixel_gap (b ∷ text) before white e =
+    in_pixel_gap_by before b text (pixel_item before b) white (pixel_told before b) (found_from pixel_item pixel_end before b text e)
+    (in_pixel_gap text (before ++ b ∷ []))
 
 -- the sample of a pixel's character, and the character of the sample
 sample_of_pixel : (b : ℕ) → is_pixel b ≡ true → ((if b == 49 then 0 else 1) ≤ 1) × (b ≡ 49 - (if b == 49 then 0 else 1))
 sample_of_pixel b h = (grind (arith, nat_tests), grind (arith, nat_tests))
 
 -- a pixel that is read is spelled
-read_pixel_is_spelled : (maxval : ℕ) (text : List ℕ) (found : ℕ × List ℕ) → plain_pixel text ≡ Ok found → BeginsWithPiece Bit maxval text found
+read_pixel_is_spelled : (maxval : ℕ) (text : List ℕ) {found : ℕ × List ℕ} → plain_pixel text ≡ Ok found → BeginsWithPiece Bit maxval text found
 unfolding plain_pixel
-read_pixel_is_spelled maxval text found e =
-    let a = bind_ok (piece_from pixel_item pixel_end [] text) (λ piece. Ok (pixel_in piece.0, piece.1)) found e in
+read_pixel_is_spelled maxval text {found} e =
+    let a = bind_ok (piece_from pixel_item pixel_end [] text) (λ piece. Ok (pixel_in piece.0, piece.1)) e in
     let piece : List ℕ = a.0.0 in
-    let d : IsPixelPiece a.0 = in_pixel_gap text [] a.0 no_bytes_yet.white a.1 in
+    let d : IsPixelPiece a.0 = in_pixel_gap text [] no_bytes_yet.white a.1 in
     let value : (if d.character == 49 then 0 else 1) ≡ pixel_in piece =
     ap (λ (t : Bool). if t then 0 else 1) (sym (ap (ends_by (λ c. c == 49)) d.whole ∙ ends_by-push (λ c. c == 49) d.gap d.character)) in
     let s = sample_of_pixel d.character d.pixel in
@@ -423,7 +411,7 @@ read_pixel_is_spelled maxval text found e =
     } in
     subst (BeginsWithPiece Bit maxval text) (ok_is (pixel_in piece, a.0.1) found a.2) (
       piece,
-      found_is_whole pixel_item pixel_end text [] a.0 a.1,
+      found_is_whole pixel_item pixel_end text [] a.1,
       spelled,
       tt,
       range,
@@ -440,14 +428,14 @@ as_pam maxval text found r =
     let s = r.2 in
     (r.0, r.1, record { gap = s.gap; digits = s.digits; whole = s.whole; gap_is = s.gap_is; digits_are = s.digits_are; short = s.short }, r.3, r.4)
 
-read_by_kind : (kind : Kind) (maxval : ℕ) (text : List ℕ) (found : ℕ × List ℕ) → plain_sample kind maxval text ≡ Ok found
+read_by_kind : (kind : Kind) (maxval : ℕ) (text : List ℕ) {found : ℕ × List ℕ} → plain_sample kind maxval text ≡ Ok found
     → BeginsWithPiece kind maxval text found
-read_by_kind Bit maxval text found e = read_pixel_is_spelled maxval text found e
-read_by_kind Gray maxval text found e = read_decimal_is_spelled maxval text found e
-read_by_kind Color maxval text found e = as_color maxval text found (read_decimal_is_spelled maxval text found e)
-read_by_kind Pam maxval text found e = as_pam maxval text found (read_decimal_is_spelled maxval text found e)
+read_by_kind Bit maxval text e = read_pixel_is_spelled maxval text e
+read_by_kind Gray maxval text e = read_decimal_is_spelled maxval text e
+read_by_kind Color maxval text {found} e = as_color maxval text found (read_decimal_is_spelled maxval text e)
+read_by_kind Pam maxval text {found} e = as_pam maxval text found (read_decimal_is_spelled maxval text e)
 
 -- a sample that is read is spelled
 pub read_piece_is_spelled : (kind : Kind) (maxval : ℕ) (text rest : List ℕ) (sample : ℕ) → plain_sample kind maxval text ≡ Ok (sample, rest)
     → (piece : List ℕ) × (text ≡ piece ++ rest) × SpellsPiece kind piece sample × MayFollowSample kind rest × IsInRange kind maxval sample
-read_piece_is_spelled kind maxval text rest sample e = read_by_kind kind maxval text (sample, rest) e
+read_piece_is_spelled kind maxval text rest sample e = read_by_kind kind maxval text e

@@ -1,24 +1,17 @@
 -- A shape that has no fault is within the limits, and one within the limits has no fault.
-use Rattle.std.proofs.Common.{◌≡◌, ℕ, ◌<◌, ◌≤◌, Bool, true, false, ◌||◌, ◌==◌, cond, Option, Some, None, Result, Ok, Err, refl, arith}
-use Rattle.std.specs.Prelude.{nat_lt}
-use Rattle.std.proofs.lemmas.Bool.Decides.{nat_tests}
-use Rattle.pnm_image.specs.declared.shape.Shape.{Shape}
-use Rattle.pnm_image.specs.declared.head.HeadFault.{HeadFault}
+use Rattle.pnm_read.proofs.Words.{◌≡◌, ℕ, ◌<◌, ◌≤◌, Bool, true, false, ◌||◌, ◌==◌, cond, Option, Some, None, Result, Ok, Err, refl, arith, nat_lt, nat_tests}
+use Rattle.pnm_read.proofs.Words.{Shape, HeadFault, HeadValue, IsWithinLimits, row_length, shape_fault, sizes_within, not_large_size, InputFault, fault_of_head}
+use Rattle.pnm_read.proofs.Words.{MAX_DEPTH, MAX_MAXVAL, MAX_ROW_LENGTH, MAX_SIDE}
 use Rattle.pnm_image.specs.declared.head.HeadFault.TheVariants as heads
-use Rattle.pnm_image.specs.Heads.{HeadValue, IsWithinLimits, row_length, shape_fault}
-use Rattle.pnm_image.proofs.Heads.{sizes_within, not_large_size}
-use Rattle.pnm_read.specs.declared.fault.InputFault.{InputFault}
-use Rattle.pnm_read.specs.Items.{fault_of_head}
-use Rattle.pnm_image.specs.declared.limits.TheConstants.{MAX_DEPTH, MAX_MAXVAL, MAX_ROW_LENGTH, MAX_SIDE}
 
 -- a head, or its fault
 abbrev pub head_or_fault : Option HeadFault → HeadValue → Result HeadValue InputFault
 head_or_fault fault head = elim fault [ Some f ↦ Err (fault_of_head f) | None ↦ Ok head ]
 
 -- where a head is made, there is no fault
-pub head_or_fault_ok : (fault : Option HeadFault) (made head : HeadValue) → head_or_fault fault made ≡ Ok head → (fault ≡ None) × (made ≡ head)
-head_or_fault_ok None made head e = (refl, cc)
-head_or_fault_ok (Some f) made head e = absurd cc
+pub head_or_fault_ok : (fault : Option HeadFault) (made : HeadValue) {head : HeadValue} → head_or_fault fault made ≡ Ok head → (fault ≡ None) × (made ≡ head)
+head_or_fault_ok None made e = (refl, cc)
+head_or_fault_ok (Some f) made e = absurd cc
 
 -- where three tests find no fault, each fails
 no_fault : (a b c : Bool) (x y z : HeadFault) → cond a (Some x) (cond b (Some y) (cond c (Some z) None)) ≡ None → (a ≡ false) × (b ≡ false) × (c ≡ false)
@@ -67,11 +60,10 @@ not_bad_maxval : (maxval : ℕ) → 0 < maxval → maxval ≤ MAX_MAXVAL → ((m
 not_bad_maxval maxval low high = grind (arith, nat_tests)
 
 -- a shape within the limits has no fault
-pub no_shape_fault : (s : Shape) → IsWithinLimits s → 0 < s.height → shape_fault s ≡ None
-no_shape_fault s h rows =
+pub no_shape_fault : {s : Shape} → IsWithinLimits s → 0 < s.height → shape_fault s ≡ None
+no_shape_fault {s} h rows =
     rw (
       not_zero_size s.width s.height s.depth h.width_low rows h.depth_low,
-      not_large_size s.width s.height s.depth (row_length s) h.width_high h.height_high
-          h.depth_high h.row_high,
+      not_large_size s.width s.height s.depth (row_length s) h.width_high h.height_high h.depth_high h.row_high,
       not_bad_maxval s.maxval h.maxval_low h.maxval_high,
     ) refl

@@ -1,32 +1,15 @@
 -- The answers of a source.
-use Rattle.std.proofs.Common.{◌≡◌, ℕ, ◌⊎◌, Bool, false, true, List, [], ◌++◌, length, ◌≤◌, Option, Some, None, Result, Ok, Err, inl, inr}
-use Rattle.std.proofs.Common.{append-nil, append_assoc, refl, sym, ap, subst, ◌∙◌, arith}
-use Rattle.std.specs.Io.KnownBytes.{Consumes}
-use Rattle.pnm_image.specs.declared.message.Message.{Message}
-use Rattle.pnm_image.specs.declared.packet.Packet.{Packet}
-use Rattle.pnm_image.specs.declared.packet.Packet.TheVariants.{Part, StreamEnd as EndsStream, Stop as Stops}
-use Rattle.pnm_image.specs.Packets.{messages_in}
-use Rattle.pnm_image.specs.Completion.{IsPrefixOf}
-use Rattle.pnm_read.specs.declared.fault.InputFault.{InputFault}
-use Rattle.pnm_read.specs.declared.fault.InputFault.TheVariants.{ReadFailed}
-use Rattle.pnm_read.specs.declared.buffered_reader.BufferedReader.{BufferedReader}
-use Rattle.pnm_read.specs.declared.source.Awaited.{Awaited}
-use Rattle.pnm_read.specs.declared.source.Awaited.TheVariants.{FirstImage}
-use Rattle.pnm_read.specs.declared.source.State.{State}
-use Rattle.pnm_read.specs.declared.source.State.TheVariants.{Awaits, Ended, Failed}
-use Rattle.pnm_read.specs.declared.source.Source.{Source}
-use Rattle.pnm_read.specs.Said.{Said, text_said, said_of, fault_of, after_messages, says_nothing, says_fault}
-use Rattle.pnm_read.specs.BufferedReaders.{held_of}
-use Rattle.pnm_read.specs.Said.{IsOutsideFault}
-use Rattle.pnm_read.specs.Internal.BufferedReaders.{ReadCall}
-use Rattle.pnm_read.specs.Awaiting.{state_due, state_fault, is_ended}
-use Rattle.pnm_read.specs.Internal.Awaiting.{Gives, MayBeGiven}
-use Rattle.pnm_read.specs.Sources.{IsFreshSource, Tells, AnswerTells, HasGiven, due, MayGive, SeesEnd}
+use Rattle.pnm_read.proofs.Words.{◌≡◌, ℕ, ◌⊎◌, Bool, false, true, List, [], ◌++◌, length, ◌≤◌, Option, Some, None, Result, Ok, Err, inl, inr, append-nil}
+use Rattle.pnm_read.proofs.Words.{append_assoc, refl, sym, ap, subst, ◌∙◌, arith, Consumes, Message, Packet, Part, EndsStream, Stops, messages_in, IsPrefixOf}
+use Rattle.pnm_read.proofs.Words.{InputFault, ReadFailed, BufferedReader, Awaited, FirstImage, State, Awaits, Ended, Failed, Source, Said, text_said, said_of}
+use Rattle.pnm_read.proofs.Words.{fault_of, after_messages, says_nothing, says_fault, held_of, IsOutsideFault, ReadCall, state_due, state_fault, is_ended}
+use Rattle.pnm_read.proofs.Words.{Gives, MayBeGiven, IsFreshSource, Tells, AnswerTells}
+use Rattle.pnm_read.specs.Sources.{HasGiven, due, MayGive, SeesEnd}
 use Rattle.pnm_read.proofs.Consumed.{consumes_nothing}
 use Rattle.pnm_read.proofs.GivenLaws.{messages_after, fault_after, after-append}
 
-ended_not : {A : Type 0} (ended : Bool) → ended ≡ false → ended ≡ true → A
-ended_not ended f t = absurd cc
+ended_not : {A : Type 0} {ended : Bool} → ended ≡ false → ended ≡ true → A
+ended_not f t = absurd cc
 
 pub fresh_source : {R : Type 0} (reader : R) (s : Source R) → s.input.reader ≡ reader → held_of s.input ≡ [] → s.input.ended ≡ false
     → s.state ≡ Awaits FirstImage → IsFreshSource reader s
@@ -34,8 +17,8 @@ unfolding due MayGive SeesEnd HasGiven
 fresh_source reader s r held ended state = record {
   reader_is = r;
   nothing_given = λ rest c. sym (rw (state, held) refl);
-  unread = λ text e. ended_not s.input.ended ended e;
-  end = λ left e. ended_not s.input.ended ended e;
+  unread = λ text e. ended_not ended e;
+  end = λ left e. ended_not ended e;
   going = ap state_fault state;
 }
 
@@ -72,10 +55,10 @@ said_on : {R : Type 0} (old : Source R) (read more rest : List ℕ) (given : Lis
 unfolding HasGiven
 said_on old read more rest given h m = ap text_said (append_assoc read more rest) ∙ h (more ++ rest) m
 
-tells_packet : {R : Type 0} {left : R → Option (List ℕ)} (old new : Source R) (packet : Packet) (t : TellsNext left old (Ok (Some packet)) new)
+tells_packet : {R : Type 0} {left : R → Option (List ℕ)} {old new : Source R} {packet : Packet} (t : TellsNext left old (Ok (Some packet)) new)
     (read : List ℕ) (given : List Message) → HasGiven old read given → HasGiven new (read ++ t.read) (given ++ messages_in packet)
 unfolding HasGiven
-tells_packet old new packet t read given h rest c =
+tells_packet {old} {new} {packet} t read given h rest c =
     said_on old read t.read rest given h (t.comes rest c) ∙ ap (after_messages given) (t.says rest c)
     ∙ sym (after-append given (messages_in packet) (due new rest))
 
@@ -95,23 +78,23 @@ by_fault : (fault : InputFault) (given : List Message) (text : List ℕ) (s : Sa
 by_fault fault given text s e (inl f) = inl (all_said given text s (says_fault fault) e f refl)
 by_fault fault given text s e (inr o) = inr (o, prefix_said given text s e)
 
-answer_tells : {R : Type 0} {left : R → Option (List ℕ)} (old new : Source R) (result : Result (Option Packet) InputFault) (t : TellsNext left old result new)
-    (read : List ℕ) (given : List Message) → HasGiven old read given → AnswerTells new (read ++ t.read) given result
-answer_tells old new (Ok (Some packet)) t read given h = tells_packet old new packet t read given h
-answer_tells old new (Ok None) t read given h = tells_end old new t read given h
-answer_tells old new (Err fault) t read given h = λ rest c. by_fault fault given ((read ++ t.read) ++ rest) (due old (t.read ++ rest))
+answer_tells : {R : Type 0} {left : R → Option (List ℕ)} {old new : Source R} (result : Result (Option Packet) InputFault)
+    (t : TellsNext left old result new) (read : List ℕ) (given : List Message) → HasGiven old read given → AnswerTells new (read ++ t.read) given result
+answer_tells (Ok (Some packet)) t read given h = tells_packet t read given h
+answer_tells {old} {new} (Ok None) t read given h = tells_end old new t read given h
+answer_tells {old} (Err fault) t read given h = λ rest c. by_fault fault given ((read ++ t.read) ++ rest) (due old (t.read ++ rest))
     (said_on old read t.read rest given h (t.comes rest c)) (t.says rest c)
 
-told_so : {R : Type 0} {left : R → Option (List ℕ)} (old new : Source R) (result : Result (Option Packet) InputFault) → TellsNext left old result new
+told_so : {R : Type 0} {left : R → Option (List ℕ)} {old new : Source R} {result : Result (Option Packet) InputFault} → TellsNext left old result new
     → Tells left old result new
-told_so old new result t = record { more = t.read; consumed = t.consumed; told = λ read given h. answer_tells old new result t read given h }
+told_so {result} t = record { more = t.read; consumed = t.consumed; told = λ read given h. answer_tells result t read given h }
 
 -- a packet was the next of what was to be said
 pub tells_next : {R : Type 0} {left : R → Option (List ℕ)} {failures : R → ℕ} {same : R → R → Type 0} (old new : Source R) (awaited : Awaited)
     (packet : Packet) → old.state ≡ Awaits awaited
     → ReadCall left failures same old.input new.input (Ok packet) (Gives awaited (Ok packet) new.state) → Tells left old (Ok (Some packet)) new
 unfolding due MayGive
-tells_next old new awaited packet state t = told_so old new (Ok (Some packet)) (record {
+tells_next old new awaited packet state t = told_so (record {
   read = t.read;
   consumed = t.consumed;
   comes = t.comes;
@@ -123,7 +106,7 @@ pub tells_fault : {R : Type 0} {left : R → Option (List ℕ)} {failures : R �
     (state : State) (k : InputFault) → old.state ≡ Awaits awaited
     → ReadCall {A = Packet} left failures same old.input new.input (Err k) (Gives awaited (Err k) state) → Tells left old (Err k) new
 unfolding due MayGive
-tells_fault old new awaited state k is t = told_so old new (Err k) (record {
+tells_fault old new awaited state k is t = told_so (record {
   read = t.read;
   consumed = t.consumed;
   comes = t.comes;
@@ -140,8 +123,8 @@ no_more left s state = record {
   says = λ rest c. (ap (λ (g : State). state_due g (held_of s.input ++ rest)) state, ap (λ (g : State). state_due g (held_of s.input ++ rest)) state);
 }
 
-pub tells_no_more : {R : Type 0} (left : R → Option (List ℕ)) (s : Source R) → s.state ≡ Ended → Tells left s (Ok None) s
-tells_no_more left s state = told_so s s (Ok None) (no_more left s state)
+pub tells_no_more : {R : Type 0} {left : R → Option (List ℕ)} {s : Source R} → s.state ≡ Ended → Tells left s (Ok None) s
+tells_no_more {left} {s} state = told_so (no_more left s state)
 
 -- after a fault it stays, and nothing is read
 again : {R : Type 0} (left : R → Option (List ℕ)) (s : Source R) (k : InputFault) → s.state ≡ Failed k → TellsNext left s (Err k) s
@@ -153,13 +136,8 @@ again left s k state = record {
   says = λ rest c. inl (ap (λ (g : State). state_due g (held_of s.input ++ rest)) state);
 }
 
-pub tells_again : {R : Type 0} (left : R → Option (List ℕ)) (s : Source R) (k : InputFault) → s.state ≡ Failed k → Tells left s (Err k) s
-tells_again left s k state = told_so s s (Err k) (again left s k state)
-
--- what a packet tells of the state after it
-pub state_told : {R : Type 0} {left : R → Option (List ℕ)} {failures : R → ℕ} {same : R → R → Type 0} {old new : BufferedReader R} (awaited : Awaited)
-    (packet : Packet) (state : State) → ReadCall left failures same old new (Ok packet) (Gives awaited (Ok packet) state) → MayBeGiven packet state
-state_told awaited packet state t = (t.told [] (λ _. refl)).1
+pub tells_again : {R : Type 0} {left : R → Option (List ℕ)} {s : Source R} {k : InputFault} → s.state ≡ Failed k → Tells left s (Err k) s
+tells_again {left} {s} {k} state = told_so (again left s k state)
 
 -- a packet stands for a message at least
 pub some_messages : (packet : Packet) (state : State) → MayBeGiven packet state → 1 ≤ length (messages_in packet)
@@ -183,14 +161,20 @@ never_stop packet state is e =
     let same : packet ≡ Stops = cc in
     subst (λ (p : Packet). MayBeGiven p state) same is
 
--- the end was seen rightly
-pub end_stays : {R A : Type 0} {left : R → Option (List ℕ)} {failures : R → ℕ} {same : R → R → Type 0} {o : List ℕ → List ℕ → Type 0}
-    {result : Result A InputFault} (old new : Source R) → ReadCall left failures same old.input new.input result o → SeesEnd left old → SeesEnd left new
-unfolding SeesEnd
-end_stays old new t = t.end
+module _ {R : Type 0} {left : R → Option (List ℕ)} {failures : R → ℕ} {same : R → R → Type 0} where
+  -- what a packet tells of the state after it
+  pub state_told : {old new : BufferedReader R} (awaited : Awaited) {packet : Packet} (state : State) → ReadCall left failures same old new (Ok packet)
+      (Gives awaited (Ok packet) state) → MayBeGiven packet state
+  state_told awaited state t = (t.told [] (λ _. refl)).1
 
--- at a failed read the end wasn't seen
-pub not_at_end : {R : Type 0} {left : R → Option (List ℕ)} {failures : R → ℕ} {same : R → R → Type 0} {o : List ℕ → List ℕ → Type 0} (old new : Source R)
-    (k : InputFault) → ReadCall {A = Packet} left failures same old.input new.input (Err k) o → k ≡ ReadFailed → (rest : List ℕ) → MayGive new rest
-unfolding MayGive
-not_at_end old new k t is rest ended = ended_not new.input.ended (t.read_failed (ap (λ (k : InputFault). Err k) is)).1 ended
+  -- the end was seen rightly
+  pub end_stays : {A : Type 0} {o : List ℕ → List ℕ → Type 0} {result : Result A InputFault} (old new : Source R)
+      → ReadCall left failures same old.input new.input result o → SeesEnd left old → SeesEnd left new
+  unfolding SeesEnd
+  end_stays old new t = t.end
+
+  -- at a failed read the end wasn't seen
+  pub not_at_end : {o : List ℕ → List ℕ → Type 0} (old new : Source R) {k : InputFault}
+      → ReadCall {A = Packet} left failures same old.input new.input (Err k) o → k ≡ ReadFailed → (rest : List ℕ) → MayGive new rest
+  unfolding MayGive
+  not_at_end old new {k} t is rest ended = ended_not (t.read_failed (ap (λ (k : InputFault). Err k) is)).1 ended

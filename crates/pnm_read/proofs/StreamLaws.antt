@@ -1,27 +1,12 @@
 -- What a run over a source rests on: what a reader still has may come, the messages that a source gave are a prefix of
 -- what is said, each image that begins in it has rows, and each head in it keeps the rules of heads.
-use Rattle.pnm_image.specs.Formats.{is_plain_form}
-use Rattle.std.proofs.Common.{◌≡◌, ℕ, zero, suc, ◌<◌, Bool, true, false, List, [], ◌∷◌, ◌++◌, length, Option, Some, None, Result, Ok, Err, inl, inr, refl, ap}
-use Rattle.std.proofs.Common.{◌∙◌}
-use Rattle.std.specs.List.{AllByRecursion}
-use Rattle.std.specs.Io.KnownBytes.{IsAtEnd}
-use Rattle.pnm_image.specs.declared.message.Message.{Message}
-use Rattle.pnm_image.specs.declared.message.Message.TheVariants.{Begin, Row, ImageEnd, StreamEnd}
-use Rattle.pnm_image.specs.Heads.{HeadValue}
-use Rattle.pnm_image.specs.Completion.{IsPrefixOf}
-use Rattle.pnm_image.specs.Messages.{IsMessage}
-use Rattle.pnm_image.specs.declared.shape.Shape.{Shape}
-use Rattle.pnm_read.specs.declared.fault.InputFault.{InputFault}
-use Rattle.pnm_image.specs.declared.format.Format.{Format}
-use Rattle.pnm_read.specs.declared.source.Source.{Source}
-use Rattle.pnm_read.specs.declared.source.State.{State}
-use Rattle.pnm_read.specs.declared.source.State.TheVariants.{Awaits, Ended, Failed}
-use Rattle.pnm_read.specs.Said.{IsOutsideFault}
-use Rattle.pnm_read.specs.Awaiting.{state_due, state_fault}
-use Rattle.pnm_read.specs.Said.{Said, row_at, format_at, head_at, rows_said, head_said, format_said, image_said, later_said_in, later_said, text_said}
-use Rattle.pnm_read.specs.Said.{said_of, fault_of}
+use Rattle.pnm_read.proofs.Words.{is_plain_form, ◌≡◌, ℕ, zero, suc, ◌<◌, Bool, true, false, List, [], ◌∷◌, ◌++◌, length, Option, Some, None, Result, Ok, Err}
+use Rattle.pnm_read.proofs.Words.{inl, inr, refl, ap, ◌∙◌, AllByRecursion, IsAtEnd, Message, Begin, Row, ImageEnd, StreamEnd, HeadValue, IsPrefixOf, IsMessage}
+use Rattle.pnm_read.proofs.Words.{Shape, InputFault, Format, Source, State, Awaits, Ended, Failed, IsOutsideFault, state_due, state_fault, Said, row_at}
+use Rattle.pnm_read.proofs.Words.{format_at, head_at, head_said, format_said, said_of, fault_of, reader_of, stopped_by, MayGiveMore}
+use Rattle.pnm_read.specs.Said.{rows_said, image_said, later_said_in, later_said, text_said}
 use Rattle.pnm_read.proofs.EndSaid.{end_said}
-use Rattle.pnm_read.specs.Sources.{reader_of, stopped_by, due, MayGive, SeesEnd, MayGiveMore, HasGiven}
+use Rattle.pnm_read.specs.Sources.{due, MayGive, SeesEnd, HasGiven}
 use Rattle.pnm_read.proofs.FaultLaws.{fault_is_of_text}
 use Rattle.pnm_read.proofs.ReadHeaderLaws.{read_header_is_spelled, spelled_head}
 use Rattle.pnm_read.proofs.RowsInTurn.{said_from}
@@ -30,19 +15,19 @@ use Rattle.pnm_read.proofs.GivenLaws.{messages_after, fault_after}
 
 -- ---- what may come
 
-at_end : (known : Option (List ℕ)) (rest : List ℕ) → known ≡ Some rest → IsAtEnd known → rest ≡ []
-at_end None rest e end = absurd cc
-at_end (Some xs) rest e end = cc
+at_end : (known : Option (List ℕ)) {rest : List ℕ} → known ≡ Some rest → IsAtEnd known → rest ≡ []
+at_end None e end = absurd cc
+at_end (Some xs) e end = cc
 
 -- what the reader still has may come
 pub rest_may_come : {R : Type 0} (left : R → Option (List ℕ)) (s : Source R) (rest : List ℕ) → SeesEnd left s → left (reader_of s) ≡ Some rest → MayGive s rest
 unfolding SeesEnd MayGive
-rest_may_come left s rest end e ended = at_end (left (reader_of s)) rest e (end ended)
+rest_may_come left s rest end e ended = at_end (left (reader_of s)) e (end ended)
 
 -- while the reader has a byte left, any bytes may come: its end wasn't seen
 pub any_may_come : {R : Type 0} (left : R → Option (List ℕ)) (s : Source R) → SeesEnd left s → MayGiveMore left s
 unfolding SeesEnd MayGive
-any_may_come left s end byte more e rest ended = let none : byte ∷ more ≡ [] = at_end (left (reader_of s)) (byte ∷ more) e (end ended) in absurd cc
+any_may_come left s end byte more e rest ended = let none : byte ∷ more ≡ [] = at_end (left (reader_of s)) e (end ended) in absurd cc
 
 -- nothing may come
 pub nothing_may_come : {R : Type 0} (s : Source R) → MayGive s []
@@ -59,10 +44,10 @@ given_is_prefix s read given rest h may =
     ((due s rest).messages, ap (λ (text_said : Said). text_said.messages) (h rest may) ∙ messages_after given (due s rest))
 
 -- after a fault, this fault is still to be said
-stopped_due : (state : State) (fault : InputFault) (text : List ℕ) → state_fault state ≡ Some fault → (state_due state text).fault ≡ Some fault
-stopped_due (Awaits awaited) fault text e = absurd cc
-stopped_due Ended fault text e = absurd cc
-stopped_due (Failed other) fault text e = e
+stopped_due : (state : State) {fault : InputFault} (text : List ℕ) → state_fault state ≡ Some fault → (state_due state text).fault ≡ Some fault
+stopped_due (Awaits awaited) text e = absurd cc
+stopped_due Ended text e = absurd cc
+stopped_due (Failed other) text e = e
 
 pub no_text_fault : (text : List ℕ) (fault : InputFault) → fault_of text ≡ Some fault → IsOutsideFault fault → ⊥
 no_text_fault text fault e (inl read) = (fault_is_of_text text).0 (e ∙ ap (λ (f : InputFault). Some f) read)
@@ -74,7 +59,7 @@ pub not_stopped : {R : Type 0} (s : Source R) (read : List ℕ) (given : List Me
 unfolding HasGiven due
 not_stopped s read given fault h stopped outside =
     no_text_fault (read ++ []) fault (ap (λ (text_said : Said). text_said.fault) (h [] (nothing_may_come s)) ∙ fault_after given (due s [])
-    ∙ stopped_due s.state fault _ stopped) outside
+    ∙ stopped_due s.state _ stopped) outside
 
 -- ---- what holds of each message that is said
 
@@ -90,57 +75,51 @@ pub record HoldsOfRead (Claim : Message → Type 0) : Type 0 where
 abbrev HoldsOf : (Message → Type 0) → (List ℕ → Said) → Type 0
 HoldsOf Claim later = (text : List ℕ) → AllByRecursion Claim (later text).messages
 
-holds_of_end : (Claim : Message → Type 0) (h : HoldsOfRead Claim) (later : List ℕ → Said) (is_plain : Bool) (text : List ℕ) → HoldsOf Claim later
-    → AllByRecursion Claim (end_said later is_plain text).messages
-holds_of_end Claim h later true text holds = (h.stream_end, tt)
-holds_of_end Claim h later false text holds = holds text
+module _ {Claim : Message → Type 0} (h : HoldsOfRead Claim) (later : List ℕ → Said) where
+  holds_of_end : (is_plain : Bool) (text : List ℕ) → HoldsOf Claim later → AllByRecursion Claim (end_said later is_plain text).messages
+  holds_of_end true text holds = (h.stream_end, tt)
+  holds_of_end false text holds = holds text
 
-holds_of_row : (Claim : Message → Type 0) (h : HoldsOfRead Claim) (later : List ℕ → Said) (format : Format) (s : Shape) (more : ℕ)
-    (r : Result (List ℕ × List ℕ) InputFault)
-    → ((text : List ℕ) → AllByRecursion Claim (rows_said later format s more text).messages) → AllByRecursion Claim (said_from later format s more r).messages
-holds_of_row Claim h later format s more (Err fault) others = tt
-holds_of_row Claim h later format s more (Ok found) others = (h.row found.0, others found.1)
+  holds_of_row : (format : Format) (s : Shape) (more : ℕ) (r : Result (List ℕ × List ℕ) InputFault)
+      → ((text : List ℕ) → AllByRecursion Claim (rows_said later format s more text).messages)
+      → AllByRecursion Claim (said_from later format s more r).messages
+  holds_of_row format s more (Err fault) others = tt
+  holds_of_row format s more (Ok found) others = (h.row found.0, others found.1)
 
-holds_of_rows : (Claim : Message → Type 0) (h : HoldsOfRead Claim) (later : List ℕ → Said) (format : Format) (s : Shape) (more : ℕ) (text : List ℕ)
-    → HoldsOf Claim later → AllByRecursion Claim (rows_said later format s more text).messages
-unfolding rows_said
-holds_of_rows Claim h later format s zero text holds = (h.image_end, holds_of_end Claim h later (is_plain_form format.form) text holds)
-holds_of_rows Claim h later format s (suc more) text holds = holds_of_row Claim h later format s more (row_at format s more text)
-    (λ rest. holds_of_rows Claim h later format s more rest holds)
+  holds_of_rows : (format : Format) (s : Shape) (more : ℕ) (text : List ℕ) → HoldsOf Claim later
+      → AllByRecursion Claim (rows_said later format s more text).messages
+  unfolding rows_said
+  holds_of_rows format s zero text holds = (h.image_end, holds_of_end (is_plain_form format.form) text holds)
+  holds_of_rows format s (suc more) text holds = holds_of_row format s more (row_at format s more text) (λ rest. holds_of_rows format s more rest holds)
 
-holds_of_head : (Claim : Message → Type 0) (h : HoldsOfRead Claim) (later : List ℕ → Said) (format : Format) (r : Result (HeadValue × List ℕ) InputFault)
-    → HoldsOf Claim later → ((found : HeadValue × List ℕ) → r ≡ Ok found → Claim (Begin found.0))
-    → AllByRecursion Claim (head_said later format r).messages
-holds_of_head Claim h later format (Err fault) holds head = tt
-holds_of_head Claim h later format (Ok found) holds head =
-    (head found refl, holds_of_rows Claim h later format found.0.shape found.0.shape.height found.1 holds)
+  holds_of_head : (format : Format) (r : Result (HeadValue × List ℕ) InputFault) → HoldsOf Claim later
+      → ((found : HeadValue × List ℕ) → r ≡ Ok found → Claim (Begin found.0)) → AllByRecursion Claim (head_said later format r).messages
+  holds_of_head format (Err fault) holds head = tt
+  holds_of_head format (Ok found) holds head = (head found refl, holds_of_rows format found.0.shape found.0.shape.height found.1 holds)
 
-holds_of_format : (Claim : Message → Type 0) (h : HoldsOfRead Claim) (later : List ℕ → Said) (is_first : Bool) (text : List ℕ)
-    (r : Result (Format × List ℕ) InputFault) → HoldsOf Claim later → format_at is_first text ≡ r
-    → AllByRecursion Claim (format_said later r).messages
-holds_of_format Claim h later is_first text (Err fault) holds e = tt
-holds_of_format Claim h later is_first text (Ok found) holds e = holds_of_head Claim h later found.0 (head_at found.0 found.1) holds
-    (λ head read. h.head is_first text found head e read)
+  holds_of_format : (is_first : Bool) (text : List ℕ) (r : Result (Format × List ℕ) InputFault) → HoldsOf Claim later → format_at is_first text ≡ r
+      → AllByRecursion Claim (format_said later r).messages
+  holds_of_format is_first text (Err fault) holds e = tt
+  holds_of_format is_first text (Ok found) holds e = holds_of_head found.0 (head_at found.0 found.1) holds (λ head read. h.head is_first text found head e read)
 
-holds_of_image : (Claim : Message → Type 0) (h : HoldsOfRead Claim) (later : List ℕ → Said) (is_first : Bool) (text : List ℕ) → HoldsOf Claim later
-    → AllByRecursion Claim (image_said later is_first text).messages
-unfolding image_said
-holds_of_image Claim h later is_first text holds = holds_of_format Claim h later is_first text (format_at is_first text) holds refl
+  holds_of_image : (is_first : Bool) (text : List ℕ) → HoldsOf Claim later → AllByRecursion Claim (image_said later is_first text).messages
+  unfolding image_said
+  holds_of_image is_first text holds = holds_of_format is_first text (format_at is_first text) holds refl
 
-holds_of_later_in : (Claim : Message → Type 0) (h : HoldsOfRead Claim) (most : ℕ) → HoldsOf Claim (later_said_in most)
+holds_of_later_in : {Claim : Message → Type 0} (h : HoldsOfRead Claim) (most : ℕ) → HoldsOf Claim (later_said_in most)
 unfolding later_said_in
-holds_of_later_in Claim h zero [] = (h.stream_end, tt)
-holds_of_later_in Claim h zero (b ∷ text) = (h.stream_end, tt)
-holds_of_later_in Claim h (suc most) [] = (h.stream_end, tt)
-holds_of_later_in Claim h (suc most) (b ∷ text) = holds_of_image Claim h (later_said_in most) false (b ∷ text) (holds_of_later_in Claim h most)
+holds_of_later_in h zero [] = (h.stream_end, tt)
+holds_of_later_in h zero (b ∷ text) = (h.stream_end, tt)
+holds_of_later_in h (suc most) [] = (h.stream_end, tt)
+holds_of_later_in h (suc most) (b ∷ text) = holds_of_image h (later_said_in most) false (b ∷ text) (holds_of_later_in h most)
 
-holds_of_later : (Claim : Message → Type 0) (h : HoldsOfRead Claim) → HoldsOf Claim later_said
+holds_of_later : {Claim : Message → Type 0} (h : HoldsOfRead Claim) → HoldsOf Claim later_said
 unfolding later_said
-holds_of_later Claim h text = holds_of_later_in Claim h (length text) text
+holds_of_later h text = holds_of_later_in h (length text) text
 
 pub holds_of_said : (Claim : Message → Type 0) (h : HoldsOfRead Claim) (text : List ℕ) → AllByRecursion Claim (said_of text)
 unfolding text_said
-holds_of_said Claim h text = holds_of_image Claim h later_said true text (holds_of_later Claim h)
+holds_of_said Claim h text = holds_of_image h later_said true text (holds_of_later h)
 
 -- ---- heads that are said
 
@@ -149,7 +128,7 @@ pub read_head_has_rows : (is_first : Bool) (text : List ℕ) (found : Format × 
     → head_at found.0 found.1 ≡ Ok head → 0 < head.0.shape.height
 read_head_has_rows is_first text found head e h =
     let s = read_header_is_spelled is_first text found.1 head.1 found.0 head.0 e h in
-    (spelled_head s.0 found.0 head.0 s.2).rows
+    (spelled_head s.0 s.2).rows
 
 -- what is said are messages: each head keeps the rules of heads
 pub said_are_messages : (text : List ℕ) → AllByRecursion IsMessage (said_of text)

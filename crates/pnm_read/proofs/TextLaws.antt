@@ -1,22 +1,11 @@
 -- What a text spells is what is said of it, and it spells one list of images or has a fault.
-use Rattle.pnm_image.specs.Formats.{is_plain_form}
-use Rattle.std.proofs.Common.{◌≡◌, ◌↔◌, ◌⊎◌, ℕ, zero, suc, ◌+◌, ◌<◌, ◌≤◌, Bool, true, false, List, [], ◌∷◌, ◌++◌, length, map, Option, Some, None}
-use Rattle.std.proofs.Common.{Result, Ok, Err, inl, inr, refl, sym, ap, subst, ◌∙◌, append_assoc, arith}
-use Rattle.std.proofs.lemmas.List.{length-append}
-use Rattle.std.proofs.lemmas.Bool.{both_ways}
-use Rattle.pnm_image.specs.declared.message.Message.{Message}
-use Rattle.pnm_image.specs.declared.message.Message.TheVariants.{Begin, Row, ImageEnd}
-use Rattle.pnm_image.specs.Heads.{HeadValue}
-use Rattle.pnm_image.specs.Images.{Image, IsImage, AreImages, rows_of, messages_of_image, messages_of_stream}
-use Rattle.pnm_image.proofs.Streams.{is_stream_of, stream_is_messages, stream_is_lawful, stream_ends}
-use Rattle.pnm_read.specs.declared.fault.InputFault.{InputFault}
-use Rattle.pnm_image.specs.declared.format.Format.{Format}
-use Rattle.pnm_read.specs.Headers.{SpellsHeader}
-use Rattle.pnm_read.specs.Rasters.{SpellsRaw, SpellsPlain}
-use Rattle.pnm_read.specs.Spelling.{SpellsRasterBy, SpellsImage, SpellsRawImage, SpellsRawImages, SpellsPlainAlone, Spells}
-use Rattle.pnm_read.specs.Said.{Said, then_said, ends_stream, format_at, head_at, rows_said, head_said, format_said, image_said, later_said, text_said, said_of}
-use Rattle.pnm_read.specs.Said.{fault_of, AreSaid}
-use Rattle.pnm_read.specs.TextLaws.{SpellsOnly, IsAtFault}
+use Rattle.pnm_read.proofs.Words.{is_plain_form, ◌≡◌, ◌↔◌, ◌⊎◌, ℕ, zero, suc, ◌+◌, ◌<◌, ◌≤◌, Bool, true, false, List, [], ◌∷◌, ◌++◌, length, map, Option, Some}
+use Rattle.pnm_read.proofs.Words.{None, Result, Ok, Err, inl, inr, refl, sym, ap, subst, ◌∙◌, append_assoc, arith, length-append, both_ways, Message, Begin}
+use Rattle.pnm_read.proofs.Words.{Row, ImageEnd, HeadValue, Image, IsImage, AreImages, rows_of, messages_of_image, messages_of_stream, is_stream_of}
+use Rattle.pnm_read.proofs.Words.{stream_is_messages, stream_is_lawful, stream_ends, InputFault, Format, SpellsHeader, SpellsRaw, SpellsPlain, SpellsRasterBy}
+use Rattle.pnm_read.proofs.Words.{SpellsImage, SpellsRawImage, SpellsRawImages, SpellsPlainAlone, Spells, Said, then_said, ends_stream, format_at, head_at}
+use Rattle.pnm_read.proofs.Words.{rows_said, head_said, format_said, later_said, said_of, fault_of, AreSaid, SpellsOnly, IsAtFault}
+use Rattle.pnm_read.specs.Said.{image_said, text_said}
 use Rattle.pnm_read.proofs.ReadHeaderLaws.{spelled_head, read_header_is_spelled, header_has_bytes}
 use Rattle.pnm_read.proofs.SpelledHeaders.{spelled_header_is_read}
 use Rattle.pnm_read.proofs.PlainLaws.{rows_and_ends, spelled_plain_is_said, said_plain_is_spelled}
@@ -57,7 +46,7 @@ raw_image_is_said later is_first text rest image s =
     ap (image_said later is_first) (ap (λ (t : List ℕ). t ++ rest) spelled.whole ∙ append_assoc spelled.header spelled.raster rest)
     ∙ head_is_said later is_first format image spelled.header (spelled.raster ++ rest) (λ plain. absurd (both_ways (is_plain_form format.form) s.1 plain))
     spelled.header_is
-    ∙ ap (then_said (Begin image.head)) (spelled_raw_is_said later format spelled.raster rest image s.1 raster)
+    ∙ ap (then_said (Begin image.head)) (spelled_raw_is_said later format rest s.1 raster)
     ∙ after_head image (later rest)
 
 -- a raw image has some bytes
@@ -88,24 +77,23 @@ raw_text_is text (image ∷ images) some s =
 one_image : (image : Image) → then_said (Begin image.head) (rows_and_ends (rows_of image)) ≡ says_images (image ∷ [])
 one_image image = after_head image ends_stream
 
-plain_text_is : (text : List ℕ) (images : List Image) → SpellsPlainAlone text images → text_said text ≡ says_images images
+plain_text_is : {text : List ℕ} {images : List Image} → SpellsPlainAlone text images → text_said text ≡ says_images images
 unfolding text_said
-plain_text_is text images s =
+plain_text_is s =
     let image : Image = s.image in
     let format : Format = s.image_is.0 in
     let spelled = s.image_is.2 in
-    let facts = spelled_head spelled.header format image.head spelled.header_is in
+    let facts = spelled_head spelled.header spelled.header_is in
     let raster : SpellsPlain spelled.raster image = subst (λ (p : Bool). SpellsRasterBy p spelled.raster image) s.image_is.1 spelled.raster_is in
     ap (image_said later_said true) (s.whole ∙ ap (λ (t : List ℕ). t ++ s.rest) spelled.whole ∙ append_assoc spelled.header spelled.raster s.rest)
     ∙ head_is_said later_said true format image spelled.header (spelled.raster ++ s.rest) (λ plain. refl) spelled.header_is
-    ∙ ap (then_said (Begin image.head))
-    (spelled_plain_is_said later_said format spelled.raster s.rest image s.image_is.1 facts.kind facts.rows raster s.rest_is)
+    ∙ ap (then_said (Begin image.head)) (spelled_plain_is_said later_said format s.rest s.image_is.1 facts.kind facts.rows raster s.rest_is)
     ∙ one_image image ∙ ap says_images (sym s.one)
 
 -- all that is said of a text that spells images
 spelled_text_is : (text : List ℕ) (images : List Image) → Spells text images → text_said text ≡ says_images images
 spelled_text_is text images (inl s) = raw_text_is text images s.0 s.1
-spelled_text_is text images (inr s) = plain_text_is text images s
+spelled_text_is text images (inr s) = plain_text_is s
 
 -- of a text that spells images their messages are said, without a fault
 pub spelled_text_is_said : (text : List ℕ) (images : List Image) → Spells text images → (said_of text ≡ messages_of_stream images) × (fault_of text ≡ None)
@@ -139,55 +127,51 @@ image_of_parts text rest header raster format head image whole h same r = record
   raster_is = r;
 }
 
-raw_raster_is_spelled : (later : List ℕ → Said) (text header after : List ℕ) (format : Format) (head : HeadValue) → is_plain_form format.form ≡ false
-    → text ≡ header ++ after → SpellsHeader header format head
-    → (rows_said later format head.shape head.shape.height after).fault ≡ None → RawAndRest later text None
-raw_raster_is_spelled later text header after format head raw whole h e =
-    let facts = spelled_head header format head h in
-    let r = said_raw_is_spelled later format head after raw facts.sound e in
-    let image : Image = r.0 in
-    let raster : List ℕ = r.1 in
-    let is = image_of_parts (header ++ raster) r.2 header raster format head image refl h r.4
-    (subst (λ (p : Bool). SpellsRasterBy p raster image) (sym raw) r.5) in
-    record {
-      image = image;
-      first = header ++ raster;
-      rest = r.2;
-      whole = whole ∙ ap (λ (t : List ℕ). header ++ t) r.3 ∙ sym (append_assoc header raster r.2);
-      image_is = (format, raw, is);
-      fault_is = r.6;
-    }
-
-plain_raster_is_spelled : (later : List ℕ → Said) (text header after : List ℕ) (format : Format) (head : HeadValue) → is_plain_form format.form ≡ true
-    → text ≡ header ++ after → SpellsHeader header format head
-    → (rows_said later format head.shape head.shape.height after).fault ≡ None → IsPlainAlone text
-plain_raster_is_spelled later text header after format head plain whole h e =
-    let facts = spelled_head header format head h in
-    let r = said_plain_is_spelled later format head after plain facts.kind facts.sound facts.rows e in
-    let image : Image = r.0 in
-    let raster : List ℕ = r.1 in
-    let is = image_of_parts (header ++ raster) r.2 header raster format head image refl h r.4
-    (subst (λ (p : Bool). SpellsRasterBy p raster image) (sym plain) r.5) in (
-      image ∷ [],
+module _ {text : List ℕ} (header after : List ℕ) (format : Format) (head : HeadValue) where
+  raw_raster_is_spelled : {later : List ℕ → Said} → is_plain_form format.form ≡ false → text ≡ header ++ after → SpellsHeader header format head
+      → (rows_said later format head.shape head.shape.height after).fault ≡ None → RawAndRest later text None
+  raw_raster_is_spelled {later} raw whole h e =
+      let facts = spelled_head header h in
+      let r = said_raw_is_spelled later format after raw facts.sound e in
+      let image : Image = r.0 in
+      let raster : List ℕ = r.1 in
+      let is = image_of_parts (header ++ raster) r.2 header raster format head image refl h r.4
+      (subst (λ (p : Bool). SpellsRasterBy p raster image) (sym raw) r.5) in
       record {
         image = image;
         first = header ++ raster;
         rest = r.2;
-        one = refl;
         whole = whole ∙ ap (λ (t : List ℕ). header ++ t) r.3 ∙ sym (append_assoc header raster r.2);
-        image_is = (format, plain, is);
-        rest_is = r.6;
-      },
-    )
+        image_is = (format, raw, is);
+        fault_is = r.6;
+      }
 
-raster_is_spelled : (is_plain : Bool) (later : List ℕ → Said) (text header after : List ℕ) (format : Format) (head : HeadValue)
-    → is_plain_form format.form ≡ is_plain → text ≡ header ++ after → SpellsHeader header format head
-    → (rows_said later format head.shape head.shape.height after).fault ≡ None → ((is_plain_form format.form ≡ false) × RawAndRest later text None)
-    ⊎ ((is_plain_form format.form ≡ true) × IsPlainAlone text)
-raster_is_spelled false later text header after format head plain whole h e =
-    inl (plain, raw_raster_is_spelled later text header after format head plain whole h e)
-raster_is_spelled true later text header after format head plain whole h e =
-    inr (plain, plain_raster_is_spelled later text header after format head plain whole h e)
+  plain_raster_is_spelled : (later : List ℕ → Said) → is_plain_form format.form ≡ true → text ≡ header ++ after → SpellsHeader header format head
+      → (rows_said later format head.shape head.shape.height after).fault ≡ None → IsPlainAlone text
+  plain_raster_is_spelled later plain whole h e =
+      let facts = spelled_head header h in
+      let r = said_plain_is_spelled later format after plain facts.kind facts.sound facts.rows e in
+      let image : Image = r.0 in
+      let raster : List ℕ = r.1 in
+      let is = image_of_parts (header ++ raster) r.2 header raster format head image refl h r.4
+      (subst (λ (p : Bool). SpellsRasterBy p raster image) (sym plain) r.5) in (
+        image ∷ [],
+        record {
+          image = image;
+          first = header ++ raster;
+          rest = r.2;
+          one = refl;
+          whole = whole ∙ ap (λ (t : List ℕ). header ++ t) r.3 ∙ sym (append_assoc header raster r.2);
+          image_is = (format, plain, is);
+          rest_is = r.6;
+        },
+      )
+
+  raster_is_spelled : (is_plain : Bool) (later : List ℕ → Said) → is_plain_form format.form ≡ is_plain → text ≡ header ++ after
+      → SpellsHeader header format head → (rows_said later format head.shape head.shape.height after).fault ≡ None
+      → ((is_plain_form format.form ≡ false) × RawAndRest later text None) ⊎ ((is_plain_form format.form ≡ true) × IsPlainAlone text)
+  raster_is_spelled false later plain whole h e = inl (plain, raw_raster_is_spelled plain whole h e)
+  raster_is_spelled true later plain whole h e = inr (plain, plain_raster_is_spelled later plain whole h e)
 
 -- where an image is said without a fault, a format was read
 sound_format : (later : List ℕ → Said) (found : Result (Format × List ℕ) InputFault) → (format_said later found).fault ≡ None → (x : Format × List ℕ)
@@ -212,7 +196,7 @@ image_is_spelled later is_first text e =
     let after : List ℕ = found.0.1 in
     let read = sound_head later format (head_at format after) found.2 in
     let header = read_header_is_spelled is_first text after read.0.1 format read.0.0 found.1 read.1 in
-    (found.0, found.1, raster_is_spelled (is_plain_form format.form) later text header.0 read.0.1 format read.0.0 refl header.1 header.2 read.2)
+    (found.0, found.1, raster_is_spelled header.0 read.0.1 format read.0.0 (is_plain_form format.form) later refl header.1 header.2 read.2)
 
 -- what is said after a raw image without a fault are raw images
 later_is_spelled : (most : ℕ) (text : List ℕ) → length text ≤ most → (later_said text).fault ≡ None → (images : List Image) × SpellsRawImages text images
@@ -228,7 +212,7 @@ later_is_spelled (suc most) (b ∷ text) le e =
           let count : length whole ≡ length raw.first + length raw.rest = ap (λ (t : List ℕ). length t) raw.whole ∙ length-append raw.first raw.rest in
           let more = later_is_spelled most raw.rest (omega arith) raw.fault_is in
           (raw.image ∷ more.0, (raw.first, raw.rest, raw.whole, raw.image_is, more.1))
-      | inr p ↦ absurd (both_ways (is_plain_form found.0.0.form) (later_is_raw whole found.0 found.1) p.0)
+      | inr p ↦ absurd (both_ways (is_plain_form found.0.0.form) (later_is_raw whole found.1) p.0)
     ]
 
 -- a text without a fault spells images
@@ -253,21 +237,21 @@ said_text_is_spelled text e =
 -- ---- one list of images, or one fault
 
 -- a raster spells an image
-raster_is_of_image : (is_plain : Bool) (raster : List ℕ) (image : Image) → SpellsRasterBy is_plain raster image → IsImage image
-raster_is_of_image true raster image s = s.sound
-raster_is_of_image false raster image s = s.sound
+raster_is_of_image : (is_plain : Bool) (raster : List ℕ) {image : Image} → SpellsRasterBy is_plain raster image → IsImage image
+raster_is_of_image true raster s = s.sound
+raster_is_of_image false raster s = s.sound
 
-spelled_is_image : (text : List ℕ) (format : Format) (image : Image) → SpellsImage text format image → IsImage image
-spelled_is_image text format image s = raster_is_of_image (is_plain_form format.form) s.raster image s.raster_is
+spelled_is_image : {text : List ℕ} {format : Format} {image : Image} → SpellsImage text format image → IsImage image
+spelled_is_image {format} s = raster_is_of_image (is_plain_form format.form) s.raster s.raster_is
 
 raw_are_images : (text : List ℕ) (images : List Image) → SpellsRawImages text images → AreImages images
 raw_are_images text [] s = tt
-raw_are_images text (image ∷ images) s = (spelled_is_image s.0 s.3.0 image s.3.2, raw_are_images s.1 images s.4)
+raw_are_images text (image ∷ images) s = (spelled_is_image s.3.2, raw_are_images s.1 images s.4)
 
 -- what a text spells are images
 pub spelled_are_images : (text : List ℕ) (images : List Image) → Spells text images → AreImages images
 spelled_are_images text images (inl s) = raw_are_images text images s.1
-spelled_are_images text images (inr s) = subst AreImages (sym s.one) (spelled_is_image s.first s.image_is.0 s.image s.image_is.2, tt)
+spelled_are_images text images (inr s) = subst AreImages (sym s.one) (spelled_is_image s.image_is.2, tt)
 
 -- lists of images that have the same messages are the same
 pub images_of_messages_are_one : (images others : List Image) → AreImages images → AreImages others → messages_of_stream images ≡ messages_of_stream others
@@ -289,15 +273,15 @@ are_said text images s =
     record { sound = said.1; images_are = spelled_are_images text images s; messages = said.0 }
 
 -- the images that are said of a text are spelled by it
-said_are_spelled : (text : List ℕ) (images : List Image) → AreSaid text images → Spells text images
-said_are_spelled text images said =
+said_are_spelled : {text : List ℕ} {images : List Image} → AreSaid text images → Spells text images
+said_are_spelled {text} {images} said =
     let spelled = said_text_is_spelled text said.sound in
     let same = images_of_messages_are_one images spelled.0 said.images_are (spelled_are_images text spelled.0 spelled.1) (sym said.messages ∙ spelled.2) in
     subst (Spells text) same spelled.1
 
 -- the images that a text spells are those that are said of it
 pub spelled_images_are_said : (text : List ℕ) (images : List Image) → Spells text images ↔ AreSaid text images
-spelled_images_are_said text images = (are_said text images, said_are_spelled text images)
+spelled_images_are_said text images = (are_said text images, said_are_spelled)
 
 -- a text without a fault spells one list of images, and a text with a fault spells none
 one_or_fault : (text : List ℕ) (fault : Option InputFault) → fault_of text ≡ fault → ((images : List Image) × SpellsOnly text images)

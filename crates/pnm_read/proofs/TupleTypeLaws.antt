@@ -1,18 +1,11 @@
 -- The tuple type that lines have together: one line, without white space at its ends.
-use Rattle.std.proofs.Common.{◌≡◌, ◌≢◌, ℕ, ◌-◌, ◌<◌, ◌≤◌, Bool, true, false, not, ◌&&◌, ◌==◌, if◌then◌else◌, List, [], ◌∷◌, ◌++◌, length, slice_index, get_or}
-use Rattle.std.proofs.Common.{suc, refl, sym, ap, ◌∙◌, arith, codes, subst}
-use Rattle.std.specs.List.{list_all, AllByRecursion}
-use Rattle.std.proofs.lemmas.Bool.{and_parts}
-use Rattle.std.proofs.lemmas.Bool.Decides.{nat_tests}
-use Rattle.std.proofs.lemmas.List.Sums.{AllPass-from_list_all, list_all-from_AllPass}
-use Rattle.std.proofs.lemmas.List.Folds.{list_all-append}
-use Rattle.pnm_image.specs.declared.limits.TheConstants.{MAX_TUPLE_TYPE_LENGTH}
-use Rattle.pnm_image.specs.Heads.{IsTupleType}
-use Rattle.pnm_image.specs.Texts.{is_blank}
+use Rattle.pnm_read.proofs.Words.{◌≡◌, ◌≢◌, ℕ, ◌-◌, ◌<◌, ◌≤◌, Bool, true, false, not, ◌&&◌, ◌==◌, if◌then◌else◌, List, [], ◌∷◌, ◌++◌, length, get_or, suc, refl}
+use Rattle.pnm_read.proofs.Words.{sym, ap, ◌∙◌, arith, codes, subst, list_all, AllByRecursion, and_parts, nat_tests, AllPass-from_list_all}
+use Rattle.pnm_read.proofs.Words.{list_all-from_AllPass, list_all-append, MAX_TUPLE_TYPE_LENGTH, IsTupleType, is_blank, value_of, tuple_type_in, onto_trimmed}
+use Rattle.pnm_read.proofs.Words.{begins_with, joined_with, IsOneLine}
+use Rattle.std.proofs.Common.{slice_index}
 use Rattle.pnm_read.specs.HeaderTexts.{ends_by}
-use Rattle.pnm_read.specs.PamLines.{value_of, tuple_type_in}
-use Rattle.pnm_read.specs.Internal.LineWalks.{trimmed_start, onto_trimmed, trimmed_end, after_token, begins_with, joined_with}
-use Rattle.pnm_read.specs.Headers.{IsOneLine}
+use Rattle.pnm_read.specs.Internal.LineWalks.{trimmed_start, trimmed_end, after_token}
 use Rattle.pnm_read.proofs.LineLaws.{if_both}
 use Rattle.pnm_read.proofs.WalkLaws.{value_is, tuple_type_in-cons, tuple_type_in-nil}
 

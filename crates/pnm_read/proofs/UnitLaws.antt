@@ -1,19 +1,11 @@
 -- The units of a raw row in turn: what so many bytes give.
-use Rattle.std.proofs.Common.{◌≡◌, ℕ, zero, suc, ◌+◌, ◌*◌, ◌≤◌, Bool, true, false, leb, ◌&&◌, if◌then◌else◌, List, [], ◌∷◌, ◌++◌, length, map, flat_map, All}
-use Rattle.std.proofs.Common.{Result, Ok, Err, refl, sym, ap, ◌∙◌, arith, zero-add, suc-add, suc-mul, append_assoc}
-use Rattle.std.specs.List.{concat, list_all}
-use Rattle.std.proofs.lemmas.Bool.{leb-true, le-leb}
-use Rattle.std.proofs.lemmas.List.Elements.{All-weaker}
-use Rattle.std.proofs.lemmas.List.Sums.{AllPass-from_list_all, list_all-from_AllPass}
-use Rattle.pnm_read.specs.declared.fault.InputFault.{InputFault}
-use Rattle.pnm_read.specs.declared.fault.InputFault.TheVariants.{SampleAboveMaxval}
-use Rattle.pnm_image.specs.declared.sample_width.SampleWidth.{SampleWidth}
-use Rattle.pnm_image.specs.declared.sample_width.SampleWidth.TheVariants.{Bits, Bytes, Words}
-use Rattle.pnm_read.specs.Rasters.{pixels, wide_samples}
-use Rattle.pnm_read.specs.Items.{◌>>=◌, raw_item}
+use Rattle.pnm_read.proofs.Words.{◌≡◌, ℕ, zero, suc, ◌+◌, ◌*◌, ◌≤◌, Bool, true, false, leb, ◌&&◌, if◌then◌else◌, List, [], ◌∷◌, ◌++◌, length, map, flat_map}
+use Rattle.pnm_read.proofs.Words.{All, Result, Ok, Err, refl, sym, ap, ◌∙◌, arith, zero-add, suc-add, suc-mul, append_assoc, concat, list_all, leb-true, le-leb}
+use Rattle.pnm_read.proofs.Words.{All-weaker, AllPass-from_list_all, list_all-from_AllPass, InputFault, SampleAboveMaxval, SampleWidth, Bits, Bytes, Words}
+use Rattle.pnm_read.proofs.Words.{pixels, ◌>>=◌, AppendsWide, samples_of_bytes, AreBytesWithin}
+use Rattle.pnm_read.specs.Rasters.{wide_samples}
+use Rattle.pnm_read.specs.Items.{raw_item}
 use Rattle.pnm_read.specs.Said.{in_turn}
-use Rattle.pnm_read.specs.Internal.RawParts.{AppendsWide}
-use Rattle.pnm_read.specs.Internal.Units.{samples_of_bytes, AreBytesWithin}
 
 -- items in turn, and what is left
 abbrev pub ItemsRead : Type 0

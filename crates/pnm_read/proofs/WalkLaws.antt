@@ -1,20 +1,13 @@
 -- Lines, tokens and values of a PAM header are what the steps along it give.
-use Rattle.std.proofs.Common.{◌≡◌, ℕ, zero, suc, ◌+◌, ◌-◌, ◌<◌, ◌≤◌, Bool, true, false, not, cond, ◌==◌, nat_lt, if◌then◌else◌, List, [], ◌∷◌, ◌++◌}
-use Rattle.std.proofs.Common.{length, take, drop, map, filter, reverse, codes, slice_index_or, count_by, refl, sym, ap, ap₂, subst}
-use Rattle.std.proofs.Common.{◌∙◌, append_assoc, append-nil, arith}
-use Rattle.std.specs.List.{slice_split, onto_first, prefix_len, suffix_len, join_with_byte}
-use Rattle.std.proofs.lemmas.Bool.{lt-ltb}
-use Rattle.std.proofs.lemmas.Bool.Decides.{nat_tests}
-use Rattle.std.proofs.lemmas.List.{reverse-append, length-reverse, length-append, take_at, drop-drop}
-use Rattle.std.proofs.lemmas.List.Folds.{prefix_len-append}
-use Rattle.std.proofs.lemmas.List.Splits.{length-slice_split}
-use Rattle.std.proofs.lemmas.List.Sums.{suffix_len-le-length}
-use Rattle.pnm_image.specs.Texts.{is_blank, runs_between}
-use Rattle.pnm_image.proofs.Words.{begins_in_run, words_by, runs-cons}
-use Rattle.pnm_read.specs.PamLines.{ended_lines, last_line, first_token, second_token, trimmed, value_of, tuple_type_in}
-use Rattle.pnm_read.specs.Internal.LineWalks.{ended_after, last_after, trimmed_start, onto_trimmed, trimmed_end, token_of, after_token, after_first}
-use Rattle.pnm_read.specs.Internal.LineWalks.{begins_with}
-use Rattle.pnm_read.specs.Internal.LineWalks.{joined_with}
+use Rattle.pnm_read.proofs.Words.{◌≡◌, ℕ, zero, suc, ◌+◌, ◌-◌, ◌<◌, ◌≤◌, Bool, true, false, not, cond, ◌==◌, if◌then◌else◌, List, [], ◌∷◌, ◌++◌, length, take}
+use Rattle.pnm_read.proofs.Words.{drop, map, reverse, codes, slice_index_or, count_by, refl, sym, ap, ap₂, subst, ◌∙◌, append_assoc, append-nil, arith}
+use Rattle.pnm_read.proofs.Words.{slice_split, onto_first, prefix_len, suffix_len, join_with_byte, lt-ltb, nat_tests, reverse-append, length-reverse}
+use Rattle.pnm_read.proofs.Words.{length-append, take_at, drop-drop, prefix_len-append, length-slice_split, suffix_len-le-length, is_blank, runs_between}
+use Rattle.pnm_read.proofs.Words.{begins_in_run, words_by, runs-cons, trimmed, onto_trimmed, after_first, begins_with, joined_with}
+use Rattle.std.proofs.Common.{nat_lt}
+use Rattle.std.proofs.Common.{filter}
+use Rattle.pnm_read.specs.PamLines.{ended_lines, last_line, first_token, second_token, value_of, tuple_type_in}
+use Rattle.pnm_read.specs.Internal.LineWalks.{ended_after, last_after, trimmed_start, trimmed_end, token_of, after_token}
 
 -- ---- how many bytes at the end of a text pass a test, with one byte more before it
 
@@ -58,17 +51,17 @@ paste_by true line b parts = ap (λ (l : List ℕ). l ∷ parts) (append-nil lin
 paste_by false line b [] = refl
 paste_by false line b (part ∷ parts) = ap (λ (l : List ℕ). l ∷ parts) (sym (append_assoc line (b ∷ []) part))
 
-lines_by : (feeds : Bool) (line : List ℕ) (a b c d : List (List ℕ)) (x y : List ℕ) → a ≡ c ++ x ∷ [] → b ≡ d ++ y ∷ []
+lines_by : (feeds : Bool) (line : List ℕ) {a b : List (List ℕ)} (c d : List (List ℕ)) (x y : List ℕ) → a ≡ c ++ x ∷ [] → b ≡ d ++ y ∷ []
     → (if feeds then line ∷ a else b) ≡ (if feeds then line ∷ c else d) ++ (if feeds then x else y) ∷ []
-lines_by true line a b c d x y p q = ap (λ (l : List (List ℕ)). line ∷ l) p
-lines_by false line a b c d x y p q = q
+lines_by true line c d x y p q = ap (λ (l : List (List ℕ)). line ∷ l) p
+lines_by false line c d x y p q = q
 
 lines_are : (line text : List ℕ) → paste line (slice_split is_feed text) ≡ ended_after line text ++ last_after line text ∷ []
 unfolding paste ended_after last_after
 lines_are line [] = ap (λ (l : List ℕ). l ∷ []) (append-nil line)
 lines_are line (b ∷ text) =
     paste_by (is_feed b) line b (slice_split is_feed text)
-    ∙ lines_by (is_feed b) line _ _ (ended_after [] text) (ended_after (line ++ b ∷ []) text) (last_after [] text) (last_after (line ++ b ∷ []) text)
+    ∙ lines_by (is_feed b) line (ended_after [] text) (ended_after (line ++ b ∷ []) text) (last_after [] text) (last_after (line ++ b ∷ []) text)
     (sym (paste_nothing text) ∙ lines_are [] text) (lines_are (line ++ b ∷ []) text)
 
 pub ended_lines_are : (text : List ℕ) → ended_lines text ≡ ended_after [] text
@@ -84,23 +77,22 @@ abbrev is_other : ℕ → Bool
 is_other b = not (b == 10)
 
 -- what follows the last LF, after these bytes if there is none
-last_by : (feeds all : Bool) (line : List ℕ) (b : ℕ) (text : List ℕ) (found more : ℕ) → found ≤ length text → (found == length text) ≡ all
+last_by : (feeds all : Bool) (line : List ℕ) (b : ℕ) (text : List ℕ) (found : ℕ) {more : ℕ} → found ≤ length text → (found == length text) ≡ all
     → more ≡ suffix_by all (length text) found (if not feeds then 1 else 0)
-    → (if feeds then (if all then text else drop (length text - found) text)
-    else (if all then (line ++ b ∷ []) ++ text else drop (length text - found) text))
-    ≡ (if more == length (b ∷ text) then line ++ b ∷ text else drop (length (b ∷ text) - more) (b ∷ text))
-last_by true true line b text found more le e is =
+    → (if feeds then (if all then text else drop (length text - found) text) else (if all then (line ++ b ∷ []) ++ text else drop (length text - found)
+    text)) ≡ (if more == length (b ∷ text) then line ++ b ∷ text else drop (length (b ∷ text) - more) (b ∷ text))
+last_by true true line b text found {more} le e is =
     let other : (more == length (b ∷ text)) ≡ false = grind (arith, nat_tests) in
     let one : length (b ∷ text) - more ≡ 1 = omega arith in
     rw (other, one) refl
-last_by false true line b text found more le e is =
+last_by false true line b text found {more} le e is =
     let same : (more == length (b ∷ text)) ≡ true = grind (arith, nat_tests) in
     rw same (append_assoc line (b ∷ []) text)
-last_by true false line b text found more le e is =
+last_by true false line b text found {more} le e is =
     let other : (more == length (b ∷ text)) ≡ false = grind (arith, nat_tests) in
     let further : length (b ∷ text) - more ≡ suc (length text - found) = grind (arith, nat_tests) in
     rw (other, further) refl
-last_by false false line b text found more le e is =
+last_by false false line b text found {more} le e is =
     let other : (more == length (b ∷ text)) ≡ false = grind (arith, nat_tests) in
     let further : length (b ∷ text) - more ≡ suc (length text - found) = grind (arith, nat_tests) in
     rw (other, further) refl
@@ -111,7 +103,7 @@ unfolding last_after
 last_from line [] = sym (append-nil line)
 last_from line (b ∷ text) =
     ap₂ (λ (x y : List ℕ). if is_feed b then x else y) (last_from [] text) (last_from (line ++ b ∷ []) text)
-    ∙ last_by (is_feed b) (suffix_len is_other text == length text) line b text (suffix_len is_other text) (suffix_len is_other (b ∷ text))
+    ∙ last_by (is_feed b) (suffix_len is_other text == length text) line b text (suffix_len is_other text)
     (suffix_len-le-length is_other text) refl (suffix_len-cons is_other b text)
 
 if_same : (all : Bool) (found : ℕ) (text : List ℕ) → (found == length text) ≡ all
@@ -157,10 +149,10 @@ unfolding trimmed_end
 trimmed_end_is [] = refl
 trimmed_end_is (b ∷ text) = ap (onto_trimmed b) (trimmed_end_is text) ∙ end_by (suffix_len is_blank text == length text) b text refl
 
-start_count : (all : Bool) (long found first more front : ℕ) → found ≤ long → (found == long) ≡ all → first ≤ 1 → more ≡ suffix_by all long found first
-    → suc long - more - (1 + front) ≡ long - found - front
-start_count true long found first more front le e small is = grind (arith, nat_tests)
-start_count false long found first more front le e small is = omega arith
+start_count : (all : Bool) (long found first : ℕ) {more : ℕ} (front : ℕ) → found ≤ long → (found == long) ≡ all → first ≤ 1
+    → more ≡ suffix_by all long found first → suc long - more - (1 + front) ≡ long - found - front
+start_count true long found first front le e small is = grind (arith, nat_tests)
+start_count false long found first front le e small is = omega arith
 
 at_most_one : (b : Bool) → (if b then 1 else 0) ≤ 1
 at_most_one true = omega arith
@@ -171,7 +163,7 @@ trimmed_by : (blank : Bool) (b : ℕ) (text : List ℕ) → trimmed text ≡ tri
     (drop (cond blank (1 + prefix_len is_blank text) 0) (b ∷ text)) ≡ trimmed_end (if blank then trimmed_start text else b ∷ text)
 trimmed_by true b text is =
     let found : ℕ = suffix_len is_blank text in
-    let count = start_count (found == length text) (length text) found (if is_blank b then 1 else 0) (suffix_len is_blank (b ∷ text)) (prefix_len is_blank text)
+    let count = start_count (found == length text) (length text) found (if is_blank b then 1 else 0) (prefix_len is_blank text)
     (suffix_len-le-length is_blank text) refl (at_most_one (is_blank b)) (suffix_len-cons is_blank b text) in
     let further : 1 + prefix_len is_blank text ≡ suc (prefix_len is_blank text) = omega arith in
     ap₂ (λ (n m : ℕ). take n (drop m (b ∷ text))) count further ∙ is

@@ -1,14 +1,11 @@
 -- Words and numbers of a text that is read on by one byte, or split at white space.
-use Rattle.std.proofs.Common.{◌≡◌, ◌⊎◌, inl, inr, ℕ, ◌+◌, ◌-◌, ◌*◌, ◌<◌, Bool, true, false, not, ◌||◌, ◌==◌, List, [], ◌∷◌, ◌++◌, map, length, refl, sym, ap}
-use Rattle.std.proofs.Common.{subst, ◌∙◌, append_assoc, arith}
-use Rattle.std.specs.List.{onto_first}
-use Rattle.std.specs.Char.{digit_value}
-use Rattle.std.proofs.lemmas.Bool.Decides.{nat_tests}
-use Rattle.std.proofs.lemmas.List.{append-nil, map-append, length-append, length-map}
-use Rattle.std.proofs.lemmas.Int.Digits.{digits_value_push}
-use Rattle.pnm_read.specs.HeaderTexts.{ends_by, ends_in_comment, uncommented_from, uncommented, ends_in_word, numbers_in}
-use Rattle.pnm_image.specs.Texts.{is_white, is_digit, words, decimal_value}
-use Rattle.pnm_image.proofs.Words.{begins_in_word, words_by, words-cons, words-nil}
+use Rattle.pnm_read.proofs.Words.{◌≡◌, ◌⊎◌, inl, inr, ℕ, ◌+◌, ◌-◌, ◌*◌, ◌<◌, Bool, true, false, not, ◌||◌, ◌==◌, List, [], ◌∷◌, ◌++◌, map, length, refl, sym}
+use Rattle.pnm_read.proofs.Words.{ap, subst, ◌∙◌, append_assoc, arith, onto_first, digit_value, nat_tests, map-append, length-append, length-map}
+use Rattle.pnm_read.proofs.Words.{digits_value_push, ends_in_comment, uncommented, ends_in_word, numbers_in, is_white, is_digit, decimal_value, begins_in_word}
+use Rattle.pnm_read.proofs.Words.{words_by, words-cons, words-nil}
+use Rattle.std.proofs.lemmas.List.{append-nil}
+use Rattle.pnm_read.specs.HeaderTexts.{ends_by, uncommented_from}
+use Rattle.pnm_image.specs.Texts.{words}
 use Rattle.pnm_read.proofs.CommentLaws.{uncommented_from-append, ends_by-push}
 
 -- ---- kinds of bytes
@@ -156,31 +153,12 @@ unfolding uncommented_from
 uncommented-split a b c outside plain = uncommented_from-append false a (b ∷ c) ∙ ap (λ (i : Bool). uncommented a ++ uncommented_from i (b ∷ c)) outside
     ∙ rw plain refl
 
--- a byte outside comments that begins none
-pub uncommented-plain : (before : List ℕ) (b : ℕ) → ends_in_comment before ≡ false → (b == 35) ≡ false
-    → uncommented (before ++ b ∷ []) ≡ uncommented before ++ b ∷ []
-unfolding uncommented_from
-uncommented-plain before b outside plain = uncommented-split before b [] outside plain
-
 comment_is_cut_by : (inside : Bool) (b : ℕ) → (inside || (b == 35)) ≡ true → uncommented_from inside (b ∷ []) ≡ []
 unfolding uncommented_from
 comment_is_cut_by inside b h = rw h refl
 
 comment_is_cut : (inside : Bool) (b : ℕ) → (inside ≡ true) ⊎ (b ≡ 35) → uncommented_from inside (b ∷ []) ≡ []
 comment_is_cut inside b h = comment_is_cut_by inside b (grind (arith, nat_tests))
-
--- a byte inside a comment, or one that begins a comment
-pub uncommented-comment : (before : List ℕ) (b : ℕ) → (ends_in_comment before ≡ true) ⊎ (b ≡ 35) → uncommented (before ++ b ∷ []) ≡ uncommented before
-unfolding uncommented_from
-uncommented-comment before b h = uncommented_from-append false before (b ∷ [])
-    ∙ ap (λ (t : List ℕ). uncommented before ++ t) (comment_is_cut (ends_in_comment before) b h) ∙ append-nil (uncommented before)
-
-pub numbers-white : (before : List ℕ) (b : ℕ) → ends_in_comment before ≡ false → is_white b ≡ true → numbers_in (before ++ b ∷ []) ≡ numbers_in before
-numbers-white before b outside white = ap (λ (t : List ℕ). map decimal_value (words t)) (uncommented-plain before b outside (white_is_not_sharp b white))
-    ∙ ap (map decimal_value) (words-white (uncommented before) b white)
-
-pub numbers-comment : (before : List ℕ) (b : ℕ) → (ends_in_comment before ≡ true) ⊎ (b ≡ 35) → numbers_in (before ++ b ∷ []) ≡ numbers_in before
-numbers-comment before b h = ap (λ (t : List ℕ). map decimal_value (words t)) (uncommented-comment before b h)
 
 -- the number of one digit
 one_digit : (b : ℕ) → is_digit b ≡ true → decimal_value (b ∷ []) ≡ b - 48
@@ -190,42 +168,59 @@ one_digit b e = omega (arith, digits_value_push 10 [] b, digit_value_is b e)
 digit_more : (digits : List ℕ) (b : ℕ) → is_digit b ≡ true → decimal_value (digits ++ b ∷ []) ≡ decimal_value digits * 10 + (b - 48)
 digit_more digits b e = digits_value_push 10 digits b ∙ ap (λ (n : ℕ). decimal_value digits * 10 + n) (digit_value_is b e)
 
-pub numbers-first : (before : List ℕ) (b : ℕ) → ends_in_comment before ≡ false → is_digit b ≡ true → ends_in_word (uncommented before) ≡ false
-    → numbers_in (before ++ b ∷ []) ≡ numbers_in before ++ (b - 48) ∷ []
-numbers-first before b outside digit ends =
-    ap (λ (t : List ℕ). map decimal_value (words t)) (uncommented-plain before b outside (digit_is_not_sharp b digit))
-    ∙ ap (map decimal_value) (words-first (uncommented before) b (digit_is_not_white b digit) ends)
-    ∙ map-append decimal_value (words (uncommented before)) ((b ∷ []) ∷ [])
-    ∙ ap (λ (n : ℕ). numbers_in before ++ n ∷ []) (one_digit b digit)
+module _ (before : List ℕ) (b : ℕ) where
+  -- a byte outside comments that begins none
+  pub uncommented-plain : ends_in_comment before ≡ false → (b == 35) ≡ false → uncommented (before ++ b ∷ []) ≡ uncommented before ++ b ∷ []
+  unfolding uncommented_from
+  uncommented-plain outside plain = uncommented-split before b [] outside plain
 
-pub numbers-next : (before : List ℕ) (b : ℕ) → ends_in_comment before ≡ false → is_digit b ≡ true → ends_in_word (uncommented before) ≡ true
-    → (prefix : List ℕ) × (last : ℕ) × (numbers_in before ≡ prefix ++ last ∷ []) × (numbers_in (before ++ b ∷ []) ≡ prefix ++ (last * 10 + (b - 48)) ∷ [])
-numbers-next before b outside digit ends =
-    let g = words-next (uncommented before) b (digit_is_not_white b digit) ends in (
-      map decimal_value g.0,
-      decimal_value g.1,
-      ap (map decimal_value) g.2 ∙ map-append decimal_value g.0 (g.1 ∷ []),
-      ap (λ (t : List ℕ). map decimal_value (words t)) (uncommented-plain before b outside (digit_is_not_sharp b digit)) ∙ ap (map decimal_value) g.3
-          ∙ map-append decimal_value g.0 ((g.1 ++ b ∷ []) ∷ []) ∙ ap (λ (n : ℕ). map decimal_value g.0 ++ n ∷ []) (digit_more g.1 b digit),
-    )
+  -- a byte inside a comment, or one that begins a comment
+  pub uncommented-comment : (ends_in_comment before ≡ true) ⊎ (b ≡ 35) → uncommented (before ++ b ∷ []) ≡ uncommented before
+  unfolding uncommented_from
+  uncommented-comment h = uncommented_from-append false before (b ∷ [])
+      ∙ ap (λ (t : List ℕ). uncommented before ++ t) (comment_is_cut (ends_in_comment before) b h) ∙ append-nil (uncommented before)
 
--- ---- whether a text with one byte more ends in a word, comments cut out
+  pub numbers-white : ends_in_comment before ≡ false → is_white b ≡ true → numbers_in (before ++ b ∷ []) ≡ numbers_in before
+  numbers-white outside white = ap (λ (t : List ℕ). map decimal_value (words t)) (uncommented-plain outside (white_is_not_sharp b white))
+      ∙ ap (map decimal_value) (words-white (uncommented before) b white)
 
--- a byte outside comments that begins none
-pub ends_in_word-push : (before : List ℕ) (b : ℕ) → ends_in_comment before ≡ false → (b == 35) ≡ false
-    → ends_in_word (uncommented (before ++ b ∷ [])) ≡ not (is_white b)
-ends_in_word-push before b outside plain = ap ends_in_word (uncommented-plain before b outside plain)
-    ∙ ends_by-push (λ x. not (is_white x)) (uncommented before) b
+  pub numbers-comment : (ends_in_comment before ≡ true) ⊎ (b ≡ 35) → numbers_in (before ++ b ∷ []) ≡ numbers_in before
+  numbers-comment h = ap (λ (t : List ℕ). map decimal_value (words t)) (uncommented-comment h)
 
-pub ends_in_word-white : (before : List ℕ) (b : ℕ) → ends_in_comment before ≡ false → is_white b ≡ true → ends_in_word (uncommented (before ++ b ∷ [])) ≡ false
-ends_in_word-white before b outside white = ends_in_word-push before b outside (white_is_not_sharp b white) ∙ ap not white
+  pub numbers-first : ends_in_comment before ≡ false → is_digit b ≡ true → ends_in_word (uncommented before) ≡ false
+      → numbers_in (before ++ b ∷ []) ≡ numbers_in before ++ (b - 48) ∷ []
+  numbers-first outside digit ends =
+      ap (λ (t : List ℕ). map decimal_value (words t)) (uncommented-plain outside (digit_is_not_sharp b digit))
+      ∙ ap (map decimal_value) (words-first (uncommented before) b (digit_is_not_white b digit) ends)
+      ∙ map-append decimal_value (words (uncommented before)) ((b ∷ []) ∷ [])
+      ∙ ap (λ (n : ℕ). numbers_in before ++ n ∷ []) (one_digit b digit)
 
-pub ends_in_word-comment : (before : List ℕ) (b : ℕ) → (ends_in_comment before ≡ true) ⊎ (b ≡ 35)
-    → ends_in_word (uncommented (before ++ b ∷ [])) ≡ ends_in_word (uncommented before)
-ends_in_word-comment before b h = ap ends_in_word (uncommented-comment before b h)
+  pub numbers-next : ends_in_comment before ≡ false → is_digit b ≡ true → ends_in_word (uncommented before) ≡ true
+      → (prefix : List ℕ) × (last : ℕ) × (numbers_in before ≡ prefix ++ last ∷ []) × (numbers_in (before ++ b ∷ []) ≡ prefix ++ (last * 10 + (b - 48)) ∷ [])
+  numbers-next outside digit ends =
+      let g = words-next (uncommented before) b (digit_is_not_white b digit) ends in (
+        map decimal_value g.0,
+        decimal_value g.1,
+        ap (map decimal_value) g.2 ∙ map-append decimal_value g.0 (g.1 ∷ []),
+        ap (λ (t : List ℕ). map decimal_value (words t)) (uncommented-plain outside (digit_is_not_sharp b digit)) ∙ ap (map decimal_value) g.3
+            ∙ map-append decimal_value g.0 ((g.1 ++ b ∷ []) ∷ []) ∙ ap (λ (n : ℕ). map decimal_value g.0 ++ n ∷ []) (digit_more g.1 b digit),
+      )
 
-pub ends_in_word-digit : (before : List ℕ) (b : ℕ) → ends_in_comment before ≡ false → is_digit b ≡ true → ends_in_word (uncommented (before ++ b ∷ [])) ≡ true
-ends_in_word-digit before b outside digit = ends_in_word-push before b outside (digit_is_not_sharp b digit) ∙ ap not (digit_is_not_white b digit)
+  -- ---- whether a text with one byte more ends in a word, comments cut out
+
+  -- a byte outside comments that begins none
+  pub ends_in_word-push : ends_in_comment before ≡ false → (b == 35) ≡ false → ends_in_word (uncommented (before ++ b ∷ [])) ≡ not (is_white b)
+  ends_in_word-push outside plain = ap ends_in_word (uncommented-plain outside plain)
+      ∙ ends_by-push (λ x. not (is_white x)) (uncommented before) b
+
+  pub ends_in_word-white : ends_in_comment before ≡ false → is_white b ≡ true → ends_in_word (uncommented (before ++ b ∷ [])) ≡ false
+  ends_in_word-white outside white = ends_in_word-push outside (white_is_not_sharp b white) ∙ ap not white
+
+  pub ends_in_word-comment : (ends_in_comment before ≡ true) ⊎ (b ≡ 35) → ends_in_word (uncommented (before ++ b ∷ [])) ≡ ends_in_word (uncommented before)
+  ends_in_word-comment h = ap ends_in_word (uncommented-comment h)
+
+  pub ends_in_word-digit : ends_in_comment before ≡ false → is_digit b ≡ true → ends_in_word (uncommented (before ++ b ∷ [])) ≡ true
+  ends_in_word-digit outside digit = ends_in_word-push outside (digit_is_not_sharp b digit) ∙ ap not (digit_is_not_white b digit)
 
 -- ---- texts that end in a word
 

@@ -1,28 +1,22 @@
 -- A sample that is stored so many times, several at once.
-use Rattle.std.proofs.Common.{◌≡◌, ℕ, ◌+◌, ◌-◌, ◌*◌, ◌≤◌, ◌<◌, List, [], ◌∷◌, ◌++◌, length, take, drop, get_or, set, replicate, refl, sym, ap, ◌∙◌, arith}
-use borrow.Rule.Slice.PartMut.{put_mid}
-use Rattle.std.proofs.Math.Seq.{take-append-add}
-use Rattle.std.proofs.lemmas.List.{append_assoc, length-append, length-drop, length-replicate, length-take-le, replicate-append-replicate, take_at}
-use Rattle.std.proofs.lemmas.List.{take_more_set, take-replicate, take-take}
-use Rattle.std.proofs.lemmas.Slice.{take-put_mid}
-use Rattle.pnm_tools.specs.Enlarge.{copies_of}
-use Rattle.pnm_tools.proofs.PixelLaws.{color_of, pixel_of_one}
+use Rattle.pnm_repeat_tools.proofs.Words.{◌≡◌, ℕ, ◌+◌, ◌-◌, ◌*◌, ◌≤◌, ◌<◌, List, [], ◌∷◌, ◌++◌, length, take, drop, get_or, set, replicate, refl, sym, ap, ◌∙◌}
+use Rattle.pnm_repeat_tools.proofs.Words.{arith, put_mid, take-append-add, append_assoc, length-append, length-drop, length-replicate, length-take-le}
+use Rattle.pnm_repeat_tools.proofs.Words.{replicate-append-replicate, take_at, take_more_set, take-replicate, take-take, take-put_mid, copies_of, color_of}
+use Rattle.pnm_repeat_tools.proofs.Words.{pixel_of_one, length_of_equals, pieces_alike_from, pieces_in_parts, replicated}
 use Rattle.pnm_repeat_tools.proofs.EnlargeRowLaws.{column_more, columns_repeated}
-use Rattle.pnm_tools.proofs.RangeLaws.{length_of_equals, pieces_alike_from, pieces_in_parts, replicated}
 
 -- several more
-pub copies_more : {X : Type 0} (buffer prefix copies : List X) (place k m next : ℕ) (v : X) → take place buffer ≡ prefix ++ replicate k v
-    → copies ≡ replicate m v → place ≤ length buffer → next ≡ place + m
-    → take next (put_mid place m buffer copies) ≡ prefix ++ replicate (k + m) v
-copies_more {X = X} buffer prefix copies place k m next v was is within on =
+pub copies_more : {X : Type 0} (buffer prefix : List X) {copies : List X} (place k m : ℕ) {next : ℕ} (v : X) → take place buffer ≡ prefix ++ replicate k v
+    → copies ≡ replicate m v → place ≤ length buffer → next ≡ place + m → take next (put_mid place m buffer copies) ≡ prefix ++ replicate (k + m) v
+copies_more {X = X} buffer prefix {copies} place k m {next} v was is within on =
     let size : length copies ≡ m = ap length is ∙ length-replicate m v in
     take-put_mid place m buffer copies next (omega arith) within ∙ ap (λ (l : List X). l ++ copies) was ∙ append_assoc prefix (replicate k v) copies
     ∙ ap (λ (l : List X). prefix ++ (replicate k v ++ l)) is ∙ ap (λ (l : List X). prefix ++ l) (replicate-append-replicate k m v)
 
 -- the buffer keeps its length
-pub length_with : {X : Type 0} (buffer copies : List X) (place m : ℕ) → length copies ≡ m → place + m ≤ length buffer
+pub length_with : {X : Type 0} (buffer copies : List X) (place : ℕ) {m : ℕ} → length copies ≡ m → place + m ≤ length buffer
     → length (put_mid place m buffer copies) ≡ length buffer
-length_with {X = X} buffer copies place m size fits =
+length_with {X = X} buffer copies place {m} size fits =
     let rest : List X = drop m (drop place buffer) in
     omega (
       arith,
@@ -52,15 +46,13 @@ copies_stored {X = X} buffer old at count place v within enough was =
     ∙ take-append-add prefix (replicate (place - at) v) count ∙ ap (λ (l : List X). prefix ++ l) (take-replicate count (place - at) v (omega arith))
 
 -- a sample of the row more, so many times
-pub sample_repeated : {X : Type 0} (across i : ℕ) (row buffer new : List X) (v : X) → take (i * across) buffer ≡ columns_repeated across 1 row i
-    → i < length row → v ≡ get_or row i v
-    → take (i * across + across) new ≡ take (i * across) buffer ++ replicate across v → take ((i + 1) * across) new ≡ columns_repeated across 1 row (i + 1)
-sample_repeated {X = X} across i row buffer new v was below is stored =
+pub sample_repeated : {X : Type 0} (across i : ℕ) (row buffer new : List X) {v : X} → take (i * across) buffer ≡ columns_repeated across 1 row i
+    → i < length row → v ≡ get_or row i v → take (i * across + across) new ≡ take (i * across) buffer ++ replicate across v
+    → take ((i + 1) * across) new ≡ columns_repeated across 1 row (i + 1)
+sample_repeated {X = X} across i row buffer new {v} was below is stored =
     let place : (i + 1) * across ≡ i * across + across = omega arith in
-    column_more across 1 row (take (i * across) buffer) (take ((i + 1) * across) new) i across (i * 1) 1 was
-    (ap (λ (n : ℕ). take n new) place ∙ stored
-    ∙ ap (λ (l : List X). take (i * across) buffer ++ l) (sym (ap (copies_of across) (pixel_of_one row i v below is) ∙ replicated v 0 across)))
-    refl refl refl
+    column_more 1 row i (i * 1) 1 was (ap (λ (n : ℕ). take n new) place ∙ stored
+    ∙ ap (λ (l : List X). take (i * across) buffer ++ l) (sym (ap (copies_of across) (pixel_of_one row i v below is) ∙ replicated v 0 across))) refl refl refl
 
 -- ---- three samples
 
@@ -70,10 +62,10 @@ repeated_add {X = X} k m pixel =
     pieces_in_parts (λ _. pixel) 0 k m ∙ ap (λ (l : List X). copies_of k pixel ++ l) (pieces_alike_from (λ _. pixel) (λ _. pixel) (0 + k) 0 m (λ i lt. refl))
 
 -- several more
-pub colors_more : {X : Type 0} (buffer new prefix copies pixel : List X) (place k m next : ℕ) → take place buffer ≡ prefix ++ copies_of k pixel
-    → take (place + length copies) new ≡ take place buffer ++ copies → copies ≡ copies_of m pixel → next ≡ place + length copies
-    → take next new ≡ prefix ++ copies_of (k + m) pixel
-colors_more {X = X} buffer new prefix copies pixel place k m next was stored is on =
+pub colors_more : {X : Type 0} (buffer new prefix : List X) {copies : List X} (pixel : List X) (place k m next : ℕ)
+    → take place buffer ≡ prefix ++ copies_of k pixel → take (place + length copies) new ≡ take place buffer ++ copies → copies ≡ copies_of m pixel
+    → next ≡ place + length copies → take next new ≡ prefix ++ copies_of (k + m) pixel
+colors_more {X = X} buffer new prefix {copies} pixel place k m next was stored is on =
     ap (λ (n : ℕ). take n new) on ∙ stored ∙ ap (λ (l : List X). l ++ copies) was ∙ append_assoc prefix (copies_of k pixel) copies
     ∙ ap (λ (l : List X). prefix ++ (copies_of k pixel ++ l)) is ∙ ap (λ (l : List X). prefix ++ l) (sym (repeated_add k m pixel))
 
@@ -96,11 +88,12 @@ colors_stored {X = X} buffer old pixel at count k three within enough was =
     ∙ ap (λ (l : List X). prefix ++ l) (take_at (copies_of count pixel) rest (count * 3) size)
 
 -- a pixel of the row more, so many times
-pub color_repeated : {X : Type 0} (across x n : ℕ) (row buffer new color : List X) → take (3 * x * across) buffer ≡ columns_repeated across 3 row x
-    → color ≡ take 3 (drop n row) → n ≡ 3 * x → take (3 * x * across + 3 * across) new ≡ take (3 * x * across) buffer ++ copies_of across color
+pub color_repeated : {X : Type 0} (across x : ℕ) {n : ℕ} (row buffer new : List X) {color : List X}
+    → take (3 * x * across) buffer ≡ columns_repeated across 3 row x → color ≡ take 3 (drop n row) → n ≡ 3 * x
+    → take (3 * x * across + 3 * across) new ≡ take (3 * x * across) buffer ++ copies_of across color
     → take (3 * (x + 1) * across) new ≡ columns_repeated across 3 row (x + 1)
-color_repeated {X = X} across x n row buffer new color was is at stored =
+color_repeated {X = X} across x {n} row buffer new {color} was is at stored =
     let place : 3 * (x + 1) * across ≡ 3 * x * across + 3 * across = omega arith in
-    column_more across 3 row (take (3 * x * across) buffer) (take (3 * (x + 1) * across) new) x across (x * 3) 3 was
+    column_more 3 row x (x * 3) 3 was
     (ap (λ (k : ℕ). take k new) place ∙ stored ∙ ap (λ (l : List X). take (3 * x * across) buffer ++ copies_of across l) (color_of row color n x is at))
     refl refl refl

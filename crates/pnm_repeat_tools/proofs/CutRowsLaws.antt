@@ -1,10 +1,5 @@
 -- Rows of a shape.
-use Rattle.std.proofs.Common.{◌≡◌, ℕ, List, length, All}
-use Rattle.std.specs.List.{AllByRecursion}
-use Rattle.std.proofs.lemmas.List.Elements.{All-from_recursion}
-use Rattle.pnm_image.specs.declared.shape.Shape.{Shape}
-use Rattle.pnm_image.specs.Heads.{row_length}
-use Rattle.pnm_image.specs.Places.{IsRowOf}
+use Rattle.pnm_repeat_tools.proofs.Words.{◌≡◌, ℕ, List, length, All, AllByRecursion, All-from_recursion, Shape, row_length, IsRowOf}
 use Rattle.pnm_repeat_tools.proofs.EnlargedRowsLaws.{each_of}
 
 -- each row of a shape has its row length

@@ -1,21 +1,10 @@
 -- Rows that come together, enlarged: all their pixels as those of one long row, and the rows as pixels of a column.
-use Rattle.std.proofs.Common.{◌≡◌, ℕ, zero, suc, ◌+◌, ◌-◌, ◌*◌, ◌≤◌, ◌<◌, List, [], ◌∷◌, ◌++◌, length, map, take, drop, replicate, refl, sym, ap}
-use Rattle.std.proofs.Common.{◌∙◌, arith, mul-le-mul, suc-mul, zero-mul, append-nil, append_assoc, length-take-le, length-drop}
-use Rattle.std.specs.List.{AllByRecursion, concat, flat_map, range_with_len}
-use Rattle.std.proofs.lemmas.List.{drop_at, drop-drop, drop-take, length-append, length-replicate, take_all, take_at, take-take}
-use Rattle.pnm_image.specs.declared.shape.Shape.{Shape}
-use Rattle.pnm_image.specs.Images.{cut_rows}
-use Rattle.pnm_image.specs.Heads.{row_length}
-use Rattle.pnm_image.specs.Places.{IsRowOf}
-use Rattle.pnm_image.proofs.RowLaws.{concat-cut_rows, lengths_of_cut_rows}
-use Rattle.pnm_samples.proofs.CutLaws.{length-cut_rows}
-use Rattle.pnm_tools.specs.declared.tool.Tool.TheVariants.{Enlarge}
-use Rattle.pnm_tools.specs.Answering.{rows_answer}
-use Rattle.pnm_tools.specs.Enlarge.{enlarged_row, copies_of}
-use Rattle.pnm_tools.specs.PixelSamples.{pixel_of}
-use Rattle.pnm_tools.proofs.PickLaws.{columns_end}
-use Rattle.pnm_tools.proofs.RangeLaws.{pieces_in_parts, pieces_alike_from, length_of_equals}
-use Rattle.pnm_tools.proofs.RowLaws.{row_of_enlarge}
+use Rattle.pnm_repeat_tools.proofs.Words.{◌≡◌, ℕ, zero, suc, ◌+◌, ◌-◌, ◌*◌, ◌≤◌, ◌<◌, List, [], ◌∷◌, ◌++◌, length, map, take, drop, replicate, refl, sym, ap}
+use Rattle.pnm_repeat_tools.proofs.Words.{◌∙◌, arith, mul-le-mul, suc-mul, zero-mul, AllByRecursion, concat, flat_map, range_with_len, drop_at, drop-drop}
+use Rattle.pnm_repeat_tools.proofs.Words.{drop-take, length-append, length-replicate, take_all, take_at, take-take, Shape, cut_rows, row_length, IsRowOf}
+use Rattle.pnm_repeat_tools.proofs.Words.{concat-cut_rows, lengths_of_cut_rows, length-cut_rows, Enlarge, rows_answer, enlarged_row, copies_of, pixel_of}
+use Rattle.pnm_repeat_tools.proofs.Words.{columns_end, pieces_in_parts, pieces_alike_from, length_of_equals, row_of_enlarge}
+use Rattle.std.proofs.Common.{append-nil, append_assoc, length-take-le, length-drop}
 use Rattle.pnm_repeat_tools.proofs.EnlargeRowLaws.{columns_repeated, one_more_column}
 
 -- each is as long as the others
@@ -93,8 +82,8 @@ each_repeated across d w (row ∷ rows) are =
 -- ---- how many samples are made
 
 -- so many of a list
-length_of_copies : (n size : ℕ) (l : List ℕ) → length l ≡ size → length (copies_of n l) ≡ n * size
-length_of_copies n size l long = length_of_equals (λ _. l) size 0 n (λ x. long)
+length_of_copies : (n : ℕ) {size : ℕ} (l : List ℕ) → length l ≡ size → length (copies_of n l) ≡ n * size
+length_of_copies n {size} l long = length_of_equals (λ _. l) size 0 n (λ x. long)
 
 -- of the first columns
 length_repeated : (across d n : ℕ) (row : List ℕ) → n * d ≤ length row → length (columns_repeated across d row n) ≡ n * across * d
@@ -108,7 +97,7 @@ length_repeated across d (suc n) row le =
     ap (λ (k : ℕ). length (columns_repeated across d row k)) more ∙ ap length (one_more_column across d row n)
     ∙ length-append (columns_repeated across d row n) (copies_of across pixel)
     ∙ ap (λ (k : ℕ). k + length (copies_of across pixel)) (length_repeated across d n row (omega (arith, before)))
-    ∙ ap (λ (k : ℕ). n * across * d + k) (length_of_copies across d pixel size) ∙ total
+    ∙ ap (λ (k : ℕ). n * across * d + k) (length_of_copies across pixel size) ∙ total
 
 -- ---- rows as pixels of a column
 
@@ -117,13 +106,13 @@ copies_together : (n a : ℕ) (row : List ℕ) → flat_map (λ _. row) (range_w
 copies_together zero a row = refl
 copies_together (suc n) a row = ap (λ (l : List ℕ). row ++ l) (copies_together n (a + 1) row)
 
-copies_each : (n each : ℕ) (row : List ℕ) → length row ≡ each → AreEach each (replicate n row)
-copies_each zero each row long = tt
-copies_each (suc n) each row long = (long, copies_each n each row long)
+copies_each : (n : ℕ) {each : ℕ} (row : List ℕ) → length row ≡ each → AreEach each (replicate n row)
+copies_each zero row long = tt
+copies_each (suc n) row long = (long, copies_each n row long)
 
 -- a row that is one pixel
-one_pixel : (down each : ℕ) (row : List ℕ) → length row ≡ each → columns_repeated down each row 1 ≡ concat (replicate down row)
-one_pixel down each row long =
+one_pixel : (down : ℕ) {each : ℕ} (row : List ℕ) → length row ≡ each → columns_repeated down each row 1 ≡ concat (replicate down row)
+one_pixel down {each} row long =
     append-nil (copies_of down (pixel_of each row 0))
     ∙ ap (λ (n : ℕ). copies_of down (take each (drop n row))) (zero-mul each)
     ∙ ap (copies_of down) (take_all each row (omega (arith, long)))
@@ -133,7 +122,7 @@ one_pixel down each row long =
 repeated_each : (down each : ℕ) (rows : List (List ℕ)) → AreEach each rows → AreEach each (flat_map (replicate down) rows)
 repeated_each down each [] are = tt
 repeated_each down each (row ∷ rows) are =
-    each_in_parts each (replicate down row) (flat_map (replicate down) rows) (copies_each down each row are.0) (repeated_each down each rows are.1)
+    each_in_parts each (replicate down row) (flat_map (replicate down) rows) (copies_each down row are.0) (repeated_each down each rows are.1)
 
 repeated_many : (down : ℕ) (rows : List (List ℕ)) → length (flat_map (replicate down) rows) ≡ length rows * down
 repeated_many down [] = sym (zero-mul down)
@@ -150,7 +139,7 @@ rows_together : (down each : ℕ) (rows : List (List ℕ)) → AreEach each rows
     → concat (map (λ row. columns_repeated down each row 1) rows) ≡ concat (flat_map (replicate down) rows)
 rows_together down each [] are = refl
 rows_together down each (row ∷ rows) are =
-    ap (λ (l : List ℕ). l ++ concat (map (λ row. columns_repeated down each row 1) rows)) (one_pixel down each row are.0)
+    ap (λ (l : List ℕ). l ++ concat (map (λ row. columns_repeated down each row 1) rows)) (one_pixel down row are.0)
     ∙ ap (λ (l : List ℕ). concat (replicate down row) ++ l) (rows_together down each rows are.1)
     ∙ sym (together_in_parts (replicate down row) (flat_map (replicate down) rows))
 
@@ -170,9 +159,9 @@ rows_repeated down each rows are =
     ∙ cut_again each (flat_map (replicate down) rows) (repeated_each down each rows are)
 
 -- samples that are cut into rows, each so many times
-pub repeated_cut : (down count each : ℕ) (samples made : List ℕ) → length samples ≡ count * each → made ≡ columns_repeated down each samples count
+pub repeated_cut : (down count each : ℕ) (samples : List ℕ) {made : List ℕ} → length samples ≡ count * each → made ≡ columns_repeated down each samples count
     → (cut_rows (count * down) each made ≡ flat_map (replicate down) (cut_rows count each samples)) × (length made ≡ count * down * each)
-repeated_cut down count each samples made long is =
+repeated_cut down count each samples long is =
     let rows : List (List ℕ) = cut_rows count each samples in
     let are : AreEach each rows = lengths_of_cut_rows count each samples long in
     let all : concat rows ≡ samples = concat-cut_rows count each samples long in
@@ -211,10 +200,10 @@ answers_are across down s y (row ∷ rows) =
     ∙ ap (λ (l : List (List ℕ)). replicate down (enlarged_row across s row) ++ l) (answers_are across down s (y + 1) rows)
 
 -- each row by itself, of all samples, which are seen as one long row
-pub widened_cut : (across count : ℕ) (s long : Shape) (rows : List (List ℕ)) (samples made : List ℕ) → AreEach (row_length s) rows → length rows ≡ count
-    → samples ≡ concat rows → long.width ≡ s.width * count → long.depth ≡ s.depth → made ≡ enlarged_row across long samples
+pub widened_cut : (across : ℕ) {count : ℕ} (s long : Shape) (rows : List (List ℕ)) {samples made : List ℕ} → AreEach (row_length s) rows
+    → length rows ≡ count → samples ≡ concat rows → long.width ≡ s.width * count → long.depth ≡ s.depth → made ≡ enlarged_row across long samples
     → (cut_rows count (row_length s * across) made ≡ map (enlarged_row across s) rows) × (length made ≡ count * (row_length s * across))
-widened_cut across count s long rows samples made are many all wide deep is =
+widened_cut across {count} s long rows {made} are many all wide deep is =
     let E : List ℕ → List ℕ = enlarged_row across s in
     let rs : List (List ℕ) = map E rows in
     let W : ℕ = s.width * across * s.depth in
@@ -235,9 +224,9 @@ widened_cut across count s long rows samples made are many all wide deep is =
 -- ---- numbers that stay small
 
 -- the result has each pixel, and each row so many times
-pub pixels_below : (width depth across down count filled : ℕ) → 1 ≤ depth → 1 ≤ across → 1 ≤ down → filled ≡ count * (width * depth * across * down)
+pub pixels_below : (width depth across down count : ℕ) {filled : ℕ} → 1 ≤ depth → 1 ≤ across → 1 ≤ down → filled ≡ count * (width * depth * across * down)
     → width * count ≤ filled
-pixels_below width depth across down count filled deep wide high is =
+pixels_below width depth across down count deep wide high is =
     let one : 1 * 1 ≤ depth * across = mul-le-mul {n₁ = 1} {m₁ = 1} {n₂ = depth} {m₂ = across} deep wide in
     let some : 1 * 1 ≤ depth * across * down = mul-le-mul {n₁ = 1} {m₁ = 1} {n₂ = depth * across} {m₂ = down} (omega (arith, one)) high in
     let all : width * count * 1 ≤ width * count * (depth * across * down) =

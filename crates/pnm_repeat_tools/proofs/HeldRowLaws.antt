@@ -1,23 +1,15 @@
 -- Rows as they are held: samples that are cut into rows, and pixels in bytes.
-use Rattle.std.proofs.Common.{◌≡◌, ℕ, zero, suc, ◌+◌, ◌*◌, List, [], ◌∷◌, ◌++◌, length, map, take, drop, replicate, All, refl, sym, ap, ap₂, subst}
-use Rattle.std.proofs.Common.{◌∙◌, arith}
-use Rattle.std.specs.List.{flat_map}
-use Rattle.std.proofs.lemmas.List.{map-append, take-take}
+use Rattle.pnm_repeat_tools.proofs.Words.{◌≡◌, ℕ, zero, suc, ◌+◌, ◌*◌, List, [], ◌∷◌, ◌++◌, length, map, take, drop, replicate, All, refl, sym, ap, ap₂, subst}
+use Rattle.pnm_repeat_tools.proofs.Words.{◌∙◌, arith, flat_map, map-append, take-take, bytes_for, rows_of_bytes, all_pixels, take-all_pixels, length_of_rows}
+use Rattle.pnm_repeat_tools.proofs.Words.{RowVec, length_of_bits, HoldsRows}
 use Rattle.pnm_samples.specs.Cuts.{cut_rows}
-use Rattle.pnm_samples.specs.PixelRows.{bytes_for, rows_of_bytes}
-use Rattle.pnm_samples.specs.Pixels.{all_pixels}
-use Rattle.pnm_samples.proofs.PixelLaws.{take-all_pixels}
-use Rattle.pnm_samples.proofs.PixelRowsLaws.{length_of_rows}
-use Rattle.pnm_image.specs.declared.rows.RowVec.{RowVec}
-use Rattle.pnm_image.proofs.HeldRowLaws.{length_of_bits}
-use Rattle.pnm_image.specs.HeldRows.{HoldsRows}
 use Rattle.pnm_repeat_tools.proofs.EnlargeRowLaws.{columns_repeated}
 use Rattle.pnm_repeat_tools.proofs.EnlargedRowsLaws.{repeated_cut}
 
 -- the same rows, as many and as long
-pub holds_as : (count each many long : ℕ) (rows same : List (List ℕ)) (held : RowVec) → count ≡ many → each ≡ long → rows ≡ same
+pub holds_as : (count : ℕ) {each : ℕ} (many : ℕ) {long : ℕ} {rows same : List (List ℕ)} (held : RowVec) → count ≡ many → each ≡ long → rows ≡ same
     → HoldsRows count each rows held → HoldsRows many long same held
-holds_as count each many long rows same held counts lengths are h =
+holds_as count {each} many {long} {same} held counts lengths are h =
     subst (λ (n : ℕ). HoldsRows n long same held) counts
     (subst (λ (n : ℕ). HoldsRows count n same held) lengths (subst (λ (l : List (List ℕ)). HoldsRows count each l held) are h))
 
@@ -44,12 +36,12 @@ map_repeated f down (row ∷ rows) =
     ∙ ap₂ (λ (a b : List (List ℕ)). a ++ b) (map_copies f down row) (map_repeated f down rows)
 
 -- the bytes of each so many times
-pub repeated_bits : (down count each : ℕ) (bytes made : List ℕ) (rows new : List (List ℕ)) → length bytes ≡ count * bytes_for each
+pub repeated_bits : (down count each : ℕ) (bytes : List ℕ) {made : List ℕ} {rows new : List (List ℕ)} → length bytes ≡ count * bytes_for each
     → rows_of_bytes count each bytes ≡ rows → made ≡ columns_repeated down (bytes_for each) bytes count → new ≡ rows_of_bytes (count * down) each made
     → (new ≡ flat_map (replicate down) rows) × ((length new ≡ count * down) × All (λ row. length row ≡ each) new)
-repeated_bits down count each bytes made rows new long are is held =
+repeated_bits down count each bytes {made} {rows} long are is held =
     let f : List ℕ → List ℕ = λ part. take each (all_pixels part) in
-    let cut = repeated_cut down count (bytes_for each) bytes made long is in
+    let cut = repeated_cut down count (bytes_for each) bytes long is in
     let all : rows_of_bytes (count * down) each made ≡ flat_map (replicate down) rows =
     pixels_of_parts (count * down) each made ∙ ap (map f) cut.0 ∙ map_repeated f down (cut_rows count (bytes_for each) bytes)
     ∙ ap (flat_map (replicate down)) (sym (pixels_of_parts count each bytes) ∙ are) in (

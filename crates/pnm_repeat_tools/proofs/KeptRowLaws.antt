@@ -1,16 +1,8 @@
 -- Rows that are kept, as they are held.
-use Rattle.std.proofs.Common.{◌≡◌, ℕ, zero, suc, ◌+◌, ◌-◌, ◌*◌, ◌≤◌, ◌<◌, List, [], ◌++◌, length, get_or, map, take, drop, All, Result, Ok, Err, OnErr}
-use Rattle.std.proofs.Common.{inl, inr, ◌⊎◌, sym, ap, ap₂, subst, ◌∙◌, arith, suc-mul, zero-mul, mul-le-mul_right}
-use Rattle.std.proofs.Math.Seq.{take-add}
-use Rattle.std.proofs.lemmas.List.{length-map, length-take-le, nil_from_length}
-use Rattle.std.proofs.lemmas.List.Elements.{All-map, All-take}
-use Rattle.std.proofs.lemmas.Bool.{cases_lt}
-use Rattle.pnm_image.specs.declared.rows.RowVec.{RowVec}
-use Rattle.pnm_image.specs.declared.rows.RowVec.TheVariants.{Bits, Bytes, Words}
-use Rattle.pnm_image.specs.HeldRows.{AreRows, HoldsRows, row_lists}
-use Rattle.pnm_image.specs.Images.{cut_rows}
-use Rattle.pnm_image.proofs.HeldRowLaws.{cut_behind, length_of_lists, lengths_of_lists, one_length}
-use Rattle.pnm_repeat_tools.specs.Internal.Keeping.{fronts_in}
+use Rattle.pnm_repeat_tools.proofs.Words.{◌≡◌, ℕ, zero, suc, ◌+◌, ◌-◌, ◌*◌, ◌≤◌, ◌<◌, List, [], ◌++◌, length, get_or, map, take, drop, All, Result, Ok, Err}
+use Rattle.pnm_repeat_tools.proofs.Words.{OnErr, inl, inr, ◌⊎◌, sym, ap, ap₂, subst, ◌∙◌, arith, suc-mul, zero-mul, mul-le-mul_right, take-add, length-map}
+use Rattle.pnm_repeat_tools.proofs.Words.{length-take-le, nil_from_length, All-map, All-take, cases_lt, RowVec, Bits, Bytes, Words, AreRows, HoldsRows}
+use Rattle.pnm_repeat_tools.proofs.Words.{row_lists, cut_rows, cut_behind, length_of_lists, lengths_of_lists, one_length, fronts_in}
 use Rattle.pnm_repeat_tools.proofs.TileRowsLaws.{cut_of_more, fronts_cut, fronts_long}
 
 -- what is known anyway
@@ -18,49 +10,43 @@ pub known_on_err : {T E P : Type 0} (r : Result T E) → P → OnErr r P
 known_on_err (Ok x) p = tt
 known_on_err (Err e) p = p
 
--- ---- the length of rows that are held
-
--- it is that of any of them
-pub held_length : (count each other : ℕ) (held : RowVec) (rows : List (List ℕ)) → AreRows count each held → row_lists count each held ≡ rows → 0 < count
-    → All (λ row. length row ≡ other) rows → other ≡ each
-held_length count each other held rows are is some long =
-    let many : length rows ≡ count = ap length (sym is) ∙ length_of_lists count each held are in
-    one_length each other rows (omega (arith, many, some))
-    (subst (All (λ (row : List ℕ). length row ≡ each)) is (lengths_of_lists count each held are)) long
-
 -- no row is as long as any
-pub none_held : (count each : ℕ) (held : RowVec) → AreRows count each held → count ≡ 0 → row_lists count each held ≡ []
-none_held count each held are none = nil_from_length (row_lists count each held) (length_of_lists count each held are ∙ none)
+pub none_held : {count : ℕ} (each : ℕ) (held : RowVec) → AreRows count each held → count ≡ 0 → row_lists count each held ≡ []
+none_held {count} each held are none = nil_from_length (row_lists count each held) (length_of_lists count each held are ∙ none)
 
 -- and they are of any length
-none_of_length : (count each other : ℕ) (held : RowVec) → AreRows count each held → count ≡ 0 → AreRows count other held
-none_of_length count each other (Bits rows) are none =
-    (are.0, λ k d lt. absurd (omega (arith, lt, are.0, none)))
-none_of_length count each other (Bytes bytes) are none =
-    are ∙ ap (λ (n : ℕ). n * each) none ∙ zero-mul each ∙ sym (ap (λ (n : ℕ). n * other) none ∙ zero-mul other)
-none_of_length count each other (Words words) are none =
-    are ∙ ap (λ (n : ℕ). n * each) none ∙ zero-mul each ∙ sym (ap (λ (n : ℕ). n * other) none ∙ zero-mul other)
+none_of_length : {count : ℕ} (each other : ℕ) (held : RowVec) → AreRows count each held → count ≡ 0 → AreRows count other held
+none_of_length each other (Bits rows) are none = (are.0, λ k d lt. absurd (omega (arith, lt, are.0, none)))
+none_of_length each other (Bytes bytes) are none = are ∙ ap (λ (n : ℕ). n * each) none ∙ zero-mul each ∙ sym (ap (λ (n : ℕ). n * other) none ∙ zero-mul other)
+none_of_length each other (Words words) are none = are ∙ ap (λ (n : ℕ). n * each) none ∙ zero-mul each ∙ sym (ap (λ (n : ℕ). n * other) none ∙ zero-mul other)
 
--- rows that are all of one length are held so
-lent : (count each other : ℕ) (held : RowVec) (rows : List (List ℕ)) → AreRows count each held → row_lists count each held ≡ rows
-    → All (λ row. length row ≡ other) rows → (0 < count) ⊎ (count ≤ 0) → (row_lists count other held ≡ rows) × AreRows count other held
-lent count each other held rows are is long (inl some) =
-    let same : each ≡ other = sym (held_length count each other held rows are is some long) in (
-      ap (λ (n : ℕ). row_lists count n held) (sym same) ∙ is,
-      subst (λ (n : ℕ). AreRows count n held) same are,
-    )
-lent count each other held rows are is long (inr none) =
-    let no_rows : count ≡ 0 = omega (arith, none) in
-    let here = none_of_length count each other held are no_rows in
-    (none_held count other held here no_rows ∙ sym (none_held count each held are no_rows) ∙ is, here)
+-- ---- the length of rows that are held
 
-pub lent_rows : (count each other : ℕ) (held : RowVec) (rows : List (List ℕ)) → AreRows count each held → row_lists count each held ≡ rows
-    → All (λ row. length row ≡ other) rows → row_lists count other held ≡ rows
-lent_rows count each other held rows are is long = (lent count each other held rows are is long (cases_lt 0 count)).0
+module _ (count each other : ℕ) (held : RowVec) {rows : List (List ℕ)} where
+  -- it is that of any of them
+  pub held_length : AreRows count each held → row_lists count each held ≡ rows → 0 < count → All (λ row. length row ≡ other) rows → other ≡ each
+  held_length are is some long =
+      let many : length rows ≡ count = ap length (sym is) ∙ length_of_lists count each held are in
+      one_length each other rows (omega (arith, many, some)) (subst (All (λ (row : List ℕ). length row ≡ each)) is (lengths_of_lists count each held are)) long
 
-pub lent_whole : (count each other : ℕ) (held : RowVec) (rows : List (List ℕ)) → AreRows count each held → row_lists count each held ≡ rows
-    → All (λ row. length row ≡ other) rows → AreRows count other held
-lent_whole count each other held rows are is long = (lent count each other held rows are is long (cases_lt 0 count)).1
+  -- rows that are all of one length are held so
+  lent : AreRows count each held → row_lists count each held ≡ rows → All (λ row. length row ≡ other) rows → (0 < count) ⊎ (count ≤ 0)
+      → (row_lists count other held ≡ rows) × AreRows count other held
+  lent are is long (inl some) =
+      let same : each ≡ other = sym (held_length are is some long) in (
+        ap (λ (n : ℕ). row_lists count n held) (sym same) ∙ is,
+        subst (λ (n : ℕ). AreRows count n held) same are,
+      )
+  lent are is long (inr none) =
+      let no_rows : count ≡ 0 = omega (arith, none) in
+      let here = none_of_length each other held are no_rows in
+      (none_held other held here no_rows ∙ sym (none_held each held are no_rows) ∙ is, here)
+
+  pub lent_rows : AreRows count each held → row_lists count each held ≡ rows → All (λ row. length row ≡ other) rows → row_lists count other held ≡ rows
+  lent_rows are is long = (lent are is long (cases_lt 0 count)).0
+
+  pub lent_whole : AreRows count each held → row_lists count each held ≡ rows → All (λ row. length row ≡ other) rows → AreRows count other held
+  lent_whole are is long = (lent are is long (cases_lt 0 count)).1
 
 -- ---- fronts of rows
 
@@ -73,23 +59,22 @@ fronts_are_all {X = X} shown (suc count) samples =
     ∙ sym (take-add shown (count * shown) samples) ∙ ap (λ (n : ℕ). take n samples) (sym size)
 
 -- they are as many, and as long
-pub fronts_alike : (shown count : ℕ) (rows fronts : List (List ℕ)) → fronts ≡ map (take shown) (take count rows) → count ≤ length rows
+pub fronts_alike : (shown count : ℕ) (rows : List (List ℕ)) {fronts : List (List ℕ)} → fronts ≡ map (take shown) (take count rows) → count ≤ length rows
     → All (λ row. shown ≤ length row) rows → (length fronts ≡ count) × All (λ row. length row ≡ shown) fronts
-fronts_alike shown count rows fronts is few within =
+fronts_alike shown count rows is few within =
     let P : List ℕ → Type 0 = λ row. length row ≡ shown in
     let those = take count rows in (
       ap length is ∙ length-map those (take shown) ∙ length-take-le count rows few,
-      subst (All P) (sym is)
-          (All-map P (take shown) those
+      subst (All P) (sym is) (All-map P (take shown) those
           (λ k d lt. length-take-le shown (get_or those k d) (All-take (λ row. shown ≤ length row) count rows within k d lt))),
     )
 
 -- those of rows that are held one after another
-pub fronts_of_cut : (shown each count : ℕ) (samples fronts : List ℕ) (rows : List (List ℕ)) → All (λ row. length row ≡ each) rows → 1 ≤ length rows
-    → cut_rows (length rows) each samples ≡ rows → length samples ≡ length rows * each → count ≤ length rows → All (λ row. shown ≤ length row) rows
-    → fronts ≡ fronts_in shown count each samples
+pub fronts_of_cut : (shown each count : ℕ) (samples : List ℕ) {fronts : List ℕ} {rows : List (List ℕ)} → All (λ row. length row ≡ each) rows
+    → 1 ≤ length rows → cut_rows (length rows) each samples ≡ rows → length samples ≡ length rows * each → count ≤ length rows
+    → All (λ row. shown ≤ length row) rows → fronts ≡ fronts_in shown count each samples
     → (length fronts ≡ count * shown) × (cut_rows count shown fronts ≡ map (take shown) (take count rows))
-fronts_of_cut shown each count samples fronts rows long some are size few within is =
+fronts_of_cut shown each count samples {rows} long some are size few within is =
     let there : 0 < length rows = omega (arith, some) in
     let shorter : shown ≤ each = omega (arith, within 0 [] there, long 0 [] there) in
     let enough : count * each ≤ length samples = omega (arith, mul-le-mul_right {m = count} {n = length rows} each few, size) in
@@ -103,10 +88,10 @@ fronts_of_cut shown each count samples fronts rows long some are size few within
 -- ---- rows as words
 
 -- words behind others
-pub words_behind : (count more each : ℕ) (words behind new : List ℕ) (first second : List (List ℕ)) → length words ≡ count * each
+pub words_behind : (count more each : ℕ) (words behind : List ℕ) {new : List ℕ} {first second : List (List ℕ)} → length words ≡ count * each
     → length behind ≡ more * each → cut_rows count each words ≡ first → cut_rows more each behind ≡ second → new ≡ words ++ behind
     → (cut_rows (count + more) each new ≡ first ++ second) × (length new ≡ (count + more) * each)
-words_behind count more each words behind new first second size more_size are others is =
+words_behind count more each words behind {new} size more_size are others is =
     let both = cut_behind count more each words behind new is size more_size in
     (both.0 ∙ ap₂ (λ (a b : List (List ℕ)). a ++ b) are others, both.1)
 

@@ -1,3 +1,4 @@
+mod Words
 pub mod EnlargedHeadLaws
 pub mod EnlargeRowLaws
 pub mod CopyLaws

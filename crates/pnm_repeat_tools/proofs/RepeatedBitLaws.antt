@@ -1,12 +1,7 @@
 -- A row of pixels of one sample, each repeated.
-use Rattle.std.proofs.Common.{◌≡◌, ℕ, zero, suc, ◌+◌, ◌*◌, ◌≤◌, ◌<◌, List, [], ◌∷◌, ◌++◌, length, take, drop, get_or, replicate, refl, sym, ap, ◌∙◌, arith}
-use Rattle.std.specs.List.{flat_map, range_with_len}
-use Rattle.std.proofs.lemmas.List.{take_all, take_more, drop_more, flat_map_more, replicate_more}
-use Rattle.pnm_image.specs.declared.shape.Shape.{Shape}
-use Rattle.pnm_image.specs.Heads.{row_length}
-use Rattle.pnm_tools.specs.Enlarge.{enlarged_row, copies_of}
-use Rattle.pnm_tools.specs.PixelSamples.{pixel_of}
-use Rattle.pnm_tools.proofs.PickLaws.{flat_map_one_more}
+use Rattle.pnm_repeat_tools.proofs.Words.{◌≡◌, ℕ, zero, suc, ◌+◌, ◌*◌, ◌≤◌, ◌<◌, List, [], ◌∷◌, ◌++◌, length, take, drop, get_or, replicate, refl, sym, ap, ◌∙◌}
+use Rattle.pnm_repeat_tools.proofs.Words.{arith, flat_map, range_with_len, take_all, take_more, drop_more, flat_map_more, replicate_more, Shape, row_length}
+use Rattle.pnm_repeat_tools.proofs.Words.{enlarged_row, copies_of, pixel_of, flat_map_one_more}
 
 -- a list of one, so many times
 same_repeated : (n v : ℕ) → replicate n v ≡ copies_of n (v ∷ [])
@@ -34,9 +29,9 @@ samples_repeated across row (suc n) le =
     ∙ sym (flat_map_one_more f 0 n n (omega arith)) ∙ ap (λ (k : ℕ). flat_map f (range_with_len 0 k)) (sym more)
 
 -- a row of pixels of one sample
-pub one_plane_repeated : (across : ℕ) (s : Shape) (row made : List ℕ) → s.depth ≡ 1 → length row ≡ row_length s → made ≡ flat_map (replicate across) row
-    → made ≡ enlarged_row across s row
-one_plane_repeated across s row made one count is =
+pub one_plane_repeated : (across : ℕ) (s : Shape) (row : List ℕ) {made : List ℕ} → s.depth ≡ 1 → length row ≡ row_length s
+    → made ≡ flat_map (replicate across) row → made ≡ enlarged_row across s row
+one_plane_repeated across s row one count is =
     let long : length row ≡ s.width = count ∙ ap (λ (k : ℕ). s.width * k) one ∙ omega arith in
     is ∙ ap (flat_map (replicate across)) (sym (take_all s.width row (omega arith))) ∙ samples_repeated across row s.width (omega arith)
     ∙ ap (λ (k : ℕ). flat_map (λ x. copies_of across (pixel_of k row x)) (range_with_len 0 s.width)) (sym one)

@@ -1,23 +1,10 @@
 -- Rows of packed pixels side by side.
-use Rattle.std.proofs.Common.{◌≡◌, ◌⊎◌, inl, inr, ℕ, zero, suc, ◌+◌, ◌-◌, ◌*◌, ◌%◌, ◌<◌, ◌≤◌, List, [], ◌∷◌, ◌++◌, length, get_or, map, take, drop, All}
-use Rattle.std.proofs.Common.{refl, sym, ap, ap₂, ◌∙◌, ◌/◌, arith, mul-le-mul_right}
-use Rattle.std.specs.List.{flat_map, range_with_len}
-use Rattle.std.proofs.Math.Nat.{div-add-mod, mod-lt, mod_self}
-use Rattle.std.proofs.lemmas.List.{drop_at, length-append, length-take, take-append-le, take_all}
-use Rattle.pnm_samples.specs.PixelRows.{bytes_for, rows_of_bytes}
-use Rattle.pnm_samples.specs.Internal.BitRows.{row_bytes}
-use Rattle.pnm_samples.specs.Pixels.{all_pixels, ArePacked}
-use Rattle.pnm_samples.proofs.BitRowLaws.{length_of_row_bytes, row_within}
-use Rattle.pnm_samples.proofs.BitRowsMade.{row_of_rows}
-use Rattle.pnm_samples.proofs.PixelLaws.{all_pixels-append, drop-all_pixels, length-all_pixels, take-all_pixels}
-use Rattle.pnm_samples.proofs.PixelRowLaws.{length_of_packed}
-use Rattle.pnm_samples.proofs.PixelRowsLaws.{length_of_rows, rows_behind}
-use Rattle.pnm_tools.specs.PixelSamples.{pixel_of}
-use Rattle.pnm_tools.specs.Tile.{tiled_row}
-use Rattle.pnm_tools.proofs.FormulaLaws.{range_alike}
-use Rattle.pnm_tools.proofs.RangeLaws.{length_of_equals, map_in_parts}
-use Rattle.pnm_repeat_tools.specs.Keeping.{row_of_tiles}
-use Rattle.pnm_repeat_tools.specs.Internal.Keeping.{row_of_samples}
+use Rattle.pnm_repeat_tools.proofs.Words.{◌≡◌, ◌⊎◌, inl, inr, ℕ, zero, suc, ◌+◌, ◌-◌, ◌*◌, ◌%◌, ◌<◌, ◌≤◌, List, [], ◌∷◌, ◌++◌, length, get_or, map, take, drop}
+use Rattle.pnm_repeat_tools.proofs.Words.{All, refl, sym, ap, ap₂, ◌∙◌, ◌/◌, arith, mul-le-mul_right, flat_map, range_with_len, div-add-mod, mod-lt, mod_self}
+use Rattle.pnm_repeat_tools.proofs.Words.{drop_at, length-append, length-take, take-append-le, take_all, bytes_for, rows_of_bytes, row_bytes, all_pixels}
+use Rattle.pnm_repeat_tools.proofs.Words.{ArePacked, length_of_row_bytes, row_within, row_of_rows, all_pixels-append, drop-all_pixels, length-all_pixels}
+use Rattle.pnm_repeat_tools.proofs.Words.{take-all_pixels, length_of_packed, length_of_rows, rows_behind, pixel_of, tiled_row, range_alike, length_of_equals}
+use Rattle.pnm_repeat_tools.proofs.Words.{map_in_parts, row_of_tiles, row_of_samples}
 use Rattle.pnm_repeat_tools.proofs.TileRowLaws.{length_tiled, tiled_more, tiled_prefix, tiled_shorter}
 
 -- ---- samples as columns of one plane
@@ -56,10 +43,10 @@ columns_of_samples across width depth row some long =
     ∙ ap (λ (n : ℕ). tiled_row n width depth row) whole
 
 -- so are rows of the result
-pub rows_of_samples : (across width depth filled each y n : ℕ) (rows : List (List ℕ)) → 0 < length rows → 0 < width
-    → All (λ row. length row ≡ width * depth) rows → filled ≡ across * depth → each ≡ width * depth
-    → map (row_of_tiles filled each 1 rows) (range_with_len y n) ≡ map (row_of_tiles across width depth rows) (range_with_len y n)
-rows_of_samples across width depth filled each y n rows there some long all whole =
+pub rows_of_samples : (across width depth : ℕ) {filled each : ℕ} (y n : ℕ) (rows : List (List ℕ)) → 0 < length rows → 0 < width
+    → All (λ row. length row ≡ width * depth) rows → filled ≡ across * depth → each ≡ width * depth → map (row_of_tiles filled each 1 rows)
+    (range_with_len y n) ≡ map (row_of_tiles across width depth rows) (range_with_len y n)
+rows_of_samples across width depth {filled} {each} y n rows there some long all whole =
     range_alike (row_of_tiles filled each 1 rows) (row_of_tiles across width depth rows) y n (λ x lt.
     let below : x % length rows < length rows = mod-lt x there in
     let row : List ℕ = get_or rows (x % length rows) [] in
@@ -100,9 +87,9 @@ whole_bytes filled each bytes some whole size =
     ∙ ap₂ (λ (w : ℕ) (l : List ℕ). tiled_row filled w 1 l) width (sym (take_all each p (omega (arith, long, width))))
 
 -- where there is one copy
-one_copy : (filled each : ℕ) (bytes : List ℕ) → filled ≡ each → length bytes ≡ bytes_for each
+one_copy : {filled each : ℕ} (bytes : List ℕ) → filled ≡ each → length bytes ≡ bytes_for each
     → take filled (all_pixels (tiled_row (bytes_for filled) (bytes_for each) 1 bytes)) ≡ tiled_row filled each 1 (take each (all_pixels bytes))
-one_copy filled each bytes same size =
+one_copy {each} bytes same size =
     let p : List ℕ = all_pixels bytes in
     let one : length bytes ≡ bytes_for each * 1 = omega (arith, size) in
     let row : length (take each p) ≡ each * 1 = omega (arith, length-take each p, length-all_pixels bytes, size) in
@@ -113,7 +100,7 @@ one_copy filled each bytes same size =
 row_of_bytes : (filled each : ℕ) (bytes : List ℕ) → 0 < each → (each % 8 ≡ 0) ⊎ (filled ≡ each) → length bytes ≡ bytes_for each
     → take filled (all_pixels (tiled_row (bytes_for filled) (bytes_for each) 1 bytes)) ≡ tiled_row filled each 1 (take each (all_pixels bytes))
 row_of_bytes filled each bytes some (inl whole) size = whole_bytes filled each bytes some whole size
-row_of_bytes filled each bytes some (inr same) size = one_copy filled each bytes same size
+row_of_bytes filled each bytes some (inr same) size = one_copy bytes same size
 
 -- rows by the bytes of each
 rows_of_pieces : (each : ℕ) (f g : ℕ → List ℕ) (a n : ℕ) → ((x : ℕ) → length (f x) ≡ bytes_for each) → ((x : ℕ) → take each (all_pixels (f x)) ≡ g x)
@@ -185,20 +172,19 @@ module _ (each width kept held : ℕ) (bytes : List ℕ) (rows : List (List ℕ)
 -- ---- a row at a time
 
 -- as many rows are kept as their bytes are
-pub kept_are : (kept held : ℕ) (bytes : List ℕ) (rows : List (List ℕ)) → rows ≡ rows_of_bytes kept held bytes → length rows ≡ kept
-kept_are kept held bytes rows are = ap length are ∙ length_of_rows kept held bytes
+pub kept_are : (kept held : ℕ) (bytes : List ℕ) {rows : List (List ℕ)} → rows ≡ rows_of_bytes kept held bytes → length rows ≡ kept
+kept_are kept held bytes are = ap length are ∙ length_of_rows kept held bytes
 
-pub row_is_kept : (kept held x : ℕ) (bytes : List ℕ) (rows : List (List ℕ)) → 0 < length rows → rows ≡ rows_of_bytes kept held bytes
-    → x % kept < length rows
-row_is_kept kept held x bytes rows there are =
-    let many : length rows ≡ kept = kept_are kept held bytes rows are in
+pub row_is_kept : (kept held x : ℕ) (bytes : List ℕ) {rows : List (List ℕ)} → 0 < length rows → rows ≡ rows_of_bytes kept held bytes → x % kept < length rows
+row_is_kept kept held x bytes {rows} there are =
+    let many : length rows ≡ kept = kept_are kept held bytes are in
     let some : 0 < kept = omega (arith, many, there) in
     omega (arith, many, mod-lt x some)
 
 -- the pixels of a row
-row_of_pixels : (each count : ℕ) (bytes row : List ℕ) → take count (all_pixels bytes) ≡ row → ArePacked count bytes → length row ≡ each
+row_of_pixels : {each count : ℕ} {bytes row : List ℕ} → take count (all_pixels bytes) ≡ row → ArePacked count bytes → length row ≡ each
     → (each ≤ 8 * length bytes) × (take each (all_pixels bytes) ≡ row)
-row_of_pixels each count bytes row is packed long =
+row_of_pixels {each} {count} {bytes} is packed long =
     let same : count ≡ each = sym (length_of_packed count bytes packed) ∙ ap length is ∙ long in (
       omega (arith, packed.enough, same),
       ap (λ (n : ℕ). take n (all_pixels bytes)) (sym same) ∙ is,
@@ -209,14 +195,14 @@ module _ (each kept held x count : ℕ) (bytes here : List ℕ) (rows : List (Li
     (long : All (λ row. length row ≡ each) rows) (are : rows ≡ rows_of_bytes kept held bytes)
     (pixels : take count (all_pixels here) ≡ get_or rows (x % kept) []) (packed : ArePacked count here) where
   row_long : length (get_or rows (x % kept) []) ≡ each
-  row_long = long (x % kept) [] (row_is_kept kept held x bytes rows there are)
+  row_long = long (x % kept) [] (row_is_kept kept held x bytes there are)
 
   pub row_has_pixels : each ≤ 8 * length here
-  row_has_pixels = (row_of_pixels each count here (get_or rows (x % kept) []) pixels packed row_long).0
+  row_has_pixels = (row_of_pixels pixels packed row_long).0
 
   row_is : take each (all_pixels here) ≡ get_or rows (x % length rows) []
-  row_is = (row_of_pixels each count here (get_or rows (x % kept) []) pixels packed row_long).1
-      ∙ ap (λ (k : ℕ). get_or rows (x % k) []) (sym (kept_are kept held bytes rows are))
+  row_is = (row_of_pixels pixels packed row_long).1
+      ∙ ap (λ (k : ℕ). get_or rows (x % k) []) (sym (kept_are kept held bytes are))
 
   pub next_part : (filled : ℕ) (none value part : List ℕ) → 0 < each → none ≡ [] → value ≡ none ++ tiled_row filled each 1 (take each (all_pixels here))
       → length part ≡ (length value + 7) / 8 → value ≡ take (length value) (all_pixels part)
@@ -229,11 +215,10 @@ module _ (each kept held x count : ℕ) (bytes here : List ℕ) (rows : List (Li
       (omega (arith, size, whole), ap (λ (n : ℕ). take n (all_pixels part)) (sym whole) ∙ sym is ∙ tile)
 
 -- a row more
-pub pixel_row_more : (f : ℕ → List ℕ) (each y at : ℕ) (bytes part new : List ℕ) → y ≤ at → length bytes ≡ (at - y) * bytes_for each
+pub pixel_row_more : (f : ℕ → List ℕ) (each y at : ℕ) (bytes part : List ℕ) {new : List ℕ} → y ≤ at → length bytes ≡ (at - y) * bytes_for each
     → rows_of_bytes (at - y) each bytes ≡ map f (range_with_len y (at - y)) → length part ≡ bytes_for each → take each (all_pixels part) ≡ f at
-    → new ≡ bytes ++ part
-    → (length new ≡ (at + 1 - y) * bytes_for each) × (rows_of_bytes (at + 1 - y) each new ≡ map f (range_with_len y (at + 1 - y)))
-pixel_row_more f each y at bytes part new from size were part_size pixels is =
+    → new ≡ bytes ++ part → (length new ≡ (at + 1 - y) * bytes_for each) × (rows_of_bytes (at + 1 - y) each new ≡ map f (range_with_len y (at + 1 - y)))
+pixel_row_more f each y at bytes part {new} from size were part_size pixels is =
     let n : ℕ = at - y in
     let more : at + 1 - y ≡ n + 1 = omega (arith, from) in
     let place : y + n ≡ at = omega (arith, from) in

@@ -1,27 +1,13 @@
 -- Rows of an image that come together to be tiled, and rows of the result that are given together.
-use Rattle.std.proofs.Common.{◌≡◌, ℕ, zero, suc, ◌+◌, ◌-◌, ◌*◌, ◌%◌, ◌<◌, ◌≤◌, List, [], ◌∷◌, ◌++◌, length, map, take, drop, min, All}
-use Rattle.std.proofs.Common.{refl, sym, ap, ◌∙◌, arith, append-nil, get_or, subst, suc-mul, zero-mul}
-use Rattle.std.specs.List.{AllByRecursion, flat_map, range_with_len, slice_range}
-use Rattle.std.proofs.lemmas.List.{take_all, take_at, take_min, take-append-le, take-take, map-append}
-use Rattle.std.proofs.lemmas.List.{drop_at, drop-drop, length-drop, length-map}
-use Rattle.std.proofs.lemmas.List.{append_assoc, length-append, length-take}
-use Rattle.std.proofs.lemmas.List.Elements.{All-append, All-from_recursion, All-map}
-use Rattle.std.proofs.lemmas.List.FromFn.{get_or-map-range_with_len, length-map-range_with_len}
-use Rattle.std.proofs.Math.Nat.{mod-lt}
-use Rattle.std.proofs.Math.Seq.{take-append-add}
-use Rattle.pnm_image.specs.declared.shape.Shape.{Shape}
-use Rattle.pnm_image.specs.Heads.{row_length}
-use Rattle.pnm_image.specs.Places.{IsRowOf}
-use Rattle.pnm_tools.specs.declared.tool.Tool.TheVariants.{Tile}
-use Rattle.pnm_tools.specs.Answering.{rows_answer}
-use Rattle.pnm_tools.specs.PixelSamples.{pixel_of}
-use Rattle.pnm_tools.specs.Tile.{tiled_row}
-use Rattle.pnm_tools.proofs.RangeLaws.{length_of_equals, map_in_parts, pieces_alike, pieces_in_parts}
-use Rattle.pnm_samples.proofs.CutLaws.{length-cut_rows}
-use Rattle.pnm_repeat_tools.specs.Keeping.{Tiled, IsTiling, AreWithin, tiled, tiled_due, shown_row, row_of_tiles}
-use Rattle.pnm_repeat_tools.specs.Internal.Keeping.{HasTiles, fronts_in, row_of_samples}
+use Rattle.pnm_repeat_tools.proofs.Words.{◌≡◌, ℕ, zero, suc, ◌+◌, ◌-◌, ◌*◌, ◌%◌, ◌<◌, ◌≤◌, List, [], ◌∷◌, ◌++◌, length, map, take, drop, min, All, refl, sym}
+use Rattle.pnm_repeat_tools.proofs.Words.{ap, ◌∙◌, arith, get_or, subst, suc-mul, zero-mul, AllByRecursion, flat_map, range_with_len, slice_range, take_all}
+use Rattle.pnm_repeat_tools.proofs.Words.{take_at, take_min, take-append-le, take-take, map-append, drop_at, drop-drop, length-drop, length-map, append_assoc}
+use Rattle.pnm_repeat_tools.proofs.Words.{length-append, length-take, All-append, All-from_recursion, All-map, get_or-map-range_with_len}
+use Rattle.pnm_repeat_tools.proofs.Words.{length-map-range_with_len, mod-lt, take-append-add, Shape, row_length, IsRowOf, Tile, rows_answer, pixel_of}
+use Rattle.pnm_repeat_tools.proofs.Words.{tiled_row, length_of_equals, map_in_parts, pieces_alike, pieces_in_parts, length-cut_rows, Tiled, IsTiling, AreWithin}
+use Rattle.pnm_repeat_tools.proofs.Words.{tiled, tiled_due, shown_row, row_of_tiles, HasTiles, fronts_in, row_of_samples, cut_rows}
+use Rattle.std.proofs.Common.{append-nil}
 use Rattle.pnm_repeat_tools.proofs.TileRowLaws.{row_of_tile, length_tiled, tiled_within}
-use Rattle.pnm_image.specs.Images.{cut_rows}
 use Rattle.pnm_repeat_tools.proofs.CutRowsLaws.{lengths_of}
 
 -- no row is answered before the image has ended
@@ -31,10 +17,10 @@ none_answer across down s y (row ∷ rows) =
     ap (λ (l : List (List ℕ)). l ++ rows_answer (Tile across down) s (y + 1) rows) (row_of_tile across down s y row) ∙ none_answer across down s (y + 1) rows
 
 -- rows of which some are kept
-pub kept_rows : (across down y count : ℕ) (s : Shape) (held new before come rows : List (List ℕ)) → held ≡ map (shown_row across s) (take down before)
-    → length before ≡ y → y < down → count ≡ min (down - y) (length rows) → held ≡ map (shown_row across s) (take down come)
+pub kept_rows : (across down : ℕ) {y count : ℕ} (s : Shape) {held new : List (List ℕ)} (before come rows : List (List ℕ)) → held ≡ map (shown_row across s)
+    (take down before) → length before ≡ y → y < down → count ≡ min (down - y) (length rows) → held ≡ map (shown_row across s) (take down come)
     → new ≡ held ++ map (shown_row across s) (take count rows) → new ≡ map (shown_row across s) (take down (come ++ rows))
-kept_rows across down y count s held new before come rows was many below most known is =
+kept_rows across down {y} {count} s before come rows was many below most known is =
     let f : List ℕ → List ℕ = shown_row across s in
     let alike : length (take down come) ≡ length (take down before) = sym (length-map (take down come) f) ∙ ap length (sym known ∙ was)
     ∙ length-map (take down before) f in
@@ -46,9 +32,10 @@ kept_rows across down y count s held new before come rows was many below most kn
     ∙ sym (ap (λ (n : ℕ). map f (take n (come ++ rows))) all ∙ ap (map f) (take-append-add come rows (down - y)) ∙ map-append f come (take (down - y) rows))
 
 -- rows of which none is kept
-pub rows_beyond : (across down y : ℕ) (s : Shape) (held before come rows : List (List ℕ)) → held ≡ map (shown_row across s) (take down before)
-    → length before ≡ y → down ≤ y → held ≡ map (shown_row across s) (take down come) → held ≡ map (shown_row across s) (take down (come ++ rows))
-rows_beyond across down y s held before come rows was many beyond known =
+pub rows_beyond : (across down : ℕ) {y : ℕ} (s : Shape) {held : List (List ℕ)} (before come rows : List (List ℕ)) → held ≡ map (shown_row across s)
+    (take down before) → length before ≡ y → down ≤ y → held ≡ map (shown_row across s) (take down come) → held ≡ map (shown_row across s)
+    (take down (come ++ rows))
+rows_beyond across down s before come rows was many beyond known =
     let f : List ℕ → List ℕ = shown_row across s in
     let alike : length (take down come) ≡ length (take down before) = sym (length-map (take down come) f) ∙ ap length (sym known ∙ was)
     ∙ length-map (take down before) f in
@@ -95,43 +82,21 @@ row_within : (maxval across width depth : ℕ) (rows : List (List ℕ)) → HasT
     → All (λ sample. sample ≤ maxval) (row_of_tiles across width depth rows y)
 row_within maxval across width depth rows h within y =
     let row : List ℕ = get_or rows (y % length rows) [] in
-    tiled_within maxval across width depth row row (tiled_row across width depth row) refl refl (within (y % length rows) [] (mod-lt y h.some))
+    tiled_within maxval across width depth refl refl (within (y % length rows) [] (mod-lt y h.some))
 
--- so have and are so many of them, and cut again they are these rows
-rows_long : (across width depth y n : ℕ) (rows : List (List ℕ)) (made : List ℕ) → HasTiles (tiled across 0 width depth rows 0)
-    → made ≡ flat_map (row_of_tiles across width depth rows) (range_with_len y n) → length made ≡ n * (across * depth)
-rows_long across width depth y n rows made h is =
-    ap length is ∙ length_of_equals (row_of_tiles across width depth rows) (across * depth) y n (row_long across width depth rows h)
-
-pub rows_within : (maxval across width depth y n : ℕ) (rows made : List (List ℕ)) → HasTiles (tiled across 0 width depth rows 0)
+pub rows_within : (maxval across width depth y n : ℕ) (rows : List (List ℕ)) {made : List (List ℕ)} → HasTiles (tiled across 0 width depth rows 0)
     → AreWithin maxval rows → made ≡ map (row_of_tiles across width depth rows) (range_with_len y n) → AreWithin maxval made
-rows_within maxval across width depth y n rows made h within is =
+rows_within maxval across width depth y n rows h within is =
     let P : List ℕ → Type 0 = λ row. All (λ sample. sample ≤ maxval) row in
     let numbers : List ℕ = range_with_len y n in
     subst (All P) (sym is)
     (All-map P (row_of_tiles across width depth rows) numbers (λ k d lt. row_within maxval across width depth rows h within (get_or numbers k d)))
 
-rows_cut : (across width depth y n : ℕ) (rows : List (List ℕ)) (made : List ℕ) → HasTiles (tiled across 0 width depth rows 0)
-    → made ≡ flat_map (row_of_tiles across width depth rows) (range_with_len y n)
-    → cut_rows n (across * depth) made ≡ map (row_of_tiles across width depth rows) (range_with_len y n)
-rows_cut across width depth y n rows made h is =
-    ap (cut_rows n (across * depth)) is ∙ cut_of_pieces (row_of_tiles across width depth rows) (across * depth) y n (row_long across width depth rows h)
-
-pub rows_alike : (across width depth y n : ℕ) (rows made : List (List ℕ)) → HasTiles (tiled across 0 width depth rows 0)
-    → made ≡ map (row_of_tiles across width depth rows) (range_with_len y n) → (length made ≡ n) × All (λ row. length row ≡ across * depth) made
-rows_alike across width depth y n rows made h is =
-    let P : List ℕ → Type 0 = λ row. length row ≡ across * depth in
-    let f : ℕ → List ℕ = row_of_tiles across width depth rows in
-    let numbers : List ℕ = range_with_len y n in (
-      ap length is ∙ length-map-range_with_len f y n,
-      subst (All P) (sym is) (All-map P f numbers (λ k d lt. row_long across width depth rows h (get_or numbers k d))),
-    )
-
 -- those that are given, and those that are left
-pub due_in_parts : (w : Tiled) (n y left : ℕ) (made : List (List ℕ)) → n ≤ w.left → w.left ≤ w.height → y ≡ w.height - w.left → left ≡ w.left - n
+pub due_in_parts : (w : Tiled) (n : ℕ) {y left : ℕ} {made : List (List ℕ)} → n ≤ w.left → w.left ≤ w.height → y ≡ w.height - w.left → left ≡ w.left - n
     → made ≡ map (row_of_tiles w.width w.image_width w.depth w.rows) (range_with_len y n)
     → tiled_due w ≡ made ++ tiled_due (tiled w.width w.height w.image_width w.depth w.rows left)
-due_in_parts w n y left made few within from rest is =
+due_in_parts w n {y} {left} {made} few within from rest is =
     let f : ℕ → List ℕ = row_of_tiles w.width w.image_width w.depth w.rows in
     let parts : w.left ≡ n + left = omega arith in
     let next : y + n ≡ w.height - left = omega arith in
@@ -146,9 +111,9 @@ tiles_same across down down' width depth left left' rows h =
     record { some = h.some; lengths = h.lengths; width = h.width; narrow = h.narrow; planes = h.planes; filled = h.filled }
 
 -- a piece more
-pub piece_more : {X : Type 0} (f : ℕ → List X) (y at : ℕ) (held now : List X) → y ≤ at → held ≡ flat_map f (range_with_len y (at - y))
-    → now ≡ held ++ f at → now ≡ flat_map f (range_with_len y (at + 1 - y))
-piece_more {X = X} f y at held now from were is =
+pub piece_more : {X : Type 0} (f : ℕ → List X) (y at : ℕ) {held now : List X} → y ≤ at → held ≡ flat_map f (range_with_len y (at - y)) → now ≡ held ++ f at
+    → now ≡ flat_map f (range_with_len y (at + 1 - y))
+piece_more {X = X} f y at from were is =
     let place : y + (at - y) ≡ at = omega arith in
     let parts : at + 1 - y ≡ (at - y) + 1 = omega arith in
     is ∙ ap (λ (l : List X). l ++ f at) were
@@ -184,26 +149,47 @@ row_at count each k samples below =
     ap (λ (l : List (List ℕ)). get_or l k []) (sym (cut_each count each samples))
     ∙ get_or-map-range_with_len (pixel_of each samples) 0 count k k [] below (omega arith)
 
--- rows of the result are made of them
-made_of_samples : (across width depth count y n : ℕ) (rows : List (List ℕ)) (samples made : List ℕ) → rows ≡ cut_rows count (width * depth) samples
-    → 0 < count → made ≡ flat_map (row_of_samples across width depth count samples) (range_with_len y n)
-    → made ≡ flat_map (row_of_tiles across width depth rows) (range_with_len y n)
-made_of_samples across width depth count y n rows samples made are some is =
-    let cut : List (List ℕ) = cut_rows count (width * depth) samples in
-    let many : length cut ≡ count = length-cut_rows count (width * depth) samples in
-    is ∙ pieces_alike (row_of_samples across width depth count samples) (row_of_tiles across width depth cut) y n (λ x lt.
-    ap (tiled_row across width depth) (sym (row_at count (width * depth) (x % count) samples (mod-lt x some))
-    ∙ ap (λ (m : ℕ). get_or cut (x % m) []) (sym many)))
-    ∙ ap (λ (l : List (List ℕ)). flat_map (row_of_tiles across width depth l) (range_with_len y n)) (sym are)
+module _ (across width depth y n : ℕ) where
+  -- so have and are so many of them, and cut again they are these rows
+  rows_long : (rows : List (List ℕ)) {made : List ℕ} → HasTiles (tiled across 0 width depth rows 0) → made ≡ flat_map (row_of_tiles across width depth rows)
+      (range_with_len y n) → length made ≡ n * (across * depth)
+  rows_long rows h is = ap length is ∙ length_of_equals (row_of_tiles across width depth rows) (across * depth) y n (row_long across width depth rows h)
 
-pub tiles_of_samples : (across width depth count y n : ℕ) (rows : List (List ℕ)) (samples made : List ℕ) → HasTiles (tiled across 0 width depth rows 0)
-    → cut_rows count (width * depth) samples ≡ rows → count ≡ length rows
-    → made ≡ flat_map (row_of_samples across width depth count samples) (range_with_len y n)
-    → (length made ≡ n * (across * depth)) × (cut_rows n (across * depth) made ≡ map (row_of_tiles across width depth rows) (range_with_len y n))
-tiles_of_samples across width depth count y n rows samples made h are many is =
-    let of_tiles : made ≡ flat_map (row_of_tiles across width depth rows) (range_with_len y n) =
-    made_of_samples across width depth count y n rows samples made (sym are) (omega (arith, many, h.some)) is in
-    (rows_long across width depth y n rows made h of_tiles, rows_cut across width depth y n rows made h of_tiles)
+  rows_cut : (rows : List (List ℕ)) {made : List ℕ} → HasTiles (tiled across 0 width depth rows 0) → made ≡ flat_map (row_of_tiles across width depth rows)
+      (range_with_len y n) → cut_rows n (across * depth) made ≡ map (row_of_tiles across width depth rows) (range_with_len y n)
+  rows_cut rows h is =
+      ap (cut_rows n (across * depth)) is ∙ cut_of_pieces (row_of_tiles across width depth rows) (across * depth) y n (row_long across width depth rows h)
+
+  pub rows_alike : (rows : List (List ℕ)) {made : List (List ℕ)} → HasTiles (tiled across 0 width depth rows 0)
+      → made ≡ map (row_of_tiles across width depth rows) (range_with_len y n) → (length made ≡ n) × All (λ row. length row ≡ across * depth) made
+  rows_alike rows h is =
+      let P : List ℕ → Type 0 = λ row. length row ≡ across * depth in
+      let f : ℕ → List ℕ = row_of_tiles across width depth rows in
+      let numbers : List ℕ = range_with_len y n in (
+        ap length is ∙ length-map-range_with_len f y n,
+        subst (All P) (sym is) (All-map P f numbers (λ k d lt. row_long across width depth rows h (get_or numbers k d))),
+      )
+
+  -- rows of the result are made of them
+  made_of_samples : (count : ℕ) {rows : List (List ℕ)} (samples : List ℕ) {made : List ℕ} → rows ≡ cut_rows count (width * depth) samples → 0 < count
+      → made ≡ flat_map (row_of_samples across width depth count samples) (range_with_len y n) → made ≡ flat_map (row_of_tiles across width depth rows)
+      (range_with_len y n)
+  made_of_samples count samples are some is =
+      let cut : List (List ℕ) = cut_rows count (width * depth) samples in
+      let many : length cut ≡ count = length-cut_rows count (width * depth) samples in
+      is ∙ pieces_alike (row_of_samples across width depth count samples) (row_of_tiles across width depth cut) y n (λ x lt.
+      ap (tiled_row across width depth) (sym (row_at count (width * depth) (x % count) samples (mod-lt x some))
+      ∙ ap (λ (m : ℕ). get_or cut (x % m) []) (sym many)))
+      ∙ ap (λ (l : List (List ℕ)). flat_map (row_of_tiles across width depth l) (range_with_len y n)) (sym are)
+
+  pub tiles_of_samples : {count : ℕ} {rows : List (List ℕ)} (samples : List ℕ) {made : List ℕ} → HasTiles (tiled across 0 width depth rows 0)
+      → cut_rows count (width * depth) samples ≡ rows → count ≡ length rows → made ≡ flat_map (row_of_samples across width depth count samples)
+      (range_with_len y n)
+      → (length made ≡ n * (across * depth)) × (cut_rows n (across * depth) made ≡ map (row_of_tiles across width depth rows) (range_with_len y n))
+  tiles_of_samples {count} {rows} samples {made} h are many is =
+      let of_tiles : made ≡ flat_map (row_of_tiles across width depth rows) (range_with_len y n) =
+      made_of_samples count samples (sym are) (omega (arith, many, h.some)) is in
+      (rows_long rows h of_tiles, rows_cut rows h of_tiles)
 
 -- ---- fronts of rows
 
@@ -222,9 +208,9 @@ front_behind {X = X} shown each (suc i) samples =
     ∙ ap (λ (l : List X). (first ++ later) ++ take shown l) start
 
 -- a front more
-pub front_more : {X : Type 0} (shown each i : ℕ) (samples fronts now : List X) → fronts ≡ fronts_in shown i each samples
+pub front_more : {X : Type 0} (shown each i : ℕ) (samples : List X) {fronts now : List X} → fronts ≡ fronts_in shown i each samples
     → now ≡ fronts ++ take shown (drop (i * each) samples) → now ≡ fronts_in shown (i + 1) each samples
-front_more {X = X} shown each i samples fronts now were is =
+front_more {X = X} shown each i samples were is =
     let next : suc i ≡ i + 1 = omega arith in
     is ∙ ap (λ (l : List X). l ++ take shown (drop (i * each) samples)) were ∙ sym (front_behind shown each i samples)
     ∙ ap (λ (n : ℕ). fronts_in shown n each samples) next

@@ -1,13 +1,7 @@
 -- Rows each sample of which is changed by itself, in whichever width they are held.
-use Rattle.std.proofs.Common.{◌≡◌, ℕ, zero, suc, ◌≤◌, ◌-◌, List, [], ◌∷◌, map, All, Result, Ok, Err, IfOk, refl, sym, ap, ap₂, subst, ◌∙◌, arith}
-use Rattle.std.specs.List.{concat}
-use Rattle.std.proofs.lemmas.List.{map-id}
-use Rattle.std.proofs.lemmas.List.Elements.{All-head, All-tail}
-use Rattle.pnm_image.specs.declared.rows.RowVec.{RowVec}
-use Rattle.pnm_image.specs.declared.rows.RowVec.TheVariants.{Bits, Bytes, Words}
-use Rattle.pnm_image.specs.HeldRows.{row_lists}
-use Rattle.pnm_image.specs.Images.{cut_rows}
-use Rattle.pnm_row_tools.specs.Internal.EachRow.{HoldsSamples, IsEachChanged, held_samples}
+use Rattle.pnm_row_tools.proofs.Words.{◌≡◌, ℕ, zero, suc, ◌≤◌, ◌-◌, List, [], ◌∷◌, map, All, Result, Ok, Err, IfOk, refl, sym, ap, ap₂, subst, ◌∙◌, arith}
+use Rattle.pnm_row_tools.proofs.Words.{concat, map-id, All-head, All-tail, RowVec, Bits, Bytes, Words, row_lists, cut_rows, HoldsSamples, IsEachChanged}
+use Rattle.pnm_row_tools.proofs.Words.{held_samples}
 use Rattle.pnm_row_tools.proofs.HeldRowsLaws.{bits_changed, cut_changed, held_cut, items_changed}
 
 -- numbers up to one that are changed alike
@@ -36,10 +30,10 @@ holds_changed f old (Bytes bytes) holds = items_changed f old bytes.items holds
 holds_changed f old (Words words) holds = items_changed f old words.items holds
 
 -- where there are such rows
-pub made_changed : {E : Type 0} (f : ℕ → ℕ) (old : RowVec) (items : List ℕ) (r : Result RowVec E) → items ≡ held_samples old
+pub made_changed : {E : Type 0} (f : ℕ → ℕ) (old : RowVec) {items : List ℕ} (r : Result RowVec E) → items ≡ held_samples old
     → IfOk r (HoldsSamples (map f items)) → IfOk r (IsEachChanged f old)
-made_changed f old items (Ok new) is holds = holds_changed f old new (subst (λ (l : List ℕ). HoldsSamples (map f l) new) is holds)
-made_changed f old items (Err fault) is holds = tt
+made_changed f old (Ok new) is holds = holds_changed f old new (subst (λ (l : List ℕ). HoldsSamples (map f l) new) is holds)
+made_changed f old (Err fault) is holds = tt
 
 pub made_alike : {E : Type 0} (f g : ℕ → ℕ) (most : ℕ) (old : RowVec) (r : Result RowVec E) → All (λ sample. sample ≤ most) (held_samples old)
     → ((sample : ℕ) → sample ≤ most → f sample ≡ g sample) → IfOk r (IsEachChanged f old) → IfOk r (IsEachChanged g old)
@@ -65,8 +59,8 @@ bits_stay f rows white black within =
     (λ count each whole. (whole, samples_stay rows))
 
 -- they are exchanged
-pub bits_exchanged : (f : ℕ → ℕ) (rows new : List (List ℕ)) → 1 ≡ f 0 → 0 ≡ f 1 → All (λ sample. sample ≤ 1) (concat rows)
+pub bits_exchanged : (f : ℕ → ℕ) (rows : List (List ℕ)) {new : List (List ℕ)} → 1 ≡ f 0 → 0 ≡ f 1 → All (λ sample. sample ≤ 1) (concat rows)
     → new ≡ map (map (λ (sample : ℕ). 1 - sample)) rows → IsEachChanged f (Bits rows) (Bits new)
-bits_exchanged f rows new white black within is =
+bits_exchanged f rows {new} white black within is =
     changed_alike (λ sample. 1 - sample) f 1 (Bits rows) (Bits new) within (two_alike (λ sample. 1 - sample) f white black)
-    (bits_changed (λ sample. 1 - sample) (Bits rows) rows new refl is)
+    (bits_changed (λ sample. 1 - sample) refl is)

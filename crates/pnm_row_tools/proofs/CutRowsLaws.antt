@@ -1,26 +1,10 @@
 -- The columns that are kept of rows that are held one after another.
-use Rattle.std.proofs.Common.{◌≡◌, ◌⊎◌, inl, inr, ℕ, zero, suc, ◌+◌, ◌-◌, ◌*◌, ◌<◌, ◌≤◌, Some, List, [], ◌∷◌, ◌++◌, get_or, length, map, take, drop, All}
-use Rattle.std.proofs.Common.{refl, sym, ap, subst, ◌∙◌, arith, add-mul, mul-le-mul, length-drop}
-use Rattle.std.specs.List.{AllByRecursion}
-use Rattle.std.proofs.lemmas.List.{length-map, length-take-le, take_all}
-use Rattle.std.proofs.lemmas.List.Elements.{All-from_recursion, All-map}
-use Rattle.pnm_image.specs.declared.shape.Shape.{Shape}
-use Rattle.pnm_image.specs.Heads.{row_length}
-use Rattle.pnm_image.specs.HeldRows.{AreRows, AreRowsWithin, row_lists}
-use Rattle.pnm_image.specs.declared.rows.RowVec.{RowVec}
-use Rattle.pnm_image.proofs.HeldRowLaws.{length_of_lists}
-use Rattle.pnm_image.specs.Images.{cut_rows}
-use Rattle.pnm_image.specs.Places.{IsRowOf}
-use Rattle.pnm_tools.specs.Answering.{rows_answer}
-use Rattle.pnm_tools.specs.Cut.{columns_of_row, columns_kept, rows_kept, span_count}
-use Rattle.pnm_tools.specs.declared.cut.CutBox.{CutBox}
-use Rattle.pnm_tools.specs.declared.cut.Span.{Span}
-use Rattle.pnm_tools.specs.declared.tool.Tool.TheVariants.{Cut}
-use Rattle.pnm_tools.proofs.CutRowLaws.{all_kept, cut_row_by, row_inside, row_outside}
-use Rattle.pnm_samples.proofs.CutLaws.{length-cut_rows}
-use Rattle.pnm_row_tools.specs.declared.cut.Parts.{Parts}
-use Rattle.pnm_row_tools.specs.Internal.EachRow.{changed, held_samples, part, parts_of}
-use Rattle.pnm_row_tools.specs.Internal.RowKeeping.{parts_kept}
+use Rattle.pnm_row_tools.proofs.Words.{◌≡◌, ◌⊎◌, inl, inr, ℕ, zero, suc, ◌+◌, ◌-◌, ◌*◌, ◌<◌, ◌≤◌, Some, List, [], ◌∷◌, ◌++◌, get_or, length, map, take, drop}
+use Rattle.pnm_row_tools.proofs.Words.{All, refl, sym, ap, subst, ◌∙◌, arith, add-mul, mul-le-mul, length-drop, AllByRecursion, length-map, take_all}
+use Rattle.pnm_row_tools.proofs.Words.{All-from_recursion, All-map, Shape, row_length, AreRows, AreRowsWithin, row_lists, RowVec, length_of_lists, cut_rows}
+use Rattle.pnm_row_tools.proofs.Words.{IsRowOf, rows_answer, columns_of_row, columns_kept, rows_kept, span_count, CutBox, Span, Cut, all_kept, cut_row_by}
+use Rattle.pnm_row_tools.proofs.Words.{row_inside, row_outside, length-cut_rows, Parts, changed, held_samples, part, parts_of, parts_kept}
+use Rattle.std.proofs.lemmas.List.{length-take-le}
 use Rattle.pnm_row_tools.proofs.EachRowLaws.{cut_again, cut_between, length-changed, part_long, part_within, rows_between}
 use Rattle.pnm_row_tools.proofs.HeldRowsLaws.{held_cut, held_long, length_of_shape}
 
@@ -29,23 +13,22 @@ abbrev pub LieIn : Span → Shape → Type 0
 LieIn columns s = (columns.first ≤ columns.last) × (columns.last < s.width)
 
 -- the samples of a row that are kept lie in it
-pub kept_fit : (columns : Span) (s : Shape) (each : ℕ) → LieIn columns s → each ≡ row_length s
-    → columns.first * s.depth + span_count columns * s.depth ≤ each
-kept_fit columns s each lie is =
+pub kept_fit : (columns : Span) (s : Shape) {each : ℕ} → LieIn columns s → each ≡ row_length s → columns.first * s.depth + span_count columns * s.depth ≤ each
+kept_fit columns s lie is =
     let n : ℕ = span_count columns in
     let fit : (columns.first + n) * s.depth ≤ s.width * s.depth =
     mul-le-mul {n₁ = columns.first + n} {m₁ = s.depth} {n₂ = s.width} {m₂ = s.depth} (omega (arith, lie.0, lie.1)) (omega arith) in
     omega (arith, fit, is, add-mul columns.first n s.depth)
 
 -- the parts of all rows, one after another, are the columns that are kept of each
-pub columns_of_rows : (columns : Span) (s : Shape) (count each : ℕ) (samples : List ℕ) → LieIn columns s → each ≡ row_length s
-    → count * each ≤ length samples
-    → cut_rows count (span_count columns * s.depth) (changed (part (columns.first * s.depth) (span_count columns * s.depth)) count each samples)
-    ≡ map (columns_of_row columns s.depth) (cut_rows count each samples)
-columns_of_rows columns s count each samples lie is enough =
+pub columns_of_rows : (columns : Span) (s : Shape) (count : ℕ) {each : ℕ} (samples : List ℕ) → LieIn columns s → each ≡ row_length s
+    → count * each ≤ length samples → cut_rows count (span_count columns * s.depth)
+    (changed (part (columns.first * s.depth) (span_count columns * s.depth)) count each samples) ≡ map (columns_of_row columns s.depth)
+    (cut_rows count each samples)
+columns_of_rows columns s count {each} samples lie is enough =
     let size : ℕ = span_count columns * s.depth in
-    let fits : columns.first * s.depth + size ≤ each = kept_fit columns s each lie is in
-    cut_again (part (columns.first * s.depth) size) each size (part_long (columns.first * s.depth) size each fits) count samples enough
+    let fits : columns.first * s.depth + size ≤ each = kept_fit columns s lie is in
+    cut_again (part (columns.first * s.depth) size) each size (part_long (columns.first * s.depth) size fits) count samples enough
 
 -- rows of which all columns are kept
 pub all_columns : (columns : Span) (s : Shape) (rows : List (List ℕ)) → LieIn columns s → span_count columns * s.depth ≡ row_length s
@@ -79,117 +62,111 @@ are_cut columns among s count each held rows lie within some whole cut are = rec
   lie = lie;
   some = within.0;
   below = omega (arith, within.1, ap length cut, length_of_lists count each held whole);
-  each_is = length_of_shape s count each held rows some whole cut are;
+  each_is = length_of_shape s count each held some whole cut are;
   long = held_long count each held whole;
   cut = cut ∙ sym (held_cut count each held whole);
   are = are;
 }
 
--- the rows that are kept lie in the samples
-pub rows_fit : (columns among : Span) (s : Shape) (count each : ℕ) (samples : List ℕ) (rows : List (List ℕ)) → AreCut columns among s count each samples rows
-    → among.first * each + span_count among * each ≤ length samples
-rows_fit columns among s count each samples rows h =
-    let n : ℕ = span_count among in
-    let within : (among.first + n) * each ≤ count * each =
-    mul-le-mul {n₁ = among.first + n} {m₁ = each} {n₂ = count} {m₂ = each} (omega (arith, h.some, h.below)) (omega arith) in
-    omega (arith, within, h.long, add-mul among.first n each)
-
--- the rows that are kept are those that are cut from the samples from the first of them on
-rows_of_span : (columns among : Span) (s : Shape) (count each : ℕ) (samples : List ℕ) (rows : List (List ℕ)) → AreCut columns among s count each samples rows
-    → cut_rows (span_count among) each (drop (among.first * each) samples) ≡ take (span_count among) (drop among.first rows)
-rows_of_span columns among s count each samples rows h =
-    cut_between among.first (span_count among) count each samples (omega (arith, h.some, h.below))
-    ∙ ap (λ (l : List (List ℕ)). take (span_count among) (drop among.first l)) (sym h.cut)
-
--- so do the parts that are kept, and the samples that hold them are as many
-pub parts_fit : (columns among : Span) (s : Shape) (count each : ℕ) (parts : Parts) (samples items : List ℕ) (rows : List (List ℕ))
-    → AreCut columns among s count each samples rows → parts ≡ parts_kept columns among s.depth each → items ≡ samples
-    → parts.top * parts.row_length + parts.count * parts.row_length ≤ length items
-parts_fit columns among s count each parts samples items rows h is same =
-    subst (λ (p : Parts). p.top * p.row_length + p.count * p.row_length ≤ length items) (sym is)
-    (omega (arith, rows_fit columns among s count each samples rows h, ap length same))
-
-pub part_fits : (columns among : Span) (s : Shape) (count each : ℕ) (parts : Parts) (samples : List ℕ) (rows : List (List ℕ))
-    → AreCut columns among s count each samples rows → parts ≡ parts_kept columns among s.depth each → parts.first + parts.kept ≤ parts.row_length
-part_fits columns among s count each parts samples rows h is =
-    subst (λ (p : Parts). p.first + p.kept ≤ p.row_length) (sym is) (kept_fit columns s each h.lie h.each_is)
-
 -- what is kept, one row after another
 abbrev kept_of : Span → Span → Shape → ℕ → List ℕ → List ℕ
 kept_of columns among s each samples = parts_of (parts_kept columns among s.depth each) samples
 
-made_of : (columns among : Span) (s : Shape) (each : ℕ) (parts : Parts) (samples items made : List ℕ) → parts ≡ parts_kept columns among s.depth each
+made_of : (columns among : Span) (s : Shape) (each : ℕ) {parts : Parts} {samples items made : List ℕ} → parts ≡ parts_kept columns among s.depth each
     → items ≡ samples → made ≡ parts_of parts items → made ≡ kept_of columns among s each samples
-made_of columns among s each parts samples items made is same made_is =
+made_of columns among s each {items} is same made_is =
     made_is ∙ ap (λ (p : Parts). parts_of p items) is ∙ ap (parts_of (parts_kept columns among s.depth each)) same
 
--- as many samples are kept
-pub kept_long : (columns among : Span) (s : Shape) (count each kept_rows : ℕ) (parts : Parts) (samples items made : List ℕ) (rows : List (List ℕ))
-    → AreCut columns among s count each samples rows → parts ≡ parts_kept columns among s.depth each → items ≡ samples → made ≡ parts_of parts items
-    → kept_rows ≡ among.last - among.first + 1 → length made ≡ kept_rows * parts.kept
-kept_long columns among s count each kept_rows parts samples items made rows h is same made_is many =
-    let start : ℕ = columns.first * s.depth in
-    let size : ℕ = span_count columns * s.depth in
-    let rest : List ℕ = drop (among.first * each) samples in
-    let enough : span_count among * each ≤ length rest =
-    omega (arith, rows_fit columns among s count each samples rows h, length-drop (among.first * each) samples) in
-    ap length (made_of columns among s each parts samples items made is same made_is)
-    ∙ length-changed (part start size) each size (part_long start size each (kept_fit columns s each h.lie h.each_is)) (span_count among) rest enough
-    ∙ ap (λ (n : ℕ). n * size) (omega (arith, many, h.some)) ∙ ap (λ (p : Parts). kept_rows * p.kept) (sym is)
+module _ {columns among : Span} {s : Shape} {count each : ℕ} {samples : List ℕ} {rows : List (List ℕ)} where
+  -- the rows that are kept lie in the samples
+  pub rows_fit : AreCut columns among s count each samples rows → among.first * each + span_count among * each ≤ length samples
+  rows_fit h =
+      let n : ℕ = span_count among in
+      let within : (among.first + n) * each ≤ count * each =
+      mul-le-mul {n₁ = among.first + n} {m₁ = each} {n₂ = count} {m₂ = each} (omega (arith, h.some, h.below)) (omega arith) in
+      omega (arith, within, h.long, add-mul among.first n each)
 
--- cut again they are the columns of the rows that are kept
-pub kept_rows_of : (columns among : Span) (s : Shape) (count each kept_rows : ℕ) (parts : Parts) (samples items made : List ℕ) (rows : List (List ℕ))
-    → AreCut columns among s count each samples rows → parts ≡ parts_kept columns among s.depth each → items ≡ samples → made ≡ parts_of parts items
-    → kept_rows ≡ among.last - among.first + 1
-    → cut_rows kept_rows parts.kept made ≡ map (columns_of_row columns s.depth) (take (span_count among) (drop among.first rows))
-kept_rows_of columns among s count each kept_rows parts samples items made rows h is same made_is many =
-    let size : ℕ = span_count columns * s.depth in
-    let rest : List ℕ = drop (among.first * each) samples in
-    let enough : span_count among * each ≤ length rest =
-    omega (arith, rows_fit columns among s count each samples rows h, length-drop (among.first * each) samples) in
-    ap (cut_rows kept_rows parts.kept) (made_of columns among s each parts samples items made is same made_is)
-    ∙ ap (λ (p : Parts). cut_rows kept_rows p.kept (kept_of columns among s each samples)) is
-    ∙ ap (λ (n : ℕ). cut_rows n size (kept_of columns among s each samples)) (omega (arith, many, h.some))
-    ∙ columns_of_rows columns s (span_count among) each rest h.lie h.each_is enough
-    ∙ ap (map (columns_of_row columns s.depth)) (rows_of_span columns among s count each samples rows h)
+  -- the rows that are kept are those that are cut from the samples from the first of them on
+  rows_of_span : AreCut columns among s count each samples rows
+      → cut_rows (span_count among) each (drop (among.first * each) samples) ≡ take (span_count among) (drop among.first rows)
+  rows_of_span h =
+      cut_between among.first (span_count among) count each samples (omega (arith, h.some, h.below))
+      ∙ ap (λ (l : List (List ℕ)). take (span_count among) (drop among.first l)) (sym h.cut)
 
--- a part of each of the rows that are kept, where these are lists
-pub lists_kept : (columns among : Span) (s : Shape) (count each kept_rows : ℕ) (parts : Parts) (samples : List ℕ) (bits made rows : List (List ℕ))
-    → AreCut columns among s count each samples rows → parts ≡ parts_kept columns among s.depth each → rows ≡ bits
-    → made ≡ map (λ row. take parts.kept (drop parts.first row)) (take parts.count (drop parts.top bits)) → kept_rows ≡ among.last - among.first + 1
-    → ((length made ≡ kept_rows) × All (λ row. length row ≡ parts.kept) made)
-    × (made ≡ map (columns_of_row columns s.depth) (take (span_count among) (drop among.first rows)))
-lists_kept columns among s count each kept_rows parts samples bits made rows h is same made_is many =
-    let start : ℕ = columns.first * s.depth in
-    let size : ℕ = span_count columns * s.depth in
-    let n : ℕ = span_count among in
-    let kept : List (List ℕ) = take n (drop among.first rows) in
-    let made_of_rows : made ≡ map (columns_of_row columns s.depth) kept =
-    made_is ∙ ap (λ (p : Parts). map (part p.first p.kept) (take p.count (drop p.top bits))) is
-    ∙ ap (λ (l : List (List ℕ)). map (part start size) (take n (drop among.first l))) (sym same) in
-    let are = All-from_recursion (IsRowOf s) kept (rows_between (IsRowOf s) among.first n rows h.are) in
-    let long : All (λ row. length row ≡ size) (map (part start size) kept) =
-    All-map (λ (row : List ℕ). length row ≡ size) (part start size) kept (λ k d lt.
-    part_long start size each (kept_fit columns s each h.lie h.each_is) (get_or kept k d) ((are k d lt).count ∙ sym h.each_is)) in
-    let rows_long : length rows ≡ count = ap length h.cut ∙ length-cut_rows count each samples in
-    let left : length (drop among.first rows) ≡ count - among.first = length-drop among.first rows ∙ ap (λ (m : ℕ). m - among.first) rows_long in
-    let enough : n ≤ length (drop among.first rows) = omega (arith, left, h.some, h.below) in
-    let all : length kept ≡ kept_rows = length-take-le n (drop among.first rows) enough ∙ omega (arith, many, h.some) in (
-      (
-        ap length made_of_rows ∙ length-map kept (part start size) ∙ all,
-        subst (λ (p : Parts). All (λ row. length row ≡ p.kept) made) (sym is)
-            (subst (All (λ (row : List ℕ). length row ≡ size)) (sym made_of_rows) long),
-      ),
-      made_of_rows,
-    )
+  -- so do the parts that are kept, and the samples that hold them are as many
+  pub parts_fit : {parts : Parts} {items : List ℕ} → AreCut columns among s count each samples rows → parts ≡ parts_kept columns among s.depth each
+      → items ≡ samples → parts.top * parts.row_length + parts.count * parts.row_length ≤ length items
+  parts_fit {items} h is same =
+      subst (λ (p : Parts). p.top * p.row_length + p.count * p.row_length ≤ length items) (sym is) (omega (arith, rows_fit h, ap length same))
 
--- a row of them holds the part
-pub part_in_row : (columns among : Span) (s : Shape) (count each : ℕ) (parts : Parts) (samples : List ℕ) (bits rows : List (List ℕ))
-    → AreCut columns among s count each samples rows → parts ≡ parts_kept columns among s.depth each → All (λ row. length row ≡ each) bits
-    → (k : ℕ) → k < length bits → parts.first + parts.kept ≤ length (get_or bits k [])
-part_in_row columns among s count each parts samples bits rows h is long k lt =
-    let row_is : parts.row_length ≡ each = ap (λ (p : Parts). p.row_length) is in
-    omega (arith, part_fits columns among s count each parts samples rows h is, row_is, long k [] lt)
+  pub part_fits : {parts : Parts} → AreCut columns among s count each samples rows → parts ≡ parts_kept columns among s.depth each
+      → parts.first + parts.kept ≤ parts.row_length
+  part_fits h is = subst (λ (p : Parts). p.first + p.kept ≤ p.row_length) (sym is) (kept_fit columns s h.lie h.each_is)
+
+  -- as many samples are kept
+  pub kept_long : {kept_rows : ℕ} {parts : Parts} {items made : List ℕ} → AreCut columns among s count each samples rows
+      → parts ≡ parts_kept columns among s.depth each → items ≡ samples → made ≡ parts_of parts items → kept_rows ≡ among.last - among.first + 1
+      → length made ≡ kept_rows * parts.kept
+  kept_long {kept_rows} h is same made_is many =
+      let start : ℕ = columns.first * s.depth in
+      let size : ℕ = span_count columns * s.depth in
+      let rest : List ℕ = drop (among.first * each) samples in
+      let enough : span_count among * each ≤ length rest =
+      omega (arith, rows_fit h, length-drop (among.first * each) samples) in
+      ap length (made_of columns among s each is same made_is)
+      ∙ length-changed (part start size) each size (part_long start size (kept_fit columns s h.lie h.each_is)) (span_count among) rest enough
+      ∙ ap (λ (n : ℕ). n * size) (omega (arith, many, h.some)) ∙ ap (λ (p : Parts). kept_rows * p.kept) (sym is)
+
+  -- cut again they are the columns of the rows that are kept
+  pub kept_rows_of : {kept_rows : ℕ} {parts : Parts} {items made : List ℕ} → AreCut columns among s count each samples rows
+      → parts ≡ parts_kept columns among s.depth each → items ≡ samples → made ≡ parts_of parts items → kept_rows ≡ among.last - among.first + 1
+      → cut_rows kept_rows parts.kept made ≡ map (columns_of_row columns s.depth) (take (span_count among) (drop among.first rows))
+  kept_rows_of {kept_rows} {parts} h is same made_is many =
+      let size : ℕ = span_count columns * s.depth in
+      let rest : List ℕ = drop (among.first * each) samples in
+      let enough : span_count among * each ≤ length rest =
+      omega (arith, rows_fit h, length-drop (among.first * each) samples) in
+      ap (cut_rows kept_rows parts.kept) (made_of columns among s each is same made_is)
+      ∙ ap (λ (p : Parts). cut_rows kept_rows p.kept (kept_of columns among s each samples)) is
+      ∙ ap (λ (n : ℕ). cut_rows n size (kept_of columns among s each samples)) (omega (arith, many, h.some))
+      ∙ columns_of_rows columns s (span_count among) rest h.lie h.each_is enough
+      ∙ ap (map (columns_of_row columns s.depth)) (rows_of_span h)
+
+  -- a part of each of the rows that are kept, where these are lists
+  pub lists_kept : {kept_rows : ℕ} {parts : Parts} {bits made : List (List ℕ)} → AreCut columns among s count each samples rows
+      → parts ≡ parts_kept columns among s.depth each → rows ≡ bits → made ≡ map (λ row. take parts.kept (drop parts.first row))
+      (take parts.count (drop parts.top bits)) → kept_rows ≡ among.last - among.first + 1
+      → ((length made ≡ kept_rows) × All (λ row. length row ≡ parts.kept) made) × (made ≡ map (columns_of_row columns s.depth) (take (span_count among) (drop
+      among.first rows)))
+  lists_kept {kept_rows} {bits} {made} h is same made_is many =
+      let start : ℕ = columns.first * s.depth in
+      let size : ℕ = span_count columns * s.depth in
+      let n : ℕ = span_count among in
+      let kept : List (List ℕ) = take n (drop among.first rows) in
+      let made_of_rows : made ≡ map (columns_of_row columns s.depth) kept =
+      made_is ∙ ap (λ (p : Parts). map (part p.first p.kept) (take p.count (drop p.top bits))) is
+      ∙ ap (λ (l : List (List ℕ)). map (part start size) (take n (drop among.first l))) (sym same) in
+      let are = All-from_recursion (IsRowOf s) kept (rows_between (IsRowOf s) among.first n rows h.are) in
+      let long : All (λ row. length row ≡ size) (map (part start size) kept) =
+      All-map (λ (row : List ℕ). length row ≡ size) (part start size) kept (λ k d lt.
+      part_long start size (kept_fit columns s h.lie h.each_is) (get_or kept k d) ((are k d lt).count ∙ sym h.each_is)) in
+      let rows_long : length rows ≡ count = ap length h.cut ∙ length-cut_rows count each samples in
+      let left : length (drop among.first rows) ≡ count - among.first = length-drop among.first rows ∙ ap (λ (m : ℕ). m - among.first) rows_long in
+      let enough : n ≤ length (drop among.first rows) = omega (arith, left, h.some, h.below) in
+      let all : length kept ≡ kept_rows = length-take-le n (drop among.first rows) enough ∙ omega (arith, many, h.some) in (
+        (
+          ap length made_of_rows ∙ length-map kept (part start size) ∙ all,
+          subst (λ (p : Parts). All (λ row. length row ≡ p.kept) made) (sym is) (subst (All (λ (row : List ℕ). length row ≡ size)) (sym made_of_rows) long),
+        ),
+        made_of_rows,
+      )
+
+  -- a row of them holds the part
+  pub part_in_row : {parts : Parts} (bits : List (List ℕ)) → AreCut columns among s count each samples rows → parts ≡ parts_kept columns among s.depth each
+      → All (λ row. length row ≡ each) bits → (k : ℕ) → k < length bits → parts.first + parts.kept ≤ length (get_or bits k [])
+  part_in_row {parts} bits h is long k lt =
+      let row_is : parts.row_length ≡ each = ap (λ (p : Parts). p.row_length) is in
+      omega (arith, part_fits h is, row_is, long k [] lt)
 
 -- no sample of what is kept is above the maxval
 pub columns_within : (columns : Span) (s : Shape) (first n : ℕ) (rows : List (List ℕ)) → AllByRecursion (IsRowOf s) rows
@@ -198,7 +175,7 @@ columns_within columns s first n rows are =
     let kept : List (List ℕ) = take n (drop first rows) in
     let known = All-from_recursion (IsRowOf s) kept (rows_between (IsRowOf s) first n rows are) in
     All-map (λ (row : List ℕ). All (λ sample. sample ≤ s.maxval) row) (columns_of_row columns s.depth) kept (λ k d lt.
-    part_within (columns.first * s.depth) (span_count columns * s.depth) s (get_or kept k d) (known k d lt))
+    part_within (columns.first * s.depth) (span_count columns * s.depth) (known k d lt))
 
 -- where all rows are among those that are kept
 pub all_rows : (columns among : Span) (s : Shape) (rows : List (List ℕ)) → LieIn columns s → span_count columns * s.depth ≡ row_length s
@@ -212,56 +189,47 @@ all_rows columns among s rows lie all are many within =
 
 -- ---- the rows that answer
 
--- those before the first row that is kept are answered by none
-none_before : (box : CutBox) (s : Shape) (columns kept : Span) (y : ℕ) (rows : List (List ℕ)) → columns_kept box s ≡ Some columns
-    → rows_kept box s ≡ Some kept → y + length rows ≤ kept.first → rows_answer (Cut box) s y rows ≡ []
-none_before box s columns kept y [] has_columns has_rows before = refl
-none_before box s columns kept y (row ∷ rows) has_columns has_rows before =
-    ap (λ (l : List (List ℕ)). l ++ rows_answer (Cut box) s (y + 1) rows)
-    (cut_row_by box s y row (Some columns) (Some kept) (sym has_columns) (sym has_rows)
-    ∙ row_outside columns kept s.depth y row (inl (omega (arith, before))))
-    ∙ none_before box s columns kept (y + 1) rows has_columns has_rows (omega (arith, before))
+module _ (box : CutBox) (s : Shape) {columns kept : Span} where
+  -- those before the first row that is kept are answered by none
+  none_before : (y : ℕ) (rows : List (List ℕ)) → columns_kept box s ≡ Some columns → rows_kept box s ≡ Some kept → y + length rows ≤ kept.first
+      → rows_answer (Cut box) s y rows ≡ []
+  none_before y [] has_columns has_rows before = refl
+  none_before y (row ∷ rows) has_columns has_rows before =
+      ap (λ (l : List (List ℕ)). l ++ rows_answer (Cut box) s (y + 1) rows) (cut_row_by box s y row (Some columns) (Some kept) (sym has_columns) (sym has_rows)
+      ∙ row_outside columns kept s.depth y row (inl (omega (arith, before))))
+      ∙ none_before (y + 1) rows has_columns has_rows (omega (arith, before))
 
--- and so are those behind the last one
-none_behind : (box : CutBox) (s : Shape) (columns kept : Span) (y : ℕ) (rows : List (List ℕ)) → columns_kept box s ≡ Some columns
-    → rows_kept box s ≡ Some kept → kept.first ≤ kept.last → kept.last < y → rows_answer (Cut box) s y rows ≡ []
-none_behind box s columns kept y [] has_columns has_rows some behind = refl
-none_behind box s columns kept y (row ∷ rows) has_columns has_rows some behind =
-    ap (λ (l : List (List ℕ)). l ++ rows_answer (Cut box) s (y + 1) rows)
-    (cut_row_by box s y row (Some columns) (Some kept) (sym has_columns) (sym has_rows)
-    ∙ row_outside columns kept s.depth y row (inr (omega (arith, some, behind), behind)))
-    ∙ none_behind box s columns kept (y + 1) rows has_columns has_rows some (omega (arith, behind))
+  -- and so are those behind the last one
+  none_behind : (y : ℕ) (rows : List (List ℕ)) → columns_kept box s ≡ Some columns → rows_kept box s ≡ Some kept → kept.first ≤ kept.last → kept.last < y
+      → rows_answer (Cut box) s y rows ≡ []
+  none_behind y [] has_columns has_rows some behind = refl
+  none_behind y (row ∷ rows) has_columns has_rows some behind =
+      ap (λ (l : List (List ℕ)). l ++ rows_answer (Cut box) s (y + 1) rows) (cut_row_by box s y row (Some columns) (Some kept) (sym has_columns) (sym has_rows)
+      ∙ row_outside columns kept s.depth y row (inr (omega (arith, some, behind), behind)))
+      ∙ none_behind (y + 1) rows has_columns has_rows some (omega (arith, behind))
 
--- where none is kept
-pub none_answers : (box : CutBox) (s : Shape) (columns kept : Span) (y count : ℕ) (rows : List (List ℕ)) → columns_kept box s ≡ Some columns
-    → rows_kept box s ≡ Some kept → kept.first ≤ kept.last → count ≡ length rows → (y + count ≤ kept.first) ⊎ (kept.last < y)
-    → rows_answer (Cut box) s y rows ≡ []
-none_answers box s columns kept y count rows has_columns has_rows some many (inl before) =
-    none_before box s columns kept y rows has_columns has_rows (omega (arith, before, many))
-none_answers box s columns kept y count rows has_columns has_rows some many (inr behind) = none_behind box s columns kept y rows has_columns
-    has_rows some behind
+  -- where none is kept
+  pub none_answers : (y : ℕ) {count : ℕ} (rows : List (List ℕ)) → columns_kept box s ≡ Some columns → rows_kept box s ≡ Some kept → kept.first ≤ kept.last
+      → count ≡ length rows → (y + count ≤ kept.first) ⊎ (kept.last < y) → rows_answer (Cut box) s y rows ≡ []
+  none_answers y rows has_columns has_rows some many (inl before) = none_before y rows has_columns has_rows (omega (arith, before, many))
+  none_answers y rows has_columns has_rows some many (inr behind) = none_behind y rows has_columns has_rows some behind
 
--- those that are kept are answered by their columns, so many behind the first ones
-pub some_answer : (box : CutBox) (s : Shape) (columns kept : Span) (y skipped count : ℕ) (rows : List (List ℕ)) → columns_kept box s ≡ Some columns
-    → rows_kept box s ≡ Some kept → kept.first ≤ kept.last → skipped ≡ kept.first - y → y + skipped + count ≤ kept.last + 1
-    → length rows ≡ skipped + count + ((y + length rows) - (kept.last + 1))
-    → rows_answer (Cut box) s y rows ≡ map (columns_of_row columns s.depth) (take count (drop skipped rows))
-some_answer box s columns kept y zero zero [] has_columns has_rows some before inside behind = refl
-some_answer box s columns kept y zero (suc count) [] has_columns has_rows some before inside behind = refl
-some_answer box s columns kept y (suc skipped) zero [] has_columns has_rows some before inside behind = refl
-some_answer box s columns kept y (suc skipped) (suc count) [] has_columns has_rows some before inside behind = refl
-some_answer box s columns kept y zero zero (row ∷ rows) has_columns has_rows some before inside behind =
-    none_behind box s columns kept y (row ∷ rows) has_columns has_rows some (omega (arith, before, behind))
-some_answer box s columns kept y zero (suc count) (row ∷ rows) has_columns has_rows some before inside behind =
-    ap (λ (l : List (List ℕ)). l ++ rows_answer (Cut box) s (y + 1) rows)
-    (cut_row_by box s y row (Some columns) (Some kept) (sym has_columns) (sym has_rows)
-    ∙ row_inside columns kept s.depth y row (omega (arith, before)) (omega (arith, inside)))
-    ∙ ap (λ (l : List (List ℕ)). columns_of_row columns s.depth row ∷ l)
-    (some_answer box s columns kept (y + 1) zero count rows has_columns has_rows some (omega (arith, before)) (omega (arith, inside))
-    (omega (arith, behind)))
-some_answer box s columns kept y (suc skipped) count (row ∷ rows) has_columns has_rows some before inside behind =
-    ap (λ (l : List (List ℕ)). l ++ rows_answer (Cut box) s (y + 1) rows)
-    (cut_row_by box s y row (Some columns) (Some kept) (sym has_columns) (sym has_rows)
-    ∙ row_outside columns kept s.depth y row (inl (omega (arith, before))))
-    ∙ some_answer box s columns kept (y + 1) skipped count rows has_columns has_rows some (omega (arith, before)) (omega (arith, inside))
-    (omega (arith, behind))
+  -- those that are kept are answered by their columns, so many behind the first ones
+  pub some_answer : (y skipped count : ℕ) (rows : List (List ℕ)) → columns_kept box s ≡ Some columns → rows_kept box s ≡ Some kept → kept.first ≤ kept.last
+      → skipped ≡ kept.first - y → y + skipped + count ≤ kept.last + 1 → length rows ≡ skipped + count + ((y + length rows) - (kept.last + 1))
+      → rows_answer (Cut box) s y rows ≡ map (columns_of_row columns s.depth) (take count (drop skipped rows))
+  some_answer y zero zero [] has_columns has_rows some before inside behind = refl
+  some_answer y zero (suc count) [] has_columns has_rows some before inside behind = refl
+  some_answer y (suc skipped) zero [] has_columns has_rows some before inside behind = refl
+  some_answer y (suc skipped) (suc count) [] has_columns has_rows some before inside behind = refl
+  some_answer y zero zero (row ∷ rows) has_columns has_rows some before inside behind =
+      none_behind y (row ∷ rows) has_columns has_rows some (omega (arith, before, behind))
+  some_answer y zero (suc count) (row ∷ rows) has_columns has_rows some before inside behind =
+      ap (λ (l : List (List ℕ)). l ++ rows_answer (Cut box) s (y + 1) rows) (cut_row_by box s y row (Some columns) (Some kept) (sym has_columns) (sym has_rows)
+      ∙ row_inside columns kept s.depth y row (omega (arith, before)) (omega (arith, inside)))
+      ∙ ap (λ (l : List (List ℕ)). columns_of_row columns s.depth row ∷ l)
+      (some_answer (y + 1) zero count rows has_columns has_rows some (omega (arith, before)) (omega (arith, inside)) (omega (arith, behind)))
+  some_answer y (suc skipped) count (row ∷ rows) has_columns has_rows some before inside behind =
+      ap (λ (l : List (List ℕ)). l ++ rows_answer (Cut box) s (y + 1) rows) (cut_row_by box s y row (Some columns) (Some kept) (sym has_columns) (sym has_rows)
+      ∙ row_outside columns kept s.depth y row (inl (omega (arith, before))))
+      ∙ some_answer (y + 1) skipped count rows has_columns has_rows some (omega (arith, before)) (omega (arith, inside)) (omega (arith, behind))

@@ -1,19 +1,8 @@
 -- Rows that are held one after another, of which each becomes another row.
-use Rattle.std.proofs.Common.{◌≡◌, ℕ, zero, suc, ◌+◌, ◌*◌, ◌<◌, ◌≤◌, List, [], ◌∷◌, ◌++◌, length, map, take, drop, All, refl, sym, ap, ◌∙◌, ◌-◌}
-use Rattle.std.proofs.Common.{arith, append-nil, append_assoc, length-take-le, length-drop, mul-le-mul, suc-mul, zero-mul}
-use Rattle.std.specs.List.{AllByRecursion, copy_within}
-use Rattle.std.proofs.Math.Seq.{paste, take-add}
-use Rattle.std.proofs.lemmas.List.{drop_at, drop-drop, drop-take, length-append, take-append-drop, take_at, take-take}
-use Rattle.std.proofs.lemmas.List.Edits.{drop-paste, length-paste, take-paste}
-use Rattle.std.proofs.lemmas.List.Elements.{All-drop, All-take}
-use Rattle.pnm_image.proofs.RowLaws.{row_ends_within}
-use Rattle.pnm_image.specs.Images.{cut_rows}
-use Rattle.pnm_image.specs.Places.{IsRowOf}
-use Rattle.pnm_image.specs.declared.shape.Shape.{Shape}
-use Rattle.pnm_tools.specs.declared.tool.Tool.{Tool}
-use Rattle.pnm_tools.specs.Answering.{rows_answer}
-use Rattle.pnm_tools.specs.Tools.{row_answer}
-use Rattle.pnm_row_tools.specs.Internal.EachRow.{changed, part}
+use Rattle.pnm_row_tools.proofs.Words.{◌≡◌, ℕ, zero, suc, ◌+◌, ◌*◌, ◌<◌, ◌≤◌, List, [], ◌∷◌, ◌++◌, length, map, take, drop, All, refl, sym, ap, ◌∙◌, ◌-◌, arith}
+use Rattle.pnm_row_tools.proofs.Words.{append-nil, append_assoc, length-take-le, length-drop, mul-le-mul, suc-mul, zero-mul, AllByRecursion, copy_within, paste}
+use Rattle.pnm_row_tools.proofs.Words.{take-add, drop_at, drop-drop, drop-take, length-append, take-append-drop, take_at, take-take, drop-paste, length-paste}
+use Rattle.pnm_row_tools.proofs.Words.{take-paste, All-drop, All-take, row_ends_within, cut_rows, IsRowOf, Shape, Tool, rows_answer, row_answer, changed, part}
 
 -- a row more
 pub one_row_more : {X : Type 0} (f : List X → List X) (each i : ℕ) (samples : List X)
@@ -127,10 +116,10 @@ row_behind {X = X} base start size each i samples fits =
     ∙ ap (λ (l : List X). before ++ l) (part_among start size each (base + i * each) samples fits)
 
 -- the part of one row more is moved
-pub part_moved : {X : Type 0} (base start size each i count from to dest : ℕ) (old now new : List X) → new ≡ copy_within now from to dest
+pub part_moved : {X : Type 0} {base start size each i : ℕ} (count : ℕ) {from to dest : ℕ} {old now new : List X} → new ≡ copy_within now from to dest
     → from ≡ base + i * each + start → to ≡ from + size → dest ≡ i * size → start + size ≤ each → i < count → base + count * each ≤ length old
     → AreMoved base start size each i old now → AreMoved base start size each (i + 1) old new
-part_moved {X = X} base start size each i count from to dest old now new made from_is to_is dest_is fits below count_is moved =
+part_moved {X = X} {base} {start} {size} {each} {i} count {from} {dest} {old} {now} {new} made from_is to_is dest_is fits below count_is moved =
     let at : ℕ = base + i * each in
     let to_front : ℕ = i * size in
     let next : suc i ≡ i + 1 = omega arith in
@@ -172,24 +161,24 @@ none_moved base start size each old = record {
 }
 
 -- where a part is as long as it is to be
-pub part_long : {X : Type 0} (start size each : ℕ) → start + size ≤ each → (row : List X) → length row ≡ each → length (part start size row) ≡ size
-part_long start size each fits row long = length-take-le size (drop start row) (omega (arith, length-drop start row, long, fits))
+pub part_long : {X : Type 0} (start size : ℕ) {each : ℕ} → start + size ≤ each → (row : List X) → length row ≡ each → length (part start size row) ≡ size
+part_long start size fits row long = length-take-le size (drop start row) (omega (arith, length-drop start row, long, fits))
 
 -- a part of a row has no sample above the maxval
-pub part_within : (start size : ℕ) (s : Shape) (row : List ℕ) → IsRowOf s row → All (λ sample. sample ≤ s.maxval) (part start size row)
-part_within start size s row is =
+pub part_within : (start size : ℕ) {s : Shape} {row : List ℕ} → IsRowOf s row → All (λ sample. sample ≤ s.maxval) (part start size row)
+part_within start size {s} {row} is =
     let P : ℕ → Type 0 = λ sample. sample ≤ s.maxval in
     All-take P size (drop start row) (All-drop P start row is.range)
 
 -- once the parts of all rows are moved
-pub all_moved : {X : Type 0} (base start size each i count : ℕ) (old now : List X) → i ≡ count → AreMoved base start size each i old now
+pub all_moved : {X : Type 0} {base start size each i : ℕ} (count : ℕ) {old now : List X} → i ≡ count → AreMoved base start size each i old now
     → take (count * size) now ≡ changed (part start size) count each (drop base old)
-all_moved {X = X} base start size each i count old now all moved =
+all_moved {X = X} {base} {start} {size} {each} count {old} {now} all moved =
     ap (λ (n : ℕ). take (n * size) now) (sym all) ∙ moved.front ∙ ap (λ (n : ℕ). changed (part start size) n each (drop base old)) all
 
 -- samples that are copied to where they are
-pub copied_to_self : {X : Type 0} (samples : List X) (from to count : ℕ) → from ≡ to → samples ≡ copy_within samples from (from + count) to
-copied_to_self {X = X} samples from to count same =
+pub copied_to_self : {X : Type 0} (samples : List X) {from to : ℕ} (count : ℕ) → from ≡ to → samples ≡ copy_within samples from (from + count) to
+copied_to_self {X = X} samples {from} {to} count same =
     let rest : List X = drop to samples in
     let size : (from + count) - from ≡ count = omega arith in
     sym (

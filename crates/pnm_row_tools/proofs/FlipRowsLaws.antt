@@ -1,35 +1,14 @@
 -- Rows that are held one after another, each turned the last pixel first.
-use Rattle.std.proofs.Common.{◌≡◌, ℕ, zero, suc, ◌+◌, ◌-◌, ◌*◌, ◌<◌, ◌≤◌, Bool, true, false, if◌then◌else◌, Option, Some, List, [], ◌∷◌}
-use Rattle.std.proofs.Common.{◌++◌, length, map, take, drop, All, refl, sym, ap, ap₂, subst, ◌∙◌, arith, mul-le-mul, append-nil, append_assoc}
-use Rattle.std.proofs.Common.{add-mul, get_or, length-take-le, length-drop, mul_assoc, reverse, suc-mul, zero-mul}
-use Rattle.std.specs.List.{AllByRecursion, flat_map, range_with_len}
-use borrow.Rule.Slice.PartMut.{put_mid}
-use Rattle.std.proofs.lemmas.List.{drop-append-le, drop_all, drop_at, drop-drop, drop-take, map-append, nil_from_length, reverse-append, take-append-le}
-use Rattle.std.proofs.lemmas.List.{length-map, length-reverse, take-take, take_all, take_at}
-use Rattle.std.proofs.lemmas.Grind.{flat_map-append}
-use Rattle.std.proofs.lemmas.List.Elements.{All-append, All-drop, All-head, All-map, All-tail, All-take}
-use Rattle.pnm_image.specs.declared.shape.Shape.{Shape}
-use Rattle.pnm_image.proofs.RowLaws.{lengths_of_cut_rows}
-use Rattle.pnm_image.specs.Heads.{row_length}
-use Rattle.pnm_image.specs.HeldRows.{AreRows, AreRowsWithin, row_lists}
-use Rattle.pnm_image.specs.declared.rows.RowVec.{RowVec}
-use Rattle.pnm_image.specs.declared.rows.RowVec.TheVariants.{Bits}
-use Rattle.pnm_image.specs.Images.{cut_rows}
-use Rattle.pnm_image.specs.Places.{IsRowOf}
-use Rattle.pnm_tools.specs.Answering.{rows_answer}
-use Rattle.pnm_tools.specs.Flip.{mirrored_row, moves_rows, transform_of, transformed_row}
-use Rattle.pnm_tools.specs.PixelSamples.{pixel_of}
-use Rattle.pnm_tools.specs.declared.flip.FlipWay.{FlipWay}
-use Rattle.pnm_tools.specs.declared.flip.Transform.{Transform}
-use Rattle.pnm_tools.specs.declared.tool.Tool.TheVariants.{Flip}
-use Rattle.pnm_tools.proofs.PickLaws.{columns_end}
-use Rattle.pnm_tools.proofs.RangeLaws.{length_of_equals, pieces_alike, pieces_alike_from, pieces_in_parts}
-use Rattle.pnm_tools.proofs.TransformLaws.{row_moved, row_stays}
-use Rattle.pnm_samples.specs.Cuts.{last_first}
-use Rattle.pnm_samples.proofs.RowOrderLaws.{last_first_long}
-use Rattle.pnm_row_tools.specs.Internal.EachRow.{HoldsRows, changed, held_samples}
-use Rattle.pnm_row_tools.specs.RowKeeping.{IsReversingRows, Reversed, flattened, reversed, reversed_due}
-use Rattle.pnm_row_tools.specs.Internal.RowKeeping.{AreRowsOf}
+use Rattle.pnm_row_tools.proofs.Words.{◌≡◌, ℕ, zero, suc, ◌+◌, ◌-◌, ◌*◌, ◌<◌, ◌≤◌, Bool, true, false, if◌then◌else◌, Option, Some, List, [], ◌∷◌, ◌++◌, length}
+use Rattle.pnm_row_tools.proofs.Words.{map, take, drop, All, refl, sym, ap, ap₂, subst, ◌∙◌, arith, mul-le-mul, append-nil, append_assoc, add-mul, get_or}
+use Rattle.pnm_row_tools.proofs.Words.{length-take-le, length-drop, mul_assoc, reverse, suc-mul, zero-mul, AllByRecursion, flat_map, range_with_len, put_mid}
+use Rattle.pnm_row_tools.proofs.Words.{drop-append-le, drop_all, drop_at, drop-drop, drop-take, map-append, nil_from_length, reverse-append, take-append-le}
+use Rattle.pnm_row_tools.proofs.Words.{length-map, length-reverse, take-take, take_all, take_at, flat_map-append, All-append, All-drop, All-head, All-map}
+use Rattle.pnm_row_tools.proofs.Words.{All-tail, All-take, Shape, lengths_of_cut_rows, row_length, AreRows, AreRowsWithin, row_lists, RowVec, Bits, cut_rows}
+use Rattle.pnm_row_tools.proofs.Words.{IsRowOf, rows_answer, mirrored_row, moves_rows, transform_of, transformed_row, pixel_of, FlipWay, Transform, Flip}
+use Rattle.pnm_row_tools.proofs.Words.{columns_end, length_of_equals, pieces_alike, pieces_alike_from, pieces_in_parts, row_moved, row_stays, last_first}
+use Rattle.pnm_row_tools.proofs.Words.{last_first_long, HoldsRows, changed, held_samples, IsReversingRows, Reversed, flattened, reversed, reversed_due}
+use Rattle.pnm_row_tools.proofs.Words.{AreRowsOf}
 use Rattle.pnm_row_tools.proofs.EachRowLaws.{cut_again, each_answered, length-changed, one_row_more}
 use Rattle.pnm_row_tools.proofs.HeldRowsLaws.{held_cut, held_long, reversed_all}
 use Rattle.pnm_row_tools.proofs.FlipRowLaws.{mirrored_within, one_plane}
@@ -50,15 +29,14 @@ pub record AreMirrored {X : Type 0} (s : Shape) (each i : ℕ) (old now : List X
   pub is : now ≡ changed (mirrored_row s) i each old ++ drop (i * each) old
 
 -- before the first
-pub none_mirrored : {X : Type 0} (s : Shape) (each : ℕ) (old : List X) → AreMirrored s each 0 old old
-none_mirrored s each old = record { is = ap (λ (n : ℕ). drop n old) (sym (zero-mul each)) }
+pub none_mirrored : {X : Type 0} {s : Shape} {each : ℕ} {old : List X} → AreMirrored s each 0 old old
+none_mirrored {each} {old} = record { is = ap (λ (n : ℕ). drop n old) (sym (zero-mul each)) }
 
 -- one row more
-pub row_mirrored : {X : Type 0} (s : Shape) (each i count m : ℕ) (old now turned : List X) → 0 < s.width → each ≡ row_length s → i < count
-    → length old ≡ count * each
-    → AreMirrored s each i old now → m ≡ each → turned ≡ mirrored_row s (take m (drop (i * each) now))
+pub row_mirrored : {X : Type 0} {s : Shape} {each i : ℕ} (count m : ℕ) {old now turned : List X} → 0 < s.width → each ≡ row_length s → i < count
+    → length old ≡ count * each → AreMirrored s each i old now → m ≡ each → turned ≡ mirrored_row s (take m (drop (i * each) now))
     → AreMirrored s each (i + 1) old (put_mid (i * each) m now turned)
-row_mirrored {X = X} s each i count m old now turned some is_each below count_is mirrored size made =
+row_mirrored {X = X} {s} {each} {i} count m {old} {now} {turned} some is_each below count_is mirrored size made =
     let f : List X → List X = mirrored_row s in
     let at : ℕ = i * each in
     let prefix : List X = changed f i each old in
@@ -84,59 +62,58 @@ row_mirrored {X = X} s each i count m old now turned some is_each below count_is
     }
 
 -- once all rows have passed
-pub all_mirrored : {X : Type 0} (s : Shape) (each i count : ℕ) (old now : List X) → i ≡ count → length old ≡ count * each → AreMirrored s each i old now
-    → now ≡ changed (mirrored_row s) count each old
-all_mirrored {X = X} s each i count old now all long mirrored =
+pub all_mirrored : {X : Type 0} {s : Shape} {each i : ℕ} (count : ℕ) {old now : List X} → i ≡ count → length old ≡ count * each
+    → AreMirrored s each i old now → now ≡ changed (mirrored_row s) count each old
+all_mirrored {X = X} {s} {each} count {old} all long mirrored =
     let none : drop (count * each) old ≡ [] = drop_all (count * each) old (omega (arith, long)) in
     mirrored.is ∙ ap (λ (n : ℕ). changed (mirrored_row s) n each old ++ drop (n * each) old) all
     ∙ ap (λ (l : List X). changed (mirrored_row s) count each old ++ l) none ∙ append-nil (changed (mirrored_row s) count each old)
 
 -- a mirrored row has no sample above the maxval
-each_within : (s : Shape) (row : List ℕ) → IsRowOf s row → All (λ sample. sample ≤ s.maxval) (mirrored_row s row)
-each_within s row is = mirrored_within s.maxval s.width s.depth row (mirrored_row s row) refl is.range
+each_within : {s : Shape} {row : List ℕ} → IsRowOf s row → All (λ sample. sample ≤ s.maxval) (mirrored_row s row)
+each_within {s} {row} is = mirrored_within s.maxval s.width s.depth row refl is.range
 
 -- rows that are mirrored in place
-pub rows_in_place : (s : Shape) (count each len : ℕ) (samples items lent new : List ℕ) → new ≡ changed (mirrored_row s) count each lent
+pub rows_in_place : (s : Shape) (count each : ℕ) {len : ℕ} {samples items lent new : List ℕ} → new ≡ changed (mirrored_row s) count each lent
     → length new ≡ length lent → lent ≡ items → items ≡ samples → len ≡ length items
     → take len (new ++ drop (length new) items) ≡ changed (mirrored_row s) count each samples
-rows_in_place s count each len samples items lent new made long same given counted =
+rows_in_place s count each {len} {items} {new} made long same given counted =
     let size : length new ≡ len = long ∙ ap length same ∙ sym counted in
     take_at new (drop (length new) items) len size ∙ made ∙ ap (λ (l : List ℕ). changed (mirrored_row s) count each l) (same ∙ given)
 
 -- they are as many samples
-pub rows_long : (s : Shape) (count each : ℕ) (samples : List ℕ) → 0 < s.width → each ≡ row_length s → length samples ≡ count * each
+pub rows_long : (s : Shape) (count : ℕ) {each : ℕ} (samples : List ℕ) → 0 < s.width → each ≡ row_length s → length samples ≡ count * each
     → length (changed (mirrored_row s) count each samples) ≡ count * each
-rows_long s count each samples some is long =
+rows_long s count {each} samples some is long =
     length-changed (mirrored_row s) each each (λ row whole. mirrored_long s some row (whole ∙ is) ∙ sym is) count samples (omega (arith, long))
 
 -- cut again they are the mirrored rows
-pub rows_cut_again : (s : Shape) (count each : ℕ) (samples : List ℕ) → 0 < s.width → each ≡ row_length s → length samples ≡ count * each
+pub rows_cut_again : (s : Shape) (count : ℕ) {each : ℕ} (samples : List ℕ) → 0 < s.width → each ≡ row_length s → length samples ≡ count * each
     → cut_rows count each (changed (mirrored_row s) count each samples) ≡ map (mirrored_row s) (cut_rows count each samples)
-rows_cut_again s count each samples some is long =
+rows_cut_again s count {each} samples some is long =
     cut_again (mirrored_row s) each each (λ row whole. mirrored_long s some row (whole ∙ is) ∙ sym is) count samples (omega (arith, long))
 
 -- each row is answered by what the way makes of it
-pub rows_turned : (way : FlipWay) (s : Shape) (y : ℕ) (rows made : List (List ℕ)) → moves_rows (transform_of way) ≡ false → (transform_of way).columns_reversed
-    ≡ true
-    → made ≡ map (mirrored_row s) rows → rows_answer (Flip way) s y rows ≡ made
-rows_turned way s y rows made stays reversed is =
+pub rows_turned : (way : FlipWay) (s : Shape) (y : ℕ) (rows : List (List ℕ)) {made : List (List ℕ)} → moves_rows (transform_of way) ≡ false
+    → (transform_of way).columns_reversed ≡ true → made ≡ map (mirrored_row s) rows → rows_answer (Flip way) s y rows ≡ made
+rows_turned way s y rows stays reversed is =
     each_answered (Flip way) s (mirrored_row s) y rows (λ k row from to.
     row_stays way s k row stays ∙ ap (λ (b : Bool). (if b then mirrored_row s row else row) ∷ []) reversed) ∙ sym is
 
 -- ---- rows that are reversed, as pixels of one long row or as they are
 
 -- rows and one row behind them, cut again
-cut_behind : (count each : ℕ) (before row : List ℕ) → length before ≡ count * each → length row ≡ each
+cut_behind : (count : ℕ) {each : ℕ} (before row : List ℕ) → length before ≡ count * each → length row ≡ each
     → cut_rows (suc count) each (before ++ row) ≡ cut_rows count each before ++ row ∷ []
-cut_behind zero each before row long whole =
+cut_behind zero {each} before row long whole =
     let none : before ≡ [] = nil_from_length before (long ∙ zero-mul each) in
     ap (λ (l : List ℕ). take each (l ++ row) ∷ []) none ∙ ap (λ (l : List ℕ). l ∷ []) (take_all each row (omega (arith, whole)))
-cut_behind (suc count) each before row long whole =
+cut_behind (suc count) {each} before row long whole =
     let enough : each ≤ length before = omega (arith, long, suc-mul count each) in
     let rest : length (drop each before) ≡ count * each = omega (arith, length-drop each before, long, suc-mul count each) in
     ap (λ (l : List ℕ). l ∷ cut_rows (suc count) each (drop each (before ++ row))) (take-append-le each before row enough)
     ∙ ap (λ (l : List ℕ). take each before ∷ cut_rows (suc count) each l) (drop-append-le each before row enough)
-    ∙ ap (λ (l : List (List ℕ)). take each before ∷ l) (cut_behind count each (drop each before) row rest whole)
+    ∙ ap (λ (l : List (List ℕ)). take each before ∷ l) (cut_behind count (drop each before) row rest whole)
 
 -- pixels behind a row are those of the rest
 pixels_behind : (pixels size : ℕ) (samples : List ℕ) (y : ℕ) → pixel_of size samples (pixels + y) ≡ pixel_of size (drop (pixels * size) samples) y
@@ -191,7 +168,7 @@ all_turned (suc count) pixels size samples long =
     let before : length (last_first (count * pixels) size rest) ≡ count * each =
     last_first_long (count * pixels) size rest (left ∙ sym (mul_assoc count pixels size)) ∙ mul_assoc count pixels size in
     ap (cut_rows (suc count) each) (one_row_turned count pixels size samples)
-    ∙ cut_behind count each (last_first (count * pixels) size rest) row before whole
+    ∙ cut_behind count (last_first (count * pixels) size rest) row before whole
     ∙ ap (λ (l : List (List ℕ)). l ++ row ∷ []) (all_turned count pixels size rest left)
     ∙ sym (reverse_cons row (map (last_first pixels size) (cut_rows count each rest)))
 
@@ -202,13 +179,13 @@ map_reversed f (row ∷ rows) =
     ∙ sym (reverse_cons (f row) (map f rows))
 
 -- a row that is one piece stays as it is
-one_piece : (size : ℕ) (row : List ℕ) → length row ≡ size → last_first 1 size row ≡ row
-one_piece size row long =
+one_piece : {size : ℕ} (row : List ℕ) → length row ≡ size → last_first 1 size row ≡ row
+one_piece {size} row long =
     append-nil (take size (drop (0 * size) row)) ∙ ap (λ (n : ℕ). take size (drop n row)) (zero-mul size) ∙ take_all size row (omega (arith, long))
 
 pieces_stay : (size : ℕ) (rows : List (List ℕ)) → AllByRecursion (λ row. length row ≡ size) rows → map (last_first 1 size) rows ≡ rows
 pieces_stay size [] long = refl
-pieces_stay size (row ∷ rows) long = ap₂ (λ (r : List ℕ) (l : List (List ℕ)). r ∷ l) (one_piece size row long.0) (pieces_stay size rows long.1)
+pieces_stay size (row ∷ rows) long = ap₂ (λ (r : List ℕ) (l : List (List ℕ)). r ∷ l) (one_piece row long.0) (pieces_stay size rows long.1)
 
 -- rows, the last one first
 rows_reversed : (count each : ℕ) (samples : List ℕ) → length samples ≡ count * each
@@ -223,10 +200,9 @@ rows_reversed count each samples long =
     ∙ ap (λ (l : List (List ℕ)). reverse l) (pieces_stay each (cut_rows count each samples) (lengths_of_cut_rows count each samples long))
 
 -- they are as many samples
-pub turned_long : (count each pixels size : ℕ) (samples made : List ℕ) → length samples ≡ count * each → count * each ≡ pixels * size
+pub turned_long : (count each pixels size : ℕ) (samples : List ℕ) {made : List ℕ} → length samples ≡ count * each → count * each ≡ pixels * size
     → made ≡ last_first pixels size samples → length made ≡ count * each
-turned_long count each pixels size samples made long same made_is =
-    ap length made_is ∙ last_first_long pixels size samples (long ∙ same) ∙ sym same
+turned_long count each pixels size samples long same made_is = ap length made_is ∙ last_first_long pixels size samples (long ∙ same) ∙ sym same
 
 -- ---- rows as they are held, each the last pixel first
 
@@ -236,17 +212,17 @@ lists_mirrored s [] plane long = refl
 lists_mirrored s (row ∷ rows) plane long =
     let Long : List ℕ → Type 0 = λ (row : List ℕ). length row ≡ row_length s in
     ap₂ (λ (r : List ℕ) (l : List (List ℕ)). r ∷ l)
-    (one_plane s.width s.depth row (reverse row) (omega (arith, plane)) (omega (arith, plane)) (All-head Long row rows long) refl)
+    (one_plane s.width s.depth row (omega (arith, plane)) (omega (arith, plane)) (All-head Long row rows long) refl)
     (lists_mirrored s rows plane (All-tail Long row rows long))
 
 lists_long : (each : ℕ) (rows : List (List ℕ)) → All (λ row. length row ≡ each) rows → All (λ row. length row ≡ each) (map reverse rows)
 lists_long each rows long =
     All-map (λ (row : List ℕ). length row ≡ each) reverse rows (λ k d lt. length-reverse (get_or rows k d) ∙ long k d lt)
 
-pub bits_mirrored : (s : Shape) (count : ℕ) (old : RowVec) (rows new : List (List ℕ)) → s.depth ≡ 1 → old ≡ Bits rows → new ≡ map reverse rows
+pub bits_mirrored : (s : Shape) (count : ℕ) {old : RowVec} {rows new : List (List ℕ)} → s.depth ≡ 1 → old ≡ Bits rows → new ≡ map reverse rows
     → AreRows count (row_length s) old
     → ((length new ≡ count) × All (λ row. length row ≡ row_length s) new) × (new ≡ map (mirrored_row s) (row_lists count (row_length s) old))
-bits_mirrored s count old rows new plane held is whole =
+bits_mirrored s count {rows} plane held is whole =
     let known = subst (AreRows count (row_length s)) held whole in (
       (
         ap length is ∙ length-map rows reverse ∙ known.0,
@@ -256,33 +232,31 @@ bits_mirrored s count old rows new plane held is whole =
     )
 
 -- rows that are held one after another
-pub items_mirrored : (s : Shape) (count : ℕ) (old : RowVec) (new : List ℕ) → 0 < s.width → new ≡ changed (mirrored_row s) count (row_length s)
-    (held_samples old)
-    → AreRows count (row_length s) old
+pub items_mirrored : (s : Shape) (count : ℕ) (old : RowVec) {new : List ℕ} → 0 < s.width → new ≡ changed (mirrored_row s) count (row_length s)
+    (held_samples old) → AreRows count (row_length s) old
     → (length new ≡ count * row_length s) × (cut_rows count (row_length s) new ≡ map (mirrored_row s) (row_lists count (row_length s) old))
-items_mirrored s count old new some is whole =
+items_mirrored s count old some is whole =
     let long = held_long count (row_length s) old whole in (
-      ap length is ∙ rows_long s count (row_length s) (held_samples old) some refl long,
-      ap (cut_rows count (row_length s)) is ∙ rows_cut_again s count (row_length s) (held_samples old) some refl long
+      ap length is ∙ rows_long s count (held_samples old) some refl long,
+      ap (cut_rows count (row_length s)) is ∙ rows_cut_again s count (held_samples old) some refl long
           ∙ ap (map (mirrored_row s)) (held_cut count (row_length s) old whole),
     )
 
 -- what is made of rows of an image of this shape, which are as long as it says
-pub as_long : (f : List (List ℕ) → List (List ℕ)) (s : Shape) (count each : ℕ) (old new : RowVec) → each ≡ row_length s
+pub as_long : (f : List (List ℕ) → List (List ℕ)) (s : Shape) (count : ℕ) {each : ℕ} (old new : RowVec) → each ≡ row_length s
     → HoldsRows count (row_length s) new (f (row_lists count (row_length s) old)) → HoldsRows count each new (f (row_lists count each old))
-as_long f s count each old new is known = subst (λ (n : ℕ). HoldsRows count n new (f (row_lists count n old))) (sym is) known
+as_long f s count old new is known = subst (λ (n : ℕ). HoldsRows count n new (f (row_lists count n old))) (sym is) known
 
 -- no sample of them is above the maxval
 pub mirrored_rows_within : (s : Shape) (rows : List (List ℕ)) → All (IsRowOf s) rows → AreRowsWithin s.maxval (map (mirrored_row s) rows)
-mirrored_rows_within s rows are =
-    All-map (λ (row : List ℕ). All (λ sample. sample ≤ s.maxval) row) (mirrored_row s) rows (λ k d lt. each_within s (get_or rows k d) (are k d lt))
+mirrored_rows_within s rows are = All-map (λ (row : List ℕ). All (λ sample. sample ≤ s.maxval) row) (mirrored_row s) rows (λ k d lt. each_within (are k d lt))
 
 -- ---- and the last row first
 
-pub bits_turned : (s : Shape) (count : ℕ) (old : RowVec) (rows new : List (List ℕ)) → s.depth ≡ 1 → old ≡ Bits rows → new ≡ reverse (map reverse rows)
+pub bits_turned : (s : Shape) (count : ℕ) {old : RowVec} {rows new : List (List ℕ)} → s.depth ≡ 1 → old ≡ Bits rows → new ≡ reverse (map reverse rows)
     → AreRows count (row_length s) old
     → ((length new ≡ count) × All (λ row. length row ≡ row_length s) new) × (new ≡ map (mirrored_row s) (reverse (row_lists count (row_length s) old)))
-bits_turned s count old rows new plane held is whole =
+bits_turned s count {rows} plane held is whole =
     let Long : List ℕ → Type 0 = λ (row : List ℕ). length row ≡ row_length s in
     let known = subst (AreRows count (row_length s)) held whole in (
       (
@@ -293,33 +267,33 @@ bits_turned s count old rows new plane held is whole =
           ∙ ap (λ (h : RowVec). map (mirrored_row s) (reverse (row_lists count (row_length s) h))) (sym held),
     )
 
-pub items_turned : (s : Shape) (count : ℕ) (old : RowVec) (new : List ℕ) → new ≡ last_first (count * s.width) s.depth (held_samples old)
+pub items_turned : (s : Shape) (count : ℕ) (old : RowVec) {new : List ℕ} → new ≡ last_first (count * s.width) s.depth (held_samples old)
     → AreRows count (row_length s) old
     → (length new ≡ count * row_length s) × (cut_rows count (row_length s) new ≡ map (mirrored_row s) (reverse (row_lists count (row_length s) old)))
-items_turned s count old new is whole =
+items_turned s count old is whole =
     let each : ℕ = row_length s in
     let samples : List ℕ = held_samples old in
     let long = held_long count each old whole in (
-      turned_long count each (count * s.width) s.depth samples new long (sym (mul_assoc count s.width s.depth)) is,
+      turned_long count each (count * s.width) s.depth samples long (sym (mul_assoc count s.width s.depth)) is,
       ap (cut_rows count each) is ∙ all_turned count s.width s.depth samples long ∙ sym (map_reversed (mirrored_row s) (cut_rows count each samples))
           ∙ ap (λ (l : List (List ℕ)). map (mirrored_row s) (reverse l)) (held_cut count each old whole),
     )
 
 -- each as it is
-pub bits_reversed : (count each : ℕ) (old : RowVec) (rows new : List (List ℕ)) → old ≡ Bits rows → new ≡ reverse rows → AreRows count each old
+pub bits_reversed : (count each : ℕ) {old : RowVec} {rows new : List (List ℕ)} → old ≡ Bits rows → new ≡ reverse rows → AreRows count each old
     → ((length new ≡ count) × All (λ row. length row ≡ each) new) × (new ≡ reverse (row_lists count each old))
-bits_reversed count each old rows new held is whole =
+bits_reversed count each {rows} held is whole =
     let Long : List ℕ → Type 0 = λ (row : List ℕ). length row ≡ each in
     let known = subst (AreRows count each) held whole in (
       (ap length is ∙ length-reverse rows ∙ known.0, subst (All Long) (sym is) (reversed_all Long rows known.1)),
       is ∙ ap (λ (h : RowVec). reverse (row_lists count each h)) (sym held),
     )
 
-pub items_reversed : (count each : ℕ) (old : RowVec) (new : List ℕ) → new ≡ last_first count each (held_samples old) → AreRows count each old
+pub items_reversed : (count each : ℕ) (old : RowVec) {new : List ℕ} → new ≡ last_first count each (held_samples old) → AreRows count each old
     → (length new ≡ count * each) × (cut_rows count each new ≡ reverse (row_lists count each old))
-items_reversed count each old new is whole =
+items_reversed count each old is whole =
     let long = held_long count each old whole in (
-      turned_long count each count each (held_samples old) new long refl is,
+      turned_long count each count each (held_samples old) long refl is,
       ap (cut_rows count each) is ∙ rows_reversed count each (held_samples old) long ∙ ap (λ (l : List (List ℕ)). reverse l) (held_cut count each old whole),
     )
 
@@ -348,9 +322,9 @@ more_kept w way kept now more come ended s view is all ready = record {
 }
 
 -- the rows of the block that is given, and those that stay
-pub rows_parted : (ended : Option Shape) (s : Shape) (kept rest : List (List (List ℕ))) (block : List (List ℕ)) → ended ≡ Some s
+pub rows_parted : {ended : Option Shape} {s : Shape} {kept : List (List (List ℕ))} (rest : List (List (List ℕ))) (block : List (List ℕ)) → ended ≡ Some s
     → AreRowsOf ended (flattened kept) → kept ≡ rest ++ block ∷ [] → All (IsRowOf s) block × AreRowsOf ended (flattened rest)
-rows_parted ended s kept rest block is are parts =
+rows_parted {s} {kept} rest block is are parts =
     let P : List ℕ → Type 0 = IsRowOf s in
     let before : List (List ℕ) = flattened rest in
     let rows : flattened kept ≡ before ++ block = ap flattened parts ∙ rows_flattened rest block in
@@ -361,10 +335,11 @@ rows_parted ended s kept rest block is are parts =
     (behind, subst (λ (e : Option Shape). AreRowsOf e before) (sym is) (known.0, ahead))
 
 -- the rows that are given, and those that are still due
-pub block_given : (w : Reversed) (way : FlipWay) (ended : Option Shape) (t : Transform) (s : Shape) (kept rest : List (List (List ℕ)))
-    (block made : List (List ℕ)) → reversed way (flattened kept) ended ≡ w → ended ≡ Some s → t ≡ transform_of way → kept ≡ rest ++ block ∷ []
-    → made ≡ map (transformed_row t s) (reverse block) → reversed_due w ≡ made ++ reversed_due (reversed way (flattened rest) ended)
-block_given w way ended t s kept rest block made view is transform parts made_is =
+pub block_given : {w : Reversed} (way : FlipWay) {ended : Option Shape} {t : Transform} {s : Shape} {kept : List (List (List ℕ))}
+    (rest : List (List (List ℕ))) (block : List (List ℕ)) {made : List (List ℕ)} → reversed way (flattened kept) ended ≡ w → ended ≡ Some s
+    → t ≡ transform_of way → kept ≡ rest ++ block ∷ [] → made ≡ map (transformed_row t s) (reverse block)
+    → reversed_due w ≡ made ++ reversed_due (reversed way (flattened rest) ended)
+block_given way {s} {kept} rest block {made} view is transform parts made_is =
     let f : List ℕ → List ℕ = transformed_row (transform_of way) s in
     let later : List (List ℕ) = map f (reverse (flattened rest)) in
     sym (ap reversed_due view) ∙ ap (λ (e : Option Shape). reversed_due (reversed way (flattened kept) e)) is

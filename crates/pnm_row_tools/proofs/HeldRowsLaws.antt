@@ -1,30 +1,21 @@
 -- Rows as they are held: all their samples, and each of them changed.
-use Rattle.std.proofs.Common.{◌≡◌, ℕ, zero, suc, ◌-◌, ◌*◌, ◌<◌, ◌≤◌, List, [], ◌∷◌, get_or, length, map, reverse, drop, All}
-use Rattle.std.proofs.Common.{sym, ap, ap₂, subst, ◌∙◌, arith, refl}
-use Rattle.std.specs.List.{AllByRecursion, concat}
-use Rattle.std.proofs.lemmas.List.{get_or-reverse, length-map, length-reverse, take-map, drop-map}
-use Rattle.std.proofs.lemmas.List.Elements.{All-append, All-from_recursion, All-head, All-map, All-nil, All-tail}
-use Rattle.pnm_image.specs.declared.rows.RowVec.{RowVec}
-use Rattle.pnm_image.specs.declared.rows.RowVec.TheVariants.{Bits, Bytes, Words}
-use Rattle.pnm_image.specs.declared.shape.Shape.{Shape}
-use Rattle.pnm_image.specs.Heads.{row_length}
-use Rattle.pnm_image.specs.HeldRows.{AreRows, AreRowsWithin, row_lists}
-use Rattle.pnm_image.specs.Images.{cut_rows}
-use Rattle.pnm_image.specs.Places.{IsRowOf}
-use Rattle.pnm_image.proofs.HeldRowLaws.{length_of_lists, lengths_of_lists, words_of_rows}
-use Rattle.pnm_image.proofs.RowLaws.{concat-cut_rows, rows_need}
-use Rattle.pnm_row_tools.specs.Internal.EachRow.{IsEachChanged, held_samples}
+use Rattle.pnm_row_tools.proofs.Words.{◌≡◌, ℕ, zero, suc, ◌-◌, ◌*◌, ◌<◌, ◌≤◌, List, [], ◌∷◌, get_or, length, map, reverse, drop, All, sym, ap, ap₂, subst, ◌∙◌}
+use Rattle.pnm_row_tools.proofs.Words.{arith, refl, AllByRecursion, concat, get_or-reverse, length-map, length-reverse, take-map, drop-map, All-append}
+use Rattle.pnm_row_tools.proofs.Words.{All-from_recursion, All-head, All-map, All-nil, All-tail, RowVec, Bits, Bytes, Words, Shape, row_length, AreRows}
+use Rattle.pnm_row_tools.proofs.Words.{AreRowsWithin, row_lists, cut_rows, IsRowOf, length_of_lists, lengths_of_lists, words_of_rows, concat-cut_rows}
+use Rattle.pnm_row_tools.proofs.Words.{rows_need, IsEachChanged, held_samples}
 
 -- ---- rows in one list
 
 -- they have so many samples
-pub concat_long : (count each : ℕ) (rows : List (List ℕ)) → (length rows ≡ count) × All (λ row. length row ≡ each) rows → length (concat rows) ≡ count * each
-concat_long count each rows whole = (words_of_rows count each rows (concat rows) whole.0 whole.1 refl).0
+pub concat_long : {count : ℕ} (each : ℕ) (rows : List (List ℕ)) → (length rows ≡ count) × All (λ row. length row ≡ each) rows
+    → length (concat rows) ≡ count * each
+concat_long {count} each rows whole = (words_of_rows count each rows (concat rows) whole.0 whole.1 refl).0
 
 -- cut again they are the same rows
-pub concat_cut : (count each : ℕ) (rows : List (List ℕ)) → (length rows ≡ count) × All (λ row. length row ≡ each) rows
+pub concat_cut : {count : ℕ} (each : ℕ) (rows : List (List ℕ)) → (length rows ≡ count) × All (λ row. length row ≡ each) rows
     → cut_rows count each (concat rows) ≡ rows
-concat_cut count each rows whole = (words_of_rows count each rows (concat rows) whole.0 whole.1 refl).1
+concat_cut {count} each rows whole = (words_of_rows count each rows (concat rows) whole.0 whole.1 refl).1
 
 -- no sample of them is above a number
 concat_within : (most : ℕ) (rows : List (List ℕ)) → AreRowsWithin most rows → All (λ sample. sample ≤ most) (concat rows)
@@ -37,13 +28,13 @@ concat_within most (row ∷ rows) within =
 
 -- they are as many as those of the rows
 pub held_long : (count each : ℕ) (held : RowVec) → AreRows count each held → length (held_samples held) ≡ count * each
-held_long count each (Bits rows) whole = concat_long count each rows whole
+held_long count each (Bits rows) whole = concat_long each rows whole
 held_long count each (Bytes bytes) whole = whole
 held_long count each (Words words) whole = whole
 
 -- cut they are the rows
 pub held_cut : (count each : ℕ) (held : RowVec) → AreRows count each held → cut_rows count each (held_samples held) ≡ row_lists count each held
-held_cut count each (Bits rows) whole = concat_cut count each rows whole
+held_cut count each (Bits rows) whole = concat_cut each rows whole
 held_cut count each (Bytes bytes) whole = refl
 held_cut count each (Words words) whole = refl
 
@@ -62,26 +53,24 @@ held_within most count each held whole within =
 -- ---- rows of an image of a shape
 
 -- they are as long as it says
-pub length_of_shape : (s : Shape) (count each : ℕ) (held : RowVec) (rows : List (List ℕ)) → 1 ≤ count → AreRows count each held
+pub length_of_shape : (s : Shape) (count each : ℕ) (held : RowVec) {rows : List (List ℕ)} → 1 ≤ count → AreRows count each held
     → rows ≡ row_lists count each held → AllByRecursion (IsRowOf s) rows → each ≡ row_length s
-length_of_shape s count each held rows some whole cut are =
+length_of_shape s count each held some whole cut are =
     let lists : List (List ℕ) = row_lists count each held in
     (rows_need s each lists (omega (arith, some, length_of_lists count each held whole)) (lengths_of_lists count each held whole)
     (subst (AllByRecursion (IsRowOf s)) cut are)).0
 
-pub rows_of_shape : (s : Shape) (count each : ℕ) (held : RowVec) (rows : List (List ℕ)) → 1 ≤ count → AreRows count each held
+pub rows_of_shape : (s : Shape) (count each : ℕ) (held : RowVec) {rows : List (List ℕ)} → 1 ≤ count → AreRows count each held
     → rows ≡ row_lists count each held → AllByRecursion (IsRowOf s) rows → AreRows count (row_length s) held
-rows_of_shape s count each held rows some whole cut are =
-    subst (λ (n : ℕ). AreRows count n held) (length_of_shape s count each held rows some whole cut are) whole
+rows_of_shape s count each held some whole cut are = subst (λ (n : ℕ). AreRows count n held) (length_of_shape s count each held some whole cut are) whole
 
 -- no sample of them is above its maxval
 pub rows_within : (s : Shape) (rows : List (List ℕ)) → AllByRecursion (IsRowOf s) rows → AreRowsWithin s.maxval rows
 rows_within s rows are = λ k d lt. (All-from_recursion (IsRowOf s) rows are k d lt).range
 
-pub samples_within : (s : Shape) (count each : ℕ) (held : RowVec) (rows : List (List ℕ)) → AreRows count each held → rows ≡ row_lists count each held
+pub samples_within : (s : Shape) (count each : ℕ) (held : RowVec) {rows : List (List ℕ)} → AreRows count each held → rows ≡ row_lists count each held
     → AllByRecursion (IsRowOf s) rows → All (λ sample. sample ≤ s.maxval) (held_samples held)
-samples_within s count each held rows whole cut are =
-    held_within s.maxval count each held whole (subst (AreRowsWithin s.maxval) cut (rows_within s rows are))
+samples_within s count each held {rows} whole cut are = held_within s.maxval count each held whole (subst (AreRowsWithin s.maxval) cut (rows_within s rows are))
 
 -- ---- each sample of them is changed
 
@@ -93,9 +82,9 @@ cut_changed f (suc count) each samples =
     (ap (cut_rows count each) (drop-map f each samples) ∙ cut_changed f count each (drop each samples))
 
 -- rows of pixels stay such rows
-pub bits_changed : (f : ℕ → ℕ) (old : RowVec) (rows new : List (List ℕ)) → old ≡ Bits rows → new ≡ map (map f) rows → (count each : ℕ) → AreRows count each old
-    → ((length new ≡ count) × All (λ row. length row ≡ each) new) × (new ≡ map (map f) (row_lists count each old))
-bits_changed f old rows new held is count each whole =
+pub bits_changed : (f : ℕ → ℕ) {old : RowVec} {rows new : List (List ℕ)} → old ≡ Bits rows → new ≡ map (map f) rows → (count each : ℕ)
+    → AreRows count each old → ((length new ≡ count) × All (λ row. length row ≡ each) new) × (new ≡ map (map f) (row_lists count each old))
+bits_changed f {rows} held is count each whole =
     let known = subst (AreRows count each) held whole in
     let long : All (λ row. length row ≡ each) (map (map f) rows) =
     All-map (λ (row : List ℕ). length row ≡ each) (map f) rows (λ k d lt. length-map (get_or rows k d) f ∙ known.1 k d lt) in (
@@ -118,10 +107,10 @@ changed_within f low high rows stays within =
     All-map (λ (row : List ℕ). All (λ sample. sample ≤ high) row) (map f) rows (λ k d lt.
     All-map (λ sample. sample ≤ high) f (get_or rows k d) (λ j e inside. stays (get_or (get_or rows k d) j e) (within k d lt j e inside)))
 
-pub changed_rows_within : (s : Shape) (f : ℕ → ℕ) (high count each : ℕ) (old new : RowVec) (rows : List (List ℕ)) → rows ≡ row_lists count each old
+pub changed_rows_within : (s : Shape) (f : ℕ → ℕ) (high count each : ℕ) (old new : RowVec) {rows : List (List ℕ)} → rows ≡ row_lists count each old
     → AreRows count each old → IsEachChanged f old new → AllByRecursion (IsRowOf s) rows → ((sample : ℕ) → sample ≤ s.maxval → f sample ≤ high)
     → AreRowsWithin high (row_lists count each new)
-changed_rows_within s f high count each old new rows cut whole changed are stays =
+changed_rows_within s f high count each old new {rows} cut whole changed are stays =
     subst (AreRowsWithin high) (ap (map (map f)) cut ∙ sym (changed count each whole).1) (changed_within f s.maxval high rows stays (rows_within s rows are))
 
 -- ---- rows in the other order

@@ -1,3 +1,4 @@
+mod Words
 pub mod FlipRowLaws
 pub mod ValueLaws
 pub mod EachRowLaws

@@ -1,6 +1,6 @@
 -- Values of samples that are changed in place.
-use Rattle.std.proofs.Common.{◌≡◌, ℕ, ◌+◌, ◌<◌, ◌≤◌, List, [], ◌∷◌, ◌++◌, length, take, drop, map, get_or, set, All, sym, ap, ap₂, subst, ◌∙◌, arith}
-use Rattle.std.proofs.lemmas.List.{take_more, take_more_set, map_push, drop_more, drop-set-lt, get_or-drop}
+use Rattle.pnm_row_tools.proofs.Words.{◌≡◌, ℕ, ◌+◌, ◌<◌, ◌≤◌, List, [], ◌∷◌, ◌++◌, length, take, drop, map, get_or, set, All, sym, ap, ap₂, subst, ◌∙◌, arith}
+use Rattle.pnm_row_tools.proofs.Words.{take_more, take_more_set, map_push, drop_more, drop-set-lt, get_or-drop}
 
 -- the values of the samples that have passed are computed, and the others are as they were
 pub record Changed {X : Type 0} (value computed : X → ℕ) (i : ℕ) (old new : List X) : Type 0 where
@@ -13,15 +13,14 @@ unchanged_at i old new d rest = ap (λ (n : ℕ). get_or new n d) (omega arith) 
     ∙ ap (λ (n : ℕ). get_or old n d) (omega arith)
 
 -- what is read of it is not above a number that no sample was above
-pub read_within : {X : Type 0} (value : X → ℕ) (most n i : ℕ) (old new : List X) (d : X) → drop i new ≡ drop i old → All (λ x. value x ≤ most) old
-    → i < length old → n ≡ value (get_or new i d) → n ≤ most
-read_within value most n i old new d rest within lt is =
-    subst (λ (k : ℕ). k ≤ most) (sym (is ∙ ap value (unchanged_at i old new d rest))) (within i d lt)
+pub read_within : {X : Type 0} (value : X → ℕ) (most : ℕ) {n : ℕ} (i : ℕ) (old new : List X) (d : X) → drop i new ≡ drop i old
+    → All (λ x. value x ≤ most) old → i < length old → n ≡ value (get_or new i d) → n ≤ most
+read_within value most i old new d rest within lt is = subst (λ (k : ℕ). k ≤ most) (sym (is ∙ ap value (unchanged_at i old new d rest))) (within i d lt)
 
 -- one more has passed
-pub changed_more : {X : Type 0} (value computed : X → ℕ) (i : ℕ) (old new : List X) (x d : X) → i < length new → length new ≡ length old
+pub changed_more : {X : Type 0} {value computed : X → ℕ} {i : ℕ} {old new : List X} (x d : X) → i < length new → length new ≡ length old
     → value x ≡ computed (get_or new i d) → Changed value computed i old new → Changed value computed (i + 1) old (set new i x)
-changed_more value computed i old new x d lt size is h =
+changed_more {value} {computed} {i} {old} {new} x d lt size is h =
     let both = sym (drop_more new i d lt) ∙ h.rest ∙ drop_more old i d (omega arith) in
     record {
       done = ap (map value) (take_more_set new i x lt) ∙ map_push value (take i new) x

@@ -1,18 +1,9 @@
 -- Rows of packed pixels that begin at whole bytes, one after another.
-use Rattle.std.proofs.Common.{◌≡◌, ℕ, zero, suc, ◌+◌, ◌-◌, ◌*◌, ◌%◌, ◌<◌, ◌≤◌, List, [], ◌∷◌, ◌++◌, get_or, length, take, drop, map, refl, sym, ap, ap₂, subst}
-use Rattle.std.proofs.Common.{◌∙◌, arith, suc-mul, zero-mul, mul-le-mul, inl, inr}
-use Rattle.std.proofs.lemmas.Bool.{cases_lt}
-use Rattle.std.proofs.lemmas.List.{append_assoc, drop-append-le, drop-drop, drop_at, length-append, length-drop, length-take, length-take-le, take-append-le}
-use Rattle.std.proofs.lemmas.List.{get_or-drop, get_or-take, get_or_past, take-append-drop, nil_from_length, take-map, drop-map}
-use Rattle.std.proofs.lemmas.List.{take_all, take_at, take-take, drop-take}
-use borrow.Rule.Slice.PartMut.{put_mid}
-use mir.Val.{Fits}
-use Rattle.std.specs.Int.{w8}
-use Rattle.pnm_samples.specs.Internal.BitRows.{row_bytes, ArePackedRows}
-use Rattle.pnm_samples.specs.PixelRows.{bytes_for, rows_of_bytes}
-use Rattle.std.specs.List.{flat_map}
-use Rattle.pnm_samples.specs.Pixels.{all_pixels, packed_bytes, ArePacked}
-use Rattle.pnm_samples.specs.Internal.Pixels.{AreBytes}
+use Rattle.pnm_samples.proofs.Words.{◌≡◌, ℕ, zero, suc, ◌+◌, ◌-◌, ◌*◌, ◌%◌, ◌<◌, ◌≤◌, List, [], ◌∷◌, ◌++◌, get_or, length, take, drop, map, refl, sym, ap, ap₂}
+use Rattle.pnm_samples.proofs.Words.{subst, ◌∙◌, arith, suc-mul, zero-mul, mul-le-mul, inl, inr, cases_lt, append_assoc, drop-append-le, drop-drop, drop_at}
+use Rattle.pnm_samples.proofs.Words.{length-append, length-drop, length-take, length-take-le, take-append-le, get_or-drop, get_or-take, get_or_past}
+use Rattle.pnm_samples.proofs.Words.{take-append-drop, nil_from_length, take-map, drop-map, take_all, take_at, take-take, drop-take, put_mid, Fits, w8}
+use Rattle.pnm_samples.proofs.Words.{row_bytes, ArePackedRows, bytes_for, rows_of_bytes, flat_map, all_pixels, packed_bytes, ArePacked, AreBytes}
 use Rattle.pnm_samples.proofs.PackedBytes.{packed_view}
 use Rattle.pnm_samples.proofs.PixelRowsLaws.{row_lies}
 use Rattle.pnm_samples.proofs.PixelLaws.{drop-all_pixels, take-all_pixels, whole_is_packed}
@@ -31,17 +22,17 @@ length_of_row_bytes size row bytes within = omega (arith, length-take size (drop
 -- ---- a row that was changed in place
 
 -- it is what was put there
-pub changed_row : (size row n : ℕ) (bytes part new : List ℕ) → n ≡ size → length part ≡ size → row * size + size ≤ length bytes
+pub changed_row : {size : ℕ} (row : ℕ) {n : ℕ} (bytes part : List ℕ) {new : List ℕ} → n ≡ size → length part ≡ size → row * size + size ≤ length bytes
     → new ≡ put_mid (row * size) n bytes part → row_bytes size row new ≡ part
-changed_row size row n bytes part new fits long within is =
+changed_row {size} row {n} bytes part fits long within is =
     let prefix = take (row * size) bytes in let rest = drop n (drop (row * size) bytes) in
     let before : length prefix ≡ row * size = length-take-le (row * size) bytes (omega arith) in
     ap (row_bytes size row) is ∙ ap (take size) (drop_at prefix (part ++ rest) (row * size) before) ∙ take_at part rest size long
 
 -- those before it are as they were
-pub row_before : (size row k n : ℕ) (bytes part new : List ℕ) → k < row → row * size + size ≤ length bytes
+pub row_before : (size row k n : ℕ) (bytes part : List ℕ) {new : List ℕ} → k < row → row * size + size ≤ length bytes
     → new ≡ put_mid (row * size) n bytes part → row_bytes size k new ≡ row_bytes size k bytes
-row_before size row k n bytes part new lt within is =
+row_before size row k n bytes part lt within is =
     let prefix = take (row * size) bytes in let rest = part ++ drop n (drop (row * size) bytes) in
     let before : length prefix ≡ row * size = length-take-le (row * size) bytes (omega arith) in
     let inside : k * size + size ≤ row * size = row_within row size k (row * size) refl lt in
@@ -54,9 +45,9 @@ row_before size row k n bytes part new lt within is =
     ∙ ap (take size) front ∙ take-take size gap (drop (k * size) bytes) (omega arith)
 
 -- and so are those behind it
-pub row_behind : (size row k n : ℕ) (bytes part new : List ℕ) → row < k → n ≡ size → length part ≡ size → row * size + size ≤ length bytes
-    → new ≡ put_mid (row * size) n bytes part → row_bytes size k new ≡ row_bytes size k bytes
-row_behind size row k n bytes part new lt fits long within is =
+pub row_behind : {size : ℕ} (row k : ℕ) {n : ℕ} (bytes part : List ℕ) {new : List ℕ} → row < k → n ≡ size → length part ≡ size
+    → row * size + size ≤ length bytes → new ≡ put_mid (row * size) n bytes part → row_bytes size k new ≡ row_bytes size k bytes
+row_behind {size} row k {n} bytes part {new} lt fits long within is =
     let prefix = take (row * size) bytes in let rest = drop n (drop (row * size) bytes) in
     let before : length prefix ≡ row * size = length-take-le (row * size) bytes (omega arith) in
     let inside : row * size + size ≤ k * size = row_within k size row (k * size) refl lt in
@@ -139,7 +130,7 @@ module _ (f : List ℕ → List ℕ) (row count each n : ℕ) (old now part new 
   within = row_within count (bytes_for each) row (length now) (known.long ∙ size) lt
 
   here : row_bytes (bytes_for each) row new ≡ part
-  here = changed_row (bytes_for each) row n now part new fits long within is
+  here = changed_row row now part fits long within is
 
   whole : length new ≡ length now
   whole =
@@ -160,7 +151,7 @@ module _ (f : List ℕ → List ℕ) (row count each n : ℕ) (old now part new 
   changed_by : (k : ℕ) → k < row + 1
       → take each (all_pixels (row_bytes (bytes_for each) k new)) ≡ f (row_bytes (bytes_for each) k old)
   changed_by k below = elim (cases_lt k row) [
-    | inl before ↦ ap (λ (l : List ℕ). take each (all_pixels l)) (row_before (bytes_for each) row k n now part new before within is) ∙ known.changed k before
+    | inl before ↦ ap (λ (l : List ℕ). take each (all_pixels l)) (row_before (bytes_for each) row k n now part before within is) ∙ known.changed k before
     | inr after ↦
         let same : k ≡ row = omega (arith, below, after) in
         subst (λ (j : ℕ). take each (all_pixels (row_bytes (bytes_for each) j new)) ≡ f (row_bytes (bytes_for each) j old)) (sym same)
@@ -170,7 +161,7 @@ module _ (f : List ℕ → List ℕ) (row count each n : ℕ) (old now part new 
 
   packed_by : (k : ℕ) → k < row + 1 → ArePacked each (row_bytes (bytes_for each) k new)
   packed_by k below = elim (cases_lt k row) [
-    | inl before ↦ subst (ArePacked each) (sym (row_before (bytes_for each) row k n now part new before within is)) (known.packed k before)
+    | inl before ↦ subst (ArePacked each) (sym (row_before (bytes_for each) row k n now part before within is)) (known.packed k before)
     | inr after ↦
         let same : k ≡ row = omega (arith, below, after) in
         subst (λ (j : ℕ). ArePacked each (row_bytes (bytes_for each) j new)) (sym same) (subst (ArePacked each) (sym here) packs)
@@ -181,14 +172,14 @@ module _ (f : List ℕ → List ℕ) (row count each n : ℕ) (old now part new 
     long = whole ∙ known.long;
     changed = changed_by;
     packed = packed_by;
-    left = λ k le. row_behind (bytes_for each) row k n now part new (omega (arith, le)) fits long within is ∙ known.left k (omega (arith, le));
+    left = λ k le. row_behind row k now part (omega (arith, le)) fits long within is ∙ known.left k (omega (arith, le));
   }
 
 -- all of them
-pub all_changed : (f : List ℕ → List ℕ) (passed count each : ℕ) (old new : List ℕ)
-    → AreChanged (λ row. f (take each (all_pixels row))) passed count each old new
-    → count ≤ passed → rows_of_bytes count each new ≡ map f (rows_of_bytes count each old)
-all_changed f passed count each old new known all = rows_changed f count each old new (λ row lt. known.changed row (omega (arith, lt, all)))
+pub all_changed : (f : List ℕ → List ℕ) {passed count each : ℕ} {old new : List ℕ}
+    → AreChanged (λ row. f (take each (all_pixels row))) passed count each old new → count ≤ passed
+    → rows_of_bytes count each new ≡ map f (rows_of_bytes count each old)
+all_changed f {count} {each} {old} {new} known all = rows_changed f count each old new (λ row lt. known.changed row (omega (arith, lt, all)))
 
 pub all_packed : (f : List ℕ → List ℕ) (passed count each : ℕ) (old new : List ℕ) → AreChanged f passed count each old new → count ≤ passed
     → length old ≡ count * bytes_for each → ArePackedRows count each new
@@ -205,7 +196,7 @@ whole_are_packed count each bytes whole size = record {
   packed = λ row lt.
       let long : length (row_bytes (bytes_for each) row bytes) ≡ bytes_for each =
       length_of_row_bytes (bytes_for each) row bytes (row_within count (bytes_for each) row (length bytes) size lt) in
-      whole_is_packed (row_bytes (bytes_for each) row bytes) each long (omega (arith, long, whole));
+      whole_is_packed long (omega (arith, long, whole));
 }
 
 -- ---- a row by itself
@@ -248,10 +239,10 @@ next_packed count each bytes h = record {
   packed = λ row lt. subst (ArePacked each) (sym (next_row (bytes_for each) row bytes)) (h.packed (suc row) (omega (arith, lt)));
 }
 
-pub bytes_of_rows : (count each : ℕ) (bytes : List ℕ) → ArePackedRows count each bytes → AreBytes bytes
+pub bytes_of_rows : (count : ℕ) {each : ℕ} (bytes : List ℕ) → ArePackedRows count each bytes → AreBytes bytes
     → bytes ≡ flat_map packed_bytes (rows_of_bytes count each bytes)
-bytes_of_rows zero each bytes h fit = nil_from_length bytes (omega (arith, h.enough, zero-mul (bytes_for each)))
-bytes_of_rows (suc count) each bytes h fit =
+bytes_of_rows zero {each} bytes h fit = nil_from_length bytes (omega (arith, h.enough, zero-mul (bytes_for each)))
+bytes_of_rows (suc count) {each} bytes h fit =
     let size = bytes_for each in
     let none : 0 * size ≡ 0 = omega (arith, zero-mul size) in
     let front : row_bytes size 0 bytes ≡ take size bytes = ap (λ (m : ℕ). take size (drop m bytes)) none in
@@ -260,16 +251,16 @@ bytes_of_rows (suc count) each bytes h fit =
     packed_view each (take size bytes) (take each (all_pixels bytes)) packed (front_fits size bytes fit)
     (ap (take each) (sym (take-all_pixels size bytes)) ∙ take-take each (8 * size) (all_pixels bytes) (omega arith)) in
     sym (take-append-drop size bytes)
-    ∙ ap₂ (λ (a b : List ℕ). a ++ b) first (bytes_of_rows count each (drop size bytes) (next_packed count each bytes h) (rest_fits size bytes fit))
+    ∙ ap₂ (λ (a b : List ℕ). a ++ b) first (bytes_of_rows count (drop size bytes) (next_packed count each bytes h) (rest_fits size bytes fit))
 
 -- the first of them
-pub first_of_rows : (count each n : ℕ) (bytes : List ℕ) → 0 < count → n ≡ each → take n (all_pixels bytes) ≡ get_or (rows_of_bytes count each bytes) 0 []
-first_of_rows count each n bytes some is =
-    ap (λ (k : ℕ). take k (all_pixels bytes)) is ∙ sym (first_row each bytes) ∙ pixels_of_row count each 0 bytes some
+pub first_of_rows : (count : ℕ) {each n : ℕ} (bytes : List ℕ) → 0 < count → n ≡ each
+    → take n (all_pixels bytes) ≡ get_or (rows_of_bytes count each bytes) 0 []
+first_of_rows count {each} bytes some is = ap (λ (k : ℕ). take k (all_pixels bytes)) is ∙ sym (first_row each bytes) ∙ pixels_of_row count each 0 bytes some
 
-pub first_of_none : (count each n : ℕ) (bytes : List ℕ) → count ≤ 0 → n ≡ 0 → take n (all_pixels bytes) ≡ get_or (rows_of_bytes count each bytes) 0 []
-first_of_none zero each n bytes none is = ap (λ (k : ℕ). take k (all_pixels bytes)) is
-first_of_none (suc count) each n bytes none is = absurd (omega (arith, none))
+pub first_of_none : (count each : ℕ) {n : ℕ} (bytes : List ℕ) → count ≤ 0 → n ≡ 0 → take n (all_pixels bytes) ≡ get_or (rows_of_bytes count each bytes) 0 []
+first_of_none zero each bytes none is = ap (λ (k : ℕ). take k (all_pixels bytes)) is
+first_of_none (suc count) each bytes none is = absurd (omega (arith, none))
 
 -- ---- rows behind others
 

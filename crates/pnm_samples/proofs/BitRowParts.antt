@@ -1,10 +1,7 @@
 -- Parts of rows of packed pixels, by their bytes.
-use Rattle.std.proofs.Common.{◌≡◌, ℕ, ◌+◌, ◌-◌, ◌*◌, ◌<◌, ◌≤◌, List, [], get_or, length, take, drop, map, refl, sym, ap, subst, ◌∙◌, arith, mul-le-mul}
-use Rattle.std.proofs.lemmas.List.{drop-drop, drop-take, ext_get_or, get_or-drop, get_or-map, get_or-take, length-drop, length-map, length-take, length-take-le}
-use Rattle.std.proofs.lemmas.List.{take-take, take_all}
-use Rattle.pnm_samples.specs.Internal.BitRows.{row_bytes, ArePackedRows}
-use Rattle.pnm_samples.specs.PixelRows.{bytes_for, rows_of_bytes}
-use Rattle.pnm_samples.specs.Pixels.{all_pixels, ArePacked}
+use Rattle.pnm_samples.proofs.Words.{◌≡◌, ℕ, ◌+◌, ◌-◌, ◌*◌, ◌<◌, ◌≤◌, List, [], get_or, length, take, drop, map, refl, sym, ap, subst, ◌∙◌, arith, mul-le-mul}
+use Rattle.pnm_samples.proofs.Words.{drop-drop, drop-take, ext_get_or, get_or-drop, get_or-map, get_or-take, length-drop, length-map, length-take}
+use Rattle.pnm_samples.proofs.Words.{length-take-le, take-take, take_all, row_bytes, ArePackedRows, bytes_for, rows_of_bytes, all_pixels, ArePacked}
 use Rattle.pnm_samples.proofs.BitRowLaws.{counted, pixels_of_row, row_within}
 use Rattle.pnm_samples.proofs.BitRowsMade.{rows_are}
 use Rattle.pnm_samples.proofs.PixelRowsLaws.{length_of_rows}
@@ -51,16 +48,16 @@ module _ (held whole top count : ℕ) (bytes part : List ℕ) (rows : List (List
   rows_copied =
       let those = take count (drop top rows) in
       let many : length those ≡ count = omega (arith, length-take count (drop top rows), length-drop top rows, within) in
-      rows_are count whole part those many (λ k lt.
+      rows_are whole part those many (λ k lt.
       ap (λ (l : List ℕ). take whole (all_pixels l)) (row_of_copy k lt) ∙ pixels_of_row held whole (top + k) bytes (omega (arith, lt, fewer))
       ∙ ap (λ (l : List (List ℕ)). get_or l (top + k) []) is
       ∙ sym (get_or-take count (drop top rows) k [] lt ∙ get_or-drop top rows k []))
 
 -- where they lie
-pub rows_lie : (held whole top count size : ℕ) (bytes : List ℕ) (rows : List (List ℕ)) → rows_of_bytes held whole bytes ≡ rows
+pub rows_lie : (held whole top count : ℕ) {size : ℕ} (bytes : List ℕ) {rows : List (List ℕ)} → rows_of_bytes held whole bytes ≡ rows
     → length bytes ≡ held * bytes_for whole → top + count ≤ length rows → size ≡ bytes_for whole
     → (top * size ≤ (top + count) * size) × ((top + count) * size ≤ length bytes) × (top + count ≤ held)
-rows_lie held whole top count size bytes rows is long within wide =
+rows_lie held whole top count {size} bytes is long within wide =
     let fewer : top + count ≤ held = omega (arith, within, length_of_rows held whole bytes, ap length is) in
     let most : (top + count) * size ≤ held * bytes_for whole =
     mul-le-mul {n₁ = top + count} {m₁ = size} {n₂ = held} {m₂ = bytes_for whole} fewer (omega (arith, wide)) in (
@@ -70,10 +67,10 @@ rows_lie held whole top count size bytes rows is long within wide =
     )
 
 -- of which all pixels are wanted
-pub whole_rows : (top count left each : ℕ) (rows : List (List ℕ)) → left ≡ 0 → top + count ≤ length rows
-    → ((k : ℕ) → k < length rows → length (get_or rows k []) ≤ each)
-    → take count (drop top rows) ≡ map (λ row. take each (drop left row)) (take count (drop top rows))
-whole_rows top count left each rows none within fits =
+pub whole_rows : (top count : ℕ) {left : ℕ} (each : ℕ) (rows : List (List ℕ)) → left ≡ 0 → top + count ≤ length rows
+    → ((k : ℕ) → k < length rows → length (get_or rows k []) ≤ each) → take count (drop top rows) ≡ map (λ row. take each (drop left row))
+    (take count (drop top rows))
+whole_rows top count {left} each rows none within fits =
     let those = take count (drop top rows) in
     let many : length those ≡ count = omega (arith, length-take count (drop top rows), length-drop top rows, within) in
     let part : List ℕ → List ℕ = λ (row : List ℕ). take each (drop left row) in

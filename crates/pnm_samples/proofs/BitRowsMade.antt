@@ -1,18 +1,11 @@
 -- Rows of packed pixels that are made of others.
-use Rattle.std.proofs.Common.{◌≡◌, ℕ, zero, suc, ◌+◌, ◌-◌, ◌*◌, ◌%◌, ◌<◌, ◌≤◌, List, [], ◌∷◌, ◌++◌, get_or, length, take, drop, map, replicate, reverse}
-use Rattle.std.proofs.Common.{refl, sym, ap, ap₂, subst, ◌∙◌, arith, suc-mul, zero-mul, mul-le-mul, inl, inr, All}
-use Rattle.std.proofs.lemmas.Bool.{cases_lt}
-use Rattle.std.proofs.lemmas.List.{append_assoc, drop-append-le, drop_at, ext_get_or, get_or-drop, get_or-map, get_or-reverse, get_or-take, length-append}
-use Rattle.std.proofs.lemmas.List.{length-drop, length-map, length-replicate, length-reverse, length-take, length-take-le, reverse-append, take-append-drop}
-use Rattle.std.proofs.lemmas.List.{take-append-le, take-take, take_all, take_at, take_more, drop_all, append-nil}
-use Rattle.std.proofs.lemmas.List.Elements.{All-take, All-drop}
-use Rattle.std.proofs.Math.Seq.{drop-append-add, take-append-add}
-use borrow.Rule.Slice.PartMut.{put_mid}
-use Rattle.std.specs.List.{concat}
-use Rattle.pnm_samples.specs.Internal.BitRows.{row_bytes, ArePackedRows}
-use Rattle.pnm_samples.specs.Cuts.{cut_rows, last_first}
-use Rattle.pnm_samples.specs.PixelRows.{bytes_for, rows_of_bytes}
-use Rattle.pnm_samples.specs.Pixels.{all_pixels, packed_bytes, ArePacked}
+use Rattle.pnm_samples.proofs.Words.{◌≡◌, ℕ, zero, suc, ◌+◌, ◌-◌, ◌*◌, ◌%◌, ◌<◌, ◌≤◌, List, [], ◌∷◌, ◌++◌, get_or, length, take, drop, map, replicate, reverse}
+use Rattle.pnm_samples.proofs.Words.{refl, sym, ap, ap₂, subst, ◌∙◌, arith, suc-mul, zero-mul, mul-le-mul, inl, inr, All, cases_lt, append_assoc}
+use Rattle.pnm_samples.proofs.Words.{drop-append-le, drop_at, ext_get_or, get_or-drop, get_or-map, get_or-reverse, get_or-take, length-append, length-drop}
+use Rattle.pnm_samples.proofs.Words.{length-map, length-replicate, length-reverse, length-take, length-take-le, reverse-append, take-append-drop}
+use Rattle.pnm_samples.proofs.Words.{take-append-le, take-take, take_all, take_at, take_more, drop_all, append-nil, All-take, All-drop, drop-append-add}
+use Rattle.pnm_samples.proofs.Words.{take-append-add, put_mid, concat, row_bytes, ArePackedRows, cut_rows, last_first, bytes_for, rows_of_bytes, all_pixels}
+use Rattle.pnm_samples.proofs.Words.{packed_bytes, ArePacked}
 use Rattle.pnm_samples.proofs.BitRowLaws.{changed_row, length_of_row_bytes, pixels_of_row, row_before, row_within}
 use Rattle.pnm_samples.proofs.CutLaws.{length-cut_rows, row_of_cut}
 use Rattle.pnm_samples.proofs.MirrorLaws.{turned_parts}
@@ -23,10 +16,9 @@ use Rattle.pnm_samples.proofs.RepeatLaws.{repeated, take_repeated}
 use Rattle.pnm_samples.proofs.RowOrderLaws.{last_first_long, row_of_last_first}
 
 -- rows by the pixels of each
-pub rows_are : (count each : ℕ) (bytes : List ℕ) (rows : List (List ℕ)) → length rows ≡ count
-    → ((row : ℕ) → row < count → take each (all_pixels (row_bytes (bytes_for each) row bytes)) ≡ get_or rows row [])
-    → rows_of_bytes count each bytes ≡ rows
-rows_are count each bytes rows many known =
+pub rows_are : {count : ℕ} (each : ℕ) (bytes : List ℕ) (rows : List (List ℕ)) → length rows ≡ count
+    → ((row : ℕ) → row < count → take each (all_pixels (row_bytes (bytes_for each) row bytes)) ≡ get_or rows row []) → rows_of_bytes count each bytes ≡ rows
+rows_are {count} each bytes rows many known =
     let all = length_of_rows count each bytes in
     ext_get_or [] (rows_of_bytes count each bytes) rows (all ∙ sym many) (λ k lt.
     let below : k < count = omega (arith, lt, all) in
@@ -111,7 +103,7 @@ module _ (count each : ℕ) (old turned : List ℕ) (h : ArePackedRows count eac
   turned_row row lt =
       let from = row_bytes (bytes_for each) (count - 1 - row) old in
       row_turned count (bytes_for each) row old turned h.enough is lt
-      ∙ turned_parts each from (take each (all_pixels from)) (h.packed (count - 1 - row) (omega arith)) refl
+      ∙ turned_parts (h.packed (count - 1 - row) (omega arith)) refl
 
   pub turned_begin_white : (row : ℕ) → row < count
       → take ((8 - each % 8) % 8) (all_pixels (row_bytes (bytes_for each) row turned)) ≡ replicate ((8 - each % 8) % 8) 1
@@ -128,7 +120,7 @@ module _ (count each : ℕ) (old turned : List ℕ) (h : ArePackedRows count eac
       let rows = rows_of_bytes count each old in
       let many : length rows ≡ count = length_of_rows count each old in
       let mapped : length (map (λ (l : List ℕ). reverse l) rows) ≡ count = length-map rows (λ (l : List ℕ). reverse l) ∙ many in
-      rows_are count each new (reverse (map (λ (l : List ℕ). reverse l) rows)) (length-reverse (map (λ (l : List ℕ). reverse l) rows) ∙ mapped) (λ row lt.
+      rows_are each new (reverse (map (λ (l : List ℕ). reverse l) rows)) (length-reverse (map (λ (l : List ℕ). reverse l) rows) ∙ mapped) (λ row lt.
       let k = count - 1 - row in
       let spare = (8 - each % 8) % 8 in
       let value = take each (all_pixels (row_bytes (bytes_for each) k old)) in
@@ -146,11 +138,10 @@ concat_more [] row = append-nil row
 concat_more (r ∷ rows) row = ap (λ (l : List ℕ). r ++ l) (concat_more rows row) ∙ sym (append_assoc r (concat rows) row)
 
 -- a row more was stored, with its spare pixels behind it
-pub samples_of_row_more : (count each row n : ℕ) (bytes buffer stored part : List ℕ) → row < count → part ≡ row_bytes (bytes_for each) row bytes
-    → length bytes ≡ count * bytes_for each → row * each ≤ length buffer
-    → take (row * each) buffer ≡ concat (take row (rows_of_bytes count each bytes)) → stored ≡ all_pixels part
-    → take ((row + 1) * each) (put_mid (row * each) n buffer stored) ≡ concat (take (row + 1) (rows_of_bytes count each bytes))
-samples_of_row_more count each row n bytes buffer stored part lt is long room known pixels =
+pub samples_of_row_more : (count each row n : ℕ) (bytes buffer : List ℕ) {stored part : List ℕ} → row < count → part ≡ row_bytes (bytes_for each) row bytes
+    → length bytes ≡ count * bytes_for each → row * each ≤ length buffer → take (row * each) buffer ≡ concat (take row (rows_of_bytes count each bytes))
+    → stored ≡ all_pixels part → take ((row + 1) * each) (put_mid (row * each) n buffer stored) ≡ concat (take (row + 1) (rows_of_bytes count each bytes))
+samples_of_row_more count each row n bytes buffer {stored} {part} lt is long room known pixels =
     let rows = rows_of_bytes count each bytes in
     let size = bytes_for each in
     let before = take (row * each) buffer in
@@ -181,10 +172,9 @@ pub record AreFilled (Holds : ℕ → List ℕ → Type 0) (passed count size : 
   pub rows : (row : ℕ) → row < passed → Holds row (row_bytes size row bytes)
 
 -- a row more
-pub one_more_filled : (Holds : ℕ → List ℕ → Type 0) (row count size : ℕ) (now part new : List ℕ) → AreFilled Holds row count size now → row < count
-    → length part ≡ size → new ≡ put_mid (row * size) size now part → Holds row part
-    → AreFilled Holds (row + 1) count size new
-one_more_filled Holds row count size now part new known lt long is made =
+pub one_more_filled : {Holds : ℕ → List ℕ → Type 0} {row count size : ℕ} {now : List ℕ} (part : List ℕ) {new : List ℕ} → AreFilled Holds row count size now
+    → row < count → length part ≡ size → new ≡ put_mid (row * size) size now part → Holds row part → AreFilled Holds (row + 1) count size new
+one_more_filled {Holds} {row} {count} {size} {now} part {new} known lt long is made =
     let within : row * size + size ≤ length now = row_within count size row (length now) known.long lt in
     let prefix = take (row * size) now in let rest = drop size (drop (row * size) now) in
     record {
@@ -201,19 +191,18 @@ one_more_filled Holds row count size now part new known lt long is made =
         known.long,
       );
       rows = λ k below. elim (cases_lt k row) [
-        | inl before ↦ subst (Holds k) (sym (row_before size row k size now part new before within is)) (known.rows k before)
+        | inl before ↦ subst (Holds k) (sym (row_before size row k size now part before within is)) (known.rows k before)
         | inr after ↦
             let same : row ≡ k = omega (arith, below, after) in
-            subst (λ (j : ℕ). Holds j (row_bytes size j new)) same
-            (subst (Holds row) (sym (changed_row size row size now part new refl long within is)) made)
+            subst (λ (j : ℕ). Holds j (row_bytes size j new)) same (subst (Holds row) (sym (changed_row row now part refl long within is)) made)
       ];
     }
 
 -- ---- rows that are packed one by one
 
 -- they fit where their pixels do
-pub packed_fit : (count each size long : ℕ) → long ≡ count * each → size ≡ bytes_for each → count * size ≤ long
-packed_fit count each size long is fits =
+pub packed_fit : (count each : ℕ) {size long : ℕ} → long ≡ count * each → size ≡ bytes_for each → count * size ≤ long
+packed_fit count each {size} is fits =
     let most : count * size ≤ count * each = mul-le-mul {n₁ = count} {m₁ = size} {n₂ = count} {m₂ = each} (omega arith) (omega (arith, fits)) in
     omega (arith, most, is)
 
@@ -228,7 +217,7 @@ module _ (count each passed : ℕ) (pixels bytes : List ℕ) (long : length pixe
   row_packed row lt =
       let part = take each (drop (row * each) pixels) in
       let size = length_of_row_bytes each row pixels (row_within count each row (length pixels) long lt) in
-      let packed = packed_again each part size (All-take (λ sample. sample ≤ 1) each (drop (row * each) pixels)
+      let packed = packed_again size (All-take (λ sample. sample ≤ 1) each (drop (row * each) pixels)
       (All-drop (λ sample. sample ≤ 1) (row * each) pixels fit)) in
       subst (λ (l : List ℕ). ArePacked each l × (take each (all_pixels l) ≡ part)) (sym (known.rows row (omega (arith, lt, all)))) packed
 
@@ -239,7 +228,7 @@ module _ (count each passed : ℕ) (pixels bytes : List ℕ) (long : length pixe
   }
 
   pub rows_of_packed : rows_of_bytes count each bytes ≡ cut_rows count each pixels
-  rows_of_packed = rows_are count each bytes (cut_rows count each pixels) (length-cut_rows count each pixels) (λ row lt.
+  rows_of_packed = rows_are each bytes (cut_rows count each pixels) (length-cut_rows count each pixels) (λ row lt.
       (row_packed row lt).1 ∙ row_of_cut count each row pixels lt)
 
 -- ---- rows that come together of others' bytes
@@ -283,11 +272,11 @@ row_of_rows held whole row bytes rows is long lt =
     )
 
 -- they have no more bytes
-pub part_fits : (held whole top count left each : ℕ) (bytes : List ℕ) (rows : List (List ℕ)) → rows_of_bytes held whole bytes ≡ rows
-    → length bytes ≡ held * bytes_for whole → top + count ≤ length rows
-    → ((k : ℕ) → k < length rows → left + each ≤ length (get_or rows k [])) → count * bytes_for each ≤ length bytes
-part_fits held whole top zero left each bytes rows is long within inside = omega (arith, zero-mul (bytes_for each))
-part_fits held whole top (suc count) left each bytes rows is long within inside =
+pub part_fits : (held whole top count left each : ℕ) (bytes : List ℕ) {rows : List (List ℕ)} → rows_of_bytes held whole bytes ≡ rows
+    → length bytes ≡ held * bytes_for whole → top + count ≤ length rows → ((k : ℕ) → k < length rows → left + each ≤ length (get_or rows k []))
+    → count * bytes_for each ≤ length bytes
+part_fits held whole top zero left each bytes is long within inside = omega (arith, zero-mul (bytes_for each))
+part_fits held whole top (suc count) left each bytes {rows} is long within inside =
     let row = row_of_rows held whole 0 bytes rows is long (omega (arith, within)) in
     let narrow : left + each ≤ length (get_or rows 0 []) = inside 0 (omega (arith, within)) in
     let fewer : suc count ≤ held = omega (arith, within, length_of_rows held whole bytes, ap length is) in
@@ -307,9 +296,8 @@ pub part_is : (top count left each passed : ℕ) (bytes : List ℕ) (rows : List
 part_is top count left each passed bytes rows within all known =
     let those = take count (drop top rows) in
     let many : length those ≡ count = omega (arith, length-take count (drop top rows), length-drop top rows, within) in
-    rows_are count each bytes (map (λ (row : List ℕ). take each (drop left row)) those) (length-map those (λ (row : List ℕ). take each (drop left row)) ∙ many)
-    (λ k lt.
-    known.rows k (omega (arith, lt, all))
+    rows_are each bytes (map (λ (row : List ℕ). take each (drop left row)) those) (length-map those (λ (row : List ℕ). take each (drop left row)) ∙ many)
+    (λ k lt. known.rows k (omega (arith, lt, all))
     ∙ ap (λ (row : List ℕ). take each (drop left row)) (sym (get_or-take count (drop top rows) k [] lt ∙ get_or-drop top rows k []))
     ∙ sym (get_or-map (λ (row : List ℕ). take each (drop left row)) those k [] [] (omega (arith, many, lt))))
 
@@ -329,7 +317,7 @@ module _ (count each : ℕ) (old new : List ℕ) (h : ArePackedRows count each o
   rows_reversed =
       let rows = rows_of_bytes count each old in
       let many : length rows ≡ count = length_of_rows count each old in
-      rows_are count each new (reverse rows) (length-reverse rows ∙ many) (λ row lt.
+      rows_are each new (reverse rows) (length-reverse rows ∙ many) (λ row lt.
       let place : length rows - 1 - row ≡ count - 1 - row = omega (arith, many) in
       ap (λ (l : List ℕ). take each (all_pixels l)) (reversed_row row lt) ∙ pixels_of_row count each (count - 1 - row) old (omega (arith, lt))
       ∙ sym (get_or-reverse rows row [] (omega (arith, many, lt)) ∙ ap (λ (m : ℕ). get_or rows m []) place))
@@ -371,7 +359,7 @@ module _ (times count each apart : ℕ) (old wide : List ℕ) (is : all_pixels w
       let rows = rows_of_bytes count each old in
       let size = bytes_for (each * times) in
       let many : length rows ≡ count = length_of_rows count each old in
-      rows_are count (each * times) new (map (repeated times) rows) (length-map rows (repeated times) ∙ many) (λ row lt.
+      rows_are (each * times) new (map (repeated times) rows) (length-map rows (repeated times) ∙ many) (λ row lt.
       let here = drop (row * apart) wide in
       ap (λ (l : List ℕ). take (each * times) (all_pixels l)) (known row lt)
       ∙ ap (take (each * times)) (sym (take-all_pixels size here)) ∙ take-take (each * times) (8 * size) (all_pixels here) (omega arith)
@@ -409,12 +397,11 @@ module _ (times n : ℕ) (bytes copied pixels value wide : List ℕ) (all : n �
       sym (take_all (length value) (all_pixels wide) (omega (arith, length-all_pixels wide, length_of_wide, many))) ∙ sym is ∙ those
 
 -- a row of them has no fewer bytes than its pixels need
-pub wide_enough : (each times apart size : ℕ) → apart ≡ bytes_for each * times → size ≡ bytes_for (each * times) → size ≤ apart
-wide_enough each times apart size is fits =
+pub wide_enough : (each times : ℕ) {apart size : ℕ} → apart ≡ bytes_for each * times → size ≡ bytes_for (each * times) → size ≤ apart
+wide_enough each times is fits =
     let most : each * times ≤ 8 * bytes_for each * times =
     mul-le-mul {n₁ = each} {m₁ = times} {n₂ = 8 * bytes_for each} {m₂ = times} (omega arith) (omega arith) in
     omega (arith, most, sym (product_of_three 8 (bytes_for each) times), is, fits)
 
-pub bytes_of_wide : (count each times apart long : ℕ) → long ≡ count * bytes_for each → apart ≡ bytes_for each * times → long * times ≡ count * apart
-bytes_of_wide count each times apart long is of =
-    ap (λ (k : ℕ). k * times) is ∙ sym (product_of_three count (bytes_for each) times) ∙ ap (λ (k : ℕ). count * k) (sym of)
+pub bytes_of_wide : (count each times : ℕ) {apart long : ℕ} → long ≡ count * bytes_for each → apart ≡ bytes_for each * times → long * times ≡ count * apart
+bytes_of_wide count each times is of = ap (λ (k : ℕ). k * times) is ∙ sym (product_of_three count (bytes_for each) times) ∙ ap (λ (k : ℕ). count * k) (sym of)

@@ -1,13 +1,8 @@
 -- A bit of each of several bytes.
-use Rattle.std.proofs.Common.{◌≡◌, ℕ, zero, suc, ◌+◌, ◌-◌, ◌*◌, ◌/◌, ◌%◌, ◌^◌, ◌<◌, List, [], ◌∷◌, length, get_or, map, replicate, All, leb, cond, w8, refl}
-use Rattle.std.proofs.Common.{sym, ap, ap₂, subst, ◌∙◌, arith}
-use Rattle.std.specs.Int.{bit_at}
-use Rattle.std.proofs.Math.Nat.{pow-succ'}
-use lib.Lanes.{mask_l, top, zip2}
-use Rattle.std.proofs.lemmas.Nat.Bits.{bit_at-lt, bit_at-suc}
-use Rattle.std.proofs.lemmas.Simd.{zip2_of_maps, mask_l-lt, mask_l-mod, tops_compared, zip2_splat_left}
-use Rattle.std.proofs.lemmas.List.{length-map}
-use Rattle.pnm_samples.specs.Internal.Blocks.{bits_of}
+use Rattle.pnm_samples.proofs.Words.{◌≡◌, ℕ, zero, suc, ◌+◌, ◌-◌, ◌*◌, ◌/◌, ◌%◌, ◌^◌, ◌<◌, List, [], ◌∷◌, length, get_or, map, replicate, All, leb, cond, refl}
+use Rattle.pnm_samples.proofs.Words.{sym, ap, ap₂, subst, ◌∙◌, arith, bit_at, pow-succ', mask_l, top, zip2, bit_at-lt, bit_at-suc, zip2_of_maps, mask_l-lt}
+use Rattle.pnm_samples.proofs.Words.{mask_l-mod, tops_compared, zip2_splat_left, length-map, bits_of}
+use Rattle.std.proofs.Common.{w8}
 
 -- the highest bit of a byte
 highest_bit : (x : ℕ) → x < 256 → cond (leb 128 x) 1 0 ≡ bit_at x 7
@@ -52,9 +47,9 @@ twice b p = omega arith
 one_more_place : (b k : ℕ) → (b * 2 ^ k % 256 + b * 2 ^ k % 256) % 256 ≡ b * 2 ^ (k + 1) % 256
 one_more_place b k = twice b (2 ^ k) ∙ ap (λ n. b * n % 256) (sym (pow-succ' 2 k) ∙ ap (λ n. 2 ^ n) (omega arith))
 
-pub places_more : (bs lanes : List ℕ) (k : ℕ) → lanes ≡ map (λ b. b * 2 ^ k % 256) bs
+pub places_more : (bs : List ℕ) {lanes : List ℕ} (k : ℕ) → lanes ≡ map (λ b. b * 2 ^ k % 256) bs
     → zip2 (λ x y. (x + y) % 256) lanes lanes ≡ map (λ b. b * 2 ^ (k + 1) % 256) bs
-places_more bs lanes k e =
+places_more bs k e =
     zip2_of_maps (λ x y. (x + y) % 256) (λ b. b * 2 ^ k % 256) (λ b. b * 2 ^ k % 256) bs e e ∙ same bs
   where
     same : (l : List ℕ) → map (λ b. (b * 2 ^ k % 256 + b * 2 ^ k % 256) % 256) l ≡ map (λ b. b * 2 ^ (k + 1) % 256) l

@@ -1,7 +1,6 @@
 -- The greatest of the samples that a loop has passed.
-use Rattle.std.proofs.Common.{◌≤◌, ◌<◌, ◌+◌, ◌≡◌, ◌↔◌, ℕ, suc, All, List, [], ◌∷◌, take, length, get_or, arith, max, subst}
-use Rattle.std.proofs.lemmas.List.{take_all, get_or-take, length-take}
-use Rattle.std.proofs.lemmas.List.Elements.{All-nil, All-cons, All-more}
+use Rattle.pnm_samples.proofs.Words.{◌≤◌, ◌<◌, ◌+◌, ◌≡◌, ◌↔◌, ℕ, suc, All, List, [], ◌∷◌, take, length, get_or, arith, max, subst, take_all, get_or-take}
+use Rattle.pnm_samples.proofs.Words.{length-take, All-nil, All-cons, All-more}
 
 -- a bound of one sample more
 pub greatest_more : (xs : List ℕ) (i g r : ℕ) → i < length xs → r ≡ max (get_or xs i 0) g → ((most : ℕ) → (g ≤ most) ↔ All (λ x. x ≤ most) (take i xs))

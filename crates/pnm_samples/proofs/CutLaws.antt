@@ -1,7 +1,6 @@
 -- Samples cut into rows.
-use Rattle.std.proofs.Common.{◌≡◌, ℕ, zero, suc, ◌+◌, ◌*◌, ◌<◌, List, [], get_or, length, take, drop, refl, sym, ap, ◌∙◌, arith, suc-mul, zero-mul}
-use Rattle.std.proofs.lemmas.List.{drop-drop}
-use Rattle.pnm_samples.specs.Cuts.{cut_rows}
+use Rattle.pnm_samples.proofs.Words.{◌≡◌, ℕ, zero, suc, ◌+◌, ◌*◌, ◌<◌, List, [], get_or, length, take, drop, refl, sym, ap, ◌∙◌, arith, suc-mul, zero-mul}
+use Rattle.pnm_samples.proofs.Words.{drop-drop, cut_rows}
 
 -- as many rows are cut as were asked for
 pub length-cut_rows : (count each : ℕ) (samples : List ℕ) → length (cut_rows count each samples) ≡ count

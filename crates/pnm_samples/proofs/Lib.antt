@@ -1,3 +1,4 @@
+mod Words
 pub mod BitRowLaws
 pub mod BitRowParts
 pub mod BitRowsMade

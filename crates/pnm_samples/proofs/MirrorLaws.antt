@@ -1,12 +1,12 @@
 -- Pixels in the other order.
-use Rattle.std.proofs.Common.{◌≡◌, ℕ, zero, suc, length-append, ◌+◌, ◌-◌, ◌*◌, ◌%◌, ◌<◌, ◌≤◌, Bool, true, false, ◌&&◌, List, [], ◌∷◌, ◌++◌, length, get_or, set}
-use Rattle.std.proofs.Common.{take, drop, map, replicate, reverse, eqb, refl, sym, ap, ap₂, ◌∙◌, arith}
-use Rattle.std.specs.Int.{w8, reverse_bits, reverse_bits_onto}
-use Rattle.std.proofs.lemmas.Bool.{agree_below_at, eqb-true, and_parts}
-use Rattle.std.proofs.lemmas.List.{map-append, reverse-append, append-nil, append_assoc, drop_all, take_at, drop_at, drop-drop, drop_more, drop-set-lt}
-use Rattle.std.proofs.lemmas.List.{take-append-drop, take-replicate, length-replicate, length-reverse, replicate-append-replicate, get_or-drop}
-use Rattle.pnm_samples.specs.Pixels.{pixels, all_pixels, ArePacked}
-use Rattle.pnm_samples.specs.Internal.Pixels.{AreBytes}
+use Rattle.pnm_samples.proofs.Words.{◌≡◌, ℕ, zero, suc, ◌+◌, ◌-◌, ◌*◌, ◌%◌, ◌<◌, ◌≤◌, Bool, true, false, ◌&&◌, List, [], ◌∷◌, ◌++◌, length, get_or, set, take}
+use Rattle.pnm_samples.proofs.Words.{drop, map, replicate, reverse, eqb, refl, sym, ap, ap₂, ◌∙◌, arith, w8, reverse_bits, agree_below_at, eqb-true, and_parts}
+use Rattle.pnm_samples.proofs.Words.{map-append, reverse-append, append-nil, append_assoc, drop_all, take_at, drop_at, drop-drop, drop_more, drop-set-lt}
+use Rattle.pnm_samples.proofs.Words.{take-append-drop, take-replicate, length-replicate, length-reverse, replicate-append-replicate, get_or-drop, all_pixels}
+use Rattle.pnm_samples.proofs.Words.{ArePacked, AreBytes}
+use Rattle.std.proofs.Common.{length-append}
+use Rattle.std.specs.Int.{reverse_bits_onto}
+use Rattle.pnm_samples.specs.Pixels.{pixels}
 use Rattle.pnm_samples.proofs.PixelLaws.{length-all_pixels, all_pixels-push, all_pixels-single, drop_within, set_last, shift_step}
 use Rattle.pnm_samples.proofs.PixelRowLaws.{length_of_packed}
 
@@ -108,9 +108,9 @@ reverse-replicate (suc n) =
     ∙ ap (λ (k : ℕ). replicate k 1) more
 
 -- the spare pixels come first then
-pub turned_parts : (count : ℕ) (bytes value : List ℕ) → ArePacked count bytes → take count (all_pixels bytes) ≡ value
+pub turned_parts : {count : ℕ} {bytes value : List ℕ} → ArePacked count bytes → take count (all_pixels bytes) ≡ value
     → reverse (all_pixels bytes) ≡ replicate ((8 - count % 8) % 8) 1 ++ reverse value
-turned_parts count bytes value h is =
+turned_parts {count} {bytes} {value} h is =
     let n = 8 * length bytes - count in
     let spare : n ≡ (8 - count % 8) % 8 = omega (arith, h.enough) in
     let parts : all_pixels bytes ≡ value ++ replicate n 1 = sym (take-append-drop count (all_pixels bytes)) ∙ ap₂ (λ (a b : List ℕ). a ++ b) is h.spare in

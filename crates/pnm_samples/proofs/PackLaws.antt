@@ -1,9 +1,7 @@
 -- Pixels as bytes, group by group.
-use Rattle.std.proofs.Common.{◌≡◌, ℕ, zero, suc, ◌+◌, ◌-◌, ◌*◌, ◌/◌, ◌<◌, ◌≤◌, List, [], ◌∷◌, ◌++◌, length, get_or, set, take, drop, replicate, refl, sym, ap}
-use Rattle.std.proofs.Common.{ap₂, ◌∙◌, arith}
-use Rattle.std.proofs.lemmas.List.{length-map, take_all, take_more_set, take-take, drop-take, drop-drop, length-take, length-drop}
-use Rattle.pnm_samples.specs.Cuts.{cut_rows}
-use Rattle.pnm_samples.specs.Pixels.{packed_byte, packed_bytes}
+use Rattle.pnm_samples.proofs.Words.{◌≡◌, ℕ, zero, suc, ◌+◌, ◌-◌, ◌*◌, ◌/◌, ◌<◌, ◌≤◌, List, [], ◌∷◌, ◌++◌, length, get_or, set, take, drop, replicate, refl}
+use Rattle.pnm_samples.proofs.Words.{sym, ap, ap₂, ◌∙◌, arith, length-map, take_all, take_more_set, take-take, drop-take, drop-drop, length-take, length-drop}
+use Rattle.pnm_samples.proofs.Words.{cut_rows, packed_byte, packed_bytes}
 use Rattle.pnm_samples.proofs.CutLaws.{length-cut_rows}
 use Rattle.pnm_samples.proofs.PackedBytes.{packed_groups, bits_before_white}
 
@@ -69,9 +67,9 @@ packed_parts k xs enough =
     ∙ ap (λ (l : List ℕ). l ++ packed_bytes (drop (8 * k) xs)) (sym (groups_of_prefix k xs) ∙ ap (λ (m : ℕ). packed_groups m (take (8 * k) xs)) (sym count))
 
 -- whole groups, and a last group with white pixels in place of those that are missing
-groups_and_last : (k n : ℕ) (xs rest last : List ℕ) → k ≡ length xs / 8 → rest ≡ drop (8 * k) xs → 0 < length rest → last ≡ rest ++ replicate n 1
-    → packed_bytes xs ≡ packed_groups k xs ++ packed_byte last ∷ []
-groups_and_last k n xs rest last e after some filled =
+groups_and_last : {k : ℕ} (n : ℕ) (xs : List ℕ) {rest last : List ℕ} → k ≡ length xs / 8 → rest ≡ drop (8 * k) xs → 0 < length rest
+    → last ≡ rest ++ replicate n 1 → packed_bytes xs ≡ packed_groups k xs ++ packed_byte last ∷ []
+groups_and_last {k} n xs {rest} {last} e after some filled =
     let left : length rest + 8 * k ≡ length xs = omega (arith, ap length after, length-drop (8 * k) xs) in
     let count : (length xs + 7) / 8 ≡ k + 1 = omega arith in
     let short : length rest ≤ 8 = omega arith in
@@ -81,20 +79,20 @@ groups_and_last k n xs rest last e after some filled =
     ap (λ (m : ℕ). packed_groups m xs) count ∙ groups_more k xs ∙ ap (λ (b : ℕ). packed_groups k xs ++ b ∷ []) pixels
 
 -- the byte of one group more was stored
-pub groups_step : (i count byte : ℕ) (xs buffer : List ℕ) → take i buffer ≡ packed_groups i xs → i < length buffer → count ≡ 8
+pub groups_step : (i count : ℕ) {byte : ℕ} (xs buffer : List ℕ) → take i buffer ≡ packed_groups i xs → i < length buffer → count ≡ 8
     → byte ≡ packed_byte (take count (drop (8 * i) xs)) → take (i + 1) (set buffer i byte) ≡ packed_groups (i + 1) xs
-groups_step i count byte xs buffer known below eight e =
+groups_step i count {byte} xs buffer known below eight e =
     take_more_set buffer i byte below ∙ ap₂ (λ (l : List ℕ) (b : ℕ). l ++ b ∷ []) known (e ∙ ap (λ (m : ℕ). packed_byte (take m (drop (8 * i) xs))) eight)
     ∙ sym (groups_more i xs)
 
 -- the byte of a last group was stored after the whole groups
-pub last_step : (i k n byte : ℕ) (xs buffer rest last : List ℕ) → i ≡ k → take i buffer ≡ packed_groups i xs → k < length buffer → k ≡ length xs / 8
-    → rest ≡ drop (8 * k) xs → 0 < length rest → last ≡ rest ++ replicate n 1 → byte ≡ packed_byte last
-    → take (k + 1) (set buffer k byte) ≡ packed_bytes xs
-last_step i k n byte xs buffer rest last same known below e after some filled b =
+pub last_step : {i k : ℕ} (n : ℕ) {byte : ℕ} (xs buffer : List ℕ) {rest last : List ℕ} → i ≡ k → take i buffer ≡ packed_groups i xs → k < length buffer
+    → k ≡ length xs / 8 → rest ≡ drop (8 * k) xs → 0 < length rest → last ≡ rest ++ replicate n 1 → byte ≡ packed_byte last → take (k + 1)
+    (set buffer k byte) ≡ packed_bytes xs
+last_step {k} n {byte} xs buffer same known below e after some filled b =
     take_more_set buffer k byte below
     ∙ ap₂ (λ (l : List ℕ) (v : ℕ). l ++ v ∷ []) (ap (λ (m : ℕ). take m buffer) (sym same) ∙ known ∙ ap (λ (m : ℕ). packed_groups m xs) same) b
-    ∙ sym (groups_and_last k n xs rest last e after some filled)
+    ∙ sym (groups_and_last n xs e after some filled)
 
 pub length-packed_bytes : (pixels : List ℕ) → length (packed_bytes pixels) ≡ (length pixels + 7) / 8
 length-packed_bytes pixels = length-map (cut_rows ((length pixels + 7) / 8) 8 pixels) packed_byte ∙ length-cut_rows ((length pixels + 7) / 8) 8 pixels

@@ -1,13 +1,10 @@
 -- Pixels that are packed into bytes are read again: eight a byte, the last byte with spare bits.
-use Rattle.std.proofs.Common.{◌≡◌, ℕ, zero, suc, ◌+◌, ◌-◌, ◌*◌, ◌/◌, ◌%◌, ◌<◌, ◌≤◌, inl, inr, List, [], ◌∷◌, ◌++◌, length, take, drop, replicate, flat_map, All}
-use Rattle.std.proofs.Common.{refl, sym, ap, ap₂, ◌∙◌, arith}
-use Rattle.std.proofs.Math.Seq.{take-append-add}
-use Rattle.std.proofs.lemmas.Bool.{cases_lt}
-use Rattle.std.proofs.lemmas.List.{drop_at, take_at, take-append-le, take-append-drop, take_all, length-append, length-replicate, length-drop, length-take}
-use Rattle.std.proofs.lemmas.List.{length-map, nil_from_length}
-use Rattle.std.proofs.lemmas.List.Elements.{All-take, All-drop, All-append, All-replicate}
-use Rattle.pnm_samples.specs.Cuts.{cut_rows}
-use Rattle.pnm_samples.specs.Pixels.{pixels, all_pixels, packed_byte, packed_bytes, ArePacked}
+use Rattle.pnm_samples.proofs.Words.{◌≡◌, ℕ, zero, suc, ◌+◌, ◌-◌, ◌*◌, ◌/◌, ◌%◌, ◌<◌, ◌≤◌, inl, inr, List, [], ◌∷◌, ◌++◌, length, take, drop, replicate, All}
+use Rattle.pnm_samples.proofs.Words.{refl, sym, ap, ap₂, ◌∙◌, arith, take-append-add, cases_lt, drop_at, take_at, take-append-le, take-append-drop, take_all}
+use Rattle.pnm_samples.proofs.Words.{length-append, length-replicate, length-drop, length-take, length-map, nil_from_length, All-take, All-drop, All-append}
+use Rattle.pnm_samples.proofs.Words.{All-replicate, cut_rows, all_pixels, packed_byte, packed_bytes, ArePacked}
+use Rattle.std.proofs.Common.{flat_map}
+use Rattle.pnm_samples.specs.Pixels.{pixels}
 use Rattle.pnm_samples.proofs.CutLaws.{length-cut_rows}
 use Rattle.pnm_samples.proofs.PackLaws.{length-packed_bytes}
 use Rattle.pnm_samples.proofs.PackedBytes.{packed_groups, bits_before_white, groups_before_white}
@@ -19,23 +16,24 @@ use Rattle.pnm_samples.proofs.PixelLaws.{length-all_pixels}
 eighth : (bit low byte : ℕ) → bit ≤ 1 → low < 128 → byte ≡ 128 * bit + low → byte / 128 % 2 ≡ bit
 eighth bit low byte h l e = omega arith
 
-seventh : (high bit low byte : ℕ) → bit ≤ 1 → low < 64 → byte ≡ 128 * high + 64 * bit + low → byte / 64 % 2 ≡ bit
-seventh high bit low byte h l e = omega arith
+module _ (high bit low byte : ℕ) where
+  seventh : bit ≤ 1 → low < 64 → byte ≡ 128 * high + 64 * bit + low → byte / 64 % 2 ≡ bit
+  seventh h l e = omega arith
 
-sixth : (high bit low byte : ℕ) → bit ≤ 1 → low < 32 → byte ≡ 64 * high + 32 * bit + low → byte / 32 % 2 ≡ bit
-sixth high bit low byte h l e = omega arith
+  sixth : bit ≤ 1 → low < 32 → byte ≡ 64 * high + 32 * bit + low → byte / 32 % 2 ≡ bit
+  sixth h l e = omega arith
 
-fifth : (high bit low byte : ℕ) → bit ≤ 1 → low < 16 → byte ≡ 32 * high + 16 * bit + low → byte / 16 % 2 ≡ bit
-fifth high bit low byte h l e = omega arith
+  fifth : bit ≤ 1 → low < 16 → byte ≡ 32 * high + 16 * bit + low → byte / 16 % 2 ≡ bit
+  fifth h l e = omega arith
 
-fourth : (high bit low byte : ℕ) → bit ≤ 1 → low < 8 → byte ≡ 16 * high + 8 * bit + low → byte / 8 % 2 ≡ bit
-fourth high bit low byte h l e = omega arith
+  fourth : bit ≤ 1 → low < 8 → byte ≡ 16 * high + 8 * bit + low → byte / 8 % 2 ≡ bit
+  fourth h l e = omega arith
 
-third : (high bit low byte : ℕ) → bit ≤ 1 → low < 4 → byte ≡ 8 * high + 4 * bit + low → byte / 4 % 2 ≡ bit
-third high bit low byte h l e = omega arith
+  third : bit ≤ 1 → low < 4 → byte ≡ 8 * high + 4 * bit + low → byte / 4 % 2 ≡ bit
+  third h l e = omega arith
 
-second : (high bit low byte : ℕ) → bit ≤ 1 → low < 2 → byte ≡ 4 * high + 2 * bit + low → byte / 2 % 2 ≡ bit
-second high bit low byte h l e = omega arith
+  second : bit ≤ 1 → low < 2 → byte ≡ 4 * high + 2 * bit + low → byte / 2 % 2 ≡ bit
+  second h l e = omega arith
 
 first : (high bit byte : ℕ) → bit ≤ 1 → byte ≡ 2 * high + bit → byte / 1 % 2 ≡ bit
 first high bit byte h e = omega arith
@@ -66,8 +64,8 @@ bits_of byte a b c d e f g h ha hb hc hd he hf hg hh is = record {
 }
 
 -- a pixel whose bit is that of a sample
-pixel_is : (bit sample : ℕ) → sample ≤ 1 → bit ≡ 1 - sample → 1 - bit ≡ sample
-pixel_is bit sample h e = omega arith
+pixel_is : {bit : ℕ} (sample : ℕ) → sample ≤ 1 → bit ≡ 1 - sample → 1 - bit ≡ sample
+pixel_is sample h e = omega arith
 
 -- the bit of a sample is a bit
 small_bit : (sample : ℕ) → 1 - sample ≤ 1
@@ -81,14 +79,14 @@ eight_pixels a b c d e f g h ha hb hc hd he hf hg hh =
     let byte : ℕ = packed_byte (a ∷ b ∷ c ∷ d ∷ e ∷ f ∷ g ∷ h ∷ []) in
     let bits = bits_of byte (1 - a) (1 - b) (1 - c) (1 - d) (1 - e) (1 - f) (1 - g) (1 - h)
     (small_bit a) (small_bit b) (small_bit c) (small_bit d) (small_bit e) (small_bit f) (small_bit g) (small_bit h) refl in
-    let pa = pixel_is (byte / 128 % 2) a ha bits.bit_a in
-    let pb = pixel_is (byte / 64 % 2) b hb bits.bit_b in
-    let pc = pixel_is (byte / 32 % 2) c hc bits.bit_c in
-    let pd = pixel_is (byte / 16 % 2) d hd bits.bit_d in
-    let pe = pixel_is (byte / 8 % 2) e he bits.bit_e in
-    let pf = pixel_is (byte / 4 % 2) f hf bits.bit_f in
-    let pg = pixel_is (byte / 2 % 2) g hg bits.bit_g in
-    let ph = pixel_is (byte / 1 % 2) h hh bits.bit_h in
+    let pa = pixel_is a ha bits.bit_a in
+    let pb = pixel_is b hb bits.bit_b in
+    let pc = pixel_is c hc bits.bit_c in
+    let pd = pixel_is d hd bits.bit_d in
+    let pe = pixel_is e he bits.bit_e in
+    let pf = pixel_is f hf bits.bit_f in
+    let pg = pixel_is g hg bits.bit_g in
+    let ph = pixel_is h hh bits.bit_h in
     cc
 
 -- samples that are pixels
@@ -155,9 +153,9 @@ pixels_of_groups (suc count) xs few p = elim (cases_lt (length xs) 8) [
 ]
 
 -- the pixels of all their bytes: these, and white ones
-pub packed_again : (each : ℕ) (xs : List ℕ) → length xs ≡ each → ArePixels xs
+pub packed_again : {each : ℕ} {xs : List ℕ} → length xs ≡ each → ArePixels xs
     → ArePacked each (packed_bytes xs) × (take each (all_pixels (packed_bytes xs)) ≡ xs)
-packed_again each xs long p =
+packed_again {each} {xs} long p =
     let count = (length xs + 7) / 8 in
     let spare = 8 * count - length xs in
     let white : List ℕ = replicate spare 1 in
@@ -165,8 +163,7 @@ packed_again each xs long p =
     let bytes : length (packed_bytes xs) ≡ count = length-packed_bytes xs in
     let all : all_pixels (packed_bytes xs) ≡ xs ++ white =
     ap all_pixels (sym (groups_before_white count spare xs))
-    ∙ sym (take_all (length (xs ++ white)) (all_pixels (packed_groups count (xs ++ white)))
-    (omega (
+    ∙ sym (take_all (length (xs ++ white)) (all_pixels (packed_groups count (xs ++ white))) (omega (
       arith,
       whole,
       length-all_pixels (packed_groups count (xs ++ white)),

@@ -1,11 +1,8 @@
 -- The bytes of the pixels of a row.
-use Rattle.std.proofs.Common.{◌≡◌, ℕ, zero, suc, ◌+◌, ◌-◌, ◌*◌, ◌/◌, ◌<◌, List, [], ◌∷◌, ◌++◌, length, true, eqb, take, drop, replicate, refl, sym, ap, ap₂}
-use Rattle.std.proofs.Common.{map, ◌∙◌, arith}
-use Rattle.std.proofs.lemmas.Bool.{agree_below_at, eqb-true}
-use Rattle.std.proofs.lemmas.List.{take_all, drop_all, take_at, drop_at, take-append-drop}
-use Rattle.pnm_samples.specs.Pixels.{pixels, all_pixels, ArePacked, pixel_bits, packed_byte, packed_bytes}
-use Rattle.pnm_samples.specs.Internal.Pixels.{AreBytes}
-use Rattle.pnm_samples.specs.Cuts.{cut_rows}
+use Rattle.pnm_samples.proofs.Words.{◌≡◌, ℕ, zero, suc, ◌+◌, ◌-◌, ◌*◌, ◌/◌, ◌<◌, List, [], ◌∷◌, ◌++◌, length, true, eqb, take, drop, replicate, refl, sym, ap}
+use Rattle.pnm_samples.proofs.Words.{ap₂, map, ◌∙◌, arith, agree_below_at, eqb-true, take_all, drop_all, take_at, drop_at, take-append-drop, all_pixels}
+use Rattle.pnm_samples.proofs.Words.{ArePacked, pixel_bits, packed_byte, packed_bytes, AreBytes, cut_rows}
+use Rattle.pnm_samples.specs.Pixels.{pixels}
 use Rattle.pnm_samples.proofs.PixelLaws.{length-pixels}
 use Rattle.pnm_samples.proofs.PixelRowLaws.{length_of_packed}
 

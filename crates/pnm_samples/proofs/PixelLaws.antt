@@ -1,20 +1,14 @@
 -- The pixels of bytes.
-use Rattle.std.proofs.Common.{◌≡◌, ℕ, zero, suc, ◌+◌, ◌-◌, ◌*◌, ◌/◌, ◌%◌, ◌^◌, ◌<◌, ◌≤◌, List, [], ◌∷◌, ◌++◌, length, get_or, set, min, inl, inr, take, drop}
-use Rattle.std.proofs.Common.{map, replicate, refl, sym, ap, ap₂, ◌∙◌, arith, lit<, length-append, take-add}
-use Rattle.std.specs.Prelude.{bit_and}
-use Rattle.std.specs.Int.{bit_at, w8}
-use Rattle.std.proofs.lemmas.Nat.{shr-shr, shr_split}
-use Rattle.std.proofs.lemmas.Nat.Bits.{bit_at_not, bit_at-lt, bit_at_and, bit_at_cat_low, bit_at_cat_high, bit_at_mask_inside, bit_at_mask_below}
-use Rattle.std.proofs.lemmas.Bool.{cases_lt}
-use Rattle.std.proofs.lemmas.List.{map-append, append-nil, take_all, drop_all, ext_get_or, length-drop, length-take, length-replicate, get_or_append_left}
-use Rattle.std.proofs.lemmas.List.{get_or-append_right, get_or-drop, get_or-take, get_or-replicate, set_split, set-get_or, take_at, drop_at, length-set}
-use Rattle.std.proofs.lemmas.List.{drop-drop, drop-append-le, take-append-le, drop_more, take_more_set, drop-take, take-take, length-take-le, take-append-drop}
-use Rattle.std.proofs.lemmas.List.{append_assoc}
-use borrow.Rule.Slice.PartMut.{put_mid}
-use Rattle.std.proofs.lemmas.Grind.{flat_map-append}
-use Rattle.std.proofs.Math.Seq.{take-append-add, drop-append-add}
-use Rattle.pnm_samples.specs.Pixels.{pixel_at, pixels, all_pixels, ArePacked}
-use Rattle.pnm_samples.specs.Internal.Pixels.{AreBytes}
+use Rattle.pnm_samples.proofs.Words.{◌≡◌, ℕ, zero, suc, ◌+◌, ◌-◌, ◌*◌, ◌/◌, ◌%◌, ◌^◌, ◌<◌, ◌≤◌, List, [], ◌∷◌, ◌++◌, length, get_or, set, min, inl, inr, take}
+use Rattle.pnm_samples.proofs.Words.{drop, map, replicate, refl, sym, ap, ap₂, ◌∙◌, arith, lit<, take-add, bit_and, bit_at, w8, shr-shr, shr_split, bit_at_not}
+use Rattle.pnm_samples.proofs.Words.{bit_at-lt, bit_at_and, bit_at_cat_low, bit_at_cat_high, bit_at_mask_inside, bit_at_mask_below, cases_lt, map-append}
+use Rattle.pnm_samples.proofs.Words.{append-nil, take_all, drop_all, ext_get_or, length-drop, length-take, length-replicate, get_or_append_left}
+use Rattle.pnm_samples.proofs.Words.{get_or-append_right, get_or-drop, get_or-take, get_or-replicate, set_split, set-get_or, take_at, drop_at, length-set}
+use Rattle.pnm_samples.proofs.Words.{drop-drop, drop-append-le, take-append-le, drop_more, take_more_set, drop-take, take-take, length-take-le}
+use Rattle.pnm_samples.proofs.Words.{take-append-drop, append_assoc, put_mid, flat_map-append, take-append-add, drop-append-add, pixel_at, all_pixels}
+use Rattle.pnm_samples.proofs.Words.{ArePacked, AreBytes}
+use Rattle.std.proofs.Common.{length-append}
+use Rattle.pnm_samples.specs.Pixels.{pixels}
 
 -- ---- one byte
 
@@ -51,9 +45,8 @@ complement_pixels (b ∷ bytes) fit =
     ∙ sym (map-append (λ s. 1 - s) (pixels b) (all_pixels bytes))
 
 -- a map in place, once all have passed
-pub all_mapped : {X : Type 0} (f : X → X) (xs ys : List X) (i : ℕ) → length xs ≤ i → ys ≡ map f (take i xs) ++ drop i xs → ys ≡ map f xs
-all_mapped f xs ys i le known =
-    known ∙ ap₂ (λ (l r : List _). map f l ++ r) (take_all i xs le) (drop_all i xs le) ∙ append-nil (map f xs)
+pub all_mapped : {X : Type 0} (f : X → X) (xs : List X) {ys : List X} (i : ℕ) → length xs ≤ i → ys ≡ map f (take i xs) ++ drop i xs → ys ≡ map f xs
+all_mapped f xs i le known = known ∙ ap₂ (λ (l r : List _). map f l ++ r) (take_all i xs le) (drop_all i xs le) ∙ append-nil (map f xs)
 
 -- ---- pixel by pixel
 
@@ -151,8 +144,9 @@ take_at_end prefix b count r e =
     let whole : count ≡ length (all_pixels prefix) + r = omega (arith, length-all_pixels prefix) in
     ap₂ (λ (n : ℕ) (l : List ℕ). take n l) whole (all_pixels-push prefix b) ∙ take-append-add (all_pixels prefix) (pixels b) r
 
-pub drop_at_end : (prefix : List ℕ) (b count r : ℕ) → count ≡ 8 * length prefix + r → drop count (all_pixels (prefix ++ b ∷ [])) ≡ drop r (pixels b)
-drop_at_end prefix b count r e =
+pub drop_at_end : (prefix : List ℕ) (b : ℕ) {count : ℕ} (r : ℕ) → count ≡ 8 * length prefix + r
+    → drop count (all_pixels (prefix ++ b ∷ [])) ≡ drop r (pixels b)
+drop_at_end prefix b {count} r e =
     let whole : count ≡ length (all_pixels prefix) + r = omega (arith, length-all_pixels prefix) in
     ap₂ (λ (n : ℕ) (l : List ℕ). drop n l) whole (all_pixels-push prefix b) ∙ drop-append-add (all_pixels prefix) (pixels b) r
 
@@ -197,13 +191,13 @@ module _ (bytes : List ℕ) (count byte : ℕ) (enough : length bytes ≡ (count
       let spare : 8 - r ≡ 8 * length (set bytes n byte) - count = omega (arith, length-set bytes n byte, split.0, split.2) in
       record {
         enough = length-set bytes n byte ∙ enough;
-        spare = ap (λ (l : List ℕ). drop count (all_pixels l)) (set_last bytes n byte split.0) ∙ drop_at_end f byte count r e ∙ ap (drop r) kept
+        spare = ap (λ (l : List ℕ). drop count (all_pixels l)) (set_last bytes n byte split.0) ∙ drop_at_end f byte r e ∙ ap (drop r) kept
             ∙ drop_at (take r (pixels b)) (replicate (8 - r) 1) r split.3 ∙ ap (λ (k : ℕ). replicate k 1) spare;
       }
 
 -- no byte is left after whole bytes
-pub whole_is_packed : (bytes : List ℕ) (count : ℕ) → length bytes ≡ (count + 7) / 8 → length bytes ≤ count / 8 → ArePacked count bytes
-whole_is_packed bytes count enough none =
+pub whole_is_packed : {bytes : List ℕ} {count : ℕ} → length bytes ≡ (count + 7) / 8 → length bytes ≤ count / 8 → ArePacked count bytes
+whole_is_packed {bytes} {count} enough none =
     let all : length (all_pixels bytes) ≤ count = omega (arith, length-all_pixels bytes) in
     let no_spare : 0 ≡ 8 * length bytes - count = omega arith in
     record {
@@ -295,10 +289,10 @@ shifted_run from start n m e =
     ∙ ap (take (8 * n)) (sym (drop_within (start / 8) s start from (omega arith)))
 
 -- a byte after so many pixels, of two bytes or of the last one
-pub byte_of_two : (bytes : List ℕ) (skipped low byte n : ℕ) → skipped / 8 + 1 < length bytes → low ≡ get_or bytes (skipped / 8 + 1) 0
+pub byte_of_two : (bytes : List ℕ) (skipped : ℕ) {low : ℕ} (byte n : ℕ) → skipped / 8 + 1 < length bytes → low ≡ get_or bytes (skipped / 8 + 1) 0
     → pixels byte ≡ drop (skipped % 8) (pixels (get_or bytes (skipped / 8) 0)) ++ take (skipped % 8) (pixels low) → n ≤ 8
     → take n (pixels byte) ≡ take n (drop skipped (all_pixels bytes))
-byte_of_two bytes skipped low byte n lt is known le =
+byte_of_two bytes skipped byte n lt is known le =
     let at = skipped / 8 in let s = skipped % 8 in let run = drop s (all_pixels (drop at bytes)) in
     let window : pixels byte ≡ take 8 run = known ∙ ap (λ (k : ℕ). drop s (pixels (get_or bytes at 0)) ++ take s (pixels k)) is
     ∙ sym (window_at bytes at s lt (omega arith)) in

@@ -1,14 +1,8 @@
 -- Pixels that stand several times.
-use Rattle.std.proofs.Common.{◌≡◌, ℕ, zero, suc, ◌+◌, ◌*◌, ◌%◌, ◌<◌, true, List, [], ◌∷◌, ◌++◌, length, get_or, take, replicate, refl, sym, ap, ap₂, ◌∙◌}
-use Rattle.std.proofs.Common.{arith}
-use Rattle.std.specs.Prelude.{bit_and, bit_or}
-use Rattle.std.specs.Int.{w16, to_be_bytes}
-use Rattle.std.specs.List.{flat_map}
-use Rattle.std.proofs.lemmas.Bool.{agree_below_at}
-use Rattle.std.proofs.lemmas.Grind.{flat_map-append}
-use Rattle.std.proofs.lemmas.List.{append-nil, take_more, take_all, length-replicate, replicate-append-replicate}
-use Rattle.std.proofs.Math.Seq.{take-append-add}
-use Rattle.pnm_samples.specs.Pixels.{pixels, all_pixels}
+use Rattle.pnm_samples.proofs.Words.{◌≡◌, ℕ, zero, suc, ◌+◌, ◌*◌, ◌%◌, ◌<◌, true, List, [], ◌∷◌, ◌++◌, length, get_or, take, replicate, refl, sym, ap, ap₂, ◌∙◌}
+use Rattle.pnm_samples.proofs.Words.{arith, bit_and, bit_or, w16, to_be_bytes, flat_map, agree_below_at, flat_map-append, append-nil, take_more, take_all}
+use Rattle.pnm_samples.proofs.Words.{length-replicate, replicate-append-replicate, take-append-add, all_pixels}
+use Rattle.pnm_samples.specs.Pixels.{pixels}
 use Rattle.pnm_samples.proofs.MirrorLaws.{same_list, same_from_test}
 
 -- each so many times
@@ -50,9 +44,9 @@ take_repeated times (suc k) (x ∷ xs) =
     ∙ ap (λ (l : List ℕ). replicate times x ++ l) (take_repeated times k xs)
 
 -- so many pixels of a row, each so many times
-pub repeated_view : (times count : ℕ) (bytes value : List ℕ) → take count (all_pixels bytes) ≡ value → take (count * times) (repeated times (all_pixels bytes))
-    ≡ repeated times value
-repeated_view times count bytes value is = take_repeated times count (all_pixels bytes) ∙ ap (repeated times) is
+pub repeated_view : (times count : ℕ) (bytes : List ℕ) {value : List ℕ} → take count (all_pixels bytes) ≡ value → take (count * times)
+    (repeated times (all_pixels bytes)) ≡ repeated times value
+repeated_view times count bytes is = take_repeated times count (all_pixels bytes) ∙ ap (repeated times) is
 
 -- pixels of one colour
 pub plain : (n byte s : ℕ) → pixels byte ≡ replicate 8 s → all_pixels (replicate n byte) ≡ replicate (8 * n) s
@@ -70,9 +64,9 @@ unfolding pixels
 white_byte = refl
 
 -- one pixel more
-pub repeated_step : (row next value : List ℕ) (i times s : ℕ) → i < length value → get_or value i 0 ≡ s → row ≡ repeated times (take i value)
-    → next ≡ row ++ replicate times s → next ≡ repeated times (take (i + 1) value)
-repeated_step row next value i times s lt at known more =
+pub repeated_step : {row next : List ℕ} (value : List ℕ) (i times : ℕ) {s : ℕ} → i < length value → get_or value i 0 ≡ s
+    → row ≡ repeated times (take i value) → next ≡ row ++ replicate times s → next ≡ repeated times (take (i + 1) value)
+repeated_step value i times {s} lt at known more =
     more ∙ ap₂ (λ (l : List ℕ) (x : ℕ). l ++ replicate times x) known (sym at)
     ∙ ap (λ (l : List ℕ). repeated times (take i value) ++ l) (sym (append-nil (replicate times (get_or value i 0))))
     ∙ sym (flat_map-append (λ s. replicate times s) (take i value) (get_or value i 0 ∷ []))

@@ -1,14 +1,8 @@
 -- Runs of pixels that are moved to the front within the bytes of their rows.
-use Rattle.std.proofs.Common.{◌≡◌, ℕ, ◌+◌, ◌-◌, ◌*◌, ◌/◌, ◌%◌, ◌<◌, ◌≤◌, List, [], ◌++◌, get_or, length, take, drop, map, refl, sym, ap, ap₂, subst, ◌∙◌}
-use Rattle.std.proofs.Common.{arith, inl, inr}
+use Rattle.pnm_samples.proofs.Words.{◌≡◌, ℕ, ◌+◌, ◌-◌, ◌*◌, ◌/◌, ◌%◌, ◌<◌, ◌≤◌, List, [], ◌++◌, get_or, length, take, drop, map, refl, sym, ap, ap₂, subst, ◌∙◌}
+use Rattle.pnm_samples.proofs.Words.{arith, inl, inr, cases_lt, append_assoc, drop-append-le, drop-drop, drop-take, drop_at, length-append, length-drop}
+use Rattle.pnm_samples.proofs.Words.{length-take-le, take-append-le, take-take, take_at, put_mid, IsMovedRun, row_bytes, bytes_for, rows_of_bytes, all_pixels}
 use Rattle.std.proofs.Math.Seq.{take-add}
-use Rattle.std.proofs.lemmas.Bool.{cases_lt}
-use Rattle.std.proofs.lemmas.List.{append_assoc, drop-append-le, drop-drop, drop-take, drop_at, length-append, length-drop, length-take-le, take-append-le}
-use Rattle.std.proofs.lemmas.List.{take-take, take_at}
-use borrow.Rule.Slice.PartMut.{put_mid}
-use Rattle.pnm_samples.specs.Internal.BitRows.{IsMovedRun, row_bytes}
-use Rattle.pnm_samples.specs.PixelRows.{bytes_for, rows_of_bytes}
-use Rattle.pnm_samples.specs.Pixels.{all_pixels}
 use Rattle.pnm_samples.proofs.BitRowLaws.{row_within}
 use Rattle.pnm_samples.proofs.BitRowParts.{row_of_front}
 use Rattle.pnm_samples.proofs.BitRowsMade.{part_fits, part_is, row_of_rows}
@@ -35,10 +29,10 @@ no_run from to skipped old = record {
 }
 
 -- bytes with these pixels were put there
-pub put_run : (from to skipped count n : ℕ) (old part new : List ℕ) → n ≡ bytes_for count → length part ≡ bytes_for count
-    → to + bytes_for count ≤ length old → new ≡ put_mid to n old part
-    → take count (all_pixels part) ≡ take count (drop skipped (all_pixels (drop from old))) → IsMovedRun from to skipped count old new
-put_run from to skipped count n old part new fits long within is made =
+pub put_run : {from to skipped count : ℕ} (n : ℕ) {old : List ℕ} (part : List ℕ) {new : List ℕ} → n ≡ bytes_for count → length part ≡ bytes_for count
+    → to + bytes_for count ≤ length old → new ≡ put_mid to n old part → take count (all_pixels part) ≡ take count (drop skipped (all_pixels (drop from old)))
+    → IsMovedRun from to skipped count old new
+put_run {to} {count} n {old} part {new} fits long within is made =
     let size = bytes_for count in
     let prefix = take to old in
     let rest = drop n (drop to old) in
@@ -65,9 +59,9 @@ put_run from to skipped count n old part new fits long within is made =
     }
 
 -- a part of the front alone
-pub put_front : (to n : ℕ) (bytes front back part : List ℕ) → bytes ≡ front ++ back → to + n ≤ length front
+pub put_front : (to n : ℕ) {bytes : List ℕ} (front back part : List ℕ) → bytes ≡ front ++ back → to + n ≤ length front
     → put_mid to n front part ++ back ≡ put_mid to n bytes part
-put_front to n bytes front back part whole within =
+put_front to n {bytes} front back part whole within =
     let rest = drop n (drop to front) in
     let before : take to bytes ≡ take to front = ap (take to) whole ∙ take-append-le to front back (omega (arith, within)) in
     let behind : rest ++ back ≡ drop n (drop to bytes) =
@@ -77,9 +71,9 @@ put_front to n bytes front back part whole within =
     ∙ ap₂ (λ (a b : List ℕ). a ++ (part ++ b)) (sym before) behind
 
 -- more pixels, behind whole bytes that are moved already
-pub moved_further : (from to skipped done count : ℕ) (old now new : List ℕ) → to ≤ from → IsMovedRun from to skipped (8 * done) old now
+pub moved_further : {from to skipped : ℕ} (done : ℕ) {count : ℕ} {old now new : List ℕ} → to ≤ from → IsMovedRun from to skipped (8 * done) old now
     → IsMovedRun (from + done) (to + done) skipped count now new → IsMovedRun from to skipped (8 * done + count) old new
-moved_further from to skipped done count old now new down first next =
+moved_further {from} {to} {skipped} done {count} {old} {now} {new} down first next =
     let pixels = all_pixels (drop to new) in
     let source = all_pixels (drop from old) in
     let whole : bytes_for (8 * done) ≡ done = omega arith in
@@ -122,10 +116,10 @@ no_runs start apart left each old = record {
 }
 
 -- a row more
-pub one_more_run : (start apart left each row : ℕ) (old now new : List ℕ) → AreMovedRuns start apart left each row old now
-    → row * bytes_for each ≤ start + row * apart + left / 8
-    → IsMovedRun (start + row * apart + left / 8) (row * bytes_for each) (left % 8) each now new → AreMovedRuns start apart left each (row + 1) old new
-one_more_run start apart left each row old now new known down moved =
+pub one_more_run : {start apart left each row : ℕ} {old now new : List ℕ} → AreMovedRuns start apart left each row old now
+    → row * bytes_for each ≤ start + row * apart + left / 8 → IsMovedRun (start + row * apart + left / 8) (row * bytes_for each) (left % 8) each now new
+    → AreMovedRuns start apart left each (row + 1) old new
+one_more_run {start} {apart} {left} {each} {row} {old} {now} {new} known down moved =
     let size = bytes_for each in
     let to = row * size in
     let place = start + row * apart in
@@ -150,10 +144,10 @@ one_more_run start apart left each row old now new known down moved =
     }
 
 -- rows that lie as close together afterwards are moved as one run
-pub one_run : (start apart count left each n row : ℕ) (old new : List ℕ) → n ≡ 8 * (count * apart) - left → left + each ≤ 8 * apart
-    → bytes_for each ≡ apart → row < count → IsMovedRun start 0 left n old new
+pub one_run : {start apart : ℕ} (count : ℕ) {left : ℕ} (each : ℕ) {n : ℕ} (row : ℕ) {old new : List ℕ} → n ≡ 8 * (count * apart) - left
+    → left + each ≤ 8 * apart → bytes_for each ≡ apart → row < count → IsMovedRun start 0 left n old new
     → take each (all_pixels (row_bytes (bytes_for each) row new)) ≡ take each (drop left (all_pixels (drop (start + row * apart) old)))
-one_run start apart count left each n row old new many within close lt moved =
+one_run {start} {apart} count {left} each {n} row {old} {new} many within close lt moved =
     let size = bytes_for each in
     let to = row * size in
     let place : row * size ≡ row * apart = ap (λ (k : ℕ). row * k) close in
@@ -163,7 +157,7 @@ one_run start apart count left each n row old new many within close lt moved =
     let rest = n - 8 * to in
     let whole : 8 * to + rest ≡ n = omega (arith, inside) in
     ap (take each) (sym (take-all_pixels size (drop to new))) ∙ take-take each (8 * size) (all_pixels (drop to new)) (omega arith)
-    ∙ ap (take each) (sym (drop-all_pixels to new)) ∙ run_of_row new (take n source) (8 * to) each n inside moved.run
+    ∙ ap (take each) (sym (drop-all_pixels to new)) ∙ run_of_row new (8 * to) each n inside moved.run
     ∙ ap (λ (k : ℕ). take each (drop (8 * to) (take k source))) (sym whole) ∙ ap (take each) (drop-take (8 * to) rest source)
     ∙ take-take each rest (drop (8 * to) source) (omega (arith, inside))
     ∙ ap (take each) (drop-drop (8 * to) left (all_pixels (drop start old)) ∙ ap (λ (k : ℕ). drop k (all_pixels (drop start old))) (omega arith)
@@ -179,7 +173,7 @@ module _ (held whole top count left each : ℕ) (bytes now kept : List ℕ) (row
   pub length_of_kept : length kept ≡ count * bytes_for each
   length_of_kept =
       ap length kept_is
-      ∙ length-take-le (count * bytes_for each) now (omega (arith, part_fits held whole top count left each bytes rows is long within inside, same))
+      ∙ length-take-le (count * bytes_for each) now (omega (arith, part_fits held whole top count left each bytes is long within inside, same))
 
   module _ (start apart : ℕ) (wide : apart ≡ bytes_for whole) (from : start ≡ top * apart)
       (moved : (row : ℕ) → row < count → take each (all_pixels (row_bytes (bytes_for each) row now))
@@ -194,7 +188,7 @@ module _ (held whole top count left each : ℕ) (bytes now kept : List ℕ) (row
         ap (λ (l : List ℕ). take each (all_pixels (row_bytes (bytes_for each) k l))) kept_is
         ∙ ap (λ (l : List ℕ). take each (all_pixels l)) (row_of_front (bytes_for each) count k now lt) ∙ moved k lt
         ∙ ap (λ (n : ℕ). take each (drop left (all_pixels (drop n bytes)))) place
-        ∙ run_of_row here (get_or rows (top + k) []) left each whole (omega (arith, inside (top + k) (omega (arith, lt, within)), lies.1)) row
+        ∙ run_of_row here left each whole (omega (arith, inside (top + k) (omega (arith, lt, within)), lies.1)) row
 
     pub kept_runs : rows_of_bytes count each kept ≡ map (λ row. take each (drop left row)) (take count (drop top rows))
     kept_runs = part_is top count left each count kept rows within (omega arith) (record { long = length_of_kept; rows = run_is })

@@ -1,10 +1,8 @@
 -- Sixteen rows of sixteen bytes, with rows and columns exchanged by interleaving them four times.
-use Rattle.std.proofs.Common.{◌≡◌, ◌≢◌, ℕ, zero, suc, ◌+◌, ◌*◌, ◌/◌, ◌%◌, ◌<◌, inl, inr, List, [], ◌∷◌, ◌++◌, length, get_or, set, refl, sym}
-use Rattle.std.proofs.Common.{ap, ap₂, ◌∙◌, arith, true, eqb, length-set, get_or-set_other, get_or-set_same}
-use Rattle.std.proofs.lemmas.Bool.{agree_below_at, cases_eq, eqb-true}
-use Rattle.std.proofs.lemmas.List.{get_or-append-add, get_or-map, get_or_append_left}
-use lib.Lanes.{pick_l}
-use Rattle.pnm_samples.specs.Internal.Blocks.{IsSquare, lane_at}
+use Rattle.pnm_samples.proofs.Words.{◌≡◌, ◌≢◌, ℕ, zero, suc, ◌+◌, ◌*◌, ◌/◌, ◌%◌, ◌<◌, inl, inr, List, [], ◌∷◌, ◌++◌, length, get_or, set, refl, sym, ap, ap₂}
+use Rattle.pnm_samples.proofs.Words.{◌∙◌, arith, true, eqb, get_or-set_other, get_or-set_same, agree_below_at, cases_eq, eqb-true, get_or-append-add}
+use Rattle.pnm_samples.proofs.Words.{get_or-map, get_or_append_left, pick_l, IsSquare, lane_at}
+use Rattle.std.proofs.Common.{length-set}
 
 -- ---- two rows interleaved
 
@@ -77,11 +75,11 @@ stored made i r low high many lt =
       (λ is. ap (λ (k : ℕ). get_or (set first (2 * i + 1) high) k []) is ∙ get_or-set_same first (2 * i + 1) high [] (omega (arith, size))),
     )
 
-pub riffled_more : (i : ℕ) (rows made : List (List ℕ)) (low high : List ℕ) → i < 8 → length low ≡ 16 → length high ≡ 16
+pub riffled_more : {i : ℕ} {rows made : List (List ℕ)} (low high : List ℕ) → i < 8 → length low ≡ 16 → length high ≡ 16
     → ((c : ℕ) → c < 16 → get_or low c 0 ≡ lane_at rows (i + 8 * (c % 2)) (c / 2))
-    → ((c : ℕ) → c < 16 → get_or high c 0 ≡ lane_at rows (i + 8 * (c % 2)) (c / 2 + 8))
-    → AreRiffled i rows made → AreRiffled (i + 1) rows (set (set made (2 * i) low) (2 * i + 1) high)
-riffled_more i rows made low high lt long_low long_high lows highs known =
+    → ((c : ℕ) → c < 16 → get_or high c 0 ≡ lane_at rows (i + 8 * (c % 2)) (c / 2 + 8)) → AreRiffled i rows made
+    → AreRiffled (i + 1) rows (set (set made (2 * i) low) (2 * i + 1) high)
+riffled_more {i} {rows} {made} low high lt long_low long_high lows highs known =
     let new : List (List ℕ) = set (set made (2 * i) low) (2 * i + 1) high in record {
       square = record {
         many = length-set (set made (2 * i) low) (2 * i + 1) high ∙ length-set made (2 * i) low ∙ known.square.many;

@@ -1,19 +1,11 @@
 -- Pixels that stand several times, of the halves of a byte.
-use Rattle.std.proofs.Common.{◌≡◌, ℕ, zero, suc, ◌+◌, ◌-◌, ◌*◌, ◌/◌, ◌%◌, ◌<◌, ◌≤◌, true, List, [], ◌∷◌, ◌++◌, length, get_or, set, min, inl, inr, take, drop}
-use Rattle.std.proofs.Common.{replicate, refl, sym, ap, ap₂, subst, ◌∙◌, arith, length-append, take-add}
-use Rattle.std.specs.Prelude.{bit_or}
-use Rattle.std.proofs.lemmas.Bool.{agree_below_at, cases_lt}
-use Rattle.std.proofs.lemmas.Nat.Bits.{bit_at_or}
-use Rattle.std.proofs.lemmas.Grind.{flat_map-append}
-use Rattle.std.proofs.lemmas.List.{append_assoc, take_at, drop_at, take_more, take_more_set, take-take, take-append-le, drop-append-le, length-set}
-use Rattle.std.proofs.lemmas.List.{length-replicate, length-take-le, length-drop, replicate-append-replicate, take-replicate, drop-replicate}
-use Rattle.std.proofs.Math.Nat.{mul-le-mul_right}
-use Rattle.std.proofs.Math.Seq.{take-append-add}
-use Rattle.std.proofs.lemmas.Simd.{length-zip2}
-use borrow.Rule.Slice.PartMut.{put_mid}
-use lib.Lanes.{zip2}
-use Rattle.pnm_samples.specs.Pixels.{pixel_at, pixels, all_pixels}
-use Rattle.pnm_samples.specs.Internal.Stretches.{AreStretched, stride}
+use Rattle.pnm_samples.proofs.Words.{◌≡◌, ℕ, zero, suc, ◌+◌, ◌-◌, ◌*◌, ◌/◌, ◌%◌, ◌<◌, ◌≤◌, true, List, [], ◌∷◌, ◌++◌, length, get_or, set, min, inl, inr, take}
+use Rattle.pnm_samples.proofs.Words.{drop, replicate, refl, sym, ap, ap₂, subst, ◌∙◌, arith, take-add, bit_or, agree_below_at, cases_lt, bit_at_or}
+use Rattle.pnm_samples.proofs.Words.{flat_map-append, append_assoc, take_at, drop_at, take_more, take_more_set, take-take, take-append-le, drop-append-le}
+use Rattle.pnm_samples.proofs.Words.{length-set, length-replicate, length-take-le, length-drop, replicate-append-replicate, take-replicate, drop-replicate}
+use Rattle.pnm_samples.proofs.Words.{mul-le-mul_right, take-append-add, length-zip2, put_mid, zip2, pixel_at, all_pixels, AreStretched, stride}
+use Rattle.std.proofs.Common.{length-append}
+use Rattle.pnm_samples.specs.Pixels.{pixels}
 use Rattle.pnm_samples.proofs.MirrorLaws.{same_list, same_from_test}
 use Rattle.pnm_samples.proofs.PixelLaws.{length-pixels, length-all_pixels, take-all_pixels, all_pixels-append, all_pixels-push, held_before}
 use Rattle.pnm_samples.proofs.PixelLaws.{written_to_end}
@@ -58,18 +50,18 @@ abbrev pub IsPainted : ℕ → ℕ → List ℕ → List ℕ → Type 0
 IsPainted kept s old new = new ≡ take kept old ++ replicate (length old - kept) s
 
 -- white bytes, before the first pixel
-pub white_pixels : (kept : ℕ) (buffer : List ℕ) → kept ≡ 0 → buffer ≡ replicate (length buffer) 0 → (take kept (all_pixels buffer) ≡ [])
-    × IsPainted kept 1 (all_pixels buffer) (all_pixels buffer)
-white_pixels kept buffer none white =
+pub white_pixels : {kept : ℕ} {buffer : List ℕ} → kept ≡ 0 → buffer ≡ replicate (length buffer) 0
+    → (take kept (all_pixels buffer) ≡ []) × IsPainted kept 1 (all_pixels buffer) (all_pixels buffer)
+white_pixels {buffer} none white =
     let all : 8 * length buffer ≡ length (all_pixels buffer) - 0 = omega (arith, length-all_pixels buffer) in
     let painted : IsPainted 0 1 (all_pixels buffer) (all_pixels buffer) = ap all_pixels white ∙ plain (length buffer) 0 1 white_byte
     ∙ ap (λ (k : ℕ). replicate k 1) all in
     (ap (λ (k : ℕ). take k (all_pixels buffer)) none, subst (λ (k : ℕ). IsPainted k 1 (all_pixels buffer) (all_pixels buffer)) (sym none) painted)
 
-pub stretched_step : (times i s : ℕ) (old new byte_pixels : List ℕ) → i < 8 → length byte_pixels ≡ 8 → 8 * times ≤ length old → get_or byte_pixels i 0 ≡ s
-    → take (i * times) old ≡ repeated times (take i byte_pixels)
-    → IsPainted (i * times) s old new → (take ((i + 1) * times) new ≡ repeated times (take (i + 1) byte_pixels)) × IsPainted ((i + 1) * times) s new new
-stretched_step times i s old new byte_pixels lt eight long at known painted =
+pub stretched_step : (times i : ℕ) {s : ℕ} (old new byte_pixels : List ℕ) → i < 8 → length byte_pixels ≡ 8 → 8 * times ≤ length old
+    → get_or byte_pixels i 0 ≡ s → take (i * times) old ≡ repeated times (take i byte_pixels) → IsPainted (i * times) s old new
+    → (take ((i + 1) * times) new ≡ repeated times (take (i + 1) byte_pixels)) × IsPainted ((i + 1) * times) s new new
+stretched_step times i {s} old new byte_pixels lt eight long at known painted =
     let prefix = take (i * times) old in let left = length old - i * times in
     let within : (i + 1) * times ≤ length old = omega (arith, mul-le-mul_right {m = i + 1} {n = 8} times (omega arith)) in
     let size : length prefix ≡ i * times = length-take-le (i * times) old (omega arith) in
@@ -79,7 +71,7 @@ stretched_step times i s old new byte_pixels lt eight long at known painted =
     ∙ ap (λ (l : List ℕ). prefix ++ l) (take-replicate times left s (omega arith)) in
     let parts : times + (length new - (i + 1) * times) ≡ left =
     omega (arith, ap length painted, length-append prefix (replicate left s), length-replicate {A = ℕ} left s) in (
-      repeated_step prefix (take ((i + 1) * times) new) byte_pixels i times s (omega arith) at known next,
+      repeated_step byte_pixels i times (omega arith) at known next,
       painted ∙ ap (λ (l : List ℕ). prefix ++ l) (ap (λ (k : ℕ). replicate k s) (sym parts)
           ∙ sym (replicate-append-replicate times (length new - (i + 1) * times) s))
           ∙ sym (append_assoc prefix (replicate times s) (replicate (length new - (i + 1) * times) s))
@@ -89,10 +81,10 @@ stretched_step times i s old new byte_pixels lt eight long at known painted =
 -- ---- the halves of bytes
 
 -- one half more
-pub half_more : (times unit v at : ℕ) (before grown now part rest : List ℕ) → AreStretched times unit v before → length before ≡ at → at ≡ v * stride times
-    → grown ≡ before ++ rest → now ≡ put_mid at (length grown - at) grown part → length part ≡ stride times
-    → take (8 * times) (all_pixels part) ≡ repeated times (pixels (v * unit)) → AreStretched times unit (v + 1) now × (length now ≡ (v + 1) * stride times)
-half_more times unit v at before grown now part rest h long is more written size last =
+pub half_more : {times unit v at : ℕ} {before grown now : List ℕ} (part rest : List ℕ) → AreStretched times unit v before → length before ≡ at
+    → at ≡ v * stride times → grown ≡ before ++ rest → now ≡ put_mid at (length grown - at) grown part → length part ≡ stride times → take (8 * times)
+    (all_pixels part) ≡ repeated times (pixels (v * unit)) → AreStretched times unit (v + 1) now × (length now ≡ (v + 1) * stride times)
+half_more {times} {unit} {v} {at} {before} {grown} {now} part rest h long is more written size last =
     let parts : now ≡ before ++ part = written ∙ written_to_end at grown part
     ∙ ap (λ (l : List ℕ). l ++ part) (ap (take at) more ∙ take_at before rest at long) in (
       record {
@@ -177,11 +169,10 @@ zip2-append (x ∷ xs) [] us vs e = absurd (omega arith)
 zip2-append (x ∷ xs) (y ∷ ys) us vs e = ap (λ (l : List ℕ). bit_or x y ∷ l) (zip2-append xs ys us vs (omega arith))
 
 -- a part more lies over the other
-pub overlaid_more : (at size : ℕ) (buffer part left right : List ℕ) → at + size ≤ length buffer → length left ≡ length buffer → length right ≡ length buffer
-    → take at buffer ≡ zip2 bit_or (take at left) (take at right)
-    → part ≡ zip2 bit_or (take size (drop at left)) (take size (drop at right))
-    → take (at + size) (put_mid at size buffer part) ≡ zip2 bit_or (take (at + size) left) (take (at + size) right)
-overlaid_more at size buffer part left right within left_long right_long known more =
+pub overlaid_more : (at size : ℕ) (buffer : List ℕ) {part : List ℕ} (left right : List ℕ) → at + size ≤ length buffer → length left ≡ length buffer
+    → length right ≡ length buffer → take at buffer ≡ zip2 bit_or (take at left) (take at right) → part ≡ zip2 bit_or (take size (drop at left))
+    (take size (drop at right)) → take (at + size) (put_mid at size buffer part) ≡ zip2 bit_or (take (at + size) left) (take (at + size) right)
+overlaid_more at size buffer {part} left right within left_long right_long known more =
     let prefix = take at buffer in let rest = drop size (drop at buffer) in
     let count : length prefix ≡ at = length-take-le at buffer (omega arith) in
     let left_size : length (take size (drop at left)) ≡ size = length-take-le size (drop at left) (omega (arith, length-drop at left)) in
@@ -202,29 +193,28 @@ halves_over b lt = same_from_test (over (pixels (b / 16 * 16)) (pixels (b % 16 *
     (agree_below_at (λ n. same_list (over (pixels (n / 16 * 16)) (pixels (n % 16 * 1))) (pixels n)) (λ _. true) 256 b refl lt)
 
 -- the stretched halves, one over the other, are the stretched byte
-pub overlaid_byte : (times byte : ℕ) (new left right : List ℕ) → byte < 256 → new ≡ zip2 bit_or left right
-    → take (8 * times) (all_pixels left) ≡ repeated times (pixels (byte / 16 * 16))
-    → take (8 * times) (all_pixels right) ≡ repeated times (pixels (byte % 16 * 1)) → take (8 * times) (all_pixels new) ≡ repeated times (pixels byte)
-overlaid_byte times byte new left right lt is high low =
+pub overlaid_byte : (times byte : ℕ) {new : List ℕ} (left right : List ℕ) → byte < 256 → new ≡ zip2 bit_or left right → take (8 * times)
+    (all_pixels left) ≡ repeated times (pixels (byte / 16 * 16)) → take (8 * times) (all_pixels right) ≡ repeated times (pixels (byte % 16 * 1))
+    → take (8 * times) (all_pixels new) ≡ repeated times (pixels byte)
+overlaid_byte times byte left right lt is high low =
     ap (λ (l : List ℕ). take (8 * times) (all_pixels l)) is ∙ ap (take (8 * times)) (all_over left right)
     ∙ take_over (8 * times) (all_pixels left) (all_pixels right)
     ∙ ap₂ over high low ∙ over_repeated times (pixels (byte / 16 * 16)) (pixels (byte % 16 * 1)) ∙ ap (repeated times) (halves_over byte lt)
 
 -- a stretched half, cut out of all
-pub half_at : (times unit v at size : ℕ) (bytes : List ℕ) → AreStretched times unit 16 bytes → v < 16 → at ≡ v * stride times → size ≡ stride times
-    → take (8 * times) (all_pixels (take size (drop at bytes))) ≡ repeated times (pixels (v * unit))
-half_at times unit v at size bytes h lt is held =
+pub half_at : {times unit : ℕ} (v : ℕ) {at : ℕ} (size : ℕ) {bytes : List ℕ} → AreStretched times unit 16 bytes → v < 16 → at ≡ v * stride times
+    → size ≡ stride times → take (8 * times) (all_pixels (take size (drop at bytes))) ≡ repeated times (pixels (v * unit))
+half_at {times} v {at} size {bytes} h lt is held =
     ap (take (8 * times)) (sym (take-all_pixels size (drop at bytes))) ∙ take-take (8 * times) (8 * size) (all_pixels (drop at bytes)) (omega arith)
     ∙ ap (λ (k : ℕ). take (8 * times) (all_pixels (drop k bytes))) is ∙ h.each v lt
 
 -- ---- one byte more
 
-pub stretched_more : (times i at size : ℕ) (buffer new part bytes : List ℕ) → i < length bytes → at ≡ i * times → times ≤ size → length part ≡ size
-    → at + size ≤ length buffer → new ≡ put_mid at size buffer part
-    → take (8 * (i * times)) (all_pixels buffer) ≡ repeated times (all_pixels (take i bytes))
-    → take (8 * times) (all_pixels part) ≡ repeated times (pixels (get_or bytes i 0))
+pub stretched_more : (times i : ℕ) {at size : ℕ} (buffer : List ℕ) {new : List ℕ} (part bytes : List ℕ) → i < length bytes → at ≡ i * times → times ≤ size
+    → length part ≡ size → at + size ≤ length buffer → new ≡ put_mid at size buffer part → take (8 * (i * times))
+    (all_pixels buffer) ≡ repeated times (all_pixels (take i bytes)) → take (8 * times) (all_pixels part) ≡ repeated times (pixels (get_or bytes i 0))
     → take (8 * ((i + 1) * times)) (all_pixels new) ≡ repeated times (all_pixels (take (i + 1) bytes))
-stretched_more times i at size buffer new part bytes lt is enough long within written known stretched =
+stretched_more times i {at} {size} buffer part bytes lt is enough long within written known stretched =
     let prefix = take at buffer in let rest = drop size (drop at buffer) in let b = get_or bytes i 0 in
     let count : length prefix ≡ at = length-take-le at buffer (omega arith) in
     let whole : 8 * ((i + 1) * times) ≡ length (all_pixels prefix) + 8 * times = omega (arith, length-all_pixels prefix) in
@@ -237,10 +227,10 @@ stretched_more times i at size buffer new part bytes lt is enough long within wr
     ∙ ap (repeated times) (sym (all_pixels-push (take i bytes) b) ∙ ap all_pixels (sym (take_more bytes i 0 lt)))
 
 -- behind it the bytes stay white
-pub white_behind : (at size next : ℕ) (buffer new part : List ℕ) → at + size ≤ length buffer → length part ≡ size → next ≡ at + size
-    → new ≡ take at buffer ++ (part ++ drop size (drop at buffer)) → drop at buffer ≡ replicate (length buffer - at) 0
+pub white_behind : (at : ℕ) {size : ℕ} (next : ℕ) (buffer : List ℕ) {new : List ℕ} (part : List ℕ) → at + size ≤ length buffer → length part ≡ size
+    → next ≡ at + size → new ≡ take at buffer ++ (part ++ drop size (drop at buffer)) → drop at buffer ≡ replicate (length buffer - at) 0
     → drop next new ≡ replicate (length new - next) 0
-white_behind at size next buffer new part within long is written white =
+white_behind at {size} next buffer {new} part within long is written white =
     let prefix = take at buffer in let rest = drop size (drop at buffer) in
     let count : length prefix ≡ at = length-take-le at buffer (omega arith) in
     let whole : length (prefix ++ part) ≡ next = omega (arith, length-append prefix part) in
@@ -252,10 +242,10 @@ white_behind at size next buffer new part within long is written white =
 
 -- ---- a row
 
-pub stretched_view : (times count : ℕ) (bytes buffer value : List ℕ) → count ≤ 8 * length bytes → take (8 * (length bytes * times)) (all_pixels buffer)
-    ≡ repeated times (all_pixels bytes) → take count (all_pixels bytes) ≡ value
-    → take (count * times) (all_pixels buffer) ≡ repeated times value
-stretched_view times count bytes buffer value within known is =
+pub stretched_view : (times count : ℕ) (bytes buffer : List ℕ) {value : List ℕ} → count ≤ 8 * length bytes → take (8 * (length bytes * times))
+    (all_pixels buffer) ≡ repeated times (all_pixels bytes) → take count (all_pixels bytes) ≡ value → take (count * times)
+    (all_pixels buffer) ≡ repeated times value
+stretched_view times count bytes buffer within known is =
     let all : count * times ≤ 8 * (length bytes * times) = omega (arith, mul-le-mul_right {m = count} {n = 8 * length bytes} times within) in
     sym (take-take (count * times) (8 * (length bytes * times)) (all_pixels buffer) all) ∙ ap (take (count * times)) known
-    ∙ repeated_view times count bytes value is
+    ∙ repeated_view times count bytes is

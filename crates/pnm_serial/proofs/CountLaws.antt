@@ -1,11 +1,6 @@
 -- The messages of a stream count its images and its rows.
-use Rattle.std.proofs.Common.{◌≡◌, ℕ, ◌+◌, List, [], ◌∷◌, ◌++◌, length, map, sum_by, refl, ap, ◌∙◌, append_assoc, arith}
-use Rattle.std.proofs.lemmas.List.Sums.{sum_by-cons}
-use Rattle.pnm_image.specs.declared.message.Message.{Message}
-use Rattle.pnm_image.specs.declared.message.Message.TheVariants.{Row, ImageEnd}
-use Rattle.pnm_image.specs.Images.{Image, rows_of, messages_of_stream}
-use Rattle.pnm_image.proofs.RowLaws.{length-rows_of}
-use Rattle.pnm_serial.specs.Counts.{saturate_u64, images_in, rows_in}
+use Rattle.pnm_serial.proofs.Words.{◌≡◌, ℕ, ◌+◌, List, [], ◌∷◌, ◌++◌, length, map, sum_by, refl, ap, ◌∙◌, append_assoc, arith, sum_by-cons, Message, Row}
+use Rattle.pnm_serial.proofs.Words.{ImageEnd, Image, rows_of, messages_of_stream, length-rows_of, saturate_u64, images_in, rows_in}
 
 -- the messages of an image after its head, and more messages
 after_head : (rows : List (List ℕ)) (rest : List Message) → (map Row rows ++ ImageEnd ∷ []) ++ rest ≡ map Row rows ++ ImageEnd ∷ rest

@@ -1,20 +1,10 @@
 -- The decimal text of a number, as a reader takes it: its digits are one word, which spells the number.
-use Rattle.std.proofs.Common.{◌≡◌, ℕ, ◌^◌, ◌<◌, true, false, not, ◌==◌, List, [], ◌∷◌, length, decimal, refl, ap, ◌∙◌, arith}
-use Rattle.std.specs.List.{AllPass, list_all}
-use Rattle.std.specs.Char.{digit_value}
-use Rattle.std.specs.Str.Parse.{AllDigits}
-use Rattle.std.proofs.lemmas.Bool.Decides.{nat_tests}
-use Rattle.std.proofs.lemmas.Fmt.{decimal_is_IsNumeral}
-use Rattle.std.proofs.lemmas.List.Elements.{All-nil, All-cons, All-head, All-tail}
-use Rattle.std.proofs.lemmas.Str.Parse.{digit_from_value}
-use Rattle.pnm_image.specs.Texts.{is_blank, is_digit, words}
-use Rattle.pnm_image.proofs.Words.{words-cons, words-nil}
-use Rattle.pnm_read.specs.HeaderTexts.{ends_in_comment, ends_by, ends_in_word}
-use Rattle.pnm_read.specs.PamLines.{first_token}
+use Rattle.pnm_serial.proofs.Words.{◌≡◌, ℕ, ◌^◌, ◌<◌, true, false, not, ◌==◌, List, [], ◌∷◌, length, decimal, refl, ap, ◌∙◌, arith, AllPass, list_all}
+use Rattle.pnm_serial.proofs.Words.{digit_value, AllDigits, nat_tests, decimal_is_IsNumeral, All-nil, All-cons, All-head, All-tail, digit_from_value, is_blank}
+use Rattle.pnm_serial.proofs.Words.{is_digit, words, words-cons, words-nil, ends_in_comment, ends_in_word, first_token, first_token_is, SpellsDecimal}
+use Rattle.pnm_serial.proofs.Words.{digit_is_not_white, digit_is_not_sharp}
+use Rattle.pnm_read.specs.HeaderTexts.{ends_by}
 use Rattle.pnm_read.specs.Internal.LineWalks.{trimmed_start, token_of}
-use Rattle.pnm_read.proofs.WalkLaws.{first_token_is}
-use Rattle.pnm_read.specs.Rasters.{SpellsDecimal}
-use Rattle.pnm_read.proofs.WordLaws.{digit_is_not_white, digit_is_not_sharp}
 
 -- ---- the text of a number
 
@@ -27,8 +17,8 @@ all_digits [] h = All-nil (λ b. is_digit b ≡ true)
 all_digits (b ∷ text) h = All-cons (λ x. is_digit x ≡ true) b text (is_digit_of b h.0) (all_digits text h.1)
 
 -- the text of a number spells it
-pub decimal_spells : (n : ℕ) → n < 2 ^ 64 → SpellsDecimal (decimal n) n
-decimal_spells n h = let numeral = decimal_is_IsNumeral n h in record { some = numeral.0.0; digits = all_digits (decimal n) numeral.0.1; value = numeral.1 }
+pub decimal_spells : {n : ℕ} → n < 2 ^ 64 → SpellsDecimal (decimal n) n
+decimal_spells {n} h = let numeral = decimal_is_IsNumeral n h in record { some = numeral.0.0; digits = all_digits (decimal n) numeral.0.1; value = numeral.1 }
 
 -- ---- digits
 

@@ -1,7 +1,6 @@
 -- The first stage that has refused.
-use Rattle.std.proofs.Common.{◌≡◌, ℕ, zero, suc, ◌+◌, ◌<◌, List, [], ◌∷◌, length, take, get_or, Option, Some, None, sym, subst, arith}
-use Rattle.pnm_tools.specs.declared.fault.ToolFault.{ToolFault}
-use Rattle.pnm_tools.specs.ChainAnswers.{AreWell, IsFirstFault}
+use Rattle.pnm_serial.proofs.Words.{◌≡◌, ℕ, zero, suc, ◌+◌, ◌<◌, List, [], ◌∷◌, length, take, get_or, Option, Some, None, sym, subst, arith, ToolFault, AreWell}
+use Rattle.pnm_serial.proofs.Words.{IsFirstFault}
 
 -- one stage more that hasn't refused
 pub well_more : (faults : List (Option ToolFault)) (i : ℕ) (other : Option ToolFault) → AreWell (take i faults) → get_or faults i other ≡ None
@@ -13,14 +12,14 @@ well_more (None ∷ faults) (suc i) other well none = well_more faults i other w
 well_more (Some fault ∷ faults) (suc i) other well none = absurd well
 
 -- after those that haven't, this one has
-pub first_here : (from : ℕ) (faults : List (Option ToolFault)) (i : ℕ) (other : Option ToolFault) (fault : ToolFault) → AreWell (take i faults)
+pub first_here : (from : ℕ) (faults : List (Option ToolFault)) (i : ℕ) (other : Option ToolFault) {fault : ToolFault} → AreWell (take i faults)
     → i < length faults → get_or faults i other ≡ Some fault → IsFirstFault from faults (from + i) fault
-first_here from [] i other fault well within some = absurd (omega arith)
-first_here from (None ∷ faults) zero other fault well within some = absurd cc
-first_here from (Some first ∷ faults) zero other fault well within some = (omega arith, let same : first ≡ fault = cc in sym same)
-first_here from (None ∷ faults) (suc i) other fault well within some = subst (λ (n : ℕ). IsFirstFault (from + 1) faults n fault) (omega arith)
-    (first_here (from + 1) faults i other fault well (omega arith) some)
-first_here from (Some first ∷ faults) (suc i) other fault well within some = absurd well
+first_here from [] i other well within some = absurd (omega arith)
+first_here from (None ∷ faults) zero other well within some = absurd cc
+first_here from (Some first ∷ faults) zero other {fault} well within some = (omega arith, let same : first ≡ fault = cc in sym same)
+first_here from (None ∷ faults) (suc i) other {fault} well within some = subst (λ (n : ℕ). IsFirstFault (from + 1) faults n fault) (omega arith)
+    (first_here (from + 1) faults i other well (omega arith) some)
+first_here from (Some first ∷ faults) (suc i) other well within some = absurd well
 
 -- no stage has
 pub all_well : (faults : List (Option ToolFault)) (n : ℕ) → n ≡ length faults → AreWell (take n faults) → AreWell faults

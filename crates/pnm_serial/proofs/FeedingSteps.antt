@@ -1,36 +1,11 @@
 -- The messages that have passed from the source to the sink of a run, one after another.
-use Rattle.std.proofs.Common.{◌≡◌, ◌⊎◌, ℕ, ◌+◌, ◌-◌, ◌^◌, ◌≤◌, ◌<◌, Bool, List, [], ◌∷◌, ◌++◌, length, Option, Some, None, Result, Ok, Err, refl, sym, ap}
-use Rattle.std.proofs.Common.{subst, ◌∙◌, arith, inl, inr}
-use Rattle.std.specs.Io.KnownBytes.{Consumes}
-use Rattle.std.specs.List.{AllByRecursion}
-use Rattle.std.proofs.lemmas.List.{append-nil, length-append}
-use Rattle.pnm_image.specs.Devices.{Failed}
-use Rattle.pnm_image.specs.declared.format.Form.{Form}
-use Rattle.pnm_image.specs.declared.message.Message.{Message}
-use Rattle.pnm_image.specs.declared.packet.Packet.{Packet}
-use Rattle.pnm_image.specs.Completion.{IsPrefixOf}
-use Rattle.pnm_image.specs.Packets.{messages_in}
-use Rattle.pnm_read.specs.declared.fault.InputFault.{InputFault}
-use Rattle.pnm_read.specs.declared.fault.InputFault.TheVariants.{ReadFailed}
-use Rattle.pnm_read.specs.declared.source.Source.{Source}
-use Rattle.pnm_read.specs.Said.{said_of}
-use Rattle.pnm_read.specs.Sources.{reader_of, stopped_by, MayGive, MayGiveMore, SeesEnd, HasGiven, Tells, IsFreshSource as IsUnread}
-use Rattle.pnm_read.proofs.Consumed.{consumes_nothing, consumes_then}
-use Rattle.pnm_read.proofs.ReadCalls.{no_fault}
-use Rattle.pnm_read.proofs.SaidLaws.{said_is_lawful}
-use Rattle.pnm_read.proofs.StreamLaws.{holds_of_said, read_head_has_rows, rest_may_come, nothing_may_come, given_is_prefix, not_stopped, said_are_messages}
-use Rattle.pnm_tools.specs.declared.fault.ToolFault.{ToolFault}
-use Rattle.pnm_tools.specs.declared.tool.Tool.{Tool}
-use Rattle.pnm_tools.specs.ChainAnswers.{IsSound, AreSound}
-use Rattle.pnm_tools.proofs.ChainLaws.{sound_prefix}
-use Rattle.pnm_serial.specs.declared.fused_sink.FusedSink.{FusedSink}
-use Rattle.pnm_tools.specs.declared.fused_filter.FusedFilter.{FusedFilter}
-use Rattle.pnm_serial.specs.FusedSinks.{HasTaken}
-use Rattle.pnm_serial.specs.Internal.SerialChains.{FeedsThrough}
-use Rattle.pnm_serial.specs.Runs.{change}
-use Rattle.pnm_serial.specs.SerialRuns.{HasMostMessages}
-use Rattle.pnm_serial.specs.Feeding.{HasMore, IsReadFailure, MayFollowRead}
-use Rattle.pnm_serial.specs.Internal.Feeding.{HaveTaken, HasFed}
+use Rattle.pnm_serial.proofs.Words.{◌≡◌, ◌⊎◌, ℕ, ◌+◌, ◌-◌, ◌^◌, ◌≤◌, ◌<◌, Bool, List, [], ◌∷◌, ◌++◌, length, Option, Some, None, Result, Ok, Err, refl, sym, ap}
+use Rattle.pnm_serial.proofs.Words.{subst, ◌∙◌, arith, inl, inr, Consumes, AllByRecursion, append-nil, length-append, Failed, Form, Message, Packet, IsPrefixOf}
+use Rattle.pnm_serial.proofs.Words.{messages_in, InputFault, ReadFailed, Source, said_of, reader_of, stopped_by, MayGive, MayGiveMore, SeesEnd, HasGiven, Tells}
+use Rattle.pnm_serial.proofs.Words.{IsUnread, consumes_nothing, consumes_then, no_fault, said_is_lawful, holds_of_said, read_head_has_rows, rest_may_come}
+use Rattle.pnm_serial.proofs.Words.{nothing_may_come, given_is_prefix, not_stopped, said_are_messages, ToolFault, Tool, IsSound, AreSound, sound_prefix}
+use Rattle.pnm_serial.proofs.Words.{FusedSink, FusedFilter, HasTaken, FeedsThrough, change, HasMostMessages, HasMore, IsReadFailure, MayFollowRead, HaveTaken}
+use Rattle.pnm_serial.proofs.Words.{HasFed}
 
 -- the bytes that may follow those that were read are ones that the source may still be given
 pub may_give : {R : Type 0} (left : R → Option (List ℕ)) (failures : R → ℕ) (first next : Source R) (result : Result (Unit {0}) InputFault) (rest : List ℕ)

@@ -1,26 +1,12 @@
 -- Messages that are put into the sink together.
-use Rattle.std.proofs.Common.{◌≡◌, ℕ, Bool, true, false, List, ◌++◌, Option, Result, Some, None, Ok, Err, OnOk, OnErr, sym, ap, subst, ◌∙◌}
-use Rattle.std.specs.Result.{is_ok, IfErr}
-use Rattle.pnm_image.specs.Devices.{Failed, AppendsPrefix, FailsIn}
-use Rattle.pnm_image.specs.declared.format.Form.{Form}
-use Rattle.pnm_image.specs.declared.message.Message.{Message}
-use Rattle.pnm_image.specs.declared.place.Place.{Place}
-use Rattle.pnm_image.specs.declared.place.Place.TheVariants.{Between}
-use Rattle.pnm_image.specs.Places.{place_of}
-use Rattle.pnm_write.specs.declared.fault.SinkFault.{SinkFault}
-use Rattle.pnm_write.specs.declared.fault.SinkFault.TheVariants.{WriteFailed, OutOfOrder, Broken, SecondPlain, PlainPam}
-use Rattle.std.specs.Io.KnownBytes.{Appends, Keeps}
-use Rattle.std.proofs.KnownBytes.{Appends-kept}
-use Rattle.pnm_write.specs.Encoding.{bytes_from, bytes_of, written_of}
-use Rattle.pnm_write.specs.Forms.{has_begun_by, form_fault_from, form_fault_of, RefusesFirst}
-use Rattle.pnm_write.specs.Sinks.{writer_of, form_of, has_begun, next_place, has_failed, AreInOrderFrom, AreWritable, HasWritten, Refuses}
-use Rattle.pnm_write.proofs.FormLaws.{form_fault-more, refused_before, refused_next}
-use Rattle.pnm_write.proofs.MessageLaws.{bytes_from-append, written_all, written_prefix}
-use Rattle.pnm_image.proofs.Written.{fails_again, prefix-more, then_prefix}
-use Rattle.pnm_serial.specs.declared.fused_sink.FusedSink.{FusedSink}
-use Rattle.pnm_serial.specs.declared.summary.Summary.{Summary}
-use Rattle.pnm_serial.specs.Counts.{images_in, rows_in}
-use Rattle.pnm_serial.specs.FusedSinks.{output_of, AreInOrder, CountsFlushes, AreWritten, CutsOff, HasTakenWith}
+use Rattle.pnm_serial.proofs.Words.{◌≡◌, ℕ, Bool, true, false, List, ◌++◌, Option, Result, Some, None, Ok, Err, OnOk, OnErr, sym, ap, subst, ◌∙◌, is_ok, IfErr}
+use Rattle.pnm_serial.proofs.Words.{Failed, AppendsPrefix, FailsIn, Form, Message, Place, Between, place_of, SinkFault, WriteFailed, Broken, SecondPlain}
+use Rattle.pnm_serial.proofs.Words.{PlainPam, Appends, Keeps, Appends-kept, bytes_from, bytes_of, written_of, has_begun_by, form_fault_from, form_fault_of}
+use Rattle.pnm_serial.proofs.Words.{RefusesFirst, writer_of, form_of, has_begun, next_place, has_failed, AreInOrderFrom, AreWritable, Refuses, form_fault-more}
+use Rattle.pnm_serial.proofs.Words.{refused_before, refused_next, bytes_from-append, written_all, written_prefix, fails_again, prefix-more, then_prefix}
+use Rattle.pnm_serial.proofs.Words.{FusedSink, Summary, images_in, rows_in, output_of, AreInOrder, CountsFlushes, AreWritten, CutsOff, HasTakenWith}
+use Rattle.pnm_write.specs.declared.fault.SinkFault.TheVariants.{OutOfOrder}
+use Rattle.pnm_write.specs.Sinks.{HasWritten}
 use Rattle.pnm_serial.proofs.MessageSteps.{images_in-append, rows_in-append, prefix_is_writable, last_are_in_order}
 
 -- a failure after flushes is one since the start
@@ -94,64 +80,58 @@ stands held failures form start messages d was = record {
 }
 
 -- why the form refuses the messages, or doesn't
-fault_is : (sink_form form : Form) (begun : Bool) (place : Place) (messages more : List Message) → Stands sink_form form begun place messages
-    → form_fault_from sink_form begun more ≡ None → form_fault_from form (has_begun_by false messages) more ≡ None
-fault_is sink_form form begun place messages more is none =
+fault_is : {sink_form form : Form} {begun : Bool} {place : Place} {messages : List Message} (more : List Message)
+    → Stands sink_form form begun place messages → form_fault_from sink_form begun more ≡ None
+    → form_fault_from form (has_begun_by false messages) more ≡ None
+fault_is {form} {begun} more is none =
     sym (ap (λ (f : Form). form_fault_from f begun more) is.in_form ∙ ap (λ (b : Bool). form_fault_from form b more) is.has_begun) ∙ none
 
-refuses_first : (sink_form form : Form) (begun : Bool) (place : Place) (messages more : List Message) (fault : SinkFault)
+refuses_first : {sink_form form : Form} {begun : Bool} {place : Place} {messages : List Message} (more : List Message) (fault : SinkFault)
     → Stands sink_form form begun place messages → RefusesFirst sink_form begun more fault → RefusesFirst form (has_begun_by false messages) more fault
-refuses_first sink_form form begun place messages more fault is refuses =
+refuses_first {form} {begun} more fault is refuses =
     subst (λ (b : Bool). RefusesFirst form b more fault) is.has_begun (subst (λ (f : Form). RefusesFirst f begun more fault) is.in_form refuses)
 
--- the messages that were written, in the form
-pub written_in_form : {W : Type 0} (held : W → Option (List ℕ)) (failures : W → ℕ) (form : Form) (start : W) (messages : List Message) (d : FusedSink W)
-    → AreWritten held failures form start messages d → Appends (held start) (held (output_of d)) (bytes_of form messages)
-written_in_form held failures form start messages d was = subst (λ (f : Form). Appends (held start) (held (output_of d)) (bytes_of f messages)) was.in_form
-    was.written.bytes
+module _ {W : Type 0} {held : W → Option (List ℕ)} {failures : W → ℕ} {form : Form} {start : W} {messages : List Message} where
+  -- the messages that were written, in the form
+  pub written_in_form : {d : FusedSink W} → AreWritten held failures form start messages d → Appends (held start) (held (output_of d))
+      (bytes_of form messages)
+  written_in_form {d} was = subst (λ (f : Form). Appends (held start) (held (output_of d)) (bytes_of f messages)) was.in_form was.written.bytes
 
--- the writer failed in the last of them
-fails_in_last : {W : Type 0} (held : W → Option (List ℕ)) (failures : W → ℕ) (form : Form) (start : W) (messages more : List Message)
-    (old new : FusedSink W) → AreWritten held failures form start messages old
-    → AreWritable (form_of old.sink) (has_begun old.sink) (next_place old.sink) more
-    → FailsIn (bytes_from (form_of old.sink) (next_place old.sink) more) (held (output_of old)) (held (output_of new)) (failures (output_of old))
-    (failures (output_of new))
-    → FailsIn (written_of form (messages ++ more)) (held start) (held (output_of new)) (failures start) (failures (output_of new))
-fails_in_last held failures form start messages more old new was takes fails =
-    let is = stands held failures form start messages old was in
-    let none = form_fault-more form messages more is.none
-    (fault_is (form_of old.sink) form (has_begun old.sink) (next_place old.sink) messages more is takes.1) in
-    let last : bytes_from (form_of old.sink) (next_place old.sink) more ≡ bytes_from form (place_of Between messages) more =
-    ap (λ (f : Form). bytes_from f (next_place old.sink) more) is.in_form ∙ ap (λ (p : Place). bytes_from form p more) is.here in
-    let all : bytes_of form messages ++ bytes_from (form_of old.sink) (next_place old.sink) more ≡ written_of form (messages ++ more) =
-    ap (λ (l : List ℕ). bytes_of form messages ++ l) last ∙ sym (bytes_from-append form Between messages more)
-    ∙ sym (written_all form (messages ++ more) none) in (
-      subst (AppendsPrefix (held start) (held (output_of new))) all
-          (then_prefix (held start) (held (output_of old)) (held (output_of new)) (bytes_of form messages)
-          (bytes_from (form_of old.sink) (next_place old.sink) more) (written_in_form held failures form start messages old was) fails.0),
-      failed_since old.flush_failed (failures start) (failures (output_of old)) (failures (output_of new)) was.count fails.1,
-    )
+  -- the writer failed in the last of them
+  fails_in_last : (more : List Message) {old : FusedSink W} (new : FusedSink W) → AreWritten held failures form start messages old
+      → AreWritable (form_of old.sink) (has_begun old.sink) (next_place old.sink) more → FailsIn (bytes_from (form_of old.sink) (next_place old.sink) more)
+      (held (output_of old)) (held (output_of new)) (failures (output_of old)) (failures (output_of new)) → FailsIn (written_of form (messages ++ more))
+      (held start) (held (output_of new)) (failures start) (failures (output_of new))
+  fails_in_last more {old} new was takes fails =
+      let is = stands held failures form start messages old was in
+      let none = form_fault-more form messages more is.none (fault_is more is takes.1) in
+      let last : bytes_from (form_of old.sink) (next_place old.sink) more ≡ bytes_from form (place_of Between messages) more =
+      ap (λ (f : Form). bytes_from f (next_place old.sink) more) is.in_form ∙ ap (λ (p : Place). bytes_from form p more) is.here in
+      let all : bytes_of form messages ++ bytes_from (form_of old.sink) (next_place old.sink) more ≡ written_of form (messages ++ more) =
+      ap (λ (l : List ℕ). bytes_of form messages ++ l) last ∙ sym (bytes_from-append form Between messages more)
+      ∙ sym (written_all form (messages ++ more) none) in (
+        subst (AppendsPrefix (held start) (held (output_of new))) all
+            (then_prefix (held start) (held (output_of old)) (held (output_of new)) (bytes_of form messages)
+            (bytes_from (form_of old.sink) (next_place old.sink) more) (written_in_form was) fails.0),
+        failed_since old.flush_failed (failures start) (failures (output_of old)) (failures (output_of new)) was.count fails.1,
+      )
 
--- the form refused the first, and nothing was written of them
-refused_by_form : {W : Type 0} (held : W → Option (List ℕ)) (failures : W → ℕ) (form : Form) (start : W) (messages more : List Message)
-    (old new : FusedSink W) (fault : SinkFault) → AreWritten held failures form start messages old
-    → RefusesFirst (form_of old.sink) (has_begun old.sink) more fault → Keeps (held (output_of old)) (held (output_of new))
-    → (form_fault_of form (messages ++ more) ≡ Some fault) × Appends (held start) (held (output_of new)) (written_of form (messages ++ more))
-refused_by_form held failures form start messages more old new fault was refuses kept =
-    let is = stands held failures form start messages old was in
-    let last = refused_next form messages more fault is.none
-    (refuses_first (form_of old.sink) form (has_begun old.sink) (next_place old.sink) messages more fault is refuses) in (
-      last.0,
-      subst (Appends (held start) (held (output_of new))) (sym (ap (bytes_of form) last.1))
-          (Appends-kept (held start) (held (output_of old)) (held (output_of new)) (bytes_of form messages)
-          (written_in_form held failures form start messages old was) kept),
-    )
+  -- the form refused the first, and nothing was written of them
+  refused_by_form : (more : List Message) {old : FusedSink W} (new : FusedSink W) (fault : SinkFault) → AreWritten held failures form start messages old
+      → RefusesFirst (form_of old.sink) (has_begun old.sink) more fault → Keeps (held (output_of old)) (held (output_of new))
+      → (form_fault_of form (messages ++ more) ≡ Some fault) × Appends (held start) (held (output_of new)) (written_of form (messages ++ more))
+  refused_by_form more {old} new fault was refuses kept =
+      let is = stands held failures form start messages old was in
+      let last = refused_next form messages more fault is.none (refuses_first more fault is refuses) in (
+        last.0,
+        subst (Appends (held start) (held (output_of new))) (sym (ap (bytes_of form) last.1))
+            (Appends-kept (held start) (held (output_of old)) (held (output_of new)) (bytes_of form messages) (written_in_form was) kept),
+      )
 
--- the sink takes what comes in order
-takes_last : {W : Type 0} (held : W → Option (List ℕ)) (failures : W → ℕ) (form : Form) (start : W) (messages more : List Message) (d : FusedSink W)
-    → AreWritten held failures form start messages d → AreInOrder (messages ++ more) → AreInOrderFrom (next_place d.sink) more
-takes_last held failures form start messages more d was writable = subst (λ (p : Place). AreInOrderFrom p more) (sym (was.written.put.place was.sound))
-    (last_are_in_order messages more writable)
+  -- the sink takes what comes in order
+  takes_last : (more : List Message) {d : FusedSink W} → AreWritten held failures form start messages d → AreInOrder (messages ++ more)
+      → AreInOrderFrom (next_place d.sink) more
+  takes_last more was writable = subst (λ (p : Place). AreInOrderFrom p more) (sym (was.written.put.place was.sound)) (last_are_in_order messages more writable)
 
 pub put_refused : {W : Type 0} (held : W → Option (List ℕ)) (failures : W → ℕ) (form : Form) (start : W) (messages more : List Message)
     (old new : FusedSink W) (o r : Result (Unit {0}) SinkFault) → is_ok o ≡ true → is_ok r ≡ false
@@ -165,18 +145,18 @@ put_refused held failures form start messages more old new (Err fault) r o-is r-
 put_refused held failures form start messages more old new (Ok x) (Ok y) o-is r-is was refuses failed = absurd cc
 put_refused held failures form start messages more old new (Ok x) (Err WriteFailed) o-is r-is was refuses failed =
     let refused = refuses was.sound in
-    record { failed = failed; prefix = λ writable. fails_in_last held failures form start messages more old new was refused.0 refused.1 }
+    record { failed = failed; prefix = λ writable. fails_in_last more new was refused.0 refused.1 }
 put_refused held failures form start messages more old new (Ok x) (Err OutOfOrder) o-is r-is was refuses failed = record {
   failed = failed;
-  prefix = λ writable. absurd ((refuses was.sound).0 (takes_last held failures form start messages more old was writable));
+  prefix = λ writable. absurd ((refuses was.sound).0 (takes_last more was writable));
 }
 put_refused held failures form start messages more old new (Ok x) (Err Broken) o-is r-is was refuses failed = absurd (refuses was.sound)
 put_refused held failures form start messages more old new (Ok x) (Err SecondPlain) o-is r-is was refuses failed =
     let refused = refuses was.sound in
-    record { failed = failed; prefix = λ writable. refused_by_form held failures form start messages more old new SecondPlain was refused.1 refused.2 }
+    record { failed = failed; prefix = λ writable. refused_by_form more new SecondPlain was refused.1 refused.2 }
 put_refused held failures form start messages more old new (Ok x) (Err PlainPam) o-is r-is was refuses failed =
     let refused = refuses was.sound in
-    record { failed = failed; prefix = λ writable. refused_by_form held failures form start messages more old new PlainPam was refused.1 refused.2 }
+    record { failed = failed; prefix = λ writable. refused_by_form more new PlainPam was refused.1 refused.2 }
 
 -- ---- messages that were dropped
 

@@ -1,23 +1,9 @@
 -- The header that is written of an image spells its head.
-use Rattle.std.proofs.Common.{◌≡◌, ℕ, ◌<◌, ◌≤◌, true, ◌||◌, List, [], ◌∷◌, ◌++◌, length, codes, decimal, Some, None, refl, sym, ap, ◌∙◌, subst, append_assoc}
-use Rattle.std.proofs.Common.{length-append, arith}
-use Rattle.std.specs.List.{AllPass}
-use Rattle.pnm_image.specs.declared.shape.Shape.{Shape}
-use Rattle.pnm_image.specs.declared.shape.Kind.{Kind}
-use Rattle.pnm_image.specs.declared.shape.Kind.TheVariants.{Bit, Gray, Color, Pam}
-use Rattle.pnm_image.specs.Heads.{HeadValue, IsHead, IsWithinLimits}
-use Rattle.pnm_image.specs.declared.format.Format.{Format}
-use Rattle.pnm_image.specs.declared.format.Form.{Form}
-use Rattle.pnm_image.specs.declared.format.Form.TheVariants.{Raw, Plain}
-use Rattle.pnm_read.specs.HeaderTexts.{begins_apart, ends_in_word}
-use Rattle.pnm_image.specs.Texts.{is_white, is_digit}
-use Rattle.pnm_image.specs.Formats.{format_of}
-use Rattle.pnm_read.specs.HeaderNumbers.{header_numbers}
-use Rattle.pnm_read.specs.Headers.{SpellsPnmHeader, SpellsHeaderBy, SpellsHeader}
-use Rattle.pnm_read.specs.Rasters.{SpellsDecimal}
-use Rattle.pnm_write.specs.Encoding.{kind_text, header_text}
-use Rattle.pnm_write.specs.Forms.{plain_kind_fault}
-use Rattle.pnm_write.proofs.WordSizes.{decimal_short}
+use Rattle.pnm_serial.proofs.Words.{◌≡◌, ℕ, ◌<◌, ◌≤◌, true, ◌||◌, List, [], ◌∷◌, ◌++◌, length, codes, decimal, Some, None, refl, sym, ap, ◌∙◌, subst}
+use Rattle.pnm_serial.proofs.Words.{append_assoc, arith, AllPass, Shape, Kind, Bit, Gray, Color, Pam, HeadValue, IsHead, IsWithinLimits, Format, Form, Raw}
+use Rattle.pnm_serial.proofs.Words.{Plain, begins_apart, ends_in_word, is_white, is_digit, format_of, header_numbers, SpellsPnmHeader, SpellsHeaderBy}
+use Rattle.pnm_serial.proofs.Words.{SpellsHeader, SpellsDecimal, kind_text, header_text, plain_kind_fault, decimal_short}
+use Rattle.std.proofs.Common.{length-append}
 use Rattle.pnm_serial.proofs.DecimalText.{decimal_spells}
 use Rattle.pnm_serial.proofs.NumberText.{SpellsNumbers, no_numbers, number_more, ends_in_number, numbers_of}
 use Rattle.pnm_serial.proofs.PamText.{pam_text_spells}
@@ -31,12 +17,12 @@ sizes_body w h = (10 ∷ w) ++ 32 ∷ h
 abbrev maxval_body : List ℕ → List ℕ → List ℕ → List ℕ
 maxval_body w h m = sizes_body w h ++ 10 ∷ m
 
-sizes_are : (w h : List ℕ) (width height : ℕ) → SpellsDecimal w width → SpellsDecimal h height → SpellsNumbers (sizes_body w h) (width ∷ height ∷ [])
-sizes_are w h width height sw sh = number_more (10 ∷ w) (width ∷ []) 32 h height (number_more [] [] 10 w width no_numbers refl sw) refl sh
+sizes_are : {w h : List ℕ} {width height : ℕ} → SpellsDecimal w width → SpellsDecimal h height → SpellsNumbers (sizes_body w h) (width ∷ height ∷ [])
+sizes_are {w} {h} {width} {height} sw sh = number_more (10 ∷ w) (width ∷ []) 32 h height (number_more [] [] 10 w width no_numbers refl sw) refl sh
 
-maxval_is : (w h m : List ℕ) (width height maxval : ℕ) → SpellsDecimal w width → SpellsDecimal h height → SpellsDecimal m maxval
+maxval_is : {w h m : List ℕ} {width height maxval : ℕ} → SpellsDecimal w width → SpellsDecimal h height → SpellsDecimal m maxval
     → SpellsNumbers (maxval_body w h m) (width ∷ height ∷ maxval ∷ [])
-maxval_is w h m width height maxval sw sh sm = number_more (sizes_body w h) (width ∷ height ∷ []) 10 m maxval (sizes_are w h width height sw sh) refl sm
+maxval_is {w} {h} {m} {width} {height} {maxval} sw sh sm = number_more (sizes_body w h) (width ∷ height ∷ []) 10 m maxval (sizes_are sw sh) refl sm
 
 -- the text of the sizes
 abbrev sizes_line : List ℕ → List ℕ → List ℕ
@@ -71,7 +57,7 @@ body_spells digit body after format head named whole short begins numbers ends k
   format_is = named;
   begins = begins;
   decimal = subst (AllPass (λ b. is_digit b || is_white b)) (sym numbers.plain) numbers.decimal;
-  numbers = numbers_of body (header_numbers head.shape) numbers;
+  numbers = numbers_of numbers;
   ends = ap ends_in_word numbers.plain ∙ ends;
   outside = numbers.outside;
   delimiter_is = refl;
@@ -91,9 +77,9 @@ record NumberTexts (s : Shape) : Type 0 where
 
 number_texts : (s : Shape) → IsWithinLimits s → NumberTexts s
 number_texts s limits = record {
-  width = decimal_spells s.width (omega (arith, limits.width_high));
-  height = decimal_spells s.height (omega (arith, limits.height_high));
-  maxval = decimal_spells s.maxval (omega (arith, limits.maxval_high));
+  width = decimal_spells (omega (arith, limits.width_high));
+  height = decimal_spells (omega (arith, limits.height_high));
+  maxval = decimal_spells (omega (arith, limits.maxval_high));
   width_short = decimal_short s.width (omega (arith, limits.width_high));
   height_short = decimal_short s.height (omega (arith, limits.height_high));
   maxval_short = decimal_short s.maxval (omega (arith, limits.maxval_high));
@@ -112,32 +98,32 @@ abbrev pub format_in : Form → Kind → Format
 format_in form kind = record { kind = kind; form = form }
 
 -- a header of the sizes
-bit_spells : (form : Form) (digit width height depth maxval : ℕ) (tuple_type : List ℕ) → format_of digit ≡ Some (format_in form Bit)
+bit_spells : (form : Form) {digit : ℕ} (width height depth maxval : ℕ) (tuple_type : List ℕ) → format_of digit ≡ Some (format_in form Bit)
     → IsHead (head_by Bit width height depth maxval tuple_type) → 0 < height
     → SpellsPnmHeader (80 ∷ digit ∷ 10 ∷ sizes_line (decimal width) (decimal height)) (format_in form Bit) (head_by Bit width height depth maxval tuple_type)
-bit_spells form digit width height depth maxval tuple_type named sound rows =
+bit_spells form {digit} width height depth maxval tuple_type named sound rows =
     let n = number_texts (shape_by Bit width height depth maxval) sound.limits in
     let w : List ℕ = decimal width in
     let h : List ℕ = decimal height in
     body_spells digit (sizes_body w h) (sizes_line w h) (format_in form Bit) (head_by Bit width height depth maxval tuple_type) named
     (ap (λ (l : List ℕ). 10 ∷ l) (sizes_text w h)) (omega (arith, sizes_short w h n.width_short n.height_short)) refl
-    (sizes_are w h width height n.width n.height) (ends_in_number (10 ∷ w) 32 h height refl n.height) refl sound rows
+    (sizes_are n.width n.height) (ends_in_number (10 ∷ w) 32 refl n.height) refl sound rows
 
 -- a header of the sizes and the maxval
-maxval_spells : (form : Form) (kind : Kind) (digit width height depth maxval : ℕ) (tuple_type : List ℕ) → format_of digit ≡ Some (format_in form kind)
-    → header_numbers (shape_by kind width height depth maxval) ≡ width ∷ height ∷ maxval ∷ []
+maxval_spells : (form : Form) (kind : Kind) {digit width height : ℕ} (depth : ℕ) {maxval : ℕ} (tuple_type : List ℕ)
+    → format_of digit ≡ Some (format_in form kind) → header_numbers (shape_by kind width height depth maxval) ≡ width ∷ height ∷ maxval ∷ []
     → IsHead (head_by kind width height depth maxval tuple_type) → 0 < height
     → SpellsPnmHeader (80 ∷ digit ∷ 10 ∷ (sizes_line (decimal width) (decimal height) ++ (decimal maxval ++ 10 ∷ []))) (format_in form kind)
     (head_by kind width height depth maxval tuple_type)
-maxval_spells form kind digit width height depth maxval tuple_type named numbers sound rows =
+maxval_spells form kind {digit} {width} {height} depth {maxval} tuple_type named numbers sound rows =
     let n = number_texts (shape_by kind width height depth maxval) sound.limits in
     let w : List ℕ = decimal width in
     let h : List ℕ = decimal height in
     let m : List ℕ = decimal maxval in
     body_spells digit (maxval_body w h m) (sizes_line w h ++ (m ++ 10 ∷ [])) (format_in form kind) (head_by kind width height depth maxval tuple_type) named
     (ap (λ (l : List ℕ). 10 ∷ l) (maxval_text w h m)) (maxval_short w h m n.width_short n.height_short n.maxval_short) refl
-    (subst (SpellsNumbers (maxval_body w h m)) (sym numbers) (maxval_is w h m width height maxval n.width n.height n.maxval))
-    (ends_in_number (sizes_body w h) 10 m maxval refl n.maxval) refl sound rows
+    (subst (SpellsNumbers (maxval_body w h m)) (sym numbers) (maxval_is n.width n.height n.maxval))
+    (ends_in_number (sizes_body w h) 10 refl n.maxval) refl sound rows
 
 -- the texts of headers, by form and kind
 abbrev SpellsBy : Form → Kind → ℕ → ℕ → ℕ → ℕ → List ℕ → Type 0
@@ -147,26 +133,25 @@ SpellsBy form kind width height depth maxval tuple_type =
 
 raw_header_by : (kind : Kind) (width height depth maxval : ℕ) (tuple_type : List ℕ) → IsHead (head_by kind width height depth maxval tuple_type) → 0 < height
     → SpellsBy Raw kind width height depth maxval tuple_type
-raw_header_by Bit width height depth maxval tuple_type sound rows = bit_spells Raw 52 width height depth maxval tuple_type refl sound rows
-raw_header_by Gray width height depth maxval tuple_type sound rows = maxval_spells Raw Gray 53 width height depth maxval tuple_type refl refl sound rows
-raw_header_by Color width height depth maxval tuple_type sound rows = maxval_spells Raw Color 54 width height depth maxval tuple_type refl refl sound rows
+raw_header_by Bit width height depth maxval tuple_type sound rows = bit_spells Raw width height depth maxval tuple_type refl sound rows
+raw_header_by Gray width height depth maxval tuple_type sound rows = maxval_spells Raw Gray depth tuple_type refl refl sound rows
+raw_header_by Color width height depth maxval tuple_type sound rows = maxval_spells Raw Color depth tuple_type refl refl sound rows
 raw_header_by Pam width height depth maxval tuple_type sound rows = pam_text_spells width height depth maxval tuple_type sound rows
 
 plain_header_by : (kind : Kind) (width height depth maxval : ℕ) (tuple_type : List ℕ) → plain_kind_fault kind ≡ None
     → IsHead (head_by kind width height depth maxval tuple_type) → 0 < height → SpellsBy Plain kind width height depth maxval tuple_type
-plain_header_by Bit width height depth maxval tuple_type held sound rows = bit_spells Plain 49 width height depth maxval tuple_type refl sound rows
-plain_header_by Gray width height depth maxval tuple_type held sound rows = maxval_spells Plain Gray 50 width height depth maxval tuple_type refl refl sound
-    rows
-plain_header_by Color width height depth maxval tuple_type held sound rows = maxval_spells Plain Color 51 width height depth maxval tuple_type refl refl sound
-    rows
+plain_header_by Bit width height depth maxval tuple_type held sound rows = bit_spells Plain width height depth maxval tuple_type refl sound rows
+plain_header_by Gray width height depth maxval tuple_type held sound rows = maxval_spells Plain Gray depth tuple_type refl refl sound rows
+plain_header_by Color width height depth maxval tuple_type held sound rows = maxval_spells Plain Color depth tuple_type refl refl sound rows
 plain_header_by Pam width height depth maxval tuple_type held sound rows = cc
 
 -- the header of an image spells its head
-pub raw_header_spells : (head : HeadValue) → IsHead head → 0 < head.shape.height → SpellsHeader (header_text Raw head) (format_in Raw head.shape.kind) head
-raw_header_spells head sound rows = raw_header_by head.shape.kind head.shape.width head.shape.height head.shape.depth head.shape.maxval head.tuple_type sound
+pub raw_header_spells : {head : HeadValue} → IsHead head → 0 < head.shape.height → SpellsHeader (header_text Raw head) (format_in Raw head.shape.kind) head
+raw_header_spells {head} sound rows = raw_header_by head.shape.kind head.shape.width head.shape.height head.shape.depth head.shape.maxval head.tuple_type sound
     rows
 
-pub plain_header_spells : (head : HeadValue) → plain_kind_fault head.shape.kind ≡ None → IsHead head → 0 < head.shape.height
+pub plain_header_spells : {head : HeadValue} → plain_kind_fault head.shape.kind ≡ None → IsHead head → 0 < head.shape.height
     → SpellsHeader (header_text Plain head) (format_in Plain head.shape.kind) head
-plain_header_spells head held sound rows = plain_header_by head.shape.kind head.shape.width head.shape.height head.shape.depth head.shape.maxval head.tuple_type
+plain_header_spells {head} held sound rows = plain_header_by head.shape.kind head.shape.width head.shape.height head.shape.depth head.shape.maxval
+    head.tuple_type
     held sound rows

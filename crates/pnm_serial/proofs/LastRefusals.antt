@@ -1,34 +1,17 @@
 -- The first image that a tool refuses; and what a chain has given where its last tool refused an image: all that is due.
-use Rattle.std.proofs.Common.{◌≡◌, ◌≢◌, inl, inr, ℕ, zero, suc, ◌+◌, Bool, true, false, List, [], ◌∷◌, ◌++◌, map, length, Option, None, Some, Result, Ok, Err}
-use Rattle.std.proofs.Common.{refl, sym, ap, subst, ◌∙◌, append_assoc, arith}
-use Rattle.pnm_image.specs.declared.message.Message.{Message}
-use Rattle.pnm_image.specs.declared.message.Message.TheVariants.{Begin, Row, ImageEnd, StreamEnd, Stop}
-use Rattle.pnm_image.specs.declared.message.Ending.TheVariants.{More, Whole}
-use Rattle.pnm_image.specs.declared.place.Place.{Place}
-use Rattle.pnm_image.specs.declared.place.Place.TheVariants.{Between}
-use Rattle.pnm_image.specs.Heads.{HeadValue}
-use Rattle.pnm_image.specs.Images.{Image, AreImages, rows_of, messages_of_image, messages_of_stream}
-use Rattle.pnm_image.specs.Messages.{without_stop, EndsBy}
-use Rattle.pnm_image.specs.Places.{Accepts, IsLawful, place_of}
-use Rattle.pnm_image.specs.Completion.{IsPrefixOf, Completes}
-use Rattle.pnm_image.proofs.Places.{next_may_come, place_of-append}
-use Rattle.pnm_image.proofs.Streams.{stream_is_lawful}
-use Rattle.pnm_tools.specs.declared.fault.ToolFault.{ToolFault}
-use Rattle.pnm_tools.specs.declared.fault.ToolFault.TheVariants.{CutOutside, ChannelOutside, TooLarge, OutOfOrder, Memory}
-use Rattle.pnm_tools.specs.declared.tool.Tool.{Tool}
-use Rattle.pnm_tools.specs.Answering.{answers_from}
-use Rattle.pnm_tools.specs.Formulas.{image_by}
-use Rattle.pnm_tools.specs.Tools.{TakesHead, AreTaken, applied, output_due, result_head, result_sample}
-use Rattle.pnm_tools.specs.Answers.{AnswersInFull, AreResults, Judges, RefusesHead, begun_of, due_so_far, images_ended}
-use Rattle.pnm_tools.specs.Chains.{AreLawfulTools, applied_in_turn, due_in_turn, results_of}
-use Rattle.pnm_tools.specs.ChainAnswers.{AreSound, HasRefused, HaveAnswered, IsFirstFault, IsRefusedNext}
-use Rattle.pnm_tools.proofs.AnsweringLaws.{AnswersImages, answered_after_image, applied_by, due_by, due_is, ends_between, taken_rest}
-use Rattle.pnm_tools.proofs.ChainLaws.{given_are_sound, sound_prefix}
-use Rattle.pnm_tools.proofs.FullAnswers.{full_answer_is_the_stream}
-use Rattle.pnm_tools.proofs.PrefixLaws.{rest_in_turn}
-use Rattle.pnm_tools.proofs.RefusalLaws.{in_order, refused_next, results_are_images}
-use Rattle.pnm_tools.proofs.SoundLaws.{sound_keeps_all, unbroken_keeps_all}
-use Rattle.pnm_stages.proofs.EndingLaws.{prefix_goes_on, stream_ends_whole}
+use Rattle.pnm_serial.proofs.Words.{◌≡◌, ◌≢◌, inl, inr, ℕ, zero, suc, ◌+◌, Bool, true, false, List, [], ◌∷◌, ◌++◌, map, length, Option, None, Some, Result, Ok}
+use Rattle.pnm_serial.proofs.Words.{Err, refl, sym, ap, subst, ◌∙◌, append_assoc, arith, Message, Begin, Row, ImageEnd, StreamEnd, Stop, More, Whole, Place}
+use Rattle.pnm_serial.proofs.Words.{Between, HeadValue, Image, AreImages, rows_of, messages_of_image, messages_of_stream, without_stop, EndsBy, Accepts}
+use Rattle.pnm_serial.proofs.Words.{IsLawful, place_of, IsPrefixOf, Completes, next_may_come, place_of-append, stream_is_lawful, ToolFault, CutOutside}
+use Rattle.pnm_serial.proofs.Words.{ChannelOutside, TooLarge, OutOfOrder, Memory, Tool, answers_from, image_by, TakesHead, AreTaken, applied, result_head}
+use Rattle.pnm_serial.proofs.Words.{result_sample, AnswersInFull, AreResults, Judges, RefusesHead, begun_of, images_ended, AreLawfulTools, applied_in_turn}
+use Rattle.pnm_serial.proofs.Words.{results_of, AreSound, HasRefused, HaveAnswered, IsFirstFault, IsRefusedNext, AnswersImages, answered_after_image}
+use Rattle.pnm_serial.proofs.Words.{applied_by, due_by, due_is, ends_between, taken_rest, given_are_sound, sound_prefix, full_answer_is_the_stream}
+use Rattle.pnm_serial.proofs.Words.{rest_in_turn, in_order, results_are_images, sound_keeps_all, unbroken_keeps_all, prefix_goes_on, stream_ends_whole}
+use Rattle.pnm_tools.specs.Tools.{output_due}
+use Rattle.pnm_tools.specs.Answers.{due_so_far}
+use Rattle.pnm_tools.specs.Chains.{due_in_turn}
+use Rattle.pnm_tools.proofs.RefusalLaws.{refused_next}
 use Rattle.pnm_serial.proofs.ResultSteps.{with_first, due_with}
 
 -- ---- the first image that a tool refuses
@@ -67,8 +50,8 @@ abbrev make : Tool → Image → HeadValue → Image
 make tool i head = image_by head (result_sample tool i)
 
 -- it is the first of these images
-refused_here : (tool : Tool) (i : Image) (is : List Image) (fault : ToolFault) → result_head tool i.head ≡ Err fault → FirstRefused tool fault (i ∷ is)
-refused_here tool i is fault refused =
+refused_here : {tool : Tool} {i : Image} {is : List Image} {fault : ToolFault} → result_head tool i.head ≡ Err fault → FirstRefused tool fault (i ∷ is)
+refused_here {tool} {i} {is} refused =
     let none : output_due tool (i ∷ is) ≡ [] = due_is tool i is
     ∙ ap (λ (r : Result HeadValue ToolFault). due_by tool is (applied_by (make tool i) r)) refused in
     record {
@@ -83,9 +66,9 @@ refused_here tool i is fault refused =
     }
 
 -- it comes after this one
-refused_after : (tool : Tool) (i : Image) (is : List Image) (fault : ToolFault) (head : HeadValue) → result_head tool i.head ≡ Ok head
+refused_after : {tool : Tool} {i : Image} {is : List Image} {fault : ToolFault} {head : HeadValue} → result_head tool i.head ≡ Ok head
     → FirstRefused tool fault is → FirstRefused tool fault (i ∷ is)
-refused_after tool i is fault head taken others =
+refused_after {tool} {i} {is} {head} taken others =
     let j : Image = make tool i head in
     let made : applied tool i ≡ Ok j = ap (applied_by (make tool i)) taken in
     let due : output_due tool (i ∷ is) ≡ messages_of_image j ++ output_due tool is = due_is tool i is ∙ ap (due_by tool is) made in
@@ -111,42 +94,40 @@ refused_after tool i is fault head taken others =
           ∙ sym due;
     }
 
-refused_of_others : (j : Image) (r : Result (List Image) ToolFault) (fault : ToolFault) → with_first (Ok j) r ≡ Err fault → r ≡ Err fault
-refused_of_others j (Ok js) fault e = absurd cc
-refused_of_others j (Err other) fault e = e
+refused_of_others : (j : Image) (r : Result (List Image) ToolFault) {fault : ToolFault} → with_first (Ok j) r ≡ Err fault → r ≡ Err fault
+refused_of_others j (Ok js) e = absurd cc
+refused_of_others j (Err other) e = e
 
-refused_by : (tool : Tool) (i : Image) (is : List Image) (fault : ToolFault) (r : Result HeadValue ToolFault) → result_head tool i.head ≡ r
+refused_by : {tool : Tool} {i : Image} {is : List Image} {fault : ToolFault} (r : Result HeadValue ToolFault) → result_head tool i.head ≡ r
     → (results_of tool is ≡ Err fault → FirstRefused tool fault is) → with_first (applied_by (make tool i) r) (results_of tool is) ≡ Err fault
     → FirstRefused tool fault (i ∷ is)
-refused_by tool i is fault (Ok head) taken others e =
-    refused_after tool i is fault head taken (others (refused_of_others (make tool i head) (results_of tool is) fault e))
-refused_by tool i is fault (Err other) refused others e = refused_here tool i is fault (refused ∙ (let same : other ≡ fault = cc in ap Err same))
+refused_by {tool} {i} {is} (Ok head) taken others e = refused_after taken (others (refused_of_others (make tool i head) (results_of tool is) e))
+refused_by {fault} (Err other) refused others e = refused_here (refused ∙ (let same : other ≡ fault = cc in ap Err same))
 
 pub first_refused : (tool : Tool) (is : List Image) (fault : ToolFault) → results_of tool is ≡ Err fault → FirstRefused tool fault is
 first_refused tool [] fault e = absurd cc
-first_refused tool (i ∷ is) fault e = refused_by tool i is fault (result_head tool i.head) refl (first_refused tool is fault) e
+first_refused tool (i ∷ is) fault e = refused_by (result_head tool i.head) refl (first_refused tool is fault) e
 
 -- ---- there is one
 
-taken_or_refused : (tool : Tool) (head : HeadValue) (fault : ToolFault) → TakesHead tool head → result_head tool head ≡ Err fault → ⊥
-taken_or_refused tool head fault takes refused = let two : Ok takes.0 ≡ Err fault = sym takes.1 ∙ refused in absurd cc
+taken_or_refused : (tool : Tool) (head : HeadValue) {fault : ToolFault} → TakesHead tool head → result_head tool head ≡ Err fault → ⊥
+taken_or_refused tool head {fault} takes refused = let two : Ok takes.0 ≡ Err fault = sym takes.1 ∙ refused in absurd cc
 
 -- two heads that are refused, before which none is, stand at one place
-same_place : (tool : Tool) (one other : ToolFault) (a b c d : List Message) (h k : HeadValue) → AreTaken tool a → AreTaken tool c
+same_place : (tool : Tool) {one other : ToolFault} (a b c d : List Message) (h k : HeadValue) → AreTaken tool a → AreTaken tool c
     → result_head tool h ≡ Err one → result_head tool k ≡ Err other → a ++ Begin h ∷ b ≡ c ++ Begin k ∷ d → a ≡ c
-same_place tool one other [] b [] d h k ta tc rh rk e = refl
-same_place tool one other [] b (m ∷ c) d h k ta tc rh rk e =
+same_place tool [] b [] d h k ta tc rh rk e = refl
+same_place tool [] b (m ∷ c) d h k ta tc rh rk e =
     let is : Begin h ≡ m = cc in
-    absurd (taken_or_refused tool h one (subst (λ (x : Message). AreTaken tool (x ∷ c)) (sym is) tc).0 rh)
-same_place tool one other (m ∷ a) b [] d h k ta tc rh rk e =
+    absurd (taken_or_refused tool h (subst (λ (x : Message). AreTaken tool (x ∷ c)) (sym is) tc).0 rh)
+same_place tool (m ∷ a) b [] d h k ta tc rh rk e =
     let is : Begin k ≡ m = cc in
-    absurd (taken_or_refused tool k other (subst (λ (x : Message). AreTaken tool (x ∷ a)) (sym is) ta).0 rk)
-same_place tool one other (m ∷ a) b (n ∷ c) d h k ta tc rh rk e =
+    absurd (taken_or_refused tool k (subst (λ (x : Message). AreTaken tool (x ∷ a)) (sym is) ta).0 rk)
+same_place tool (m ∷ a) b (n ∷ c) d h k ta tc rh rk e =
     let first : m ≡ n = cc in
     let later : a ++ Begin h ∷ b ≡ c ++ Begin k ∷ d = cc in
     ap (λ (x : Message). x ∷ a) first
-    ∙ ap (λ (x : List Message). n ∷ x)
-    (same_place tool one other a b c d h k (taken_rest tool (m ∷ []) a ta) (taken_rest tool (n ∷ []) c tc) rh rk later)
+    ∙ ap (λ (x : List Message). n ∷ x) (same_place tool a b c d h k (taken_rest tool (m ∷ []) a ta) (taken_rest tool (n ∷ []) c tc) rh rk later)
 
 -- a list and its prefix, if it is a prefix of that, too
 both_prefixes : (a b : List Message) → IsPrefixOf a b → IsPrefixOf b a → a ≡ b
@@ -188,15 +169,14 @@ next_head tool fault accepted [] lawful refused named = absurd refused
 next_head tool fault accepted (m ∷ more) lawful refused named =
     head_refused tool fault m more (refuses_head tool m accepted fault (next_may_come Between accepted m more lawful) refused named)
 
-in_full : (tool : Tool) (fault : ToolFault) (is : List Image) (accepted rest given : List Message) → AreImages is → AreSound (messages_of_stream is)
-    → messages_of_stream is ≡ accepted ++ rest → AreTaken tool accepted → fault ≢ Memory → AnswersInFull tool accepted given
-    → IsRefusedNext tool fault accepted rest → results_of tool is ≡ Err fault → given ≡ output_due tool is
-in_full tool fault is accepted rest given images sound parts taken named full refused results =
+in_full : {tool : Tool} {fault : ToolFault} (is : List Image) {accepted : List Message} (rest : List Message) {given : List Message} → AreImages is
+    → AreSound (messages_of_stream is) → messages_of_stream is ≡ accepted ++ rest → AreTaken tool accepted → fault ≢ Memory
+    → AnswersInFull tool accepted given → IsRefusedNext tool fault accepted rest → results_of tool is ≡ Err fault → given ≡ output_due tool is
+in_full {tool} {fault} is {accepted} rest {given} images sound parts taken named full refused results =
     let found = first_refused tool is fault results in
     let next = next_head tool fault accepted rest (subst IsLawful parts (stream_is_lawful is images)) refused named in
     let split : messages_of_stream is ≡ accepted ++ Begin next.0 ∷ next.1 = parts ∙ ap (λ (x : List Message). accepted ++ x) next.2 in
-    let same = same_place tool fault fault accepted next.1 found.accepted found.rest next.0 found.head taken found.taken next.3 found.refused
-    (sym split ∙ found.parts) in
+    let same = same_place tool accepted next.1 found.accepted found.rest next.0 found.head taken found.taken next.3 found.refused (sym split ∙ found.parts) in
     let keeps : without_stop accepted ≡ accepted = sound_keeps_all accepted (sound_prefix accepted rest (subst AreSound parts sound)).sound in
     let completes : Completes is accepted = record {
       images = images;
@@ -210,15 +190,15 @@ in_full tool fault is accepted rest given images sound parts taken named full re
     both_prefixes given (output_due tool is) begins (subst (λ (x : List Message). IsPrefixOf x given) so_far (full.all is completes))
 
 -- unless memory ran out, all that is due
-all_given : (tool : Tool) (fault : ToolFault) (is : List Image) (given : List Message) → AreImages is → AreSound (messages_of_stream is) → fault ≢ Memory
+all_given : {tool : Tool} {fault : ToolFault} (is : List Image) {given : List Message} → AreImages is → AreSound (messages_of_stream is) → fault ≢ Memory
     → HasRefused tool fault (messages_of_stream is) given → given ≡ output_due tool is
-all_given tool fault is given images sound named has =
+all_given {tool} {fault} is images sound named has =
     elim has.refused [
       | inl memory ↦ absurd (named memory.0)
       | inr refused ↦
           elim (refused_next tool fault is has.accepted has.rest images has.parts has.taken refused.1) [
             | inl memory ↦ absurd (named memory)
-            | inr results ↦ in_full tool fault is has.accepted has.rest given images sound has.parts has.taken named refused.0 refused.1 results
+            | inr results ↦ in_full is has.rest images sound has.parts has.taken named refused.0 refused.1 results
           ]
     ]
 
@@ -261,11 +241,11 @@ last_refused from (tool ∷ t2 ∷ tools) (Some other ∷ faults) is given numbe
     absurd (omega (arith, last, first.0))
 last_refused from (tool ∷ []) (Some other ∷ next ∷ faults) is given number fault lawful images sound have first last named = absurd have.2
 last_refused from (tool ∷ []) (Some other ∷ []) is given number fault lawful images sound have first last named =
-    have.2 ∙ all_given tool other is have.0 images sound (λ memory. named (first.1 ∙ memory)) have.1 ∙ sym (due_of_one tool is)
+    have.2 ∙ all_given is images sound (λ memory. named (first.1 ∙ memory)) have.1 ∙ sym (due_of_one tool is)
 
 -- if the last tool is the first that refused an image, the chain has given all that is due, unless memory ran out
-pub last_refusal_is_due : (tools : List Tool) (faults : List (Option ToolFault)) (is : List Image) (given : List Message) (number : ℕ) (fault : ToolFault)
+pub last_refusal_is_due : (tools : List Tool) (faults : List (Option ToolFault)) (is : List Image) (given : List Message) {number : ℕ} (fault : ToolFault)
     → AreLawfulTools tools → AreImages is → AreSound (messages_of_stream is) → HaveAnswered tools faults (messages_of_stream is) given
     → IsFirstFault 1 faults number fault → number ≡ length tools → fault ≢ Memory → given ≡ due_in_turn tools is
-last_refusal_is_due tools faults is given number fault lawful images sound have first last named =
+last_refusal_is_due tools faults is given {number} fault lawful images sound have first last named =
     last_refused 1 tools faults is given number fault lawful images sound have first (omega (arith, last)) named

@@ -1,3 +1,4 @@
+mod Words
 pub mod MessageSteps
 pub mod FusedSinkSteps
 pub mod SoundSteps

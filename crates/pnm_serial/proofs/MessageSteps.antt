@@ -1,20 +1,8 @@
 -- Lists of messages, and more messages.
-use Rattle.std.proofs.Common.{◌≡◌, ◌≤◌, ℕ, ◌+◌, Bool, true, false, Option, None, Some, List, [], ◌∷◌, ◌++◌, length, refl, ap, ◌∙◌, arith}
-use Rattle.std.specs.List.{AllByRecursion}
-use Rattle.pnm_image.specs.declared.format.Form.{Form}
-use Rattle.pnm_image.specs.declared.message.Message.{Message}
-use Rattle.pnm_image.specs.declared.place.Place.TheVariants.{Between}
-use Rattle.pnm_image.specs.Places.{place_of}
-use Rattle.pnm_image.proofs.Places.{lawful_prefix, lawful_suffix}
-use Rattle.pnm_image.proofs.Lists.{all_of_prefix}
-use Rattle.pnm_image.specs.Heads.{HeadValue}
-use Rattle.pnm_image.specs.Parts.{end_messages, rest_messages, part_messages}
-use Rattle.pnm_image.specs.Rows.{row_messages, rows_list}
-use Rattle.pnm_write.specs.Encoding.{bytes_from, bytes_of}
-use Rattle.pnm_write.specs.Sinks.{HasRows, AreInOrderFrom}
-use Rattle.pnm_write.proofs.MessageLaws.{bytes_from-append}
-use Rattle.pnm_serial.specs.Counts.{saturate_u64, image_count_after, row_count_after, images_in, rows_in}
-use Rattle.pnm_serial.specs.FusedSinks.{AreInOrder}
+use Rattle.pnm_serial.proofs.Words.{◌≡◌, ◌≤◌, ℕ, ◌+◌, Bool, true, false, Option, None, Some, List, [], ◌∷◌, ◌++◌, length, refl, ap, ◌∙◌, arith, AllByRecursion}
+use Rattle.pnm_serial.proofs.Words.{Form, Message, Between, place_of, lawful_prefix, lawful_suffix, all_of_prefix, HeadValue, end_messages, rest_messages}
+use Rattle.pnm_serial.proofs.Words.{part_messages, row_messages, rows_list, bytes_from, bytes_of, HasRows, AreInOrderFrom, bytes_from-append, saturate_u64}
+use Rattle.pnm_serial.proofs.Words.{image_count_after, row_count_after, images_in, rows_in, AreInOrder}
 
 pub images_in-append : (images : ℕ) (ms more : List Message) → images_in images (ms ++ more) ≡ images_in (images_in images ms) more
 images_in-append images [] more = refl

@@ -1,15 +1,10 @@
 -- Numbers in decimal, each after one byte of white space, as the header of PBM, PGM or PPM has them.
-use Rattle.std.proofs.Common.{◌≡◌, ℕ, Bool, true, false, not, ◌||◌, List, [], ◌∷◌, ◌++◌, map, refl, ap, ap₂, ◌∙◌}
-use Rattle.std.specs.List.{AllPass}
-use Rattle.std.proofs.lemmas.List.{map-append}
-use Rattle.std.proofs.lemmas.List.Elements.{All-nil, All-cons, All-append, All-weaker}
-use Rattle.std.proofs.lemmas.Bool.{or_left, or_right}
-use Rattle.pnm_read.specs.HeaderTexts.{commented, uncommented_from, uncommented, ends_in_comment, ends_in_word, numbers_in}
-use Rattle.pnm_image.specs.Texts.{is_white, is_digit, words, decimal_value}
-use Rattle.pnm_read.specs.Rasters.{SpellsDecimal}
-use Rattle.pnm_read.proofs.CommentLaws.{commented_after, commented_after-append}
-use Rattle.pnm_read.proofs.WordLaws.{white_is_not_sharp, words-split, uncommented-split, ends_by-split}
-use Rattle.pnm_read.proofs.SampleLaws.{uncommented_digits}
+use Rattle.pnm_serial.proofs.Words.{◌≡◌, ℕ, Bool, true, false, not, ◌||◌, List, [], ◌∷◌, ◌++◌, map, refl, ap, ap₂, ◌∙◌, AllPass, map-append, All-nil, All-cons}
+use Rattle.pnm_serial.proofs.Words.{All-append, All-weaker, or_left, or_right, commented, uncommented, ends_in_comment, ends_in_word, numbers_in, is_white}
+use Rattle.pnm_serial.proofs.Words.{is_digit, decimal_value, SpellsDecimal, commented_after, commented_after-append, white_is_not_sharp, words-split}
+use Rattle.pnm_serial.proofs.Words.{uncommented-split, ends_by-split, uncommented_digits}
+use Rattle.pnm_read.specs.HeaderTexts.{uncommented_from}
+use Rattle.pnm_image.specs.Texts.{words}
 use Rattle.pnm_serial.proofs.DecimalText.{outside-digits, words-digits, ends-digits}
 
 abbrev is_body_byte : ℕ → Bool
@@ -51,9 +46,9 @@ number_more text numbers b digits n s white d = record {
 }
 
 -- such a text ends in the digits of the last
-pub ends_in_number : (text : List ℕ) (b : ℕ) (digits : List ℕ) (n : ℕ) → is_white b ≡ true → SpellsDecimal digits n → ends_in_word (text ++ b ∷ digits) ≡ true
-ends_in_number text b digits n white d = ends_by-split (λ x. not (is_white x)) text b digits (ap not white) ∙ ends-digits digits d.some d.digits
+pub ends_in_number : (text : List ℕ) (b : ℕ) {digits : List ℕ} {n : ℕ} → is_white b ≡ true → SpellsDecimal digits n → ends_in_word (text ++ b ∷ digits) ≡ true
+ends_in_number text b {digits} white d = ends_by-split (λ x. not (is_white x)) text b digits (ap not white) ∙ ends-digits digits d.some d.digits
 
 -- the numbers of such a text
-pub numbers_of : (text numbers : List ℕ) → SpellsNumbers text numbers → numbers_in text ≡ numbers
-numbers_of text numbers s = ap (λ (t : List ℕ). map decimal_value (words t)) s.plain ∙ s.numbers_are
+pub numbers_of : {text numbers : List ℕ} → SpellsNumbers text numbers → numbers_in text ≡ numbers
+numbers_of s = ap (λ (t : List ℕ). map decimal_value (words t)) s.plain ∙ s.numbers_are

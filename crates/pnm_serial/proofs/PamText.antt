@@ -1,29 +1,13 @@
 -- The header that is written of a PAM image, as a reader takes it: its lines, and what they say.
-use Rattle.std.proofs.Common.{◌≡◌, ◌≢◌, ℕ, ◌+◌, ◌<◌, ◌≤◌, Bool, true, not, ◌==◌, List, [], ◌∷◌, ◌++◌, length, All, codes, decimal, refl, sym, ap}
-use Rattle.std.proofs.Common.{ap₂, subst, ◌∙◌, append_assoc, append-nil, length-append, arith}
-use Rattle.std.specs.List.{AllPass, AllByRecursion, list_all}
-use Rattle.std.proofs.lemmas.Bool.Decides.{nat_tests}
-use Rattle.std.proofs.lemmas.List.Elements.{All-head, All-tail}
-use Rattle.std.proofs.lemmas.List.Sums.{AllPass-from_list_all}
-use Rattle.pnm_image.specs.declared.shape.Shape.{Shape}
-use Rattle.pnm_image.specs.declared.shape.Kind.TheVariants.{Pam}
-use Rattle.pnm_image.specs.Heads.{HeadValue, IsHead, IsTupleType}
-use Rattle.pnm_image.specs.Texts.{is_digit, decimal_value}
-use Rattle.pnm_image.specs.declared.format.Format.{Format}
-use Rattle.pnm_image.specs.declared.format.Form.TheVariants.{Raw}
-use Rattle.pnm_read.specs.declared.line.Field.{Field}
-use Rattle.pnm_read.specs.declared.line.Field.TheVariants.{Width, Height, Depth, Maxval}
-use Rattle.pnm_read.specs.declared.line.LineKind.{LineKind}
-use Rattle.pnm_read.specs.declared.line.LineKind.TheVariants.{Number, End}
-use Rattle.pnm_read.specs.PamLines.{first_token, second_token, value_of, name_of, kind_of_token, line_kind, field_values, tuple_type_in}
-use Rattle.pnm_read.specs.Internal.LineWalks.{trimmed_start, trimmed_end, after_token, joined_with}
-use Rattle.pnm_read.specs.Headers.{MaySay, IsPamLine, SpellsPamHeader}
-use Rattle.pnm_read.specs.Rasters.{SpellsDecimal}
-use Rattle.pnm_read.proofs.LineLaws.{with_feeds}
-use Rattle.pnm_read.proofs.WalkLaws.{value_is, tuple_type_in-cons, tuple_type_in-nil}
-use Rattle.pnm_read.proofs.TupleTypeLaws.{trimmed_start-same, trimmed_end-same}
-use Rattle.pnm_write.specs.Encoding.{tuple_type_line, pam_text}
-use Rattle.pnm_write.proofs.WordSizes.{decimal_short}
+use Rattle.pnm_serial.proofs.Words.{◌≡◌, ◌≢◌, ℕ, ◌+◌, ◌<◌, ◌≤◌, Bool, true, not, ◌==◌, List, [], ◌∷◌, ◌++◌, length, All, codes, decimal, refl, sym, ap, ap₂}
+use Rattle.pnm_serial.proofs.Words.{subst, ◌∙◌, append_assoc, arith, AllPass, AllByRecursion, list_all, nat_tests, All-head, All-tail, AllPass-from_list_all}
+use Rattle.pnm_serial.proofs.Words.{Shape, Pam, HeadValue, IsHead, IsTupleType, is_digit, decimal_value, Format, Raw, Field, Width, Height, Depth, Maxval}
+use Rattle.pnm_serial.proofs.Words.{LineKind, Number, End, value_of, name_of, line_kind, trimmed_end, joined_with, MaySay, IsPamLine, SpellsPamHeader}
+use Rattle.pnm_serial.proofs.Words.{SpellsDecimal, with_feeds, value_is, tuple_type_in-cons, tuple_type_in-nil, trimmed_start-same, trimmed_end-same}
+use Rattle.pnm_serial.proofs.Words.{tuple_type_line, pam_text, decimal_short}
+use Rattle.std.proofs.Common.{append-nil, length-append}
+use Rattle.pnm_read.specs.PamLines.{first_token, second_token, kind_of_token, field_values, tuple_type_in}
+use Rattle.pnm_read.specs.Internal.LineWalks.{trimmed_start, after_token}
 use Rattle.pnm_serial.proofs.DecimalText.{decimal_spells, first_token-digits, one_line-digits}
 
 -- a byte other than LF
@@ -57,8 +41,8 @@ number_line_is_one Depth digits h = h
 number_line_is_one Maxval digits h = h
 
 -- such a line may stand in a header
-number_line_is : (field : Field) (digits : List ℕ) (n : ℕ) → SpellsDecimal digits n → IsPamLine (number_line field digits)
-number_line_is field digits n d =
+number_line_is : (field : Field) {digits : List ℕ} {n : ℕ} → SpellsDecimal digits n → IsPamLine (number_line field digits)
+number_line_is field {digits} d =
     let line : List ℕ = number_line field digits in
     let number : MaySay (Number field) line = subst (λ (t : List ℕ). (0 < length t) × AllPass is_digit t) (sym (number_line_token field digits d.digits))
     (d.some, d.digits) in
@@ -67,8 +51,8 @@ number_line_is field digits n d =
       says = subst (λ (kind : LineKind). MaySay kind line) (sym (number_line_kind field digits)) number;
     }
 
-number_line_value : (field : Field) (digits : List ℕ) (n : ℕ) → SpellsDecimal digits n → decimal_value (second_token (number_line field digits)) ∷ [] ≡ n ∷ []
-number_line_value field digits n d = ap (λ (t : List ℕ). decimal_value t ∷ []) (number_line_token field digits d.digits) ∙ ap (λ (k : ℕ). k ∷ []) d.value
+number_line_value : (field : Field) {digits : List ℕ} {n : ℕ} → SpellsDecimal digits n → decimal_value (second_token (number_line field digits)) ∷ [] ≡ n ∷ []
+number_line_value field {digits} d = ap (λ (t : List ℕ). decimal_value t ∷ []) (number_line_token field digits d.digits) ∙ ap (λ (k : ℕ). k ∷ []) d.value
 
 number_line_short : (field : Field) (digits : List ℕ) → length digits ≤ 10 → length (number_line field digits ++ 10 ∷ []) ≤ 18
 number_line_short Width digits h = omega (arith, length-append digits (10 ∷ []))
@@ -84,16 +68,16 @@ tuple_type_lines [] = []
 tuple_type_lines (b ∷ text) = (codes "TUPLTYPE" ++ 32 ∷ b ∷ text) ∷ []
 
 -- the value of its line is the tuple type
-tuple_type_value : (b : ℕ) (text : List ℕ) → IsTupleType (b ∷ text) → value_of (codes "TUPLTYPE" ++ 32 ∷ b ∷ text) ≡ b ∷ text
+tuple_type_value : {b : ℕ} {text : List ℕ} → IsTupleType (b ∷ text) → value_of (codes "TUPLTYPE" ++ 32 ∷ b ∷ text) ≡ b ∷ text
 unfolding trimmed_start after_token
-tuple_type_value b text h =
+tuple_type_value {b} {text} h =
     value_is (codes "TUPLTYPE" ++ 32 ∷ b ∷ text) ∙ ap trimmed_end (trimmed_start-same b text (h.first (omega arith))) ∙ trimmed_end-same (b ∷ text) h.last
 
 tuple_type_found : (tuple_type : List ℕ) → IsTupleType tuple_type → tuple_type_in (tuple_type_lines tuple_type) ≡ tuple_type
 unfolding first_token
 tuple_type_found [] h = tuple_type_in-nil
 tuple_type_found (b ∷ text) h =
-    tuple_type_in-cons (codes "TUPLTYPE" ++ 32 ∷ b ∷ text) [] ∙ ap₂ (λ (x y : List ℕ). joined_with x y) (tuple_type_value b text h) tuple_type_in-nil
+    tuple_type_in-cons (codes "TUPLTYPE" ++ 32 ∷ b ∷ text) [] ∙ ap₂ (λ (x y : List ℕ). joined_with x y) (tuple_type_value h) tuple_type_in-nil
 
 other_byte : (b : ℕ) → b ≢ 10 → is_other b ≡ true
 other_byte b h = grind (arith, nat_tests)
@@ -132,29 +116,6 @@ tuple_type_short (b ∷ text) h = omega (arith, length-append text (10 ∷ []))
 abbrev lines_of : List ℕ → List ℕ → List ℕ → List ℕ → List ℕ → List (List ℕ)
 lines_of w h d m tuple_type = number_line Width w ∷ number_line Height h ∷ number_line Depth d ∷ number_line Maxval m ∷ tuple_type_lines tuple_type
 
--- each number is that of its line
-lines_have : (field : Field) (w h d m tuple_type : List ℕ) → field_values field (lines_of w h d m tuple_type)
-    ≡ decimal_value (second_token (number_line field (elim field [ Width ↦ w | Height ↦ h | Depth ↦ d | Maxval ↦ m ]))) ∷ field_values field
-    (tuple_type_lines tuple_type)
-unfolding first_token field_values
-lines_have Width w h d m tuple_type = refl
-lines_have Height w h d m tuple_type = refl
-lines_have Depth w h d m tuple_type = refl
-lines_have Maxval w h d m tuple_type = refl
-
-lines_have_type : (w h d m tuple_type : List ℕ) → tuple_type_in (lines_of w h d m tuple_type) ≡ tuple_type_in (tuple_type_lines tuple_type)
-unfolding first_token tuple_type_in
-lines_have_type w h d m tuple_type = refl
-
--- the number of a field
-lines_say : (field : Field) (w h d m tuple_type : List ℕ) (n : ℕ) → SpellsDecimal (elim field [ Width ↦ w | Height ↦ h | Depth ↦ d | Maxval ↦ m ]) n
-    → field_values field (lines_of w h d m tuple_type) ≡ n ∷ []
-lines_say field w h d m tuple_type n s =
-    let digits : List ℕ = elim field [ Width ↦ w | Height ↦ h | Depth ↦ d | Maxval ↦ m ] in
-    lines_have field w h d m tuple_type
-    ∙ ap (λ (l : List ℕ). decimal_value (second_token (number_line field digits)) ∷ l) (tuple_type_no_values field tuple_type)
-    ∙ number_line_value field digits n s
-
 -- parts in turn
 five_parts : (a b c d t e : List ℕ) → ((((a ++ b) ++ c) ++ d) ++ t) ++ e ≡ (a ++ (b ++ (c ++ (d ++ t)))) ++ e
 five_parts a b c d t e = simp append_assoc
@@ -168,30 +129,58 @@ text_of w h d m tuple_type =
     (number_line Width w ++ 10 ∷ []) ++ (number_line Height h ++ 10 ∷ []) ++ (number_line Depth d ++ 10 ∷ []) ++ (number_line Maxval m ++ 10 ∷ [])
     ++ tuple_type_line tuple_type ++ codes "ENDHDR\n"
 
--- it is the lines, and the last
-text_of_lines : (w h d m tuple_type : List ℕ) → text_of w h d m tuple_type ≡ with_feeds (lines_of w h d m tuple_type) ++ (codes "ENDHDR" ++ 10 ∷ [])
-text_of_lines w h d m tuple_type =
-    let a : List ℕ = number_line Width w ++ 10 ∷ [] in
-    let b : List ℕ = number_line Height h ++ 10 ∷ [] in
-    let c : List ℕ = number_line Depth d ++ 10 ∷ [] in
-    let e : List ℕ = number_line Maxval m ++ 10 ∷ [] in
-    five_parts a b c e (tuple_type_line tuple_type) (codes "ENDHDR\n") ∙ ap (λ (t : List ℕ). (a ++ (b ++ (c ++ (e ++ t)))) ++ codes "ENDHDR\n")
-    (sym (tuple_type_text tuple_type))
+module _ (w h d m tuple_type : List ℕ) where
+  -- each number is that of its line
+  lines_have : (field : Field)
+      → field_values field (lines_of w h d m tuple_type) ≡ decimal_value (second_token (number_line field (elim field [
+        | Width ↦ w
+        | Height ↦ h
+        | Depth ↦ d
+        | Maxval ↦ m
+      ]))) ∷ field_values field (tuple_type_lines tuple_type)
+  unfolding first_token field_values
+  lines_have Width = refl
+  lines_have Height = refl
+  lines_have Depth = refl
+  lines_have Maxval = refl
 
-text_is_short : (w h d m tuple_type : List ℕ) → length w ≤ 10 → length h ≤ 10 → length d ≤ 10 → length m ≤ 10 → length tuple_type ≤ 255
-    → length (text_of w h d m tuple_type) ≤ 344
-text_is_short w h d m tuple_type hw hh hd hm ht =
-    let all = five_lengths (number_line Width w ++ 10 ∷ []) (number_line Height h ++ 10 ∷ []) (number_line Depth d ++ 10 ∷ []) (number_line Maxval m ++ 10 ∷ [])
-    (tuple_type_line tuple_type) (codes "ENDHDR\n") in
-    omega (
-      arith,
-      all,
-      number_line_short Width w hw,
-      number_line_short Height h hh,
-      number_line_short Depth d hd,
-      number_line_short Maxval m hm,
-      tuple_type_short tuple_type ht,
-    )
+  lines_have_type : tuple_type_in (lines_of w h d m tuple_type) ≡ tuple_type_in (tuple_type_lines tuple_type)
+  unfolding first_token tuple_type_in
+  lines_have_type = refl
+
+  -- the number of a field
+  lines_say : (field : Field) {n : ℕ} → SpellsDecimal (elim field [ Width ↦ w | Height ↦ h | Depth ↦ d | Maxval ↦ m ]) n
+      → field_values field (lines_of w h d m tuple_type) ≡ n ∷ []
+  lines_say field s =
+      let digits : List ℕ = elim field [ Width ↦ w | Height ↦ h | Depth ↦ d | Maxval ↦ m ] in
+      lines_have field
+      ∙ ap (λ (l : List ℕ). decimal_value (second_token (number_line field digits)) ∷ l) (tuple_type_no_values field tuple_type)
+      ∙ number_line_value field s
+
+  -- it is the lines, and the last
+  text_of_lines : text_of w h d m tuple_type ≡ with_feeds (lines_of w h d m tuple_type) ++ (codes "ENDHDR" ++ 10 ∷ [])
+  text_of_lines =
+      let a : List ℕ = number_line Width w ++ 10 ∷ [] in
+      let b : List ℕ = number_line Height h ++ 10 ∷ [] in
+      let c : List ℕ = number_line Depth d ++ 10 ∷ [] in
+      let e : List ℕ = number_line Maxval m ++ 10 ∷ [] in
+      five_parts a b c e (tuple_type_line tuple_type) (codes "ENDHDR\n") ∙ ap (λ (t : List ℕ). (a ++ (b ++ (c ++ (e ++ t)))) ++ codes "ENDHDR\n")
+      (sym (tuple_type_text tuple_type))
+
+  text_is_short : length w ≤ 10 → length h ≤ 10 → length d ≤ 10 → length m ≤ 10 → length tuple_type ≤ 255 → length (text_of w h d m tuple_type) ≤ 344
+  text_is_short hw hh hd hm ht =
+      let all = five_lengths (number_line Width w ++ 10 ∷ []) (number_line Height h ++ 10 ∷ []) (number_line Depth d ++ 10 ∷ [])
+      (number_line Maxval m ++ 10 ∷ [])
+      (tuple_type_line tuple_type) (codes "ENDHDR\n") in
+      omega (
+        arith,
+        all,
+        number_line_short Width w hw,
+        number_line_short Height h hh,
+        number_line_short Depth d hd,
+        number_line_short Maxval m hm,
+        tuple_type_short tuple_type ht,
+      )
 
 -- ENDHDR is the last line
 last_is_end : line_kind (codes "ENDHDR") ≡ End
@@ -211,10 +200,10 @@ pub pam_text_spells : (width height depth maxval : ℕ) (tuple_type : List ℕ)
 pam_text_spells width height depth maxval tuple_type sound rows =
     let limits = sound.limits in
     let type : IsTupleType tuple_type = sound.suits in
-    let w = decimal_spells width (omega (arith, limits.width_high)) in
-    let h = decimal_spells height (omega (arith, limits.height_high)) in
-    let d = decimal_spells depth (omega (arith, limits.depth_high)) in
-    let m = decimal_spells maxval (omega (arith, limits.maxval_high)) in
+    let w = decimal_spells (omega (arith, limits.width_high)) in
+    let h = decimal_spells (omega (arith, limits.height_high)) in
+    let d = decimal_spells (omega (arith, limits.depth_high)) in
+    let m = decimal_spells (omega (arith, limits.maxval_high)) in
     let short = text_is_short (decimal width) (decimal height) (decimal depth) (decimal maxval) tuple_type
     (decimal_short width (omega (arith, limits.width_high))) (decimal_short height (omega (arith, limits.height_high)))
     (decimal_short depth (omega (arith, limits.depth_high))) (decimal_short maxval (omega (arith, limits.maxval_high))) type.short in
@@ -225,18 +214,18 @@ pam_text_spells width height depth maxval tuple_type sound rows =
       short = longer_by_magic (text_of (decimal width) (decimal height) (decimal depth) (decimal maxval) tuple_type) short;
       format_is = refl;
       lines_are = (
-        number_line_is Width (decimal width) width w,
+        number_line_is Width w,
         (
-          number_line_is Height (decimal height) height h,
-          (number_line_is Depth (decimal depth) depth d, (number_line_is Maxval (decimal maxval) maxval m, tuple_type_lines_are tuple_type type)),
+          number_line_is Height h,
+          (number_line_is Depth d, (number_line_is Maxval m, tuple_type_lines_are tuple_type type)),
         ),
       );
       last_one_line = AllPass-from_list_all is_other (codes "ENDHDR") refl;
       last_ends = last_is_end;
-      width = lines_say Width (decimal width) (decimal height) (decimal depth) (decimal maxval) tuple_type width w;
-      height = lines_say Height (decimal width) (decimal height) (decimal depth) (decimal maxval) tuple_type height h;
-      depth = lines_say Depth (decimal width) (decimal height) (decimal depth) (decimal maxval) tuple_type depth d;
-      maxval = lines_say Maxval (decimal width) (decimal height) (decimal depth) (decimal maxval) tuple_type maxval m;
+      width = lines_say (decimal width) (decimal height) (decimal depth) (decimal maxval) tuple_type Width w;
+      height = lines_say (decimal width) (decimal height) (decimal depth) (decimal maxval) tuple_type Height h;
+      depth = lines_say (decimal width) (decimal height) (decimal depth) (decimal maxval) tuple_type Depth d;
+      maxval = lines_say (decimal width) (decimal height) (decimal depth) (decimal maxval) tuple_type Maxval m;
       tuple_type = lines_have_type (decimal width) (decimal height) (decimal depth) (decimal maxval) tuple_type ∙ tuple_type_found tuple_type type;
       kind = refl;
       sound = sound;

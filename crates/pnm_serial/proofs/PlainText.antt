@@ -1,27 +1,13 @@
 -- The text of a plain raster spells its samples.
-use Rattle.std.proofs.Common.{◌≡◌, ℕ, ◌+◌, ◌*◌, ◌^◌, ◌==◌, ◌<◌, ◌≤◌, if◌then◌else◌, Bool, true, false, List, [], ◌∷◌, ◌++◌, length, flat_map, All}
-use Rattle.std.proofs.Common.{refl, sym, ap, subst, ◌∙◌, append_assoc, length-append, arith}
-use Rattle.std.specs.List.{AllByRecursion, concat}
-use Rattle.std.proofs.lemmas.List.Elements.{All-nil, All-cons, All-weaker}
-use Rattle.pnm_image.specs.declared.shape.Shape.{Shape}
-use Rattle.pnm_image.specs.declared.shape.Kind.{Kind}
-use Rattle.pnm_image.specs.declared.shape.Kind.TheVariants.{Bit, Gray, Color, Pam}
-use Rattle.pnm_image.specs.declared.format.Form.TheVariants.{Plain}
-use Rattle.pnm_image.specs.Heads.{HeadValue, IsHead, Suits, row_length}
-use Rattle.pnm_image.specs.Images.{Image, IsImage, rows_of}
-use Rattle.pnm_image.specs.Places.{IsRowOf}
-use Rattle.pnm_image.specs.Texts.{is_white}
-use Rattle.pnm_image.proofs.RowLaws.{AreRowsOf, AreRowsOf-rows_of, length-rows_of, concat-cut_rows}
-use Rattle.pnm_read.specs.HeaderTexts.{uncommented_from, begins_apart}
-use Rattle.pnm_read.specs.Rasters.{IsGap, SpellsSample, SpellsPiece, MayFollowSample, SpellsPlainSamples}
-use Rattle.pnm_read.proofs.PlainLaws.{apart_follows}
-use Rattle.pnm_write.specs.Encoding.{row_bytes}
-use Rattle.std.specs.Str.{byte}
-use Rattle.pnm_write.specs.PlainRows.{sample_text, plain_row_text}
-use Rattle.pnm_write.specs.Internal.PlainParts.{fits_in_line, separator, column_after, word_in_line, text_of_part, sample_texts}
+use Rattle.pnm_serial.proofs.Words.{◌≡◌, ℕ, ◌+◌, ◌*◌, ◌^◌, ◌==◌, ◌<◌, ◌≤◌, if◌then◌else◌, Bool, true, false, List, [], ◌∷◌, ◌++◌, length, flat_map, All, refl}
+use Rattle.pnm_serial.proofs.Words.{sym, ap, subst, ◌∙◌, append_assoc, arith, AllByRecursion, concat, All-nil, All-cons, All-weaker, Shape, Kind, Bit, Gray}
+use Rattle.pnm_serial.proofs.Words.{Color, Pam, Plain, HeadValue, IsHead, Suits, row_length, Image, IsImage, rows_of, IsRowOf, is_white, AreRowsOf}
+use Rattle.pnm_serial.proofs.Words.{AreRowsOf-rows_of, length-rows_of, concat-cut_rows, begins_apart, IsGap, SpellsSample, SpellsPiece, MayFollowSample}
+use Rattle.pnm_serial.proofs.Words.{SpellsPlainSamples, apart_follows, row_bytes, byte, sample_text, plain_row_text, fits_in_line, separator, column_after}
+use Rattle.pnm_serial.proofs.Words.{word_in_line, text_of_part, sample_texts, IsShortWord, each_within, sample_is_short, row_text_left, has_begun_line}
+use Rattle.std.proofs.Common.{length-append}
+use Rattle.pnm_read.specs.HeaderTexts.{uncommented_from}
 use Rattle.pnm_serial.proofs.DecimalText.{decimal_spells}
-use Rattle.pnm_write.proofs.WordSizes.{IsShortWord, each_within, sample_is_short}
-use Rattle.pnm_write.proofs.PlainLaws.{row_text_left, has_begun_line}
 
 -- ---- samples
 
@@ -36,16 +22,15 @@ AreSpelled kind samples = AllByRecursion (IsSpelled kind) samples
 spells_by : (kind : Kind) (depth maxval : ℕ) (tuple_type : List ℕ) → Suits kind depth maxval tuple_type → maxval ≤ 65535 → (sample : ℕ) → sample ≤ maxval
     → SpellsSample kind (sample_text kind sample) sample
 spells_by Bit depth maxval tuple_type suits high sample within = (omega (arith, suits.1), refl)
-spells_by Gray depth maxval tuple_type suits high sample within = decimal_spells sample (omega arith)
-spells_by Color depth maxval tuple_type suits high sample within = decimal_spells sample (omega arith)
-spells_by Pam depth maxval tuple_type suits high sample within = decimal_spells sample (omega arith)
+spells_by Gray depth maxval tuple_type suits high sample within = decimal_spells (omega arith)
+spells_by Color depth maxval tuple_type suits high sample within = decimal_spells (omega arith)
+spells_by Pam depth maxval tuple_type suits high sample within = decimal_spells (omega arith)
 
 -- the samples of a row are spelled
-row_is_spelled : (head : HeadValue) → IsHead head → (row : List ℕ) → IsRowOf head.shape row → AreSpelled head.shape.kind row
-row_is_spelled head sound row is =
+row_is_spelled : {head : HeadValue} → IsHead head → {row : List ℕ} → IsRowOf head.shape row → AreSpelled head.shape.kind row
+row_is_spelled {head} sound {row} is =
     let high : head.shape.maxval ≤ 65535 = omega (arith, sound.limits.maxval_high) in
-    each_within (IsSpelled head.shape.kind) head.shape.maxval
-    (λ sample within. record {
+    each_within (IsSpelled head.shape.kind) head.shape.maxval (λ sample within. record {
       spells = spells_by head.shape.kind head.shape.depth head.shape.maxval head.tuple_type sound.suits high sample within;
       word = sample_is_short head.shape.kind head.shape.depth head.shape.maxval head.tuple_type sound.suits high sample within;
     }) row is.range
@@ -126,10 +111,10 @@ others_spell kind column (sample ∷ samples) begun are =
     )
 
 -- the samples of a row, behind a gap of at most one byte
-row_spells : (kind : Kind) (gap row : List ℕ) → IsGap gap → length gap ≤ 1 → 0 < length row → AreSpelled kind row
+row_spells : (kind : Kind) {gap : List ℕ} (row : List ℕ) → IsGap gap → length gap ≤ 1 → 0 < length row → AreSpelled kind row
     → SpellsPlainSamples kind (gap ++ text_of_part 0 (sample_texts kind row)) row
-row_spells kind gap [] is one some are = absurd (omega arith)
-row_spells kind gap (sample ∷ samples) is one some are =
+row_spells kind [] is one some are = absurd (omega arith)
+row_spells kind {gap} (sample ∷ samples) is one some are =
     let word : List ℕ = sample_text kind sample in
     let now : ℕ = length word in (
       gap ++ word,
@@ -184,7 +169,7 @@ next_rows_spell : (kind : Kind) (rows : List (List ℕ)) → AllByRecursion (Row
 next_rows_spell kind [] are = refl
 next_rows_spell kind (row ∷ rows) are =
     both_spell kind (byte "\n" ∷ [] ++ text_of_part 0 (sample_texts kind row)) (next_rows kind rows) row (concat rows)
-    (row_spells kind (byte "\n" ∷ []) row feed_gap (omega arith) are.0.some are.0.are) (next_begin_apart kind rows) (next_rows_spell kind rows are.1)
+    (row_spells kind row feed_gap (omega arith) are.0.some are.0.are) (next_begin_apart kind rows) (next_rows_spell kind rows are.1)
 
 -- with a LF before them they are the rows' texts
 next_rows_text : (kind : Kind) (rows : List (List ℕ)) → AllByRecursion (RowSpelled kind) rows
@@ -203,10 +188,10 @@ pub record PlainRaster (kind : Kind) (text samples : List ℕ) : Type 0 where
   pub whole : text ≡ body ++ byte "\n" ∷ []
   pub spelled : SpellsPlainSamples kind body samples
 
-rows_spell : (kind : Kind) (rows : List (List ℕ)) → 0 < length rows → AllByRecursion (RowSpelled kind) rows
+rows_spell : {kind : Kind} (rows : List (List ℕ)) → 0 < length rows → AllByRecursion (RowSpelled kind) rows
     → PlainRaster kind (flat_map (plain_row_text kind) rows) (concat rows)
-rows_spell kind [] some are = absurd (omega arith)
-rows_spell kind (row ∷ rows) some are =
+rows_spell [] some are = absurd (omega arith)
+rows_spell {kind} (row ∷ rows) some are =
     let text : List ℕ = text_of_part 0 (sample_texts kind row) in
     record {
       body = text ++ next_rows kind rows;
@@ -214,7 +199,7 @@ rows_spell kind (row ∷ rows) some are =
           ∙ append_assoc text (byte "\n" ∷ []) (flat_map (plain_row_text kind) rows)
           ∙ ap (λ (l : List ℕ). text ++ l) (next_rows_text kind rows are.1)
           ∙ sym (append_assoc text (next_rows kind rows) (byte "\n" ∷ []));
-      spelled = both_spell kind text (next_rows kind rows) row (concat rows) (row_spells kind [] row no_gap (omega arith) are.0.some are.0.are)
+      spelled = both_spell kind text (next_rows kind rows) row (concat rows) (row_spells kind row no_gap (omega arith) are.0.some are.0.are)
           (next_begin_apart kind rows) (next_rows_spell kind rows are.1);
     }
 
@@ -229,27 +214,27 @@ row_text kind (sample ∷ row) some fit = row_text_left kind (sample ∷ row) fi
 row_of_image : (head : HeadValue) → IsHead head → 0 < row_length head.shape → (row : List ℕ) → IsRowOf head.shape row → RowSpelled head.shape.kind row
 row_of_image head sound long row is = record {
   some = omega (arith, is.count);
-  are = row_is_spelled head sound row is;
+  are = row_is_spelled sound is;
   text = row_text head.shape.kind row (omega (arith, is.count))
       (All-weaker (λ x. x ≤ head.shape.maxval) (λ x. x < 2 ^ 64) (λ x h. omega (arith, sound.limits.maxval_high)) row is.range);
 }
 
-rows_of_image : (head : HeadValue) → IsHead head → 0 < row_length head.shape → (rows : List (List ℕ)) → AreRowsOf head.shape rows
+rows_of_image : {head : HeadValue} → IsHead head → 0 < row_length head.shape → (rows : List (List ℕ)) → AreRowsOf head.shape rows
     → AllByRecursion (RowSpelled head.shape.kind) rows
-rows_of_image head sound long [] are = tt
-rows_of_image head sound long (row ∷ rows) are = (row_of_image head sound long row are.0, rows_of_image head sound long rows are.1)
+rows_of_image sound long [] are = tt
+rows_of_image {head} sound long (row ∷ rows) are = (row_of_image head sound long row are.0, rows_of_image sound long rows are.1)
 
 has_samples : (width depth : ℕ) → 0 < width → 0 < depth → 0 < width * depth
 has_samples width depth w d = grind arith
 
 -- the text of an image's rows
-pub plain_raster_spells : (image : Image) → IsImage image → 0 < image.head.shape.height
+pub plain_raster_spells : {image : Image} → IsImage image → 0 < image.head.shape.height
     → PlainRaster image.head.shape.kind (flat_map (row_bytes Plain image.head.shape) (rows_of image)) image.samples
-plain_raster_spells image sound rows =
+plain_raster_spells {image} sound rows =
     let s : Shape = image.head.shape in
     let limits = sound.head.limits in
     let count : length (rows_of image) ≡ s.height = length-rows_of image in
     let raster =
-    rows_spell s.kind (rows_of image) (omega arith)
-    (rows_of_image image.head sound.head (has_samples s.width s.depth limits.width_low limits.depth_low) (rows_of image) (AreRowsOf-rows_of image sound)) in
+    rows_spell (rows_of image) (omega arith)
+    (rows_of_image sound.head (has_samples s.width s.depth limits.width_low limits.depth_low) (rows_of image) (AreRowsOf-rows_of image sound)) in
     subst (PlainRaster s.kind (flat_map (plain_row_text s.kind) (rows_of image))) (concat-cut_rows s.height (row_length s) image.samples sound.count) raster

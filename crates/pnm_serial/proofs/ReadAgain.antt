@@ -1,22 +1,12 @@
 -- What is written of images is read again: it spells these images.
-use Rattle.std.proofs.Common.{◌≡◌, ℕ, ◌*◌, ◌<◌, inl, inr, Some, None, List, [], ◌∷◌, ◌++◌, length, map, flat_map, refl, sym, append-nil, append_assoc, ap, ap₂}
-use Rattle.std.proofs.Common.{◌∙◌, arith, zero-mul, suc-mul}
-use Rattle.std.specs.List.{AllByRecursion}
-use Rattle.std.proofs.lemmas.List.{take_at, drop_at, length-append}
-use Rattle.pnm_image.specs.declared.shape.Shape.{Shape}
-use Rattle.pnm_image.specs.declared.format.Form.{Form}
-use Rattle.pnm_image.specs.declared.format.Form.TheVariants.{Raw, Plain}
-use Rattle.pnm_write.specs.declared.fault.SinkFault.TheVariants.{SecondPlain}
-use Rattle.pnm_write.specs.Forms.{plain_kind_fault, plain_images_fault, images_fault}
-use Rattle.pnm_image.specs.Heads.{HeadValue, IsHead}
-use Rattle.pnm_image.specs.Images.{Image, IsImage, AreImages, cut_rows, rows_of}
-use Rattle.pnm_image.proofs.RowLaws.{AreRowsOf, AreRowsOf-rows_of, length-rows_of}
-use Rattle.pnm_read.specs.Rasters.{raw_samples, bytes_in_row, SpellsRaw}
-use Rattle.pnm_read.specs.Spelling.{SpellsRawImage, SpellsRawImages, SpellsPlainAlone, Spells}
-use Rattle.pnm_write.specs.Encoding.{header_text, row_bytes, image_bytes, encoding_of}
+use Rattle.pnm_serial.proofs.Words.{◌≡◌, ℕ, ◌*◌, ◌<◌, inl, inr, Some, None, List, [], ◌∷◌, ◌++◌, length, map, flat_map, refl, sym, append_assoc, ap, ap₂, ◌∙◌}
+use Rattle.pnm_serial.proofs.Words.{arith, zero-mul, suc-mul, AllByRecursion, take_at, drop_at, length-append, Shape, Form, Raw, Plain, SecondPlain}
+use Rattle.pnm_serial.proofs.Words.{plain_kind_fault, plain_images_fault, images_fault, HeadValue, IsHead, Image, IsImage, AreImages, cut_rows, rows_of}
+use Rattle.pnm_serial.proofs.Words.{AreRowsOf, AreRowsOf-rows_of, length-rows_of, raw_samples, bytes_in_row, SpellsRaw, SpellsRawImage, SpellsRawImages}
+use Rattle.pnm_serial.proofs.Words.{SpellsPlainAlone, Spells, header_text, row_bytes, image_bytes, encoding_of, no_first_fault, no_last_fault}
+use Rattle.std.proofs.Common.{append-nil}
 use Rattle.pnm_serial.proofs.HeaderText.{format_in, raw_header_spells, plain_header_spells}
 use Rattle.pnm_serial.proofs.PlainText.{plain_raster_spells}
-use Rattle.pnm_write.proofs.FormLaws.{no_first_fault, no_last_fault}
 use Rattle.pnm_serial.proofs.RowText.{RowIsReadAgain, row_is_read_again}
 
 -- ---- the rows of an image
@@ -24,9 +14,9 @@ use Rattle.pnm_serial.proofs.RowText.{RowIsReadAgain, row_is_read_again}
 abbrev AreReadAgain : Shape → List (List ℕ) → Type 0
 AreReadAgain s rows = AllByRecursion (RowIsReadAgain s) rows
 
-rows_are_read_again : (head : HeadValue) (rows : List (List ℕ)) → IsHead head → AreRowsOf head.shape rows → AreReadAgain head.shape rows
-rows_are_read_again head [] sound are = tt
-rows_are_read_again head (row ∷ rows) sound are = (row_is_read_again head sound row are.0, rows_are_read_again head rows sound are.1)
+rows_are_read_again : {head : HeadValue} (rows : List (List ℕ)) → IsHead head → AreRowsOf head.shape rows → AreReadAgain head.shape rows
+rows_are_read_again [] sound are = tt
+rows_are_read_again (row ∷ rows) sound are = (row_is_read_again sound are.0, rows_are_read_again rows sound are.1)
 
 -- the bytes of rows are as many as a reader takes for so many
 length_of_rows : (s : Shape) (rows : List (List ℕ)) → AreReadAgain s rows → length (flat_map (row_bytes Raw s) rows) ≡ length rows * bytes_in_row s
@@ -53,11 +43,11 @@ rows_again s (row ∷ rows) are =
     ∙ ap₂ (λ (a : List ℕ) (l : List (List ℕ)). a ∷ l) are.0.samples (rows_again s rows are.1)
 
 -- the bytes of the rows of an image spell its raster
-raster_spells : (image : Image) → IsImage image → SpellsRaw (flat_map (row_bytes Raw image.head.shape) (rows_of image)) image
-raster_spells image sound =
+raster_spells : {image : Image} → IsImage image → SpellsRaw (flat_map (row_bytes Raw image.head.shape) (rows_of image)) image
+raster_spells {image} sound =
     let s : Shape = image.head.shape in
     let rows : List (List ℕ) = rows_of image in
-    let again : AreReadAgain s rows = rows_are_read_again image.head rows sound.head (AreRowsOf-rows_of image sound) in
+    let again : AreReadAgain s rows = rows_are_read_again rows sound.head (AreRowsOf-rows_of image sound) in
     let count : length rows ≡ s.height = length-rows_of image in
     record {
       sound = sound;
@@ -76,8 +66,8 @@ image_spells image sound rows = (
     header = header_text Raw image.head;
     raster = flat_map (row_bytes Raw image.head.shape) (rows_of image);
     whole = refl;
-    header_is = raw_header_spells image.head sound.head rows;
-    raster_is = raster_spells image sound;
+    header_is = raw_header_spells sound.head rows;
+    raster_is = raster_spells sound;
   },
 )
 
@@ -90,12 +80,12 @@ images_spell (image ∷ images) sound rows =
 -- ---- a plain image
 
 -- the text of an image, but for its last LF, spells it
-plain_image_spells : (image : Image) → IsImage image → 0 < image.head.shape.height → plain_kind_fault image.head.shape.kind ≡ None
+plain_image_spells : {image : Image} → IsImage image → 0 < image.head.shape.height → plain_kind_fault image.head.shape.kind ≡ None
     → SpellsPlainAlone (encoding_of Plain (image ∷ [])) (image ∷ [])
-plain_image_spells image sound rows held =
+plain_image_spells {image} sound rows held =
     let s : Shape = image.head.shape in
     let head : List ℕ = header_text Plain image.head in
-    let text = plain_raster_spells image sound rows in
+    let text = plain_raster_spells sound rows in
     record {
       image = image;
       first = head ++ text.body;
@@ -109,7 +99,7 @@ plain_image_spells image sound rows held =
           header = head;
           raster = text.body;
           whole = refl;
-          header_is = plain_header_spells image.head held sound.head rows;
+          header_is = plain_header_spells held sound.head rows;
           raster_is = record { sound = sound; samples = text.spelled };
         },
       );
@@ -125,8 +115,7 @@ no_second e = cc
 plain_alone_spells : (images : List Image) → 0 < length images → AreImages images → AllByRecursion (λ i. 0 < i.head.shape.height) images
     → plain_images_fault images ≡ None → SpellsPlainAlone (encoding_of Plain images) images
 plain_alone_spells [] some sound rows held = absurd (omega arith)
-plain_alone_spells (image ∷ []) some sound rows held =
-    plain_image_spells image sound.0 rows.0 (no_first_fault (plain_kind_fault image.head.shape.kind) None held)
+plain_alone_spells (image ∷ []) some sound rows held = plain_image_spells sound.0 rows.0 (no_first_fault (plain_kind_fault image.head.shape.kind) None held)
 plain_alone_spells (image ∷ next ∷ images) some sound rows held = no_second (no_last_fault (plain_kind_fault image.head.shape.kind) (Some SecondPlain) held)
 
 pub encoding_spells : (form : Form) (images : List Image) → 0 < length images → AreImages images → AllByRecursion (λ i. 0 < i.head.shape.height) images

@@ -1,24 +1,13 @@
 -- What was written where the second of two images is refused.
-use Rattle.std.proofs.Common.{◌≡◌, ℕ, List, [], ◌∷◌, ◌++◌, Option, None, Some, Result, Ok, Err, refl, sym, ap, subst, ◌∙◌, inl, inr, arith, zero, suc, false}
-use Rattle.std.proofs.Common.{◌<◌, ◌≤◌, get_or}
+use Rattle.pnm_serial.proofs.Words.{◌≡◌, ℕ, List, [], ◌∷◌, ◌++◌, Option, None, Some, Result, Ok, Err, refl, sym, ap, subst, ◌∙◌, inl, inr, arith, zero, suc}
+use Rattle.pnm_serial.proofs.Words.{false, ◌<◌, ◌≤◌, get_or, Raw, Message, Begin, Row, ImageEnd, StreamEnd, Gray, HeadValue, Image, IsImage, messages_of_image}
+use Rattle.pnm_serial.proofs.Words.{messages_of_stream, Completes, IsPrefixOf, ToolFault, CutOutside, Memory, Tool, Cut, AreTaken, AnswersInFull, RefusesHead}
+use Rattle.pnm_serial.proofs.Words.{HasRefused, HaveAnswered, IsFirstFault, IsRefusedNext, bytes_of, image_of_samples, from_second, wide_then_narrow}
+use Rattle.pnm_serial.proofs.Words.{ResultBeforeRefusalIsWritten}
 use Rattle.std.specs.Prelude.{codes}
 use Rattle.std.specs.Fmt.{digits}
-use Rattle.pnm_image.specs.declared.format.Form.TheVariants.{Raw}
-use Rattle.pnm_image.specs.declared.message.Message.{Message}
-use Rattle.pnm_image.specs.declared.message.Message.TheVariants.{Begin, Row, ImageEnd, StreamEnd}
-use Rattle.pnm_image.specs.declared.shape.Kind.TheVariants.{Gray}
-use Rattle.pnm_image.specs.Heads.{HeadValue}
-use Rattle.pnm_image.specs.Images.{Image, IsImage, messages_of_image, messages_of_stream}
-use Rattle.pnm_image.specs.Completion.{Completes, IsPrefixOf}
-use Rattle.pnm_tools.specs.declared.fault.ToolFault.{ToolFault}
-use Rattle.pnm_tools.specs.declared.fault.ToolFault.TheVariants.{CutOutside, Memory}
-use Rattle.pnm_tools.specs.declared.tool.Tool.{Tool}
-use Rattle.pnm_tools.specs.declared.tool.Tool.TheVariants.{Cut}
-use Rattle.pnm_tools.specs.Tools.{result_head, result_sample, AreTaken}
-use Rattle.pnm_tools.specs.Answers.{AnswersInFull, RefusesHead, due_so_far}
-use Rattle.pnm_tools.specs.ChainAnswers.{HasRefused, HaveAnswered, IsFirstFault, IsRefusedNext}
-use Rattle.pnm_write.specs.Encoding.{bytes_of}
-use Rattle.pnm_serial.specs.RunExamples.{image_of_samples, from_second, wide_then_narrow, ResultBeforeRefusalIsWritten}
+use Rattle.pnm_tools.specs.Tools.{result_head, result_sample}
+use Rattle.pnm_tools.specs.Answers.{due_so_far}
 use Rattle.pnm_serial.proofs.MessageSteps.{bytes_of-append}
 
 abbrev wide : Image
@@ -42,11 +31,11 @@ second_is : result_head tool narrow.head ≡ Err CutOutside
 unfolding result_head
 second_is = refl
 
-no_fault : (head : HeadValue) (fault : ToolFault) → Ok head ≡ Err fault → ⊥
-no_fault head fault e = absurd cc
+no_fault : {head : HeadValue} {fault : ToolFault} → Ok head ≡ Err fault → ⊥
+no_fault e = absurd cc
 
-taken_or_refused : (answer : Result HeadValue ToolFault) (head : HeadValue) (fault : ToolFault) → answer ≡ Ok head → answer ≡ Err fault → ⊥
-taken_or_refused answer head fault taken refused = absurd (no_fault head fault (sym taken ∙ refused))
+taken_or_refused : (answer : Result HeadValue ToolFault) (head : HeadValue) {fault : ToolFault} → answer ≡ Ok head → answer ≡ Err fault → ⊥
+taken_or_refused answer head taken refused = absurd (no_fault (sym taken ∙ refused))
 
 -- what is due for the first
 due_first : due_so_far tool 1 false (wide ∷ []) ≡ messages_of_image result
@@ -88,7 +77,7 @@ accepted_is : (accepted rest : List Message) → messages_of_stream wide_then_na
 accepted_is accepted [] e taken refused = absurd refused
 accepted_is [] (m ∷ rest) e taken refused =
     let is : m ≡ Begin wide.head = cc in
-    absurd (taken_or_refused (result_head tool wide.head) result.head CutOutside first_is (subst Refuses is refused.1))
+    absurd (taken_or_refused (result_head tool wide.head) result.head first_is (subst Refuses is refused.1))
 accepted_is (a ∷ []) (m ∷ rest) e taken refused =
     let is : m ≡ Row (1 ∷ 2 ∷ []) = cc in
     absurd (subst Refuses is refused.1)
@@ -99,25 +88,25 @@ accepted_is (a ∷ b ∷ c ∷ []) (m ∷ rest) e taken refused = cc
 accepted_is (a ∷ b ∷ c ∷ d ∷ more) (m ∷ rest) e taken refused =
     let is : a ∷ b ∷ c ∷ d ∷ more ≡ Begin wide.head ∷ Row (1 ∷ 2 ∷ []) ∷ ImageEnd ∷ Begin narrow.head ∷ more = cc in
     let all = subst (AreTaken tool) is taken in
-    absurd (taken_or_refused (result_head tool narrow.head) all.1.0.0 CutOutside all.1.0.1 second_is)
+    absurd (taken_or_refused (result_head tool narrow.head) all.1.0.0 all.1.0.1 second_is)
 
 -- ---- what was given
 
 -- the result of the first was given
-given_first : (given : List Message) → AnswersInFull tool (messages_of_image wide) given → IsPrefixOf (messages_of_image result) given
-given_first given full =
+given_first : {given : List Message} → AnswersInFull tool (messages_of_image wide) given → IsPrefixOf (messages_of_image result) given
+given_first {given} full =
     let completes : Completes (wide ∷ []) (messages_of_image wide) = record { images = (wide_is_image, tt); prefix = (StreamEnd ∷ [], refl) } in
     subst (λ (l : List Message). IsPrefixOf l given) due_first (full.all (wide ∷ []) completes)
 
 no_memory : CutOutside ≡ Memory → ⊥
 no_memory e = absurd cc
 
-refused_given : (given : List Message) → HasRefused tool CutOutside (messages_of_stream wide_then_narrow) given → IsPrefixOf (messages_of_image result) given
-refused_given given has =
+refused_given : {given : List Message} → HasRefused tool CutOutside (messages_of_stream wide_then_narrow) given → IsPrefixOf (messages_of_image result) given
+refused_given {given} has =
     elim has.refused [
       | inl memory ↦ absurd (no_memory memory.0)
       | inr full ↦
-          given_first given (subst (λ (l : List Message). AnswersInFull tool l given) (accepted_is has.accepted has.rest has.parts has.taken full.1) full.0)
+          given_first (subst (λ (l : List Message). AnswersInFull tool l given) (accepted_is has.accepted has.rest has.parts has.taken full.1) full.0)
     ]
 
 chain_given : (faults : List (Option ToolFault)) (given : List Message) → IsFirstFault 1 faults 1 CutOutside
@@ -128,7 +117,7 @@ chain_given (None ∷ fault ∷ faults) given first answered = absurd answered.2
 chain_given (Some other ∷ fault ∷ faults) given first answered = absurd answered.2
 chain_given (Some other ∷ []) given first answered =
     let has = subst (λ (f : ToolFault). HasRefused tool f (messages_of_stream wide_then_narrow) answered.0) (sym first.1) answered.1 in
-    subst (λ (l : List Message). IsPrefixOf (messages_of_image result) l) (sym answered.2) (refused_given answered.0 has)
+    subst (λ (l : List Message). IsPrefixOf (messages_of_image result) l) (sym answered.2) (refused_given has)
 
 with_more : (more : List ℕ) → bytes_of Raw (messages_of_image result) ++ more ≡ codes "P5\n1 1\n9\n" ++ 2 ∷ more
 unfolding digits

@@ -1,20 +1,9 @@
 -- The results of images that no tool refuses, and what a form says of them.
-use Rattle.std.proofs.Common.{◌≡◌, ℕ, ◌+◌, List, [], ◌∷◌, ◌++◌, Some, None, Result, Ok, Err, refl, ap, subst, ◌∙◌}
-use Rattle.pnm_image.specs.declared.format.Form.{Form}
-use Rattle.pnm_image.specs.declared.format.Form.TheVariants.{Raw, Plain}
-use Rattle.pnm_image.specs.declared.shape.Kind.{Kind}
-use Rattle.pnm_image.specs.declared.shape.Kind.TheVariants.{Bit, Gray, Color, Pam}
-use Rattle.pnm_image.specs.declared.message.Message.{Message}
-use Rattle.pnm_image.specs.Images.{Image, messages_of_image, messages_of_stream}
-use Rattle.pnm_tools.specs.declared.fault.ToolFault.{ToolFault}
-use Rattle.pnm_tools.specs.declared.tool.Tool.{Tool}
-use Rattle.pnm_tools.specs.Answers.{AreResults}
-use Rattle.pnm_tools.specs.Chains.{AreResultsInTurn, due_in_turn, results_of, refusal_from}
-use Rattle.pnm_tools.specs.Tools.{applied}
-use Rattle.pnm_tools.proofs.RefusalLaws.{refusal_by, results_in_turn, same_in_turn}
-use Rattle.pnm_write.specs.declared.fault.SinkFault.{SinkFault}
-use Rattle.pnm_write.specs.declared.fault.SinkFault.TheVariants.{SecondPlain, PlainPam}
-use Rattle.pnm_write.specs.Forms.{plain_kind_fault, images_fault, IsFormFault}
+use Rattle.pnm_serial.proofs.Words.{◌≡◌, ℕ, ◌+◌, List, [], ◌∷◌, ◌++◌, Some, None, Result, Ok, Err, refl, ap, subst, ◌∙◌, Form, Raw, Plain, Kind, Bit, Gray}
+use Rattle.pnm_serial.proofs.Words.{Color, Pam, Message, Image, messages_of_image, messages_of_stream, ToolFault, Tool, AreResults, AreResultsInTurn}
+use Rattle.pnm_serial.proofs.Words.{results_of, refusal_from, applied, refusal_by, results_in_turn, same_in_turn, SinkFault, SecondPlain, PlainPam}
+use Rattle.pnm_serial.proofs.Words.{plain_kind_fault, images_fault, IsFormFault}
+use Rattle.pnm_tools.specs.Chains.{due_in_turn}
 
 -- ---- one tool
 
@@ -77,18 +66,18 @@ due_of_results tools (i ∷ is) (j ∷ js) are = ap (due_with (due_in_turn tools
 -- ---- the form
 
 -- its reason is one that a form has
-plain_reason : (kind : Kind) (more : List Image) (fault : SinkFault)
+plain_reason : (kind : Kind) (more : List Image) {fault : SinkFault}
     → (elim (plain_kind_fault kind) [ Some found ↦ Some found | None ↦ elim more [ [] ↦ None | next ∷ others ↦ Some SecondPlain ] ]) ≡ Some fault
     → IsFormFault Plain fault
-plain_reason Bit [] fault is = absurd cc
-plain_reason Bit (next ∷ more) fault is = let same : SecondPlain ≡ fault = cc in subst (IsFormFault Plain) same tt
-plain_reason Gray [] fault is = absurd cc
-plain_reason Gray (next ∷ more) fault is = let same : SecondPlain ≡ fault = cc in subst (IsFormFault Plain) same tt
-plain_reason Color [] fault is = absurd cc
-plain_reason Color (next ∷ more) fault is = let same : SecondPlain ≡ fault = cc in subst (IsFormFault Plain) same tt
-plain_reason Pam more fault is = let same : PlainPam ≡ fault = cc in subst (IsFormFault Plain) same tt
+plain_reason Bit [] is = absurd cc
+plain_reason Bit (next ∷ more) {fault} is = let same : SecondPlain ≡ fault = cc in subst (IsFormFault Plain) same tt
+plain_reason Gray [] is = absurd cc
+plain_reason Gray (next ∷ more) {fault} is = let same : SecondPlain ≡ fault = cc in subst (IsFormFault Plain) same tt
+plain_reason Color [] is = absurd cc
+plain_reason Color (next ∷ more) {fault} is = let same : SecondPlain ≡ fault = cc in subst (IsFormFault Plain) same tt
+plain_reason Pam more {fault} is = let same : PlainPam ≡ fault = cc in subst (IsFormFault Plain) same tt
 
-pub reason_is_of_form : (form : Form) (is : List Image) (fault : SinkFault) → images_fault form is ≡ Some fault → IsFormFault form fault
-reason_is_of_form Raw is fault reason = absurd cc
-reason_is_of_form Plain [] fault reason = absurd cc
-reason_is_of_form Plain (i ∷ is) fault reason = plain_reason i.head.shape.kind is fault reason
+pub reason_is_of_form : (form : Form) (is : List Image) {fault : SinkFault} → images_fault form is ≡ Some fault → IsFormFault form fault
+reason_is_of_form Raw is reason = absurd cc
+reason_is_of_form Plain [] reason = absurd cc
+reason_is_of_form Plain (i ∷ is) reason = plain_reason i.head.shape.kind is reason

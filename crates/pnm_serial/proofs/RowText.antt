@@ -1,19 +1,10 @@
 -- The bytes that are written of a raw row are those that a reader takes for one, and give the row again.
-use Rattle.std.proofs.Common.{◌≡◌, ℕ, ◌+◌, ◌*◌, ◌/◌, ◌≤◌, Bool, true, false, nat_lt, if◌then◌else◌, List, [], ◌∷◌, length, take, flat_map, All, refl, sym, ap}
-use Rattle.std.proofs.Common.{ap₂, subst, ◌∙◌, arith}
-use Rattle.std.proofs.Math.Nat.{div-add-mod}
-use Rattle.pnm_image.specs.declared.shape.Shape.{Shape}
-use Rattle.pnm_image.specs.declared.shape.Kind.{Kind}
-use Rattle.pnm_image.specs.declared.shape.Kind.TheVariants.{Bit, Gray, Color, Pam}
-use Rattle.pnm_image.specs.declared.format.Form.TheVariants.{Raw}
-use Rattle.pnm_image.specs.Heads.{HeadValue, IsHead, Suits, row_length}
-use Rattle.pnm_image.specs.Places.{IsRowOf}
-use Rattle.pnm_image.specs.declared.sample_width.SampleWidth.TheVariants.{Bits, Bytes, Words}
-use Rattle.pnm_read.specs.Rasters.{pixels, wide_samples, raw_samples, bytes_in_row}
+use Rattle.pnm_serial.proofs.Words.{◌≡◌, ℕ, ◌+◌, ◌*◌, ◌/◌, ◌≤◌, Bool, true, false, nat_lt, if◌then◌else◌, List, [], ◌∷◌, length, take, flat_map, All, refl, sym}
+use Rattle.pnm_serial.proofs.Words.{ap, ap₂, subst, ◌∙◌, arith, div-add-mod, Shape, Kind, Bit, Gray, Color, Pam, Raw, HeadValue, IsHead, Suits, row_length}
+use Rattle.pnm_serial.proofs.Words.{IsRowOf, Bits, Bytes, Words, pixels, raw_samples, bytes_in_row, packed_bytes, wide_bytes, bytes_in, row_bytes}
+use Rattle.pnm_serial.proofs.Words.{length-packed_bytes, ArePixels, pixels_of_groups}
+use Rattle.pnm_read.specs.Rasters.{wide_samples}
 use Rattle.pnm_image.specs.declared.sample_width.SampleWidth.TheVariants as written
-use Rattle.pnm_write.specs.Encoding.{packed_bytes, wide_bytes, bytes_in, row_bytes}
-use Rattle.pnm_samples.proofs.PackLaws.{length-packed_bytes}
-use Rattle.pnm_samples.proofs.PackedAgain.{ArePixels, pixels_of_groups}
 
 -- so many bytes, of which a reader makes these samples
 abbrev GivesAgain : ℕ → List ℕ → List ℕ → List ℕ → Type 0
@@ -51,18 +42,17 @@ numbers_again false s row count = (length-wide_bytes row ∙ ap (λ (n : ℕ). 2
 -- ---- by the kind
 
 -- what is known of a row of PBM
-pixels_range : (maxval : ℕ) (row : List ℕ) → maxval ≡ 1 → All (λ sample. sample ≤ maxval) row → ArePixels row
-pixels_range maxval row e range = subst (λ (n : ℕ). All (λ sample. sample ≤ n) row) e range
+pixels_range : {maxval : ℕ} (row : List ℕ) → maxval ≡ 1 → All (λ sample. sample ≤ maxval) row → ArePixels row
+pixels_range row e range = subst (λ (n : ℕ). All (λ sample. sample ≤ n) row) e range
 
-pixels_count : (width depth n : ℕ) → depth ≡ 1 → n ≡ width * depth → n ≡ width
-pixels_count width depth n e count = count ∙ ap (λ (d : ℕ). width * d) e ∙ omega arith
+pixels_count : (width : ℕ) {depth n : ℕ} → depth ≡ 1 → n ≡ width * depth → n ≡ width
+pixels_count width e count = count ∙ ap (λ (d : ℕ). width * d) e ∙ omega arith
 
 row_by : (kind : Kind) (width height depth maxval : ℕ) (tuple_type : List ℕ)
     → (let s : Shape = record { kind = kind; width = width; height = height; depth = depth; maxval = maxval } in
     Suits kind depth maxval tuple_type → (row : List ℕ) → IsRowOf s row
     → GivesAgain (bytes_in_row s) (row_bytes Raw s row) (raw_samples s (row_bytes Raw s row)) row)
-row_by Bit width height depth maxval tuple_type suits row is = packed_again width row (pixels_count width depth (length row) suits.0 is.count)
-    (pixels_range maxval row suits.1 is.range)
+row_by Bit width height depth maxval tuple_type suits row is = packed_again width row (pixels_count width suits.0 is.count) (pixels_range row suits.1 is.range)
 row_by Gray width height depth maxval tuple_type suits row is =
     numbers_again (nat_lt maxval 256) (record { kind = Gray; width = width; height = height; depth = depth; maxval = maxval }) row is.count
 row_by Color width height depth maxval tuple_type suits row is =
@@ -75,7 +65,7 @@ pub record RowIsReadAgain (s : Shape) (row : List ℕ) : Type 0 where
   pub count : length (row_bytes Raw s row) ≡ bytes_in_row s
   pub samples : raw_samples s (row_bytes Raw s row) ≡ row
 
-pub row_is_read_again : (head : HeadValue) → IsHead head → (row : List ℕ) → IsRowOf head.shape row → RowIsReadAgain head.shape row
-row_is_read_again head sound row is =
+pub row_is_read_again : {head : HeadValue} → IsHead head → {row : List ℕ} → IsRowOf head.shape row → RowIsReadAgain head.shape row
+row_is_read_again {head} sound {row} is =
     let again = row_by head.shape.kind head.shape.width head.shape.height head.shape.depth head.shape.maxval head.tuple_type sound.suits row is in
     record { count = again.0; samples = again.1 }

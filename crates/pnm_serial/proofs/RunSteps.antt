@@ -1,54 +1,16 @@
 -- What a run has read and written when all messages have passed.
-use Rattle.std.proofs.Common.{◌≡◌, ◌≢◌, ◌⊎◌, ℕ, Bool, List, [], ◌∷◌, ◌++◌, take, length, sum_by, zero-add, Option, None, Some, Result, Ok, Err}
-use Rattle.std.proofs.Common.{refl, sym, ap, subst, ◌∙◌, inl, inr, append_assoc}
-use Rattle.std.specs.Result.{is_err}
-use Rattle.std.specs.List.{AllByRecursion}
-use Rattle.std.specs.Io.KnownBytes.{Appends, Keeps}
-use Rattle.std.proofs.lemmas.List.{append-nil, take_at}
-use Rattle.std.proofs.KnownBytes.{Appends-kept}
-use Rattle.pnm_image.specs.Devices.{Failed, AppendsPrefix}
-use Rattle.pnm_image.specs.declared.format.Form.{Form}
-use Rattle.pnm_image.specs.declared.format.Form.TheVariants.{Raw, Plain}
-use Rattle.pnm_image.specs.declared.message.Message.{Message}
-use Rattle.pnm_image.specs.declared.message.Message.TheVariants.{Begin, Row, ImageEnd, StreamEnd, Stop}
-use Rattle.pnm_image.specs.Images.{Image, messages_of_stream}
-use Rattle.pnm_image.specs.Completion.{IsPrefixOf, Completes}
-use Rattle.pnm_read.specs.declared.fault.InputFault.{InputFault}
-use Rattle.pnm_read.specs.declared.source.Source.{Source}
-use Rattle.pnm_read.specs.Said.{said_of, fault_of, AreSaid}
-use Rattle.pnm_read.specs.Said.{IsOutsideFault}
-use Rattle.pnm_read.proofs.TextLaws.{said_text_is_spelled, are_said}
-use Rattle.pnm_read.proofs.StreamLaws.{no_text_fault}
-use Rattle.pnm_tools.specs.declared.fault.ToolFault.{ToolFault}
-use Rattle.pnm_tools.specs.declared.fault.ToolFault.TheVariants.{Memory}
-use Rattle.pnm_tools.specs.declared.tool.Tool.{Tool}
-use Rattle.pnm_tools.specs.Chains.{AreLawfulTools, due_in_turn}
-use Rattle.pnm_tools.specs.ChainAnswers.{IsSound, AreSound, HaveAnswered, AreWell, IsFirstFault}
-use Rattle.pnm_tools.proofs.ChainLaws.{given_are_sound, stream_is_answered, refusal_is_first, none_before_first_fault, given_is_prefix}
-use Rattle.pnm_tools.proofs.SoundLaws.{sound_keeps_all}
-use Rattle.pnm_write.specs.declared.fault.SinkFault.{SinkFault}
-use Rattle.pnm_write.specs.declared.fault.SinkFault.TheVariants.{WriteFailed, OutOfOrder, Broken, SecondPlain, PlainPam}
-use Rattle.pnm_write.specs.Encoding.{bytes_of, written_of}
-use Rattle.pnm_write.specs.Forms.{form_fault_of, IsFormFault}
-use Rattle.pnm_write.specs.Sinks.{HasRows, has_failed}
-use Rattle.pnm_write.proofs.FormLaws.{stream_fault}
-use Rattle.pnm_write.proofs.MessageLaws.{written_all}
-use Rattle.pnm_image.proofs.Written.{prefix-more}
-use Rattle.pnm_serial.specs.declared.fused_sink.FusedSink.{FusedSink}
-use Rattle.pnm_tools.specs.declared.fused_filter.FusedFilter.{FusedFilter}
-use Rattle.pnm_tools.specs.declared.fused_filter.FusedFilter.TheVariants.{AtWork, Refused}
-use Rattle.pnm_serial.specs.declared.fault.RunFault.{RunFault}
-use Rattle.pnm_serial.specs.declared.summary.Summary.{Summary}
-use Rattle.pnm_serial.specs.Counts.{saturate_u64, images_in, rows_in}
-use Rattle.pnm_serial.specs.FusedSinks.{output_of, AreInOrder, AreWritten, CutsOff, AreCutOff, HasTakenWith, AnswersFlushes}
-use Rattle.pnm_serial.specs.Feeding.{IsSaidOf}
-use Rattle.pnm_serial.specs.Internal.Feeding.{HasFed}
-use Rattle.pnm_serial.specs.Jobs.{Job}
-use Rattle.pnm_serial.specs.RunFacts.{IsStoppedBy}
-use Rattle.pnm_serial.specs.SerialRuns.{FitAnswer, IsAllWritten}
-use Rattle.pnm_serial.specs.Verdicts.{RefusalIs, HasResults, IsAnswer}
-use Rattle.pnm_serial.specs.SerialChains.{FiltersAt}
-use Rattle.pnm_serial.specs.Internal.SerialChains.{refusals_in}
+use Rattle.pnm_serial.proofs.Words.{◌≡◌, ◌≢◌, ◌⊎◌, ℕ, Bool, List, [], ◌∷◌, ◌++◌, take, length, sum_by, zero-add, Option, None, Some, Result, Ok, Err, refl, sym}
+use Rattle.pnm_serial.proofs.Words.{ap, subst, ◌∙◌, inl, inr, append_assoc, is_err, AllByRecursion, Appends, Keeps, append-nil, take_at, Appends-kept, Failed}
+use Rattle.pnm_serial.proofs.Words.{AppendsPrefix, Form, Raw, Plain, Message, Begin, Row, ImageEnd, StreamEnd, Stop, Image, messages_of_stream, IsPrefixOf}
+use Rattle.pnm_serial.proofs.Words.{Completes, InputFault, Source, said_of, fault_of, AreSaid, IsOutsideFault, said_text_is_spelled, are_said, no_text_fault}
+use Rattle.pnm_serial.proofs.Words.{ToolFault, Memory, Tool, AreLawfulTools, due_in_turn, IsSound, AreSound, HaveAnswered, AreWell, IsFirstFault}
+use Rattle.pnm_serial.proofs.Words.{given_are_sound, stream_is_answered, refusal_is_first, none_before_first_fault, sound_keeps_all, SinkFault, WriteFailed}
+use Rattle.pnm_serial.proofs.Words.{Broken, SecondPlain, PlainPam, bytes_of, written_of, form_fault_of, IsFormFault, HasRows, has_failed, stream_fault}
+use Rattle.pnm_serial.proofs.Words.{written_all, prefix-more, FusedSink, FusedFilter, AtWork, Refused, RunFault, Summary, saturate_u64, images_in, rows_in}
+use Rattle.pnm_serial.proofs.Words.{output_of, AreInOrder, AreWritten, CutsOff, AreCutOff, HasTakenWith, AnswersFlushes, IsSaidOf, HasFed, Job, IsStoppedBy}
+use Rattle.pnm_serial.proofs.Words.{FitAnswer, IsAllWritten, RefusalIs, HasResults, IsAnswer, FiltersAt, refusals_in}
+use Rattle.pnm_tools.proofs.ChainLaws.{given_is_prefix}
+use Rattle.pnm_write.specs.declared.fault.SinkFault.TheVariants.{OutOfOrder}
 use Rattle.pnm_serial.proofs.CountLaws.{images_in-stream, rows_in-stream}
 use Rattle.pnm_serial.proofs.FeedingSteps.{said_are_sound}
 use Rattle.pnm_serial.proofs.LastRefusals.{last_refusal_is_due}
@@ -57,9 +19,9 @@ use Rattle.pnm_serial.proofs.ResultSteps.{due_of_results}
 -- ---- what is said
 
 -- the images of a text without a fault, of which the messages were given
-images_said : (text : List ℕ) (given : List Message) → (said_of text ≡ given) × (fault_of text ≡ None) → (images : List Image) × AreSaid text images
-    × (given ≡ messages_of_stream images)
-images_said text given said =
+images_said : (text : List ℕ) {given : List Message} → (said_of text ≡ given) × (fault_of text ≡ None)
+    → (images : List Image) × AreSaid text images × (given ≡ messages_of_stream images)
+images_said text said =
     let found = said_text_is_spelled text said.1 in
     (found.0, are_said text found.0 found.1, sym said.0 ∙ found.2)
 
@@ -81,9 +43,9 @@ said_prefix text given (Err fault) is =
     ]
 
 -- at the text's own fault it is all of it
-pub said_before_fault : (text : List ℕ) (given : List Message) (fault : InputFault) → IsSaidOf text given (Err fault) → fault_of text ≡ Some fault
+pub said_before_fault : (text : List ℕ) (given : List Message) {fault : InputFault} → IsSaidOf text given (Err fault) → fault_of text ≡ Some fault
     → said_of text ≡ given
-said_before_fault text given fault is e =
+said_before_fault text given {fault} is e =
     elim is [
       | inl own ↦ own.0
       | inr outside ↦ absurd (no_text_fault text fault e outside.0)
@@ -129,20 +91,16 @@ pub nothing_prefix : (a : Option (List ℕ)) (bytes : List ℕ) → AppendsPrefi
 nothing_prefix None bytes = (0, tt)
 nothing_prefix (Some xs) bytes = (0, sym (append-nil xs))
 
--- the messages that were written are all that the form takes of them
-takes_written : {W : Type 0} (held : W → Option (List ℕ)) (failures : W → ℕ) (form : Form) (start : W) (out : List Message) (d : FusedSink W)
-    → AreWritten held failures form start out d → form_fault_of form out ≡ None
-takes_written held failures form start out d is = subst (λ (f : Form). form_fault_of f out ≡ None) is.in_form is.written.put.form
+module _ {W : Type 0} {held : W → Option (List ℕ)} {failures : W → ℕ} {form : Form} {start : W} {out : List Message} {d : FusedSink W} where
+  -- the messages that were written are all that the form takes of them
+  takes_written : AreWritten held failures form start out d → form_fault_of form out ≡ None
+  takes_written is = subst (λ (f : Form). form_fault_of f out ≡ None) is.in_form is.written.put.form
 
-bytes_written : {W : Type 0} (held : W → Option (List ℕ)) (failures : W → ℕ) (form : Form) (start : W) (out : List Message) (d : FusedSink W)
-    → AreWritten held failures form start out d → Appends (held start) (held (output_of d)) (bytes_of form out)
-bytes_written held failures form start out d is = subst (λ (f : Form). Appends (held start) (held (output_of d)) (bytes_of f out)) is.in_form is.written.bytes
+  bytes_written : AreWritten held failures form start out d → Appends (held start) (held (output_of d)) (bytes_of form out)
+  bytes_written is = subst (λ (f : Form). Appends (held start) (held (output_of d)) (bytes_of f out)) is.in_form is.written.bytes
 
-all_taken_written : {W : Type 0} (held : W → Option (List ℕ)) (failures : W → ℕ) (form : Form) (start : W) (out : List Message) (d : FusedSink W)
-    → AreWritten held failures form start out d → Appends (held start) (held (output_of d)) (written_of form out)
-all_taken_written held failures form start out d is =
-    subst (Appends (held start) (held (output_of d))) (sym (written_all form out (takes_written held failures form start out d is)))
-    (bytes_written held failures form start out d is)
+  all_taken_written : AreWritten held failures form start out d → Appends (held start) (held (output_of d)) (written_of form out)
+  all_taken_written is = subst (Appends (held start) (held (output_of d))) (sym (written_all form out (takes_written is))) (bytes_written is)
 
 -- a prefix of what the form takes was written, whatever cut it off
 cut_prefix : (fault : SinkFault) (form : Form) (out : List Message) (more : List ℕ) (old new : Option (List ℕ)) (failures_old failures_new : ℕ)
@@ -157,31 +115,28 @@ output_prefix : {W : Type 0} (held : W → Option (List ℕ)) (failures : W → 
     (o : Result (Unit {0}) SinkFault) → AreInOrder out → HasTakenWith held failures form start out d o
     → AppendsPrefix (held start) (held (output_of d)) (written_of form out ++ more)
 output_prefix held failures form start out more d (Ok x) writable is = prefix_of_more (held start) (held (output_of d)) (written_of form out) more
-    (all_taken_written held failures form start out d is)
+    (all_taken_written is)
 output_prefix held failures form start out more d (Err fault) writable is = cut_prefix fault form out more (held start) (held (output_of d)) (failures start)
     (failures (output_of d)) (is.prefix writable)
 
 -- where the writer didn't fail, all of it was
-cut_all : (fault : SinkFault) (form : Form) (out : List Message) (old now done : Option (List ℕ)) (failures_old failures_now failures_done : ℕ)
+cut_all : (fault : SinkFault) (form : Form) (out : List Message) (old now done : Option (List ℕ)) (failures_old : ℕ) {failures_now failures_done : ℕ}
     → CutsOff fault form out old now failures_old failures_now → failures_done ≡ failures_now → Keeps now done → ¬ Failed failures_old failures_done
     → Appends old done (written_of form out)
-cut_all WriteFailed form out old now done failures_old failures_now failures_done cut same kept sound =
-    absurd (sound (subst (Failed failures_old) (sym same) cut.1))
-cut_all OutOfOrder form out old now done failures_old failures_now failures_done cut same kept sound = absurd cut
-cut_all Broken form out old now done failures_old failures_now failures_done cut same kept sound = absurd cut
-cut_all SecondPlain form out old now done failures_old failures_now failures_done cut same kept sound =
-    Appends-kept old now done (written_of form out) cut.1 kept
-cut_all PlainPam form out old now done failures_old failures_now failures_done cut same kept sound = Appends-kept old now done (written_of form out) cut.1 kept
+cut_all WriteFailed form out old now done failures_old cut same kept sound = absurd (sound (subst (Failed failures_old) (sym same) cut.1))
+cut_all OutOfOrder form out old now done failures_old cut same kept sound = absurd cut
+cut_all Broken form out old now done failures_old cut same kept sound = absurd cut
+cut_all SecondPlain form out old now done failures_old cut same kept sound = Appends-kept old now done (written_of form out) cut.1 kept
+cut_all PlainPam form out old now done failures_old cut same kept sound = Appends-kept old now done (written_of form out) cut.1 kept
 
 pub output_all : {W : Type 0} (held : W → Option (List ℕ)) (failures : W → ℕ) (form : Form) (start done : W) (out : List Message) (d : FusedSink W)
     (o : Result (Unit {0}) SinkFault) → AreInOrder out → HasTakenWith held failures form start out d o
     → ((fault : SinkFault) → o ≡ Err fault → done ≡ output_of d) → Keeps (held (output_of d)) (held done) → ¬ Failed (failures start) (failures done)
     → Appends (held start) (held done) (written_of form out)
 output_all held failures form start done out d (Ok x) writable is broken kept sound =
-    Appends-kept (held start) (held (output_of d)) (held done) (written_of form out) (all_taken_written held failures form start out d is) kept
+    Appends-kept (held start) (held (output_of d)) (held done) (written_of form out) (all_taken_written is) kept
 output_all held failures form start done out d (Err fault) writable is broken kept sound =
-    cut_all fault form out (held start) (held (output_of d)) (held done) (failures start) (failures (output_of d)) (failures done) (is.prefix writable)
-    (ap failures (broken fault refl)) kept sound
+    cut_all fault form out (held start) (held (output_of d)) (held done) (failures start) (is.prefix writable) (ap failures (broken fault refl)) kept sound
 
 -- the sink has failed where its output is at fault
 pub failed_so : {W : Type 0} (held : W → Option (List ℕ)) (failures : W → ℕ) (form : Form) (start : W) (out : List Message) (d : FusedSink W)
@@ -226,31 +181,6 @@ run_begun held failures start done job given out d ran kept =
     (output_prefix held failures job.form start out [] d d.output ran.writable ran.taken))
     kept
 
--- all that came out was written where the output ended well
-pub run_ended : {W : Type 0} (held : W → Option (List ℕ)) (failures : W → ℕ) (start done : W) (job : Job) (out : List Message) (d : FusedSink W)
-    → AreWritten held failures job.form start out d → Keeps (held (output_of d)) (held done) → Appends (held start) (held done) (written_of job.form out)
-run_ended held failures start done job out d written kept =
-    Appends-kept (held start) (held (output_of d)) (held done) (written_of job.form out) (all_taken_written held failures job.form start out d written) kept
-
--- where no stage has refused, what came out is all that is due
-pub run_whole : (tools : List Tool) (faults : List (Option ToolFault)) (given out : List Message) (text : List ℕ)
-    → AreLawfulTools tools → HaveAnswered tools faults given out → (said_of text ≡ given) × (fault_of text ≡ None) → AreWell faults
-    → (images : List Image) → AreSaid text images → out ≡ due_in_turn tools images
-run_whole tools faults given out text lawful have said well images are =
-    let answered = stream_is_answered tools faults images out lawful are.images_are well
-    (subst (λ (l : List Message). HaveAnswered tools faults l out) (sym said.0 ∙ are.messages) have) in
-    answered.3 ∙ sym (due_of_results tools images answered.0 answered.1)
-
--- and so it is where the last one has refused an image
-pub run_last : (tools : List Tool) (faults : List (Option ToolFault)) (given out : List Message) (text : List ℕ) (number : ℕ) (fault : ToolFault)
-    → AreLawfulTools tools → AreSound given → HaveAnswered tools faults given out → (said_of text ≡ given) × (fault_of text ≡ None)
-    → IsFirstFault 1 faults number fault → number ≡ length tools → fault ≢ Memory
-    → (images : List Image) → AreSaid text images → out ≡ due_in_turn tools images
-run_last tools faults given out text number fault lawful sound have said first last named images are =
-    let stream : given ≡ messages_of_stream images = sym said.0 ∙ are.messages in
-    last_refusal_is_due tools faults images out number fault lawful are.images_are (subst AreSound stream sound)
-    (subst (λ (l : List Message). HaveAnswered tools faults l out) stream have) first last named
-
 -- where the whole text was read, all that the tools answered was written, unless the writer failed
 pub run_all : {W : Type 0} (held : W → Option (List ℕ)) (failures : W → ℕ) (start done : W) (job : Job) (faults : List (Option ToolFault))
     (given out : List Message) (d : FusedSink W) (text : List ℕ)
@@ -265,36 +195,52 @@ run_all held failures start done job faults given out d text ran have said broke
   written = output_all held failures job.form start done out d d.output ran.writable ran.taken broken kept sound;
 }
 
--- the first fault of the stages
-pub run_refused : (tools : List Tool) (faults : List (Option ToolFault)) (given out : List Message) (text : List ℕ) (number : ℕ) (fault : ToolFault)
-    → AreLawfulTools tools → AreSound given → HaveAnswered tools faults given out → (said_of text ≡ given) × (fault_of text ≡ None)
-    → IsFirstFault 1 faults number fault → IsStoppedBy text tools number fault
-run_refused tools faults given out text number fault lawful sound_given have said first =
-    let found = images_said text given said in
-    let images = found.1.images_are in
-    let sound = subst AreSound found.2 sound_given in
-    let answered = subst (λ (l : List Message). HaveAnswered tools faults l out) found.2 have in
-    elim (refusal_is_first tools faults found.0 out number fault lawful images sound answered first) [
-      | inl memory ↦ inl (memory, (found.0, found.1, none_before_first_fault tools faults found.0 out number fault lawful images sound answered first))
-      | inr refusal ↦ inr (found.0, found.1, refusal)
-    ]
+module _ (tools : List Tool) (faults : List (Option ToolFault)) {given : List Message} (out : List Message) where
+  -- where no stage has refused, what came out is all that is due
+  pub run_whole : {text : List ℕ} → AreLawfulTools tools → HaveAnswered tools faults given out → (said_of text ≡ given) × (fault_of text ≡ None)
+      → AreWell faults → {images : List Image} → AreSaid text images → out ≡ due_in_turn tools images
+  run_whole lawful have said well {images} are =
+      let answered = stream_is_answered tools faults images out lawful are.images_are well
+      (subst (λ (l : List Message). HaveAnswered tools faults l out) (sym said.0 ∙ are.messages) have) in
+      answered.3 ∙ sym (due_of_results tools images answered.0 answered.1)
 
--- no stage has refused
-pub run_taken : (tools : List Tool) (faults : List (Option ToolFault)) (given out : List Message) (text : List ℕ)
-    → AreLawfulTools tools → HaveAnswered tools faults given out → (said_of text ≡ given) × (fault_of text ≡ None) → AreWell faults
-    → RefusalIs text tools None
-run_taken tools faults given out text lawful have said well =
-    let found = images_said text given said in
-    let answered = stream_is_answered tools faults found.0 out lawful found.1.images_are well
-    (subst (λ (l : List Message). HaveAnswered tools faults l out) found.2 have) in
-    (found.0, found.1, answered.4)
+  -- and so it is where the last one has refused an image
+  pub run_last : {text : List ℕ} {number : ℕ} (fault : ToolFault) → AreLawfulTools tools → AreSound given → HaveAnswered tools faults given out
+      → (said_of text ≡ given) × (fault_of text ≡ None) → IsFirstFault 1 faults number fault → number ≡ length tools → fault ≢ Memory → {images : List Image}
+      → AreSaid text images → out ≡ due_in_turn tools images
+  run_last fault lawful sound have said first last named {images} are =
+      let stream : given ≡ messages_of_stream images = sym said.0 ∙ are.messages in
+      last_refusal_is_due tools faults images out fault lawful are.images_are (subst AreSound stream sound)
+      (subst (λ (l : List Message). HaveAnswered tools faults l out) stream have) first last named
+
+  -- the first fault of the stages
+  pub run_refused : (text : List ℕ) (number : ℕ) (fault : ToolFault) → AreLawfulTools tools → AreSound given → HaveAnswered tools faults given out
+      → (said_of text ≡ given) × (fault_of text ≡ None) → IsFirstFault 1 faults number fault → IsStoppedBy text tools number fault
+  run_refused text number fault lawful sound_given have said first =
+      let found = images_said text said in
+      let images = found.1.images_are in
+      let sound = subst AreSound found.2 sound_given in
+      let answered = subst (λ (l : List Message). HaveAnswered tools faults l out) found.2 have in
+      elim (refusal_is_first tools faults found.0 out number fault lawful images sound answered first) [
+        | inl memory ↦ inl (memory, (found.0, found.1, none_before_first_fault tools faults found.0 out number fault lawful images sound answered first))
+        | inr refusal ↦ inr (found.0, found.1, refusal)
+      ]
+
+  -- no stage has refused
+  pub run_taken : (text : List ℕ) → AreLawfulTools tools → HaveAnswered tools faults given out → (said_of text ≡ given) × (fault_of text ≡ None)
+      → AreWell faults → RefusalIs text tools None
+  run_taken text lawful have said well =
+      let found = images_said text said in
+      let answered = stream_is_answered tools faults found.0 out lawful found.1.images_are well
+      (subst (λ (l : List Message). HaveAnswered tools faults l out) found.2 have) in
+      (found.0, found.1, answered.4)
 
 -- and what the form says of the results of all images
-pub run_results : (job : Job) (faults : List (Option ToolFault)) (given out : List Message) (text : List ℕ)
-    → AreLawfulTools job.tools → HaveAnswered job.tools faults given out → (said_of text ≡ given) × (fault_of text ≡ None) → AreWell faults
+pub run_results : {job : Job} (faults : List (Option ToolFault)) {given : List Message} (out : List Message) {text : List ℕ} → AreLawfulTools job.tools
+    → HaveAnswered job.tools faults given out → (said_of text ≡ given) × (fault_of text ≡ None) → AreWell faults
     → HasResults text job (form_fault_of job.form out)
-run_results job faults given out text lawful have said well =
-    let found = images_said text given said in
+run_results {job} faults out {text} lawful have said well =
+    let found = images_said text said in
     let answered = stream_is_answered job.tools faults found.0 out lawful found.1.images_are well
     (subst (λ (l : List Message). HaveAnswered job.tools faults l out) found.2 have) in
     record {
@@ -312,10 +258,10 @@ IsOutputFault fault form out failures_old failures_new = ((fault ≡ WriteFailed
     ⊎ (IsFormFault form fault × (form_fault_of form out ≡ Some fault))
 
 -- what a form refuses is a fault that it has
-refused_by_form : (form : Form) (out : List Message) (fault : SinkFault) → form_fault_of form out ≡ Some fault → IsFormFault Plain fault
+refused_by_form : (form : Form) (out : List Message) {fault : SinkFault} → form_fault_of form out ≡ Some fault → IsFormFault Plain fault
     → IsFormFault form fault
-refused_by_form Raw out fault is of_plain = absurd cc
-refused_by_form Plain out fault is of_plain = of_plain
+refused_by_form Raw out is of_plain = absurd cc
+refused_by_form Plain out is of_plain = of_plain
 
 -- a failed write is none
 pub no_write_fault : (form : Form) → IsFormFault form WriteFailed → ⊥
@@ -327,25 +273,8 @@ cut_fault : (fault : SinkFault) (form : Form) (out : List Message) (old new : Op
 cut_fault WriteFailed form out old new failures_old failures_new cut = inl (refl, cut.1)
 cut_fault OutOfOrder form out old new failures_old failures_new cut = absurd cut
 cut_fault Broken form out old new failures_old failures_new cut = absurd cut
-cut_fault SecondPlain form out old new failures_old failures_new cut = inr (refused_by_form form out SecondPlain cut.0 tt, cut.0)
-cut_fault PlainPam form out old new failures_old failures_new cut = inr (refused_by_form form out PlainPam cut.0 tt, cut.0)
-
-pub run_output : {W : Type 0} (held : W → Option (List ℕ)) (failures : W → ℕ) (start done : W) (job : Job) (given out : List Message) (d : FusedSink W)
-    (o : Result (Unit {0}) SinkFault) (answer : Result Summary SinkFault) (fault : SinkFault)
-    → Ran held failures start job given out d → d.output ≡ o
-    → ((f : SinkFault) → d.output ≡ Err f → (answer ≡ Err f) × (done ≡ output_of d))
-    → (d.output ≡ Ok tt → AnswersFlushes failures d done answer)
-    → answer ≡ Err fault → IsOutputFault fault job.form out (failures start) (failures done)
-run_output held failures start done job given out d (Ok tt) answer fault ran o-is broken well answer-is =
-    let written : AreWritten held failures job.form start out d = subst (HasTakenWith held failures job.form start out d) o-is ran.taken in
-    inl (rw answer-is at (well o-is (failures start) written.count))
-run_output held failures start done job given out d (Err other) answer fault ran o-is broken well answer-is =
-    let cut : AreCutOff held failures job.form start out d other = subst (HasTakenWith held failures job.form start out d) o-is ran.taken in
-    let both = broken other o-is in
-    let same : other ≡ fault = cc (both.0, answer-is) in
-    subst (λ (f : SinkFault). IsOutputFault f job.form out (failures start) (failures done)) same
-    (subst (λ (w : _). IsOutputFault other job.form out (failures start) (failures w)) (sym both.1)
-    (cut_fault other job.form out (held start) (held (output_of d)) (failures start) (failures (output_of d)) (cut.prefix ran.writable)))
+cut_fault SecondPlain form out old new failures_old failures_new cut = inr (refused_by_form form out cut.0 tt, cut.0)
+cut_fault PlainPam form out old new failures_old failures_new cut = inr (refused_by_form form out cut.0 tt, cut.0)
 
 -- at a fault of the form all that it takes was written
 cut_written : (fault : SinkFault) (form : Form) (out : List Message) (old new : Option (List ℕ)) (failures_old failures_new : ℕ)
@@ -356,90 +285,98 @@ cut_written Broken form out old new failures_old failures_new cut of_form = absu
 cut_written SecondPlain form out old new failures_old failures_new cut of_form = cut.1
 cut_written PlainPam form out old new failures_old failures_new cut of_form = cut.1
 
-pub run_written : {W : Type 0} (held : W → Option (List ℕ)) (failures : W → ℕ) (start done : W) (job : Job) (given out : List Message) (d : FusedSink W)
-    (o : Result (Unit {0}) SinkFault) (answer : Result Summary SinkFault) (fault : SinkFault)
-    → Ran held failures start job given out d → d.output ≡ o
-    → ((f : SinkFault) → d.output ≡ Err f → (answer ≡ Err f) × (done ≡ output_of d))
-    → (d.output ≡ Ok tt → AnswersFlushes failures d done answer)
-    → answer ≡ Err fault → IsFormFault job.form fault → Appends (held start) (held done) (written_of job.form out)
-run_written held failures start done job given out d (Ok tt) answer fault ran o-is broken well answer-is of_form =
-    let written : AreWritten held failures job.form start out d = subst (HasTakenWith held failures job.form start out d) o-is ran.taken in
-    let failed = rw answer-is at (well o-is (failures start) written.count) in
-    absurd (no_write_fault job.form (subst (IsFormFault job.form) failed.0 of_form))
-run_written held failures start done job given out d (Err other) answer fault ran o-is broken well answer-is of_form =
-    let cut : AreCutOff held failures job.form start out d other = subst (HasTakenWith held failures job.form start out d) o-is ran.taken in
-    let both = broken other o-is in
-    let same : other ≡ fault = cc (both.0, answer-is) in
-    subst (λ (w : _). Appends (held start) (held w) (written_of job.form out)) (sym both.1)
-    (cut_written other job.form out (held start) (held (output_of d)) (failures start) (failures (output_of d)) (cut.prefix ran.writable)
-    (subst (IsFormFault job.form) (sym same) of_form))
+module _ {W : Type 0} {held : W → Option (List ℕ)} {failures : W → ℕ} {start : W} (done : W) {out : List Message} {d : FusedSink W} where
+  -- all that came out was written where the output ended well
+  pub run_ended : (job : Job) → AreWritten held failures job.form start out d → Keeps (held (output_of d)) (held done) → Appends (held start) (held done)
+      (written_of job.form out)
+  run_ended job written kept = Appends-kept (held start) (held (output_of d)) (held done) (written_of job.form out) (all_taken_written written) kept
 
--- the writer didn't fail
-pub run_sound : {W : Type 0} (held : W → Option (List ℕ)) (failures : W → ℕ) (start done : W) (job : Job) (given out : List Message) (d : FusedSink W)
-    (o : Result (Unit {0}) SinkFault) (answer : Result Summary SinkFault) (summary : Summary)
-    → Ran held failures start job given out d → d.output ≡ o
-    → ((f : SinkFault) → d.output ≡ Err f → (answer ≡ Err f) × (done ≡ output_of d))
-    → (d.output ≡ Ok tt → AnswersFlushes failures d done answer)
-    → answer ≡ Ok summary → AreWritten held failures job.form start out d × (summary ≡ d.summary) × (failures done ≡ failures start)
-run_sound held failures start done job given out d (Ok tt) answer summary ran o-is broken well answer-is =
-    let written : AreWritten held failures job.form start out d = subst (HasTakenWith held failures job.form start out d) o-is ran.taken in
-    let same = rw answer-is at (well o-is (failures start) written.count) in
-    (written, same.0, same.1)
-run_sound held failures start done job given out d (Err other) answer summary ran o-is broken well answer-is = absurd (cc ((broken other o-is).0, answer-is))
+  pub run_output : {job : Job} {given : List Message} (o : Result (Unit {0}) SinkFault) {answer : Result Summary SinkFault} {fault : SinkFault}
+      → Ran held failures start job given out d → d.output ≡ o → ((f : SinkFault) → d.output ≡ Err f → (answer ≡ Err f) × (done ≡ output_of d))
+      → (d.output ≡ Ok tt → AnswersFlushes failures d done answer) → answer ≡ Err fault → IsOutputFault fault job.form out (failures start) (failures done)
+  run_output {job} (Ok tt) ran o-is broken well answer-is =
+      let written : AreWritten held failures job.form start out d = subst (HasTakenWith held failures job.form start out d) o-is ran.taken in
+      inl (rw answer-is at (well o-is (failures start) written.count))
+  run_output {job} (Err other) {fault} ran o-is broken well answer-is =
+      let cut : AreCutOff held failures job.form start out d other = subst (HasTakenWith held failures job.form start out d) o-is ran.taken in
+      let both = broken other o-is in
+      let same : other ≡ fault = cc (both.0, answer-is) in
+      subst (λ (f : SinkFault). IsOutputFault f job.form out (failures start) (failures done)) same
+      (subst (λ (w : _). IsOutputFault other job.form out (failures start) (failures w)) (sym both.1)
+      (cut_fault other job.form out (held start) (held (output_of d)) (failures start) (failures (output_of d)) (cut.prefix ran.writable)))
 
--- a run that ended well
-pub run_well : {W : Type 0} (held : W → Option (List ℕ)) (failures : W → ℕ) (start done : W) (job : Job) (faults : List (Option ToolFault))
-    (given out : List Message) (d : FusedSink W) (summary : Summary) (text : List ℕ)
-    → AreLawfulTools job.tools → HaveAnswered job.tools faults given out → (said_of text ≡ given) × (fault_of text ≡ None) → AreWell faults
-    → AreWritten held failures job.form start out d → summary ≡ d.summary → IsAnswer text job (Ok summary)
-run_well held failures start done job faults given out d summary text lawful have said well written same =
-    let found = images_said text given said in
-    let answered = stream_is_answered job.tools faults found.0 out lawful found.1.images_are well
-    (subst (λ (l : List Message). HaveAnswered job.tools faults l out) found.2 have) in
-    let results : List Image = answered.0 in
-    let counts_images : d.summary.images ≡ saturate_u64 (length results) = written.images ∙ ap (images_in 0) answered.3 ∙ images_in-stream 0 results
-    ∙ ap saturate_u64 (zero-add (length results)) in
-    let counts_rows : d.summary.rows ≡ saturate_u64 (sum_by (λ i. i.head.shape.height) results) = written.rows ∙ ap (rows_in 0) answered.3
-    ∙ rows_in-stream 0 results ∙ ap saturate_u64 (zero-add _) in
-    let both : ℕ → ℕ → Summary = λ (a b : ℕ). record { images = a; rows = b } in (
+  pub run_written : {job : Job} {given : List Message} (o : Result (Unit {0}) SinkFault) {answer : Result Summary SinkFault} {fault : SinkFault}
+      → Ran held failures start job given out d → d.output ≡ o → ((f : SinkFault) → d.output ≡ Err f → (answer ≡ Err f) × (done ≡ output_of d))
+      → (d.output ≡ Ok tt → AnswersFlushes failures d done answer) → answer ≡ Err fault → IsFormFault job.form fault → Appends (held start) (held done)
+      (written_of job.form out)
+  run_written {job} (Ok tt) ran o-is broken well answer-is of_form =
+      let written : AreWritten held failures job.form start out d = subst (HasTakenWith held failures job.form start out d) o-is ran.taken in
+      let failed = rw answer-is at (well o-is (failures start) written.count) in
+      absurd (no_write_fault job.form (subst (IsFormFault job.form) failed.0 of_form))
+  run_written {job} (Err other) {fault} ran o-is broken well answer-is of_form =
+      let cut : AreCutOff held failures job.form start out d other = subst (HasTakenWith held failures job.form start out d) o-is ran.taken in
+      let both = broken other o-is in
+      let same : other ≡ fault = cc (both.0, answer-is) in
+      subst (λ (w : _). Appends (held start) (held w) (written_of job.form out)) (sym both.1)
+      (cut_written other job.form out (held start) (held (output_of d)) (failures start) (failures (output_of d)) (cut.prefix ran.writable)
+      (subst (IsFormFault job.form) (sym same) of_form))
+
+  -- the writer didn't fail
+  pub run_sound : {job : Job} {given : List Message} (o : Result (Unit {0}) SinkFault) {answer : Result Summary SinkFault} {summary : Summary}
+      → Ran held failures start job given out d → d.output ≡ o → ((f : SinkFault) → d.output ≡ Err f → (answer ≡ Err f) × (done ≡ output_of d))
+      → (d.output ≡ Ok tt → AnswersFlushes failures d done answer) → answer ≡ Ok summary
+      → AreWritten held failures job.form start out d × (summary ≡ d.summary) × (failures done ≡ failures start)
+  run_sound {job} (Ok tt) ran o-is broken well answer-is =
+      let written : AreWritten held failures job.form start out d = subst (HasTakenWith held failures job.form start out d) o-is ran.taken in
+      let same = rw answer-is at (well o-is (failures start) written.count) in
+      (written, same.0, same.1)
+  run_sound (Err other) ran o-is broken well answer-is = absurd (cc ((broken other o-is).0, answer-is))
+
+  -- a run that ended well
+  pub run_well : (job : Job) (faults : List (Option ToolFault)) {given : List Message} {summary : Summary} (text : List ℕ) → AreLawfulTools job.tools
+      → HaveAnswered job.tools faults given out → (said_of text ≡ given) × (fault_of text ≡ None) → AreWell faults
+      → AreWritten held failures job.form start out d → summary ≡ d.summary → IsAnswer text job (Ok summary)
+  run_well job faults text lawful have said well written same =
+      let found = images_said text said in
+      let answered = stream_is_answered job.tools faults found.0 out lawful found.1.images_are well
+      (subst (λ (l : List Message). HaveAnswered job.tools faults l out) found.2 have) in
+      let results : List Image = answered.0 in
+      let counts_images : d.summary.images ≡ saturate_u64 (length results) = written.images ∙ ap (images_in 0) answered.3 ∙ images_in-stream 0 results
+      ∙ ap saturate_u64 (zero-add (length results)) in
+      let counts_rows : d.summary.rows ≡ saturate_u64 (sum_by (λ i. i.head.shape.height) results) = written.rows ∙ ap (rows_in 0) answered.3
+      ∙ rows_in-stream 0 results ∙ ap saturate_u64 (zero-add _) in
+      let both : ℕ → ℕ → Summary = λ (a b : ℕ). record { images = a; rows = b } in (
+        record {
+          images = found.0;
+          results = results;
+          said = found.1;
+          taken = answered.4;
+          made = answered.1;
+          fit = sym (ap (form_fault_of job.form) answered.3 ∙ stream_fault job.form results) ∙ takes_written written;
+        },
+        same ∙ ap (λ k. both k d.summary.rows) counts_images ∙ ap (λ k. both (saturate_u64 (length results)) k) counts_rows,
+      )
+
+module _ {R F W : Type 0} {left : R → Option (List ℕ)} {reader_failures : R → ℕ} {at : F → Tool → List Message → List Message → Type 0}
+    {all_given : F → Bool} {stopped : F → Option ToolFault} {held : W → Option (List ℕ)} {failures : W → ℕ} {source source_new : Source R}
+    {result : Result (Unit {0}) InputFault} {old new : List (FusedFilter F)} {before after : FusedSink W} where
+  -- the stages have answered what the source gave
+  pub stages_answered : (tools : List Tool) → AreLawfulTools tools → FiltersAt at all_given stopped old tools [] []
+      → (fed : HasFed left reader_failures at all_given stopped held failures source source_new result old new before after)
+      → HaveAnswered tools (refusals_in new) fed.given fed.output.out
+  stages_answered tools lawful fresh fed = have_answered at all_given stopped new tools fed.given fed.output.out (fed.output.stages tools lawful fresh)
+
+  -- the end of the source's messages
+  pub ran_of : {job : Job} → AreLawfulTools job.tools → FiltersAt at all_given stopped old job.tools [] []
+      → HasTakenWith held failures job.form (output_of before) [] before before.output
+      → (fed : HasFed left reader_failures at all_given stopped held failures source source_new result old new before after)
+      → Ran held failures (output_of before) job fed.given fed.output.out after
+  ran_of {job} lawful fresh start fed =
+      let have = stages_answered job.tools lawful fresh fed in
       record {
-        images = found.0;
-        results = results;
-        said = found.1;
-        taken = answered.4;
-        made = answered.1;
-        fit = sym (ap (form_fault_of job.form) answered.3 ∙ stream_fault job.form results) ∙ takes_written held failures job.form start out d written;
-      },
-      same ∙ ap (λ k. both k d.summary.rows) counts_images ∙ ap (λ k. both (saturate_u64 (length results)) k) counts_rows,
-    )
-
--- the stages have answered what the source gave
-pub stages_answered : {R F W : Type 0} (left : R → Option (List ℕ)) (reader_failures : R → ℕ)
-    (at : F → Tool → List Message → List Message → Type 0) (all_given : F → Bool) (stopped : F → Option ToolFault) (held : W → Option (List ℕ))
-    (failures : W → ℕ) (source source_new : Source R) (result : Result (Unit {0}) InputFault) (old new : List (FusedFilter F)) (before after : FusedSink W)
-    (tools : List Tool)
-    → AreLawfulTools tools → FiltersAt at all_given stopped old tools [] []
-    → (fed : HasFed left reader_failures at all_given stopped held failures source source_new result old new before after)
-    → HaveAnswered tools (refusals_in new) fed.given fed.output.out
-stages_answered left reader_failures at all_given stopped held failures source source_new result old new before after tools lawful fresh fed =
-    have_answered at all_given stopped new tools fed.given fed.output.out (fed.output.stages tools lawful fresh)
-
--- the end of the source's messages
-pub ran_of : {R F W : Type 0} (left : R → Option (List ℕ)) (reader_failures : R → ℕ)
-    (at : F → Tool → List Message → List Message → Type 0) (all_given : F → Bool) (stopped : F → Option ToolFault) (held : W → Option (List ℕ))
-    (failures : W → ℕ) (source source_new : Source R) (result : Result (Unit {0}) InputFault) (old new : List (FusedFilter F)) (before after : FusedSink W)
-    (job : Job)
-    → AreLawfulTools job.tools → FiltersAt at all_given stopped old job.tools [] []
-    → HasTakenWith held failures job.form (output_of before) [] before before.output
-    → (fed : HasFed left reader_failures at all_given stopped held failures source source_new result old new before after)
-    → Ran held failures (output_of before) job fed.given fed.output.out after
-ran_of left reader_failures at all_given stopped held failures source source_new result old new before after job lawful fresh start fed =
-    let have = stages_answered left reader_failures at all_given stopped held failures source source_new result old new before after job.tools lawful fresh
-    fed in
-    record {
-      lawful = lawful;
-      sound = fed.sound;
-      writable = sound_is_writable fed.output.out (given_are_sound job.tools (refusals_in new) fed.given fed.output.out lawful fed.sound have);
-      due = λ is completes. given_is_prefix job.tools (refusals_in new) fed.given fed.output.out is lawful fed.sound have completes;
-      taken = fed.output.taken job.form (output_of before) start;
-    }
+        lawful = lawful;
+        sound = fed.sound;
+        writable = sound_is_writable fed.output.out (given_are_sound job.tools (refusals_in new) fed.given fed.output.out lawful fed.sound have);
+        due = λ is completes. given_is_prefix job.tools (refusals_in new) fed.given fed.output.out is lawful fed.sound have completes;
+        taken = fed.output.taken job.form (output_of before) start;
+      }

@@ -1,25 +1,8 @@
 -- What a stage has given so far for sound messages is sound; and sound messages don't end the stream before the last.
-use Rattle.std.proofs.Common.{◌≡◌, ◌≤◌, List, [], ◌∷◌, ◌++◌, Option, length, refl, sym, ap, subst, arith}
-use Rattle.std.specs.List.{AllByRecursion}
-use Rattle.pnm_image.specs.declared.message.Message.{Message}
-use Rattle.pnm_image.specs.declared.message.Message.TheVariants.{Begin, Row, ImageEnd, StreamEnd, Stop}
-use Rattle.pnm_image.specs.declared.message.Ending.TheVariants.{More, BrokenOff}
-use Rattle.pnm_image.specs.declared.place.Place.{Place}
-use Rattle.pnm_image.specs.declared.place.Place.TheVariants.{Between}
-use Rattle.pnm_image.specs.Messages.{ending_of, EndsBy, without_stop}
-use Rattle.pnm_image.specs.Places.{IsLawfulFrom, place_after}
-use Rattle.pnm_image.specs.Completion.{IsPrefixOf}
-use Rattle.pnm_tools.specs.declared.fault.ToolFault.{ToolFault}
-use Rattle.pnm_tools.specs.declared.tool.Tool.{Tool}
-use Rattle.pnm_tools.specs.declared.fused_filter.FusedFilter.{FusedFilter}
-use Rattle.pnm_tools.specs.declared.fused_filter.FusedFilter.TheVariants.{AtWork, Refused}
-use Rattle.pnm_tools.specs.Answers.{Answers}
-use Rattle.pnm_tools.specs.ChainAnswers.{IsSound, AreSound, HasRefused}
-use Rattle.pnm_tools.specs.FusedFilters.{FilterBusy}
-use Rattle.pnm_tools.specs.Tools.{IsLawfulTool, output_due}
-use Rattle.pnm_tools.proofs.ChainLaws.{sound_prefix, prefix_of_due_is_sound}
-use Rattle.pnm_tools.proofs.PrefixLaws.{nothing_changes, prefix_by_results}
-use Rattle.pnm_stages.proofs.SendingSteps.{GivesAnswers}
+use Rattle.pnm_serial.proofs.Words.{◌≡◌, ◌≤◌, List, [], ◌∷◌, ◌++◌, Option, length, refl, sym, ap, subst, arith, AllByRecursion, Message, Begin, Row, ImageEnd}
+use Rattle.pnm_serial.proofs.Words.{StreamEnd, Stop, More, BrokenOff, Place, Between, ending_of, EndsBy, without_stop, IsLawfulFrom, place_after, IsPrefixOf}
+use Rattle.pnm_serial.proofs.Words.{ToolFault, Tool, FusedFilter, AtWork, Refused, Answers, IsSound, AreSound, HasRefused, FilterBusy, IsLawfulTool, output_due}
+use Rattle.pnm_serial.proofs.Words.{sound_prefix, prefix_of_due_is_sound, nothing_changes, prefix_by_results, GivesAnswers}
 
 -- ---- what was given
 
@@ -49,23 +32,21 @@ sound_unbroken (StreamEnd ∷ []) sound ends = absurd cc
 sound_unbroken (Stop ∷ []) sound ends = sound.0
 
 -- what answers a part of sound messages
-answers_are_sound : (tool : Tool) (l g : List Message) → IsLawfulTool tool → AreSound l → Answers tool l g → AreSound g
-answers_are_sound tool l g lawful sound answers =
+answers_are_sound : {tool : Tool} {l g : List Message} → IsLawfulTool tool → AreSound l → Answers tool l g → AreSound g
+answers_are_sound {tool} {l} {g} lawful sound answers =
     let whole : without_stop g ≡ g = unstopped g (λ prefix is. sound_unbroken l sound.sound (answers.stop prefix is)) in
-    prefix_of_due_is_sound (tool ∷ []) l g (lawful, tt) sound
-    (λ is completes. prefix_by_results tool [] is g g lawful completes.images
+    prefix_of_due_is_sound (tool ∷ []) l g (lawful, tt) sound (λ is completes. prefix_by_results tool [] is g g lawful completes.images
     (subst (λ (x : List Message). IsPrefixOf x (output_due tool is)) whole (answers.prefix is completes))
     (λ js are prefix. subst (IsPrefixOf g) (sym (nothing_changes js)) prefix))
 
-refused_is_sound : (tool : Tool) (fault : ToolFault) (l g : List Message) → IsLawfulTool tool → AreSound l → HasRefused tool fault l g → AreSound g
-refused_is_sound tool fault l g lawful sound has =
-    answers_are_sound tool has.accepted g lawful (sound_prefix has.accepted has.rest (subst AreSound has.parts sound)) has.answers
+refused_is_sound : {tool : Tool} {fault : ToolFault} {l g : List Message} → IsLawfulTool tool → AreSound l → HasRefused tool fault l g → AreSound g
+refused_is_sound lawful sound has = answers_are_sound lawful (sound_prefix has.accepted has.rest (subst AreSound has.parts sound)) has.answers
 
 -- a stage that may still give more
 pub busy_is_sound : {F : Type 0} (at : F → Tool → List Message → List Message → Type 0) (stopped : F → Option ToolFault) → GivesAnswers at
-    → (stage : FusedFilter F) (tool : Tool) (l g : List Message) → IsLawfulTool tool → AreSound l → FilterBusy at stopped stage tool l g → AreSound g
-busy_is_sound at stopped law (AtWork filter) tool l g lawful sound busy = answers_are_sound tool l g lawful sound (law filter tool l g busy.state)
-busy_is_sound at stopped law (Refused fault) tool l g lawful sound busy = refused_is_sound tool fault l g lawful sound busy
+    → (stage : FusedFilter F) (tool : Tool) {l g : List Message} → IsLawfulTool tool → AreSound l → FilterBusy at stopped stage tool l g → AreSound g
+busy_is_sound at stopped law (AtWork filter) tool {l} {g} lawful sound busy = answers_are_sound lawful sound (law filter tool l g busy.state)
+busy_is_sound at stopped law (Refused fault) tool lawful sound busy = refused_is_sound lawful sound busy
 
 -- ---- what more may come after
 

@@ -1,26 +1,10 @@
 -- A verdict is never a fault from outside, nor that a message came out of order.
-use Rattle.std.proofs.Common.{◌≡◌, ◌≢◌, ℕ, ◌<◌, ◌+◌, List, [], ◌∷◌, ◌++◌, map, Option, None, Some, Result, Ok, Err, refl, ap, subst, ◌∙◌, arith}
-use Rattle.std.specs.List.{AllByRecursion}
-use Rattle.pnm_image.specs.declared.message.Message.{Message}
-use Rattle.pnm_image.specs.declared.message.Message.TheVariants.{Row, ImageEnd}
-use Rattle.pnm_image.specs.Heads.{HeadValue}
-use Rattle.pnm_image.specs.Images.{Image, AreImages, IsImage, rows_of, messages_of_stream}
-use Rattle.pnm_read.proofs.StreamLaws.{no_text_fault}
-use Rattle.pnm_tools.specs.declared.fault.ToolFault.{ToolFault}
-use Rattle.pnm_tools.specs.declared.fault.ToolFault.TheVariants.{CutOutside, ChannelOutside, TooLarge, OutOfOrder, Memory}
-use Rattle.pnm_tools.specs.declared.tool.Tool.{Tool}
-use Rattle.pnm_tools.specs.ChainAnswers.{AreSound, IsSound}
-use Rattle.pnm_tools.specs.Chains.{AreLawfulTools, Refusal, refusal_from, results_of}
-use Rattle.pnm_tools.specs.Formulas.{image_by}
-use Rattle.pnm_tools.specs.Laws.{IsFaultOfHead}
-use Rattle.pnm_tools.specs.Tools.{IsLawfulTool, applied, result_head, result_sample}
-use Rattle.pnm_tools.proofs.AnsweringLaws.{applied_by}
-use Rattle.pnm_tools.proofs.HeadFaultLaws.{head_is_refused_by_name}
-use Rattle.pnm_tools.proofs.RefusalLaws.{refusal_by}
-use Rattle.pnm_tools.proofs.ResultLaws.{result_is_image, result_has_rows}
-use Rattle.pnm_serial.specs.declared.fault.RunFault.TheVariants.{NoStart, Input, Tool as OfTool, Output, PeerGone}
-use Rattle.pnm_serial.specs.Verdicts.{RefusalIs, VerdictsAreOfTexts}
-use Rattle.pnm_write.specs.Forms.{IsFormFault}
+use Rattle.pnm_serial.proofs.Words.{◌≡◌, ◌≢◌, ℕ, ◌<◌, ◌+◌, List, [], ◌∷◌, ◌++◌, map, Option, None, Some, Result, Ok, Err, refl, ap, subst, ◌∙◌, arith}
+use Rattle.pnm_serial.proofs.Words.{AllByRecursion, Message, Row, ImageEnd, HeadValue, Image, AreImages, IsImage, rows_of, messages_of_stream, no_text_fault}
+use Rattle.pnm_serial.proofs.Words.{ToolFault, CutOutside, ChannelOutside, TooLarge, OutOfOrder, Memory, Tool, AreSound, IsSound, AreLawfulTools, Refusal}
+use Rattle.pnm_serial.proofs.Words.{refusal_from, results_of, image_by, IsFaultOfHead, IsLawfulTool, applied, result_head, result_sample, applied_by}
+use Rattle.pnm_serial.proofs.Words.{head_is_refused_by_name, refusal_by, result_is_image, result_has_rows, NoStart, Input, OfTool, Output, PeerGone, RefusalIs}
+use Rattle.pnm_serial.proofs.Words.{VerdictsAreOfTexts, IsFormFault}
 use Rattle.pnm_serial.proofs.FeedingSteps.{said_are_sound}
 use Rattle.pnm_serial.proofs.ResultSteps.{reason_is_of_form}
 use Rattle.pnm_serial.proofs.RunSteps.{no_write_fault}
@@ -41,10 +25,10 @@ named tool head TooLarge rows is = (λ e. absurd cc, λ e. absurd cc)
 named tool head OutOfOrder rows is = absurd (omega (arith, is.1))
 named tool head Memory rows is = absurd is
 
-by_head : (tool : Tool) (i : Image) (r : Result HeadValue ToolFault) (fault : ToolFault) → result_head tool i.head ≡ r → HasRows i
+by_head : (tool : Tool) (i : Image) (r : Result HeadValue ToolFault) {fault : ToolFault} → result_head tool i.head ≡ r → HasRows i
     → applied_by (λ h. image_by h (result_sample tool i)) r ≡ Err fault → IsNamed fault
-by_head tool i (Ok head) fault e rows refused = absurd cc
-by_head tool i (Err other) fault e rows refused =
+by_head tool i (Ok head) e rows refused = absurd cc
+by_head tool i (Err other) {fault} e rows refused =
     let same : other ≡ fault = cc in
     named tool i.head fault rows (head_is_refused_by_name tool i.head fault (e ∙ ap Err same))
 
@@ -53,9 +37,9 @@ abbrev IsOutcome : Result Image ToolFault → Type 0
 IsOutcome (Ok j) = IsImage j × HasRows j
 IsOutcome (Err fault) = IsNamed fault
 
-outcome : (tool : Tool) (i : Image) (r : Result Image ToolFault) → IsLawfulTool tool → IsImage i → HasRows i → applied tool i ≡ r → IsOutcome r
-outcome tool i (Ok j) lawful image rows is = (result_is_image tool i j lawful image is, result_has_rows tool i j lawful image rows is)
-outcome tool i (Err fault) lawful image rows is = by_head tool i (result_head tool i.head) fault refl rows is
+outcome : (tool : Tool) {i : Image} (r : Result Image ToolFault) → IsLawfulTool tool → IsImage i → HasRows i → applied tool i ≡ r → IsOutcome r
+outcome tool {i} (Ok j) lawful image rows is = (result_is_image tool i j lawful image is, result_has_rows tool i j lawful image rows is)
+outcome tool {i} (Err fault) lawful image rows is = by_head tool i (result_head tool i.head) refl rows is
 
 abbrev AreOutcome : Result (List Image) ToolFault → Type 0
 AreOutcome (Ok js) = AreImages js × AllByRecursion HasRows js
@@ -70,7 +54,7 @@ first_outcome (Err fault) others first more = first
 outcomes : (tool : Tool) (is : List Image) → IsLawfulTool tool → AreImages is → AllByRecursion HasRows is → AreOutcome (results_of tool is)
 outcomes tool [] lawful images rows = (tt, tt)
 outcomes tool (i ∷ is) lawful images rows =
-    first_outcome (applied tool i) (results_of tool is) (outcome tool i (applied tool i) lawful images.0 rows.0 refl) (outcomes tool is lawful images.1 rows.1)
+    first_outcome (applied tool i) (results_of tool is) (outcome tool (applied tool i) lawful images.0 rows.0 refl) (outcomes tool is lawful images.1 rows.1)
 
 -- ---- a chain
 
@@ -78,18 +62,18 @@ abbrev fault_or : ToolFault → Option Refusal → ToolFault
 fault_or other None = other
 fault_or other (Some refusal) = refusal.fault
 
-by_outcome : (number : ℕ) (tools : List Tool) (r : Result (List Image) ToolFault) (refusal : Refusal) → AreOutcome r
+by_outcome : (number : ℕ) (tools : List Tool) (r : Result (List Image) ToolFault) {refusal : Refusal} → AreOutcome r
     → ((js : List Image) → AreImages js → AllByRecursion HasRows js → refusal_from (number + 1) tools js ≡ Some refusal → IsNamed refusal.fault)
     → refusal_by number tools r ≡ Some refusal → IsNamed refusal.fault
-by_outcome number tools (Ok js) refusal are later is = later js are.0 are.1 is
-by_outcome number tools (Err fault) refusal are later is = subst IsNamed (ap (fault_or fault) is) are
+by_outcome number tools (Ok js) are later is = later js are.0 are.1 is
+by_outcome number tools (Err fault) are later is = subst IsNamed (ap (fault_or fault) is) are
 
-chain_refusal : (number : ℕ) (tools : List Tool) (is : List Image) (refusal : Refusal) → AreLawfulTools tools → AreImages is → AllByRecursion HasRows is
+chain_refusal : (number : ℕ) (tools : List Tool) (is : List Image) {refusal : Refusal} → AreLawfulTools tools → AreImages is → AllByRecursion HasRows is
     → refusal_from number tools is ≡ Some refusal → IsNamed refusal.fault
-chain_refusal number [] is refusal lawful images rows refused = absurd cc
-chain_refusal number (tool ∷ tools) is refusal lawful images rows refused =
-    by_outcome number tools (results_of tool is) refusal (outcomes tool is lawful.0 images rows)
-    (λ js images_too rows_too refused_too. chain_refusal (number + 1) tools js refusal lawful.1 images_too rows_too refused_too) refused
+chain_refusal number [] is lawful images rows refused = absurd cc
+chain_refusal number (tool ∷ tools) is lawful images rows refused =
+    by_outcome number tools (results_of tool is) (outcomes tool is lawful.0 images rows)
+    (λ js images_too rows_too refused_too. chain_refusal (number + 1) tools js lawful.1 images_too rows_too refused_too) refused
 
 -- ---- a text
 
@@ -101,20 +85,20 @@ rows_of_stream : (is : List Image) → AllByRecursion IsSound (messages_of_strea
 rows_of_stream [] sound = tt
 rows_of_stream (i ∷ is) sound = (sound.0, rows_of_stream is (all_of_rest IsSound (map Row (rows_of i) ++ ImageEnd ∷ []) (messages_of_stream is) sound.1))
 
-text_refusal : (text : List ℕ) (tools : List Tool) (number : ℕ) (fault : ToolFault) → AreLawfulTools tools
+text_refusal : (text : List ℕ) (tools : List Tool) (number : ℕ) {fault : ToolFault} → AreLawfulTools tools
     → RefusalIs text tools (Some (record { number = number; fault = fault })) → IsNamed fault
-text_refusal text tools number fault lawful is =
+text_refusal text tools number lawful is =
     let sound : AreSound (messages_of_stream is.0) = subst AreSound is.1.messages (said_are_sound text) in
-    chain_refusal 1 tools is.0 (record { number = number; fault = fault }) lawful is.1.images_are (rows_of_stream is.0 sound.sound) is.2
+    chain_refusal 1 tools is.0 lawful is.1.images_are (rows_of_stream is.0 sound.sound) is.2
 
 pub verdict_is_of_text : VerdictsAreOfTexts
 verdict_is_of_text text job NoStart lawful is = absurd is
 verdict_is_of_text text job (Input fault) lawful is = (no_text_fault text fault is, λ number e. absurd cc, λ out e. absurd cc)
 verdict_is_of_text text job (OfTool number fault) lawful is =
-    let is_named = text_refusal text job.tools number fault lawful is in
+    let is_named = text_refusal text job.tools number lawful is in
     (is_named.0, λ other e. let same : fault ≡ OutOfOrder = cc in is_named.1 same, λ out e. absurd cc)
 verdict_is_of_text text job (Output fault) lawful is =
-    let of_form = reason_is_of_form job.form is.results fault is.fit in (
+    let of_form = reason_is_of_form job.form is.results is.fit in (
       λ failed. no_write_fault job.form (subst (IsFormFault job.form) failed of_form),
       λ number e. absurd cc,
       λ out e. let same : fault ≡ out = cc in

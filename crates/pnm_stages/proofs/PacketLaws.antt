@@ -65,8 +65,8 @@ part_ends_nothing None rows ends = rest_ends_nothing rows ends
 part_ends_nothing (Some head) rows ends = ends_after More (Begin head ∷ []) (rest_messages rows ends) (refl, tt) (rest_ends_nothing rows ends)
 
 -- whether a part is several messages, as a function answers it
-pub several_by : {packet : Packet} (several : Bool) → IsTrue several ↔ 2 ≤ length (messages_in packet) → several ≡ is_together packet
-several_by several answer = grind (arith, common_steps, nat_tests, answer)
+pub several_by : (packet : Packet) (several : Bool) → IsTrue several ↔ 2 ≤ length (messages_in packet) → several ≡ is_together packet
+several_by packet several answer = grind (arith, common_steps, nat_tests, answer)
 
 -- a packet that ends so ends a list so
 pub ends_with_packet : (l : List Message) (packet : Packet) → EndsBy (ending_of_packet packet) (messages_in packet) → EndsBy More l

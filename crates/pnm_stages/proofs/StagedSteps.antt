@@ -12,8 +12,8 @@ use Rattle.pnm_stages.proofs.PrefixLaws.{due_with_stop, due_goes_on}
 
 -- ---- what is due
 
-pub due_by_part : {tool : Tool} {l g : List Message} → HasAnsweredPart tool l g → IsPrefixOfDue (output_due tool) l g
-due_by_part part =
+pub due_by_part : (tool : Tool) {l g : List Message} → HasAnsweredPart tool l g → IsPrefixOfDue (output_due tool) l g
+due_by_part tool part =
     record { accepted = part.accepted; rest = part.rest; parts = part.parts; lawful = part.answers.lawful; prefix = part.answers.prefix }
 
 -- ---- message by message
@@ -127,11 +127,13 @@ record IsBroken (tool : Tool) (fault : ToolFault) (took gave : List Message) : T
 broken_due : {tool : Tool} {fault : ToolFault} {took gave : List Message} (rest : List Message) → HasRefused tool fault took gave
     → IsPrefixOfDue (output_due tool) (took ++ rest) gave
 broken_due {tool} {took} {gave} rest has =
-    due_goes_on (output_due tool) took gave rest (due_by_part (record { accepted = has.accepted; rest = has.rest; parts = has.parts; answers = has.answers }))
+    due_goes_on (output_due tool) took gave rest
+    (due_by_part tool (record { accepted = has.accepted; rest = has.rest; parts = has.parts; answers = has.answers }))
 
-broken_off : {tool : Tool} {fault : ToolFault} (a : Ending) {end : StageEnd} {took gave r r1 r2 left s s1 s2 : List Message} → IsBroken tool fault took gave
-    → EndsBy a took → r1 ≡ r ++ took → s1 ≡ s ++ gave → HasBrokenOffAfter fault a end r1 r2 left s1 s2 → HasRunStage tool end r r2 left s s2
-broken_off {tool} {fault} a {took} {gave} {r} {s} is ends received sent (inl faulted) =
+broken_off : {tool : Tool} (fault : ToolFault) (a : Ending) {end : StageEnd} (took gave : List Message) {r r1 r2 left s s1 s2 : List Message}
+    → IsBroken tool fault took gave → EndsBy a took → r1 ≡ r ++ took → s1 ≡ s ++ gave → HasBrokenOffAfter fault a end r1 r2 left s1 s2
+    → HasRunStage tool end r r2 left s s2
+broken_off {tool} fault a took gave {r} {s} is ends received sent (inl faulted) =
     let by = drained_by a true ends faulted.2 in
     record {
       took = took ++ by.rest;
@@ -152,7 +154,7 @@ broken_off {tool} {fault} a {took} {gave} {r} {s} is ends received sent (inl fau
         due = due_with_stop (output_due tool) (took ++ by.rest) gave is.unbroken (broken_due by.rest is.refused);
       };
     }
-broken_off {tool} a {took} {gave} {r} {s} is ends received sent (inr (inl gone)) =
+broken_off {tool} fault a took gave {r} {s} is ends received sent (inr (inl gone)) =
     let by = drained_by a false ends gone.2 in
     record {
       took = took ++ by.rest;
@@ -167,7 +169,7 @@ broken_off {tool} a {took} {gave} {r} {s} is ends received sent (inr (inl gone))
         due = due_with_stop (output_due tool) (took ++ by.rest) gave is.unbroken (broken_due by.rest is.refused);
       };
     }
-broken_off {tool} a {took} {gave} {r} is ends received sent (inr (inr gone)) =
+broken_off {tool} fault a took gave {r} is ends received sent (inr (inr gone)) =
     let by = drained_by a gone.2.0 ends gone.2.1 in
     record {
       took = took ++ by.rest;
@@ -218,7 +220,7 @@ ended_by tool end e l g r r1 left s s1 is ended full messages received sent = re
     ended = ended;
     messages = messages;
     once = at_most_once l is;
-    due = due_by_part (record { accepted = l; rest = []; parts = sym (append-nil l); answers = full.answers });
+    due = due_by_part tool (record { accepted = l; rest = []; parts = sym (append-nil l); answers = full.answers });
   };
 }
 
@@ -239,15 +241,15 @@ module _ {F : Type 0} {at : F → Tool → List Message → List Message → Typ
   still_sent {e = e} {first = first} {now = now} {r' = r'} passing same =
       subst (λ (x : List Message). IsPassing at all_given stopped e first now r r' s x) (sym same) passing
 
-  module _ {r1 left s1 : List Message} {tool : Tool} where
+  module _ {r1 r2 left s1 s2 : List Message} {tool : Tool} where
     -- the input is gone, and Stop was sent if the output wasn't
-    pub input_gone : {first : FusedFilter F} (now : FusedFilter F) (is_sent : Bool) {r2 s2 : List Message}
-        → IsPassing at all_given stopped More first now r r1 s s1 → (r2 ≡ r1) × (left ≡ []) → (IsTrue is_sent → s2 ≡ s1 ++ Stop ∷ [])
-        → (IsFalse is_sent → s2 ≡ s1) → refusal_in now ≡ None → FilterAt at all_given stopped first tool [] [] → HasRunStage tool PeerGone r r2 left s s2
+    pub input_gone : {first : FusedFilter F} (now : FusedFilter F) (is_sent : Bool) → IsPassing at all_given stopped More first now r r1 s s1
+        → (r2 ≡ r1) × (left ≡ []) → (IsTrue is_sent → s2 ≡ s1 ++ Stop ∷ []) → (IsFalse is_sent → s2 ≡ s1) → refusal_in now ≡ None
+        → FilterAt at all_given stopped first tool [] [] → HasRunStage tool PeerGone r r2 left s s2
     input_gone (Refused fault) is_sent passing same given gone none fresh = absurd cc
     input_gone (AtWork filter) true passing same given gone none fresh =
         let idle = passing.stage tool fresh in
-        let due = due_by_part (part_at at all_given stopped (AtWork filter) idle) in
+        let due = due_by_part tool (part_at at all_given stopped (AtWork filter) idle) in
         record {
           took = passing.took;
           gave = passing.gave ++ Stop ∷ [];
@@ -272,12 +274,12 @@ module _ {F : Type 0} {at : F → Tool → List Message → List Message → Typ
             ended = tt;
             messages = passing.messages;
             once = (More, passing.ends);
-            due = due_by_part (part_at at all_given stopped (AtWork filter) idle);
+            due = due_by_part tool (part_at at all_given stopped (AtWork filter) idle);
           };
         }
 
     -- the output is gone, and the input was drained
-    pub output_gone : {first old new : FusedFilter F} (packet : Packet) {a : Ending} (drained : Bool) {r2 r3 s2 : List Message}
+    pub output_gone : {first old new : FusedFilter F} (packet : Packet) {a : Ending} (drained : Bool) {r3 : List Message}
         → IsPassing at all_given stopped More first old r r1 s s1 → r2 ≡ r1 ++ messages_in packet → AllByRecursion IsMessage (messages_in packet)
         → EndsBy (ending_of_packet packet) (messages_in packet) → HasPassed at all_given stopped false old new (messages_in packet) s1 s2
         → a ≡ ending_of_packet packet → HasDrainedAfter a drained r2 r3 left → FilterAt at all_given stopped first tool [] []
@@ -297,37 +299,38 @@ module _ {F : Type 0} {at : F → Tool → List Message → List Message → Typ
             ended = tt;
             messages = both_all IsMessage took by.rest (both_all IsMessage passing.took (messages_in packet) passing.messages are) by.messages;
             once = by.once;
-            due = due_goes_on (output_due tool) took (passing.gave ++ passed.more) by.rest (due_by_part part);
+            due = due_goes_on (output_due tool) took (passing.gave ++ passed.more) by.rest (due_by_part tool part);
           };
         }
 
     -- the tool refused at the last message, or at its start
-    pub breaks_off : {e : Ending} {first now : FusedFilter F} {fault : ToolFault} {a : Ending} {end : StageEnd} {r2 s2 : List Message}
+    pub breaks_off : {e : Ending} {first now : FusedFilter F} {fault : ToolFault} {a : Ending} {end : StageEnd}
         → IsPassing at all_given stopped e first now r r1 s s1 → a ≡ e → refusal_in now ≡ Some fault → HasBrokenOffAfter fault a end r1 r2 left s1 s2
         → FilterAt at all_given stopped first tool [] [] → HasRunStage tool end r r2 left s s2
-    breaks_off {e} {now} {a} passing says is broken fresh =
+    breaks_off {e} {now} {fault} {a} passing says is broken fresh =
         let refused = refused_at at all_given stopped now is (passing.stage tool fresh) in
         let unbroken = refusal_goes_on e passing.ends refused in
-        broken_off a (record { messages = passing.messages; refused = refused; unbroken = unbroken })
+        broken_off fault a passing.took passing.gave (record { messages = passing.messages; refused = refused; unbroken = unbroken })
         (subst (λ (x : Ending). EndsBy x passing.took) (sym says) passing.ends) passing.received passing.sent broken
 
-    pub ends_well : {e : Ending} {first now : FusedFilter F} → IsPassing at all_given stopped e first now r r1 s s1 → Whole ≡ e → refusal_in now ≡ None
-        → FilterAt at all_given stopped first tool [] [] → HasRunStage tool Well r r1 left s s1
-    ends_well {now} passing says none fresh =
-        let full = idle_at at all_given stopped now none (passing.stage tool fresh) in
-        let whole : EndsBy Whole passing.took = subst (λ (x : Ending). EndsBy x passing.took) (sym says) passing.ends in
-        let stream = is_stream_of passing.took passing.messages full.answers.lawful (ends_stream passing.took whole) in
-        let answered = full_answer_is_the_stream tool stream.0 passing.gave stream.1.images
-        (subst (λ (x : List Message). AnswersInFull tool x passing.gave) stream.1.messages full) in
-        ended_by tool Well Whole passing.took passing.gave r r1 left s s1 (inl whole)
-        (record { images = stream.0; results = answered.0; stream = stream.1; made = answered.1; answer = answered.2; full = full }) full passing.messages
-        passing.received passing.sent
+  pub ends_well : {e : Ending} {first now : FusedFilter F} {r1 : List Message} (left : List Message) {s1 : List Message} {tool : Tool}
+      → IsPassing at all_given stopped e first now r r1 s s1 → Whole ≡ e → refusal_in now ≡ None → FilterAt at all_given stopped first tool [] []
+      → HasRunStage tool Well r r1 left s s1
+  ends_well {now} {r1} left {s1} {tool} passing says none fresh =
+      let full = idle_at at all_given stopped now none (passing.stage tool fresh) in
+      let whole : EndsBy Whole passing.took = subst (λ (x : Ending). EndsBy x passing.took) (sym says) passing.ends in
+      let stream = is_stream_of passing.took passing.messages full.answers.lawful (ends_stream passing.took whole) in
+      let answered = full_answer_is_the_stream tool stream.0 passing.gave stream.1.images
+      (subst (λ (x : List Message). AnswersInFull tool x passing.gave) stream.1.messages full) in
+      ended_by tool Well Whole passing.took passing.gave r r1 left s s1 (inl whole)
+      (record { images = stream.0; results = answered.0; stream = stream.1; made = answered.1; answer = answered.2; full = full }) full passing.messages
+      passing.received passing.sent
 
-    pub ends_broken : {e : Ending} {first now : FusedFilter F} → IsPassing at all_given stopped e first now r r1 s s1 → BrokenOff ≡ e → refusal_in now ≡ None
-        → FilterAt at all_given stopped first tool [] [] → HasRunStage tool Broken r r1 left s s1
-    ends_broken {now} passing says none fresh =
-        let full = idle_at at all_given stopped now none (passing.stage tool fresh) in
-        let broken : EndsBy BrokenOff passing.took = subst (λ (x : Ending). EndsBy x passing.took) (sym says) passing.ends in
-        ended_by tool Broken BrokenOff passing.took passing.gave r r1 left s s1 (inr broken)
-        (record { lawful = full.answers.lawful; ends = broken; full = full })
-        full passing.messages passing.received passing.sent
+  pub ends_broken : {e : Ending} {first now : FusedFilter F} {r1 : List Message} (left : List Message) {s1 : List Message} {tool : Tool}
+      → IsPassing at all_given stopped e first now r r1 s s1 → BrokenOff ≡ e → refusal_in now ≡ None → FilterAt at all_given stopped first tool [] []
+      → HasRunStage tool Broken r r1 left s s1
+  ends_broken {now} {r1} left {s1} {tool} passing says none fresh =
+      let full = idle_at at all_given stopped now none (passing.stage tool fresh) in
+      let broken : EndsBy BrokenOff passing.took = subst (λ (x : Ending). EndsBy x passing.took) (sym says) passing.ends in
+      ended_by tool Broken BrokenOff passing.took passing.gave r r1 left s s1 (inr broken) (record { lawful = full.answers.lawful; ends = broken; full = full })
+      full passing.messages passing.received passing.sent

@@ -1,19 +1,9 @@
 -- What tools have given message by message is a prefix of the output due.
-use Rattle.std.proofs.Common.{◌≡◌, ◌⊎◌, inl, inr, ℕ, List, [], ◌∷◌, ◌++◌, map, Result, Ok, Err, refl, sym, ap, subst, ◌∙◌, append_assoc}
-use Rattle.pnm_image.specs.declared.message.Message.{Message}
-use Rattle.pnm_image.specs.declared.message.Message.TheVariants.{Begin, Row, ImageEnd, StreamEnd, Stop}
-use Rattle.pnm_image.specs.declared.place.Place.{Place}
-use Rattle.pnm_image.specs.declared.place.Place.TheVariants.{Between, Inside}
-use Rattle.pnm_image.specs.Heads.{HeadValue}
-use Rattle.pnm_image.specs.Images.{Image, IsImage, AreImages, rows_of, messages_of_image, messages_of_stream}
-use Rattle.pnm_image.specs.Places.{place_after, place_of}
-use Rattle.pnm_image.specs.Completion.{IsPrefixOf}
-use Rattle.pnm_tools.specs.declared.fault.ToolFault.{ToolFault}
-use Rattle.pnm_tools.specs.declared.tool.Tool.{Tool}
-use Rattle.pnm_tools.specs.Tools.{AreTaken, result_head, result_sample, applied, output_due}
-use Rattle.pnm_tools.specs.Formulas.{image_by}
-use Rattle.pnm_tools.specs.Answering.{answers_at, answers_from, rows_after, rows_come}
-use Rattle.pnm_tools.specs.Answers.{Begins}
+use Rattle.pnm_tools.proofs.Words.{◌≡◌, ◌⊎◌, inl, inr, ℕ, List, [], ◌∷◌, ◌++◌, map, Result, Ok, Err, refl, sym, ap, subst, ◌∙◌, append_assoc, Message, Begin}
+use Rattle.pnm_tools.proofs.Words.{Row, ImageEnd, StreamEnd, Stop, Place, Between, Inside, HeadValue, Image, IsImage, AreImages, rows_of, messages_of_image}
+use Rattle.pnm_tools.proofs.Words.{messages_of_stream, place_after, place_of, IsPrefixOf, ToolFault, Tool, AreTaken, result_head, result_sample, applied}
+use Rattle.pnm_tools.proofs.Words.{image_by, answers_at, answers_from, rows_after, rows_come, Begins}
+use Rattle.pnm_tools.specs.Tools.{output_due}
 
 -- the answer to a prefix, and then to the rest
 pub answers_from-append : (tool : Tool) (place : Place) (rows : List (List ℕ)) (a b : List Message)

@@ -1,21 +1,8 @@
 -- What a tool that answers each message at once has given, where some of it still waits.
-use Rattle.std.proofs.Common.{◌≡◌, ◌⊎◌, inl, inr, ℕ, ◌+◌, List, [], ◌∷◌, ◌++◌, map, Result, Ok, Err, refl, sym, ap, subst, ◌∙◌, append_assoc}
-use Rattle.pnm_image.specs.declared.message.Message.{Message}
-use Rattle.pnm_image.specs.declared.message.Message.TheVariants.{Begin, Row, ImageEnd, StreamEnd, Stop}
-use Rattle.pnm_image.specs.declared.place.Place.{Place}
-use Rattle.pnm_image.specs.declared.place.Place.TheVariants.{Between, Inside, After}
-use Rattle.pnm_image.specs.Heads.{HeadValue}
-use Rattle.pnm_image.specs.Messages.{without_stop, ending_of, EndsBy}
-use Rattle.pnm_image.specs.Places.{IsLawfulFrom, IsLawful, place_after}
-use Rattle.pnm_image.specs.Images.{Image}
-use Rattle.pnm_image.specs.Completion.{IsPrefixOf, Completes}
-use Rattle.pnm_tools.specs.declared.fault.ToolFault.{ToolFault}
-use Rattle.pnm_tools.specs.declared.tool.Tool.{Tool}
-use Rattle.pnm_tools.specs.Tools.{AreTaken, result_head, row_answer, end_answer, output_due}
-use Rattle.pnm_image.specs.declared.message.Ending.TheVariants.{More, BrokenOff}
-use Rattle.pnm_tools.specs.Answers.{Answers}
-use Rattle.pnm_tools.specs.Answering.{answers_at, answers_from}
-use Rattle.pnm_tools.specs.Answering.{IsAnswering}
+use Rattle.pnm_tools.proofs.Words.{◌≡◌, ◌⊎◌, inl, inr, ℕ, ◌+◌, List, [], ◌∷◌, ◌++◌, map, Result, Ok, Err, refl, sym, ap, subst, ◌∙◌, append_assoc, Message}
+use Rattle.pnm_tools.proofs.Words.{Begin, Row, ImageEnd, StreamEnd, Stop, Place, Between, Inside, After, HeadValue, without_stop, ending_of, EndsBy}
+use Rattle.pnm_tools.proofs.Words.{IsLawfulFrom, IsLawful, place_after, Image, IsPrefixOf, Completes, ToolFault, Tool, AreTaken, result_head, row_answer}
+use Rattle.pnm_tools.proofs.Words.{end_answer, output_due, More, BrokenOff, Answers, answers_at, answers_from, IsAnswering}
 use Rattle.pnm_tools.proofs.AnsweringLaws.{AnswersImages, answers_from-append, answers_are_due}
 
 -- no message is Stop

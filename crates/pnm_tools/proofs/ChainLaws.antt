@@ -1,24 +1,12 @@
 -- What the stages of a chain have given: the results of all images, or those before the first refusal.
-use Rattle.std.proofs.Common.{◌≡◌, ◌⊎◌, inl, inr, ℕ, zero, suc, ◌+◌, ◌-◌, ◌<◌, ◌≤◌, true, List, [], ◌∷◌, ◌++◌, length, take, Option, Some, None, Result, Ok}
-use Rattle.std.proofs.Common.{Err, refl, sym, ap, ap₂, subst, ◌∙◌, append-nil, arith}
-use Rattle.std.specs.List.{AllByRecursion}
-use Rattle.pnm_image.specs.declared.message.Message.{Message}
-use Rattle.pnm_image.specs.declared.message.Message.TheVariants.{Begin, Row, ImageEnd, StreamEnd, Stop}
-use Rattle.pnm_image.specs.declared.place.Place.TheVariants.{Between}
-use Rattle.pnm_image.specs.Images.{Image, IsImage, AreImages, messages_of_image, messages_of_stream}
-use Rattle.pnm_image.specs.Messages.{IsMessage, EndsBy}
-use Rattle.pnm_image.specs.Completion.{IsPrefixOf, Completes}
-use Rattle.pnm_image.proofs.Streams.{completion, stream_is_messages, stream_is_lawful}
-use Rattle.pnm_image.proofs.Places.{lawful_prefix, next_may_come}
-use Rattle.pnm_image.proofs.Lists.{all_of_prefix, each-middle}
-use Rattle.pnm_tools.specs.declared.fault.ToolFault.{ToolFault}
-use Rattle.pnm_tools.specs.declared.fault.ToolFault.TheVariants.{OutOfOrder, Memory}
-use Rattle.pnm_tools.specs.declared.tool.Tool.{Tool}
-use Rattle.pnm_tools.specs.Tools.{IsLawfulTool, applied, output_due}
-use Rattle.pnm_image.specs.declared.message.Ending.TheVariants.{More}
-use Rattle.pnm_tools.specs.Answers.{Answers, AnswersInFull, RefusesHead, Judges, AreResults}
-use Rattle.pnm_tools.specs.Chains.{AreLawfulTools, AreResultsInTurn, applied_in_turn, due_in_turn, results_of, refusal_from, refusal_of}
-use Rattle.pnm_tools.specs.ChainAnswers.{IsSound, AreSound, AreWell, IsFirstFault, IsRefusedNext, HasRefused, HasAnswered, HaveAnswered}
+use Rattle.pnm_tools.proofs.Words.{◌≡◌, ◌⊎◌, inl, inr, ℕ, zero, suc, ◌+◌, ◌-◌, ◌<◌, ◌≤◌, true, List, [], ◌∷◌, ◌++◌, length, take, Option, Some, None, Result}
+use Rattle.pnm_tools.proofs.Words.{Ok, Err, refl, sym, ap, ap₂, subst, ◌∙◌, append-nil, arith, AllByRecursion, Message, Begin, Row, ImageEnd, StreamEnd, Stop}
+use Rattle.pnm_tools.proofs.Words.{Between, Image, IsImage, AreImages, messages_of_image, messages_of_stream, IsMessage, EndsBy, IsPrefixOf, Completes}
+use Rattle.pnm_tools.proofs.Words.{completion, stream_is_messages, stream_is_lawful, lawful_prefix, next_may_come, all_of_prefix, each-middle, ToolFault}
+use Rattle.pnm_tools.proofs.Words.{OutOfOrder, Memory, Tool, IsLawfulTool, applied, output_due, More, Answers, AnswersInFull, RefusesHead, Judges, AreResults}
+use Rattle.pnm_tools.proofs.Words.{AreLawfulTools, AreResultsInTurn, applied_in_turn, results_of, refusal_from, refusal_of, IsSound, AreSound, AreWell}
+use Rattle.pnm_tools.proofs.Words.{IsFirstFault, IsRefusedNext, HasRefused, HasAnswered, HaveAnswered}
+use Rattle.pnm_tools.specs.Chains.{due_in_turn}
 use Rattle.pnm_tools.proofs.FullAnswers.{full_answer_is_the_stream}
 use Rattle.pnm_tools.proofs.FullLaws.{prefix_of_prefix}
 use Rattle.pnm_tools.proofs.HeadFaultLaws.{head_is_refused_by_name}

@@ -1,21 +1,10 @@
 -- The picked image is what the rows of an image, each picked, are the messages of.
-use Rattle.std.proofs.Common.{◌≡◌, ℕ, suc, ◌+◌, ◌*◌, ◌<◌, ◌≤◌, Bool, true, false, List, map, length, slice_index, take, drop, Ok, Err, refl, sym, ap, subst}
-use Rattle.std.proofs.Common.{◌∙◌, arith, append-nil, mul_assoc, add-mul, mul-le-mul, suc-mul}
-use Rattle.std.specs.Prelude.{All, slice_index_or, if◌then◌else◌, nat_lt}
-use Rattle.std.specs.List.{range_with_len, list_all}
-use Rattle.std.proofs.lemmas.Bool.{ltb-true}
-use Rattle.std.proofs.lemmas.List.{same_lists, length-map, get_or-map, get_or-take, get_or-drop}
-use Rattle.std.proofs.lemmas.List.FromFn.{get_or-map-range_with_len, length-map-range_with_len}
-use Rattle.std.proofs.lemmas.List.Sums.{AllPass-from_list_all}
-use Rattle.std.proofs.lemmas.Simd.{map-map}
-use Rattle.pnm_image.specs.declared.shape.Shape.{Shape}
-use Rattle.pnm_image.specs.Heads.{HeadValue, is_too_large}
-use Rattle.pnm_image.specs.Images.{Image, rows_of}
-use Rattle.pnm_tools.specs.declared.fault.ToolFault.TheVariants.{ChannelOutside}
-use Rattle.pnm_tools.specs.declared.tool.Tool.TheVariants.{Channel}
-use Rattle.pnm_tools.specs.Formulas.{image_by}
-use Rattle.pnm_tools.specs.ToolLimits.{within_limits}
-use Rattle.pnm_tools.specs.Channel.{Picks, IsLawfulPick, HasPlanes, picked_head_value, picked_sample, picked_row}
+use Rattle.pnm_tools.proofs.Words.{◌≡◌, ℕ, suc, ◌+◌, ◌*◌, ◌<◌, ◌≤◌, Bool, true, false, List, map, length, slice_index, take, drop, Ok, Err, refl, sym, ap}
+use Rattle.pnm_tools.proofs.Words.{subst, ◌∙◌, arith, append-nil, mul_assoc, add-mul, mul-le-mul, suc-mul, All, slice_index_or, if◌then◌else◌, range_with_len}
+use Rattle.pnm_tools.proofs.Words.{list_all, ltb-true, same_lists, length-map, get_or-map, get_or-take, get_or-drop, get_or-map-range_with_len}
+use Rattle.pnm_tools.proofs.Words.{length-map-range_with_len, AllPass-from_list_all, map-map, Shape, HeadValue, is_too_large, Image, rows_of, ChannelOutside}
+use Rattle.pnm_tools.proofs.Words.{Channel, image_by, within_limits, Picks, IsLawfulPick, HasPlanes, picked_head_value, picked_sample, picked_row}
+use Rattle.std.specs.Prelude.{nat_lt}
 use Rattle.pnm_tools.specs.Tools.{result_head, result_sample}
 use Rattle.pnm_tools.proofs.FormulaLaws.{columns, row_at, rows_are, rows_of-image_by, range_alike}
 use Rattle.pnm_tools.proofs.ImageLaws.{answers_to_rows, each_row_answered, result_by_head, answered_by_rows}

@@ -1,21 +1,10 @@
 -- The cut image is what the rows of an image, each cut, are the messages of.
-use Rattle.std.proofs.Common.{◌≡◌, ℕ, zero, suc, ◌+◌, ◌-◌, ◌*◌, ◌<◌, ◌≤◌, Bool, true, false, ◌&&◌, ℤ, Option, Some, None, List, [], ◌∷◌, ◌++◌, map, length}
-use Rattle.std.proofs.Common.{slice_index, take, drop, Ok, Err, refl, sym, ap, ◌∙◌, arith, append-nil, mul_assoc, add-mul, mul-le-mul, suc-mul}
-use Rattle.std.specs.Prelude.{if◌then◌else◌, nat_le, ◌==◌}
-use Rattle.std.specs.List.{flat_map, range_with_len}
-use Rattle.std.proofs.lemmas.Bool.{le-leb, lt-leb, and_from, and_left, and_right}
-use Rattle.std.proofs.lemmas.Grind.{flat_map-append}
-use Rattle.std.proofs.lemmas.List.{drop-take, take-take, drop-drop, map-id}
-use Rattle.pnm_image.specs.declared.shape.Shape.{Shape}
-use Rattle.pnm_image.specs.Heads.{HeadValue}
-use Rattle.pnm_image.specs.Images.{Image, IsImage, sample_at, rows_of}
-use Rattle.pnm_tools.specs.declared.cut.CutBox.{CutBox}
-use Rattle.pnm_tools.specs.declared.cut.Span.{Span}
-use Rattle.pnm_tools.specs.declared.fault.ToolFault.TheVariants.{OutOfOrder}
-use Rattle.pnm_tools.specs.declared.tool.Tool.TheVariants.{Cut}
-use Rattle.pnm_tools.specs.Formulas.{image_by}
-use Rattle.pnm_tools.specs.Cut.{span_within, span_count, first_kept, last_kept, columns_kept, rows_kept, first_of, head_of_spans, columns_of_row, rows_of_spans}
-use Rattle.pnm_tools.specs.Cut.{cut_rows_of}
+use Rattle.pnm_tools.proofs.Words.{◌≡◌, ℕ, zero, suc, ◌+◌, ◌-◌, ◌*◌, ◌<◌, ◌≤◌, Bool, true, false, ◌&&◌, ℤ, Option, Some, None, List, [], ◌∷◌, ◌++◌, map, length}
+use Rattle.pnm_tools.proofs.Words.{slice_index, take, drop, Ok, Err, refl, sym, ap, ◌∙◌, arith, append-nil, mul_assoc, add-mul, mul-le-mul, suc-mul}
+use Rattle.pnm_tools.proofs.Words.{if◌then◌else◌, nat_le, ◌==◌, flat_map, range_with_len, le-leb, lt-leb, and_from, and_left, and_right, flat_map-append}
+use Rattle.pnm_tools.proofs.Words.{drop-take, take-take, drop-drop, map-id, Shape, HeadValue, Image, IsImage, sample_at, rows_of, CutBox, Span, OutOfOrder, Cut}
+use Rattle.pnm_tools.proofs.Words.{image_by, span_within, span_count, first_kept, last_kept, columns_kept, rows_kept, first_of, head_of_spans, columns_of_row}
+use Rattle.pnm_tools.proofs.Words.{rows_of_spans, cut_rows_of}
 use Rattle.pnm_tools.specs.Tools.{result_head, result_sample, row_answer}
 use Rattle.pnm_tools.proofs.FormulaLaws.{columns, columns_at, row_at, rows_are, rows_of-image_by, range_alike}
 use Rattle.pnm_tools.proofs.ImageLaws.{answers_to_rows, numbered_rows_answered, result_by_head, answered_by_rows}

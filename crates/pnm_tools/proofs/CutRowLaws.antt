@@ -1,27 +1,15 @@
 -- The columns and rows that are kept.
-use Rattle.std.proofs.Common.{◌≡◌, ◌⊎◌, inl, inr, ℕ, ◌+◌, ◌-◌, ◌*◌, ◌≤◌, ◌<◌, ℤ, pos, negsuc, Bool, true, false, nat_le, nat_lt, ◌&&◌, if◌then◌else◌, Option}
-use Rattle.std.proofs.Common.{Some, None, Result, Ok, Err, ◌==◌, List, [], ◌∷◌, mul-le-mul, add-mul, length, take, drop, refl, sym, ap, ◌∙◌, subst}
-use Rattle.std.proofs.Common.{arith, length-drop}
-use Rattle.std.specs.List.{copy_within}
-use Rattle.std.proofs.Math.Seq.{paste}
-use Rattle.std.proofs.lemmas.Bool.{leb-true, ltb-true, le-leb, lt-leb, ne_eqb, and_parts, and_right}
-use Rattle.std.proofs.lemmas.List.{take_all}
-use Rattle.std.proofs.lemmas.List.Edits.{take-paste}
-use Rattle.pnm_image.specs.declared.shape.Shape.{Shape}
-use Rattle.pnm_image.specs.Heads.{HeadValue, IsWithinLimits, head_value, is_too_large}
-use Rattle.pnm_tools.specs.declared.cut.CutBox.{CutBox}
-use Rattle.pnm_tools.specs.declared.cut.Span.{Span}
-use Rattle.pnm_tools.specs.declared.fault.ToolFault.{ToolFault}
-use Rattle.pnm_tools.specs.declared.fault.ToolFault.TheVariants.{OutOfOrder}
-use Rattle.pnm_tools.specs.declared.tool.Tool.TheVariants.{Cut}
-use Rattle.pnm_tools.specs.Cut.{columns_of_row, first_kept, last_kept, span_within, columns_kept, rows_kept, rows_of_spans, head_of_spans}
-use Rattle.pnm_tools.specs.Internal.Cut.{KeepsWithin}
-use Rattle.pnm_tools.specs.Cut.{span_count}
-use Rattle.pnm_tools.specs.ToolLimits.{within_limits}
-use Rattle.pnm_tools.specs.Tools.{result_head, row_answer}
+use Rattle.pnm_tools.proofs.Words.{◌≡◌, ◌⊎◌, inl, inr, ℕ, ◌+◌, ◌-◌, ◌*◌, ◌≤◌, ◌<◌, ℤ, pos, negsuc, Bool, true, false, nat_lt, ◌&&◌, Option, Some, None, Result}
+use Rattle.pnm_tools.proofs.Words.{Ok, Err, List, [], ◌∷◌, mul-le-mul, add-mul, length, take, drop, refl, sym, ap, ◌∙◌, subst, arith, copy_within, paste}
+use Rattle.pnm_tools.proofs.Words.{leb-true, ltb-true, le-leb, lt-leb, ne_eqb, and_parts, and_right, take_all, take-paste, Shape, HeadValue, IsWithinLimits}
+use Rattle.pnm_tools.proofs.Words.{head_value, is_too_large, CutBox, Span, ToolFault, OutOfOrder, Cut, columns_of_row, first_kept, last_kept, span_within}
+use Rattle.pnm_tools.proofs.Words.{columns_kept, rows_kept, rows_of_spans, head_of_spans, KeepsWithin, span_count, within_limits, result_head, row_answer}
+use Rattle.pnm_tools.proofs.Words.{MAX_ROW_LENGTH}
+use Rattle.std.proofs.Common.{nat_le, if◌then◌else◌}
+use Rattle.std.proofs.Common.{◌==◌}
+use Rattle.std.proofs.Common.{length-drop}
 use Rattle.pnm_tools.proofs.HeadLaws.{head_of_cut, small_sizes, small_head}
 use Rattle.pnm_tools.proofs.RowLaws.{row_of_cut}
-use Rattle.pnm_image.specs.declared.limits.TheConstants.{MAX_ROW_LENGTH}
 
 -- the rest of a list, moved to its front
 moved : {X : Type 0} (xs : List X) (f m : ℕ) → length xs ≡ m → f ≤ m → take (m - f) (copy_within xs f m 0) ≡ drop f xs

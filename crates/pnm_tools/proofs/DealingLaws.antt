@@ -1,13 +1,8 @@
 -- Images and their rows, dealt to lanes.
-use Rattle.std.proofs.Common.{◌≡◌, ℕ, zero, suc, ◌+◌, ◌%◌, ◌≤◌, Bool, true, false, List, [], ◌∷◌, ◌++◌, length, map, refl, sym, ap, ◌∙◌, arith, length-append}
-use Rattle.std.specs.Prelude.{◌==◌, if◌then◌else◌}
-use Rattle.std.proofs.lemmas.List.{map-append}
-use Rattle.pnm_image.specs.declared.shape.Shape.{Shape}
-use Rattle.pnm_image.specs.Heads.{HeadValue, IsHead}
-use Rattle.pnm_image.specs.Images.{Image, IsImage, rows_of}
-use Rattle.pnm_image.specs.Places.{IsRowOf}
-use Rattle.pnm_image.proofs.RowLaws.{AreRowsOf, IsImage-image_of, rows_of-image_of, length-rows_of, AreRowsOf-rows_of}
-use Rattle.pnm_tools.specs.Dealing.{dealt_height, dealt_row, dealt_rows, dealt_head, dealt_image}
+use Rattle.pnm_tools.proofs.Words.{◌≡◌, ℕ, zero, suc, ◌+◌, ◌%◌, ◌≤◌, Bool, true, false, List, [], ◌∷◌, ◌++◌, length, map, refl, sym, ap, ◌∙◌, arith, ◌==◌}
+use Rattle.pnm_tools.proofs.Words.{if◌then◌else◌, map-append, Shape, HeadValue, IsHead, Image, IsImage, rows_of, IsRowOf, AreRowsOf, IsImage-image_of}
+use Rattle.pnm_tools.proofs.Words.{rows_of-image_of, length-rows_of, AreRowsOf-rows_of, dealt_height, dealt_row, dealt_rows, dealt_head, dealt_image}
+use Rattle.std.proofs.Common.{length-append}
 
 -- ---- how many rows
 

@@ -1,18 +1,8 @@
 -- The rescaled image: each sample is changed by itself, to the nearest one.
-use Rattle.std.proofs.Common.{◌≡◌, ℕ, ◌+◌, ◌*◌, ◌/◌, ◌<◌, ◌≤◌, Bool, true, false, not, List, [], refl, ap, arith, mul-le-mul}
-use Rattle.std.proofs.Math.Nat.{lt_of_mul-lt-mul_left}
-use Rattle.std.specs.Prelude.{codes, All, slice_index_or, ◌≢◌, ◌==◌, if◌then◌else◌}
-use Rattle.std.specs.Str.{bytes_eq}
-use Rattle.std.specs.List.{list_all}
-use Rattle.std.proofs.lemmas.Bool.{eqb-true, eqb-false, not-true}
-use Rattle.std.proofs.lemmas.List.Sums.{AllPass-from_list_all}
-use Rattle.pnm_image.specs.declared.shape.Kind.{Kind}
-use Rattle.pnm_image.specs.declared.shape.Kind.TheVariants.{Bit, Gray, Color, Pam}
-use Rattle.pnm_image.specs.declared.shape.Shape.{Shape}
-use Rattle.pnm_image.specs.Heads.{HeadValue, IsHead, IsTupleType, Suits}
-use Rattle.pnm_tools.specs.declared.tool.Tool.TheVariants.{Depth}
-use Rattle.pnm_tools.specs.Depth.{nearest_sample, gray_kind, gray_type, rescaled_by}
-use Rattle.pnm_tools.specs.Samplewise.{changed_head}
+use Rattle.pnm_tools.proofs.Words.{◌≡◌, ℕ, ◌+◌, ◌*◌, ◌/◌, ◌<◌, ◌≤◌, Bool, true, false, not, List, [], refl, ap, arith, mul-le-mul, lt_of_mul-lt-mul_left, codes}
+use Rattle.pnm_tools.proofs.Words.{All, slice_index_or, ◌≢◌, ◌==◌, if◌then◌else◌, bytes_eq, list_all, eqb-true, eqb-false, not-true, AllPass-from_list_all}
+use Rattle.pnm_tools.proofs.Words.{Kind, Bit, Gray, Color, Pam, Shape, HeadValue, IsHead, IsTupleType, Suits, Depth, nearest_sample, gray_kind, gray_type}
+use Rattle.pnm_tools.proofs.Words.{rescaled_by, changed_head}
 use Rattle.pnm_tools.proofs.SamplewiseLaws.{IsSamplewise}
 
 -- the whole part of a quotient

@@ -1,21 +1,9 @@
 -- What is due so far is a prefix of the answers.
-use Rattle.std.proofs.Common.{◌≡◌, ◌⊎◌, inl, inr, ℕ, zero, suc, ◌+◌, Bool, true, false, List, [], ◌∷◌, ◌++◌, map, Result, Ok, Err, refl, sym, ap, subst, ◌∙◌}
-use Rattle.std.proofs.Common.{append_assoc, append-nil}
-use Rattle.pnm_image.specs.declared.shape.Shape.{Shape}
-use Rattle.pnm_image.specs.declared.message.Message.{Message}
-use Rattle.pnm_image.specs.declared.message.Message.TheVariants.{Begin, Row, ImageEnd, StreamEnd, Stop}
-use Rattle.pnm_image.specs.declared.place.Place.{Place}
-use Rattle.pnm_image.specs.declared.place.Place.TheVariants.{Between, Inside}
-use Rattle.pnm_image.specs.Heads.{HeadValue}
-use Rattle.pnm_image.specs.Images.{Image, IsImage, AreImages, rows_of, messages_of_image, messages_of_stream}
-use Rattle.pnm_image.specs.Places.{place_of}
-use Rattle.pnm_image.specs.Completion.{IsPrefixOf}
-use Rattle.pnm_image.proofs.Places.{place_of-append}
-use Rattle.pnm_tools.specs.declared.fault.ToolFault.{ToolFault}
-use Rattle.pnm_tools.specs.declared.tool.Tool.{Tool}
-use Rattle.pnm_tools.specs.Tools.{result_head, applied}
-use Rattle.pnm_tools.specs.Answers.{images_ended, begun_of, due_so_far}
-use Rattle.pnm_tools.specs.Answering.{answers_from}
+use Rattle.pnm_tools.proofs.Words.{◌≡◌, ◌⊎◌, inl, inr, ℕ, zero, suc, ◌+◌, Bool, true, false, List, [], ◌∷◌, ◌++◌, map, Result, Ok, Err, refl, sym, ap, subst}
+use Rattle.pnm_tools.proofs.Words.{◌∙◌, append_assoc, append-nil, Shape, Message, Begin, Row, ImageEnd, StreamEnd, Stop, Place, Between, Inside, HeadValue}
+use Rattle.pnm_tools.proofs.Words.{Image, IsImage, AreImages, rows_of, messages_of_image, messages_of_stream, place_of, IsPrefixOf, place_of-append, ToolFault}
+use Rattle.pnm_tools.proofs.Words.{Tool, result_head, applied, images_ended, begun_of, answers_from}
+use Rattle.pnm_tools.specs.Answers.{due_so_far}
 use Rattle.pnm_tools.proofs.AnsweringLaws.{AnswersImages, Prefixes, prefixes, ends_between, answered_after_image}
 
 -- an image and more: one image more has ended

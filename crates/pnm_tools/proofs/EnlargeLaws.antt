@@ -1,16 +1,8 @@
 -- The enlarged image is what the rows of an image, each enlarged, are the messages of.
-use Rattle.std.proofs.Common.{◌≡◌, ℕ, ◌+◌, ◌*◌, ◌/◌, ◌≤◌, List, [], ◌∷◌, ◌++◌, Ok, refl, sym, ap, ◌∙◌, append-nil}
-use Rattle.std.specs.List.{flat_map, range_with_len}
-use Rattle.std.proofs.lemmas.List.Folds.{flat_map-map}
-use Rattle.std.proofs.lemmas.Nat.{div_below}
-use Rattle.pnm_image.specs.declared.shape.Shape.{Shape}
-use Rattle.pnm_image.specs.Heads.{HeadValue}
-use Rattle.pnm_image.specs.Images.{Image, IsImage, rows_of}
-use Rattle.pnm_tools.specs.declared.tool.Tool.TheVariants.{Enlarge}
-use Rattle.pnm_tools.specs.Formulas.{image_by}
-use Rattle.pnm_tools.specs.PixelSamples.{pixel_of}
-use Rattle.pnm_tools.specs.Enlarge.{enlarged_head_value, enlarged_sample, enlarged_row, enlarged_rows}
-use Rattle.pnm_tools.specs.Tools.{result_head, result_sample, row_answer}
+use Rattle.pnm_tools.proofs.Words.{◌≡◌, ℕ, ◌+◌, ◌*◌, ◌/◌, ◌≤◌, List, [], ◌∷◌, ◌++◌, Ok, refl, sym, ap, ◌∙◌, append-nil, flat_map, range_with_len, flat_map-map}
+use Rattle.pnm_tools.proofs.Words.{div_below, Shape, HeadValue, Image, IsImage, rows_of, Enlarge, image_by, pixel_of, enlarged_head_value, enlarged_sample}
+use Rattle.pnm_tools.proofs.Words.{enlarged_row, enlarged_rows, result_head}
+use Rattle.pnm_tools.specs.Tools.{result_sample, row_answer}
 use Rattle.pnm_tools.proofs.FormulaLaws.{row_at, rows_are, range_alike}
 use Rattle.pnm_tools.proofs.ImageLaws.{result_by_head, answered_by_rows, answers_to_rows}
 use Rattle.pnm_tools.proofs.AnsweringLaws.{AnswersImages}

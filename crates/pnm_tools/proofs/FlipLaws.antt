@@ -1,24 +1,10 @@
 -- The flipped image is what the rows and the end of an image, flipped, are the messages of.
-use Rattle.std.proofs.Common.{◌≡◌, ℕ, ◌+◌, ◌-◌, Bool, true, false, List, [], ◌∷◌, ◌++◌, map, Ok, refl, sym, ap, ◌∙◌, arith, append-nil}
-use Rattle.std.specs.Prelude.{if◌then◌else◌}
-use Rattle.std.specs.List.{range_with_len}
-use Rattle.std.proofs.lemmas.List.{map-id}
-use Rattle.std.proofs.lemmas.List.Folds.{flat_map-map}
-use Rattle.std.proofs.lemmas.Simd.{map-map}
-use Rattle.pnm_image.specs.declared.shape.Shape.{Shape}
-use Rattle.pnm_image.specs.Heads.{HeadValue}
-use Rattle.pnm_image.specs.Images.{Image, IsImage, sample_at, rows_of}
-use Rattle.pnm_tools.specs.declared.flip.FlipWay.{FlipWay}
-use Rattle.pnm_tools.specs.declared.flip.Transform.{Transform}
-use Rattle.pnm_tools.specs.declared.tool.Tool.TheVariants.{Flip}
-use Rattle.pnm_tools.specs.Formulas.{image_by}
-use Rattle.pnm_tools.specs.PixelSamples.{pixel_of}
-use Rattle.pnm_tools.specs.Flip.{transform, transform_of, transformed_row, transformed_at_end, moves_rows, in_order}
-use Rattle.pnm_tools.specs.Internal.Flip.{transformed_sample, transformed_head_value}
-use Rattle.pnm_tools.specs.Flip.{mirrored_row}
-use Rattle.pnm_tools.specs.Internal.Flip.{place_in}
-use Rattle.pnm_tools.specs.Flip.{column_of, transposed_head_value}
-use Rattle.pnm_tools.specs.Tools.{result_head, result_sample, end_answer}
+use Rattle.pnm_tools.proofs.Words.{◌≡◌, ℕ, ◌+◌, ◌-◌, Bool, true, false, List, [], ◌∷◌, ◌++◌, map, Ok, refl, sym, ap, ◌∙◌, arith, append-nil, if◌then◌else◌}
+use Rattle.pnm_tools.proofs.Words.{range_with_len, map-id, flat_map-map, map-map, Shape, HeadValue, Image, IsImage, sample_at, rows_of, FlipWay, Transform}
+use Rattle.pnm_tools.proofs.Words.{Flip, image_by, pixel_of, transform, transform_of, transformed_row, transformed_at_end, moves_rows, in_order}
+use Rattle.pnm_tools.proofs.Words.{transformed_sample, transformed_head_value, mirrored_row, place_in, column_of, transposed_head_value, result_head}
+use Rattle.pnm_tools.proofs.Words.{end_answer}
+use Rattle.pnm_tools.specs.Tools.{result_sample}
 use Rattle.pnm_tools.proofs.FormulaLaws.{columns as side_by_side, row_at, rows_are, rows_of-image_by, range_alike}
 use Rattle.pnm_tools.proofs.ImageLaws.{result_by_head, answered_by_rows, answers_to_rows, each_row_answered}
 use Rattle.pnm_tools.proofs.AnsweringLaws.{AnswersImages}

@@ -1,16 +1,8 @@
 -- The heads of flipped images.
-use Rattle.std.proofs.Common.{◌≡◌, ◌⊎◌, inl, inr, ℕ, ◌==◌, ◌&&◌, Bool, false, true, List, if◌then◌else◌, Result, Ok, Err, refl, sym, ap}
-use Rattle.std.proofs.Common.{◌∙◌}
-use Rattle.std.proofs.lemmas.Bool.{ne_eqb}
-use Rattle.pnm_image.specs.declared.shape.Shape.{Shape}
-use Rattle.pnm_image.specs.Heads.{HeadValue, IsWithinLimits, head_value}
-use Rattle.pnm_tools.specs.declared.fault.ToolFault.{ToolFault}
-use Rattle.pnm_tools.specs.declared.fault.ToolFault.TheVariants.{OutOfOrder}
-use Rattle.pnm_tools.specs.declared.flip.FlipWay.{FlipWay}
-use Rattle.pnm_tools.specs.declared.flip.Transform.{Transform}
-use Rattle.pnm_tools.specs.declared.tool.Tool.TheVariants.{Flip}
-use Rattle.pnm_tools.specs.Flip.{transform_of, moves_rows, transformed_head, transposed_head_value}
-use Rattle.pnm_tools.specs.ToolLimits.{within_limits}
+use Rattle.pnm_tools.proofs.Words.{◌≡◌, ◌⊎◌, inl, inr, ℕ, ◌&&◌, Bool, false, true, List, Result, Ok, Err, refl, sym, ap, ◌∙◌, ne_eqb, Shape, HeadValue}
+use Rattle.pnm_tools.proofs.Words.{IsWithinLimits, head_value, ToolFault, OutOfOrder, FlipWay, Transform, Flip, transform_of, moves_rows, transformed_head}
+use Rattle.pnm_tools.proofs.Words.{transposed_head_value, within_limits}
+use Rattle.std.proofs.Common.{◌==◌, if◌then◌else◌}
 use Rattle.pnm_tools.specs.Tools.{result_head}
 use Rattle.pnm_tools.proofs.HeadLaws.{small_head, not_too_large}
 

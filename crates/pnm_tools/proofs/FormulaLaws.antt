@@ -1,16 +1,9 @@
 -- The rows of an image that is given by a formula.
-use Rattle.std.proofs.Common.{◌≡◌, ℕ, zero, suc, ◌+◌, ◌*◌, ◌<◌, ◌≤◌, List, ◌∷◌, ◌++◌, length, slice_index, take, drop, map, refl, sym, ap, ◌∙◌, arith, suc-mul}
-use Rattle.std.proofs.Common.{zero-mul, mul_assoc, mul-le-mul}
-use Rattle.std.specs.List.{flat_map, range_with_len}
-use Rattle.std.proofs.lemmas.List.{take_at, drop_at, drop-drop, map-append, length-map, length-take-le, length-drop, same_lists, get_or-take, get_or-drop}
-use Rattle.std.proofs.lemmas.List.{get_or-map}
-use Rattle.std.proofs.lemmas.Simd.{map-map}
-use Rattle.std.proofs.lemmas.List.FromFn.{get_or-map-range_with_len, length-map-range_with_len}
-use Rattle.std.proofs.Math.Seq.{take-add}
-use Rattle.pnm_image.specs.declared.shape.Shape.{Shape}
-use Rattle.pnm_image.specs.Heads.{HeadValue, row_length}
-use Rattle.pnm_image.specs.Images.{Image, IsImage, sample_at, cut_rows, rows_of}
-use Rattle.pnm_tools.specs.Formulas.{row_by, image_by}
+use Rattle.pnm_tools.proofs.Words.{◌≡◌, ℕ, zero, suc, ◌+◌, ◌*◌, ◌<◌, ◌≤◌, List, ◌∷◌, ◌++◌, length, slice_index, take, drop, map, refl, sym, ap, ◌∙◌, arith}
+use Rattle.pnm_tools.proofs.Words.{suc-mul, zero-mul, mul_assoc, mul-le-mul, flat_map, range_with_len, take_at, drop_at, drop-drop, map-append, length-map}
+use Rattle.pnm_tools.proofs.Words.{length-take-le, length-drop, same_lists, get_or-take, get_or-drop, get_or-map, map-map, get_or-map-range_with_len}
+use Rattle.pnm_tools.proofs.Words.{length-map-range_with_len, take-add, Shape, HeadValue, row_length, Image, IsImage, sample_at, cut_rows, rows_of, row_by}
+use Rattle.pnm_tools.proofs.Words.{image_by}
 use Rattle.pnm_tools.proofs.RangeLaws.{alike_from, length_of_equals}
 
 -- so many columns from one on, each of so many planes

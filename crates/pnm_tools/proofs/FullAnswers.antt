@@ -1,16 +1,8 @@
 -- A full answer to a stream is the tool's stream.
-use Rattle.std.proofs.Common.{◌≡◌, List, [], ◌∷◌, ◌++◌, Result, Ok, Err, refl, sym, ap, ◌∙◌, append-nil}
-use Rattle.pnm_image.specs.declared.message.Message.{Message}
-use Rattle.pnm_image.specs.declared.message.Message.TheVariants.{StreamEnd}
-use Rattle.pnm_image.specs.Images.{Image, AreImages, rows_of, messages_of_image, messages_of_stream}
-use Rattle.pnm_image.specs.Completion.{Completes}
-use Rattle.pnm_image.proofs.Lists.{same_first, same_rest}
-use Rattle.pnm_tools.specs.declared.fault.ToolFault.{ToolFault}
-use Rattle.pnm_tools.specs.declared.tool.Tool.{Tool}
-use Rattle.pnm_tools.specs.Tools.{applied, output_due}
-use Rattle.pnm_image.specs.declared.message.Ending.TheVariants.{More, Whole}
-use Rattle.pnm_image.specs.Messages.{ending_of, EndsBy}
-use Rattle.pnm_tools.specs.Answers.{AnswersInFull, AreResults}
+use Rattle.pnm_tools.proofs.Words.{◌≡◌, List, [], ◌∷◌, ◌++◌, Result, Ok, Err, refl, sym, ap, ◌∙◌, append-nil, Message, StreamEnd, Image, AreImages, rows_of}
+use Rattle.pnm_tools.proofs.Words.{messages_of_image, messages_of_stream, Completes, same_first, same_rest, ToolFault, Tool, applied, More, Whole, ending_of}
+use Rattle.pnm_tools.proofs.Words.{EndsBy, AnswersInFull, AreResults}
+use Rattle.pnm_tools.specs.Tools.{output_due}
 use Rattle.pnm_tools.proofs.AnsweringLaws.{due_by, due_is}
 use Rattle.pnm_tools.proofs.InFullLaws.{EndNothing, end_ends_nothing, ends_after}
 use Rattle.pnm_tools.proofs.SoundLaws.{unbroken_keeps_all}

@@ -1,16 +1,7 @@
 -- Where nothing waits, what was given is a full answer.
-use Rattle.std.proofs.Common.{◌≡◌, inl, inr, ℕ, suc, List, [], ◌∷◌, ◌++◌, refl, sym, ap, subst, ◌∙◌, append_assoc, append-nil}
-use Rattle.pnm_image.specs.declared.message.Message.{Message}
-use Rattle.pnm_image.specs.declared.message.Message.TheVariants.{Begin, Row, ImageEnd, StreamEnd, Stop}
-use Rattle.pnm_image.specs.declared.place.Place.TheVariants.{Between}
-use Rattle.pnm_image.specs.Images.{Image}
-use Rattle.pnm_image.specs.Messages.{without_stop, EndsBy}
-use Rattle.pnm_image.specs.Places.{place_of}
-use Rattle.pnm_image.specs.Completion.{IsPrefixOf, Completes}
-use Rattle.pnm_tools.specs.declared.tool.Tool.{Tool}
-use Rattle.pnm_tools.specs.Answers.{images_ended, begun_of, begun_in, due_so_far, AnswersInFull}
-use Rattle.pnm_tools.specs.Answering.{answers_from, rows_come}
-use Rattle.pnm_tools.specs.Answering.{IsAnswering}
+use Rattle.pnm_tools.proofs.Words.{◌≡◌, inl, inr, ℕ, suc, List, [], ◌∷◌, ◌++◌, refl, sym, ap, subst, ◌∙◌, append_assoc, append-nil, Message, Begin, Row}
+use Rattle.pnm_tools.proofs.Words.{ImageEnd, StreamEnd, Stop, Between, Image, without_stop, EndsBy, place_of, IsPrefixOf, Completes, Tool, images_ended}
+use Rattle.pnm_tools.proofs.Words.{begun_of, begun_in, due_so_far, AnswersInFull, answers_from, rows_come, IsAnswering}
 use Rattle.pnm_tools.proofs.AnsweringLaws.{AnswersImages, answers_from-append}
 use Rattle.pnm_tools.proofs.AtLaws.{StopsLast, keeps_all, cuts_stop, lawful_stops, answering_answers}
 use Rattle.pnm_tools.proofs.InFullLaws.{answers_end_so}

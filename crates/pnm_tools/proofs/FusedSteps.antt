@@ -1,14 +1,7 @@
 -- A stage that is fed: it takes the messages, refuses them, or drops them.
-use Rattle.std.proofs.Common.{◌≡◌, inl, inr, ℕ, Bool, true, List, [], ◌∷◌, ◌++◌, Option, None, Ok, Err, refl, sym, ap, subst, ◌∙◌}
-use Rattle.std.proofs.Common.{append_assoc}
-use Rattle.pnm_image.specs.declared.message.Message.{Message}
-use Rattle.pnm_image.specs.declared.message.Message.TheVariants.{Begin, Row, ImageEnd, StreamEnd, Stop}
-use Rattle.pnm_tools.specs.declared.fault.ToolFault.{ToolFault}
-use Rattle.pnm_tools.specs.declared.tool.Tool.{Tool}
-use Rattle.pnm_tools.specs.Answers.{JudgesAll, RefusesFirst}
-use Rattle.pnm_tools.specs.Tools.{AreTaken}
-use Rattle.pnm_tools.specs.ChainAnswers.{IsRefusedNext, HasRefused}
-use Rattle.pnm_tools.specs.FusedFilters.{IsIdle, IsBusy}
+use Rattle.pnm_tools.proofs.Words.{◌≡◌, inl, inr, ℕ, Bool, true, List, [], ◌∷◌, ◌++◌, Option, None, Ok, Err, refl, sym, ap, subst, ◌∙◌, append_assoc, Message}
+use Rattle.pnm_tools.proofs.Words.{Begin, Row, ImageEnd, StreamEnd, Stop, ToolFault, Tool, JudgesAll, RefusesFirst, AreTaken, IsRefusedNext, HasRefused, IsIdle}
+use Rattle.pnm_tools.proofs.Words.{IsBusy}
 
 -- no image of two lists is refused
 pub taken_append : (tool : Tool) (a b : List Message) → AreTaken tool a → AreTaken tool b → AreTaken tool (a ++ b)

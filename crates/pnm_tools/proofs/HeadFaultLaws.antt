@@ -1,25 +1,10 @@
 -- Why a tool refuses a head.
-use Rattle.std.proofs.Common.{◌≡◌, Bool, true, false, not, ◌&&◌, Option, Some, None, Result, Ok, Err, nat_lt, refl, ap, subst}
-use Rattle.std.specs.Prelude.{◌==◌, if◌then◌else◌}
-use Rattle.std.specs.List.{list_all}
-use Rattle.std.proofs.lemmas.Bool.{eqb-true, eq-eqb, not-true, not-false, not_from_false, and_parts, and_from}
-use Rattle.pnm_image.specs.Heads.{HeadValue, is_too_large}
-use Rattle.pnm_tools.specs.declared.cut.CutBox.{CutBox}
-use Rattle.pnm_tools.specs.declared.cut.Span.{Span}
-use Rattle.pnm_tools.specs.declared.fault.ToolFault.{ToolFault}
-use Rattle.pnm_tools.specs.declared.fault.ToolFault.TheVariants.{TooLarge, ChannelOutside, OutOfOrder}
-use Rattle.pnm_tools.specs.declared.flip.FlipWay.{FlipWay}
-use Rattle.pnm_tools.specs.declared.flip.Transform.{Transform}
-use Rattle.pnm_tools.specs.declared.tool.Tool.{Tool}
-use Rattle.pnm_tools.specs.declared.tool.Tool.TheVariants.{Invert, Cut, Depth, Channel, Enlarge, Flip, Tile}
-use Rattle.pnm_tools.specs.Channel.{picked_head_value}
-use Rattle.pnm_tools.specs.Cut.{head_of_spans, columns_kept, rows_kept}
-use Rattle.pnm_tools.specs.Enlarge.{enlarged_head_value}
-use Rattle.pnm_tools.specs.Flip.{transform_of, moves_rows, transformed_head, transposed_head_value}
-use Rattle.pnm_tools.specs.Laws.{IsFaultOfHead}
-use Rattle.pnm_tools.specs.ToolLimits.{within_limits}
-use Rattle.pnm_tools.specs.Tile.{tiled_head_value}
-use Rattle.pnm_tools.specs.Tools.{is_row_wise, result_head}
+use Rattle.pnm_tools.proofs.Words.{◌≡◌, Bool, true, false, not, ◌&&◌, Option, Some, None, Result, Ok, Err, nat_lt, refl, ap, subst, ◌==◌, if◌then◌else◌}
+use Rattle.pnm_tools.proofs.Words.{list_all, eqb-true, eq-eqb, not-true, not-false, not_from_false, and_parts, and_from, HeadValue, is_too_large, CutBox, Span}
+use Rattle.pnm_tools.proofs.Words.{ToolFault, TooLarge, ChannelOutside, OutOfOrder, FlipWay, Transform, Tool, Invert, Cut, Depth, Channel, Enlarge, Flip, Tile}
+use Rattle.pnm_tools.proofs.Words.{picked_head_value, head_of_spans, columns_kept, rows_kept, enlarged_head_value, transform_of, moves_rows, transformed_head}
+use Rattle.pnm_tools.proofs.Words.{transposed_head_value, IsFaultOfHead, within_limits, tiled_head_value, is_row_wise}
+use Rattle.pnm_tools.specs.Tools.{result_head}
 
 -- ---- by which faults
 

@@ -1,25 +1,12 @@
 -- The head of a result, tool by tool.
-use Rattle.std.proofs.Common.{◌≡◌, ◌⊎◌, inl, inr, ℕ, Bool, false, true, List, nat_lt, if◌then◌else◌, IfOk, IfErr, ◌↔◌, ◌<◌, ◌≤◌, IsTrue, All, length, Ok, Err}
-use Rattle.std.proofs.Common.{Result, refl, sym, ap, subst, ◌∙◌}
-use Rattle.std.specs.List.{list_all}
-use Rattle.pnm_image.specs.declared.shape.Shape.{Shape}
-use Rattle.pnm_image.specs.declared.shape.Kind.{Kind}
-use Rattle.pnm_image.specs.declared.shape.Kind.TheVariants.{Pam}
-use Rattle.pnm_image.specs.Heads.{HeadValue, IsWithinLimits, head_value, row_length, is_too_large}
-use Rattle.pnm_image.proofs.Heads.{not_large_size, sizes_within}
-use Rattle.pnm_tools.specs.declared.fault.ToolFault.{ToolFault}
-use Rattle.pnm_tools.specs.declared.fault.ToolFault.TheVariants.{Memory, TooLarge, ChannelOutside}
-use Rattle.pnm_tools.specs.declared.cut.CutBox.{CutBox}
-use Rattle.pnm_tools.specs.declared.tool.Tool.{Tool}
-use Rattle.pnm_tools.specs.declared.tool.Tool.TheVariants.{Cut, Channel}
-use Rattle.pnm_tools.specs.Channel.{Picks, picked_head, picked_head_value}
-use Rattle.pnm_tools.specs.Cut.{cut_head}
-use Rattle.pnm_tools.specs.ToolLimits.{within_limits}
-use Rattle.pnm_tools.specs.Samplewise.{SampleRule, changed_head}
-use Rattle.pnm_tools.specs.Tools.{TakesHead, result_head}
+use Rattle.pnm_tools.proofs.Words.{◌≡◌, ◌⊎◌, inl, inr, ℕ, Bool, false, true, List, nat_lt, IfOk, IfErr, ◌↔◌, ◌<◌, ◌≤◌, IsTrue, length, Ok, Err, Result, refl}
+use Rattle.pnm_tools.proofs.Words.{sym, ap, subst, ◌∙◌, list_all, Shape, Kind, Pam, HeadValue, IsWithinLimits, head_value, row_length, is_too_large}
+use Rattle.pnm_tools.proofs.Words.{not_large_size, sizes_within, ToolFault, Memory, TooLarge, ChannelOutside, CutBox, Tool, Cut, Channel, Picks, picked_head}
+use Rattle.pnm_tools.proofs.Words.{picked_head_value, cut_head, within_limits, SampleRule, changed_head, TakesHead, MAX_DEPTH, MAX_ROW_LENGTH, MAX_SIDE}
+use Rattle.std.proofs.Common.{if◌then◌else◌, All}
+use Rattle.pnm_tools.specs.Tools.{result_head}
 use Rattle.pnm_tools.proofs.SamplewiseLaws.{IsSamplewise, head_of_rule}
 use Rattle.pnm_tools.proofs.PickLaws.{all_below}
-use Rattle.pnm_image.specs.declared.limits.TheConstants.{MAX_DEPTH, MAX_ROW_LENGTH, MAX_SIDE}
 
 pub head_of_cut : (box : CutBox) (head : HeadValue) → result_head (Cut box) head ≡ cut_head box head
 unfolding result_head

@@ -1,18 +1,7 @@
 -- What becomes of an image that isn't refused.
-use Rattle.std.proofs.Common.{◌≡◌, ℕ, zero, suc, ◌+◌, List, [], ◌∷◌, ◌++◌, map, Result, Ok, Err, refl, sym, ap, ◌∙◌, append_assoc, append-nil}
-use Rattle.std.specs.List.{flat_map, range_with_len}
-use Rattle.std.proofs.lemmas.List.{map-append}
-use Rattle.pnm_image.specs.declared.shape.Shape.{Shape}
-use Rattle.pnm_image.specs.declared.message.Message.{Message}
-use Rattle.pnm_image.specs.declared.message.Message.TheVariants.{Begin, Row, ImageEnd}
-use Rattle.pnm_image.specs.declared.place.Place.TheVariants.{Between, Inside}
-use Rattle.pnm_image.specs.Heads.{HeadValue}
-use Rattle.pnm_image.specs.Images.{Image, rows_of, messages_of_image}
-use Rattle.pnm_tools.specs.declared.fault.ToolFault.{ToolFault}
-use Rattle.pnm_tools.specs.declared.tool.Tool.{Tool}
-use Rattle.pnm_tools.specs.Tools.{result_head, result_sample, applied, row_answer, end_answer}
-use Rattle.pnm_tools.specs.Formulas.{image_by}
-use Rattle.pnm_tools.specs.Answering.{answers_from}
+use Rattle.pnm_tools.proofs.Words.{◌≡◌, ℕ, zero, suc, ◌+◌, List, [], ◌∷◌, ◌++◌, map, Result, Ok, Err, refl, sym, ap, ◌∙◌, append_assoc, append-nil, flat_map}
+use Rattle.pnm_tools.proofs.Words.{range_with_len, map-append, Shape, Message, Begin, Row, ImageEnd, Between, Inside, HeadValue, Image, rows_of}
+use Rattle.pnm_tools.proofs.Words.{messages_of_image, ToolFault, Tool, result_head, result_sample, applied, row_answer, end_answer, image_by, answers_from}
 
 -- what becomes of an image by a formula and what becomes of its head
 abbrev pub made_by : (ℕ → ℕ → ℕ → ℕ) → Result HeadValue ToolFault → Result Image ToolFault

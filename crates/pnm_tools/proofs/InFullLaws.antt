@@ -1,18 +1,7 @@
 -- Where nothing waits, the answers are full.
-use Rattle.std.proofs.Common.{◌≡◌, ℕ, List, [], ◌∷◌, ◌++◌, map, Result, Ok, Err, refl, sym, ◌∙◌}
-use Rattle.pnm_image.specs.declared.message.Message.{Message}
-use Rattle.pnm_image.specs.declared.message.Message.TheVariants.{Begin, Row, ImageEnd, StreamEnd, Stop}
-use Rattle.pnm_image.specs.declared.place.Place.{Place}
-use Rattle.pnm_image.specs.declared.place.Place.TheVariants.{Between, Inside, After}
-use Rattle.pnm_image.specs.Heads.{HeadValue}
-use Rattle.pnm_image.specs.Places.{place_after}
-use Rattle.pnm_tools.specs.declared.fault.ToolFault.{ToolFault}
-use Rattle.pnm_tools.specs.declared.tool.Tool.{Tool}
-use Rattle.pnm_tools.specs.Tools.{result_head, row_answer, end_answer}
-use Rattle.pnm_image.specs.declared.message.Ending.{Ending}
-use Rattle.pnm_image.specs.declared.message.Ending.TheVariants.{More}
-use Rattle.pnm_image.specs.Messages.{ending_of, EndsBy}
-use Rattle.pnm_tools.specs.Answering.{answers_at, answers_from, rows_after}
+use Rattle.pnm_tools.proofs.Words.{◌≡◌, ℕ, List, [], ◌∷◌, ◌++◌, map, Result, Ok, Err, refl, sym, ◌∙◌, Message, Begin, Row, ImageEnd, StreamEnd, Stop, Place}
+use Rattle.pnm_tools.proofs.Words.{Between, Inside, After, HeadValue, place_after, ToolFault, Tool, result_head, row_answer, end_answer, Ending, More}
+use Rattle.pnm_tools.proofs.Words.{ending_of, EndsBy, answers_at, answers_from, rows_after}
 
 -- ---- the answers end as the messages do
 

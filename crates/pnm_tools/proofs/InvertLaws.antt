@@ -1,9 +1,5 @@
 -- The inverted image: each sample is changed by itself.
-use Rattle.std.proofs.Common.{◌≡◌, Ok, refl, arith}
-use Rattle.pnm_image.specs.Heads.{HeadValue}
-use Rattle.pnm_tools.specs.declared.tool.Tool.TheVariants.{Invert}
-use Rattle.pnm_tools.specs.Invert.{inverting}
-use Rattle.pnm_tools.specs.Tools.{result_head}
+use Rattle.pnm_tools.proofs.Words.{◌≡◌, Ok, refl, arith, HeadValue, Invert, inverting, result_head}
 use Rattle.pnm_tools.proofs.SamplewiseLaws.{IsSamplewise, head_of_rule}
 
 pub invert_is_samplewise : IsSamplewise Invert inverting

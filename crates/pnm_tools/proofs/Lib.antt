@@ -1,3 +1,4 @@
+mod Words
 pub mod FullAnswers
 pub mod FormulaLaws
 pub mod AnsweringLaws

@@ -1,17 +1,7 @@
 -- An image that is given by a formula is an image, where its samples are in range.
-use Rattle.std.proofs.Common.{ℕ, zero, suc, ◌+◌, ◌*◌, ◌<◌, ◌≤◌, inl, inr, length, List, map, sym, subst, arith}
-use Rattle.std.specs.Prelude.{All}
-use Rattle.std.specs.List.{flat_map, range_with_len}
-use Rattle.std.proofs.lemmas.Bool.{cases_lt}
-use Rattle.std.proofs.lemmas.List.Elements.{All-nil, All-append, All-from_get_or}
-use Rattle.std.proofs.lemmas.List.FromFn.{get_or-map-range_with_len, length-map-range_with_len}
-use Rattle.std.proofs.Math.ListN.{get_or-eq_default}
-use Rattle.pnm_image.specs.declared.shape.Shape.{Shape}
-use Rattle.pnm_image.specs.Heads.{HeadValue, IsHead}
-use Rattle.pnm_image.specs.Images.{Image, IsImage, sample_at}
-use Rattle.pnm_tools.specs.declared.tool.Tool.{Tool}
-use Rattle.pnm_tools.specs.Formulas.{row_by, image_by}
-use Rattle.pnm_tools.specs.Tools.{result_head, result_sample}
+use Rattle.pnm_tools.proofs.Words.{ℕ, zero, suc, ◌+◌, ◌*◌, ◌<◌, ◌≤◌, inl, inr, length, List, map, sym, subst, arith, All, flat_map, range_with_len, cases_lt}
+use Rattle.pnm_tools.proofs.Words.{All-nil, All-append, All-from_get_or, get_or-map-range_with_len, length-map-range_with_len, get_or-eq_default, Shape}
+use Rattle.pnm_tools.proofs.Words.{HeadValue, IsHead, Image, IsImage, sample_at, Tool, row_by, image_by, result_head, result_sample}
 use Rattle.pnm_tools.proofs.FormulaLaws.{length-image_by}
 use Rattle.pnm_tools.proofs.ImageLaws.{IsBy}
 

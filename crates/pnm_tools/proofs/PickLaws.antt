@@ -1,15 +1,9 @@
 -- The picking of planes, pixel by pixel.
-use Rattle.std.proofs.Common.{◌≡◌, ◌↔◌, ℕ, zero, suc, ◌+◌, ◌-◌, ◌*◌, ◌<◌, ◌≤◌, List, [], ◌++◌, length, take, drop, map, get_or, slice_index_or, All, Bool, true}
-use Rattle.std.proofs.Common.{false, IsTrue, nat_lt, inl, inr, refl, sym, ap, subst, ◌∙◌, arith, append_assoc, append-nil, mul-le-mul}
-use borrow.Rule.Slice.PartMut.{put_mid}
-use Rattle.std.specs.List.{flat_map, range_with_len, list_all}
-use Rattle.std.proofs.lemmas.Bool.{ltb-true, lt-ltb, cases_lt}
-use Rattle.std.proofs.lemmas.List.{length-append, length-drop, take_at, drop_at, drop-drop, take_all, drop_all, get_or_past}
-use Rattle.std.proofs.lemmas.List.Elements.{All-nil, All-append, All-map}
-use Rattle.std.proofs.lemmas.List.Sums.{AllPass-from_list_all, list_all-from_AllPass}
-use Rattle.pnm_image.specs.declared.shape.Shape.{Shape}
-use Rattle.pnm_tools.specs.Channel.{picked_samples}
-use Rattle.pnm_tools.specs.Internal.Channel.{picked_or}
+use Rattle.pnm_tools.proofs.Words.{◌≡◌, ◌↔◌, ℕ, zero, suc, ◌+◌, ◌-◌, ◌*◌, ◌<◌, ◌≤◌, List, [], ◌++◌, length, take, drop, map, get_or, Bool, true, false, IsTrue}
+use Rattle.pnm_tools.proofs.Words.{nat_lt, inl, inr, refl, sym, ap, subst, ◌∙◌, arith, append_assoc, append-nil, mul-le-mul, put_mid, flat_map, range_with_len}
+use Rattle.pnm_tools.proofs.Words.{list_all, ltb-true, lt-ltb, cases_lt, length-append, length-drop, take_at, drop_at, drop-drop, take_all, drop_all}
+use Rattle.pnm_tools.proofs.Words.{get_or_past, All-nil, All-append, All-map, AllPass-from_list_all, list_all-from_AllPass, Shape, picked_samples, picked_or}
+use Rattle.std.proofs.Common.{slice_index_or, All}
 
 -- one number more
 next_number : {X : Type 0} (f : ℕ → List X) (a n j : ℕ) → a + n ≡ j → flat_map f (range_with_len a (suc n)) ≡ flat_map f (range_with_len a n) ++ f j

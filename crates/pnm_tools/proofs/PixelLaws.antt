@@ -1,14 +1,7 @@
 -- The rows of images that are made of the pixels of another image.
-use Rattle.std.proofs.Common.{◌≡◌, ℕ, suc, ◌+◌, ◌*◌, ◌<◌, ◌≤◌, List, length, slice_index, take, drop, map, sym, ap, ◌∙◌, arith, add-mul, mul_assoc, mul-le-mul}
-use Rattle.std.proofs.Common.{suc-mul, [], ◌∷◌, get_or}
-use Rattle.std.specs.List.{flat_map, range_with_len}
-use Rattle.std.proofs.lemmas.List.{drop_more, length-drop, length-take-le, get_or-take, get_or-drop, map-id}
-use Rattle.std.proofs.lemmas.List.FromFn.{fill_by_all}
-use Rattle.pnm_image.specs.declared.shape.Shape.{Shape}
-use Rattle.pnm_image.specs.Heads.{HeadValue, row_length}
-use Rattle.pnm_image.specs.Images.{Image, IsImage, sample_at, rows_of}
-use Rattle.pnm_tools.specs.Formulas.{image_by}
-use Rattle.pnm_tools.specs.PixelSamples.{pixel_of}
+use Rattle.pnm_tools.proofs.Words.{◌≡◌, ℕ, suc, ◌+◌, ◌*◌, ◌<◌, ◌≤◌, List, length, slice_index, take, drop, map, sym, ap, ◌∙◌, arith, add-mul, mul_assoc}
+use Rattle.pnm_tools.proofs.Words.{mul-le-mul, suc-mul, [], ◌∷◌, get_or, flat_map, range_with_len, drop_more, length-drop, length-take-le, get_or-take}
+use Rattle.pnm_tools.proofs.Words.{get_or-drop, map-id, fill_by_all, Shape, HeadValue, row_length, Image, IsImage, sample_at, rows_of, image_by, pixel_of}
 use Rattle.pnm_tools.proofs.FormulaLaws.{columns, columns_at, row_at, rows_of-image_by, range_alike}
 use Rattle.pnm_tools.proofs.RangeLaws.{pieces_alike}
 

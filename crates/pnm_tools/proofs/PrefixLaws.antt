@@ -1,15 +1,9 @@
 -- What is due from a chain, by what is due from its first tool.
-use Rattle.std.proofs.Common.{◌≡◌, ◌⊎◌, inl, inr, ◌≤◌, List, [], ◌∷◌, ◌++◌, Result, Ok, Err, refl, sym, ap, subst, ◌∙◌, append_assoc, append-nil, arith}
-use Rattle.std.proofs.lemmas.List.Elements.{All-nil}
-use Rattle.pnm_image.specs.declared.shape.Kind.TheVariants.{Gray}
-use Rattle.pnm_image.specs.declared.message.Message.{Message}
-use Rattle.pnm_image.specs.declared.message.Message.TheVariants.{Begin, Row, ImageEnd, StreamEnd, Stop}
-use Rattle.pnm_image.specs.Images.{Image, IsImage, AreImages, messages_of_image, messages_of_stream}
-use Rattle.pnm_image.specs.Completion.{IsPrefixOf}
-use Rattle.pnm_tools.specs.declared.fault.ToolFault.{ToolFault}
-use Rattle.pnm_tools.specs.declared.tool.Tool.{Tool}
-use Rattle.pnm_tools.specs.Tools.{IsLawfulTool, applied, output_due}
-use Rattle.pnm_tools.specs.Chains.{applied_in_turn, due_in_turn}
+use Rattle.pnm_tools.proofs.Words.{◌≡◌, ◌⊎◌, inl, inr, ◌≤◌, List, [], ◌∷◌, ◌++◌, Result, Ok, Err, refl, sym, ap, subst, ◌∙◌, append_assoc, append-nil, arith}
+use Rattle.pnm_tools.proofs.Words.{All-nil, Gray, Message, Begin, Row, ImageEnd, StreamEnd, Stop, Image, IsImage, AreImages, messages_of_image}
+use Rattle.pnm_tools.proofs.Words.{messages_of_stream, IsPrefixOf, ToolFault, Tool, IsLawfulTool, applied, applied_in_turn}
+use Rattle.pnm_tools.specs.Tools.{output_due}
+use Rattle.pnm_tools.specs.Chains.{due_in_turn}
 use Rattle.pnm_tools.proofs.FullLaws.{prefix_of_prefix}
 use Rattle.pnm_tools.proofs.SoundLaws.{both_all, prefix_after}
 use Rattle.pnm_tools.proofs.ResultLaws.{result_is_image}

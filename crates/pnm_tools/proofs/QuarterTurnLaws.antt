@@ -1,24 +1,11 @@
 -- Quarter turns add up, and each turn is two flips.
-use Rattle.std.proofs.Common.{◌≡◌, ℕ, ◌-◌, ◌<◌, ◌==◌, Bool, true, false, List, map, Result, Ok, Err, refl, sym, ap, subst, ◌∙◌, arith}
-use Rattle.std.specs.Prelude.{if◌then◌else◌}
-use Rattle.std.specs.List.{range_with_len}
-use Rattle.std.proofs.lemmas.Bool.{ne_eqb}
-use Rattle.pnm_image.specs.declared.shape.Shape.{Shape}
-use Rattle.pnm_image.specs.Heads.{HeadValue, is_too_large, row_length}
-use Rattle.pnm_image.specs.Images.{Image, IsImage, sample_at, rows_of}
-use Rattle.pnm_image.proofs.RowLaws.{concat-cut_rows, image_of}
-use Rattle.pnm_tools.specs.declared.fault.ToolFault.{ToolFault}
-use Rattle.pnm_tools.specs.declared.fault.ToolFault.TheVariants.{OutOfOrder}
-use Rattle.pnm_tools.specs.declared.flip.FlipWay.{FlipWay}
-use Rattle.pnm_tools.specs.declared.flip.FlipWay.TheVariants.{LeftRight, TopBottom, Transpose, Rotate90, Rotate180, Rotate270}
-use Rattle.pnm_tools.specs.declared.flip.Transform.{Transform}
-use Rattle.pnm_tools.specs.declared.tool.Tool.TheVariants.{Flip}
-use Rattle.pnm_tools.specs.Flip.{transform, transform_of, transformed_head, transposed_head_value}
-use Rattle.pnm_tools.specs.Internal.Flip.{transformed_sample, transformed_head_value}
-use Rattle.pnm_tools.specs.Formulas.{row_by, image_by}
-use Rattle.pnm_tools.specs.Laws.{then_flipped, HasQuarterTurns}
-use Rattle.pnm_tools.specs.ToolLimits.{within_limits}
-use Rattle.pnm_tools.specs.Tools.{applied, result_head, result_sample}
+use Rattle.pnm_tools.proofs.Words.{◌≡◌, ℕ, ◌-◌, ◌<◌, Bool, true, false, List, map, Result, Ok, Err, refl, sym, ap, subst, ◌∙◌, arith, if◌then◌else◌}
+use Rattle.pnm_tools.proofs.Words.{range_with_len, ne_eqb, Shape, HeadValue, is_too_large, row_length, Image, IsImage, sample_at, rows_of, concat-cut_rows}
+use Rattle.pnm_tools.proofs.Words.{image_of, ToolFault, OutOfOrder, FlipWay, LeftRight, TopBottom, Transpose, Rotate90, Rotate180, Rotate270, Transform, Flip}
+use Rattle.pnm_tools.proofs.Words.{transform, transform_of, transformed_head, transposed_head_value, transformed_sample, transformed_head_value, row_by}
+use Rattle.pnm_tools.proofs.Words.{image_by, then_flipped, HasQuarterTurns, within_limits, applied}
+use Rattle.std.proofs.Common.{◌==◌}
+use Rattle.pnm_tools.specs.Tools.{result_head, result_sample}
 use Rattle.pnm_tools.proofs.FormulaLaws.{rows_are, range_alike, length-image_by}
 use Rattle.pnm_tools.proofs.HeadLaws.{small_head, not_too_large}
 use Rattle.pnm_tools.proofs.ImageLaws.{made_by}

@@ -1,12 +1,7 @@
 -- Lists made from a function of each number of a range.
-use Rattle.std.proofs.Common.{◌≡◌, ℕ, zero, suc, ◌+◌, ◌-◌, ◌*◌, ◌/◌, ◌<◌, ◌≤◌, List, [], ◌∷◌, ◌++◌, length, map, reverse, replicate, refl, sym, ap, ◌∙◌, arith}
-use Rattle.std.proofs.Common.{suc-mul, zero-mul}
-use Rattle.std.specs.List.{flat_map, range_with_len}
-use Rattle.std.proofs.lemmas.Nat.{div-mul-add}
-use Rattle.std.proofs.lemmas.List.{same_lists, length-reverse, get_or-reverse, map-append, length-append}
-use Rattle.std.proofs.lemmas.List.Concat.{flat_map_single}
-use Rattle.std.proofs.lemmas.List.FromFn.{get_or-map-range_with_len, length-map-range_with_len}
-use Rattle.std.proofs.lemmas.Grind.{flat_map-append}
+use Rattle.pnm_tools.proofs.Words.{◌≡◌, ℕ, zero, suc, ◌+◌, ◌-◌, ◌*◌, ◌/◌, ◌<◌, ◌≤◌, List, [], ◌∷◌, ◌++◌, length, map, reverse, replicate, refl, sym, ap, ◌∙◌}
+use Rattle.pnm_tools.proofs.Words.{arith, suc-mul, zero-mul, flat_map, range_with_len, div-mul-add, same_lists, length-reverse, get_or-reverse, map-append}
+use Rattle.pnm_tools.proofs.Words.{length-append, flat_map_single, get_or-map-range_with_len, length-map-range_with_len, flat_map-append}
 
 -- lists that are alike at each number of two ranges of one length
 pub alike_from : {A : Type 0} (f g : ℕ → A) (a b n : ℕ) → ((i : ℕ) → i < n → f (a + i) ≡ g (b + i)) → map f (range_with_len a n) ≡ map g (range_with_len b n)

@@ -1,21 +1,9 @@
 -- The results of images in a chain, and the refusal of the first image that is refused.
-use Rattle.std.proofs.Common.{◌≡◌, ◌⊎◌, inl, inr, ℕ, ◌+◌, true, List, [], ◌∷◌, ◌++◌, map, Option, Some, Result, Ok, Err, refl, sym, ap, subst, ◌∙◌}
-use Rattle.pnm_image.specs.declared.message.Message.{Message}
-use Rattle.pnm_image.specs.declared.message.Message.TheVariants.{Begin, Row, ImageEnd, StreamEnd, Stop}
-use Rattle.pnm_image.specs.declared.place.Place.TheVariants.{Between}
-use Rattle.pnm_image.specs.Heads.{HeadValue}
-use Rattle.pnm_image.specs.Places.{Accepts, IsLawfulFrom, place_of}
-use Rattle.pnm_image.specs.Images.{Image, AreImages, rows_of, messages_of_stream}
-use Rattle.pnm_image.proofs.Streams.{stream_is_lawful}
-use Rattle.pnm_image.proofs.Places.{next_may_come}
-use Rattle.pnm_tools.specs.declared.fault.ToolFault.{ToolFault}
-use Rattle.pnm_tools.specs.declared.fault.ToolFault.TheVariants.{CutOutside, ChannelOutside, TooLarge, OutOfOrder, Memory}
-use Rattle.pnm_tools.specs.declared.tool.Tool.{Tool}
-use Rattle.pnm_tools.specs.Formulas.{image_by}
-use Rattle.pnm_tools.specs.Tools.{IsLawfulTool, AreTaken, result_head, result_sample, applied}
-use Rattle.pnm_tools.specs.Answers.{MayCome, RefusesHead, Judges, AreResults}
-use Rattle.pnm_tools.specs.Chains.{AreResultsInTurn, results_of, Refusal, refusal_from}
-use Rattle.pnm_tools.specs.ChainAnswers.{IsRefusedNext}
+use Rattle.pnm_tools.proofs.Words.{◌≡◌, ◌⊎◌, inl, inr, ℕ, ◌+◌, true, List, [], ◌∷◌, ◌++◌, map, Option, Some, Result, Ok, Err, refl, sym, ap, subst, ◌∙◌}
+use Rattle.pnm_tools.proofs.Words.{Message, Begin, Row, ImageEnd, StreamEnd, Stop, Between, HeadValue, Accepts, IsLawfulFrom, place_of, Image, AreImages}
+use Rattle.pnm_tools.proofs.Words.{rows_of, messages_of_stream, stream_is_lawful, next_may_come, ToolFault, CutOutside, ChannelOutside, TooLarge, OutOfOrder}
+use Rattle.pnm_tools.proofs.Words.{Memory, Tool, image_by, IsLawfulTool, AreTaken, result_head, result_sample, applied, MayCome, RefusesHead, Judges}
+use Rattle.pnm_tools.proofs.Words.{AreResults, AreResultsInTurn, results_of, Refusal, refusal_from, IsRefusedNext}
 use Rattle.pnm_tools.proofs.AnsweringLaws.{taken_rest, applied_by}
 use Rattle.pnm_tools.proofs.PrefixLaws.{rest_in_turn}
 use Rattle.pnm_tools.proofs.ResultLaws.{result_is_image}

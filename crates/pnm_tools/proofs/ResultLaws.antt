@@ -1,18 +1,8 @@
 -- The result of an image is an image.
-use Rattle.std.proofs.Common.{◌≡◌, ℕ, ◌*◌, ◌<◌, ◌≤◌, false, length, slice_index, Ok, sym, subst, arith}
-use Rattle.std.proofs.Common.{mul-le-mul}
-use Rattle.pnm_image.specs.declared.shape.Shape.{Shape}
-use Rattle.pnm_image.specs.Heads.{HeadValue, IsHead, is_too_large}
-use Rattle.pnm_image.specs.Images.{Image, IsImage, sample_at}
-use Rattle.pnm_image.proofs.Heads.{sizes_within}
-use Rattle.pnm_tools.specs.declared.cut.CutBox.{CutBox}
-use Rattle.pnm_tools.specs.declared.cut.Span.{Span}
-use Rattle.pnm_tools.specs.declared.tool.Tool.{Tool}
-use Rattle.pnm_tools.specs.declared.tool.Tool.TheVariants.{Invert, Cut, Depth, Channel, Enlarge, Flip, Tile}
-use Rattle.pnm_tools.specs.Cut.{span_count}
-use Rattle.pnm_tools.specs.Samplewise.{SampleRule}
-use Rattle.pnm_tools.specs.Channel.{Picks, IsLawfulPick, picked_head_value}
-use Rattle.pnm_tools.specs.Tools.{IsLawfulTool, applied, result_sample}
+use Rattle.pnm_tools.proofs.Words.{◌≡◌, ℕ, ◌*◌, ◌<◌, ◌≤◌, false, length, slice_index, Ok, sym, subst, arith, mul-le-mul, Shape, HeadValue, IsHead, is_too_large}
+use Rattle.pnm_tools.proofs.Words.{Image, IsImage, sample_at, sizes_within, CutBox, Span, Tool, Invert, Cut, Depth, Channel, Enlarge, Flip, Tile, span_count}
+use Rattle.pnm_tools.proofs.Words.{SampleRule, Picks, IsLawfulPick, picked_head_value, IsLawfulTool, applied}
+use Rattle.pnm_tools.specs.Tools.{result_sample}
 use Rattle.pnm_tools.proofs.ImageLaws.{result_by_head}
 use Rattle.pnm_tools.proofs.MadeLaws.{made_is_image, sample_in_range}
 use Rattle.pnm_tools.proofs.WholeResultLaws.{enlarged_is_image, enlarged_has_rows, flipped_is_image, flipped_has_rows, tiled_is_image, tiled_has_rows}

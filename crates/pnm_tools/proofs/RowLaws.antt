@@ -1,16 +1,7 @@
 -- The rows that answer a row, tool by tool.
-use Rattle.std.proofs.Common.{◌≡◌, ℕ, ◌+◌, ◌<◌, ◌≤◌, List, [], ◌∷◌, map, length, get_or}
-use Rattle.std.proofs.Common.{refl, ap, ◌∙◌, arith}
-use Rattle.std.specs.List.{range_with_len}
-use Rattle.std.proofs.lemmas.List.FromFn.{get_or-map-range_with_len, length-map-range_with_len}
-use Rattle.pnm_image.specs.declared.shape.Shape.{Shape}
-use Rattle.pnm_tools.specs.declared.cut.CutBox.{CutBox}
-use Rattle.pnm_tools.specs.declared.flip.FlipWay.{FlipWay}
-use Rattle.pnm_tools.specs.declared.tool.Tool.TheVariants.{Cut, Channel, Enlarge, Flip}
-use Rattle.pnm_tools.specs.Channel.{Picks, picked_row}
-use Rattle.pnm_tools.specs.Cut.{cut_rows_of}
-use Rattle.pnm_tools.specs.Enlarge.{enlarged_rows}
-use Rattle.pnm_tools.specs.Flip.{transform_of, transformed_rows}
+use Rattle.pnm_tools.proofs.Words.{◌≡◌, ℕ, ◌+◌, ◌<◌, ◌≤◌, List, [], ◌∷◌, map, length, get_or, refl, ap, ◌∙◌, arith, range_with_len, get_or-map-range_with_len}
+use Rattle.pnm_tools.proofs.Words.{length-map-range_with_len, Shape, CutBox, FlipWay, Cut, Channel, Enlarge, Flip, Picks, picked_row, cut_rows_of}
+use Rattle.pnm_tools.proofs.Words.{enlarged_rows, transform_of, transformed_rows}
 use Rattle.pnm_tools.specs.Tools.{row_answer}
 
 pub row_of_cut : (box : CutBox) (s : Shape) (y : ℕ) (row : List ℕ) → row_answer (Cut box) s y row ≡ cut_rows_of box s y row

@@ -1,34 +1,14 @@
 -- The tools that are called row-wise commute with dealing, and no others do.
-use Rattle.std.proofs.Common.{◌≡◌, ◌↔◌, ℕ, ◌*◌, ◌≤◌, Bool, true, false, ◌||◌, List, [], ◌∷◌, ◌++◌, map, nat_lt, Result, Ok, Err, refl, sym, ap, subst, ◌∙◌}
-use Rattle.std.proofs.Common.{arith, append-nil}
-use Rattle.std.specs.Prelude.{if◌then◌else◌}
-use Rattle.std.specs.List.{list_all}
-use Rattle.std.proofs.lemmas.Bool.{eqb-true, le-ltb, not-true}
-use Rattle.std.proofs.lemmas.List.Elements.{All-nil, All-cons}
-use Rattle.pnm_image.specs.declared.shape.Shape.{Shape}
-use Rattle.pnm_image.specs.declared.message.Message.{Message}
-use Rattle.pnm_image.specs.declared.message.Message.TheVariants.{Begin, Row, ImageEnd}
-use Rattle.pnm_image.specs.declared.place.Place.TheVariants.{Between, Inside}
-use Rattle.pnm_image.specs.Heads.{HeadValue, IsHead, with_height, row_length, is_too_large}
-use Rattle.pnm_image.specs.Images.{Image, IsImage, rows_of, messages_of_image}
-use Rattle.pnm_image.specs.declared.limits.TheConstants.{MAX_DEPTH, MAX_ROW_LENGTH, MAX_SIDE}
-use Rattle.pnm_image.proofs.Lists.{same_first, same_rest}
-use Rattle.pnm_image.proofs.RowLaws.{concat-cut_rows, image_of}
-use Rattle.pnm_tools.specs.declared.fault.ToolFault.{ToolFault}
-use Rattle.pnm_tools.specs.declared.fault.ToolFault.TheVariants.{ChannelOutside, TooLarge, OutOfOrder}
-use Rattle.pnm_tools.specs.declared.flip.FlipWay.{FlipWay}
-use Rattle.pnm_tools.specs.declared.flip.Transform.{Transform}
-use Rattle.pnm_tools.specs.declared.tool.Tool.{Tool}
-use Rattle.pnm_tools.specs.declared.tool.Tool.TheVariants.{Invert, Cut, Depth, Channel, Enlarge, Flip, Tile}
-use Rattle.pnm_tools.specs.Answering.{answers_from}
-use Rattle.pnm_tools.specs.Channel.{Picks, picked_row, picked_head_value}
-use Rattle.pnm_tools.specs.Dealing.{dealt_height, dealt_head, dealt_image, dealt_result, dealt_rows, IsRowWise, column}
-use Rattle.pnm_tools.specs.Enlarge.{enlarged_head_value, enlarged_row}
-use Rattle.pnm_tools.specs.Flip.{transform, transform_of, moves_rows, moved_rows, transformed_head, transformed_row}
-use Rattle.pnm_tools.specs.Formulas.{image_by}
-use Rattle.pnm_tools.specs.ToolLimits.{within_limits}
-use Rattle.pnm_tools.specs.Samplewise.{SampleRule}
-use Rattle.pnm_tools.specs.Tools.{IsLawfulTool, is_row_wise, applied, result_head, result_sample, row_answer, end_answer}
+use Rattle.pnm_tools.proofs.Words.{◌≡◌, ◌↔◌, ℕ, ◌*◌, ◌≤◌, Bool, true, false, ◌||◌, List, [], ◌∷◌, ◌++◌, map, nat_lt, Result, Ok, Err, refl, sym, ap, subst, ◌∙◌}
+use Rattle.pnm_tools.proofs.Words.{arith, append-nil, if◌then◌else◌, list_all, eqb-true, le-ltb, not-true, All-nil, All-cons, Shape, Message, Begin, Row}
+use Rattle.pnm_tools.proofs.Words.{ImageEnd, Between, Inside, HeadValue, IsHead, with_height, row_length, is_too_large, Image, IsImage, rows_of}
+use Rattle.pnm_tools.proofs.Words.{messages_of_image, MAX_DEPTH, MAX_ROW_LENGTH, MAX_SIDE, same_first, same_rest, concat-cut_rows, image_of, ToolFault}
+use Rattle.pnm_tools.proofs.Words.{ChannelOutside, TooLarge, OutOfOrder, FlipWay, Transform, Tool, Invert, Cut, Depth, Channel, Enlarge, Flip, Tile}
+use Rattle.pnm_tools.proofs.Words.{answers_from, Picks, picked_row, picked_head_value, dealt_height, dealt_head, dealt_image, dealt_result, dealt_rows}
+use Rattle.pnm_tools.proofs.Words.{IsRowWise, column, enlarged_head_value, enlarged_row, transform, transform_of, moves_rows, moved_rows, transformed_head}
+use Rattle.pnm_tools.proofs.Words.{transformed_row, image_by, within_limits, SampleRule, IsLawfulTool, is_row_wise, applied, result_sample, row_answer}
+use Rattle.pnm_tools.proofs.Words.{end_answer}
+use Rattle.pnm_tools.specs.Tools.{result_head}
 use Rattle.pnm_tools.proofs.DepthLaws.{depth_is_samplewise}
 use Rattle.pnm_tools.proofs.InvertLaws.{invert_is_samplewise}
 use Rattle.pnm_tools.proofs.SamplewiseLaws.{IsSamplewise, head_of_rule, no_end_of_rule, row_of_rule}

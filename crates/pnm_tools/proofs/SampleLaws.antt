@@ -1,16 +1,8 @@
 -- The samples of an image that is given by a formula, by column, row and plane.
-use Rattle.std.proofs.Common.{◌≡◌, ℕ, zero, suc, ◌+◌, ◌*◌, ◌<◌, ◌≤◌, List, ◌++◌, length, get_or, map, Ok, subst, ap, ◌∙◌, arith, add-mul, mul_assoc, mul-le-mul}
-use Rattle.std.proofs.Common.{suc-mul, zero-mul}
-use Rattle.std.specs.List.{flat_map, range_with_len}
-use Rattle.std.proofs.lemmas.List.{get_or_append_left, get_or-append-add}
-use Rattle.std.proofs.lemmas.List.FromFn.{get_or-map-range_with_len, length-map-range_with_len}
-use Rattle.pnm_image.specs.declared.shape.Shape.{Shape}
-use Rattle.pnm_image.specs.Heads.{HeadValue, row_length}
-use Rattle.pnm_image.specs.Images.{Image, sample_at}
-use Rattle.pnm_tools.specs.declared.tool.Tool.{Tool}
-use Rattle.pnm_tools.specs.Formulas.{row_by, image_by}
-use Rattle.pnm_tools.specs.Laws.{IsByTheFormula}
-use Rattle.pnm_tools.specs.Tools.{applied, result_head, result_sample}
+use Rattle.pnm_tools.proofs.Words.{◌≡◌, ℕ, zero, suc, ◌+◌, ◌*◌, ◌<◌, ◌≤◌, List, ◌++◌, length, get_or, map, Ok, subst, ap, ◌∙◌, arith, add-mul, mul_assoc}
+use Rattle.pnm_tools.proofs.Words.{mul-le-mul, suc-mul, zero-mul, flat_map, range_with_len, get_or_append_left, get_or-append-add, get_or-map-range_with_len}
+use Rattle.pnm_tools.proofs.Words.{length-map-range_with_len, Shape, HeadValue, row_length, Image, sample_at, Tool, row_by, image_by, IsByTheFormula, applied}
+use Rattle.pnm_tools.proofs.Words.{result_head, result_sample}
 use Rattle.pnm_tools.proofs.FormulaLaws.{length-row_by, length-image_by}
 use Rattle.pnm_tools.proofs.ImageLaws.{result_by_head}
 

@@ -1,16 +1,8 @@
 -- Tools that change each sample by itself: their rules, and that a whole image is answered by its result.
-use Rattle.std.proofs.Common.{◌≡◌, ℕ, ◌+◌, ◌≤◌, List, [], ◌∷◌, ◌++◌, map, Result, Ok, refl, sym, ap, ◌∙◌, append-nil}
-use Rattle.pnm_image.specs.declared.shape.Shape.{Shape}
-use Rattle.pnm_image.specs.Heads.{HeadValue, IsHead}
-use Rattle.pnm_image.specs.Images.{Image, IsImage, rows_of, sample_at}
-use Rattle.pnm_tools.specs.declared.fault.ToolFault.{ToolFault}
-use Rattle.pnm_tools.specs.declared.tool.Tool.{Tool}
-use Rattle.pnm_tools.specs.Answering.{rows_answer}
-use Rattle.pnm_tools.specs.Formulas.{image_by}
-use Rattle.pnm_tools.specs.Meaning.{Meaning, RowRule}
-use Rattle.pnm_tools.specs.SampleTools.{ChangesSamples}
-use Rattle.pnm_tools.specs.Samplewise.{SampleRule, changed_head, samplewise, samplewise_row_rule}
-use Rattle.pnm_tools.specs.Tools.{IsLawfulTool, meaning, result_head, result_sample, row_rule, row_answer, end_answer}
+use Rattle.pnm_tools.proofs.Words.{◌≡◌, ℕ, ◌+◌, ◌≤◌, List, [], ◌∷◌, ◌++◌, map, Result, Ok, refl, sym, ap, ◌∙◌, append-nil, Shape, HeadValue, IsHead, Image}
+use Rattle.pnm_tools.proofs.Words.{IsImage, rows_of, sample_at, ToolFault, Tool, rows_answer, image_by, Meaning, RowRule, ChangesSamples, SampleRule}
+use Rattle.pnm_tools.proofs.Words.{changed_head, samplewise, samplewise_row_rule, IsLawfulTool, meaning, row_rule, end_answer}
+use Rattle.pnm_tools.specs.Tools.{result_head, result_sample, row_answer}
 use Rattle.pnm_tools.proofs.AnsweringLaws.{AnswersImages}
 use Rattle.pnm_tools.proofs.FormulaLaws.{samplewise_rows}
 use Rattle.pnm_tools.proofs.ImageLaws.{answers_to_rows, each_row_answered, result_by_head, answered_by_rows}

@@ -1,20 +1,9 @@
 -- Lists of messages without Stop, of images that have rows: how they end, their prefixes, and what completes them.
-use Rattle.std.proofs.Common.{◌≡◌, inl, inr, ℕ, ◌<◌, List, [], ◌∷◌, ◌++◌, map, Result, Ok, Err, refl, sym, ap, subst, ◌∙◌, append_assoc}
-use Rattle.std.specs.List.{AllByRecursion}
-use Rattle.pnm_image.specs.declared.message.Message.{Message}
-use Rattle.pnm_image.specs.declared.message.Message.TheVariants.{Begin, Row, ImageEnd, StreamEnd, Stop}
-use Rattle.pnm_image.specs.declared.place.Place.{Place}
-use Rattle.pnm_image.specs.Heads.{HeadValue}
-use Rattle.pnm_image.specs.Messages.{without_stop, ending_of, EndsBy}
-use Rattle.pnm_image.specs.Places.{IsLawfulFrom, place_after}
-use Rattle.pnm_image.specs.Images.{Image, IsImage, AreImages, rows_of, messages_of_image, messages_of_stream}
-use Rattle.pnm_image.specs.Completion.{IsPrefixOf}
-use Rattle.pnm_tools.specs.declared.fault.ToolFault.{ToolFault}
-use Rattle.pnm_tools.specs.declared.tool.Tool.{Tool}
-use Rattle.pnm_tools.specs.Tools.{IsLawfulTool, applied, output_due}
-use Rattle.pnm_image.specs.declared.message.Ending.{Ending}
-use Rattle.pnm_image.specs.declared.message.Ending.TheVariants.{More, Whole, BrokenOff}
-use Rattle.pnm_tools.specs.ChainAnswers.{IsSound}
+use Rattle.pnm_tools.proofs.Words.{◌≡◌, inl, inr, ℕ, ◌<◌, List, [], ◌∷◌, ◌++◌, map, Result, Ok, Err, refl, sym, ap, subst, ◌∙◌, append_assoc, AllByRecursion}
+use Rattle.pnm_tools.proofs.Words.{Message, Begin, Row, ImageEnd, StreamEnd, Stop, Place, HeadValue, without_stop, ending_of, EndsBy, IsLawfulFrom, place_after}
+use Rattle.pnm_tools.proofs.Words.{Image, IsImage, AreImages, rows_of, messages_of_image, messages_of_stream, IsPrefixOf, ToolFault, Tool, IsLawfulTool}
+use Rattle.pnm_tools.proofs.Words.{applied, Ending, More, Whole, BrokenOff, IsSound}
+use Rattle.pnm_tools.specs.Tools.{output_due}
 use Rattle.pnm_tools.proofs.AnsweringLaws.{Prefixes, prefixes, due_by, due_is}
 use Rattle.pnm_tools.proofs.ResultLaws.{result_is_image, result_has_rows}
 

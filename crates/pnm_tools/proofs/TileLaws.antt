@@ -1,15 +1,8 @@
 -- The tiled image is what the end of an image, tiled, is the messages of.
-use Rattle.std.proofs.Common.{◌≡◌, ℕ, ◌+◌, ◌%◌, ◌<◌, List, [], ◌∷◌, ◌++◌, Ok, refl, sym, ap, ◌∙◌, arith}
-use Rattle.std.specs.Prelude.{slice_index_or}
-use Rattle.std.proofs.Math.Nat.{mod-lt}
-use Rattle.std.proofs.lemmas.List.FromFn.{get_or-map-range_with_len}
-use Rattle.pnm_image.specs.declared.shape.Shape.{Shape}
-use Rattle.pnm_image.specs.Heads.{HeadValue}
-use Rattle.pnm_image.specs.Images.{Image, IsImage, rows_of}
-use Rattle.pnm_tools.specs.declared.tool.Tool.TheVariants.{Tile}
-use Rattle.pnm_tools.specs.Formulas.{image_by}
-use Rattle.pnm_tools.specs.Tile.{tiled_head_value, tiled_sample, tiled_row, tiled_at_end}
-use Rattle.pnm_tools.specs.Tools.{result_head, result_sample, row_answer}
+use Rattle.pnm_tools.proofs.Words.{◌≡◌, ℕ, ◌+◌, ◌%◌, ◌<◌, List, [], ◌∷◌, ◌++◌, Ok, refl, sym, ap, ◌∙◌, arith, slice_index_or, mod-lt, get_or-map-range_with_len}
+use Rattle.pnm_tools.proofs.Words.{Shape, HeadValue, Image, IsImage, rows_of, Tile, image_by, tiled_head_value, tiled_sample, tiled_row, tiled_at_end}
+use Rattle.pnm_tools.proofs.Words.{result_head}
+use Rattle.pnm_tools.specs.Tools.{result_sample, row_answer}
 use Rattle.pnm_tools.proofs.FormulaLaws.{row_at, rows_are, range_alike}
 use Rattle.pnm_tools.proofs.ImageLaws.{result_by_head, answered_by_rows, answers_to_rows}
 use Rattle.pnm_tools.proofs.AnsweringLaws.{AnswersImages}

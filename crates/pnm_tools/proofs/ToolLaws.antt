@@ -1,7 +1,5 @@
 -- Each tool answers a whole image by its result.
-use Rattle.pnm_tools.specs.declared.tool.Tool.{Tool}
-use Rattle.pnm_tools.specs.declared.tool.Tool.TheVariants.{Invert, Cut, Depth, Channel, Enlarge, Flip, Tile}
-use Rattle.pnm_tools.specs.Tools.{IsLawfulTool}
+use Rattle.pnm_tools.proofs.Words.{Tool, Invert, Cut, Depth, Channel, Enlarge, Flip, Tile, IsLawfulTool}
 use Rattle.pnm_tools.proofs.AnsweringLaws.{AnswersImages}
 use Rattle.pnm_tools.proofs.InvertLaws.{invert_is_samplewise}
 use Rattle.pnm_tools.proofs.CutLaws.{cut_answers_images}

@@ -1,17 +1,7 @@
 -- Each way is its rule, and what a rule says of orders and of rows.
-use Rattle.std.proofs.Common.{◌≡◌, ℕ, ◌<◌, Bool, true, false, ◌||◌, List, [], ◌∷◌, map, refl, sym, ap, ◌∙◌, arith}
-use Rattle.std.specs.Prelude.{if◌then◌else◌}
-use Rattle.std.specs.List.{range_with_len}
-use Rattle.pnm_image.specs.declared.shape.Shape.{Shape}
-use Rattle.pnm_image.specs.Images.{Image}
-use Rattle.pnm_tools.specs.declared.flip.FlipWay.{FlipWay}
-use Rattle.pnm_tools.specs.declared.flip.FlipWay.TheVariants.{Null, LeftRight, TopBottom, Transpose, Rotate90, Rotate180, Rotate270}
-use Rattle.pnm_tools.specs.declared.flip.Transform.{Transform}
-use Rattle.pnm_tools.specs.declared.tool.Tool.TheVariants.{Flip}
-use Rattle.pnm_tools.specs.Flip.{flipped_sample, transform_of, in_order, moves_rows, transformed_row}
-use Rattle.pnm_tools.specs.Internal.Flip.{transformed_sample, place_in}
-use Rattle.pnm_tools.specs.Flip.{ReversesRows}
-use Rattle.pnm_tools.specs.Tools.{row_answer}
+use Rattle.pnm_tools.proofs.Words.{◌≡◌, ℕ, ◌<◌, Bool, true, false, ◌||◌, List, [], ◌∷◌, map, refl, sym, ap, ◌∙◌, arith, if◌then◌else◌, range_with_len, Shape}
+use Rattle.pnm_tools.proofs.Words.{Image, FlipWay, Null, LeftRight, TopBottom, Transpose, Rotate90, Rotate180, Rotate270, Transform, Flip, flipped_sample}
+use Rattle.pnm_tools.proofs.Words.{transform_of, in_order, moves_rows, transformed_row, transformed_sample, place_in, ReversesRows, row_answer}
 use Rattle.pnm_tools.proofs.RangeLaws.{downward}
 use Rattle.pnm_tools.proofs.RowLaws.{row_of_flip}
 

@@ -1,19 +1,6 @@
 -- What is left of a packet behind its first message, and what drops it.
-use Rattle.std.proofs.Common.{◌≡◌, Bool, true, false, List, ◌++◌, Option, None, is_some, refl, sym, ap, subst, ◌∙◌, inl}
-use Rattle.std.proofs.Common.{append_assoc}
-use Rattle.pnm_image.specs.declared.message.Message.{Message}
-use Rattle.pnm_image.specs.declared.message.Ending.TheVariants.{More}
-use Rattle.pnm_image.specs.Messages.{EndsBy}
-use Rattle.pnm_image.specs.Packets.{packet_list}
-use Rattle.pnm_image.specs.declared.packet.Packet.{Packet}
-use Rattle.pnm_tools.specs.declared.fault.ToolFault.{ToolFault}
-use Rattle.pnm_tools.specs.declared.fault.ToolFault.TheVariants.{Memory}
-use Rattle.pnm_tools.specs.declared.fused_filter.FusedFilter.{FusedFilter}
-use Rattle.pnm_tools.specs.declared.fused_filter.FusedFilter.TheVariants.{AtWork, Refused}
-use Rattle.pnm_tools.specs.declared.tool.Tool.{Tool}
-use Rattle.pnm_tools.specs.FusedFilters.{refusal_in, FilterAt}
-use Rattle.pnm_tools.specs.declared.unfed.Unfed.{Unfed}
-use Rattle.pnm_tools.specs.Unfed.{unfed_in}
+use Rattle.pnm_tools.proofs.Words.{◌≡◌, Bool, true, false, List, ◌++◌, Option, None, is_some, refl, sym, ap, subst, ◌∙◌, inl, append_assoc, Message, More}
+use Rattle.pnm_tools.proofs.Words.{EndsBy, packet_list, Packet, ToolFault, Memory, FusedFilter, AtWork, Refused, Tool, refusal_in, FilterAt, Unfed, unfed_in}
 use Rattle.pnm_tools.proofs.FusedSteps.{drops}
 
 -- a tool that has refused drops what comes

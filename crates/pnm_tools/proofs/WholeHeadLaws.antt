@@ -1,18 +1,7 @@
 -- The heads of the results of tools that see whole images.
-use Rattle.std.proofs.Common.{◌≡◌, ℕ, ◌<◌, Bool, true, false, not, ◌&&◌, Ok, Err, Result, refl, pos_of_ne-zero}
-use Rattle.std.specs.Prelude.{◌==◌, if◌then◌else◌}
-use Rattle.std.proofs.lemmas.Bool.{eqb-false}
-use Rattle.pnm_image.specs.Heads.{HeadValue, is_too_large}
-use Rattle.pnm_tools.specs.declared.fault.ToolFault.{ToolFault}
-use Rattle.pnm_tools.specs.declared.fault.ToolFault.TheVariants.{OutOfOrder, TooLarge}
-use Rattle.pnm_tools.specs.declared.flip.FlipWay.{FlipWay}
-use Rattle.pnm_tools.specs.declared.flip.Transform.{Transform}
-use Rattle.pnm_tools.specs.declared.tool.Tool.TheVariants.{Enlarge, Flip, Tile}
-use Rattle.pnm_tools.specs.ToolLimits.{within_limits}
-use Rattle.pnm_tools.specs.Enlarge.{enlarged_head_value}
-use Rattle.pnm_tools.specs.Flip.{transform, transform_of, transformed_head, transposed_head_value}
-use Rattle.pnm_tools.specs.Internal.Flip.{transformed_head_value}
-use Rattle.pnm_tools.specs.Tile.{tiled_head_value}
+use Rattle.pnm_tools.proofs.Words.{◌≡◌, ℕ, ◌<◌, Bool, true, false, not, ◌&&◌, Ok, Err, Result, refl, pos_of_ne-zero, ◌==◌, if◌then◌else◌, eqb-false, HeadValue}
+use Rattle.pnm_tools.proofs.Words.{is_too_large, ToolFault, OutOfOrder, TooLarge, FlipWay, Transform, Enlarge, Flip, Tile, within_limits, enlarged_head_value}
+use Rattle.pnm_tools.proofs.Words.{transform, transform_of, transformed_head, transposed_head_value, transformed_head_value, tiled_head_value}
 use Rattle.pnm_tools.specs.Tools.{result_head}
 
 -- a head within the limits is the result's

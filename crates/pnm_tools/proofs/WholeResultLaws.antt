@@ -1,14 +1,7 @@
 -- The enlarged, the flipped and the tiled image are images.
-use Rattle.std.proofs.Common.{◌≡◌, ℕ, ◌*◌, ◌<◌, ◌≤◌, Bool, true, false, Ok, refl, sym, ap, subst, arith, mul-pos}
-use Rattle.pnm_image.specs.declared.shape.Shape.{Shape}
-use Rattle.pnm_image.specs.Heads.{HeadValue, IsHead, is_too_large}
-use Rattle.pnm_image.specs.Images.{Image, IsImage}
-use Rattle.pnm_image.proofs.Heads.{sizes_within}
-use Rattle.pnm_tools.specs.declared.flip.FlipWay.{FlipWay}
-use Rattle.pnm_tools.specs.declared.flip.Transform.{Transform}
-use Rattle.pnm_tools.specs.declared.tool.Tool.TheVariants.{Enlarge, Flip, Tile}
-use Rattle.pnm_tools.specs.Flip.{transform, transform_of}
-use Rattle.pnm_tools.specs.Tools.{applied, result_head, result_sample}
+use Rattle.pnm_tools.proofs.Words.{◌≡◌, ℕ, ◌*◌, ◌<◌, ◌≤◌, Bool, true, false, Ok, refl, sym, ap, subst, arith, mul-pos, Shape, HeadValue, IsHead, is_too_large}
+use Rattle.pnm_tools.proofs.Words.{Image, IsImage, sizes_within, FlipWay, Transform, Enlarge, Flip, Tile, transform, transform_of, applied, result_head}
+use Rattle.pnm_tools.specs.Tools.{result_sample}
 use Rattle.pnm_tools.proofs.ImageLaws.{result_by_head}
 use Rattle.pnm_tools.proofs.MadeLaws.{made_is_image, sample_in_range}
 use Rattle.pnm_tools.proofs.PixelLaws.{resized}

@@ -1,17 +1,9 @@
 -- Rows from one on, and blocks of sixteen.
-use denote.Ref.{Bor}
-use Rattle.std.proofs.Common.{◌≡◌, ℕ, ◌+◌, ◌-◌, ◌*◌, ◌<◌, ◌≤◌, inl, inr, List, [], ◌∷◌, ◌++◌, length, take, drop, get_or, set, map, All, Vec, Global}
-use Rattle.std.proofs.Common.{refl, sym, ap, subst, ◌∙◌, arith}
-use Rattle.std.proofs.lemmas.Bool.{cases_lt}
-use Rattle.std.proofs.lemmas.Grind.{get_or-set_at}
-use Rattle.std.proofs.lemmas.List.{drop-drop, get_or-drop, get_or-map, get_or-take, get_or_default, length-drop, length-map, length-take-le, get_or-set_other}
-use Rattle.std.proofs.lemmas.List.{same_lists, take_all}
-use Rattle.std.proofs.lemmas.List.Elements.{All-head, All-tail, All-drop, All-take, All-weaker}
-use Rattle.pnm_transpose.specs.Internal.ColumnBatches.{AreRowsFrom, HavePixels}
-use Rattle.pnm_tools.specs.Flip.{column_of}
-use Rattle.pnm_tools.specs.PixelSamples.{pixel_of}
+use Rattle.pnm_transpose.proofs.Words.{Bor, ◌≡◌, ℕ, ◌+◌, ◌-◌, ◌*◌, ◌<◌, ◌≤◌, inl, inr, List, [], ◌∷◌, ◌++◌, length, take, drop, get_or, set, map, All, Vec}
+use Rattle.pnm_transpose.proofs.Words.{Global, refl, sym, ap, subst, ◌∙◌, arith, cases_lt, get_or-set_at, drop-drop, get_or-drop, get_or-map, get_or-take}
+use Rattle.pnm_transpose.proofs.Words.{get_or_default, length-drop, length-map, length-take-le, get_or-set_other, same_lists, take_all, All-head, All-tail}
+use Rattle.pnm_transpose.proofs.Words.{All-drop, All-take, All-weaker, AreRowsFrom, HavePixels, column_of, pixel_of, pixel_of_one}
 use Rattle.pnm_transpose.proofs.ColumnLaws.{all_behind, rows_behind}
-use Rattle.pnm_tools.proofs.PixelLaws.{pixel_of_one}
 
 -- the rows from one on reach as far as all do
 pub rest_reaches : {X : Type 0} (begun least : ℕ) (rows : List (List X)) → All (λ row. least ≤ length row) rows
@@ -19,10 +11,10 @@ pub rest_reaches : {X : Type 0} (begun least : ℕ) (rows : List (List X)) → A
 rest_reaches {X = X} begun least rows long = All-drop (λ (row : List X). least ≤ length row) begun rows long
 
 -- rows behind those from one on
-pub rows_further : {X : Type 0} (begun y m first depth count at : ℕ) (rows : List (List X)) (old new : List (Vec X Global))
+pub rows_further : {X : Type 0} (begun y m first depth : ℕ) {count at : ℕ} (rows : List (List X)) {old new : List (Vec X Global)}
     → HavePixels count at (λ k. column_of depth (take m (drop (begun + y) rows)) (first + k)) old new
     → HavePixels count at (λ k. column_of depth (take m (drop y (drop begun rows))) (first + k)) old new
-rows_further {X = X} begun y m first depth count at rows old new h =
+rows_further {X = X} begun y m first depth {count} {at} rows {old} {new} h =
     subst (λ (l : List (List X)). HavePixels count at (λ k. column_of depth (take m l) (first + k)) old new) (sym (drop-drop y begun rows)) h
 
 -- ---- sixteen rows
@@ -89,27 +81,24 @@ row_more y i rows slices slice inside is known j d lt = elim (cases_lt j i) [
 -- ---- all rows
 
 -- the rows from one on behind those before them
-pub rest_behind : {X : Type 0} (first depth begun at : ℕ) (rows : List (List X)) (old columns new : List (Vec X Global)) → begun ≤ length rows
+pub rest_behind : {X : Type 0} (first depth begun : ℕ) {at : ℕ} (rows : List (List X)) {old columns new : List (Vec X Global)} → begun ≤ length rows
     → All (λ row. (first + length old) * depth ≤ length row) rows
-    → HavePixels (length old) at (λ k. column_of depth (take begun rows) (first + k)) old columns
-    → HavePixels (length columns) (at + begun * depth) (λ k. column_of depth (drop begun rows) (first + k)) columns new
-    → HavePixels (length old) at (λ k. column_of depth rows (first + k)) old new
-rest_behind {X = X} first depth begun at rows old columns new le long before behind =
+    → HavePixels (length old) at (λ k. column_of depth (take begun rows) (first + k)) old columns → HavePixels (length columns) (at + begun * depth)
+    (λ k. column_of depth (drop begun rows) (first + k)) columns new → HavePixels (length old) at (λ k. column_of depth rows (first + k)) old new
+rest_behind {X = X} first depth begun {at} rows {columns} {new} le long before behind =
     let m : ℕ = length rows - begun in
     let rest : take m (drop begun rows) ≡ drop begun rows = take_all m (drop begun rows) (omega (arith, length-drop begun rows)) in
-    all_behind first depth (begun + m) at (length old) rows old new (omega arith)
-    (rows_behind first depth begun m at rows old columns new (omega arith) long before
+    all_behind first depth (begun + m) rows (omega arith) (rows_behind first depth begun m rows (omega arith) long before
     (subst (λ (l : List (List X)). HavePixels (length columns) (at + begun * depth) (λ k. column_of depth l (first + k)) columns new) (sym rest) behind))
 
 -- sixteen rows more, of one sample a pixel
-pub sixteen_behind : (first g at : ℕ) (rows : List (List ℕ)) (old columns new : List (Vec ℕ Global)) → 16 * g + 16 ≤ length rows
-    → All (λ row. (first + length old) * 1 ≤ length row) rows
-    → HavePixels (length old) at (λ k. column_of 1 (take (16 * g) rows) (first + k)) old columns
+pub sixteen_behind : (first g : ℕ) {at : ℕ} (rows : List (List ℕ)) {old columns new : List (Vec ℕ Global)} → 16 * g + 16 ≤ length rows
+    → All (λ row. (first + length old) * 1 ≤ length row) rows → HavePixels (length old) at (λ k. column_of 1 (take (16 * g) rows) (first + k)) old columns
     → HavePixels (length columns) (at + 16 * g) (λ k. column_of 1 (take 16 (drop (16 * g) rows)) (first + k)) columns new
     → HavePixels (length old) at (λ k. column_of 1 (take (16 * (g + 1)) rows) (first + k)) old new
-sixteen_behind first g at rows old columns new le long before behind =
+sixteen_behind first g {at} rows {old} {columns} {new} le long before behind =
     let next : 16 * g + 16 ≡ 16 * (g + 1) = omega arith in
     let place : at + 16 * g ≡ at + 16 * g * 1 = omega arith in
     subst (λ (n : ℕ). HavePixels (length old) at (λ k. column_of 1 (take n rows) (first + k)) old new) next
-    (rows_behind first 1 (16 * g) 16 at rows old columns new (omega arith) long before
+    (rows_behind first 1 (16 * g) 16 rows (omega arith) long before
     (subst (λ (n : ℕ). HavePixels (length columns) n (λ k. column_of 1 (take 16 (drop (16 * g) rows)) (first + k)) columns new) place behind))

@@ -1,10 +1,7 @@
 -- Rows of samples that are held one after another.
-use Rattle.std.proofs.Common.{◌≡◌, ℕ, zero, suc, ◌+◌, ◌-◌, ◌*◌, ◌<◌, ◌≤◌, List, [], ◌∷◌, ◌++◌, length, get_or, take, drop, refl, sym, ap, ◌∙◌, arith}
-use Rattle.std.proofs.Common.{suc-mul, zero-mul, mul-le-mul, Bool, true, false, if◌then◌else◌}
-use Rattle.std.proofs.lemmas.List.{drop-append-le, drop-drop, length-append, length-drop, length-reverse, get_or-reverse, nil_from_length}
-use Rattle.std.proofs.lemmas.List.{take-append-le}
-use Rattle.pnm_image.specs.Images.{cut_rows}
-use Rattle.pnm_transpose.specs.Internal.FlatRows.{rows_in, ordered_rows_in}
+use Rattle.pnm_transpose.proofs.Words.{◌≡◌, ℕ, zero, suc, ◌+◌, ◌-◌, ◌*◌, ◌<◌, ◌≤◌, List, [], ◌∷◌, ◌++◌, length, get_or, take, drop, refl, sym, ap, ◌∙◌, arith}
+use Rattle.pnm_transpose.proofs.Words.{suc-mul, zero-mul, mul-le-mul, Bool, true, false, if◌then◌else◌, drop-append-le, drop-drop, length-append, length-drop}
+use Rattle.pnm_transpose.proofs.Words.{length-reverse, get_or-reverse, nil_from_length, take-append-le, cut_rows, rows_in, ordered_rows_in}
 
 pub length_of_rows : {X : Type 0} (n each : ℕ) (samples : List X) → length (rows_in n each samples) ≡ n
 length_of_rows zero each samples = refl
@@ -33,30 +30,29 @@ rows_behind {X = X} (suc n) more each samples rest long =
     ∙ ap (λ (l : List (List X)). take each samples ∷ l) (rows_behind n more each (drop each samples) rest left)
 
 -- rows that were added to others, which are of the same length where there are some
-rows_added : {X : Type 0} (n held more each : ℕ) (samples rest new : List X) → length samples ≡ n * held → (0 < n → held ≡ each) → new ≡ samples ++ rest
-    → rows_in (n + more) each new ≡ rows_in n held samples ++ rows_in more each rest
-rows_added {X = X} zero held more each samples rest new long same is =
+rows_added : {X : Type 0} (n held more each : ℕ) (samples rest : List X) {new : List X} → length samples ≡ n * held → (0 < n → held ≡ each)
+    → new ≡ samples ++ rest → rows_in (n + more) each new ≡ rows_in n held samples ++ rows_in more each rest
+rows_added {X = X} zero held more each samples rest long same is =
     let none : length samples ≡ 0 = omega (arith, long, zero-mul held) in
     let count : 0 + more ≡ more = omega arith in
     ap (rows_in (0 + more) each) (is ∙ ap (λ (l : List X). l ++ rest) (nil_from_length samples none)) ∙ ap (λ (k : ℕ). rows_in k each rest) count
-rows_added {X = X} (suc n) held more each samples rest new long same is =
+rows_added {X = X} (suc n) held more each samples rest long same is =
     let lengths : held ≡ each = same (omega arith) in
     ap (rows_in (suc n + more) each) is ∙ rows_behind (suc n) more each samples rest (long ∙ ap (λ (k : ℕ). suc n * k) lengths)
     ∙ ap (λ (k : ℕ). rows_in (suc n) k samples ++ rows_in more each rest) (sym lengths)
 
-pub rows_pushed : {X : Type 0} (b : Bool) (n held more each : ℕ) (samples rest new : List X) (old : List (List X)) → b ≡ false
+pub rows_pushed : {X : Type 0} {b : Bool} (n held more each : ℕ) (samples rest : List X) {new : List X} {old : List (List X)} → b ≡ false
     → ordered_rows_in b n held samples ≡ old → length samples ≡ n * held → (0 < n → held ≡ each) → new ≡ samples ++ rest
     → ordered_rows_in b (n + more) each new ≡ old ++ rows_in more each rest
-rows_pushed {X = X} b n held more each samples rest new old order is long same added =
-    ap (λ (c : Bool). ordered_rows_in c (n + more) each new) order ∙ rows_added n held more each samples rest new long same added
+rows_pushed {X = X} n held more each samples rest {new} order is long same added =
+    ap (λ (c : Bool). ordered_rows_in c (n + more) each new) order ∙ rows_added n held more each samples rest long same added
     ∙ ap (λ (l : List (List X)). l ++ rows_in more each rest) (sym (ap (λ (c : Bool). ordered_rows_in c n held samples) order) ∙ is)
 
 -- how many samples they are then
-pub samples_added : {X : Type 0} (n held more each : ℕ) (samples rest new : List X) → length samples ≡ n * held → (0 < n → held ≡ each)
+pub samples_added : {X : Type 0} (n held more each : ℕ) (samples rest : List X) {new : List X} → length samples ≡ n * held → (0 < n → held ≡ each)
     → new ≡ samples ++ rest → length rest ≡ more * each → length new ≡ (n + more) * each
-samples_added {X = X} zero held more each samples rest new long same is size =
-    omega (arith, ap length is, length-append samples rest, long, zero-mul held, size)
-samples_added {X = X} (suc n) held more each samples rest new long same is size =
+samples_added {X = X} zero held more each samples rest long same is size = omega (arith, ap length is, length-append samples rest, long, zero-mul held, size)
+samples_added {X = X} (suc n) held more each samples rest long same is size =
     let all : length samples ≡ suc n * each = long ∙ ap (λ (k : ℕ). suc n * k) (same (omega arith)) in
     omega (arith, ap length is, length-append samples rest, all, size)
 
@@ -84,8 +80,8 @@ ordered_lies {X = X} true n each r samples lt =
 ordered_lies false n each r samples lt = row_lies n each r samples lt
 
 -- a row's place has all its samples
-pub place_within : (b : Bool) (n each r size : ℕ) → size ≡ n * each → r < n → place_of b n r * each + each ≤ size
-place_within b n each r size is lt =
+pub place_within : (b : Bool) (n each r : ℕ) {size : ℕ} → size ≡ n * each → r < n → place_of b n r * each + each ≤ size
+place_within b n each r is lt =
     let below : place_of b n r < n = place_below b in
     let within : (place_of b n r + 1) * each ≤ n * each = mul-le-mul {n₁ = place_of b n r + 1} {m₁ = each} {n₂ = n} {m₂ = each} (omega arith) (omega arith) in
     omega (arith, is, within)
@@ -102,16 +98,15 @@ rows_are_cut (suc n) each samples = ap (λ (l : List (List ℕ)). take each samp
 -- ---- a row of those that are held
 
 -- a row lies within the samples
-pub row_room : {X : Type 0} (b : Bool) (n each r place : ℕ) (samples : List X) (rows : List (List X)) → ordered_rows_in b n each samples ≡ rows
+pub row_room : {X : Type 0} (b : Bool) (n each r : ℕ) {place : ℕ} (samples : List X) {rows : List (List X)} → ordered_rows_in b n each samples ≡ rows
     → length samples ≡ n * each → r < length rows → place ≡ place_of b n r → place * each + each ≤ length samples
-row_room b n each r place samples rows is size lt at =
+row_room b n each r samples is size lt at =
     let below : r < n = omega (arith, length_of_ordered b n each samples, ap length is) in
-    omega (arith, place_within b n each r (length samples) size below, ap (λ (p : ℕ). p * each) at)
+    omega (arith, place_within b n each r size below, ap (λ (p : ℕ). p * each) at)
 
-pub row_is : {X : Type 0} (b : Bool) (n each r place : ℕ) (samples lent : List X) (rows : List (List X)) → ordered_rows_in b n each samples ≡ rows
-    → r < length rows → place ≡ place_of b n r → lent ≡ samples
-    → take ((place * each + each) - place * each) (drop (place * each) lent) ≡ get_or rows r []
-row_is {X = X} b n each r place samples lent rows is lt at same =
+pub row_is : {X : Type 0} (b : Bool) (n each r : ℕ) {place : ℕ} {samples lent : List X} {rows : List (List X)} → ordered_rows_in b n each samples ≡ rows
+    → r < length rows → place ≡ place_of b n r → lent ≡ samples → take ((place * each + each) - place * each) (drop (place * each) lent) ≡ get_or rows r []
+row_is {X = X} b n each r {place} {samples} {lent} is lt at same =
     let below : r < n = omega (arith, length_of_ordered b n each samples, ap length is) in
     let size : (place * each + each) - place * each ≡ each = omega arith in
     ap (λ (k : ℕ). take k (drop (place * each) lent)) size ∙ ap (λ (l : List X). take each (drop (place * each) l)) same

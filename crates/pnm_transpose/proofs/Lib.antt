@@ -1,3 +1,4 @@
+mod Words
 pub mod ColumnLaws
 pub mod BlockLaws
 pub mod StripLaws

@@ -1,17 +1,13 @@
 -- Rows that are given together.
-use Rattle.std.proofs.Common.{◌≡◌, ℕ, ◌+◌, ◌≤◌, List, [], ◌∷◌, ◌++◌, length, get_or, reverse, All, sym, ap, subst, ◌∙◌}
-use Rattle.std.proofs.lemmas.List.{append_assoc, reverse-append}
-use Rattle.std.proofs.lemmas.List.Elements.{All-append}
-use Rattle.pnm_image.specs.declared.rows.RowVec.{RowVec}
-use Rattle.pnm_image.specs.declared.rows.RowSlice.{RowSlice}
-use Rattle.pnm_image.specs.HeldRows.{AreRows, AreRowsWithin, AreSliceRows, HasAdded, HoldsSame, row_lists, slice_lists}
-use Rattle.pnm_image.proofs.HeldRowLaws.{within_greater}
-use Rattle.pnm_transpose.specs.Internal.HeldColumns.{HasTaken, HoldsWithin}
+use Rattle.pnm_transpose.proofs.Words.{◌≡◌, ℕ, ◌+◌, ◌≤◌, List, [], ◌∷◌, ◌++◌, length, get_or, reverse, All, sym, ap, subst, ◌∙◌, append_assoc, reverse-append}
+use Rattle.pnm_transpose.proofs.Words.{All-append, RowVec, RowSlice, AreRows, AreRowsWithin, AreSliceRows, HasAdded, HoldsSame, slice_lists, within_greater}
+use Rattle.pnm_transpose.proofs.Words.{HasTaken, HoldsWithin}
+use Rattle.pnm_image.specs.HeldRows.{row_lists}
 
 -- the last of a batch, in front of the others
-last_first : (batch rest : List (List ℕ)) (next : List ℕ) (rows : List (List ℕ)) → batch ≡ rest ++ next ∷ []
+last_first : {batch : List (List ℕ)} (rest : List (List ℕ)) (next : List ℕ) (rows : List (List ℕ)) → batch ≡ rest ++ next ∷ []
     → rows ++ reverse batch ≡ (rows ++ next ∷ []) ++ reverse rest
-last_first batch rest next rows parts =
+last_first rest next rows parts =
     ap (λ (l : List (List ℕ)). rows ++ reverse l) parts ∙ ap (λ (l : List (List ℕ)). rows ++ l) (reverse-append rest (next ∷ []))
     ∙ sym (append_assoc rows (next ∷ []) (reverse rest))
 
@@ -29,7 +25,7 @@ next_taken count each bound most other old new more next lent batch rest is part
     let both : AreRowsWithin most (R ++ next ∷ []) =
     All-append (λ (row : List ℕ). All (λ sample. sample ≤ most) row) R (next ∷ []) (within_greater bound most R low h.1)
     (within_greater other most (next ∷ []) high (subst (AreRowsWithin other) is within)) in (
-      last_first batch rest next R parts ∙ ap (λ (l : List (List ℕ)). l ++ reverse rest) (sym all),
+      last_first rest next R parts ∙ ap (λ (l : List (List ℕ)). l ++ reverse rest) (sym all),
       (added.1, subst (AreRowsWithin most) (sym all) both),
     )
 
@@ -51,5 +47,5 @@ pub first_held : (count each bound : ℕ) (held : RowVec) (first : List ℕ) (ro
     → HoldsWithin count each bound held × (reverse batch ≡ row_lists count each held ++ reverse rest)
 first_held count each bound held first rows batch rest one is are within parts = (
   (are, subst (AreRowsWithin bound) is within),
-  last_first batch rest first [] parts ∙ ap (λ (l : List (List ℕ)). l ++ reverse rest) (sym one ∙ is),
+  last_first rest first [] parts ∙ ap (λ (l : List (List ℕ)). l ++ reverse rest) (sym one ∙ is),
 )

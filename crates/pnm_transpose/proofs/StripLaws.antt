@@ -1,19 +1,12 @@
 -- Rows that are kept in strips, and those that came after them.
-use Rattle.std.proofs.Common.{◌≡◌, ℕ, zero, suc, ◌+◌, ◌-◌, ◌*◌, ◌<◌, ◌≤◌, List, [], ◌∷◌, ◌++◌, length, take, drop, reverse, map, All, Vec, Global, Bool, true}
-use Rattle.std.proofs.Common.{false, if◌then◌else◌, refl, sym, ap, subst, ◌∙◌, arith, mul-le-mul, zero-mul, suc-mul, append-nil, append_assoc}
-use Rattle.std.specs.List.{flat_map, range_with_len}
-use Rattle.std.proofs.lemmas.Grind.{flat_map-append}
-use Rattle.std.proofs.lemmas.List.{length-append, length-reverse, reverse-append, take_all, take_at, drop_at}
-use Rattle.std.proofs.lemmas.List.Elements.{All-nil, All-head, All-tail, All-weaker, All-append, All-cons}
-use Rattle.pnm_transpose.specs.declared.strip.TheConstants.{STRIP_ROWS}
-use Rattle.pnm_transpose.specs.Internal.ColumnBatches.{AreAsLong, AreBlank, HavePixels, column_samples}
-use Rattle.pnm_tools.specs.Flip.{column_of, in_order}
-use Rattle.pnm_tools.specs.PixelSamples.{pixel_of}
-use Rattle.pnm_transpose.specs.Strips.{HaveSizes, coming_column, kept_column, kept_count}
-use Rattle.pnm_transpose.specs.Internal.Strips.{KeepColumns, ReachColumns}
+use Rattle.pnm_transpose.proofs.Words.{◌≡◌, ℕ, zero, suc, ◌+◌, ◌-◌, ◌*◌, ◌<◌, ◌≤◌, List, [], ◌∷◌, ◌++◌, length, take, drop, reverse, map, All, Vec, Global}
+use Rattle.pnm_transpose.proofs.Words.{Bool, true, false, if◌then◌else◌, refl, sym, ap, subst, ◌∙◌, arith, mul-le-mul, zero-mul, suc-mul, flat_map}
+use Rattle.pnm_transpose.proofs.Words.{range_with_len, flat_map-append, length-append, length-reverse, reverse-append, take_all, take_at, drop_at, All-nil}
+use Rattle.pnm_transpose.proofs.Words.{All-head, All-tail, All-weaker, All-append, All-cons, STRIP_ROWS, AreAsLong, AreBlank, HavePixels, column_samples}
+use Rattle.pnm_transpose.proofs.Words.{column_of, in_order, pixel_of, HaveSizes, coming_column, kept_column, kept_count, KeepColumns, ReachColumns}
+use Rattle.pnm_transpose.proofs.Words.{flat_map_one_more, alike_from, pieces_in_parts}
+use Rattle.std.proofs.Common.{append-nil, append_assoc}
 use Rattle.pnm_transpose.proofs.ColumnLaws.{columns_filled, length_of_column, pixels_behind, reach}
-use Rattle.pnm_tools.proofs.PickLaws.{flat_map_one_more}
-use Rattle.pnm_tools.proofs.RangeLaws.{alike_from, pieces_in_parts}
 
 -- ---- columns that are stored
 
@@ -112,7 +105,7 @@ kept_columns_made {X = X} b first count depth samples len strips rows items lent
     subst (λ (n : ℕ). HavePixels n 0 (λ k. kept_column b depth strips rows (first + k)) items new) (ap length same ∙ blank.many)
     (subst (λ (l : List (Vec X Global)). HavePixels (length lent) 0 (λ k. kept_column b depth strips rows (first + k)) l new) same h) in
     ap (λ (l : List (Vec X Global)). column_samples l) whole
-    ∙ columns_filled count first samples (kept_column b depth strips rows) items new blank stored
+    ∙ columns_filled first (kept_column b depth strips rows) new blank stored
     (λ k below. length_kept b (first + count) depth (first + k) strips rows (omega arith) far ∙ sym size)
 
 -- ---- a strip that is made
@@ -136,7 +129,7 @@ pub columns_added : {X : Type 0} (first depth n : ℕ) (rows : List (List X)) (s
 columns_added {X = X} first depth n rows strip made passed old new long far stored same all is =
     let blank : AreBlank (length old) (length rows * depth) old = record { many = refl; long = long } in
     let samples : column_samples new ≡ map (column_of depth rows) (range_with_len first (length old)) =
-    columns_filled (length old) first (length rows * depth) (column_of depth rows) old new blank stored
+    columns_filled first (column_of depth rows) new blank stored
     (λ k below. length_of_column depth rows (first + k) (reach depth first (length old) k rows below far)) in
     is ∙ ap (λ (l : List (Vec X Global)). strip ++ flat_map (λ (column : Vec X Global). column.items) l) (take_all n passed all ∙ same)
     ∙ ap (λ (l : List X). strip ++ l) (flat_by_map (λ (column : Vec X Global). column.items) (column_of depth rows) new first (length old) samples)

@@ -1,10 +1,6 @@
 -- A table of the texts of numbers is looked through entry by entry.
-use Rattle.std.proofs.Common.{◌≡◌, ℕ, zero, suc, ◌+◌, ◌-◌, ◌*◌, ◌<◌, Bool, true, false, ◌&&◌, ◌==◌, List, [], ◌∷◌, length, take, drop, slice_index, decimal}
-use Rattle.std.proofs.Common.{refl, ap, ap₂, subst, ◌∙◌, arith}
-use Rattle.std.proofs.lemmas.List.{drop-drop}
-use Rattle.std.proofs.lemmas.Bool.Decides.{nat_tests}
-use Rattle.std.specs.Str.{byte}
-use Rattle.pnm_write.specs.Internal.Numerals.{IsEntry}
+use Rattle.pnm_write.proofs.Words.{◌≡◌, ℕ, zero, suc, ◌+◌, ◌-◌, ◌*◌, ◌<◌, Bool, true, false, ◌&&◌, ◌==◌, List, [], ◌∷◌, length, take, drop, slice_index}
+use Rattle.pnm_write.proofs.Words.{decimal, refl, ap, ap₂, subst, ◌∙◌, arith, drop-drop, nat_tests, byte, IsEntry}
 
 abbrev pub are_same : List ℕ → List ℕ → Bool
 are_same [] [] = true
@@ -31,8 +27,8 @@ is_entry number entry =
     (length entry == 5) && ((slice_index entry 0 == 49 + length (decimal number)) && are_same (take (1 + length (decimal number)) (drop 1 entry))
     (byte " " ∷ decimal number))
 
-is_entry_is : (number : ℕ) (entry : List ℕ) → is_entry number entry ≡ true → IsEntry number entry
-is_entry_is number entry e =
+is_entry_is : {number : ℕ} {entry : List ℕ} → is_entry number entry ≡ true → IsEntry number entry
+is_entry_is {number} {entry} e =
     let text : Bool = are_same (take (1 + length (decimal number)) (drop 1 entry)) (byte " " ∷ decimal number) in
     let p = and_parts (length entry == 5) ((slice_index entry 0 == 49 + length (decimal number)) && text) e in
     let q = and_parts (slice_index entry 0 == 49 + length (decimal number)) text p.1 in
@@ -51,7 +47,7 @@ entry_at : (count number k : ℕ) (table : List ℕ) → are_entries count numbe
 entry_at zero number k table e below = absurd (omega arith)
 entry_at (suc count) number zero table e below =
     let first : IsEntry number (take 5 table) =
-    is_entry_is number (take 5 table) (and_parts (is_entry number (take 5 table)) (are_entries count (number + 1) (drop 5 table)) e).0 in
+    is_entry_is (and_parts (is_entry number (take 5 table)) (are_entries count (number + 1) (drop 5 table)) e).0 in
     subst (λ (n : ℕ). IsEntry n (take 5 table)) (omega arith) first
 entry_at (suc count) number (suc k) table e below =
     let more : IsEntry (number + 1 + k) (take 5 (drop (5 * k) (drop 5 table))) =
@@ -60,9 +56,9 @@ entry_at (suc count) number (suc k) table e below =
     let place : drop (5 * k) (drop 5 table) ≡ drop (5 * suc k) table = drop-drop (5 * k) 5 table ∙ ap (λ (n : ℕ). drop n table) (omega arith) in
     subst (λ (n : ℕ). IsEntry n (take 5 (drop (5 * suc k) table))) (omega arith) (subst (λ (l : List ℕ). IsEntry (number + 1 + k) (take 5 l)) place more)
 
-pub entry_is : (number : ℕ) (table : List ℕ) → are_entries 256 0 table ≡ true → number < 256
+pub entry_is : {number : ℕ} (table : List ℕ) → are_entries 256 0 table ≡ true → number < 256
     → IsEntry number (take (5 * number + 5 - 5 * number) (drop (5 * number) table))
-entry_is number table e below =
+entry_is {number} table e below =
     let at : IsEntry (0 + number) (take 5 (drop (5 * number) table)) = entry_at 256 0 number table e below in
     let size : 5 ≡ 5 * number + 5 - 5 * number = omega arith in
     let zero_more : 0 + number ≡ number = omega arith in

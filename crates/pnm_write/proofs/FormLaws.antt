@@ -1,15 +1,8 @@
 -- What a form refuses of messages and of more.
-use Rattle.std.proofs.Common.{◌≡◌, ℕ, Bool, true, false, List, [], ◌∷◌, ◌++◌, map, Option, Some, None, refl, ap, append_assoc, ◌∙◌}
-use Rattle.pnm_image.specs.declared.format.Form.{Form}
-use Rattle.pnm_image.specs.declared.format.Form.TheVariants.{Raw, Plain}
-use Rattle.pnm_image.specs.declared.message.Message.{Message}
-use Rattle.pnm_image.specs.declared.message.Message.TheVariants.{Row, ImageEnd, StreamEnd}
-use Rattle.pnm_image.specs.Images.{Image, rows_of, messages_of_stream}
-use Rattle.pnm_write.specs.declared.fault.SinkFault.TheVariants.{SecondPlain}
-use Rattle.pnm_write.specs.declared.fault.SinkFault.{SinkFault}
-use Rattle.pnm_write.specs.Forms.{plain_kind_fault, images_fault, has_begun_after, has_begun_by, form_fault_from, form_fault_of, plain_fault}
-use Rattle.pnm_write.specs.Forms.{plain_fault_from, RefusesFirst}
-use Rattle.pnm_write.specs.Forms.{plain_taken_from, taken_by}
+use Rattle.pnm_write.proofs.Words.{◌≡◌, ℕ, Bool, true, false, List, [], ◌∷◌, ◌++◌, map, Option, Some, None, refl, ap, append_assoc, ◌∙◌, Form, Raw, Plain}
+use Rattle.pnm_write.proofs.Words.{Message, Row, ImageEnd, StreamEnd, Image, rows_of, messages_of_stream, SecondPlain, SinkFault, plain_kind_fault}
+use Rattle.pnm_write.proofs.Words.{images_fault, has_begun_after, has_begun_by, form_fault_from, form_fault_of, plain_fault, plain_fault_from, RefusesFirst}
+use Rattle.pnm_write.proofs.Words.{plain_taken_from, taken_by}
 
 -- whether an image has begun, after more messages
 pub has_begun_by-append : (begun : Bool) (messages more : List Message)
@@ -23,9 +16,9 @@ has_begun_by-append begun (m ∷ messages) more = has_begun_by-append (has_begun
 abbrev pub first_of_two : Option SinkFault → Option SinkFault → Option SinkFault
 first_of_two first second = elim first [ Some fault ↦ Some fault | None ↦ second ]
 
-first_of_three : (a b c d : Option SinkFault) → d ≡ first_of_two b c → first_of_two a d ≡ first_of_two (first_of_two a b) c
-first_of_three None b c d e = e
-first_of_three (Some fault) b c d e = refl
+first_of_three : (a b c : Option SinkFault) {d : Option SinkFault} → d ≡ first_of_two b c → first_of_two a d ≡ first_of_two (first_of_two a b) c
+first_of_three None b c e = e
+first_of_three (Some fault) b c e = refl
 
 -- the first fault of messages and more is theirs, and else that of the others
 plain_fault_from-append : (begun : Bool) (messages more : List Message)
@@ -34,7 +27,7 @@ plain_fault_from-append begun [] more = refl
 plain_fault_from-append begun (m ∷ messages) more =
     let now : Bool = has_begun_after begun m in
     first_of_three (plain_fault begun m) (plain_fault_from now messages) (plain_fault_from (has_begun_by now messages) more)
-    (plain_fault_from now (messages ++ more)) (plain_fault_from-append now messages more)
+    (plain_fault_from-append now messages more)
 
 -- more messages without a fault, after messages without one
 pub form_fault-more : (form : Form) (messages more : List Message) → form_fault_of form messages ≡ None
@@ -59,24 +52,24 @@ abbrev taken_behind : Option SinkFault → Message → List Message → List Mes
 taken_behind first m taken = elim first [ Some fault ↦ [] | None ↦ m ∷ taken ]
 
 -- one that is refused is so before others, too, and what is taken is what comes before it
-before_step : (first rest more : Option SinkFault) (m : Message) (taken all : List Message) (fault : SinkFault) → first_of_two first rest ≡ Some fault
+before_step : (first rest more : Option SinkFault) (m : Message) (taken all : List Message) {fault : SinkFault} → first_of_two first rest ≡ Some fault
     → (rest ≡ Some fault → (more ≡ Some fault) × (all ≡ taken))
     → (first_of_two first more ≡ Some fault) × (taken_behind first m all ≡ taken_behind first m taken)
-before_step None rest more m taken all fault is later = let found = later is in (found.0, ap (λ (l : List Message). m ∷ l) found.1)
-before_step (Some first) rest more m taken all fault is later = (is, refl)
+before_step None rest more m taken all is later = let found = later is in (found.0, ap (λ (l : List Message). m ∷ l) found.1)
+before_step (Some first) rest more m taken all is later = (is, refl)
 
-plain_refused_before : (begun : Bool) (messages more : List Message) (fault : SinkFault) → plain_fault_from begun messages ≡ Some fault
+plain_refused_before : (begun : Bool) (messages more : List Message) {fault : SinkFault} → plain_fault_from begun messages ≡ Some fault
     → (plain_fault_from begun (messages ++ more) ≡ Some fault) × (plain_taken_from begun (messages ++ more) ≡ plain_taken_from begun messages)
-plain_refused_before begun [] more fault is = absurd cc
-plain_refused_before begun (m ∷ messages) more fault is =
+plain_refused_before begun [] more is = absurd cc
+plain_refused_before begun (m ∷ messages) more is =
     let now : Bool = has_begun_after begun m in
     before_step (plain_fault begun m) (plain_fault_from now messages) (plain_fault_from now (messages ++ more)) m (plain_taken_from now messages)
-    (plain_taken_from now (messages ++ more)) fault is (plain_refused_before now messages more fault)
+    (plain_taken_from now (messages ++ more)) is (plain_refused_before now messages more)
 
 pub refused_before : (form : Form) (messages more : List Message) (fault : SinkFault) → form_fault_of form messages ≡ Some fault
     → (form_fault_of form (messages ++ more) ≡ Some fault) × (taken_by form (messages ++ more) ≡ taken_by form messages)
 refused_before Raw messages more fault is = absurd cc
-refused_before Plain messages more fault is = plain_refused_before false messages more fault is
+refused_before Plain messages more fault is = plain_refused_before false messages more is
 
 -- the first of more messages is the first that is refused
 next_step : (first rest more : Option SinkFault) (m : Message) (all messages : List Message) (fault : SinkFault) → first_of_two first rest ≡ None

@@ -1,3 +1,4 @@
+mod Words
 pub mod FormLaws
 pub mod MessageLaws
 pub mod PlainLaws

@@ -1,31 +1,12 @@
 -- The bytes of lists of messages, and the messages that were put into a sink.
-use Rattle.std.proofs.Common.{◌≡◌, ℕ, ◌+◌, Bool, true, false, List, [], ◌∷◌, ◌++◌, map, Option, Some, None, Result, Ok, Err, OnOk, refl, sym, ap, ◌∙◌}
-use Rattle.std.proofs.Common.{append_assoc, subst}
-use Rattle.std.specs.List.{flat_map, AllByRecursion}
-use Rattle.std.proofs.lemmas.List.{append-nil}
-use Rattle.std.proofs.KnownBytes.{Appends-trans}
-use Rattle.std.specs.Io.KnownBytes.{Appends, Keeps}
-use Rattle.pnm_image.specs.declared.shape.Shape.{Shape}
-use Rattle.pnm_image.specs.declared.format.Form.{Form}
-use Rattle.pnm_image.specs.declared.format.Form.TheVariants.{Raw, Plain}
-use Rattle.pnm_image.specs.Heads.{HeadValue}
-use Rattle.pnm_image.specs.Parts.{part_messages, end_messages, rest_messages}
-use Rattle.pnm_image.specs.Rows.{row_messages, rows_list}
-use Rattle.pnm_write.specs.declared.fault.SinkFault.{SinkFault}
-use Rattle.pnm_write.specs.declared.fault.SinkFault.TheVariants.{WriteFailed, OutOfOrder, Broken, SecondPlain, PlainPam}
-use Rattle.pnm_image.specs.declared.message.Message.{Message}
-use Rattle.pnm_image.specs.declared.message.Message.TheVariants.{Begin, Row, ImageEnd, StreamEnd, Stop}
-use Rattle.pnm_image.specs.declared.place.Place.{Place}
-use Rattle.pnm_image.specs.declared.place.Place.TheVariants.{Between, Inside}
-use Rattle.pnm_image.specs.Images.{Image, rows_of, messages_of_stream}
-use Rattle.pnm_image.specs.Places.{IsLawfulFrom, place_after, place_of}
-use Rattle.pnm_image.proofs.Places.{lawful_append, place_of-append}
-use Rattle.pnm_write.specs.declared.sink.Sink.{Sink}
-use Rattle.pnm_write.specs.Encoding.{header_text, row_bytes, encoding_of, bytes_at, bytes_from, bytes_of, written_of}
-use Rattle.pnm_write.specs.Forms.{has_begun_by, form_fault, form_fault_from, form_fault_of, plain_fault, plain_fault_from, taken_by}
-use Rattle.pnm_write.specs.Sinks.{writer_of, next_place, form_of, has_begun, has_failed, HasRows, HasPut, HasWritten}
-use Rattle.pnm_write.specs.Sinks.{AreWritable, Refuses}
-use Rattle.pnm_write.specs.Internal.Sinks.{BeginsNone, BeginsWith, IsHeadRefused}
+use Rattle.pnm_write.proofs.Words.{◌≡◌, ℕ, ◌+◌, Bool, true, false, List, [], ◌∷◌, ◌++◌, map, Option, Some, None, Result, Ok, Err, OnOk, refl, sym, ap, ◌∙◌}
+use Rattle.pnm_write.proofs.Words.{append_assoc, subst, flat_map, AllByRecursion, append-nil, Appends-trans, Appends, Keeps, Shape, Form, Raw, Plain, HeadValue}
+use Rattle.pnm_write.proofs.Words.{part_messages, end_messages, rest_messages, row_messages, rows_list, SinkFault, WriteFailed, OutOfOrder, Broken, SecondPlain}
+use Rattle.pnm_write.proofs.Words.{PlainPam, Message, Begin, Row, ImageEnd, StreamEnd, Stop, Place, Between, Inside, Image, rows_of, messages_of_stream}
+use Rattle.pnm_write.proofs.Words.{IsLawfulFrom, place_after, place_of, lawful_append, place_of-append, Sink, header_text, row_bytes, encoding_of, bytes_at}
+use Rattle.pnm_write.proofs.Words.{bytes_from, bytes_of, written_of, has_begun_by, form_fault, form_fault_from, form_fault_of, plain_fault, plain_fault_from}
+use Rattle.pnm_write.proofs.Words.{taken_by, writer_of, next_place, form_of, has_begun, has_failed, HasRows, HasPut, HasWritten, AreWritable, Refuses}
+use Rattle.pnm_write.proofs.Words.{BeginsNone, BeginsWith, IsHeadRefused}
 use Rattle.pnm_write.proofs.FormLaws.{has_begun_by-append, form_fault-more, first_of_two, IsPrefixOf, taken_prefix, taken_by-all}
 
 -- the bytes of rows, and of what comes after the image
@@ -90,8 +71,8 @@ all_append P [] b first then = then
 all_append P (x ∷ a) b first then = (first.0, all_append P a b first.1 then)
 
 -- messages were put
-pub puts : {W : Type 0} (old new : Sink W) (messages more : List Message) → HasPut old messages → TakesOn old new more → HasPut new (messages ++ more)
-puts old new messages more put on =
+pub puts : {W : Type 0} {old new : Sink W} {messages more : List Message} → HasPut old messages → TakesOn old new more → HasPut new (messages ++ more)
+puts {old} {messages} {more} put on =
     let here : next_place old ≡ place_of Between messages = put.place on.sound in
     let begun : has_begun old ≡ has_begun_by false messages = put.begun on.sound in
     let none : form_fault_from (form_of old) (has_begun_by false messages) more ≡ None =
@@ -105,10 +86,10 @@ puts old new messages more put on =
     }
 
 -- messages were put, and their bytes were written
-pub writes : {W : Type 0} (held : W → Option (List ℕ)) (start : Option (List ℕ)) (old new : Sink W) (messages more : List Message)
-    → HasWritten held start old messages → TakesOn old new more
-    → Appends (held (writer_of old)) (held (writer_of new)) (bytes_from (form_of old) (next_place old) more) → HasWritten held start new (messages ++ more)
-writes held start old new messages more written on added =
+pub writes : {W : Type 0} {held : W → Option (List ℕ)} {start : Option (List ℕ)} {old new : Sink W} {messages more : List Message}
+    → HasWritten held start old messages → TakesOn old new more → Appends (held (writer_of old)) (held (writer_of new))
+    (bytes_from (form_of old) (next_place old) more) → HasWritten held start new (messages ++ more)
+writes {held} {start} {old} {new} {messages} {more} written on added =
     let form : Form = form_of old in
     let here : next_place old ≡ place_of Between messages = written.put.place on.sound in
     let bytes : Appends (held (writer_of old)) (held (writer_of new)) (bytes_from form (place_of Between messages) more) =
@@ -118,7 +99,7 @@ writes held start old new messages more written on added =
     (Appends-trans start (held (writer_of old)) (held (writer_of new)) (bytes_from form Between messages) (bytes_from form (place_of Between messages) more)
     written.bytes bytes) in
     record {
-      put = puts old new messages more written.put on;
+      put = puts written.put on;
       bytes = subst (λ (f : Form). Appends start (held (writer_of new)) (bytes_from f Between (messages ++ more))) (sym on.form) all;
     }
 
@@ -158,14 +139,14 @@ rest_begins_none [] true = tt
 rest_begins_none (row ∷ rows) ends = rest_begins_none rows ends
 
 -- a part begins an image if it has a head
-pub part_begins : (head : HeadValue) (o : Option HeadValue) (rows : Option (List (List ℕ))) (ends : Bool) (part : List Message) → o ≡ Some head
+pub part_begins : {head : HeadValue} {o : Option HeadValue} (rows : Option (List (List ℕ))) (ends : Bool) {part : List Message} → o ≡ Some head
     → part ≡ part_messages o rows ends → BeginsWith head part
-part_begins head o rows ends part some is =
+part_begins {o} rows ends some is =
     (rest_messages rows ends, is ∙ ap (λ (o : Option HeadValue). part_messages o rows ends) some, rest_begins_none (rows_list rows) ends)
 
-pub part_begins_none : (o : Option HeadValue) (rows : Option (List (List ℕ))) (ends : Bool) (part : List Message) → o ≡ None
+pub part_begins_none : {o : Option HeadValue} (rows : Option (List (List ℕ))) (ends : Bool) {part : List Message} → o ≡ None
     → part ≡ part_messages o rows ends → BeginsNone part
-part_begins_none o rows ends part none is =
+part_begins_none {o} rows ends none is =
     subst BeginsNone (sym (is ∙ ap (λ (o : Option HeadValue). part_messages o rows ends) none)) (rest_begins_none (rows_list rows) ends)
 
 -- why messages are refused that begin with a head

@@ -1,15 +1,10 @@
 -- The text of a number that is put into a buffer.
-use Rattle.std.proofs.Common.{◌≡◌, ℕ, ◌+◌, ◌-◌, ◌/◌, ◌%◌, ◌<◌, ◌≤◌, ◌==◌, nat_le, if◌then◌else◌, Bool, true, false, List, [], ◌∷◌, ◌++◌, length, take, drop}
-use Rattle.std.proofs.Common.{set, get_or, decimal, refl, sym, ap, ap₂, ◌∙◌, append_assoc, append-nil, length-append, arith}
-use Rattle.std.proofs.Math.Seq.{take-append-add, take-set-lt}
-use Rattle.std.proofs.lemmas.List.{take-append-le, get_or-drop, take_all, take_more_set, take-take, length-take, length-drop, drop-drop}
-use Rattle.std.proofs.Math.ListN.{length-set}
-use Rattle.std.proofs.lemmas.Fmt.{decimal_step, decimal_digit, length-decimal-le}
-use Rattle.pnm_image.specs.declared.shape.Kind.TheVariants.{Gray}
-use Rattle.std.specs.Str.{byte}
-use Rattle.pnm_write.specs.PlainRows.{max_line_length}
-use Rattle.pnm_write.specs.Internal.PlainParts.{fits_in_line, column_after, word_in_line, text_of_part, column_after_part, sample_texts}
-use Rattle.pnm_write.specs.Internal.Numerals.{IsEntry, three_digits}
+use Rattle.pnm_write.proofs.Words.{◌≡◌, ℕ, ◌+◌, ◌-◌, ◌/◌, ◌%◌, ◌<◌, ◌≤◌, ◌==◌, nat_le, if◌then◌else◌, Bool, true, false, List, [], ◌∷◌, ◌++◌, length, take}
+use Rattle.pnm_write.proofs.Words.{drop, set, get_or, decimal, refl, sym, ap, ap₂, ◌∙◌, append_assoc, length-append, arith, take-append-add, take-set-lt}
+use Rattle.pnm_write.proofs.Words.{take-append-le, get_or-drop, take_all, take_more_set, take-take, length-take, length-drop, drop-drop, length-set}
+use Rattle.pnm_write.proofs.Words.{decimal_step, decimal_digit, length-decimal-le, Gray, byte, max_line_length, fits_in_line, column_after, word_in_line}
+use Rattle.pnm_write.proofs.Words.{text_of_part, column_after_part, sample_texts, IsEntry, three_digits}
+use Rattle.std.proofs.Common.{append-nil}
 use Rattle.pnm_write.proofs.PlainLaws.{has_begun_line, text_more}
 
 -- ---- the digits of a number
@@ -77,10 +72,10 @@ four_are_put buffer (a ∷ b ∷ []) at within enough = absurd (omega arith)
 four_are_put buffer (a ∷ b ∷ c ∷ []) at within enough = absurd (omega arith)
 
 -- the prefix of an entry is a blank and the number
-pub small_is_put : (buffer new entry : List ℕ) (at number size : ℕ) → number < 256 → IsEntry number entry → size ≡ 1 + length (decimal number)
-    → take (at + 4) new ≡ take at buffer ++ take 4 (drop 1 entry) → at ≤ length buffer
+pub small_is_put : (buffer new : List ℕ) {entry : List ℕ} (at : ℕ) {number size : ℕ} → number < 256 → IsEntry number entry
+    → size ≡ 1 + length (decimal number) → take (at + 4) new ≡ take at buffer ++ take 4 (drop 1 entry) → at ≤ length buffer
     → take (at + size) new ≡ take at buffer ++ byte " " ∷ decimal number
-small_is_put buffer new entry at number size small is count put within =
+small_is_put buffer new {entry} at {number} {size} small is count put within =
     let digits : length (decimal number) ≤ 3 = length-decimal-le 3 number (omega arith) (omega arith) (omega arith) in
     let copied : List ℕ = take 4 (drop 1 entry) in
     let long : length copied ≡ 4 = omega (arith, length-take 4 (drop 1 entry), length-drop 1 entry, is.long) in
@@ -90,8 +85,8 @@ small_is_put buffer new entry at number size small is count put within =
     ∙ ap (λ (l : List ℕ). take at buffer ++ l) (take-take size 4 (drop 1 entry) (omega arith) ∙ ap (λ (n : ℕ). take n (drop 1 entry)) count ∙ is.text)
 
 -- the end of the entry of a number from 100 to 199 is its last two digits
-pub entry_ends : (n : ℕ) (entry : List ℕ) → n < 1000 → IsEntry (100 + n % 100) entry → drop 3 entry ≡ (48 + n / 10 % 10) ∷ (48 + n % 10) ∷ []
-entry_ends n entry small is =
+pub entry_ends : (n : ℕ) {entry : List ℕ} → n < 1000 → IsEntry (100 + n % 100) entry → drop 3 entry ≡ (48 + n / 10 % 10) ∷ (48 + n % 10) ∷ []
+entry_ends n {entry} small is =
     let number : ℕ = 100 + n % 100 in
     let digits : decimal number ≡ three_digits number = decimal_three number (omega arith) (omega arith) in
     let long : length (drop 1 entry) ≡ 4 = omega (arith, length-drop 1 entry, is.long) in
@@ -105,10 +100,11 @@ entry_ends n entry small is =
     sym (drop-drop 2 1 entry) ∙ ap (drop 2) whole ∙ ap₂ (λ (a b : ℕ). (48 + a) ∷ (48 + b) ∷ []) tens ones
 
 -- three digits
-pub three_are_put : (buffer entry : List ℕ) (at n digit : ℕ) → n < 1000 → IsEntry (100 + n % 100) entry → at + 3 ≤ length buffer → digit ≡ 48 + n / 100
-    → take (at + 3) (set (set (set buffer at digit) (at + 1) (get_or entry 3 0)) (at + 2) (get_or entry 4 0)) ≡ take at buffer ++ three_digits n
-three_are_put buffer entry at n digit small is within first =
-    let ends : drop 3 entry ≡ (48 + n / 10 % 10) ∷ (48 + n % 10) ∷ [] = entry_ends n entry small is in
+pub three_are_put : (buffer : List ℕ) {entry : List ℕ} (at n : ℕ) {digit : ℕ} → n < 1000 → IsEntry (100 + n % 100) entry → at + 3 ≤ length buffer
+    → digit ≡ 48 + n / 100 → take (at + 3)
+    (set (set (set buffer at digit) (at + 1) (get_or entry 3 0)) (at + 2) (get_or entry 4 0)) ≡ take at buffer ++ three_digits n
+three_are_put buffer {entry} at n {digit} small is within first =
+    let ends : drop 3 entry ≡ (48 + n / 10 % 10) ∷ (48 + n % 10) ∷ [] = entry_ends n small is in
     let tens : get_or entry 3 0 ≡ 48 + n / 10 % 10 = sym (get_or-drop 3 entry 0 0) ∙ ap (λ (l : List ℕ). get_or l 0 0) ends in
     let ones : get_or entry 4 0 ≡ 48 + n % 10 = sym (get_or-drop 3 entry 1 0) ∙ ap (λ (l : List ℕ). get_or l 1 0) ends in
     let hundreds : digit ≡ 48 + n / 100 % 10 = omega arith in
@@ -151,9 +147,8 @@ three_behind buffer small new at size n large fits prefix put =
     ∙ append_assoc (take at buffer) (byte " " ∷ decimal (n / 1000)) (three_digits (n % 1000))
     ∙ ap (λ (l : List ℕ). take at buffer ++ byte " " ∷ l) (sym (decimal_split n large fits))
 
-pub behind_count : (n size : ℕ) → 1000 ≤ n → n < 65536 → size ≡ 1 + length (decimal (n / 1000)) → size + 3 ≡ 1 + length (decimal n)
-behind_count n size large fits count =
-    omega (arith, count, ap length (decimal_split n large fits), length-append (decimal (n / 1000)) (three_digits (n % 1000)))
+pub behind_count : (n : ℕ) {size : ℕ} → 1000 ≤ n → n < 65536 → size ≡ 1 + length (decimal (n / 1000)) → size + 3 ≡ 1 + length (decimal n)
+behind_count n large fits count = omega (arith, count, ap length (decimal_split n large fits), length-append (decimal (n / 1000)) (three_digits (n % 1000)))
 
 pub prefix_short : (n : ℕ) → n < 65536 → length (decimal (n / 1000)) ≤ 2
 prefix_short n fits = length-decimal-le 2 (n / 1000) (omega arith) (omega arith) (omega arith)
@@ -166,11 +161,11 @@ set_behind [] b word = refl
 set_behind (a ∷ prefix) b word = ap (λ (l : List ℕ). a ∷ l) (set_behind prefix b word)
 
 -- what a buffer has, where the line is ended before the word that was put last, or isn't
-put_word_by : (fits : Bool) (buffer : List ℕ) (at : ℕ) (prefix word : List ℕ) → at ≡ length prefix → at < length buffer
-    → take (at + (1 + length word)) buffer ≡ prefix ++ byte " " ∷ word
-    → take (at + (1 + length word)) (if fits then buffer else set buffer at (byte "\n")) ≡ prefix ++ ((if fits then byte " " ∷ [] else byte "\n" ∷ []) ++ word)
-put_word_by true buffer at prefix word here within put = put
-put_word_by false buffer at prefix word here within put =
+put_word_by : (fits : Bool) (buffer : List ℕ) {at : ℕ} (prefix word : List ℕ) → at ≡ length prefix → at < length buffer
+    → take (at + (1 + length word)) buffer ≡ prefix ++ byte " " ∷ word → take (at + (1 + length word))
+    (if fits then buffer else set buffer at (byte "\n")) ≡ prefix ++ ((if fits then byte " " ∷ [] else byte "\n" ∷ []) ++ word)
+put_word_by true buffer prefix word here within put = put
+put_word_by false buffer {at} prefix word here within put =
     take-set-lt (at + (1 + length word)) buffer at (byte "\n") (omega arith)
     ∙ ap (λ (l : List ℕ). set l at (byte "\n")) put
     ∙ ap (λ (n : ℕ). set (prefix ++ byte " " ∷ word) n (byte "\n")) here
@@ -191,10 +186,10 @@ column_by false false column size e = omega arith
 same_room : (column size : ℕ) → nat_le (column + (1 + size)) max_line_length ≡ nat_le (column + 1 + size) max_line_length
 same_room column size = ap (λ (n : ℕ). nat_le n max_line_length) (omega arith)
 
-pub word_is_put : (old put new prefix word : List ℕ) (at column size : ℕ) → 0 < column → prefix ≡ take at old → at < length old → length put ≡ length old
-    → size ≡ 1 + length word → take (at + size) put ≡ take at old ++ byte " " ∷ word
+pub word_is_put : (old put : List ℕ) {new prefix : List ℕ} (word : List ℕ) (at column : ℕ) {size : ℕ} → 0 < column → prefix ≡ take at old → at < length old
+    → length put ≡ length old → size ≡ 1 + length word → take (at + size) put ≡ take at old ++ byte " " ∷ word
     → new ≡ (if nat_le (column + size) max_line_length then put else set put at (byte "\n")) → take (at + size) new ≡ prefix ++ word_in_line column word
-word_is_put old put new prefix word at column size begun prefix_is within same count put_is new_is =
+word_is_put old put {prefix} word at column begun prefix_is within same count put_is new_is =
     let long : at ≡ length prefix = sym (ap length prefix_is ∙ omega (arith, length-take at old)) in
     let put_here : take (at + (1 + length word)) put ≡ prefix ++ byte " " ∷ word = ap (λ (n : ℕ). take (at + n) put) (sym count) ∙ put_is
     ∙ ap (λ (l : List ℕ). l ++ byte " " ∷ word) (sym prefix_is) in
@@ -202,29 +197,28 @@ word_is_put old put new prefix word at column size begun prefix_is within same c
     ap₂ (λ (n : ℕ) (l : List ℕ). take (at + n) l) count
     (new_is ∙ ap (λ (n : ℕ). if nat_le (column + n) max_line_length then put else set put at (byte "\n")) count
     ∙ ap (λ (b : Bool). if b then put else set put at (byte "\n")) (same_room column (length word)))
-    ∙ put_word_by fits put at prefix word long (omega arith) put_here
+    ∙ put_word_by fits put prefix word long (omega arith) put_here
     ∙ ap (λ (l : List ℕ). prefix ++ (l ++ word)) (sym (separator_by (column == 0) fits (has_begun_line column begun)))
 
-pub column_is : (column size : ℕ) (word : List ℕ) (new : ℕ) → 0 < column → size ≡ 1 + length word
+pub column_is : (column : ℕ) {size : ℕ} (word : List ℕ) {new : ℕ} → 0 < column → size ≡ 1 + length word
     → new ≡ (if nat_le (column + size) max_line_length then column + size else size - 1) → new ≡ column_after column word
-column_is column size word new begun count new_is =
+column_is column word begun count new_is =
     new_is
     ∙ ap (λ (n : ℕ). if nat_le (column + n) max_line_length then column + n else n - 1) count
     ∙ ap (λ (b : Bool). if b then column + (1 + length word) else 1 + length word - 1) (same_room column (length word))
     ∙ column_by (column == 0) (fits_in_line column word) column (length word) (has_begun_line column begun)
 
 -- one number more
-pub number_more : (start column end at size i sample : ℕ) (initial buffer put new samples : List ℕ) → 0 < at → end < length buffer → length put ≡ length buffer
-    → i < length samples → sample ≡ get_or samples i 0
+pub number_more : (start column end : ℕ) {at size : ℕ} (i : ℕ) {sample : ℕ} (initial buffer put : List ℕ) {new : List ℕ} (samples : List ℕ) → 0 < at
+    → end < length buffer → length put ≡ length buffer → i < length samples → sample ≡ get_or samples i 0
     → take end buffer ≡ take start initial ++ text_of_part column (sample_texts Gray (take i samples))
-    → at ≡ column_after_part column (sample_texts Gray (take i samples))
-    → size ≡ 1 + length (decimal sample) → take (end + size) put ≡ take end buffer ++ byte " " ∷ decimal sample
+    → at ≡ column_after_part column (sample_texts Gray (take i samples)) → size ≡ 1 + length (decimal sample)
+    → take (end + size) put ≡ take end buffer ++ byte " " ∷ decimal sample
     → new ≡ (if nat_le (at + size) max_line_length then put else set put end (byte "\n"))
     → take (end + size) new ≡ take start initial ++ text_of_part column (sample_texts Gray (take (i + 1) samples))
-number_more start column end at size i sample initial buffer put new samples begun within same below is known here count put_is new_is =
+number_more start column end {at} i {sample} initial buffer put samples begun within same below is known here count put_is new_is =
     let prefix : List ℕ = text_of_part column (sample_texts Gray (take i samples)) in
-    word_is_put buffer put new (take end buffer) (decimal sample) end at size begun refl within same count put_is new_is
+    word_is_put buffer put (decimal sample) end at begun refl within same count put_is new_is
     ∙ ap (λ (l : List ℕ). l ++ word_in_line at (decimal sample)) known
     ∙ append_assoc (take start initial) prefix (word_in_line at (decimal sample))
-    ∙ ap (λ (l : List ℕ). take start initial ++ l)
-    (text_more column Gray samples i sample at prefix (prefix ++ word_in_line at (decimal sample)) below is refl here refl)
+    ∙ ap (λ (l : List ℕ). take start initial ++ l) (text_more column Gray samples i below is refl here refl)

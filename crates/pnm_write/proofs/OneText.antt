@@ -1,15 +1,9 @@
 -- The text of a plain row is that of its words in lines as long as they can be, and no other text is.
-use Rattle.std.proofs.Common.{◌≡◌, ℕ, ◌+◌, ◌<◌, ◌≤◌, nat_le, if◌then◌else◌, Bool, true, false, List, [], ◌∷◌, ◌++◌, length, map, flat_map, refl, sym, ap, ◌∙◌}
-use Rattle.std.proofs.Common.{append_assoc, append-nil, length-append, arith}
-use Rattle.std.specs.List.{AllByRecursion}
-use Rattle.std.proofs.lemmas.Bool.Decides.{nat_tests}
-use Rattle.pnm_image.specs.declared.shape.Kind.{Kind}
-use Rattle.pnm_image.specs.Heads.{HeadValue, IsHead}
-use Rattle.pnm_image.specs.Places.{IsRowOf}
-use Rattle.std.specs.Str.{byte}
-use Rattle.pnm_write.specs.PlainRows.{max_line_length, sample_text, join_with_blank, IsFilled, AreFilled, IsLine, line_text, IsSetInLines, words_after}
-use Rattle.pnm_write.specs.PlainRows.{set_in_lines}
-use Rattle.pnm_write.specs.EncodingLaws.{HasOneText}
+use Rattle.pnm_write.proofs.Words.{◌≡◌, ℕ, ◌+◌, ◌<◌, ◌≤◌, nat_le, if◌then◌else◌, Bool, true, false, List, [], ◌∷◌, ◌++◌, length, map, refl, sym, ap, ◌∙◌}
+use Rattle.pnm_write.proofs.Words.{append_assoc, length-append, arith, AllByRecursion, nat_tests, Kind, HeadValue, IsHead, IsRowOf, byte, max_line_length}
+use Rattle.pnm_write.proofs.Words.{sample_text, join_with_blank, IsFilled, AreFilled, IsLine, line_text, IsSetInLines, words_after, set_in_lines, HasOneText}
+use Rattle.std.proofs.Common.{flat_map}
+use Rattle.std.proofs.Common.{append-nil}
 use Rattle.pnm_write.proofs.WordSizes.{AreShortWords, row_is_short}
 
 -- ---- words in a line
@@ -73,15 +67,15 @@ le_is a b h = grind (arith, nat_tests)
 le_is_not : (a b : ℕ) → b < a → nat_le a b ≡ false
 le_is_not a b h = grind (arith, nat_tests)
 
-one_word : (word : List ℕ) → length word ≤ max_line_length → IsLine (word ∷ [])
-one_word word short = record { some = omega arith; short = short }
+one_word : {word : List ℕ} → length word ≤ max_line_length → IsLine (word ∷ [])
+one_word short = record { some = omega arith; short = short }
 
 -- a word in the line
-fill_here : (first : List ℕ) (more : List (List ℕ)) (word : List ℕ) (words : List (List ℕ)) (lines : List (List (List ℕ)))
+fill_here : {first : List ℕ} (more : List (List ℕ)) (word : List ℕ) {words : List (List ℕ)} {lines : List (List (List ℕ))}
     → AreFilledFrom first (more ++ word ∷ []) words lines
-    → flat_map line_text lines ≡ join_with_blank (first ∷ more) ++ byte " "
-    ∷ (word ++ words_after (length (join_with_blank (first ∷ more)) + 1 + length word) words)
-fill_here first more word words lines are =
+    → flat_map line_text lines ≡ join_with_blank (first ∷ more) ++ byte " " ∷ (word ++ words_after (length (join_with_blank (first ∷ more)) + 1 + length
+    word) words)
+fill_here {first} more word {words} are =
     let line : List ℕ = join_with_blank (first ∷ more) in
     are.text
     ∙ ap (λ (l : List ℕ). l ++ words_after (length l) words) (joined_more first more word)
@@ -89,25 +83,23 @@ fill_here first more word words lines are =
     ∙ append_assoc line (byte " " ∷ word) (words_after (length line + 1 + length word) words)
 
 -- a word in the next line
-fill_next : (first : List ℕ) (more : List (List ℕ)) (word : List ℕ) (words : List (List ℕ)) (lines : List (List (List ℕ))) → AreFilledFrom word [] words lines
+fill_next : (first : List ℕ) (more : List (List ℕ)) {word : List ℕ} {words : List (List ℕ)} {lines : List (List (List ℕ))}
+    → AreFilledFrom word [] words lines
     → flat_map line_text ((first ∷ more) ∷ lines) ≡ join_with_blank (first ∷ more) ++ byte "\n" ∷ (word ++ words_after (length word) words)
-fill_next first more word words lines are =
+fill_next first more {word} {words} are =
     let line : List ℕ = join_with_blank (first ∷ more) in
     ap (λ (l : List ℕ). (line ++ byte "\n" ∷ []) ++ l) are.text ∙ append_assoc line (byte "\n" ∷ []) (word ++ words_after (length word) words)
 
-fill_step : (here : Bool) (first : List ℕ) (more : List (List ℕ)) (word : List ℕ) (words : List (List ℕ))
+fill_step : (here : Bool) {first : List ℕ} {more : List (List ℕ)} {word : List ℕ} {words : List (List ℕ)}
     → nat_le (length (join_with_blank (first ∷ more)) + 1 + length word) max_line_length ≡ here → IsLine (first ∷ more)
     → (IsLine (first ∷ (more ++ word ∷ [])) → AreFilledFrom first (more ++ word ∷ []) words (fill first (more ++ word ∷ []) words))
     → AreFilledFrom word [] words (fill word [] words)
-    → (let column : ℕ = length (join_with_blank (first ∷ more)) in
-    let lines : List (List (List ℕ)) = if here then fill first (more ++ word ∷ []) words else (first ∷ more) ∷ fill word [] words in
-    (flat_map (λ line. line) lines ≡ (first ∷ more) ++ word ∷ words)
-    × AllByRecursion IsLine lines
-    × AreFilled lines
-    × ((line : List (List ℕ)) → max_line_length < length (join_with_blank line ++ byte " " ∷ first) → IsFilled line lines)
-    × (flat_map line_text lines ≡ join_with_blank (first ∷ more)
-    ++ (if here then byte " " ∷ (word ++ words_after (column + 1 + length word) words) else byte "\n" ∷ (word ++ words_after (length word) words))))
-fill_step true first more word words is line same next =
+    → (let column : ℕ = length (join_with_blank (first ∷ more)) in let lines : List (List (List ℕ)) = if here then fill first (more ++ word ∷ []) words else
+    (first ∷ more) ∷ fill word [] words in (flat_map (λ line. line) lines ≡ (first ∷ more) ++ word ∷ words) × AllByRecursion IsLine lines × AreFilled lines ×
+    ((line : List (List ℕ)) → max_line_length < length (join_with_blank line ++ byte " " ∷ first) → IsFilled line lines) × (flat_map line_text lines ≡
+    join_with_blank (first ∷ more) ++ (if here then byte " " ∷ (word ++ words_after (column + 1 + length word) words) else byte "\n" ∷ (word ++ words_after
+    (length word) words))))
+fill_step true {first} {more} {word} {words} is line same next =
     let long : length (join_with_blank (first ∷ (more ++ word ∷ []))) ≡ length (join_with_blank (first ∷ more)) + 1 + length word =
     ap length (joined_more first more word) ∙ long_more (join_with_blank (first ∷ more)) word in
     let are = same (record { some = omega arith; short = omega (arith, fits (length (join_with_blank (first ∷ more)) + 1 + length word) is) }) in (
@@ -115,16 +107,16 @@ fill_step true first more word words is line same next =
       are.each,
       are.filled,
       are.begins,
-      fill_here first more word words (fill first (more ++ word ∷ []) words) are,
+      fill_here more word are,
     )
-fill_step false first more word words is line same next =
+fill_step false {first} {more} {word} is line same next =
     let full : max_line_length < length (join_with_blank (first ∷ more) ++ byte " " ∷ word) =
     omega (arith, long_more (join_with_blank (first ∷ more)) word, fits_not (length (join_with_blank (first ∷ more)) + 1 + length word) is) in (
       ap (λ (l : List (List ℕ)). (first ∷ more) ++ l) next.in_order,
       (line, next.each),
       (next.begins (first ∷ more) full, next.filled),
       (λ before h. h),
-      fill_next first more word words (fill word [] words) next,
+      fill_next first more next,
     )
 
 fill_is : (first : List ℕ) (more words : List (List ℕ)) → IsLine (first ∷ more) → AreShort words → AreFilledFrom first more words (fill first more words)
@@ -136,15 +128,15 @@ fill_is first more [] line short = record {
   text = append-nil (join_with_blank (first ∷ more) ++ byte "\n" ∷ []);
 }
 fill_is first more (word ∷ words) line short =
-    let all = fill_step (nat_le (length (join_with_blank (first ∷ more)) + 1 + length word) max_line_length) first more word words refl line
-    (λ l. fill_is first (more ++ word ∷ []) words l short.1) (fill_is word [] words (one_word word short.0) short.1) in
+    let all = fill_step (nat_le (length (join_with_blank (first ∷ more)) + 1 + length word) max_line_length) refl line
+    (λ l. fill_is first (more ++ word ∷ []) words l short.1) (fill_is word [] words (one_word short.0) short.1) in
     record { in_order = all.0; each = all.1; filled = all.2; begins = all.3; text = all.4 }
 
 -- words are set in lines by the text that is written
 set_holds : (words : List (List ℕ)) → AreShort words → IsSetInLines words (set_in_lines words)
 set_holds [] short = record { lines = []; are = record { in_order = refl; each = tt; filled = tt }; whole = refl }
 set_holds (word ∷ words) short =
-    let are = fill_is word [] words (one_word word short.0) short.1 in
+    let are = fill_is word [] words (one_word short.0) short.1 in
     record {
       lines = fill word [] words;
       are = record { in_order = are.in_order; each = are.each; filled = are.filled };
@@ -206,8 +198,8 @@ lines_text ((word ∷ words) ∷ lines) filled each =
     ∙ ap (λ (n : ℕ). word ++ (behind words ++ words_after n rest)) long
     ∙ ap (λ (l : List ℕ). word ++ l) (sym (stand_here (length word) words rest (omega (arith, each.0.short))))
 
-set_is_only : (words : List (List ℕ)) (text : List ℕ) → IsSetInLines words text → text ≡ set_in_lines words
-set_is_only words text set = set.whole ∙ lines_text set.lines set.are.filled set.are.each ∙ ap set_in_lines set.are.in_order
+set_is_only : {words : List (List ℕ)} {text : List ℕ} → IsSetInLines words text → text ≡ set_in_lines words
+set_is_only set = set.whole ∙ lines_text set.lines set.are.filled set.are.each ∙ ap set_in_lines set.are.in_order
 
 -- ---- rows
 
@@ -218,8 +210,8 @@ texts_are_short kind (sample ∷ samples) are = (omega (arith, are.0.short), tex
 pub row_has_one_text : (head : HeadValue) → IsHead head → (row : List ℕ) → IsRowOf head.shape row → HasOneText head.shape.kind row
 row_has_one_text head sound row is =
     let kind : Kind = head.shape.kind in
-    let short : AreShort (map (sample_text kind) row) = texts_are_short kind row (row_is_short head sound row is) in
+    let short : AreShort (map (sample_text kind) row) = texts_are_short kind row (row_is_short sound is) in
     record {
       holds = set_holds (map (sample_text kind) row) short;
-      only = λ text set. set_is_only (map (sample_text kind) row) text set;
+      only = λ text set. set_is_only set;
     }

@@ -1,8 +1,6 @@
 -- Parts of samples, and parts of these; a writer at the begin and at the end of its parts.
-use Rattle.std.proofs.Common.{◌≡◌, ℕ, ◌+◌, ◌-◌, ◌≤◌, List, [], ◌++◌, length, take, drop, Option, Some, None, refl, sym, ap, subst, ◌∙◌, arith}
-use Rattle.std.proofs.lemmas.List.{append-nil, take-take, drop-take, drop-drop, length-take, length-drop}
-use Rattle.std.specs.Io.KnownBytes.{Appends, Keeps}
-use Rattle.pnm_image.proofs.Written.{Sending, Written, Appends-nothing}
+use Rattle.pnm_write.proofs.Words.{◌≡◌, ℕ, ◌+◌, ◌-◌, ◌≤◌, List, [], ◌++◌, length, take, drop, Option, Some, None, refl, sym, ap, subst, ◌∙◌, arith, append-nil}
+use Rattle.pnm_write.proofs.Words.{take-take, drop-take, drop-drop, length-take, length-drop, Appends, Keeps, Sending, Written, Appends-nothing}
 
 -- a part of a part is a part of all samples
 pub part_of_part : (start count done size : ℕ) (samples : List ℕ) → done + size ≤ count
@@ -37,6 +35,5 @@ begin_sending held failures same writer bytes at_once = record {
     keeps (Some xs) = refl
 
 -- all is written where nothing is left
-pub all_written : (old now : Option (List ℕ)) (bytes rest : List ℕ) → Written old now bytes rest → rest ≡ [] → Appends old now bytes
-all_written old now bytes rest w none =
-    subst (Appends old now) (sym (w.parts ∙ ap (λ (l : List ℕ). w.prefix ++ l) none ∙ append-nil w.prefix)) w.appended
+pub all_written : {old now : Option (List ℕ)} {bytes rest : List ℕ} → Written old now bytes rest → rest ≡ [] → Appends old now bytes
+all_written {old} {now} w none = subst (Appends old now) (sym (w.parts ∙ ap (λ (l : List ℕ). w.prefix ++ l) none ∙ append-nil w.prefix)) w.appended

@@ -1,19 +1,11 @@
 -- The text of a plain row of PBM: line by line, and a buffer that it is put into.
-use Rattle.std.proofs.Common.{◌≡◌, ℕ, zero, suc, ◌+◌, ◌-◌, ◌*◌, ◌/◌, ◌%◌, ◌^◌, ◌<◌, ◌≤◌, ◌&&◌, nat_le, min, if◌then◌else◌, Bool, true, false, List, [], ◌∷◌}
-use Rattle.std.proofs.Common.{◌++◌, length, take, drop, set, get_or, refl, sym, ap, ap₂, ◌∙◌, append_assoc, append-nil, length-append, inl, inr, arith}
-use Rattle.std.specs.List.{flat_map}
-use Rattle.std.proofs.Math.Seq.{take-set-lt, take-add}
-use Rattle.std.proofs.lemmas.Bool.{cases_lt}
-use Rattle.std.proofs.lemmas.Bool.Decides.{nat_tests}
-use Rattle.std.proofs.lemmas.Grind.{flat_map-append}
-use Rattle.std.proofs.lemmas.List.{take-append-drop, take_all, drop_all, take_more, length-take, length-drop, drop-drop, take-take}
-use Rattle.pnm_samples.specs.Pixels.{pixels, all_pixels}
-use Rattle.pnm_samples.proofs.PixelLaws.{length-all_pixels, all_pixels-push, take-all_pixels, drop-all_pixels}
-use Rattle.pnm_image.specs.declared.shape.Kind.TheVariants.{Bit}
-use Rattle.std.specs.Str.{byte}
-use Rattle.pnm_write.specs.PlainRows.{max_line_length, words_after, plain_row_text}
-use Rattle.pnm_write.specs.Internal.PlainParts.{sample_texts}
-use Rattle.pnm_write.specs.Internal.PixelCells.{cell, cells, nibble_cells}
+use Rattle.pnm_write.proofs.Words.{◌≡◌, ℕ, zero, suc, ◌+◌, ◌-◌, ◌*◌, ◌/◌, ◌%◌, ◌^◌, ◌<◌, ◌≤◌, ◌&&◌, nat_le, min, if◌then◌else◌, Bool, true, false, List, []}
+use Rattle.pnm_write.proofs.Words.{◌∷◌, ◌++◌, length, take, drop, set, get_or, refl, sym, ap, ap₂, ◌∙◌, append_assoc, length-append, inl, inr, arith, flat_map}
+use Rattle.pnm_write.proofs.Words.{take-set-lt, take-add, cases_lt, nat_tests, flat_map-append, take-append-drop, take_all, drop_all, take_more, length-take}
+use Rattle.pnm_write.proofs.Words.{length-drop, drop-drop, take-take, all_pixels, length-all_pixels, all_pixels-push, take-all_pixels, drop-all_pixels, Bit}
+use Rattle.pnm_write.proofs.Words.{byte, max_line_length, words_after, plain_row_text, sample_texts, cell, cells, nibble_cells}
+use Rattle.std.proofs.Common.{append-nil}
+use Rattle.pnm_samples.specs.Pixels.{pixels}
 use Rattle.pnm_write.proofs.NumeralLaws.{set_behind}
 use Rattle.pnm_write.proofs.EntryLaws.{are_same, same, and_parts}
 
@@ -60,10 +52,10 @@ byte_cells b small =
     let c0 : 49 - (1 - b / 2 ^ 0 % 2) ≡ 48 + b % 16 % 2 = omega arith in
     cc
 
-pub nibble_is_put : (buffer half new cells' : List ℕ) (at bits : ℕ) → cells' ≡ nibble_cells bits → take (at + 4) half ≡ take at buffer ++ take 4 cells'
-    → take (at + 4 + 4) new ≡ take (at + 4) half ++ take 4 (drop 4 cells')
+pub nibble_is_put : (buffer half new : List ℕ) {cells' : List ℕ} (at bits : ℕ) → cells' ≡ nibble_cells bits
+    → take (at + 4) half ≡ take at buffer ++ take 4 cells' → take (at + 4 + 4) new ≡ take (at + 4) half ++ take 4 (drop 4 cells')
     → take (at + 8) new ≡ take at buffer ++ nibble_cells bits
-nibble_is_put buffer half new cells' at bits is first second =
+nibble_is_put buffer half new at bits is first second =
     ap (λ (n : ℕ). take n new) (omega arith)
     ∙ second
     ∙ ap₂ (λ (a b : List ℕ). a ++ take 4 (drop 4 b)) (first ∙ ap (λ (l : List ℕ). take at buffer ++ take 4 l) is) is
@@ -78,10 +70,10 @@ byte_is_put buffer half new at b small first second =
     ∙ append_assoc (take at buffer) (nibble_cells (b / 16)) (nibble_cells (b % 16))
     ∙ ap (λ (l : List ℕ). take at buffer ++ l) (sym (byte_cells b small))
 
-pub cells_more : (buffer new bytes : List ℕ) (i b : ℕ) → i < length bytes → b ≡ get_or bytes i 0 → take (16 * i) buffer ≡ cells (all_pixels (take i bytes))
-    → take (16 * i + 16) new ≡ take (16 * i) buffer ++ cells (pixels b)
+pub cells_more : (buffer new bytes : List ℕ) (i : ℕ) {b : ℕ} → i < length bytes → b ≡ get_or bytes i 0
+    → take (16 * i) buffer ≡ cells (all_pixels (take i bytes)) → take (16 * i + 16) new ≡ take (16 * i) buffer ++ cells (pixels b)
     → take (16 * (i + 1)) new ≡ cells (all_pixels (take (i + 1) bytes))
-cells_more buffer new bytes i b below is known added =
+cells_more buffer new bytes i {b} below is known added =
     ap (λ (n : ℕ). take n new) (omega arith)
     ∙ added
     ∙ ap (λ (l : List ℕ). l ++ cells (pixels b)) known
@@ -190,11 +182,10 @@ line_ends prefix (sample ∷ line) more some short =
     ∙ ap (λ (l : List ℕ). prefix ++ (l ++ more)) (sym (line_of sample line (omega arith)))
 
 -- one line more is ended
-pub line_more : (buffer xs : List ℕ) (count done next : ℕ) → length xs ≡ count → 2 * count ≤ length buffer → done < count → next ≡ min (done + 35) count
-    → done % 35 ≡ 0
-    → take (2 * count) buffer ≡ plain_row_text Bit (take done xs) ++ cells (drop done xs)
-    → take (2 * count) (set buffer (2 * next - 1) (byte "\n")) ≡ plain_row_text Bit (take next xs) ++ cells (drop next xs)
-line_more buffer xs count done next size within below next_is whole known =
+pub line_more : (buffer xs : List ℕ) {count : ℕ} (done : ℕ) {next : ℕ} → length xs ≡ count → 2 * count ≤ length buffer → done < count
+    → next ≡ min (done + 35) count → done % 35 ≡ 0 → take (2 * count) buffer ≡ plain_row_text Bit (take done xs) ++ cells (drop done xs) → take (2 * count)
+    (set buffer (2 * next - 1) (byte "\n")) ≡ plain_row_text Bit (take next xs) ++ cells (drop next xs)
+line_more buffer xs {count} done {next} size within below next_is whole known =
     let prefix : List ℕ = plain_row_text Bit (take done xs) in
     let rest : List ℕ = drop done xs in
     let line : List ℕ = take (next - done) rest in
@@ -233,9 +224,9 @@ cells_of_count buffer bytes count enough known =
     sym (take-take (2 * count) (16 * length bytes) buffer (omega arith)) ∙ ap (take (2 * count)) known ∙ take-cells count (all_pixels bytes)
 
 -- all lines are ended
-pub all_ended : (buffer xs : List ℕ) (count done : ℕ) → length xs ≡ count → count ≤ done
+pub all_ended : (buffer xs : List ℕ) {count : ℕ} (done : ℕ) → length xs ≡ count → count ≤ done
     → take (2 * count) buffer ≡ plain_row_text Bit (take done xs) ++ cells (drop done xs) → take (2 * count) buffer ≡ plain_row_text Bit xs
-all_ended buffer xs count done size all known = known ∙ ap₂ (λ (l m : List ℕ). plain_row_text Bit l ++ cells m) (take_all done xs (omega arith))
+all_ended buffer xs done size all known = known ∙ ap₂ (λ (l m : List ℕ). plain_row_text Bit l ++ cells m) (take_all done xs (omega arith))
     (drop_all done xs (omega arith)) ∙ append-nil (plain_row_text Bit xs)
 
 pub count_of : (bytes : List ℕ) (count : ℕ) → count ≤ 8 * length bytes → length (take count (all_pixels bytes)) ≡ count

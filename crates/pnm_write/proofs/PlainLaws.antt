@@ -1,16 +1,9 @@
 -- The text of a plain row: part by part.
-use Rattle.std.proofs.Common.{◌≡◌, ℕ, ◌+◌, ◌^◌, ◌==◌, ◌<◌, ◌≤◌, if◌then◌else◌, Bool, true, false, List, [], ◌∷◌, ◌++◌, length, take, drop, refl, sym, ap, ap₂}
-use Rattle.std.proofs.Common.{◌∙◌, append_assoc, arith, get_or, All, subst, suc, ◌-◌}
-use Rattle.std.proofs.lemmas.List.{append-nil, map-append, take-append-drop, take_more, length-drop}
-use Rattle.std.proofs.lemmas.List.Elements.{All-nil, All-cons, All-head, All-tail}
-use Rattle.std.proofs.lemmas.Bool.Decides.{nat_tests}
-use Rattle.std.specs.List.{AllByRecursion}
-use Rattle.std.proofs.lemmas.Fmt.{decimal_nonempty}
-use Rattle.pnm_image.specs.declared.shape.Kind.{Kind}
-use Rattle.pnm_image.specs.declared.shape.Kind.TheVariants.{Bit, Gray, Color, Pam}
-use Rattle.std.specs.Str.{byte}
-use Rattle.pnm_write.specs.PlainRows.{sample_text, words_after, plain_row_text}
-use Rattle.pnm_write.specs.Internal.PlainParts.{fits_in_line, column_after, word_in_line, text_of_part, column_after_part, sample_texts, row_end}
+use Rattle.pnm_write.proofs.Words.{◌≡◌, ℕ, ◌+◌, ◌^◌, ◌==◌, ◌<◌, ◌≤◌, if◌then◌else◌, Bool, true, false, List, [], ◌∷◌, ◌++◌, length, take, drop, refl, sym, ap}
+use Rattle.pnm_write.proofs.Words.{ap₂, ◌∙◌, append_assoc, arith, get_or, All, subst, suc, ◌-◌, append-nil, map-append, take-append-drop, take_more}
+use Rattle.pnm_write.proofs.Words.{length-drop, All-nil, All-cons, All-head, All-tail, nat_tests, AllByRecursion, decimal_nonempty, Kind, Bit, Gray, Color, Pam}
+use Rattle.pnm_write.proofs.Words.{byte, sample_text, words_after, plain_row_text, fits_in_line, column_after, word_in_line, text_of_part, column_after_part}
+use Rattle.pnm_write.proofs.Words.{sample_texts, row_end}
 
 -- ---- words
 
@@ -126,34 +119,34 @@ row_text_left kind (sample ∷ row) fit =
 -- ---- one sample more
 
 -- the texts of one sample more
-texts_more : (kind : Kind) (samples : List ℕ) (i sample : ℕ) → i < length samples → sample ≡ get_or samples i 0
+texts_more : (kind : Kind) (samples : List ℕ) (i : ℕ) {sample : ℕ} → i < length samples → sample ≡ get_or samples i 0
     → sample_texts kind (take (i + 1) samples) ≡ sample_texts kind (take i samples) ++ sample_text kind sample ∷ []
-texts_more kind samples i sample below is =
+texts_more kind samples i below is =
     ap (sample_texts kind) (take_more samples i 0 below)
     ∙ map-append (sample_text kind) (take i samples) (get_or samples i 0 ∷ [])
     ∙ ap (λ (n : ℕ). sample_texts kind (take i samples) ++ sample_text kind n ∷ []) (sym is)
 
-pub text_more : (column : ℕ) (kind : Kind) (samples : List ℕ) (i sample at : ℕ) (buffer new : List ℕ) → i < length samples → sample ≡ get_or samples i 0
-    → buffer ≡ text_of_part column (sample_texts kind (take i samples))
+pub text_more : (column : ℕ) (kind : Kind) (samples : List ℕ) (i : ℕ) {sample at : ℕ} {buffer new : List ℕ} → i < length samples
+    → sample ≡ get_or samples i 0 → buffer ≡ text_of_part column (sample_texts kind (take i samples))
     → at ≡ column_after_part column (sample_texts kind (take i samples)) → new ≡ buffer ++ word_in_line at (sample_text kind sample)
     → new ≡ text_of_part column (sample_texts kind (take (i + 1) samples))
-text_more column kind samples i sample at buffer new below is known here added =
+text_more column kind samples i {sample} below is known here added =
     let words : List (List ℕ) = sample_texts kind (take i samples) in
     let word : List ℕ = sample_text kind sample in
     added
     ∙ ap₂ (λ (l : List ℕ) (n : ℕ). l ++ word_in_line n word) known here
     ∙ ap (λ (l : List ℕ). text_of_part column words ++ l) (sym (append-nil (word_in_line (column_after_part column words) word)))
     ∙ sym (text_of_part-append column words (word ∷ []))
-    ∙ ap (text_of_part column) (sym (texts_more kind samples i sample below is))
+    ∙ ap (text_of_part column) (sym (texts_more kind samples i below is))
 
-pub column_more : (column : ℕ) (kind : Kind) (samples : List ℕ) (i sample at new : ℕ) → i < length samples → sample ≡ get_or samples i 0
+pub column_more : (column : ℕ) (kind : Kind) (samples : List ℕ) (i : ℕ) {sample at new : ℕ} → i < length samples → sample ≡ get_or samples i 0
     → at ≡ column_after_part column (sample_texts kind (take i samples)) → new ≡ column_after at (sample_text kind sample)
     → new ≡ column_after_part column (sample_texts kind (take (i + 1) samples))
-column_more column kind samples i sample at new below is here after =
+column_more column kind samples i {sample} below is here after =
     after
     ∙ ap (λ (n : ℕ). column_after n (sample_text kind sample)) here
     ∙ sym (column_after_part-append column (sample_texts kind (take i samples)) (sample_text kind sample ∷ []))
-    ∙ ap (column_after_part column) (sym (texts_more kind samples i sample below is))
+    ∙ ap (column_after_part column) (sym (texts_more kind samples i below is))
 
 -- ---- numbers
 
@@ -163,11 +156,11 @@ numbers_fit [] fits = All-nil (λ sample. sample < 2 ^ 64)
 numbers_fit (x ∷ xs) fits = All-cons (λ sample. sample < 2 ^ 64) x xs (fits 0) (numbers_fit xs (λ k. fits (suc k)))
 
 -- what is left of a row of numbers is the part that is written now, and the rest
-pub part_of_numbers : (column n : ℕ) (rest part after set written : List ℕ) (then_column : ℕ) (is_end : Bool) → n ≤ length rest → 0 < length rest
+pub part_of_numbers : (column n : ℕ) (rest : List ℕ) {part after set written : List ℕ} {then_column : ℕ} {is_end : Bool} → n ≤ length rest → 0 < length rest
     → part ≡ take n rest → after ≡ drop n rest → set ≡ text_of_part column (sample_texts Gray part)
     → then_column ≡ column_after_part column (sample_texts Gray part) → is_end ≡ (length after == 0) → written ≡ set ++ row_end is_end
     → text_left column Gray rest ≡ written ++ text_left then_column Gray after
-part_of_numbers column n rest part after set written then_column is_end within some prefix back text column_is ends whole =
+part_of_numbers column n rest {after} {then_column} {is_end} within some prefix back text column_is ends whole =
     let left : length after ≡ length rest - n = ap length back ∙ length-drop n rest in
     left_part column Gray n rest is_end within some (λ e. ends ∙ is_nothing (length after) (omega arith))
     (λ h. ends ∙ has_begun_line (length after) (omega arith))
@@ -179,16 +172,16 @@ part_of_numbers column n rest part after set written then_column is_end within s
     is_nothing : (n : ℕ) → n ≡ 0 → (n == 0) ≡ true
     is_nothing n e = grind (arith, nat_tests)
 
-pub some_left : (n : ℕ) (is_nothing : Bool) → is_nothing ≡ (n == 0) → is_nothing ≡ false → 0 < n
-some_left n is_nothing e f = some_by n (sym e ∙ f)
+pub some_left : (n : ℕ) {is_nothing : Bool} → is_nothing ≡ (n == 0) → is_nothing ≡ false → 0 < n
+some_left n e f = some_by n (sym e ∙ f)
   where
     some_by : (n : ℕ) → (n == 0) ≡ false → 0 < n
     some_by n h = grind (arith, nat_tests)
 
 -- a row of numbers has the same text in each kind that is not pixels
-pub row_of_numbers : (kind : Kind) (numbers samples : List ℕ) → (kind ≡ Bit → ⊥) → numbers ≡ samples → plain_row_text Gray numbers ≡ plain_row_text kind
-    samples
-row_of_numbers Bit numbers samples is same = absurd (is refl)
-row_of_numbers Gray numbers samples is same = ap (plain_row_text Gray) same
-row_of_numbers Color numbers samples is same = ap (plain_row_text Gray) same
-row_of_numbers Pam numbers samples is same = ap (plain_row_text Gray) same
+pub row_of_numbers : (kind : Kind) {numbers samples : List ℕ} → (kind ≡ Bit → ⊥) → numbers ≡ samples
+    → plain_row_text Gray numbers ≡ plain_row_text kind samples
+row_of_numbers Bit is same = absurd (is refl)
+row_of_numbers Gray is same = ap (plain_row_text Gray) same
+row_of_numbers Color is same = ap (plain_row_text Gray) same
+row_of_numbers Pam is same = ap (plain_row_text Gray) same

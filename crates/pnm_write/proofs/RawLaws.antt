@@ -1,24 +1,14 @@
 -- The bytes of samples: step by step, and part by part.
-use Rattle.std.proofs.Common.{◌≡◌, ℕ, ◌+◌, ◌*◌, ◌/◌, ◌%◌, ◌<◌, ◌≤◌, min, List, [], ◌∷◌, ◌++◌, length, get_or, take, drop, refl, sym, ap, ap₂, ◌∙◌}
-use Rattle.std.proofs.Common.{arith, inl, inr}
-use borrow.Rule.Slice.PartMut.{put_mid}
-use Rattle.std.proofs.lemmas.Bool.{cases_lt}
-use Rattle.std.proofs.lemmas.Grind.{flat_map-append}
-use Rattle.std.proofs.lemmas.List.{append-nil, take_all, drop_all, take_more, take-append-drop}
-use Rattle.std.proofs.lemmas.List.Elements.{All-drop}
-use Rattle.std.proofs.lemmas.Slice.{take-put_mid}
-use Rattle.pnm_image.specs.declared.sample_width.SampleWidth.{SampleWidth}
-use Rattle.pnm_image.specs.declared.sample_width.SampleWidth.TheVariants.{Bits, Bytes, Words}
-use Rattle.pnm_write.specs.Encoding.{packed_bytes, wide_bytes, bytes_in}
-use Rattle.pnm_samples.proofs.PackLaws.{packed_parts}
-use Rattle.pnm_write.specs.Internal.WriteBuffers.{most_samples, FitIn}
+use Rattle.pnm_write.proofs.Words.{◌≡◌, ℕ, ◌+◌, ◌*◌, ◌/◌, ◌%◌, ◌<◌, ◌≤◌, min, List, [], ◌∷◌, ◌++◌, length, get_or, take, drop, refl, sym, ap, ap₂, ◌∙◌, arith}
+use Rattle.pnm_write.proofs.Words.{inl, inr, put_mid, cases_lt, flat_map-append, append-nil, take_all, drop_all, take_more, take-append-drop, All-drop}
+use Rattle.pnm_write.proofs.Words.{take-put_mid, SampleWidth, Bits, Bytes, Words, packed_bytes, wide_bytes, bytes_in, packed_parts, most_samples, FitIn}
 
 -- ---- samples of two bytes
 
 -- the bytes of one sample more
-pub wide_more : (xs buffer pair : List ℕ) (i m : ℕ) → take (2 * i) buffer ≡ wide_bytes (take i xs) → i < length xs → 2 * length xs ≤ length buffer
+pub wide_more : (xs buffer : List ℕ) {pair : List ℕ} (i m : ℕ) → take (2 * i) buffer ≡ wide_bytes (take i xs) → i < length xs → 2 * length xs ≤ length buffer
     → pair ≡ get_or xs i 0 / 256 ∷ get_or xs i 0 % 256 ∷ [] → take (2 * (i + 1)) (put_mid (2 * i) m buffer pair) ≡ wide_bytes (take (i + 1) xs)
-wide_more xs buffer pair i m known below enough is =
+wide_more xs buffer {pair} i m known below enough is =
     let next : 2 * (i + 1) ≡ 2 * i + length pair = omega (arith, ap length is) in
     let sample : take (i + 1) xs ≡ take i xs ++ get_or xs i 0 ∷ [] = take_more xs i 0 below in
     let bytes : wide_bytes (take (i + 1) xs) ≡ wide_bytes (take i xs) ++ (get_or xs i 0 / 256 ∷ get_or xs i 0 % 256 ∷ []) =

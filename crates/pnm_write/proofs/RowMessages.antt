@@ -1,18 +1,7 @@
 -- Parts of an image, and their bytes.
-use Rattle.std.proofs.Common.{◌≡◌, ℕ, ◌+◌, Bool, true, false, List, [], ◌∷◌, ◌++◌, Option, Some, None, ◌⊎◌, inl, inr, refl, ap, ap₂, subst, ◌∙◌}
-use Rattle.std.specs.List.{AllByRecursion}
-use Rattle.pnm_image.specs.declared.format.Form.{Form}
-use Rattle.pnm_image.specs.declared.message.Message.{Message}
-use Rattle.pnm_image.specs.declared.message.Message.TheVariants.{Begin}
-use Rattle.pnm_image.specs.declared.place.Place.{Place}
-use Rattle.pnm_image.specs.declared.place.Place.TheVariants.{Between, Inside, After}
-use Rattle.pnm_image.specs.declared.shape.Shape.{Shape}
-use Rattle.pnm_image.specs.Heads.{HeadValue}
-use Rattle.pnm_image.specs.Parts.{part_messages, end_messages, rest_messages}
-use Rattle.pnm_image.specs.Places.{IsRowOf, IsLawfulFrom}
-use Rattle.pnm_image.specs.Rows.{row_messages, rows_list}
-use Rattle.pnm_write.specs.Encoding.{row_bytes, header_text, bytes_from}
-use Rattle.pnm_write.specs.Internal.Encoding.{rows_bytes}
+use Rattle.pnm_write.proofs.Words.{◌≡◌, ℕ, ◌+◌, Bool, true, false, List, [], ◌∷◌, ◌++◌, Option, Some, None, ◌⊎◌, inl, inr, refl, ap, ap₂, subst, ◌∙◌}
+use Rattle.pnm_write.proofs.Words.{AllByRecursion, Form, Message, Begin, Place, Between, Inside, After, Shape, HeadValue, part_messages, end_messages}
+use Rattle.pnm_write.proofs.Words.{rest_messages, IsRowOf, IsLawfulFrom, row_messages, rows_list, row_bytes, header_text, bytes_from, rows_bytes}
 
 -- rows of an image are written, and its end has no bytes
 bytes_inside : (form : Form) (s : Shape) (y : ℕ) (rows : List (List ℕ)) (ends : Bool)
@@ -38,43 +27,38 @@ rows_of_image : (s : Shape) (y : ℕ) (rows : List (List ℕ)) (more : List Mess
 rows_of_image s y [] more lawful = tt
 rows_of_image s y (row ∷ rows) more lawful = (lawful.0.1, rows_of_image s (y + 1) rows more lawful.1)
 
--- a part that begins an image
-begun : (head : HeadValue) (o : Option HeadValue) (rows : Option (List (List ℕ))) (ends : Bool) (part : List Message) → o ≡ Some head
-    → part ≡ part_messages o rows ends → part ≡ Begin head ∷ rest_messages rows ends
-begun head o rows ends part some is = is ∙ ap (λ (o : Option HeadValue). part_messages o rows ends) some
+module _ {o : Option HeadValue} {part : List Message} where
+  -- a part that begins an image
+  begun : {head : HeadValue} (rows : Option (List (List ℕ))) (ends : Bool) → o ≡ Some head → part ≡ part_messages o rows ends
+      → part ≡ Begin head ∷ rest_messages rows ends
+  begun rows ends some is = is ∙ ap (λ (o : Option HeadValue). part_messages o rows ends) some
 
-pub begun_bytes : (form : Form) (place : Place) (head : HeadValue) (o : Option HeadValue) (rows : Option (List (List ℕ))) (ends : Bool) (part : List Message)
-    → o ≡ Some head → part ≡ part_messages o rows ends
-    → bytes_from form place part ≡ header_text form head ++ rows_bytes form head.shape (rows_list rows)
-begun_bytes form place head o rows ends part some is =
-    ap (bytes_from form place) (begun head o rows ends part some is)
-    ∙ ap (λ (l : List ℕ). header_text form head ++ l) (bytes_inside form head.shape 0 (rows_list rows) ends)
+  pub begun_bytes : (form : Form) (place : Place) {head : HeadValue} (rows : Option (List (List ℕ))) (ends : Bool) → o ≡ Some head
+      → part ≡ part_messages o rows ends → bytes_from form place part ≡ header_text form head ++ rows_bytes form head.shape (rows_list rows)
+  begun_bytes form place {head} rows ends some is =
+      ap (bytes_from form place) (begun rows ends some is)
+      ∙ ap (λ (l : List ℕ). header_text form head ++ l) (bytes_inside form head.shape 0 (rows_list rows) ends)
 
-pub begun_rows : (place : Place) (head : HeadValue) (o : Option HeadValue) (rows : Option (List (List ℕ))) (ends : Bool) (part : List Message)
-    → o ≡ Some head → part ≡ part_messages o rows ends → IsLawfulFrom place part → AllByRecursion (IsRowOf head.shape) (rows_list rows)
-begun_rows place head o rows ends part some is lawful =
-    rows_of_image head.shape 0 (rows_list rows) (end_messages ends) (subst (IsLawfulFrom place) (begun head o rows ends part some is) lawful).1
+  pub begun_rows : (place : Place) {head : HeadValue} (rows : Option (List (List ℕ))) (ends : Bool) → o ≡ Some head → part ≡ part_messages o rows ends
+      → IsLawfulFrom place part → AllByRecursion (IsRowOf head.shape) (rows_list rows)
+  begun_rows place {head} rows ends some is lawful =
+      rows_of_image head.shape 0 (rows_list rows) (end_messages ends) (subst (IsLawfulFrom place) (begun rows ends some is) lawful).1
 
--- a part without a head
-going_on : (o : Option HeadValue) (rows : Option (List (List ℕ))) (ends : Bool) (part : List Message) → o ≡ None
-    → part ≡ part_messages o rows ends → part ≡ rest_messages rows ends
-going_on o rows ends part none is = is ∙ ap (λ (o : Option HeadValue). part_messages o rows ends) none
+  -- a part without a head
+  going_on : (rows : Option (List (List ℕ))) (ends : Bool) → o ≡ None → part ≡ part_messages o rows ends → part ≡ rest_messages rows ends
+  going_on rows ends none is = is ∙ ap (λ (o : Option HeadValue). part_messages o rows ends) none
 
-pub inside_bytes : (form : Form) (place : Place) (s : Shape) (y : ℕ) (o : Option HeadValue) (rows : Option (List (List ℕ))) (ends : Bool)
-    (part : List Message) → place ≡ Inside s y → o ≡ None → part ≡ part_messages o rows ends
-    → bytes_from form place part ≡ rows_bytes form s (rows_list rows)
-inside_bytes form place s y o rows ends part here none is =
-    ap₂ (bytes_from form) here (going_on o rows ends part none is) ∙ bytes_inside form s y (rows_list rows) ends
+  pub inside_bytes : (form : Form) {place : Place} {s : Shape} {y : ℕ} (rows : Option (List (List ℕ))) (ends : Bool) → place ≡ Inside s y → o ≡ None
+      → part ≡ part_messages o rows ends → bytes_from form place part ≡ rows_bytes form s (rows_list rows)
+  inside_bytes form {s} {y} rows ends here none is = ap₂ (bytes_from form) here (going_on rows ends none is) ∙ bytes_inside form s y (rows_list rows) ends
 
-pub inside_rows : (place : Place) (s : Shape) (y : ℕ) (o : Option HeadValue) (rows : Option (List (List ℕ))) (ends : Bool) (part : List Message)
-    → place ≡ Inside s y → o ≡ None → part ≡ part_messages o rows ends → IsLawfulFrom place part → AllByRecursion (IsRowOf s) (rows_list rows)
-inside_rows place s y o rows ends part here none is lawful =
-    let from : IsLawfulFrom (Inside s y) part = subst (λ (p : Place). IsLawfulFrom p part) here lawful in
-    rows_of_image s y (rows_list rows) (end_messages ends) (subst (IsLawfulFrom (Inside s y)) (going_on o rows ends part none is) from)
+  pub inside_rows : {place : Place} {s : Shape} {y : ℕ} (rows : Option (List (List ℕ))) (ends : Bool) → place ≡ Inside s y → o ≡ None
+      → part ≡ part_messages o rows ends → IsLawfulFrom place part → AllByRecursion (IsRowOf s) (rows_list rows)
+  inside_rows {s} {y} rows ends here none is lawful =
+      let from : IsLawfulFrom (Inside s y) part = subst (λ (p : Place). IsLawfulFrom p part) here lawful in
+      rows_of_image s y (rows_list rows) (end_messages ends) (subst (IsLawfulFrom (Inside s y)) (going_on rows ends none is) from)
 
-pub outside_bytes : (form : Form) (place : Place) (o : Option HeadValue) (rows : Option (List (List ℕ))) (ends : Bool) (part : List Message)
-    → (place ≡ Between) ⊎ (place ≡ After) → o ≡ None → part ≡ part_messages o rows ends → bytes_from form place part ≡ []
-outside_bytes form place o rows ends part (inl here) none is =
-    ap₂ (bytes_from form) here (going_on o rows ends part none is) ∙ bytes_between form (rows_list rows) ends
-outside_bytes form place o rows ends part (inr here) none is =
-    ap₂ (bytes_from form) here (going_on o rows ends part none is) ∙ bytes_after form (rows_list rows) ends
+  pub outside_bytes : (form : Form) (place : Place) (rows : Option (List (List ℕ))) (ends : Bool) → (place ≡ Between) ⊎ (place ≡ After) → o ≡ None
+      → part ≡ part_messages o rows ends → bytes_from form place part ≡ []
+  outside_bytes form place rows ends (inl here) none is = ap₂ (bytes_from form) here (going_on rows ends none is) ∙ bytes_between form (rows_list rows) ends
+  outside_bytes form place rows ends (inr here) none is = ap₂ (bytes_from form) here (going_on rows ends none is) ∙ bytes_after form (rows_list rows) ends

@@ -1,23 +1,9 @@
 -- The bytes of rows that follow one another.
-use Rattle.std.proofs.Common.{◌≡◌, ℕ, ◌*◌, ◌/◌, ◌%◌, ◌≤◌, List, [], ◌∷◌, ◌++◌, length, All, refl, sym, ap, ap₂, subst, ◌∙◌}
-use Rattle.std.proofs.Common.{arith}
-use Rattle.std.specs.List.{concat, flat_map, AllByRecursion}
-use Rattle.std.proofs.lemmas.Grind.{flat_map-append}
-use Rattle.std.proofs.lemmas.List.{length-append, take_at, drop_at}
-use Rattle.pnm_image.specs.declared.sample_width.SampleWidth.{SampleWidth}
-use Rattle.pnm_image.specs.declared.sample_width.SampleWidth.TheVariants.{Bits, Bytes, Words}
-use Rattle.pnm_image.specs.declared.format.Form.TheVariants.{Raw}
-use Rattle.pnm_image.specs.declared.shape.Shape.{Shape}
-use Rattle.pnm_image.specs.Heads.{row_length}
-use Rattle.pnm_image.specs.Places.{IsRowOf}
-use Rattle.pnm_image.specs.SampleWidths.{sample_width_of}
-use Rattle.pnm_samples.proofs.PackLaws.{packed_parts}
-use Rattle.std.proofs.Common.{All}
-use Rattle.std.proofs.lemmas.List.Elements.{All-append, All-from_recursion, All-nil, All-weaker}
-use Rattle.pnm_image.specs.Images.{cut_rows}
-use Rattle.pnm_image.proofs.RowLaws.{concat-cut_rows}
-use Rattle.pnm_write.specs.Encoding.{packed_bytes, bytes_in, row_bytes}
-use Rattle.pnm_write.specs.Internal.Encoding.{rows_bytes, AreWholeBytes}
+use Rattle.pnm_write.proofs.Words.{◌≡◌, ℕ, ◌*◌, ◌/◌, ◌%◌, ◌≤◌, List, [], ◌∷◌, ◌++◌, length, All, refl, sym, ap, ap₂, subst, ◌∙◌, arith, concat, flat_map}
+use Rattle.pnm_write.proofs.Words.{AllByRecursion, flat_map-append, take_at, drop_at, SampleWidth, Bits, Bytes, Words, Raw, Shape, row_length, IsRowOf}
+use Rattle.pnm_write.proofs.Words.{sample_width_of, packed_parts, All-append, All-from_recursion, All-nil, All-weaker, cut_rows, concat-cut_rows, packed_bytes}
+use Rattle.pnm_write.proofs.Words.{bytes_in, row_bytes, rows_bytes, AreWholeBytes}
+use Rattle.std.proofs.lemmas.List.{length-append}
 
 -- the bytes of a row of whole bytes, and those of the samples after it
 bytes_behind : (p : SampleWidth) (row rest : List ℕ) → AreWholeBytes p (length row) → bytes_in p (row ++ rest) ≡ bytes_in p row ++ bytes_in p rest
@@ -61,6 +47,6 @@ range_of_rows s [] are = All-nil (λ sample. sample ≤ s.maxval)
 range_of_rows s (row ∷ rows) are = All-append (λ sample. sample ≤ s.maxval) row (concat rows) are.0.range (range_of_rows s rows are.1)
 
 -- samples that are cut into rows are all of these rows
-pub as_one_of_cut : (each : ℕ) (samples : List ℕ) (rows : List (List ℕ)) → cut_rows (length rows) each samples ≡ rows → length samples ≡ length rows * each
+pub as_one_of_cut : (each : ℕ) (samples : List ℕ) {rows : List (List ℕ)} → cut_rows (length rows) each samples ≡ rows → length samples ≡ length rows * each
     → samples ≡ concat rows
-as_one_of_cut each samples rows is whole = sym (concat-cut_rows (length rows) each samples whole) ∙ ap concat is
+as_one_of_cut each samples {rows} is whole = sym (concat-cut_rows (length rows) each samples whole) ∙ ap concat is

@@ -1,13 +1,6 @@
 -- The text of a sample is a short word.
-use Rattle.std.proofs.Common.{ℕ, ◌^◌, ◌<◌, ◌≤◌, List, [], ◌∷◌, length, All, decimal, arith}
-use Rattle.std.specs.List.{AllByRecursion}
-use Rattle.std.proofs.lemmas.Fmt.{decimal_is_IsNumeral, length-decimal-le}
-use Rattle.std.proofs.lemmas.List.Elements.{All-head, All-tail}
-use Rattle.pnm_image.specs.declared.shape.Kind.{Kind}
-use Rattle.pnm_image.specs.declared.shape.Kind.TheVariants.{Bit, Gray, Color, Pam}
-use Rattle.pnm_image.specs.Heads.{HeadValue, IsHead, Suits}
-use Rattle.pnm_image.specs.Places.{IsRowOf}
-use Rattle.pnm_write.specs.PlainRows.{sample_text}
+use Rattle.pnm_write.proofs.Words.{ℕ, ◌^◌, ◌<◌, ◌≤◌, List, [], ◌∷◌, length, All, decimal, arith, AllByRecursion, decimal_is_IsNumeral, length-decimal-le}
+use Rattle.pnm_write.proofs.Words.{All-head, All-tail, Kind, Bit, Gray, Color, Pam, HeadValue, IsHead, Suits, IsRowOf, sample_text}
 
 -- the text of a number of at most ten digits has at most ten
 pub decimal_short : (n : ℕ) → n < 10 ^ 10 → length (decimal n) ≤ 10
@@ -43,7 +36,7 @@ each_within P maxval is (sample ∷ samples) range =
     (is sample (All-head (λ x. x ≤ maxval) sample samples range), each_within P maxval is samples (All-tail (λ x. x ≤ maxval) sample samples range))
 
 -- the texts of a row's samples
-pub row_is_short : (head : HeadValue) → IsHead head → (row : List ℕ) → IsRowOf head.shape row → AreShortWords head.shape.kind row
-row_is_short head sound row is =
+pub row_is_short : {head : HeadValue} → IsHead head → {row : List ℕ} → IsRowOf head.shape row → AreShortWords head.shape.kind row
+row_is_short {head} sound {row} is =
     each_within (λ sample. IsShortWord (sample_text head.shape.kind sample)) head.shape.maxval
     (sample_is_short head.shape.kind head.shape.depth head.shape.maxval head.tuple_type sound.suits (omega (arith, sound.limits.maxval_high))) row is.range

@@ -1,9 +1,7 @@
 -- How a call ends that writes bytes part by part.
-use Rattle.std.proofs.Common.{◌≡◌, ℕ, List, [], ◌++◌, Option, Result, Ok, Err, IsErr, refl, sym, append-nil}
-use Rattle.pnm_image.specs.Devices.{FailsIn}
-use Rattle.pnm_image.specs.declared.device.DeviceFailed.{DeviceFailed}
-use Rattle.pnm_image.proofs.Written.{Sending, sending_part, sending_part_failed}
-use Rattle.pnm_write.specs.Internal.WriteCalls.{WriteCall}
+use Rattle.pnm_write.proofs.Words.{◌≡◌, ℕ, List, [], ◌++◌, Option, Result, Ok, Err, IsErr, refl, sym, FailsIn, DeviceFailed, Sending, sending_part}
+use Rattle.pnm_write.proofs.Words.{sending_part_failed, WriteCall}
+use Rattle.std.proofs.Common.{append-nil}
 use Rattle.pnm_write.proofs.PartLaws.{all_written}
 
 -- the writer failed in a part of what was left
@@ -22,18 +20,18 @@ call_failed held failures same old a b bytes rest x y (Err fault) failed parts s
 pub call_done : {W : Type 0} (held : W → Option (List ℕ)) (failures : W → ℕ) (same : W → W → Type 0) (old now : W) (bytes rest : List ℕ)
     → Sending held failures same old now bytes rest → rest ≡ [] → WriteCall held failures same old now (Ok tt) bytes
 call_done held failures same old now bytes rest sending none = record {
-  written = all_written (held old) (held now) bytes rest sending.written none;
+  written = all_written sending.written none;
   failed = tt;
   count = sending.count;
   same_device = sending.same_device;
 }
 
 -- and then the rest was written, or failed
-pub call_on : {W : Type 0} (held : W → Option (List ℕ)) (failures : W → ℕ) (same : W → W → Type 0) (old now new : W) (bytes rest : List ℕ)
+pub call_on : {W : Type 0} {held : W → Option (List ℕ)} {failures : W → ℕ} {same : W → W → Type 0} {old now new : W} {bytes rest : List ℕ}
     (result : Result (Unit {0}) DeviceFailed) → Sending held failures same old now bytes rest → WriteCall held failures same now new result rest
     → same old new → WriteCall held failures same old new result bytes
-call_on held failures same old now new bytes rest (Ok done) sending call device =
+call_on {held} {failures} {same} {old} {now} {new} {bytes} {rest} (Ok done) sending call device =
     call_done held failures same old new bytes []
     (sending_part held failures same old now new bytes rest rest [] (sym (append-nil rest)) sending call.written call.count device) refl
-call_on held failures same old now new bytes rest (Err fault) sending call device =
+call_on {held} {failures} {same} {old} {now} {new} {bytes} {rest} (Err fault) sending call device =
     call_failed held failures same old now new bytes rest rest [] (Err fault) refl (sym (append-nil rest)) sending call.failed device

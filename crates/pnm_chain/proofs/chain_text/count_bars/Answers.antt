@@ -1,8 +1,5 @@
-use Rattle.std.proofs.Common.{rules, ◌≡◌, ◌∙◌, ℕ, List, ◌+◌, ◌==◌, length, sym, ap, take, arith}
-use Rattle.std.specs.List.{count_by}
-use Rattle.std.proofs.Math.Seq.{take-length}
-use Rattle.std.proofs.lemmas.List.Sums.{count_by_more_no, count_by_more_yes}
-use Rattle.std.proofs.lemmas.List.Splits.{length-slice_split}
+use Rattle.pnm_chain.proofs.Words.{rules, ◌≡◌, ◌∙◌, ℕ, List, ◌+◌, ◌==◌, length, sym, ap, take, arith, count_by, take-length, count_by_more_no}
+use Rattle.pnm_chain.proofs.Words.{count_by_more_yes, length-slice_split}
 use Rattle.pnm_chain.proofs.chain_text.count_bars.Goals as goal
 
 pub loop-byte-preserved : goal.loop-byte-preserved

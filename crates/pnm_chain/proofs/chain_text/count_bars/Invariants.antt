@@ -1,5 +1,4 @@
-use Rattle.std.proofs.Common.{◌≡◌, ◌≤◌, ◌==◌, take}
-use Rattle.std.specs.List.{count_by}
+use Rattle.pnm_chain.proofs.Words.{◌≡◌, ◌≤◌, ◌==◌, take, count_by}
 use Rattle.pnm_chain.proofs.chain_text.count_bars.Given as goal
 
 abbrev pub invariant-loop-byte : goal.invariant-loop-byte

@@ -1,11 +1,5 @@
-use Rattle.std.proofs.Common.{rules, ◌≡◌, ◌⊎◌, ◌++◌, ◌∷◌, ◌∙◌, [], List, Some, inr, sym, ap, subst, length, arith}
-use Rattle.std.proofs.lemmas.List.{length_push}
-use Rattle.std.proofs.lemmas.Iterator.Consumers.{YieldsList-at, YieldsList-turn, YieldsList-end}
-use Rattle.std.proofs.lemmas.Iterator.Splits.{YieldsList-from_str_split}
-use Rattle.pnm_tools.specs.declared.tool.Tool.{Tool}
-use Rattle.pnm_chain.specs.declared.chain_text.ChainKind.TheVariants.{Memory}
-use Rattle.pnm_chain.specs.ChainText.{chain_fault_of, stage_texts, whole_fault}
-use Rattle.pnm_chain.specs.Internal.Settings.{AreRead}
+use Rattle.pnm_chain.proofs.Words.{rules, ◌≡◌, ◌⊎◌, ◌++◌, ◌∷◌, ◌∙◌, [], List, Some, inr, sym, ap, subst, length, arith, length_push, YieldsList-at}
+use Rattle.pnm_chain.proofs.Words.{YieldsList-turn, YieldsList-end, YieldsList-from_str_split, Tool, Memory, chain_fault_of, stage_texts, whole_fault, AreRead}
 use Rattle.pnm_chain.proofs.LawfulLaws.{spelled_chain_is_lawful}
 use Rattle.pnm_chain.proofs.ParsingLaws.{none_read, one_read_more, stage_at_fault, chain_read, too_long, no_words_at_all, too_many, no_word_found, word_found}
 use Rattle.pnm_chain.proofs.ParsingLaws.{few_stages, many_stages}

@@ -1,6 +1,4 @@
-use Rattle.std.proofs.Common.{length}
-use Rattle.pnm_chain.specs.ChainText.{stage_texts}
-use Rattle.pnm_chain.specs.Internal.Settings.{AreRead}
+use Rattle.pnm_chain.proofs.Words.{length, stage_texts, AreRead}
 use Rattle.pnm_chain.proofs.chain_text.parse_chain.Given as goal
 
 abbrev pub invariant-loop-stage : goal.invariant-loop-stage

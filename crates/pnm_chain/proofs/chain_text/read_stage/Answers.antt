@@ -1,9 +1,4 @@
-use Rattle.std.proofs.Common.{rules, ◌≡◌, ◌∙◌, ◌⊎◌, sym, Some}
-use Rattle.pnm_chain.specs.declared.chain_text.ChainKind.TheVariants.{Memory}
-use Rattle.pnm_image.specs.Texts.{words}
-use Rattle.pnm_chain.specs.ChainText.{stage_fault}
-use Rattle.pnm_chain.specs.StageWords.{items_of}
-use Rattle.pnm_chain.specs.Internal.Settings.{item_read}
+use Rattle.pnm_chain.proofs.Words.{rules, ◌≡◌, ◌∙◌, ◌⊎◌, sym, Some, Memory, words, stage_fault, items_of, item_read}
 use Rattle.pnm_chain.proofs.ReadingLaws.{begins, goes_on, stops_badly, ends_ok, ends_err}
 use Rattle.pnm_chain.proofs.chain_text.read_stage.Goals as goal
 

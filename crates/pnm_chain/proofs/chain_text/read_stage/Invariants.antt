@@ -1,7 +1,4 @@
-use Rattle.std.proofs.Common.{length}
-use Rattle.pnm_image.specs.Texts.{words}
-use Rattle.pnm_chain.specs.StageWords.{items_of}
-use Rattle.pnm_chain.specs.Internal.Settings.{IsReading}
+use Rattle.pnm_chain.proofs.Words.{length, words, items_of, IsReading}
 use Rattle.pnm_chain.proofs.chain_text.read_stage.Given as goal
 
 abbrev pub invariant-loop-item : goal.invariant-loop-item

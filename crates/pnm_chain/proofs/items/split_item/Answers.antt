@@ -1,6 +1,4 @@
-use Rattle.std.proofs.Common.{not, inl, inr, sym, ap, ◌∙◌, rules}
-use Rattle.pnm_image.specs.Texts.{words}
-use Rattle.pnm_chain.specs.Internal.Settings.{value_read}
+use Rattle.pnm_chain.proofs.Words.{not, inl, inr, sym, ap, ◌∙◌, rules, words, value_read}
 use Rattle.pnm_chain.proofs.ItemSteps.{option_word, argument_first, unknown_first, next_value_first, own_value_first, HasNoNext, is_some-value_read}
 use Rattle.pnm_chain.proofs.items.split_item.Goals as goal
 use Rattle.pnm_chain.proofs.items.split_item.Goals.{else-is_none-via-else-is_none, else-is_none-via-then-is_none+else-wants_value}

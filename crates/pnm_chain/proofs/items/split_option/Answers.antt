@@ -1,8 +1,4 @@
-use Rattle.std.proofs.Common.{◌≡◌, ◌==◌, sym, ap, ◌∙◌, rules, tests}
-use Rattle.std.proofs.lemmas.Iterator.{YieldsList-from_slice}
-use Rattle.std.proofs.lemmas.Iterator.Search.{position_from_yields_List}
-use Rattle.pnm_chain.specs.StageWords.{without_dashes}
-use Rattle.pnm_chain.specs.Options.{without_dash}
+use Rattle.pnm_chain.proofs.Words.{◌≡◌, ◌==◌, sym, ap, ◌∙◌, rules, tests, YieldsList-from_slice, position_from_yields_List, without_dashes, without_dash}
 use Rattle.pnm_chain.proofs.ItemSteps.{equals_place, name_before, value_after, name_alone, no_value}
 use Rattle.pnm_chain.proofs.items.split_option.Goals as goal
 

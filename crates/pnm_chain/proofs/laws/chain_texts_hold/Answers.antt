@@ -1,9 +1,8 @@
-use Rattle.std.proofs.Common.{refl}
+use Rattle.pnm_chain.proofs.Words.{refl, ChainTextsHold}
 use Rattle.pnm_image.specs.Texts.{words}
 use Rattle.pnm_chain.specs.Options.{tool_named, cut_option, channel_option, enlarge_option, flip_option, turn_option}
 use Rattle.pnm_chain.specs.StageWords.{items_of, fault_after}
 use Rattle.pnm_chain.specs.ChainText.{fault_from, chain_fault_of}
-use Rattle.pnm_chain.specs.ChainExamples.{ChainTextsHold}
 use Rattle.pnm_chain.proofs.laws.chain_texts_hold.Goals as goal
 
 computed : ChainTextsHold

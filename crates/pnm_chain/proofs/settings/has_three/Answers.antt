@@ -1,6 +1,4 @@
-use Rattle.std.proofs.Common.{◌≡◌, arith}
-use Rattle.std.proofs.lemmas.Grind.{common_steps}
-use Rattle.pnm_chain.specs.Options.{has_three}
+use Rattle.pnm_chain.proofs.Words.{◌≡◌, arith, common_steps, has_three}
 use Rattle.pnm_chain.proofs.settings.has_three.Goals as goal
 
 pub returns-then-across : goal.returns-then-across

@@ -1,4 +1,4 @@
-use Rattle.std.proofs.Common.{sym, ◌∙◌}
+use Rattle.pnm_chain.proofs.Words.{sym, ◌∙◌}
 use Rattle.pnm_chain.proofs.NumberLaws.{text_refused, text_taken, no_plus, parse_is_spelled}
 use Rattle.pnm_chain.proofs.word.decimal.Goals as goal
 

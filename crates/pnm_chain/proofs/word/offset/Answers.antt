@@ -1,4 +1,4 @@
-use Rattle.std.proofs.Common.{◌≡◌, get_or, arith}
+use Rattle.pnm_chain.proofs.Words.{◌≡◌, get_or, arith}
 use Rattle.pnm_chain.proofs.NumberLaws.{dashed}
 use Rattle.pnm_chain.proofs.word.offset.Goals as goal
 

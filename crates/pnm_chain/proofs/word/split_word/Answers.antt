@@ -1,5 +1,4 @@
-use Rattle.std.proofs.Common.{◌≡◌, ℕ, List, ◌∷◌, length, inl, inr, sym, ◌∙◌, arith, rules}
-use Rattle.pnm_image.specs.Texts.{words}
+use Rattle.pnm_chain.proofs.Words.{◌≡◌, ℕ, List, ◌∷◌, length, inl, inr, sym, ◌∙◌, arith, rules, words}
 use Rattle.pnm_chain.proofs.WordLaws.{start_more, shorter_more, in_word_more, IsWordEnd, IsAtWord, first_word_is, no_word_is}
 use Rattle.pnm_chain.proofs.word.split_word.Goals as goal
 use Rattle.pnm_chain.proofs.word.split_word.Goals.{then-rest-lt1, in-len1-up+else-is_white, then-loop-length-test+else-not-is_white, else-loop-length-test}

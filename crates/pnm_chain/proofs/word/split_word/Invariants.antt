@@ -1,5 +1,4 @@
-use Rattle.std.proofs.Common.{◌≡◌, ◌≤◌, ◌-◌, length}
-use Rattle.pnm_image.specs.Texts.{words}
+use Rattle.pnm_chain.proofs.Words.{◌≡◌, ◌≤◌, ◌-◌, length, words}
 use Rattle.pnm_chain.proofs.WordLaws.{IsInWord}
 use Rattle.pnm_chain.proofs.word.split_word.Given as goal
 

@@ -1,4 +1,4 @@
-use Rattle.pnm_tools.proofs.RowWiseLaws.{row_wise_tools_commute}
+use Rattle.pnm_filters.proofs.Words.{row_wise_tools_commute}
 use Rattle.pnm_filters.proofs.row_state.start_rows.Goals as goal
 
 pub returns-clause-started : goal.returns-clause-started

@@ -1,7 +1,4 @@
-use Rattle.std.proofs.Common.{◌+◌, ◌++◌, length}
-use Rattle.pnm_image.specs.Parts.{head_messages}
-use Rattle.pnm_image.specs.Rows.{rows_list}
-use Rattle.pnm_tools.specs.Answering.{rows_come}
+use Rattle.pnm_filters.proofs.Words.{◌+◌, ◌++◌, length, head_messages, rows_list, rows_come}
 use Rattle.pnm_filters.proofs.TakingSteps.{end_may_come, part_is_accepted, part_lies_inside, rest_may_come, rows_may_come}
 use Rattle.pnm_filters.proofs.take.take_part.Goals as goal
 

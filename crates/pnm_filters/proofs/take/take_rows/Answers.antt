@@ -1,7 +1,4 @@
-use Rattle.std.proofs.Common.{ℕ, ◌+◌, ◌≤◌, List, length, sym, subst}
-use Rattle.std.specs.List.{AllByRecursion}
-use Rattle.pnm_image.specs.Places.{IsRowOf}
-use Rattle.pnm_image.proofs.Places.{rows_are_lawful}
+use Rattle.pnm_filters.proofs.Words.{ℕ, ◌+◌, ◌≤◌, List, length, sym, subst, AllByRecursion, IsRowOf, rows_are_lawful}
 use Rattle.pnm_filters.proofs.take.take_rows.Goals as goal
 
 pub take-requires-clause-rows : goal.take-requires-clause-rows

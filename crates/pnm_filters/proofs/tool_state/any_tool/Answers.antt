@@ -1,4 +1,4 @@
-use Rattle.std.proofs.Common.{rules}
+use Rattle.pnm_filters.proofs.Words.{rules}
 use Rattle.pnm_filters.proofs.tool_state.any_tool.Goals as goal
 
 pub returns-clause-tool : goal.returns-clause-tool

@@ -1,8 +1,5 @@
-use Rattle.std.proofs.Common.{List, length, sym, ap, subst, ◌∙◌, arith, vec_capacity}
-use Rattle.pnm_stages.specs.Rings.{sent, received, known_items, SameSender, SameReceiver}
-use Rattle.pnm_image.specs.declared.message.Message.{Message}
-use Rattle.pnm_stages.proofs.RingSteps.{still_pair}
-use Rattle.pnm_flow.specs.Internal.ChainRuns.{HasRunStages}
+use Rattle.pnm_flow.proofs.Words.{List, length, sym, ap, subst, ◌∙◌, arith, vec_capacity, sent, received, known_items, SameSender, SameReceiver, Message}
+use Rattle.pnm_flow.proofs.Words.{still_pair, HasRunStages}
 use Rattle.pnm_flow.proofs.ChainSteps.{came_back, has_reserved, only_stage, reserved_for_fewer, stages_extended}
 use Rattle.pnm_flow.proofs.chain.+fn-run_stages-Call+run_stages.Goals as goal
 

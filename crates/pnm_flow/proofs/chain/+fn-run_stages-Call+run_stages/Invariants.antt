@@ -1,4 +1,4 @@
-use Rattle.std.proofs.Common.{◌+◌, ◌*◌, length}
+use Rattle.pnm_flow.proofs.Words.{◌+◌, ◌*◌, length}
 use Rattle.pnm_flow.proofs.chain.+fn-run_stages-Call+run_stages.Given as goal
 
 abbrev pub decreases-Call : goal.decreases-Call

@@ -1,5 +1,4 @@
-use Rattle.std.proofs.Common.{sym}
-use Rattle.pnm_stages.proofs.RingSteps.{still_pair}
+use Rattle.pnm_flow.proofs.Words.{sym, still_pair}
 use Rattle.pnm_flow.proofs.chain.extended.Goals as goal
 
 pub returns-clause-link : goal.returns-clause-link

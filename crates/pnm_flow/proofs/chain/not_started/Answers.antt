@@ -1,4 +1,4 @@
-use Rattle.std.proofs.Common.{refl, rules}
+use Rattle.pnm_flow.proofs.Words.{refl, rules}
 use Rattle.pnm_flow.proofs.chain.not_started.Goals as goal
 
 pub returns : goal.returns

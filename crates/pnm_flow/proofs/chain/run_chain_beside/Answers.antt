@@ -1,4 +1,4 @@
-use Rattle.std.proofs.Common.{vec_capacity}
+use Rattle.pnm_flow.proofs.Words.{vec_capacity}
 use Rattle.pnm_flow.proofs.ChainSteps.{chain_came_back}
 use Rattle.pnm_flow.proofs.chain.run_chain_beside.Goals as goal
 

@@ -1,6 +1,4 @@
-use Rattle.std.proofs.Common.{◌≡◌, arith, length, vec_capacity}
-use Rattle.pnm_lanes.proofs.LaneRunSteps.{as_many_run, came_back, has_run_more}
-use Rattle.pnm_lanes.specs.LaneRuns.{HaveRun}
+use Rattle.pnm_flow.proofs.Words.{◌≡◌, arith, length, vec_capacity, as_many_run, came_back, has_run_more, HaveRun}
 use Rattle.pnm_flow.proofs.ToolRunSteps.{came_so, none_left, ran_from_home}
 use Rattle.pnm_flow.proofs.lanes.+fn-run_threads-Call+run_threads.Goals as goal
 

@@ -1,5 +1,4 @@
-use Rattle.std.proofs.Common.{arith, length, vec_capacity}
-use Rattle.pnm_lanes.proofs.LaneNumbers.{as_many_unused, pairs_after}
+use Rattle.pnm_flow.proofs.Words.{arith, length, vec_capacity, as_many_unused, pairs_after}
 use Rattle.pnm_flow.proofs.lanes.run_lanes_beside.Goals as goal
 
 pub run_threads-requires-clause-outer : goal.run_threads-requires-clause-outer

@@ -1,7 +1,4 @@
-use Rattle.std.proofs.Common.{[], ◌∷◌, ◌++◌, ◌≡◌, ℕ, suc, ◌+◌, length, take, subst, sym, ap, ◌∙◌, arith}
-use Rattle.std.proofs.Math.Seq.{take-suc, take-length}
-use Rattle.pnm_tools.specs.Tools.{IsLawfulTool}
-use Rattle.pnm_flow.specs.Internal.SerialTools.{AreFresh}
+use Rattle.pnm_flow.proofs.Words.{[], ◌∷◌, ◌++◌, ◌≡◌, ℕ, suc, ◌+◌, length, take, subst, sym, ap, ◌∙◌, arith, take-suc, take-length, IsLawfulTool, AreFresh}
 use Rattle.pnm_flow.proofs.ToolSteps.{fresh_more, lawful_at}
 use Rattle.pnm_flow.proofs.serial.filters_of.Goals as goal
 

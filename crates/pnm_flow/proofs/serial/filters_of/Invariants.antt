@@ -1,5 +1,4 @@
-use Rattle.std.proofs.Common.{take}
-use Rattle.pnm_flow.specs.Internal.SerialTools.{AreFresh}
+use Rattle.pnm_flow.proofs.Words.{take, AreFresh}
 use Rattle.pnm_flow.proofs.serial.filters_of.Given as goal
 
 -- the tools that were passed are stages

@@ -1,4 +1,4 @@
-use Rattle.std.proofs.Common.{refl, inl, inr}
+use Rattle.pnm_flow.proofs.Words.{refl, inl, inr}
 use Rattle.pnm_flow.proofs.ToolSteps.{fresh_at}
 use Rattle.pnm_flow.proofs.serial.run_serial_over.Goals as goal
 

@@ -1,8 +1,4 @@
-use Rattle.std.proofs.Common.{◌≡◌, List, [], ◌++◌, refl, sym, ap, ◌∙◌}
-use Rattle.pnm_stages.specs.Rings.{sent, known_items}
-use Rattle.pnm_image.specs.declared.message.Message.{Message}
-use Rattle.pnm_image.specs.Messages.{without_stop}
-use Rattle.pnm_serial.proofs.RunSteps.{failed_so}
+use Rattle.pnm_flow.proofs.Words.{◌≡◌, List, [], ◌++◌, refl, sym, ap, ◌∙◌, sent, known_items, Message, without_stop, failed_so}
 use Rattle.pnm_flow.proofs.ThreadedRunSteps.{Over}
 use Rattle.pnm_flow.proofs.ThreadedAnswerSteps.{over_has_run, was_started}
 use Rattle.pnm_flow.proofs.threaded.conclude.Goals as goal

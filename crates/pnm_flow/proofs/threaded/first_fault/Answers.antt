@@ -1,7 +1,4 @@
-use Rattle.std.proofs.Common.{◌≡◌, ℕ, suc, ◌+◌, drop, get_or, refl, sym, ap, ◌∙◌, arith}
-use Rattle.std.proofs.lemmas.List.{drop_all}
-use Rattle.pnm_stages.specs.declared.stage.StageEnd.TheVariants.{Well}
-use Rattle.pnm_flow.specs.ThreadedRuns.{first_fault_from}
+use Rattle.pnm_flow.proofs.Words.{◌≡◌, ℕ, suc, ◌+◌, drop, get_or, refl, sym, ap, ◌∙◌, arith, drop_all, Well, first_fault_from}
 use Rattle.pnm_flow.proofs.ThreadedAnswerSteps.{from_this, passed_over, found_here}
 use Rattle.pnm_flow.proofs.threaded.first_fault.Goals as goal
 

@@ -1,5 +1,4 @@
-use Rattle.std.proofs.Common.{◌≡◌, ◌+◌, drop}
-use Rattle.pnm_flow.specs.ThreadedRuns.{first_fault_from}
+use Rattle.pnm_flow.proofs.Words.{◌≡◌, ◌+◌, drop, first_fault_from}
 use Rattle.pnm_flow.proofs.threaded.first_fault.Given as goal
 
 -- the stages that were looked at have no fault

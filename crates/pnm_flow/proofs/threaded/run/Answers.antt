@@ -1,6 +1,4 @@
-use Rattle.std.proofs.Common.{rules, [], inl, inr, refl}
-use Rattle.pnm_serial.specs.Jobs.{job_of}
-use Rattle.pnm_serial.specs.Runs.{change}
+use Rattle.pnm_flow.proofs.Words.{rules, [], inl, inr, refl, job_of, change}
 use Rattle.pnm_flow.proofs.ThreadedAnswerSteps.{unread_has_run}
 use Rattle.pnm_flow.proofs.threaded.run.Goals as goal
 

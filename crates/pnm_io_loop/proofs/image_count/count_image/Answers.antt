@@ -1,9 +1,4 @@
-use Rattle.std.proofs.Common.{◌≡◌, Bool, true, false, List, ap, sym, ◌∙◌}
-use Rattle.pnm_image.specs.declared.message.Message.{Message}
-use Rattle.pnm_image.specs.Packets.{messages_in}
-use Rattle.pnm_image.specs.Parts.{part_messages}
-use Rattle.pnm_serial.specs.Counts.{images_in}
-use Rattle.pnm_serial.proofs.MessageSteps.{images_in-part}
+use Rattle.pnm_io_loop.proofs.Words.{◌≡◌, Bool, true, false, List, ap, sym, ◌∙◌, Message, messages_in, part_messages, images_in, images_in-part}
 use Rattle.pnm_io_loop.proofs.image_count.count_image.Goals as goal
 
 pub returns-then-parts : goal.returns-then-parts

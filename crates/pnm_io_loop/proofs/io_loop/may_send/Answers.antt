@@ -1,5 +1,4 @@
-use Rattle.std.proofs.Common.{inr, sym, ◌∙◌, arith}
-use Rattle.std.proofs.lemmas.Bool.{false≢true, leb-false}
+use Rattle.pnm_io_loop.proofs.Words.{inr, sym, ◌∙◌, arith, false≢true, leb-false}
 use Rattle.pnm_io_loop.proofs.io_loop.may_send.Goals as goal
 use Rattle.pnm_io_loop.proofs.io_loop.may_send.Goals.{then-is_over, else-is_over}
 

@@ -1,4 +1,4 @@
-use Rattle.pnm_io_loop.specs.IoLoop.{HaveStepped}
+use Rattle.pnm_io_loop.proofs.Words.{HaveStepped}
 use Rattle.pnm_io_loop.proofs.io_loop.run_loop.Given as goal
 
 -- the steps so far

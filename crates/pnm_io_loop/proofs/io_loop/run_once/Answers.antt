@@ -1,6 +1,5 @@
-use Rattle.std.proofs.Common.{inr, rules}
+use Rattle.pnm_io_loop.proofs.Words.{inr, rules, HaveStepped}
 use Rattle.pnm_io_loop.proofs.IoLoopSteps.{stepped_on, moves_later, not_before}
-use Rattle.pnm_io_loop.specs.IoLoop.{HaveStepped}
 use Rattle.pnm_io_loop.proofs.io_loop.run_once.Goals as goal
 use Rattle.pnm_io_loop.proofs.io_loop.run_once.Goals.{then-takes_first+else-take, else-takes_first}
 
@@ -31,14 +30,13 @@ returns g c = elim c.if-takes_first.branch [
         writer = w.take.ensures.same_device;
       } in
       record {
-        stepped = stepped_on g.R.BytesIn.left g.R.BytesIn.failures g.R.BytesIn.same g.W.BytesOut.held g.W.BytesOut.failures g.W.BytesOut.same
-            g.met.R.BytesIn.same_later g.met.W.BytesOut.same_later c.args.ingress.now c.args.ingress.now c.send_or_take.new.ingress c.args.egress.now
-            w.take.new.egress c.send_or_take.new.egress taken (rw w.egress-is at c.send_or_take.ensures.stepped);
-        moved = λ yes. moves_later c.args.ingress.now c.send_or_take.new.ingress c.args.egress.now w.take.new.egress c.send_or_take.new.egress
+        stepped = stepped_on
+            g.met.R.BytesIn.same_later g.met.W.BytesOut.same_later taken (rw w.egress-is at c.send_or_take.ensures.stepped);
+        moved = λ yes. moves_later c.args.ingress.now c.send_or_take.new.ingress c.send_or_take.new.egress
             (w.take.ensures.idle w.if-take.false).1 ((rw w.egress-is at c.send_or_take.ensures.moved) yes);
         idle = λ no.
             let idle = (w.take.ensures.idle w.if-take.false) in
-            (not_before c.args.ingress.now c.args.egress.now w.take.new.egress idle.1 ((rw w.egress-is at c.send_or_take.ensures.idle) no).0, idle.0);
+            (not_before c.args.ingress.now idle.1 ((rw w.egress-is at c.send_or_take.ensures.idle) no).0, idle.0);
       }
   | else-takes_first w ↦ record {
     stepped = rw w.egress-is at c.send_or_take.ensures.stepped;

@@ -1,4 +1,4 @@
-use Rattle.std.proofs.Common.{inr}
+use Rattle.pnm_io_loop.proofs.Words.{inr}
 use Rattle.pnm_io_loop.proofs.io_loop.take.Goals as goal
 
 pub returns-then-not-is_over-clause-moved : goal.returns-then-not-is_over-clause-moved

@@ -1,4 +1,4 @@
-use Rattle.std.proofs.Common.{rules}
+use Rattle.pnm_lanes.proofs.Words.{rules}
 use Rattle.pnm_lanes.proofs.agreement.agreed.Goals as goal
 
 pub returns-in_ok-height-in-Begin-clause-found : goal.returns-in_ok-height-in-Begin-clause-found

@@ -1,5 +1,4 @@
-use Rattle.std.proofs.Common.{arith}
-use Rattle.std.proofs.lemmas.Grind.{common_steps}
+use Rattle.pnm_lanes.proofs.Words.{arith, common_steps}
 use Rattle.pnm_lanes.proofs.agreement.sum_of.Goals as goal
 
 pub returns-then-sum-from-clause-none : goal.returns-then-sum-from-clause-none

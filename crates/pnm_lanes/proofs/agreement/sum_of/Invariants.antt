@@ -1,4 +1,4 @@
-use Rattle.std.proofs.Common.{◌≡◌, ◌*◌, ◌≤◌, take, sum}
+use Rattle.pnm_lanes.proofs.Words.{◌≡◌, ◌*◌, ◌≤◌, take, sum}
 use Rattle.pnm_lanes.proofs.agreement.sum_of.Given as goal
 
 -- the sum so far

@@ -1,5 +1,4 @@
-use Rattle.std.proofs.Common.{◌≡◌, length, sym, ap, ◌∙◌, arith}
-use Rattle.pnm_tools.specs.Dealing.{dealt_height}
+use Rattle.pnm_lanes.proofs.Words.{◌≡◌, length, sym, ap, ◌∙◌, arith, dealt_height}
 use Rattle.pnm_lanes.proofs.HeightSums.{sum_of_dealt}
 use Rattle.pnm_lanes.proofs.agreement.whole_height.Goals as goal
 

@@ -1,5 +1,4 @@
-use Rattle.std.proofs.Common.{◌≡◌, ◌<◌, ℕ, length, get_or}
-use Rattle.pnm_tools.specs.Dealing.{dealt_height}
+use Rattle.pnm_lanes.proofs.Words.{◌≡◌, ◌<◌, ℕ, length, get_or, dealt_height}
 use Rattle.pnm_lanes.proofs.agreement.whole_height.Given as goal
 
 -- the heights before this one are dealt

@@ -1,4 +1,4 @@
-use Rattle.std.proofs.Common.{refl}
+use Rattle.pnm_lanes.proofs.Words.{refl}
 use Rattle.pnm_lanes.proofs.around.deal_and_gather.Goals as goal
 
 pub returns-in_err-gathered : goal.returns-in_err-gathered

@@ -1,5 +1,4 @@
-use Rattle.std.proofs.Common.{arith, rules}
-use Rattle.std.proofs.lemmas.Grind.{common_steps}
+use Rattle.pnm_lanes.proofs.Words.{arith, rules, common_steps}
 use Rattle.pnm_lanes.proofs.dealing.break_off.Goals as goal
 
 pub returns-then-drained-clause-broken : goal.returns-then-drained-clause-broken

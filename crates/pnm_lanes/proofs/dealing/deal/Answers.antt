@@ -1,5 +1,4 @@
-use Rattle.std.proofs.Common.{arith}
-use Rattle.std.proofs.lemmas.Grind.{common_steps}
+use Rattle.pnm_lanes.proofs.Words.{arith, common_steps}
 use Rattle.pnm_lanes.proofs.dealing.deal.Goals as goal
 
 pub returns-clause-count : goal.returns-clause-count

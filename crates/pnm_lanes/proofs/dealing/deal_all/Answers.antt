@@ -1,13 +1,5 @@
-use Rattle.std.proofs.Common.{refl, sym, subst, ◌∙◌}
-use Rattle.pnm_stages.specs.Rings.{received, known_items}
-use Rattle.pnm_image.specs.declared.place.Place.{Place}
-use Rattle.pnm_image.specs.declared.message.Ending.{Ending}
-use Rattle.pnm_image.specs.Messages.{EndsBy}
-use Rattle.pnm_image.specs.Packets.{messages_in}
-use Rattle.pnm_image.specs.declared.message.Ending.TheVariants.{More, Whole, BrokenOff}
-use Rattle.pnm_stages.specs.declared.stage.StageEnd.TheVariants.{PeerGone}
-use Rattle.pnm_stages.proofs.RingSteps.{itself_input, same_input}
-use Rattle.pnm_lanes.specs.LaneLimits.{IsLaneCount}
+use Rattle.pnm_lanes.proofs.Words.{refl, sym, subst, ◌∙◌, received, known_items, Place, Ending, EndsBy, messages_in, More, Whole, BrokenOff, PeerGone}
+use Rattle.pnm_lanes.proofs.Words.{itself_input, same_input, IsLaneCount}
 use Rattle.pnm_lanes.proofs.DealSteps.{IsDealing, deals_nothing, deals_packet, wakes_dealing, ends_whole, ends_broken}
 use Rattle.pnm_lanes.proofs.BreakSteps.{breaks_off, cuts, cut_here, ends_gone, interrupts_packet}
 use Rattle.pnm_lanes.proofs.SendSteps.{woken_count}
@@ -29,10 +21,7 @@ returns-in_default-clause-dealt g c =
     let dealing =
     wakes_dealing c.loop.place (received c.args.input.now) (received c.loop.input) (received c.wake_before_input.new.input) c.args.outputs.now
     c.loop.outputs nows c.loop.invariant.2 c.wake_before_input.ensures.input.1 c.wake_before_input.ensures.outputs in
-    breaks_off PeerGone c.break_off.result More More (received c.args.input.now) (received c.receive.new.self) (received c.break_off.new.input)
-    (known_items c.break_off.new.input) c.args.outputs.now nows c.break_off.new.outputs (cut_here c.loop.place (received c.args.input.now) (received
-    c.wake_before_input.new.input) (received c.receive.new.self) c.args.outputs.now nows dealing c.in_default.ensures.none_seen.0) refl
-    c.break_off.ensures.broken
+    breaks_off (cut_here dealing c.in_default.ensures.none_seen.0) refl c.break_off.ensures.broken
 
 pub returns-then-is_end_dealt-clause-dealt : goal.returns-then-is_end_dealt-clause-dealt
 returns-then-is_end_dealt-clause-dealt g c =
@@ -42,10 +31,7 @@ returns-then-is_end_dealt-clause-dealt g c =
     c.loop.outputs nows c.loop.invariant.2 c.wake_before_input.ensures.input.1 c.wake_before_input.ensures.outputs in
     let end = c.in-Some-deal_packet.end in
     let ending = c.ending-ending.result in
-    ends_gone end ending (received c.args.input.now) (received c.receive.new.self) (known_items c.receive.new.self) c.args.outputs.now
-    c.deal_packet.new.outputs (interrupts_packet end ending c.loop.place c.deal_packet.new.place (received c.args.input.now) (received
-    c.wake_before_input.new.input) (received c.receive.new.self) c.args.outputs.now nows c.deal_packet.new.outputs c.in-Some-receive.packet
-    c.deal_packet.result dealing c.in-Some-receive.ensures.taken c.in-Some-receive.ensures.messages
+    ends_gone (interrupts_packet c.deal_packet.new.place c.in-Some-receive.packet dealing c.in-Some-receive.ensures.taken c.in-Some-receive.ensures.messages
     (subst (λ (e : Ending). EndsBy e (messages_in c.in-Some-receive.packet)) (sym c.ending-ending.ensures) c.in-Some-receive.ensures.ends)
     c.deal_packet.ensures c.in-Some-deal_packet.is) (c.is_end_dealt.ensures.yes c.if-is_end_dealt.true)
 
@@ -57,15 +43,10 @@ returns-in-Some-deal_packet-clause-dealt g c =
     c.loop.outputs nows c.loop.invariant.2 c.wake_before_input.ensures.input.1 c.wake_before_input.ensures.outputs in
     let end = c.in-Some-deal_packet.end in
     let ending = c.ending-ending.result in
-    breaks_off end c.break_off-in-Some-deal_packet.result ending ending (received c.args.input.now) (received c.receive.new.self) (received
-    c.break_off-in-Some-deal_packet.new.input) (known_items c.break_off-in-Some-deal_packet.new.input) c.args.outputs.now c.deal_packet.new.outputs
-    c.break_off-in-Some-deal_packet.new.outputs (cuts end ending (received c.args.input.now) (received c.receive.new.self) c.args.outputs.now
-    c.deal_packet.new.outputs (interrupts_packet end ending c.loop.place c.deal_packet.new.place (received c.args.input.now) (received
-    c.wake_before_input.new.input) (received c.receive.new.self) c.args.outputs.now nows c.deal_packet.new.outputs c.in-Some-receive.packet
-    c.deal_packet.result dealing c.in-Some-receive.ensures.taken c.in-Some-receive.ensures.messages
+    breaks_off (cuts (interrupts_packet c.deal_packet.new.place c.in-Some-receive.packet dealing c.in-Some-receive.ensures.taken
+    c.in-Some-receive.ensures.messages
     (subst (λ (e : Ending). EndsBy e (messages_in c.in-Some-receive.packet)) (sym c.ending-ending.ensures) c.in-Some-receive.ensures.ends)
-    c.deal_packet.ensures c.in-Some-deal_packet.is) (c.is_end_dealt.ensures.no c.if-is_end_dealt.false)) refl
-    c.break_off-in-Some-deal_packet.ensures.broken
+    c.deal_packet.ensures c.in-Some-deal_packet.is) (c.is_end_dealt.ensures.no c.if-is_end_dealt.false)) refl c.break_off-in-Some-deal_packet.ensures.broken
 
 pub loop-preserved : goal.loop-preserved
 loop-preserved g c =
@@ -77,12 +58,9 @@ loop-preserved g c =
       same_input c.args.input.now c.wake_before_input.new.input c.receive.new.self same c.receive.ensures.ring,
       subst IsLaneCount (sym
           c.deal_packet.auto.outputs) (subst IsLaneCount (sym (woken_count c.loop.outputs nows c.wake_before_input.ensures.outputs)) c.loop.invariant.1),
-      deals_packet More c.loop.place c.deal_packet.new.place (received c.args.input.now) (received c.wake_before_input.new.input) (received
-          c.receive.new.self) c.args.outputs.now nows c.deal_packet.new.outputs c.in-Some-receive.packet c.deal_packet.result dealing
-          c.in-Some-receive.ensures.taken c.in-Some-receive.ensures.messages
+      deals_packet c.in-Some-receive.packet c.deal_packet.result dealing c.in-Some-receive.ensures.taken c.in-Some-receive.ensures.messages
           (subst (λ (e : Ending). EndsBy e (messages_in c.in-Some-receive.packet)) (sym c.ending-ending.ensures ∙ c.in-More.is)
-          c.in-Some-receive.ensures.ends) c.deal_packet.ensures
-          c.in_default-deal_packet.is,
+          c.in-Some-receive.ensures.ends) c.deal_packet.ensures c.in_default-deal_packet.is,
     )
 
 pub returns-in-Whole-clause-dealt : goal.returns-in-Whole-clause-dealt
@@ -92,8 +70,7 @@ returns-in-Whole-clause-dealt g c =
     wakes_dealing c.loop.place (received c.args.input.now) (received c.loop.input) (received c.wake_before_input.new.input) c.args.outputs.now
     c.loop.outputs nows c.loop.invariant.2 c.wake_before_input.ensures.input.1 c.wake_before_input.ensures.outputs in
     ends_whole c.deal_packet.new.place (received c.args.input.now) (received c.receive.new.self) (known_items c.receive.new.self) c.args.outputs.now
-    c.deal_packet.new.outputs (deals_packet Whole c.loop.place c.deal_packet.new.place (received c.args.input.now) (received
-    c.wake_before_input.new.input) (received c.receive.new.self) c.args.outputs.now nows c.deal_packet.new.outputs c.in-Some-receive.packet
+    c.deal_packet.new.outputs (deals_packet c.in-Some-receive.packet
     c.deal_packet.result dealing c.in-Some-receive.ensures.taken c.in-Some-receive.ensures.messages
     (subst (λ (e : Ending). EndsBy e (messages_in c.in-Some-receive.packet)) (sym c.ending-ending.ensures ∙ c.in-Whole.is) c.in-Some-receive.ensures.ends)
     c.deal_packet.ensures c.in_default-deal_packet.is)
@@ -105,8 +82,7 @@ returns-in-BrokenOff-clause-dealt g c =
     wakes_dealing c.loop.place (received c.args.input.now) (received c.loop.input) (received c.wake_before_input.new.input) c.args.outputs.now
     c.loop.outputs nows c.loop.invariant.2 c.wake_before_input.ensures.input.1 c.wake_before_input.ensures.outputs in
     ends_broken c.deal_packet.new.place (received c.args.input.now) (received c.receive.new.self) (known_items c.receive.new.self) c.args.outputs.now
-    c.deal_packet.new.outputs (deals_packet BrokenOff c.loop.place c.deal_packet.new.place (received c.args.input.now) (received
-    c.wake_before_input.new.input) (received c.receive.new.self) c.args.outputs.now nows c.deal_packet.new.outputs c.in-Some-receive.packet
+    c.deal_packet.new.outputs (deals_packet c.in-Some-receive.packet
     c.deal_packet.result dealing c.in-Some-receive.ensures.taken c.in-Some-receive.ensures.messages
     (subst (λ (e : Ending). EndsBy e (messages_in c.in-Some-receive.packet)) (sym c.ending-ending.ensures ∙ c.in-BrokenOff.is) c.in-Some-receive.ensures.ends)
     c.deal_packet.ensures c.in_default-deal_packet.is)

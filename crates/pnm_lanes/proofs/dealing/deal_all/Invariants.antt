@@ -1,7 +1,4 @@
-use Rattle.std.proofs.Common.{length}
-use Rattle.pnm_stages.specs.Rings.{received, SameReceiver}
-use Rattle.pnm_image.specs.declared.message.Ending.TheVariants.{More}
-use Rattle.pnm_lanes.specs.LaneLimits.{IsLaneCount}
+use Rattle.pnm_lanes.proofs.Words.{length, received, SameReceiver, More, IsLaneCount}
 use Rattle.pnm_lanes.proofs.DealSteps.{IsDealing}
 use Rattle.pnm_lanes.proofs.dealing.deal_all.Given as goal
 

@@ -1,7 +1,4 @@
-use Rattle.std.proofs.Common.{◌≡◌, true, false, [], ◌∷◌, sym, subst}
-use Rattle.pnm_image.specs.declared.place.Place.{Place}
-use Rattle.pnm_image.specs.Places.{Accepts}
-use Rattle.pnm_lanes.specs.Internal.DealParts.{HasDealtMessages}
+use Rattle.pnm_lanes.proofs.Words.{◌≡◌, true, false, [], ◌∷◌, sym, subst, Place, Accepts, HasDealtMessages}
 use Rattle.pnm_lanes.proofs.MessageSteps.{deals_message, refuses_message}
 use Rattle.pnm_lanes.proofs.dealing.deal_message.Goals as goal
 

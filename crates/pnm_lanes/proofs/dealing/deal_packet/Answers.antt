@@ -1,10 +1,5 @@
-use Rattle.std.proofs.Common.{◌≡◌, [], ◌∷◌, List, Option, None, Some, ap, sym, subst, ◌∙◌}
-use Rattle.pnm_image.specs.Heads.{HeadValue}
-use Rattle.pnm_image.specs.Packets.{messages_in}
-use Rattle.pnm_image.specs.Parts.{rest_messages, part_messages}
-use Rattle.pnm_image.specs.declared.message.Message.{Message}
-use Rattle.pnm_image.specs.declared.message.Message.TheVariants.{Begin}
-use Rattle.pnm_lanes.specs.Internal.DealParts.{HasDealtMessages}
+use Rattle.pnm_lanes.proofs.Words.{◌≡◌, [], ◌∷◌, List, Option, None, Some, ap, sym, subst, ◌∙◌, HeadValue, messages_in, rest_messages, part_messages, Message}
+use Rattle.pnm_lanes.proofs.Words.{Begin, HasDealtMessages}
 use Rattle.pnm_lanes.proofs.MessageSteps.{deals_then, leaves_rest}
 use Rattle.pnm_lanes.proofs.dealing.deal_packet.Goals as goal
 
@@ -32,9 +27,7 @@ returns-in-Some-deal_message g c =
     ap messages_in c.in-Err.ensures.several.0 ∙ c.into_parts-head.ensures.parts
     ∙ ap (λ (head : Option HeadValue). part_messages head rows ends) c.in-Some.is in
     subst (λ (l : List Message). HasDealtMessages c.args.place.now c.deal_message-2.new.place l (Some c.in-Some-deal_message.end) c.args.outputs.now
-    c.deal_message-2.new.outputs) (sym same)
-    (leaves_rest c.in-Some-deal_message.end c.args.place.now (Begin c.in-Some.head ∷ []) (rest_messages rows ends) c.args.outputs.now
-    c.deal_message-2.new.outputs
+    c.deal_message-2.new.outputs) (sym same) (leaves_rest (rest_messages rows ends)
     (subst (λ (u : Option _). HasDealtMessages c.args.place.now c.deal_message-2.new.place (Begin c.in-Some.head ∷ []) u c.args.outputs.now
     c.deal_message-2.new.outputs) c.in-Some-deal_message.is c.deal_message-2.ensures))
 

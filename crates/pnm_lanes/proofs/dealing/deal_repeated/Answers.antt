@@ -1,8 +1,5 @@
-use Rattle.std.proofs.Common.{◌≡◌, ◌≤◌, ◌+◌, ◌∙◌, [], ◌∷◌, ℕ, List, Option, None, Some, ap, refl, sym, subst, arith}
-use Rattle.pnm_image.specs.Repeats.{repeated}
-use Rattle.pnm_image.specs.Rows.{row_messages, rows_list}
-use Rattle.pnm_lanes.specs.LaneLimits.{IsLaneCount}
-use Rattle.pnm_lanes.specs.Internal.DealParts.{HasDealtMessages}
+use Rattle.pnm_lanes.proofs.Words.{◌≡◌, ◌≤◌, ◌+◌, ◌∙◌, [], ◌∷◌, ℕ, List, Option, None, Some, ap, refl, sym, subst, arith, repeated, row_messages, rows_list}
+use Rattle.pnm_lanes.proofs.Words.{IsLaneCount, HasDealtMessages}
 use Rattle.pnm_lanes.proofs.MessageSteps.{none_dealt, deals_time, leaves_times}
 use Rattle.pnm_lanes.proofs.dealing.deal_repeated.Goals as goal
 
@@ -28,8 +25,7 @@ returns-in-Some-deal_rows g c =
     let within : c.loop-time._time + 1 ≤ c.parts-times.result.1 = omega (arith, c.loop-time-test.true) in
     let all : rows_list c.args.rows ≡ repeated c.parts-times.result.1 rows =
     ap rows_list c.in-Some.is ∙ sym c.in-Err.ensures.several.0 ∙ c.parts-times.ensures.rows in
-    leaves_times (c.loop-time._time + 1) c.parts-times.result.1 rows (rows_list c.args.rows) c.in-Some-deal_rows.end c.args.place.now c.args.outputs.now
-    c.deal_rows.new.outputs within all
+    leaves_times (c.loop-time._time + 1) c.parts-times.result.1 rows within all
     (deals_time c.loop-time._time rows c.args.place.now c.loop-time.place c.deal_rows.new.place (Some c.in-Some-deal_rows.end) c.args.outputs.now
     c.loop-time.outputs c.deal_rows.new.outputs c.loop-time.invariant.1
     (subst (λ (u : Option _). HasDealtMessages c.loop-time.place c.deal_rows.new.place (row_messages rows) u c.loop-time.outputs c.deal_rows.new.outputs)

@@ -1,8 +1,4 @@
-use Rattle.std.proofs.Common.{None, length}
-use Rattle.pnm_image.specs.Repeats.{repeated}
-use Rattle.pnm_image.specs.Rows.{row_messages}
-use Rattle.pnm_lanes.specs.LaneLimits.{IsLaneCount}
-use Rattle.pnm_lanes.specs.Internal.DealParts.{HasDealtMessages}
+use Rattle.pnm_lanes.proofs.Words.{None, length, repeated, row_messages, IsLaneCount, HasDealtMessages}
 use Rattle.pnm_lanes.proofs.dealing.deal_repeated.Given as goal
 
 -- the rows were dealt as often as this says

@@ -1,16 +1,12 @@
-use Rattle.std.proofs.Common.{◌≡◌, [], ◌∷◌, Bool, true, false, Option, None, refl, sym, subst}
-use Rattle.pnm_image.specs.Parts.{end_messages, rest_messages}
-use Rattle.pnm_image.specs.Rows.{row_messages, rows_list}
-use Rattle.pnm_image.specs.declared.message.Message.TheVariants.{ImageEnd}
-use Rattle.pnm_lanes.specs.Internal.DealParts.{HasDealtMessages}
+use Rattle.pnm_lanes.proofs.Words.{◌≡◌, [], ◌∷◌, Bool, true, false, Option, None, refl, sym, subst, end_messages, rest_messages, row_messages, rows_list}
+use Rattle.pnm_lanes.proofs.Words.{ImageEnd, HasDealtMessages}
 use Rattle.pnm_lanes.proofs.MessageSteps.{none_dealt, deals_then, leaves_rest}
 use Rattle.pnm_lanes.proofs.dealing.deal_rest.Goals as goal
 
 -- not all of the rows were dealt
 pub returns-in-Some : goal.returns-in-Some
 returns-in-Some g c =
-    leaves_rest c.in-Some.end c.args.place.now (row_messages (rows_list c.args.rows)) (end_messages c.args.ends_image) c.args.outputs.now
-    c.deal_repeated.new.outputs
+    leaves_rest (end_messages c.args.ends_image)
     (subst (λ (u : Option _). HasDealtMessages c.args.place.now c.deal_repeated.new.place (row_messages (rows_list c.args.rows)) u c.args.outputs.now
     c.deal_repeated.new.outputs) c.in-Some.is c.deal_repeated.ensures)
 

@@ -1,5 +1,4 @@
-use Rattle.std.proofs.Common.{length}
-use Rattle.pnm_lanes.specs.LaneLimits.{IsLaneCount}
+use Rattle.pnm_lanes.proofs.Words.{length, IsLaneCount}
 use Rattle.pnm_lanes.proofs.MessageSteps.{HasDealtBefore}
 use Rattle.pnm_lanes.proofs.dealing.deal_rows.Given as goal
 

@@ -1,5 +1,4 @@
-use Rattle.std.proofs.Common.{◌≡◌, ◌%◌, arith}
-use Rattle.std.proofs.lemmas.Bool.Decides.{nat_tests}
+use Rattle.pnm_lanes.proofs.Words.{◌≡◌, ◌%◌, arith, nat_tests}
 use Rattle.pnm_lanes.proofs.HeightLaws.{in_round, height_by_division}
 use Rattle.pnm_lanes.proofs.dealing.dealt_height.Goals as goal
 

@@ -1,7 +1,4 @@
-use Rattle.std.proofs.Common.{◌≡◌, ap, arith}
-use Rattle.pnm_image.specs.declared.shape.Shape.{Shape}
-use Rattle.pnm_tools.specs.Dealing.{dealt_height}
-use Rattle.pnm_tools.proofs.DealingLaws.{dealt_height_within}
+use Rattle.pnm_lanes.proofs.Words.{◌≡◌, ap, arith, Shape, dealt_height, dealt_height_within}
 use Rattle.pnm_lanes.proofs.dealing.part_of.Goals as goal
 
 pub with_height-requires : goal.with_height-requires

@@ -1,9 +1,4 @@
-use Rattle.std.proofs.Common.{◌≡◌, List, ℕ, Option, refl, sym, subst, ◌∙◌, length, ◌+◌, ◌<◌, arith}
-use Rattle.std.specs.Prelude.{slice_set}
-use Rattle.std.proofs.lemmas.List.{length-set}
-use Rattle.pnm_image.specs.declared.message.Message.{Message}
-use Rattle.pnm_stages.specs.declared.stage.StageEnd.{StageEnd}
-use Rattle.pnm_lanes.specs.Internal.DealParts.{lane_part}
+use Rattle.pnm_lanes.proofs.Words.{◌≡◌, List, ℕ, Option, refl, sym, subst, ◌∙◌, length, ◌+◌, ◌<◌, arith, slice_set, length-set, Message, StageEnd, lane_part}
 use Rattle.pnm_lanes.proofs.SendSteps.{IsSending, sends_nothing, sends_next, misses_next, sends_all, leaves_off, sending_then_wakes, woken_count}
 use Rattle.pnm_lanes.proofs.dealing.send_each.Goals as goal
 use Rattle.pnm_lanes.proofs.dealing.send_each.Goals.{then-not-send, else-not-send}

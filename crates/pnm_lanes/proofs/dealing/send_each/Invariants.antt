@@ -1,5 +1,4 @@
-use Rattle.std.proofs.Common.{◌≡◌, length}
-use Rattle.pnm_lanes.specs.Internal.DealParts.{lane_part}
+use Rattle.pnm_lanes.proofs.Words.{◌≡◌, length, lane_part}
 use Rattle.pnm_lanes.proofs.SendSteps.{IsSending}
 use Rattle.pnm_lanes.proofs.dealing.send_each.Given as goal
 

@@ -1,6 +1,4 @@
-use Rattle.std.proofs.Common.{◌≡◌, ◌<◌, refl, sym, ap, ◌%◌, length, ℕ, Some, None, arith}
-use Rattle.std.proofs.lemmas.Nat.{mod_below}
-use Rattle.pnm_stages.specs.declared.stage.StageEnd.TheVariants.{PeerGone}
+use Rattle.pnm_lanes.proofs.Words.{◌≡◌, ◌<◌, refl, sym, ap, ◌%◌, length, ℕ, Some, None, arith, mod_below, PeerGone}
 use Rattle.pnm_lanes.proofs.SendSteps.{sends_row, misses_row, wakes_then_row, woken_count}
 use Rattle.pnm_lanes.proofs.dealing.send_row.Goals as goal
 
@@ -13,7 +11,7 @@ returns-then-send g c =
     let nows = c.wake_before_room.new.outputs in
     let count : length nows ≡ lanes = woken_count c.args.outputs.now nows c.wake_before_room.ensures in
     let below : c.args.y % lanes < lanes = mod_below c.args.y lanes (omega (arith, c.requires.0)) in
-    wakes_then_row c.args.y c.args.row None c.args.outputs.now nows _ c.wake_before_room.ensures
+    wakes_then_row c.args.y c.args.row c.wake_before_room.ensures
     (sends_row (c.args.y % lanes) c.args.y c.args.row nows _ c.send.new.self c.index-outputs-lane.result _ (ap (λ (n : ℕ). c.args.y % n) (sym count))
     (omega (arith, below, count)) refl c.send.ensures.ring (c.send.ensures.given c.if-send.true) c.from.ensures)
 
@@ -23,6 +21,6 @@ returns-else-send g c =
     let nows = c.wake_before_room.new.outputs in
     let count : length nows ≡ lanes = woken_count c.args.outputs.now nows c.wake_before_room.ensures in
     let below : c.args.y % lanes < lanes = mod_below c.args.y lanes (omega (arith, c.requires.0)) in
-    wakes_then_row c.args.y c.args.row (Some PeerGone) c.args.outputs.now nows _ c.wake_before_room.ensures
+    wakes_then_row c.args.y c.args.row c.wake_before_room.ensures
     (misses_row (c.args.y % lanes) c.args.y c.args.row nows _ c.send.new.self c.index-outputs-lane.result
     (omega (arith, below, count)) refl c.send.ensures.ring (c.send.ensures.gone c.if-send.false))

@@ -1,4 +1,4 @@
-use Rattle.std.proofs.Common.{◌≡◌, ◌<◌, refl, length, arith}
+use Rattle.pnm_lanes.proofs.Words.{◌≡◌, ◌<◌, refl, length, arith}
 use Rattle.pnm_lanes.proofs.SendSteps.{wakes_none, wakes_one, woken_count}
 use Rattle.pnm_lanes.proofs.dealing.wake_each.Goals as goal
 
@@ -9,5 +9,5 @@ pub loop-lane-preserved : goal.loop-lane-preserved
 loop-lane-preserved c =
     let count : length c.loop-lane.outputs ≡ length c.args.outputs.now = woken_count c.args.outputs.now c.loop-lane.outputs c.loop-lane.invariant in
     let below : c.loop-lane.lane < length c.loop-lane.outputs = omega (arith, c.loop-lane-test.true, count) in
-    wakes_one c.loop-lane.lane c.args.outputs.now c.loop-lane.outputs _ c.wake_receiver.new.self c.index-outputs-lane.result below refl
+    wakes_one c.loop-lane.lane c.args.outputs.now c.loop-lane.outputs c.wake_receiver.new.self c.index-outputs-lane.result below refl
     c.wake_receiver.ensures.ring c.wake_receiver.ensures.sent c.loop-lane.invariant

@@ -1,5 +1,4 @@
-use Rattle.pnm_lanes.specs.Deals.{AtEach}
-use Rattle.pnm_lanes.specs.Internal.DealParts.{IsSameEnd}
+use Rattle.pnm_lanes.proofs.Words.{AtEach, IsSameEnd}
 use Rattle.pnm_lanes.proofs.dealing.wake_each.Given as goal
 
 -- nothing was sent

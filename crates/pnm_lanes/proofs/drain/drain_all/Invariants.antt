@@ -1,7 +1,4 @@
-use Rattle.std.proofs.Common.{length}
-use Rattle.pnm_stages.specs.Rings.{received, known_items}
-use Rattle.pnm_lanes.specs.Gathers.{at_lane, AreSameInputs}
-use Rattle.pnm_lanes.specs.Internal.GatherParts.{CarriesOn}
+use Rattle.pnm_lanes.proofs.Words.{length, received, known_items, at_lane, AreSameInputs, CarriesOn}
 use Rattle.pnm_lanes.proofs.drain.drain_all.Given as goal
 
 -- messages were taken of lanes that hadn't ended

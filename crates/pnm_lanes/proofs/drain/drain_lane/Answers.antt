@@ -1,6 +1,4 @@
-use Rattle.std.proofs.Common.{◌≡◌, Some, None, rules}
-use Rattle.pnm_lanes.specs.declared.lane.LaneState.TheVariants.{Open}
-use Rattle.pnm_lanes.specs.Internal.GatherParts.{state_at}
+use Rattle.pnm_lanes.proofs.Words.{◌≡◌, Some, None, rules, Open, state_at}
 use Rattle.pnm_lanes.proofs.LaneLists.{are_themselves, one_changed}
 use Rattle.pnm_lanes.proofs.DrainSteps.{carries_one}
 use Rattle.pnm_lanes.proofs.drain.drain_lane.Goals as goal
@@ -15,7 +13,7 @@ returns-in-Some-clause-inputs c = one_changed c.args.inputs.now c.args.lane c.dr
 pub returns-in-Some-clause-carried : goal.returns-in-Some-clause-carried
 returns-in-Some-clause-carried c =
     let is_open : state_at c.args.states.now c.args.lane ≡ Open = search rules in
-    carries_one c.args.inputs.now c.args.lane c.drain_one.new.input c.index-inputs-lane.result c.args.states.now (Some c.in-Some.state) c.requires.lane
+    carries_one c.args.inputs.now c.args.lane c.drain_one.new.input c.index-inputs-lane.result (Some c.in-Some.state) c.requires.lane
     c.requires.states is_open c.in-Some.ensures.drained
 
 pub returns-in-None-clause-inputs : goal.returns-in-None-clause-inputs
@@ -25,5 +23,5 @@ returns-in-None-clause-inputs c = one_changed c.args.inputs.now c.args.lane c.dr
 pub returns-in-None-clause-carried : goal.returns-in-None-clause-carried
 returns-in-None-clause-carried c =
     let is_open : state_at c.args.states.now c.args.lane ≡ Open = search rules in
-    carries_one c.args.inputs.now c.args.lane c.drain_one.new.input c.index-inputs-lane.result c.args.states.now None c.requires.lane c.requires.states is_open
+    carries_one c.args.inputs.now c.args.lane c.drain_one.new.input c.index-inputs-lane.result None c.requires.lane c.requires.states is_open
     c.in-None.ensures.drained

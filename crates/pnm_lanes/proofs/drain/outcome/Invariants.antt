@@ -1,5 +1,4 @@
-use Rattle.std.proofs.Common.{◌<◌, ℕ}
-use Rattle.pnm_lanes.specs.Internal.GatherParts.{IsDone, state_at}
+use Rattle.pnm_lanes.proofs.Words.{◌<◌, ℕ, IsDone, state_at}
 use Rattle.pnm_lanes.proofs.drain.outcome.Given as goal
 
 -- the lanes before this one are done

@@ -1,11 +1,6 @@
-use Rattle.std.proofs.Common.{ℕ, List, ◌++◌, length, refl, sym, ap, subst, ◌∙◌, arith}
-use Rattle.std.proofs.lemmas.List.{length-take-le}
-use Rattle.pnm_image.specs.declared.message.Message.{Message}
-use Rattle.pnm_stages.specs.Rings.{sent, received, known_items}
-use Rattle.pnm_lanes.specs.Gathers.{at_lane}
-use Rattle.pnm_lanes.specs.Internal.GatherParts.{HasBrokenOffAll, HasDrainedAll}
+use Rattle.pnm_lanes.proofs.Words.{ℕ, List, ◌++◌, length, refl, sym, ap, subst, ◌∙◌, arith, length-take-le, Message, sent, received, known_items, at_lane}
+use Rattle.pnm_lanes.proofs.Words.{HasBrokenOffAll, HasDrainedAll, itself_output, same_output}
 use Rattle.pnm_lanes.proofs.LaneLists.{are_themselves, same_inputs, as_many}
-use Rattle.pnm_stages.proofs.RingSteps.{itself_output, same_output}
 use Rattle.pnm_lanes.proofs.GatherSteps.{nothing_yet, goes_further, says_more, first_open, open_at}
 use Rattle.pnm_lanes.proofs.GatherEnds.{broken_off, not_sent, ends_well}
 use Rattle.pnm_lanes.proofs.gathering.gather_all.Goals as goal
@@ -29,14 +24,9 @@ returns-in-Err-clause-output g c = same_output c.args.output.now c.loop.output c
 pub returns-in-Err-clause-gathered : goal.returns-in-Err-clause-gathered
 returns-in-Err-clause-gathered g c =
     let count = as_many c.args.inputs.now c.loop.inputs c.loop.invariant.0 in
-    broken_off (length c.args.inputs.now) (length c.loop.inputs) c.loop.place c.in-Err.end c.break_off.result.end
-    c.break_off.result.is_stopped c.receive_next.new.states c.break_off.new.states
-    (at_lane received c.args.inputs.now) (at_lane received c.loop.inputs) (at_lane received c.receive_next.new.inputs) (at_lane received c.break_off.new.inputs)
-    (at_lane known_items c.receive_next.new.inputs) (at_lane known_items c.break_off.new.inputs)
-    (sent c.args.output.now) (sent c.loop.output) (sent c.break_off.new.output) c.loop.invariant.2 c.requires.some count c.in-Err.ensures.taken
+    broken_off c.loop.invariant.2 c.requires.some count c.in-Err.ensures.taken
     (subst (λ (n : ℕ). HasBrokenOffAll c.in-Err.end c.break_off.result.end c.break_off.result.is_stopped n c.receive_next.new.states c.break_off.new.states
-    (at_lane received c.receive_next.new.inputs)
-    (at_lane received c.break_off.new.inputs)
+    (at_lane received c.receive_next.new.inputs) (at_lane received c.break_off.new.inputs)
     (at_lane known_items c.receive_next.new.inputs) (at_lane known_items c.break_off.new.inputs) (sent c.loop.output) (sent c.break_off.new.output))
     (as_many c.loop.inputs c.receive_next.new.inputs c.receive_next.ensures.inputs) c.break_off.ensures.broken)
 
@@ -51,14 +41,9 @@ returns-then-not-send-clause-output g c = same_output c.args.output.now c.loop.o
 pub returns-then-not-send-clause-gathered : goal.returns-then-not-send-clause-gathered
 returns-then-not-send-clause-gathered g c =
     let count = as_many c.args.inputs.now c.loop.inputs c.loop.invariant.0 in
-    not_sent (length c.args.inputs.now) (length c.loop.inputs) c.loop.place c.in-Ok.message c.drain_all.result c.receive_next.new.states c.drain_all.new.states
-    (at_lane received c.args.inputs.now) (at_lane received c.loop.inputs) (at_lane received c.receive_next.new.inputs) (at_lane received c.drain_all.new.inputs)
-    (at_lane known_items c.receive_next.new.inputs) (at_lane known_items c.drain_all.new.inputs)
-    (sent c.args.output.now) (sent c.loop.output) (sent c.send.new.self) c.loop.invariant.2 c.requires.some count c.in-Ok.ensures.taken
-    (c.if-not-send.ensures.gone refl)
+    not_sent c.loop.invariant.2 c.requires.some count c.in-Ok.ensures.taken (c.if-not-send.ensures.gone refl)
     (subst (λ (n : ℕ). HasDrainedAll n c.drain_all.result c.receive_next.new.states c.drain_all.new.states (at_lane received c.receive_next.new.inputs)
-    (at_lane received c.drain_all.new.inputs)
-    (at_lane known_items c.receive_next.new.inputs) (at_lane known_items c.drain_all.new.inputs))
+    (at_lane received c.drain_all.new.inputs) (at_lane known_items c.receive_next.new.inputs) (at_lane known_items c.drain_all.new.inputs))
     (as_many c.loop.inputs c.receive_next.new.inputs c.receive_next.ensures.inputs) c.drain_all.ensures.drained)
 
 pub returns-in-Whole-clause-inputs : goal.returns-in-Whole-clause-inputs
@@ -70,23 +55,17 @@ returns-in-Whole-clause-output g c = same_output c.args.output.now c.loop.output
 pub returns-in-Whole-clause-gathered : goal.returns-in-Whole-clause-gathered
 returns-in-Whole-clause-gathered g c =
     let count = as_many c.args.inputs.now c.loop.inputs c.loop.invariant.0 in
-    ends_well (length c.args.inputs.now) (length c.loop.inputs) c.loop.place c.in-Ok.message c.receive_next.new.states
-    (at_lane received c.args.inputs.now) (at_lane received c.loop.inputs) (at_lane received c.receive_next.new.inputs)
-    (at_lane known_items c.receive_next.new.inputs)
-    (sent c.args.output.now) (sent c.loop.output) (sent c.send.new.self) c.loop.invariant.2 c.requires.some count c.in-Ok.ensures.taken
-    (c.if-not-send.ensures.given refl ∙ ap (λ (l : List Message). sent c.loop.output ++ l) c.from.ensures)
-    (sym c.ending-ending.ensures ∙ c.in-Whole.is)
+    ends_well (at_lane known_items c.receive_next.new.inputs) c.loop.invariant.2 c.requires.some count c.in-Ok.ensures.taken
+    (c.if-not-send.ensures.given refl ∙ ap (λ (l : List Message). sent c.loop.output ++ l) c.from.ensures) (sym c.ending-ending.ensures ∙ c.in-Whole.is)
 
 pub loop-preserved : goal.loop-preserved
 loop-preserved g c = (
   same_inputs c.args.inputs.now c.loop.inputs c.receive_next.new.inputs c.loop.invariant.0 c.receive_next.ensures.inputs,
   same_output c.args.output.now c.loop.output c.send.new.self c.loop.invariant.1 c.send.ensures.ring,
-  goes_further (length c.args.inputs.now) (length c.loop.inputs) c.loop.place c.step.new.self c.in-Ok.message c.receive_next.new.states
-      (at_lane received c.args.inputs.now) (at_lane received c.loop.inputs) (at_lane received c.receive_next.new.inputs) (sent c.args.output.now)
-      (sent c.loop.output) (sent c.send.new.self)
+  goes_further
       c.loop.invariant.2 (as_many c.args.inputs.now c.loop.inputs c.loop.invariant.0) c.in-Ok.ensures.taken
       (c.if-not-send.ensures.given refl ∙ ap (λ (l : List Message). sent c.loop.output ++ l) c.from.ensures) c.step.ensures
-      (says_more c.ending-ending.result c.in-Ok.message c.ending-ending.ensures c.in-More.is c.in-Ok.ensures.taken.is),
+      (says_more c.in-Ok.message c.ending-ending.ensures c.in-More.is c.in-Ok.ensures.taken.is),
 )
 
 pub slice_bounds-states-end : goal.slice_bounds-states-end

@@ -1,6 +1,4 @@
-use Rattle.std.proofs.Common.{length}
-use Rattle.pnm_stages.specs.Rings.{sent, received, SameSender}
-use Rattle.pnm_lanes.specs.Gathers.{at_lane, AreSameInputs}
+use Rattle.pnm_lanes.proofs.Words.{length, sent, received, SameSender, at_lane, AreSameInputs}
 use Rattle.pnm_lanes.proofs.GatherSteps.{IsGoing}
 use Rattle.pnm_lanes.proofs.gathering.gather_all.Given as goal
 

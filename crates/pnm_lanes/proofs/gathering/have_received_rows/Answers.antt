@@ -1,7 +1,4 @@
-use Rattle.std.proofs.Common.{rules}
-use Rattle.std.proofs.lemmas.Iterator.{YieldsList-from_slice}
-use Rattle.std.proofs.lemmas.Iterator.Search.{any_from_yields_List}
-use Rattle.pnm_stages.specs.Rings.{has_received_rows}
+use Rattle.pnm_lanes.proofs.Words.{rules, YieldsList-from_slice, any_from_yields_List, has_received_rows}
 use Rattle.pnm_lanes.proofs.gathering.have_received_rows.Goals as goal
 
 pub returns : goal.returns

@@ -1,8 +1,4 @@
-use Rattle.std.proofs.Common.{inl, inr, [], ◌∷◌, ◌++◌, get_or, refl, sym, ap, ◌∙◌}
-use Rattle.pnm_stages.specs.Rings.{received}
-use Rattle.pnm_image.specs.declared.message.Message.{Message}
-use Rattle.pnm_image.specs.declared.message.Message.TheVariants.{Stop}
-use Rattle.pnm_image.specs.declared.message.Ending.TheVariants.{More, Whole, BrokenOff}
+use Rattle.pnm_lanes.proofs.Words.{inl, inr, [], ◌∷◌, ◌++◌, get_or, refl, sym, ap, ◌∙◌, received, Message, Stop, More, Whole, BrokenOff}
 use Rattle.pnm_lanes.proofs.LaneLists.{one_changed}
 use Rattle.pnm_lanes.proofs.TakingSteps.{has_given, has_given_none, is_of_stream, stops}
 use Rattle.pnm_lanes.proofs.lane.receive_from.Goals as goal

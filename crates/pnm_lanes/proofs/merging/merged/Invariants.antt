@@ -1,4 +1,4 @@
-use Rattle.std.proofs.Common.{length}
+use Rattle.pnm_lanes.proofs.Words.{length}
 use Rattle.pnm_lanes.proofs.MergeSteps.{IsMerging}
 use Rattle.pnm_lanes.proofs.merging.merged.Given as goal
 

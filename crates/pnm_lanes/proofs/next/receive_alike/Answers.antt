@@ -1,8 +1,4 @@
-use Rattle.std.proofs.Common.{refl}
-use Rattle.std.proofs.lemmas.Bool.{false≢true}
-use Rattle.std.proofs.lemmas.Result.{err_from_is_err_and}
-use Rattle.pnm_stages.specs.Rings.{received}
-use Rattle.pnm_lanes.specs.Gathers.{at_lane}
+use Rattle.pnm_lanes.proofs.Words.{refl, false≢true, err_from_is_err_and, received, at_lane}
 use Rattle.pnm_lanes.proofs.EachSteps.{none_alike}
 use Rattle.pnm_lanes.proofs.next.receive_alike.Goals as goal
 

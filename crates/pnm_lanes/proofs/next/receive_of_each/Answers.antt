@@ -1,9 +1,4 @@
-use Rattle.std.proofs.Common.{length, ◌∙◌, arith}
-use Rattle.std.proofs.lemmas.Bool.{false≢true}
-use Rattle.std.proofs.lemmas.List.{length-set, length-take-le}
-use Rattle.std.proofs.lemmas.Result.{err_from_is_err_and}
-use Rattle.pnm_stages.specs.Rings.{received}
-use Rattle.pnm_lanes.specs.Gathers.{at_lane}
+use Rattle.pnm_lanes.proofs.Words.{length, ◌∙◌, arith, false≢true, length-set, length-take-le, err_from_is_err_and, received, at_lane}
 use Rattle.pnm_lanes.proofs.LaneLists.{same_inputs}
 use Rattle.pnm_lanes.proofs.EachSteps.{next_taken, first_failed, first_refused, each_stops, each_ends}
 use Rattle.pnm_lanes.proofs.next.receive_of_each.Goals as goal
@@ -14,17 +9,14 @@ returns-in_err-first-clause-inputs g c = c.receive_from.ensures.inputs
 pub returns-in_err-first-clause-taken : goal.returns-in_err-first-clause-taken
 returns-in_err-first-clause-taken g c =
     let p = err_from_is_err_and c.from_residual.result c.from_residual.ensures.1 in
-    rw (p.1, p.2) (first_failed (length c.args.inputs.now) c.args.place c.in_err-first.field-0.0 c.args.states.now c.receive_from.new.states
-    (at_lane received c.args.inputs.now) (at_lane received c.receive_from.new.inputs)
-    c.requires.some c.requires.states c.requires.all_open c.in_err-first.ensures.taken)
+    rw (p.1, p.2) (first_failed c.args.states.now c.requires.some c.requires.states c.requires.all_open c.in_err-first.ensures.taken)
 
 pub returns-then-not-accepts-clause-inputs : goal.returns-then-not-accepts-clause-inputs
 returns-then-not-accepts-clause-inputs g c = c.receive_from.ensures.inputs
 
 pub returns-then-not-accepts-clause-taken : goal.returns-then-not-accepts-clause-taken
 returns-then-not-accepts-clause-taken g c =
-    first_refused (length c.args.inputs.now) c.args.place c.in_ok-first.first c.args.states.now c.receive_from.new.states (at_lane received c.args.inputs.now)
-    (at_lane received c.receive_from.new.inputs)
+    first_refused
     c.requires.some c.requires.states c.requires.all_open c.requires.no_row (λ may. false≢true (c.if-not-accepts.ensures.1 may)) c.in_ok-first.ensures.taken
 
 pub returns-in_err-heights-clause-inputs : goal.returns-in_err-heights-clause-inputs
@@ -34,10 +26,7 @@ returns-in_err-heights-clause-inputs g c =
 pub returns-in_err-heights-clause-taken : goal.returns-in_err-heights-clause-taken
 returns-in_err-heights-clause-taken g c =
     let p = err_from_is_err_and c.from_residual-in_err-heights.result c.from_residual-in_err-heights.ensures.1 in
-    rw (p.1, p.2) (each_stops (length c.args.inputs.now) c.loop-lane.lane c.args.place _ c.loop-lane.heights c.in_err-heights.field-0.0
-    c.loop-lane.states c.receive_alike.new.states
-    (at_lane received c.args.inputs.now) (at_lane received c.loop-lane.inputs) (at_lane received c.receive_alike.new.inputs)
-    c.loop-lane.invariant.1 (omega arith) (omega arith) c.requires.no_row c.in_err-heights.ensures.taken)
+    rw (p.1, p.2) (each_stops c.in_err-heights.field-0.0 c.loop-lane.invariant.1 (omega arith) (omega arith) c.requires.no_row c.in_err-heights.ensures.taken)
 
 pub loop-lane-preserved : goal.loop-lane-preserved
 loop-lane-preserved g c = (
@@ -55,9 +44,7 @@ returns-clause-inputs g c = c.loop-lane.invariant.0
 
 pub returns-clause-taken : goal.returns-clause-taken
 returns-clause-taken g c =
-    rw c.ok_or.ensures.value
-    (each_ends (length c.args.inputs.now) c.loop-lane.lane (length c.loop-lane.inputs) c.args.place _ c.loop-lane.heights c.loop-lane.states
-    (at_lane received c.args.inputs.now) (at_lane received c.loop-lane.inputs) c.agreed.result
+    rw c.ok_or.ensures.value (each_ends (length c.loop-lane.inputs) c.agreed.result
     c.loop-lane.invariant.1 (omega arith) (omega arith) (omega (arith, c.requires.few, c.loop-lane.invariant.2)) c.requires.no_row c.agreed.ensures.found
     c.agreed.ensures.none)
 

@@ -1,6 +1,4 @@
-use Rattle.std.proofs.Common.{◌≡◌, length}
-use Rattle.pnm_stages.specs.Rings.{received}
-use Rattle.pnm_lanes.specs.Gathers.{at_lane, AreSameInputs}
+use Rattle.pnm_lanes.proofs.Words.{◌≡◌, length, received, at_lane, AreSameInputs}
 use Rattle.pnm_lanes.proofs.EachSteps.{IsTakingEach}
 use Rattle.pnm_lanes.proofs.next.receive_of_each.Given as goal
 

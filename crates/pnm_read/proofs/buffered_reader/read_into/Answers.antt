@@ -1,6 +1,4 @@
-use Rattle.std.proofs.Common.{[], refl}
-use Rattle.std.proofs.KnownBytes.{Consumes-kept}
-use Rattle.pnm_image.proofs.Written.{fails}
+use Rattle.pnm_read.proofs.Words.{[], refl, Consumes-kept, fails}
 use Rattle.pnm_read.proofs.Consumed.{consumes_nothing}
 use Rattle.pnm_read.proofs.buffered_reader.read_into.Goals as goal
 

@@ -1,4 +1,4 @@
-use Rattle.std.proofs.Common.{refl}
+use Rattle.pnm_read.proofs.Words.{refl}
 use Rattle.pnm_read.proofs.held_rows.count_within.Goals as goal
 
 pub returns-then-are_units_within-clause-held : goal.returns-then-are_units_within-clause-held

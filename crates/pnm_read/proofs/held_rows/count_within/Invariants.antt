@@ -1,4 +1,4 @@
-use Rattle.std.proofs.Common.{◌≤◌, ◌*◌, length}
+use Rattle.pnm_read.proofs.Words.{◌≤◌, ◌*◌, length}
 use Rattle.pnm_read.proofs.held_rows.count_within.Given as goal
 
 abbrev pub invariant-loop-count : goal.invariant-loop-count

@@ -1,13 +1,5 @@
-use Rattle.std.proofs.Common.{◌≡◌, ◌*◌, ◌∙◌, ℕ, List, All, length, ap, sym, subst}
-use Rattle.pnm_samples.specs.PixelRows.{bytes_for, rows_of_bytes}
-use Rattle.pnm_samples.proofs.PixelRowsLaws.{length_of_rows}
-use Rattle.pnm_image.specs.declared.sample_width.SampleWidth.{SampleWidth}
-use Rattle.pnm_image.specs.HeldRows.{AreRowsWithin}
-use Rattle.pnm_image.specs.Images.{cut_rows}
-use Rattle.pnm_read.specs.Internal.Units.{AreBytesWithin}
-use Rattle.pnm_read.specs.Internal.RasterRows.{FitsBytes, rows_held}
-use Rattle.pnm_read.specs.Said.{units_in_row}
-use Rattle.pnm_image.proofs.HeldRowLaws.{length_of_bits}
+use Rattle.pnm_read.proofs.Words.{◌≡◌, ◌*◌, ◌∙◌, ℕ, List, All, length, ap, sym, subst, bytes_for, rows_of_bytes, length_of_rows, SampleWidth, AreRowsWithin}
+use Rattle.pnm_read.proofs.Words.{cut_rows, AreBytesWithin, FitsBytes, rows_held, units_in_row, length_of_bits}
 use Rattle.pnm_read.proofs.RowsTogether.{are_bytes, bits_are_rows, bits_within, bytes_are_rows, cut_within}
 use Rattle.pnm_read.proofs.held_rows.rows_of.Goals as goal
 

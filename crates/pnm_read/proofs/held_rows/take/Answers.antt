@@ -1,4 +1,4 @@
-use Rattle.std.proofs.Common.{◌≤◌, ◌*◌, ◌^◌, ℕ, length, arith, subst, List, sym, ◌∙◌}
+use Rattle.pnm_read.proofs.Words.{◌≤◌, ◌*◌, ◌^◌, ℕ, length, arith, subst, List, sym, ◌∙◌}
 use Rattle.pnm_read.proofs.HeldWords.{wide_lie}
 use Rattle.pnm_read.proofs.held_rows.take.Goals as goal
 
@@ -10,8 +10,7 @@ take_wide-requires g c =
       held = record {
         sample_width = c.in-Words.is;
         long = subst (λ (l : List ℕ). count * units * 2 ≤ length l) c.bytes.ensures
-            (wide_lie count units c.row_bytes.result (2 ^ 64) c.bytes.result.now (c.row_bytes.ensures.wide c.in-Words.is) (omega arith)
-            c.count_whole-count.ensures.held);
+            (wide_lie count units (2 ^ 64) c.bytes.result.now (c.row_bytes.ensures.wide c.in-Words.is) (omega arith) c.count_whole-count.ensures.held);
       };
     }
 

@@ -1,6 +1,4 @@
-use Rattle.std.proofs.Common.{ℕ, ◌*◌, List, length, take, ap, ◌∙◌}
-use Rattle.pnm_read.specs.BufferedReaders.{held_of}
-use Rattle.pnm_read.specs.Internal.RasterRows.{rows_held}
+use Rattle.pnm_read.proofs.Words.{ℕ, ◌*◌, List, length, take, ap, ◌∙◌, held_of, rows_held}
 use Rattle.pnm_read.proofs.RowsTogether.{rows_taken, length-rows_held}
 use Rattle.pnm_read.proofs.held_rows.take_rows.Goals as goal
 
@@ -13,6 +11,5 @@ pub returns-clause-rows : goal.returns-clause-rows
 returns-clause-rows g c =
     let raster = c.args.raster.now in
     let held = held_of c.args.input.now in
-    rows_taken raster c.args.count held (held_of c.advance.new.self) c.rows_of-rows.result c.requires.held
-    (c.rows_of-rows.ensures ∙ ap (rows_held raster.sample_width raster.shape c.args.count) (c.in-Ok.ensures
+    rows_taken c.requires.held (c.rows_of-rows.ensures ∙ ap (rows_held raster.sample_width raster.shape c.args.count) (c.in-Ok.ensures
     ∙ ap (λ (l : List ℕ). take (c.args.count * raster.units) l) c.bytes-held.ensures)) c.advance.ensures.held

@@ -1,6 +1,4 @@
-use Rattle.std.proofs.Common.{◌≡◌, ◌≤◌}
-use Rattle.pnm_read.specs.BufferedReaders.{held_of}
-use Rattle.pnm_read.specs.Internal.RasterRows.{AreHeldWide}
+use Rattle.pnm_read.proofs.Words.{◌≡◌, ◌≤◌, held_of, AreHeldWide}
 use Rattle.pnm_read.proofs.held_rows.take_wide.Given as goal
 
 abbrev pub invariant-loop-count : goal.invariant-loop-count

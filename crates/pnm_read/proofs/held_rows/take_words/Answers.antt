@@ -1,7 +1,4 @@
-use Rattle.std.proofs.Common.{◌≡◌, ℕ, ◌*◌, ◌≤◌, ◌++◌, All, List, length, take, sym, ap, subst, ◌∙◌}
-use Rattle.pnm_samples.proofs.CutLaws.{length-cut_rows}
-use Rattle.pnm_read.specs.BufferedReaders.{held_of}
-use Rattle.pnm_read.specs.Rasters.{wide_samples}
+use Rattle.pnm_read.proofs.Words.{◌≡◌, ℕ, ◌*◌, ◌≤◌, ◌++◌, All, List, length, take, sym, ap, subst, ◌∙◌, length-cut_rows, held_of, wide_samples}
 use Rattle.pnm_read.proofs.HeldWords.{samples_of_held, wide_rows_taken}
 use Rattle.pnm_read.proofs.RowsTogether.{cut_within}
 use Rattle.pnm_read.proofs.held_rows.take_words.Goals as goal
@@ -9,7 +6,7 @@ use Rattle.pnm_read.proofs.held_rows.take_words.Goals as goal
 pub new-rows-requires-clause-whole : goal.new-rows-requires-clause-whole
 new-rows-requires-clause-whole g c =
     let size : ℕ = c.args.count * c.args.raster.now.units * 2 in
-    samples_of_held c.args.raster.now c.args.count (held_of c.args.input.now) c.append_wide.new.row.items c.requires.held
+    samples_of_held c.requires.held
     (c.in-Ok-append_wide.ensures.0 ∙ ap (λ (l : List ℕ). l ++ wide_samples (take size c.bytes-held.result.now)) c.in-Ok.ensures.items
     ∙ ap (λ (l : List ℕ). wide_samples (take size l)) c.bytes-held.ensures)
 
@@ -31,10 +28,8 @@ returns-clause-count g c =
 pub returns-clause-rows : goal.returns-clause-rows
 returns-clause-rows g c =
     let size : ℕ = c.args.count * c.args.raster.now.units * 2 in
-    wide_rows_taken c.args.raster.now c.args.count (held_of c.args.input.now) (held_of c.advance.new.self) c.append_wide.new.row.items c.new-rows.result
-    c.requires.held
+    wide_rows_taken c.requires.held
     (c.in-Ok-append_wide.ensures.0 ∙ ap (λ (l : List ℕ). l ++ wide_samples (take size c.bytes-held.result.now)) c.in-Ok.ensures.items
     ∙ ap (λ (l : List ℕ). wide_samples (take size l)) c.bytes-held.ensures)
     (subst (λ (l : List ℕ). All (λ sample. sample ≤ c.args.raster.now.shape.maxval) (wide_samples (take size l))) c.bytes-held.ensures
-    c.in-Ok-append_wide.ensures.1)
-    c.new-rows.ensures c.advance.ensures.held
+    c.in-Ok-append_wide.ensures.1) c.new-rows.ensures c.advance.ensures.held

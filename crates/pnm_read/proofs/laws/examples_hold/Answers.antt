@@ -1,4 +1,4 @@
-use Rattle.std.proofs.Common.{refl}
+use Rattle.pnm_read.proofs.Words.{refl, TextExamplesHold}
 use Rattle.pnm_read.specs.HeaderTexts.{ends_by, uncommented_from}
 use Rattle.pnm_image.specs.Texts.{words}
 use Rattle.pnm_read.specs.PamLines.{ended_lines, last_line, first_token, second_token, value_of, kind_of_token, field_values, tuple_type_in}
@@ -7,7 +7,6 @@ use Rattle.pnm_read.specs.Items.{decimal_item, pixel_item, plain_pixel, plain_de
 use Rattle.pnm_read.specs.Said.{in_turn, format_at, pnm_head_at, pam_head_at, raw_row, plain_row, last_plain_row, rows_said, image_said}
 use Rattle.pnm_read.specs.Said.{later_said_in, later_said, text_said}
 use Rattle.pnm_read.specs.Rasters.{pixels}
-use Rattle.pnm_read.specs.Examples.{TextExamplesHold}
 use Rattle.pnm_read.proofs.laws.examples_hold.Goals as goal
 
 computed : TextExamplesHold

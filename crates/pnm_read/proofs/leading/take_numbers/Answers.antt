@@ -1,18 +1,12 @@
-use Rattle.std.proofs.Common.{◌≡◌, ◌+◌, ◌∷◌, [], ◌++◌, List, ℕ, arith, rules, subst}
-use Rattle.std.proofs.lemmas.List.{take_rest}
-use Rattle.std.specs.List.{AllPass}
-use Rattle.std.proofs.Common.{take}
-use Rattle.pnm_image.specs.Texts.{is_white}
-use Rattle.pnm_read.specs.Items.{plain_decimal}
-use Rattle.pnm_read.specs.Internal.Leading.{IsNumberFirst}
+use Rattle.pnm_read.proofs.Words.{◌≡◌, ◌+◌, ◌∷◌, [], ◌++◌, List, ℕ, arith, rules, subst, take_rest, AllPass, take, is_white, plain_decimal, IsNumberFirst}
 use Rattle.pnm_read.proofs.LeadingLaws.{takes_none, white_at_once, number_taken, white_after_number}
 use Rattle.pnm_read.proofs.leading.take_numbers.Goals as goal
 
 pub loop-start-init : goal.loop-start-init
 loop-start-init c =
     record {
-      taken = takes_none (plain_decimal c.args.maxval) c.args.bytes.now c.args.row.now.items;
-      white = white_at_once c.args.bytes.now 0 (omega arith);
+      taken = takes_none;
+      white = white_at_once (omega arith);
       most = λ h. h;
     }
 
@@ -24,9 +18,8 @@ loop-start-preserved c =
     let number = subst (λ (l : List ℕ). IsNumberFirst l c.in-Some.sample c.in-Some.count) (take_rest c.args.bytes.now (c.loop-start.at + c.white_first.result))
     c.in-Some.ensures.number in
     record {
-      taken = number_taken c.args.maxval c.args.bytes.now c.args.row.now.items c.loop-start.row.items c.push.new.self.items c.loop-start.taken c.loop-start.at
-          c.white_first.result c.in-Some.sample c.in-Some.count c.requires.short
+      taken = number_taken c.args.maxval c.white_first.result c.requires.short
           c.loop-start.invariant.taken c.loop-start.invariant.white white number c.in-Some.ensures.most longer;
-      white = white_after_number c.args.bytes.now (c.loop-start.at + c.white_first.result) c.in-Some.sample c.in-Some.count number;
+      white = white_after_number (c.loop-start.at + c.white_first.result) number;
       most = λ h. search rules;
     }

@@ -1,6 +1,4 @@
-use Rattle.std.proofs.Common.{◌-◌, ◌≤◌, length, vec_len}
-use Rattle.pnm_read.specs.Items.{plain_decimal}
-use Rattle.pnm_read.specs.Internal.Leading.{TakesSamples}
+use Rattle.pnm_read.proofs.Words.{◌-◌, ◌≤◌, length, vec_len, plain_decimal, TakesSamples}
 use Rattle.pnm_read.proofs.LeadingLaws.{IsWhiteFrom}
 use Rattle.pnm_read.proofs.leading.take_numbers.Given as goal
 

@@ -1,12 +1,11 @@
-use Rattle.std.proofs.Common.{◌≡◌, ◌+◌, ◌-◌, ◌<◌, ◌≤◌, ◌∷◌, [], ◌++◌, length, get_or, arith, rules}
-use Rattle.pnm_read.specs.Items.{plain_pixel}
+use Rattle.pnm_read.proofs.Words.{◌≡◌, ◌+◌, ◌-◌, ◌<◌, ◌≤◌, ◌∷◌, [], ◌++◌, length, get_or, arith, rules, plain_pixel}
 use Rattle.pnm_read.proofs.LeadingLaws.{takes_none, white_at_once, white_more, pixel_taken}
 use Rattle.pnm_read.proofs.leading.take_pixels.Goals as goal
 use Rattle.pnm_read.proofs.leading.take_pixels.Goals.{then-byte-ge48+then-byte-le49+in_ok-push, else-byte-ge48+else-not-is_white}
 
 pub loop-at-init : goal.loop-at-init
 loop-at-init c =
-    record { taken = takes_none plain_pixel c.args.bytes.now c.args.row.now.items; white = white_at_once c.args.bytes.now 0 (omega arith); most = λ h. h }
+    record { taken = takes_none; white = white_at_once (omega arith); most = λ h. h }
 
 pub loop-at-preserved : goal.loop-at-preserved
 loop-at-preserved c =
@@ -17,16 +16,14 @@ loop-at-preserved c =
           let there : c.loop-at.at < length c.args.bytes.now = omega arith in
           let most : length c.args.row.now.items ≤ c.args.wanted → length w.push.new.self.items ≤ c.args.wanted = λ h. search rules in
           rw (w.row-is, w.taken-is) (record {
-            taken = pixel_taken c.args.bytes.now c.args.row.now.items c.loop-at.row.items w.push.new.self.items c.loop-at.taken c.loop-at.at w.from.result
-                c.requires c.loop-at.invariant.taken c.loop-at.invariant.white
-                there (search rules) (search rules) is longer;
-            white = white_at_once c.args.bytes.now (c.loop-at.at + 1) (omega arith);
+            taken = pixel_taken c.requires c.loop-at.invariant.taken c.loop-at.invariant.white there (search rules) (search rules) is longer;
+            white = white_at_once (omega arith);
             most = most;
           })
       | else-byte-ge48+else-not-is_white w ↦
           rw (w.row-is, w.taken-is) (record {
             taken = c.loop-at.invariant.taken;
-            white = white_more c.args.bytes.now c.loop-at.taken c.loop-at.at c.loop-at.invariant.white (omega arith) (search rules);
+            white = white_more c.loop-at.invariant.white (omega arith) (search rules);
             most = c.loop-at.invariant.most;
           })
     ]

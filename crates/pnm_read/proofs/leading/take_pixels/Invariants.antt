@@ -1,6 +1,4 @@
-use Rattle.std.proofs.Common.{◌≤◌, length}
-use Rattle.pnm_read.specs.Items.{plain_pixel}
-use Rattle.pnm_read.specs.Internal.Leading.{TakesSamples}
+use Rattle.pnm_read.proofs.Words.{◌≤◌, length, plain_pixel, TakesSamples}
 use Rattle.pnm_read.proofs.LeadingLaws.{IsWhiteFrom}
 use Rattle.pnm_read.proofs.leading.take_pixels.Given as goal
 

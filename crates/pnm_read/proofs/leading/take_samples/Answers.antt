@@ -1,8 +1,4 @@
-use Rattle.std.proofs.Common.{List, ℕ, Result, subst, arith}
-use Rattle.std.specs.Prelude.{IfOk}
-use Rattle.pnm_read.specs.declared.fault.InputFault.{InputFault}
-use Rattle.pnm_read.specs.Items.{plain_pixel, plain_decimal}
-use Rattle.pnm_read.specs.Internal.Leading.{TakesSamples}
+use Rattle.pnm_read.proofs.Words.{List, ℕ, Result, subst, arith, IfOk, InputFault, plain_pixel, plain_decimal, TakesSamples}
 use Rattle.pnm_read.proofs.LeadingLaws.{number_by_kind, all_taken}
 use Rattle.pnm_read.proofs.leading.take_samples.Goals as goal
 

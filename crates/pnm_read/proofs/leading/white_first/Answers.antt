@@ -1,8 +1,4 @@
-use Rattle.std.proofs.Common.{◌≡◌, true, take, get_or, arith, rules, sym, subst}
-use Rattle.std.specs.List.{AllPass}
-use Rattle.std.proofs.lemmas.List.{take_more}
-use Rattle.std.proofs.lemmas.List.Elements.{All-push}
-use Rattle.pnm_image.specs.Texts.{is_white}
+use Rattle.pnm_read.proofs.Words.{◌≡◌, true, take, get_or, arith, rules, sym, subst, AllPass, take_more, All-push, is_white}
 use Rattle.pnm_read.proofs.leading.white_first.Goals as goal
 
 pub loop-at-preserved : goal.loop-at-preserved

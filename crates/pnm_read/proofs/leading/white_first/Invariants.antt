@@ -1,6 +1,4 @@
-use Rattle.std.proofs.Common.{take}
-use Rattle.std.specs.List.{AllPass}
-use Rattle.pnm_image.specs.Texts.{is_white}
+use Rattle.pnm_read.proofs.Words.{take, AllPass, is_white}
 use Rattle.pnm_read.proofs.leading.white_first.Given as goal
 
 abbrev pub invariant-loop-at : goal.invariant-loop-at

@@ -1,10 +1,9 @@
-use Rattle.std.proofs.Common.{sym, ◌∙◌, ◌≡◌, ◌-◌, get_or}
-use Rattle.pnm_read.specs.Internal.Saturation.{with_digit}
+use Rattle.pnm_read.proofs.Words.{sym, ◌∙◌, ◌≡◌, ◌-◌, get_or, with_digit}
 use Rattle.pnm_read.proofs.LineSteps.{no_digits, digits_more, number_none, number_is}
 use Rattle.pnm_read.proofs.line.number_of.Goals as goal
 
 pub loop-byte-init : goal.loop-byte-init
-loop-byte-init c = no_digits c.args.token.now
+loop-byte-init c = no_digits
 
 pub loop-byte-preserved : goal.loop-byte-preserved
 loop-byte-preserved c =
@@ -16,4 +15,4 @@ pub returns-then-not-is_digit : goal.returns-then-not-is_digit
 returns-then-not-is_digit c = number_none c.args.token.now c.loop-byte.byte-index c.loop-byte-test.true (sym c.is_digit.ensures ∙ c.if-not-is_digit.true)
 
 pub returns : goal.returns
-returns c = number_is c.args.token.now c.loop-byte.byte-index c.loop-byte.number c.loop-byte.invariant c.loop-byte-test.false
+returns c = number_is c.loop-byte.invariant c.loop-byte-test.false

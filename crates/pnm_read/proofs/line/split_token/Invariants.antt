@@ -1,4 +1,4 @@
-use Rattle.std.proofs.Common.{◌-◌, length}
+use Rattle.pnm_read.proofs.Words.{◌-◌, length}
 use Rattle.pnm_read.proofs.LineSteps.{SplitAt}
 use Rattle.pnm_read.proofs.line.split_token.Given as goal
 

@@ -1,5 +1,4 @@
-use Rattle.std.proofs.Common.{ap, sym, ◌∙◌}
-use Rattle.pnm_read.specs.Internal.LineWalks.{trimmed_end}
+use Rattle.pnm_read.proofs.Words.{ap, sym, ◌∙◌, trimmed_end}
 use Rattle.pnm_read.proofs.WalkLaws.{trimmed_is}
 use Rattle.pnm_read.proofs.line.trim.Goals as goal
 

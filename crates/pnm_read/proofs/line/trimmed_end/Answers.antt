@@ -1,4 +1,4 @@
-use Rattle.std.proofs.Common.{rules, sym, ◌∙◌}
+use Rattle.pnm_read.proofs.Words.{rules, sym, ◌∙◌}
 use Rattle.pnm_read.proofs.LineSteps.{end_more, end_none, end_stops}
 use Rattle.pnm_read.proofs.line.trimmed_end.Goals as goal
 

@@ -1,4 +1,4 @@
-use Rattle.std.proofs.Common.{rules, sym, ◌∙◌}
+use Rattle.pnm_read.proofs.Words.{rules, sym, ◌∙◌}
 use Rattle.pnm_read.proofs.LineSteps.{start_more, start_none, start_stops}
 use Rattle.pnm_read.proofs.line.trimmed_start.Goals as goal
 

@@ -1,5 +1,4 @@
-use Rattle.std.proofs.Common.{◌≡◌, length}
-use Rattle.pnm_read.specs.Internal.LineWalks.{trimmed_start}
+use Rattle.pnm_read.proofs.Words.{◌≡◌, length, trimmed_start}
 use Rattle.pnm_read.proofs.line.trimmed_start.Given as goal
 
 abbrev pub invariant-loop-rest : goal.invariant-loop-rest

@@ -1,4 +1,4 @@
-use Rattle.std.proofs.Common.{◌≤◌}
+use Rattle.pnm_read.proofs.Words.{◌≤◌}
 use Rattle.pnm_read.proofs.pam.has_last_line.Given as goal
 
 abbrev pub invariant-loop-end : goal.invariant-loop-end

@@ -1,5 +1,5 @@
-use Rattle.std.proofs.Common.{rules, arith, ◌≡◌, ◌≤◌, ◌-◌, ◌+◌, [], length, vec_len, refl, ap, subst, ◌∙◌, length-append}
-use Rattle.std.proofs.lemmas.Result.{err_from_is_err_and}
+use Rattle.pnm_read.proofs.Words.{rules, arith, ◌≡◌, ◌≤◌, ◌-◌, ◌+◌, [], length, vec_len, refl, ap, subst, ◌∙◌, err_from_is_err_and}
+use Rattle.std.proofs.Common.{length-append}
 use Rattle.pnm_read.proofs.PlainSteps.{samples_fault, samples_no_memory, samples_more, samples_read, samples_begin}
 use Rattle.pnm_read.proofs.LeadingSteps.{samples_taken, reading_no_memory}
 use Rattle.pnm_read.proofs.plain.read_samples.Goals as goal
@@ -15,20 +15,18 @@ pub returns-in_err-sample : goal.returns-in_err-sample
 returns-in_err-sample g c =
     let p = err_from_is_err_and c.from_residual.result c.from_residual.ensures.1 in
     let most : length c.take_samples.new.row.items ≤ c.row_length-length.result = c.in-Ok-take_samples.ensures.most c.loop-taken.invariant.most in
-    rw (p.1, p.2) (samples_fault c.in_err-sample.field-0.0 g.met.R.BytesIn.same_later
+    rw (p.1, p.2) (samples_fault g.met.R.BytesIn.same_later
     (samples_taken c.bytes.result.now c.take_samples.new.row.items c.in-Ok-take_samples.taken (c.row_length-length.result - vec_len c.take_samples.new.row)
     c.loop-taken.invariant.reading c.bytes.ensures c.in-Ok-take_samples.ensures.taken (omega arith) c.advance.ensures.reader c.advance.ensures.ended
-    c.advance.ensures.held)
-    c.row_length-length.ensures (omega arith) c.in_err-sample.ensures)
+    c.advance.ensures.held) c.row_length-length.ensures (omega arith) c.in_err-sample.ensures)
 
 pub returns-then-is_err : goal.returns-then-is_err
 returns-then-is_err g c =
     let most : length c.take_samples.new.row.items ≤ c.row_length-length.result = c.in-Ok-take_samples.ensures.most c.loop-taken.invariant.most in
-    samples_no_memory c.in_ok-sample.sample g.met.R.BytesIn.same_later
+    samples_no_memory g.met.R.BytesIn.same_later
     (samples_taken c.bytes.result.now c.take_samples.new.row.items c.in-Ok-take_samples.taken (c.row_length-length.result - vec_len c.take_samples.new.row)
     c.loop-taken.invariant.reading c.bytes.ensures c.in-Ok-take_samples.ensures.taken (omega arith) c.advance.ensures.reader c.advance.ensures.ended
-    c.advance.ensures.held)
-    c.in_ok-sample.ensures
+    c.advance.ensures.held) c.in_ok-sample.ensures
 
 pub loop-taken-preserved : goal.loop-taken-preserved
 loop-taken-preserved g c =
@@ -46,11 +44,10 @@ loop-taken-preserved g c =
 pub returns : goal.returns
 returns g c =
     let most : length c.take_samples.new.row.items ≤ c.row_length-length.result = c.in-Ok-take_samples.ensures.most c.loop-taken.invariant.most in
-    samples_read c.take_samples.new.row
+    samples_read
     (samples_taken c.bytes.result.now c.take_samples.new.row.items c.in-Ok-take_samples.taken (c.row_length-length.result - vec_len c.take_samples.new.row)
     c.loop-taken.invariant.reading c.bytes.ensures c.in-Ok-take_samples.ensures.taken (omega arith) c.advance.ensures.reader c.advance.ensures.ended
-    c.advance.ensures.held)
-    c.row_length-length.ensures (omega arith) refl
+    c.advance.ensures.held) c.row_length-length.ensures (omega arith) refl
 
 pub loop-taken-init : goal.loop-taken-init
 loop-taken-init g c =

@@ -1,4 +1,4 @@
-use Rattle.std.proofs.Common.{◌-◌, ◌≤◌, length, vec_len}
+use Rattle.pnm_read.proofs.Words.{◌-◌, ◌≤◌, length, vec_len}
 use Rattle.pnm_read.proofs.PlainSteps.{ReadingSamples}
 use Rattle.pnm_read.proofs.plain.read_samples.Given as goal
 

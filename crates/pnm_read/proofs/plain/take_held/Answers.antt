@@ -1,7 +1,4 @@
-use Rattle.std.proofs.Common.{◌≡◌, ◌≤◌, ◌+◌, ℕ, length, refl, subst, ◌∙◌, arith}
-use Rattle.pnm_read.specs.BufferedReaders.{held_of}
-use Rattle.pnm_image.specs.Heads.{row_length}
-use Rattle.pnm_read.specs.Internal.RasterRows.{TakesPlain}
+use Rattle.pnm_read.proofs.Words.{◌≡◌, ◌≤◌, ◌+◌, ℕ, length, refl, subst, ◌∙◌, arith, held_of, row_length, TakesPlain}
 use Rattle.pnm_read.proofs.PlainRows.{taken_none, taken_row}
 use Rattle.pnm_read.proofs.plain.take_held.Goals as goal
 
@@ -15,9 +12,7 @@ loop-count-preserved g c =
     let most : length c.take_samples.new.row.items ≤ c.saturating_add-wanted.result = c.in-Ok.ensures.most before in
     let long : length c.take_samples.new.row.items ≡ length c.loop-count.samples.items + row_length c.args.shape = omega (arith, most) in
     record {
-      taken = taken_row c.args.shape c.loop-count.count c.in-Ok.row_size (held_of c.args.input.now) (held_of c.loop-count.input) (held_of c.advance.new.self)
-          c.args.samples.now.items c.loop-count.samples.items c.take_samples.new.row.items c.bytes-in-loop-count.result.now c.loop-count.invariant.taken t
-          c.bytes-in-loop-count.ensures c.advance.ensures.held long;
+      taken = taken_row c.loop-count.invariant.taken t c.bytes-in-loop-count.ensures c.advance.ensures.held long;
       reader = c.advance.ensures.reader ∙ c.loop-count.invariant.reader;
       ended = c.advance.ensures.ended ∙ c.loop-count.invariant.ended;
     }

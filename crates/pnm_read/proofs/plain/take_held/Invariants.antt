@@ -1,6 +1,4 @@
-use Rattle.std.proofs.Common.{◌≡◌}
-use Rattle.pnm_read.specs.BufferedReaders.{held_of}
-use Rattle.pnm_read.specs.Internal.RasterRows.{TakesPlain}
+use Rattle.pnm_read.proofs.Words.{◌≡◌, held_of, TakesPlain}
 use Rattle.pnm_read.proofs.plain.take_held.Given as goal
 
 -- so many rows were taken of what was held

@@ -1,10 +1,5 @@
-use Rattle.std.proofs.Common.{[], ◌≡◌, ◌-◌, ◌+◌, ℕ, List, ◌++◌, length, take, ap, sym, subst, arith, ◌∙◌}
-use borrow.Rule.Slice.PartMut.{post_of}
-use Rattle.std.specs.Vec.{with_items}
-use Rattle.std.proofs.lemmas.Grind.{common_steps}
-use Rattle.std.proofs.lemmas.List.{take_all}
-use Rattle.std.proofs.lemmas.Result.{err_from_is_err_and}
-use Rattle.pnm_read.specs.Internal.Units.{samples_of_bytes, AreBytesWithin}
+use Rattle.pnm_read.proofs.Words.{[], ◌≡◌, ◌-◌, ◌+◌, ℕ, List, ◌++◌, length, take, ap, sym, subst, arith, ◌∙◌, post_of, with_items, common_steps, take_all}
+use Rattle.pnm_read.proofs.Words.{err_from_is_err_and, samples_of_bytes, AreBytesWithin}
 use Rattle.pnm_read.proofs.ReadSteps.{range_length}
 use Rattle.pnm_read.proofs.PartSteps.{no_bytes, no_bytes_within, samples_of_both, both_within, prefix_grown}
 use Rattle.pnm_read.proofs.RawSteps.{units_begin, part_read, part_fault, units_read}
@@ -23,12 +18,9 @@ loop-filled-init g c =
 pub returns-in_err-filled-clause-found : goal.returns-in_err-filled-clause-found
 returns-in_err-filled-clause-found g c =
     let p = err_from_is_err_and c.from_residual.result c.from_residual.ensures.1 in
-    rw (p.1, p.2)
-    (part_fault _ [] (λ count. samples_of_bytes c.args.sample_width (take count c.read_part.new.target))
-    (λ row. samples_of_bytes c.args.sample_width row.items) c.args.shape c.in_err-filled.field-0.0 g.met.R.BytesIn.same_later c.loop-filled.invariant.0
-    c.in_err-filled.ensures.found
-    c.requires.sample_width c.requires.count
-    (omega (
+    rw (p.1, p.2) (part_fault _ [] (λ count. samples_of_bytes c.args.sample_width (take count c.read_part.new.target))
+    (λ row. samples_of_bytes c.args.sample_width row.items) c.args.shape g.met.R.BytesIn.same_later c.loop-filled.invariant.0 c.in_err-filled.ensures.found
+    c.requires.sample_width c.requires.count (omega (
       arith,
       range_length c.as_mut_slice.result.now c.loop-filled.filled (length c.as_mut_slice.result.now),
       c.as_mut_slice.ensures.len,
@@ -65,9 +57,8 @@ loop-filled-preserved g c =
 
 pub returns-clause-found : goal.returns-clause-found
 returns-clause-found g c =
-    units_read (λ row. samples_of_bytes c.args.sample_width row.items) c.args.shape c.loop-filled.row c.loop-filled.invariant.0 c.requires.sample_width
-    c.requires.count (omega arith)
-    (sym (ap (samples_of_bytes c.args.sample_width)
+    units_read (λ row. samples_of_bytes c.args.sample_width row.items) c.args.shape c.loop-filled.invariant.0 c.requires.sample_width
+    c.requires.count (omega arith) (sym (ap (samples_of_bytes c.args.sample_width)
     (take_all c.loop-filled.filled c.loop-filled.row.items (omega (arith, c.loop-filled.row.ok.0, c.loop-filled.invariant.2)))))
 
 pub returns-clause-within : goal.returns-clause-within

@@ -1,5 +1,4 @@
-use Rattle.std.proofs.Common.{◌≡◌, ◌-◌, ◌≤◌, take, vec_len}
-use Rattle.pnm_read.specs.Internal.Units.{samples_of_bytes, AreBytesWithin}
+use Rattle.pnm_read.proofs.Words.{◌≡◌, ◌-◌, ◌≤◌, take, vec_len, samples_of_bytes, AreBytesWithin}
 use Rattle.pnm_read.proofs.RawSteps.{ReadingUnits}
 use Rattle.pnm_read.proofs.raw.read_bytes.Given as goal
 

@@ -1,7 +1,4 @@
-use Rattle.std.proofs.Common.{Ok, length, ap, ◌∙◌}
-use Rattle.std.proofs.lemmas.Result.{err_from_is_err_and}
-use Rattle.pnm_read.specs.declared.fault.InputFault.TheVariants.{ReadFailed}
-use Rattle.pnm_read.specs.Said.{in_turn, raw_row}
+use Rattle.pnm_read.proofs.Words.{Ok, length, ap, ◌∙◌, err_from_is_err_and, ReadFailed, in_turn, raw_row}
 use Rattle.pnm_read.proofs.ReadCalls.{no_fault, call_held}
 use Rattle.pnm_read.proofs.RowsTogether.{rows_found, row_read, row_unread}
 use Rattle.pnm_read.proofs.raw.read_rows.Goals as goal
@@ -19,11 +16,11 @@ returns-in-Some g c =
 
 pub returns-in_ok-read_row-in-None : goal.returns-in_ok-read_row-in-None
 returns-in_ok-read_row-in-None g c =
-    row_read c.args.raster.now c.in_ok-read_row-in-None.field-0 c.one.result g.met.R.BytesIn.same_later c.requires.raw c.requires.row
+    row_read c.args.raster.now g.met.R.BytesIn.same_later c.requires.raw c.requires.row
     (c.in_ok-rows.ensures.none (ap (λ r. Ok r) c.in-None.is)) c.one.ensures c.in_ok-read_towards.ensures.read_call c.in_ok-read_row-in-None.ensures
 
 pub returns-in_err-read_row-in-None : goal.returns-in_err-read_row-in-None
 returns-in_err-read_row-in-None g c =
     let p = err_from_is_err_and c.from_residual-in_err-read_row-in-None.result c.from_residual-in_err-read_row-in-None.ensures.1 in
-    rw (p.1, p.2) (row_unread c.args.raster.now c.in_err-read_row-in-None.field-0.0 g.met.R.BytesIn.same_later c.requires.raw c.requires.row
+    rw (p.1, p.2) (row_unread c.args.raster.now g.met.R.BytesIn.same_later c.requires.raw c.requires.row
     (c.in_ok-rows.ensures.none (ap (λ r. Ok r) c.in-None.is)) c.in_ok-read_towards.ensures.read_call c.in_err-read_row-in-None.ensures)

@@ -1,16 +1,12 @@
-use Rattle.std.proofs.Common.{◌≤◌, All, refl, sym, subst, arith}
-use Rattle.std.proofs.lemmas.List.Elements.{All-nil}
-use Rattle.pnm_image.specs.declared.sample_width.SampleWidth.TheVariants.{Words}
-use Rattle.std.proofs.lemmas.Result.{err_from_is_err_and}
+use Rattle.pnm_read.proofs.Words.{◌≤◌, All, refl, sym, subst, arith, All-nil, Words, err_from_is_err_and}
 use Rattle.pnm_read.proofs.RawSteps.{units_begin, part_read, part_fault, units_read}
 use Rattle.pnm_read.proofs.raw.read_words.Goals as goal
 
 pub returns-in_err-left-clause-found : goal.returns-in_err-left-clause-found
 returns-in_err-left-clause-found g c =
     let p = err_from_is_err_and c.from_residual.result c.from_residual.ensures.1 in
-    rw (p.1, p.2) (part_fault c.loop-left.left c.loop-left.row.items (λ _. c.append_part.new.row.items) (λ row. row.items) c.args.shape c.in_err-left.field-0.0
-    g.met.R.BytesIn.same_later c.loop-left.invariant.0 c.in_err-left.ensures.found
-    c.requires.sample_width c.units_in_row-left.ensures (omega arith))
+    rw (p.1, p.2) (part_fault c.loop-left.left c.loop-left.row.items (λ _. c.append_part.new.row.items) (λ row. row.items) c.args.shape
+    g.met.R.BytesIn.same_later c.loop-left.invariant.0 c.in_err-left.ensures.found c.requires.sample_width c.units_in_row-left.ensures (omega arith))
 
 pub loop-left-preserved : goal.loop-left-preserved
 loop-left-preserved g c = (
@@ -21,8 +17,7 @@ loop-left-preserved g c = (
 
 pub returns-clause-found : goal.returns-clause-found
 returns-clause-found g c =
-    units_read (λ row. row.items) c.args.shape c.loop-left.row c.loop-left.invariant.0 c.requires.sample_width c.units_in_row-left.ensures
-    c.loop-left-test.false refl
+    units_read (λ row. row.items) c.args.shape c.loop-left.invariant.0 c.requires.sample_width c.units_in_row-left.ensures c.loop-left-test.false refl
 
 pub loop-left-init : goal.loop-left-init
 loop-left-init g c = (

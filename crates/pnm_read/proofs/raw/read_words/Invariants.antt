@@ -1,5 +1,4 @@
-use Rattle.std.proofs.Common.{◌≤◌, All}
-use Rattle.pnm_image.specs.declared.sample_width.SampleWidth.TheVariants.{Words}
+use Rattle.pnm_read.proofs.Words.{◌≤◌, All, Words}
 use Rattle.pnm_read.proofs.RawSteps.{ReadingUnits}
 use Rattle.pnm_read.proofs.raw.read_words.Given as goal
 

@@ -1,6 +1,4 @@
-use Rattle.std.proofs.Common.{rules, ◌≡◌, List, [], ℕ, length, Some, None, Err, sym, ap}
-use Rattle.std.proofs.lemmas.Result.{err_from_is_err_and}
-use Rattle.pnm_read.specs.BufferedReaders.{held_of}
+use Rattle.pnm_read.proofs.Words.{rules, ◌≡◌, List, [], ℕ, length, Some, None, Err, sym, ap, err_from_is_err_and, held_of}
 use Rattle.pnm_read.proofs.ScanSteps.{scan_begins, scan_unread, scan_ends, scan_fails, scan_found, scan_goes_on, none_of_length, end_seen}
 use Rattle.pnm_read.proofs.scan.scan.Goals as goal
 
@@ -10,25 +8,24 @@ loop-input-init g c = scan_begins c.args.input.now c.args.scanner.now g.met.R.By
 pub returns-in_err-fill : goal.returns-in_err-fill
 returns-in_err-fill g c =
     let p = err_from_is_err_and c.from_residual.result c.from_residual.ensures.1 in
-    rw (p.1, p.2) (scan_unread (g.S.Scanner.is_whole c.loop-input.scanner) c.in_err-fill.field-0.0 g.met.R.BytesIn.same_later c.loop-input.invariant
-    c.in_err-fill.ensures.read_call)
+    rw (p.1, p.2) (scan_unread (g.S.Scanner.is_whole c.loop-input.scanner) g.met.R.BytesIn.same_later c.loop-input.invariant c.in_err-fill.ensures.read_call)
 
 pub returns-in-Some : goal.returns-in-Some
 returns-in-Some g c =
-    let none : held_of c.fill.new.self ≡ [] = none_of_length c.bytes-bytes.result.now (held_of c.fill.new.self) c.bytes-bytes.ensures (search rules) in
+    let none : held_of c.fill.new.self ≡ [] = none_of_length (held_of c.fill.new.self) c.bytes-bytes.ensures (search rules) in
     scan_ends g.S.Scanner.is_whole (Some c.in-Some.fault) g.met.R.BytesIn.same_later c.loop-input.invariant c.in_ok-fill.ensures.read_call none
     (end_seen c.fill.new.self c.in_ok-fill.ensures.enough none) c.in-Some.ensures.of_text c.in-Some.ensures.judged
 
 pub returns-in-None : goal.returns-in-None
 returns-in-None g c =
-    let none : held_of c.fill.new.self ≡ [] = none_of_length c.bytes-bytes.result.now (held_of c.fill.new.self) c.bytes-bytes.ensures (search rules) in
+    let none : held_of c.fill.new.self ≡ [] = none_of_length (held_of c.fill.new.self) c.bytes-bytes.ensures (search rules) in
     scan_ends g.S.Scanner.is_whole None g.met.R.BytesIn.same_later c.loop-input.invariant c.in_ok-fill.ensures.read_call none
     (end_seen c.fill.new.self c.in_ok-fill.ensures.enough none) c.in-None.ensures.of_text c.in-None.ensures.judged
 
 pub returns-in_err-taken : goal.returns-in_err-taken
 returns-in_err-taken g c =
     let p = err_from_is_err_and c.from_residual-in_err-taken.result c.from_residual-in_err-taken.ensures.1 in
-    rw (p.1, p.2) (scan_fails (g.S.Scanner.is_after c.feed.new.scanner) (g.S.Scanner.is_whole c.feed.new.scanner) c.in_err-taken.field-0.0
+    rw (p.1, p.2) (scan_fails (g.S.Scanner.is_after c.feed.new.scanner) (g.S.Scanner.is_whole c.feed.new.scanner)
     g.met.R.BytesIn.same_later c.loop-input.invariant c.in_ok-fill.ensures.read_call
     (λ e. c.in_err-taken.ensures.of_text (ap (λ k. Err k) e)) (rw (sym c.bytes-bytes.ensures) c.in_err-taken.ensures.fed))
 
@@ -43,8 +40,6 @@ returns-in-Some-2 g c =
 
 pub loop-input-preserved : goal.loop-input-preserved
 loop-input-preserved g c =
-    scan_goes_on (g.S.Scanner.is_whole c.feed.new.scanner) (length c.bytes-bytes.result.now) g.met.R.BytesIn.same_later c.loop-input.invariant
-    c.in_ok-fill.ensures.read_call
+    scan_goes_on (g.S.Scanner.is_whole c.feed.new.scanner) g.met.R.BytesIn.same_later c.loop-input.invariant c.in_ok-fill.ensures.read_call
     (rw (sym c.bytes-bytes.ensures) (rw c.in-None-2.is at c.in_ok-taken.ensures.fed)) c.in_ok-taken.ensures.same_items c.in_ok-taken.ensures.same_end
-    (ap (λ (l : List ℕ). length l) c.bytes-bytes.ensures)
-    c.advance-in-None-2.ensures.reader c.advance-in-None-2.ensures.ended c.advance-in-None-2.ensures.held
+    (ap (λ (l : List ℕ). length l) c.bytes-bytes.ensures) c.advance-in-None-2.ensures.reader c.advance-in-None-2.ensures.ended c.advance-in-None-2.ensures.held

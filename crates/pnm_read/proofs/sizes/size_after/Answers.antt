@@ -1,6 +1,4 @@
-use Rattle.std.proofs.Common.{ℕ, ◌+◌, ◌*◌, rules, ap, ◌∙◌}
-use Rattle.pnm_image.specs.declared.shape.Shape.{Shape}
-use Rattle.pnm_read.specs.Rasters.{bytes_in_row}
+use Rattle.pnm_read.proofs.Words.{ℕ, ◌+◌, ◌*◌, rules, ap, ◌∙◌, Shape, bytes_in_row}
 use Rattle.pnm_read.proofs.sizes.size_after.Goals as goal
 
 pub returns : goal.returns

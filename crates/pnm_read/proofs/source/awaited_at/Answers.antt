@@ -1,4 +1,4 @@
-use Rattle.std.proofs.Common.{refl, sym, arith, ◌∙◌}
+use Rattle.pnm_read.proofs.Words.{refl, sym, arith, ◌∙◌}
 use Rattle.pnm_read.proofs.AwaitedSteps.{plain_image_ends, raw_image_ends}
 use Rattle.pnm_read.proofs.source.awaited_at.Goals as goal
 

@@ -1,4 +1,4 @@
-use Rattle.std.proofs.Common.{sym, ◌∙◌}
+use Rattle.pnm_read.proofs.Words.{sym, ◌∙◌}
 use Rattle.pnm_read.proofs.source.read_rows.Goals as goal
 
 pub read_rows-requires-clause-plain : goal.read_rows-requires-clause-plain

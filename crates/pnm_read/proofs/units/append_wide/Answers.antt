@@ -1,8 +1,5 @@
-use Rattle.std.proofs.Common.{rules, ◌≡◌, ◌++◌, ℕ, List, arith, inr, refl, ap, ◌∙◌, map-id}
-use Rattle.std.proofs.lemmas.Result.{on_ok_weaker}
-use Rattle.std.proofs.lemmas.Iterator.{YieldsList-from_map}
-use Rattle.std.proofs.lemmas.Iterator.Adapters.{items_from_extend}
-use Rattle.pnm_read.specs.Rasters.{wide_samples}
+use Rattle.pnm_read.proofs.Words.{rules, ◌≡◌, ◌++◌, ℕ, List, arith, inr, refl, ap, ◌∙◌, map-id, on_ok_weaker, YieldsList-from_map, items_from_extend}
+use Rattle.pnm_read.proofs.Words.{wide_samples}
 use Rattle.pnm_read.proofs.RawPartLaws.{wide_samples_of_pairs, at_no_error, within_of_appended, refused_not_within}
 use Rattle.pnm_read.proofs.units.append_wide.Goals as goal
 
@@ -13,7 +10,7 @@ returns-then-not-are_words_within c =
     let items : c.extend.new.self.items ≡ c.args.row.now.items ++ wide_samples c.args.bytes.now =
     at_no_error _ c.extend.result (cc)
     (on_ok_weaker c.extend.result (λ h. h.0 ∙ ap (λ (l : List ℕ). c.args.row.now.items ++ l) (map-id (wide_samples c.args.bytes.now))) ran) in
-    let within = within_of_appended c.args.row.now.items (wide_samples c.args.bytes.now) c.deref.result.now c.len-before.result c.args.maxval
+    let within = within_of_appended c.args.row.now.items (wide_samples c.args.bytes.now) c.len-before.result c.args.maxval
     c.are_words_within.result (c.deref.ensures.value ∙ items) (omega arith) c.are_words_within.ensures in
     inr (refl, refused_not_within (wide_samples c.args.bytes.now) c.args.maxval c.are_words_within.result c.if-not-are_words_within.true within)
 
@@ -24,6 +21,6 @@ returns c =
     let items : c.extend.new.self.items ≡ c.args.row.now.items ++ wide_samples c.args.bytes.now =
     at_no_error _ c.extend.result (cc)
     (on_ok_weaker c.extend.result (λ h. h.0 ∙ ap (λ (l : List ℕ). c.args.row.now.items ++ l) (map-id (wide_samples c.args.bytes.now))) ran) in
-    let within = within_of_appended c.args.row.now.items (wide_samples c.args.bytes.now) c.deref.result.now c.len-before.result c.args.maxval
+    let within = within_of_appended c.args.row.now.items (wide_samples c.args.bytes.now) c.len-before.result c.args.maxval
     c.are_words_within.result (c.deref.ensures.value ∙ items) (omega arith) c.are_words_within.ensures in
     (items, within.0 cc)

@@ -1,17 +1,11 @@
-use Rattle.std.proofs.Common.{◌≡◌, ◌⊎◌, inl, inr, ◌*◌, ◌<◌, arith}
-use Rattle.pnm_image.specs.Heads.{head_value}
-use Rattle.pnm_tools.specs.declared.tool.Tool.TheVariants.{Enlarge}
-use Rattle.pnm_tools.specs.ToolLimits.{within_limits}
-use Rattle.pnm_tools.specs.Tools.{result_head}
-use Rattle.pnm_tools.proofs.HeadLaws.{head_so, fault_so}
+use Rattle.pnm_repeat_tools.proofs.Words.{◌≡◌, ◌⊎◌, inl, inr, ◌*◌, ◌<◌, arith, head_value, Enlarge, within_limits, result_head, head_so, fault_so, MAX_SIDE}
 use Rattle.pnm_repeat_tools.proofs.EnlargedHeadLaws.{enlarge_without_rows, enlarged_too_large, enlarged_head_made}
 use Rattle.pnm_repeat_tools.proofs.enlarge.enlarged_head.Goals as goal
 use Rattle.pnm_repeat_tools.proofs.enlarge.enlarged_head.Goals.{in_default-via-in-Some+in_default, in_default-via-in_default}
-use Rattle.pnm_image.specs.declared.limits.TheConstants.{MAX_SIDE}
 
 pub returns-then-shape-eq0-clause-refused : goal.returns-then-shape-eq0-clause-refused
 returns-then-shape-eq0-clause-refused c =
-    inl (enlarge_without_rows c.args.across c.args.down c.args.head.now c.shape-shape.result c.shape-shape.ensures.shape c.if-down-ne1.true c.if-shape-eq0.true)
+    inl (enlarge_without_rows c.args.across c.args.down c.args.head.now c.shape-shape.ensures.shape c.if-down-ne1.true c.if-shape-eq0.true)
 
 pub returns-in_default-clause-refused : goal.returns-in_default-clause-refused
 returns-in_default-clause-refused c =
@@ -20,12 +14,12 @@ returns-in_default-clause-refused c =
       | in_default-via-in-Some+in_default w ↦ inr (omega (arith, w.in_default.ensures'))
       | in_default-via-in_default w ↦ inl (omega (arith, rw w.in_default.is-0 at c.checked_mul.ensures))
     ] in
-    inl (enlarged_too_large c.args.across c.args.down c.args.head.now s c.shape-shape.ensures.shape c.else-down-ne1.either beyond)
+    inl (enlarged_too_large c.args.across c.args.down c.args.head.now c.shape-shape.ensures.shape c.else-down-ne1.either beyond)
 
 -- the head that is made is the one of the rule
 made : (c : goal.After-head_within_limits) → result_head (Enlarge c.args.across c.args.down) c.args.head.now
     ≡ within_limits (head_value (record c.shape-shape.result { width = c.in-Some-Some.width; height = c.in-Some-Some.height }) c.tuple_type.result.now)
-made c = enlarged_head_made c.args.across c.args.down c.args.head.now c.shape-shape.result c.in-Some-Some.width c.in-Some-Some.height c.tuple_type.result.now
+made c = enlarged_head_made c.args.across c.args.down c.args.head.now
     c.shape-shape.ensures.shape c.else-down-ne1.either c.in-Some-Some.ensures.1 c.in-Some-Some.ensures'.1 c.tuple_type.ensures
 
 pub returns-clause-made : goal.returns-clause-made

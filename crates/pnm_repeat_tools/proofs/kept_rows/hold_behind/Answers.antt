@@ -1,5 +1,4 @@
-use Rattle.std.proofs.Common.{◌++◌, ◌∙◌, List, ℕ, ap}
-use Rattle.pnm_image.specs.HeldRows.{row_lists}
+use Rattle.pnm_repeat_tools.proofs.Words.{◌++◌, ◌∙◌, List, ℕ, ap, row_lists}
 use Rattle.pnm_repeat_tools.proofs.KeptRowLaws.{known_on_err, words_behind}
 use Rattle.pnm_repeat_tools.proofs.kept_rows.hold_behind.Goals as goal
 
@@ -25,8 +24,7 @@ returns-clause-added c = λ count more_count each are more.
     let same = c.in_ok-append.ensures.same c.if-branch.false count each are in
     let first = c.as_slice-2.ensures.whole count each same.1 in
     let second = c.as_slice-3.ensures.whole more_count each more in
-    words_behind count more_count each c.in_ok-words.words.items c.in_ok-behind.behind.items c.extend_from_slice.new.self.items
-    (row_lists count each c.args.held.now) (row_lists more_count each c.args.more.now)
+    words_behind count more_count each c.in_ok-words.words.items c.in_ok-behind.behind.items
     (c.in_ok-words.ensures.whole count each first) (c.in_ok-behind.ensures.whole more_count each second)
     (c.in_ok-words.ensures.rows count each first ∙ c.as_slice-2.ensures.lists count each ∙ same.0)
     (c.in_ok-behind.ensures.rows more_count each second ∙ c.as_slice-3.ensures.lists more_count each)

@@ -1,5 +1,4 @@
-use Rattle.std.proofs.Common.{◌≡◌}
-use Rattle.pnm_repeat_tools.specs.Internal.Keeping.{fronts_in}
+use Rattle.pnm_repeat_tools.proofs.Words.{◌≡◌, fronts_in}
 use Rattle.pnm_repeat_tools.proofs.kept_rows.slice_fronts.Given as goal
 
 -- the fronts of the rows that have passed

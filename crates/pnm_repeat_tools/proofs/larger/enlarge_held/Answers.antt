@@ -1,11 +1,5 @@
-use Rattle.std.proofs.Common.{◌≡◌, ◌≤◌, ◌*◌, ℕ, length, map, replicate, ap, sym, subst, arith}
-use Rattle.std.specs.List.{flat_map}
-use Rattle.std.proofs.lemmas.Result.{IfOk-weaker}
-use Rattle.pnm_image.specs.Heads.{row_length}
-use Rattle.pnm_image.specs.HeldRows.{AreRows, AreSliceRows, HoldsRows, slice_lists}
-use Rattle.pnm_image.specs.declared.rows.RowVec.{RowVec}
-use Rattle.pnm_image.proofs.RowLaws.{rows_need}
-use Rattle.pnm_tools.specs.Enlarge.{enlarged_row}
+use Rattle.pnm_repeat_tools.proofs.Words.{◌≡◌, ◌≤◌, ◌*◌, ℕ, length, map, replicate, ap, sym, subst, arith, flat_map, IfOk-weaker, row_length, AreRows}
+use Rattle.pnm_repeat_tools.proofs.Words.{AreSliceRows, HoldsRows, slice_lists, RowVec, rows_need, enlarged_row}
 use Rattle.pnm_repeat_tools.proofs.CutRowsLaws.{lengths_of}
 use Rattle.pnm_repeat_tools.proofs.WideRowLaws.{only_repeated, only_widened, widened_repeated}
 use Rattle.pnm_repeat_tools.proofs.larger.enlarge_held.Goals as goal
@@ -23,9 +17,8 @@ returns-then-across-eq1-clause-made c =
     let Q : RowVec → Type 0 = λ made. HoldsRows (length rows * down) (row_length s * across)
     (flat_map (replicate down) (map (enlarged_row across s) rows)) made in
     IfOk-weaker c.repeat_rows.result P Q
-    (λ made h. only_repeated across down count each s rows c.as_slice.result made c.if-across-eq1.true c.count-count.ensures.rows need.0 c.requires.rows
-    (c.as_slice.ensures.rows each c.row_length-each.ensures.each) h)
-    c.repeat_rows.ensures.made
+    (λ made h. only_repeated down s c.as_slice.result made c.if-across-eq1.true c.count-count.ensures.rows need.0 c.requires.rows
+    (c.as_slice.ensures.rows each c.row_length-each.ensures.each) h) c.repeat_rows.ensures.made
 
 pub widen_rows-requires-clause-rows : goal.widen_rows-requires-clause-rows
 widen_rows-requires-clause-rows c =
@@ -43,8 +36,7 @@ returns-then-down-eq1-clause-made c =
     let each = c.row_length-each.result in
     let need = rows_need s each rows c.row_length-each.ensures.some c.row_length-each.ensures.each c.requires.rows in
     let lists = c.as_slice-2.ensures.rows (row_length s) (lengths_of s rows c.requires.rows) in
-    only_widened c.args.across c.args.down c.count-count.result s rows c.as_slice-2.result c.in_ok-wide.wide c.if-down-eq1.true c.count-count.ensures.rows lists
-    c.in_ok-wide.ensures.made
+    only_widened c.args.across s c.as_slice-2.result c.in_ok-wide.wide c.if-down-eq1.true c.count-count.ensures.rows lists c.in_ok-wide.ensures.made
 
 pub overflow_mul-each : goal.overflow_mul-each
 overflow_mul-each c =
@@ -76,6 +68,5 @@ returns-clause-made c =
     let Q : RowVec → Type 0 = λ made. HoldsRows (length rows * down) (row_length s * across)
     (flat_map (replicate down) (map (enlarged_row across s) rows)) made in
     IfOk-weaker c.repeat_rows-2.result P Q
-    (λ made h. widened_repeated across down count each s rows c.as_slice-2.result c.as_slice-3.result c.in_ok-wide.wide made c.count-count.ensures.rows need.0
-    lists c.in_ok-wide.ensures.made (c.as_slice-3.ensures.lists count (each * across)) h)
-    c.repeat_rows-2.ensures.made
+    (λ made h. widened_repeated across down s c.as_slice-2.result c.as_slice-3.result c.in_ok-wide.wide made c.count-count.ensures.rows need.0
+    lists c.in_ok-wide.ensures.made (c.as_slice-3.ensures.lists count (each * across)) h) c.repeat_rows-2.ensures.made

@@ -1,11 +1,6 @@
-use Rattle.std.proofs.Common.{◌≡◌, ◌*◌, ◌∙◌, ap, sym, subst, refl, map, List, ℕ, length}
+use Rattle.pnm_repeat_tools.proofs.Words.{◌≡◌, ◌*◌, ◌∙◌, ap, sym, subst, refl, map, List, ℕ, length, recursion_from_All, row_length, RowSlice, Shape}
+use Rattle.pnm_repeat_tools.proofs.Words.{AreSliceRows, slice_lists, enlarged_row}
 use Rattle.pnm_repeat_tools.proofs.EnlargedRowsLaws.{length_together}
-use Rattle.std.proofs.lemmas.List.Elements.{recursion_from_All}
-use Rattle.pnm_image.specs.Heads.{row_length}
-use Rattle.pnm_image.specs.declared.rows.RowSlice.{RowSlice}
-use Rattle.pnm_image.specs.declared.shape.Shape.{Shape}
-use Rattle.pnm_image.specs.HeldRows.{AreSliceRows, slice_lists}
-use Rattle.pnm_tools.specs.Enlarge.{enlarged_row}
 use Rattle.pnm_repeat_tools.proofs.WideRowLaws.{long_row, widened_bits, widened_planes, widened_samples}
 use Rattle.pnm_repeat_tools.proofs.larger.widen_rows.Goals as goal
 
@@ -23,7 +18,7 @@ pub returns-in_ok-bits-in-Bits-clause-made : goal.returns-in_ok-bits-in-Bits-cla
 returns-in_ok-bits-in-Bits-clause-made c =
     let s = c.args.shape in
     let are = subst (AreSliceRows c.args.count (row_length s)) c.in-Bits.is c.requires.rows in
-    let made = widened_bits c.args.across c.args.count s c.in-Bits.bits.now c.in_ok-bits-in-Bits.bits c.if-shape-eq1.true are c.in_ok-bits-in-Bits.ensures in
+    let made = widened_bits c.args.across s c.in-Bits.bits.now c.if-shape-eq1.true are c.in_ok-bits-in-Bits.ensures in
     (made.0 ∙ ap (λ (lent : RowSlice). map (enlarged_row c.args.across s) (slice_lists c.args.count (row_length s) lent)) (sym c.in-Bits.is), made.1)
 
 pub returns-in_ok-bytes-in-Bits-2-clause-made : goal.returns-in_ok-bytes-in-Bits-2-clause-made
@@ -31,7 +26,7 @@ returns-in_ok-bytes-in-Bits-2-clause-made c =
     let s = c.args.shape in
     let long : Shape = record s { width = s.width * c.args.count } in
     let are = subst (AreSliceRows c.args.count (row_length s)) c.in-Bits-2.is c.requires.rows in
-    let made = widened_planes c.args.across c.args.count s long c.in-Bits-2.bits.now c.as_slice.result.now c.in_ok-bytes-in-Bits-2.bytes.items are
+    let made = widened_planes c.args.across s long c.in-Bits-2.bits.now are
     (c.as_slice.ensures.value ∙ c.in_ok-unpacked-in-Bits-2.ensures) refl refl c.in_ok-bytes-in-Bits-2.ensures.made in
     (made.0 ∙ ap (λ (lent : RowSlice). map (enlarged_row c.args.across s) (slice_lists c.args.count (row_length s) lent)) (sym c.in-Bits-2.is), made.1)
 
@@ -40,8 +35,7 @@ returns-in_ok-bytes-in-Bytes-clause-made c =
     let s = c.args.shape in
     let long : Shape = record s { width = s.width * c.args.count } in
     let size = subst (AreSliceRows c.args.count (row_length s)) c.in-Bytes.is c.requires.rows in
-    let made = widened_samples c.args.across c.args.count s long c.in-Bytes.bytes.now c.in_ok-bytes-in-Bytes.bytes.items size refl refl
-    c.in_ok-bytes-in-Bytes.ensures.made in
+    let made = widened_samples c.args.across c.args.count s long c.in-Bytes.bytes.now size refl refl c.in_ok-bytes-in-Bytes.ensures.made in
     (made.0 ∙ ap (λ (lent : RowSlice). map (enlarged_row c.args.across s) (slice_lists c.args.count (row_length s) lent)) (sym c.in-Bytes.is), made.1)
 
 pub returns-in_ok-words-in-Words-clause-made : goal.returns-in_ok-words-in-Words-clause-made
@@ -49,6 +43,5 @@ returns-in_ok-words-in-Words-clause-made c =
     let s = c.args.shape in
     let long : Shape = record s { width = s.width * c.args.count } in
     let size = subst (AreSliceRows c.args.count (row_length s)) c.in-Words.is c.requires.rows in
-    let made = widened_samples c.args.across c.args.count s long c.in-Words.words.now c.in_ok-words-in-Words.words.items size refl refl
-    c.in_ok-words-in-Words.ensures.made in
+    let made = widened_samples c.args.across c.args.count s long c.in-Words.words.now size refl refl c.in_ok-words-in-Words.ensures.made in
     (made.0 ∙ ap (λ (lent : RowSlice). map (enlarged_row c.args.across s) (slice_lists c.args.count (row_length s) lent)) (sym c.in-Words.is), made.1)

@@ -1,7 +1,5 @@
-use Rattle.std.proofs.Common.{◌≡◌, ◌≤◌, ◌+◌, ◌-◌, ◌*◌, ◌/◌, ℕ, length, take, refl, subst, ap, ◌∙◌, arith, sym}
-use borrow.Rule.Slice.PartMut.{same_len_mid, mid_len}
+use Rattle.pnm_repeat_tools.proofs.Words.{◌≡◌, ◌≤◌, ◌+◌, ◌-◌, ◌*◌, ◌/◌, ℕ, length, take, refl, subst, ap, ◌∙◌, arith, sym, same_len_mid, mid_len, take_all}
 use Rattle.pnm_repeat_tools.proofs.EnlargeRowLaws.{columns_repeated, four_more, color_doubled}
-use Rattle.std.proofs.lemmas.List.{take_all}
 use Rattle.pnm_repeat_tools.proofs.repeat.double_colors.Goals as goal
 
 pub loop-x-preserved : goal.loop-x-preserved
@@ -12,7 +10,7 @@ loop-x-preserved g c =
     let long : length c.args.row.now ≡ c.args.shape.width * 3 = c.requires.row ∙ ap (λ (n : ℕ). c.args.shape.width * n) c.requires.depth in
     let fits : 24 * x + 24 ≤ length buffer = omega (arith, c.loop-x.invariant.1) in
     let same : length part ≡ 24 = omega (arith, c.double_four_colors.auto.buffer, mid_len (24 * x) (24 * x + 24) buffer fits) in (
-      four_more c.args.row.now buffer part x _ _ c.loop-x.invariant.0 fits (omega arith) same c.double_four_colors.ensures,
+      four_more c.args.row.now buffer x _ _ c.loop-x.invariant.0 fits (omega arith) same c.double_four_colors.ensures,
       same_len_mid (24 * x) (24 * x + 24 - 24 * x) buffer part (omega (arith, same, mid_len (24 * x) (24 * x + 24) buffer fits)) ∙ c.loop-x.invariant.1,
     )
 
@@ -40,7 +38,7 @@ loop-x-2-preserved g c =
     let next : 6 * (x + 1) ≡ 6 * x + 6 = omega arith in
     record {
       prefix = ap (λ (n : ℕ). take n c.put_twice.new.buffer) next
-          ∙ color_doubled c.args.row.now c.loop-x-2.buffer c.put_twice.new.buffer _ x (6 * x) (3 * x) c.loop-x-2.invariant.prefix c.put_twice.ensures.stored
+          ∙ color_doubled c.args.row.now c.loop-x-2.buffer c.put_twice.new.buffer x (6 * x) c.loop-x-2.invariant.prefix c.put_twice.ensures.stored
           c.color_at.ensures refl;
       size = c.put_twice.ensures.long ∙ c.loop-x-2.invariant.size;
     }

@@ -1,10 +1,9 @@
-use Rattle.std.proofs.Common.{arith}
+use Rattle.pnm_repeat_tools.proofs.Words.{arith, common_steps}
 use Rattle.pnm_repeat_tools.proofs.EnlargeRowLaws.{doubled_more}
-use Rattle.std.proofs.lemmas.Grind.{common_steps}
 use Rattle.pnm_repeat_tools.proofs.repeat.double_samples.Goals as goal
 
 pub loop-i-preserved : goal.loop-i-preserved
-loop-i-preserved g c = doubled_more c.args.row.now c.loop-i.buffer c.loop-i.i _ _ c.index-row-i.result c.loop-i.invariant c.loop-i-test.true (omega arith)
+loop-i-preserved g c = doubled_more c.args.row.now c.loop-i.buffer c.loop-i.i _ _ c.loop-i.invariant c.loop-i-test.true (omega arith)
     (omega arith) (omega arith) c.index-row-i.is
 
 pub offset_bounds-buffer-i : goal.offset_bounds-buffer-i

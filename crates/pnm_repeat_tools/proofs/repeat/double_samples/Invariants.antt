@@ -1,4 +1,4 @@
-use Rattle.std.proofs.Common.{◌≡◌, ◌*◌, take}
+use Rattle.pnm_repeat_tools.proofs.Words.{◌≡◌, ◌*◌, take}
 use Rattle.pnm_repeat_tools.proofs.EnlargeRowLaws.{columns_repeated}
 use Rattle.pnm_repeat_tools.proofs.repeat.double_samples.Given as goal
 

@@ -1,4 +1,4 @@
-use Rattle.std.proofs.Common.{◌+◌, ◌*◌, ◌∷◌, [], take, refl, ◌∙◌, arith}
+use Rattle.pnm_repeat_tools.proofs.Words.{◌+◌, ◌*◌, ◌∷◌, [], take, refl, ◌∙◌, arith}
 use Rattle.pnm_repeat_tools.proofs.CopyLaws.{colors_more, colors_stored}
 use Rattle.pnm_repeat_tools.proofs.repeat.put_colors.Goals as goal
 
@@ -8,7 +8,7 @@ loop-stored-preserved-then-buffer-place-ge15 g c =
     record {
       within = omega (arith, c.store.auto.buffer);
       size = c.store.auto.buffer ∙ c.loop-stored.invariant.size;
-      prefix = colors_more c.loop-stored.buffer c.store.new.buffer (take c.args.at c.args.buffer.now) _ (c.args.color.0 ∷ c.args.color.1 ∷ c.args.color.2 ∷ [])
+      prefix = colors_more c.loop-stored.buffer c.store.new.buffer (take c.args.at c.args.buffer.now) (c.args.color.0 ∷ c.args.color.1 ∷ c.args.color.2 ∷ [])
           (c.args.at + 3 * stored) stored 5 (c.args.at + 3 * (stored + 5)) c.loop-stored.invariant.prefix c.store.ensures refl (omega arith);
     }
 
@@ -18,7 +18,7 @@ loop-stored-preserved g c =
     record {
       within = omega (arith, c.store-else-buffer-place-ge15.auto.buffer);
       size = c.store-else-buffer-place-ge15.auto.buffer ∙ c.loop-stored.invariant.size;
-      prefix = colors_more c.loop-stored.buffer c.store-else-buffer-place-ge15.new.buffer (take c.args.at c.args.buffer.now) _
+      prefix = colors_more c.loop-stored.buffer c.store-else-buffer-place-ge15.new.buffer (take c.args.at c.args.buffer.now)
           (c.args.color.0 ∷ c.args.color.1 ∷ c.args.color.2 ∷ []) (c.args.at + 3 * stored) stored 1 (c.args.at + 3 * (stored + 1))
           c.loop-stored.invariant.prefix c.store-else-buffer-place-ge15.ensures refl (omega arith);
     }

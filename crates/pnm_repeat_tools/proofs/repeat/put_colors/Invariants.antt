@@ -1,5 +1,4 @@
-use Rattle.std.proofs.Common.{◌≡◌, ◌≤◌, ◌+◌, ◌-◌, ◌*◌, ◌++◌, ◌∷◌, [], length, take}
-use Rattle.pnm_tools.specs.Enlarge.{copies_of}
+use Rattle.pnm_repeat_tools.proofs.Words.{◌≡◌, ◌≤◌, ◌+◌, ◌-◌, ◌*◌, ◌++◌, ◌∷◌, [], length, take, copies_of}
 use Rattle.pnm_repeat_tools.proofs.repeat.put_colors.Given as goal
 
 -- the samples stand so many times from the first place on

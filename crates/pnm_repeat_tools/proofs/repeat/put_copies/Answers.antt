@@ -1,7 +1,4 @@
-use Rattle.std.proofs.Common.{◌≡◌, ◌≤◌, ◌+◌, ◌-◌, ◌++◌, ℕ, sym, length, replicate, take, ap, ◌∙◌, arith}
-use borrow.Rule.Slice.PartMut.{put_mid}
-use Rattle.std.proofs.Math.ListN.{length-set}
-use Rattle.std.proofs.lemmas.List.{length-replicate}
+use Rattle.pnm_repeat_tools.proofs.Words.{◌≡◌, ◌≤◌, ◌+◌, ◌-◌, ◌++◌, ℕ, sym, length, replicate, take, ap, ◌∙◌, arith, put_mid, length-set, length-replicate}
 use Rattle.pnm_repeat_tools.proofs.CopyLaws.{length_with, copies_more, copies_stored, copy_more}
 use Rattle.pnm_repeat_tools.proofs.repeat.put_copies.Goals as goal
 
@@ -18,12 +15,12 @@ loop-place-preserved-then-buffer-place-ge16 g c =
     let more : (place - at) + ((place + 16) - place) ≡ (place + 16) - at = omega (arith, c.loop-place.invariant.begun) in
     let are : copies ≡ replicate ((place + 16) - place) v = c.copy_from_slice.ensures.after ∙ ap (λ (n : ℕ). replicate n v) (sym count) in
     let size : length copies ≡ (place + 16) - place = ap length are ∙ length-replicate ((place + 16) - place) v in
-    let long : length (put_mid place ((place + 16) - place) buffer copies) ≡ length buffer = length_with buffer copies place ((place + 16) - place) size fits in
+    let long : length (put_mid place ((place + 16) - place) buffer copies) ≡ length buffer = length_with buffer copies place size fits in
     record {
       begun = omega (arith, c.loop-place.invariant.begun);
       within = omega (arith, long, fits);
       size = long ∙ c.loop-place.invariant.size;
-      prefix = copies_more buffer (take at c.args.buffer.now) copies place (place - at) ((place + 16) - place) (place + 16) v c.loop-place.invariant.prefix are
+      prefix = copies_more buffer (take at c.args.buffer.now) place (place - at) ((place + 16) - place) v c.loop-place.invariant.prefix are
           c.loop-place.invariant.within next ∙ ap (λ (n : ℕ). take at c.args.buffer.now ++ replicate n v) more;
     }
 

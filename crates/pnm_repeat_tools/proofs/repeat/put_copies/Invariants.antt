@@ -1,4 +1,4 @@
-use Rattle.std.proofs.Common.{◌≡◌, ◌≤◌, ◌-◌, ◌++◌, length, replicate, take}
+use Rattle.pnm_repeat_tools.proofs.Words.{◌≡◌, ◌≤◌, ◌-◌, ◌++◌, length, replicate, take}
 use Rattle.pnm_repeat_tools.proofs.repeat.put_copies.Given as goal
 
 -- the sample stands from the first place on

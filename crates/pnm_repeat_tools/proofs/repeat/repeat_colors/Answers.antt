@@ -1,4 +1,4 @@
-use Rattle.std.proofs.Common.{◌≡◌, ◌≤◌, ◌+◌, ◌*◌, ◌∙◌, length, ap, arith, ℕ, mul-le-mul, refl}
+use Rattle.pnm_repeat_tools.proofs.Words.{◌≡◌, ◌≤◌, ◌+◌, ◌*◌, ◌∙◌, length, ap, arith, ℕ, mul-le-mul, refl}
 use Rattle.pnm_repeat_tools.proofs.CopyLaws.{color_repeated}
 use Rattle.pnm_repeat_tools.proofs.repeat.repeat_colors.Goals as goal
 
@@ -16,7 +16,7 @@ put_colors-requires g c =
 pub loop-x-preserved : goal.loop-x-preserved
 loop-x-preserved g c =
     record {
-      prefix = color_repeated c.args.across c.loop-x.x (3 * c.loop-x.x) c.args.row.now c.loop-x.buffer c.put_colors.new.buffer _ c.loop-x.invariant.prefix
+      prefix = color_repeated c.args.across c.loop-x.x c.args.row.now c.loop-x.buffer c.put_colors.new.buffer c.loop-x.invariant.prefix
           c.color_at.ensures refl c.put_colors.ensures.stored;
       size = c.put_colors.ensures.long ∙ c.loop-x.invariant.size;
     }

@@ -1,4 +1,4 @@
-use Rattle.std.proofs.Common.{◌≡◌, ◌*◌, length, take}
+use Rattle.pnm_repeat_tools.proofs.Words.{◌≡◌, ◌*◌, length, take}
 use Rattle.pnm_repeat_tools.proofs.EnlargeRowLaws.{columns_repeated}
 use Rattle.pnm_repeat_tools.proofs.repeat.repeat_colors.Given as goal
 

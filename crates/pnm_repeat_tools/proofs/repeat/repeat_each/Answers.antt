@@ -1,9 +1,6 @@
-use Rattle.std.proofs.Common.{◌≡◌, ◌+◌, length, arith, ℕ, ◌*◌, ◌≤◌, refl, sym, ap, ◌∙◌}
-use Rattle.std.proofs.Math.ListN.{length-set}
+use Rattle.pnm_repeat_tools.proofs.Words.{◌≡◌, ◌+◌, length, arith, ℕ, ◌*◌, ◌≤◌, refl, sym, ap, ◌∙◌, length-set, columns_end, append-nil, take_all}
 use Rattle.pnm_repeat_tools.proofs.EnlargeRowLaws.{place_there, none_stored, pixel_there, sample_more, pixel_stored, pixel_more, column_more, next_place}
 use Rattle.pnm_repeat_tools.proofs.EnlargeRowLaws.{columns_repeated}
-use Rattle.pnm_tools.proofs.PickLaws.{columns_end}
-use Rattle.std.proofs.lemmas.List.{append-nil, take_all}
 use Rattle.pnm_repeat_tools.proofs.repeat.repeat_each.Goals as goal
 
 pub loop-p-init : goal.loop-p-init
@@ -11,7 +8,7 @@ loop-p-init g c =
     let s = c.args.shape in
     record {
       prefix = none_stored c.loop.buffer c.args.row.now c.loop.at;
-      within = place_there s.width c.args.across s.depth c.loop-x.x c.loop.counter c.loop.at c.loop-x.at (length c.args.row.now) _ c.loop-x-test.true
+      within = place_there s.width c.args.across s.depth c.loop-x.x c.loop.counter _ c.loop-x-test.true
           c.loop-test.true c.loop.invariant.place c.loop-x.invariant.place c.requires.row (omega arith);
     }
 
@@ -19,7 +16,7 @@ pub loop-p-preserved : goal.loop-p-preserved
 loop-p-preserved g c =
     let s = c.args.shape in
     record {
-      prefix = sample_more _ _ c.loop-p.buffer c.loop.at c.loop-p.p c.index-pixel-p.result c.loop-p.invariant.prefix (omega arith)
+      prefix = sample_more _ _ c.loop-p.buffer c.loop.at c.loop-p.p c.loop-p.invariant.prefix (omega arith)
           (pixel_there c.args.row.now s.width s.depth c.loop-x.x _ _ c.loop-p.p c.requires.row c.loop-x-test.true (omega arith) (omega arith)
           c.loop-p-test.true) c.index-pixel-p.is;
       within = omega (arith, length-set c.loop-p.buffer (c.loop.at + c.loop-p.p) c.index-pixel-p.result);
@@ -29,8 +26,7 @@ pub loop-preserved : goal.loop-preserved
 loop-preserved g c =
     let all : c.loop-p.p ≡ c.args.shape.depth = omega arith in
     record {
-      prefix = pixel_more _ _ _ _ c.loop.counter c.loop.invariant.prefix
-          (pixel_stored _ c.loop-p.buffer _ c.loop.at c.loop-p.p _ c.args.shape.depth c.loop-p.invariant.prefix all (omega arith));
+      prefix = pixel_more _ _ c.loop.counter c.loop.invariant.prefix (pixel_stored _ c.loop-p.buffer _ c.loop.at _ c.loop-p.invariant.prefix all (omega arith));
       place = omega arith;
     }
 
@@ -39,9 +35,8 @@ loop-x-preserved g c =
     let s = c.args.shape in
     let all : c.loop.counter ≡ c.args.across = omega arith in
     record {
-      prefix = column_more c.args.across s.depth c.args.row.now _ _ c.loop-x.x c.loop.counter _ _ c.loop-x.invariant.prefix c.loop.invariant.prefix all
-          (omega arith) (omega arith);
-      place = next_place c.args.across s.depth c.loop-x.x c.loop.counter c.loop.at c.loop-x.at c.loop.invariant.place c.loop-x.invariant.place all;
+      prefix = column_more s.depth c.args.row.now c.loop-x.x _ _ c.loop-x.invariant.prefix c.loop.invariant.prefix all (omega arith) (omega arith);
+      place = next_place s.depth c.loop-x.x c.loop.invariant.place c.loop-x.invariant.place all;
     }
 
 pub overflow_mul-pixel : goal.overflow_mul-pixel

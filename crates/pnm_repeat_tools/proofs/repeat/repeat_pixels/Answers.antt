@@ -1,5 +1,4 @@
-use Rattle.std.proofs.Common.{◌≡◌, ◌∙◌, length, drop, ap, sym, arith}
-use Rattle.std.proofs.lemmas.List.{take_at}
+use Rattle.pnm_repeat_tools.proofs.Words.{◌≡◌, ◌∙◌, length, drop, ap, sym, arith, take_at}
 use Rattle.pnm_repeat_tools.proofs.repeat.repeat_pixels.Goals as goal
 
 pub repeat_into-requires-clause-buffer : goal.repeat_into-requires-clause-buffer

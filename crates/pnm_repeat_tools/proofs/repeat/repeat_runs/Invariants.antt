@@ -1,6 +1,5 @@
-use Rattle.std.proofs.Common.{◌≡◌, ◌++◌}
+use Rattle.pnm_repeat_tools.proofs.Words.{◌≡◌, ◌++◌, copies_of}
 use Rattle.pnm_repeat_tools.proofs.EnlargeRowLaws.{columns_repeated}
-use Rattle.pnm_tools.specs.Enlarge.{copies_of}
 use Rattle.pnm_repeat_tools.proofs.repeat.repeat_runs.Given as goal
 
 -- the runs that have passed were repeated

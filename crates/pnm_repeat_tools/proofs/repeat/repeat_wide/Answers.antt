@@ -1,7 +1,5 @@
-use Rattle.std.proofs.Common.{◌≡◌, length, arith, ℕ, ◌*◌, ◌≤◌, refl, sym, ap, ◌∙◌}
+use Rattle.pnm_repeat_tools.proofs.Words.{◌≡◌, length, arith, ℕ, ◌*◌, ◌≤◌, refl, sym, ap, ◌∙◌, columns_end, append-nil, take_all}
 use Rattle.pnm_repeat_tools.proofs.EnlargeRowLaws.{columns_repeated, column_more, next_place, wide_more, wide_there}
-use Rattle.pnm_tools.proofs.PickLaws.{columns_end}
-use Rattle.std.proofs.lemmas.List.{append-nil, take_all}
 use Rattle.pnm_repeat_tools.proofs.repeat.repeat_wide.Goals as goal
 
 pub loop-x-init : goal.loop-x-init
@@ -13,7 +11,7 @@ loop-init g c = record { prefix = sym (append-nil _); place = omega arith; size 
 pub store-requires : goal.store-requires
 store-requires g c =
     let s = c.args.shape in
-    wide_there c.args.row.now s.width c.args.across s.depth c.loop-x.x c.loop.counter _ _ c.loop.at c.loop-x.at (length c.args.row.now) _
+    wide_there c.args.row.now s.width c.args.across s.depth c.loop-x.x c.loop.counter _ _
     c.loop-x-test.true c.loop-test.true c.loop.invariant.place c.loop-x.invariant.place c.requires.row
     (c.loop.invariant.size ∙ c.loop-x.invariant.size) c.requires.row (omega arith) (omega arith)
 
@@ -32,9 +30,8 @@ loop-x-preserved g c =
     let s = c.args.shape in
     let all : c.loop.counter ≡ c.args.across = omega arith in
     record {
-      prefix = column_more c.args.across s.depth c.args.row.now _ _ c.loop-x.x c.loop.counter _ _ c.loop-x.invariant.prefix c.loop.invariant.prefix all
-          (omega arith) (omega arith);
-      place = next_place c.args.across s.depth c.loop-x.x c.loop.counter c.loop.at c.loop-x.at c.loop.invariant.place c.loop-x.invariant.place all;
+      prefix = column_more s.depth c.args.row.now c.loop-x.x _ _ c.loop-x.invariant.prefix c.loop.invariant.prefix all (omega arith) (omega arith);
+      place = next_place s.depth c.loop-x.x c.loop.invariant.place c.loop-x.invariant.place all;
       size = c.loop.invariant.size ∙ c.loop-x.invariant.size;
     }
 

@@ -1,6 +1,5 @@
-use Rattle.std.proofs.Common.{◌≡◌, ◌+◌, ◌*◌, ◌++◌, length, take}
+use Rattle.pnm_repeat_tools.proofs.Words.{◌≡◌, ◌+◌, ◌*◌, ◌++◌, length, take, copies_of}
 use Rattle.pnm_repeat_tools.proofs.EnlargeRowLaws.{columns_repeated}
-use Rattle.pnm_tools.specs.Enlarge.{copies_of}
 use Rattle.pnm_repeat_tools.proofs.repeat.repeat_wide.Given as goal
 
 -- the columns that have passed were repeated

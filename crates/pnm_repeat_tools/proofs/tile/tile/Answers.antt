@@ -1,8 +1,4 @@
-use Rattle.std.proofs.Common.{◌*◌, ◌%◌, ◌<◌, ◌++◌, ap, ◌∙◌, arith}
-use Rattle.std.proofs.Math.Nat.{mod-lt}
-use Rattle.pnm_image.proofs.RowLaws.{row_ends_within}
-use Rattle.pnm_repeat_tools.specs.Internal.Keeping.{row_of_samples}
-use Rattle.pnm_tools.specs.Tile.{tiled_row}
+use Rattle.pnm_repeat_tools.proofs.Words.{◌*◌, ◌%◌, ◌<◌, ◌++◌, ap, ◌∙◌, arith, mod-lt, row_ends_within, row_of_samples, tiled_row}
 use Rattle.pnm_repeat_tools.proofs.TileRowsLaws.{piece_more, row_of_slice}
 use Rattle.pnm_repeat_tools.proofs.tile.tile.Goals as goal
 
@@ -17,6 +13,5 @@ loop-at-preserved g c =
     let s = c.args.shape in
     let each = s.width * s.depth in
     let row = row_of_slice c.args.samples.now (c.loop-at.at % c.args.kept) each in
-    piece_more (row_of_samples c.args.width s.width s.depth c.args.kept c.args.samples.now) c.args.y c.loop-at.at c.loop-at.tiled.items
-    c.tile_row.new.tiled.items (omega arith) c.loop-at.invariant
+    piece_more (row_of_samples c.args.width s.width s.depth c.args.kept c.args.samples.now) c.args.y c.loop-at.at (omega arith) c.loop-at.invariant
     (c.in_ok-tile_row.ensures.made ∙ ap (λ l. c.loop-at.tiled.items ++ tiled_row c.args.width s.width s.depth l) row)

@@ -1,6 +1,4 @@
-use Rattle.std.proofs.Common.{◌≡◌, ◌-◌}
-use Rattle.std.specs.List.{flat_map, range_with_len}
-use Rattle.pnm_repeat_tools.specs.Internal.Keeping.{row_of_samples}
+use Rattle.pnm_repeat_tools.proofs.Words.{◌≡◌, ◌-◌, flat_map, range_with_len, row_of_samples}
 use Rattle.pnm_repeat_tools.proofs.tile.tile.Given as goal
 
 -- the rows that have passed are tiled

@@ -1,6 +1,4 @@
-use Rattle.std.proofs.Common.{◌≡◌, ◌*◌, ◌++◌, take}
-use Rattle.pnm_samples.specs.Pixels.{all_pixels}
-use Rattle.pnm_tools.specs.Tile.{tiled_row}
+use Rattle.pnm_repeat_tools.proofs.Words.{◌≡◌, ◌*◌, ◌++◌, take, all_pixels, tiled_row}
 use Rattle.pnm_repeat_tools.proofs.tile.tile_bit_row.Given as goal
 
 -- so many whole rows stand behind what stood

@@ -1,5 +1,4 @@
-use Rattle.std.proofs.Common.{◌≡◌, ◌∙◌, ◌*◌, ℕ, ap, arith}
-use Rattle.pnm_samples.specs.PixelRows.{bytes_for}
+use Rattle.pnm_repeat_tools.proofs.Words.{◌≡◌, ◌∙◌, ◌*◌, ℕ, ap, arith, bytes_for}
 use Rattle.pnm_repeat_tools.proofs.TileBitLaws.{rows_of_tiled_bytes, bytes_of_each, length_of_tiled_bytes}
 use Rattle.pnm_repeat_tools.proofs.tile.tile_bytes.Goals as goal
 

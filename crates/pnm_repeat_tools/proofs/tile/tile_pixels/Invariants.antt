@@ -1,7 +1,4 @@
-use Rattle.std.proofs.Common.{◌≡◌, ◌-◌, ◌*◌, length, map}
-use Rattle.std.specs.List.{range_with_len}
-use Rattle.pnm_samples.specs.PixelRows.{bytes_for, rows_of_bytes}
-use Rattle.pnm_repeat_tools.specs.Keeping.{row_of_tiles}
+use Rattle.pnm_repeat_tools.proofs.Words.{◌≡◌, ◌-◌, ◌*◌, length, map, range_with_len, bytes_for, rows_of_bytes, row_of_tiles}
 use Rattle.pnm_repeat_tools.proofs.tile.tile_pixels.Given as goal
 
 -- the rows that have passed are tiled

@@ -1,5 +1,5 @@
-use Rattle.std.proofs.Common.{rules, ◌≡◌, ◌-◌, ◌*◌, ◌<◌, ◌≤◌, ◌++◌, length, take, drop, min, ap, sym, ◌∙◌, arith}
-use Rattle.std.proofs.lemmas.List.{append_assoc, drop_at, length-append, length-drop}
+use Rattle.pnm_repeat_tools.proofs.Words.{rules, ◌≡◌, ◌-◌, ◌*◌, ◌<◌, ◌≤◌, ◌++◌, length, take, drop, min, ap, sym, ◌∙◌, arith, append_assoc, drop_at}
+use Rattle.pnm_repeat_tools.proofs.Words.{length-append, length-drop}
 use Rattle.pnm_repeat_tools.proofs.TileRowLaws.{prefix_begins, prefix_grows, prefix_stands, prefix_is_all, longer_piece, behind_more}
 use Rattle.pnm_repeat_tools.proofs.tile.tile_row.Goals as goal
 
@@ -27,8 +27,8 @@ loop-tiled-smaller g c =
     let least : c.min-more.result ≡ min (length part) (c.args.width * s.depth - length part) =
     omega (arith, length-drop start items, c.loop-tiled.tiled.ok.0, c.min-more.ensures) in
     let made = c.in_ok-repeat_samples.ensures in
-    let there = prefix_stands c.args.width s.width s.depth c.args.row.now part c.requires.row.0 c.requires.row.1 h.2 short in
-    longer_piece start c.min-more.result (c.args.width * s.depth) items c.repeat_samples.new.tiled.items within there short least made
+    let there = prefix_stands c.requires.row.0 c.requires.row.1 h.2 short in
+    longer_piece start (c.args.width * s.depth) items within there short least made
 
 pub loop-tiled-preserved : goal.loop-tiled-preserved
 loop-tiled-preserved g c =
@@ -43,11 +43,10 @@ loop-tiled-preserved g c =
     let least : c.min-more.result ≡ min (length part) (c.args.width * s.depth - length part) =
     omega (arith, length-drop start items, c.loop-tiled.tiled.ok.0, c.min-more.ensures) in
     let made = c.in_ok-repeat_samples.ensures in
-    let behind = behind_more start c.min-more.result items c.repeat_samples.new.tiled.items within made in (
+    let behind = behind_more start c.min-more.result items within made in (
       h.0,
       made ∙ ap (λ l. l ++ take c.min-more.result part) h.1 ∙ append_assoc old part (take c.min-more.result part) ∙ ap (λ l. old ++ l) (sym behind),
-      prefix_grows c.args.width s.width s.depth c.min-more.result c.args.row.now part (drop start c.repeat_samples.new.tiled.items) c.requires.row.0
-          c.requires.row.1 h.2 short least behind,
+      prefix_grows c.requires.row.0 c.requires.row.1 h.2 short least behind,
     )
 
 pub returns-clause-made : goal.returns-clause-made
@@ -55,8 +54,7 @@ returns-clause-made g c =
     let s = c.args.shape in
     let h = c.loop-tiled.invariant in
     let items = c.loop-tiled.tiled.items in
-    h.1 ∙ ap (λ l. c.args.tiled.now.items ++ l)
-    (prefix_is_all c.args.width s.width s.depth c.args.row.now (drop c.len-start.result items) c.requires.row.0 c.requires.row.1 h.2
+    h.1 ∙ ap (λ l. c.args.tiled.now.items ++ l) (prefix_is_all c.requires.row.0 c.requires.row.1 h.2
     (omega (arith, length-drop c.len-start.result items, c.loop-tiled.tiled.ok.0)))
 
 pub repeat_samples-requires-clause-some : goal.repeat_samples-requires-clause-some
@@ -67,5 +65,5 @@ repeat_samples-requires-clause-some g c =
     let part = drop start items in
     let h = c.loop-tiled.invariant in
     let short : length part < c.args.width * s.depth = omega (arith, length-drop start items, c.loop-tiled.tiled.ok.0) in
-    let there = prefix_stands c.args.width s.width s.depth c.args.row.now part c.requires.row.0 c.requires.row.1 h.2 short in
+    let there = prefix_stands c.requires.row.0 c.requires.row.1 h.2 short in
     omega (arith, there, length-drop start items, c.min-more.ensures)

@@ -1,4 +1,4 @@
-use Rattle.std.proofs.Common.{◌≡◌, ◌+◌, ◌-◌, ◌++◌, length, drop}
+use Rattle.pnm_repeat_tools.proofs.Words.{◌≡◌, ◌+◌, ◌-◌, ◌++◌, length, drop}
 use Rattle.pnm_repeat_tools.proofs.TileRowLaws.{IsTiledPrefix}
 use Rattle.pnm_repeat_tools.proofs.tile.tile_row.Given as goal
 

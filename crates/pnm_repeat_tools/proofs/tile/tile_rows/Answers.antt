@@ -1,9 +1,5 @@
-use Rattle.std.proofs.Common.{◌≡◌, ◌*◌, ◌∙◌, List, ℕ, ap, map, subst, sym}
-use Rattle.std.specs.List.{range_with_len}
-use Rattle.pnm_image.specs.declared.rows.RowSlice.{RowSlice}
-use Rattle.pnm_image.specs.HeldRows.{AreSliceRows, slice_lists}
-use Rattle.pnm_repeat_tools.specs.Keeping.{row_of_tiles, tiled}
-use Rattle.pnm_repeat_tools.specs.Internal.Keeping.{HasTiles}
+use Rattle.pnm_repeat_tools.proofs.Words.{◌≡◌, ◌*◌, ◌∙◌, List, ℕ, ap, map, subst, sym, range_with_len, RowSlice, AreSliceRows, slice_lists, row_of_tiles, tiled}
+use Rattle.pnm_repeat_tools.proofs.Words.{HasTiles}
 use Rattle.pnm_repeat_tools.proofs.TileRowsLaws.{rows_alike, tiles_of_samples}
 use Rattle.pnm_repeat_tools.proofs.tile.tile_rows.Goals as goal
 
@@ -24,8 +20,7 @@ returns-in_ok-tiled-in-Bits-clause-whole c =
     let same = subst (λ (held : RowSlice). slice_lists parts.result.1 each held ≡ c.args.rows.now) c.in-Bits.is
     (parts.ensures.rows each c.requires.tiles.lengths) in
     let numbers = range_with_len c.args.y c.args.count in
-    rows_alike c.args.width s.width s.depth c.args.y c.args.count c.args.rows.now c.in_ok-tiled-in-Bits.tiled c.requires.tiles
-    (c.in_ok-tiled-in-Bits.ensures.made
+    rows_alike c.args.width s.width s.depth c.args.y c.args.count c.args.rows.now c.requires.tiles (c.in_ok-tiled-in-Bits.ensures.made
     ∙ ap (λ (rows : List (List ℕ)). map (row_of_tiles c.args.width s.width s.depth rows) numbers) same)
 
 pub returns-in_ok-tiled-in-Bits-clause-made : goal.returns-in_ok-tiled-in-Bits-clause-made
@@ -53,8 +48,8 @@ returns-in_ok-tiled-in-Bytes-clause-whole c =
     let parts = c.parts-kept in
     let same = subst (λ (held : RowSlice). slice_lists parts.result.1 each held ≡ c.args.rows.now) c.in-Bytes.is
     (parts.ensures.rows each c.requires.tiles.lengths) in
-    (tiles_of_samples c.args.width s.width s.depth parts.result.1 c.args.y c.args.count c.args.rows.now c.in-Bytes.bytes.now
-    c.in_ok-tiled-in-Bytes.tiled.items c.requires.tiles same parts.ensures.count c.in_ok-tiled-in-Bytes.ensures.made).0
+    (tiles_of_samples c.args.width s.width s.depth c.args.y c.args.count c.in-Bytes.bytes.now c.requires.tiles same parts.ensures.count
+    c.in_ok-tiled-in-Bytes.ensures.made).0
 
 pub returns-in_ok-tiled-in-Bytes-clause-made : goal.returns-in_ok-tiled-in-Bytes-clause-made
 returns-in_ok-tiled-in-Bytes-clause-made c =
@@ -63,8 +58,8 @@ returns-in_ok-tiled-in-Bytes-clause-made c =
     let parts = c.parts-kept in
     let same = subst (λ (held : RowSlice). slice_lists parts.result.1 each held ≡ c.args.rows.now) c.in-Bytes.is
     (parts.ensures.rows each c.requires.tiles.lengths) in
-    (tiles_of_samples c.args.width s.width s.depth parts.result.1 c.args.y c.args.count c.args.rows.now c.in-Bytes.bytes.now
-    c.in_ok-tiled-in-Bytes.tiled.items c.requires.tiles same parts.ensures.count c.in_ok-tiled-in-Bytes.ensures.made).1
+    (tiles_of_samples c.args.width s.width s.depth c.args.y c.args.count c.in-Bytes.bytes.now c.requires.tiles same parts.ensures.count
+    c.in_ok-tiled-in-Bytes.ensures.made).1
 
 pub tile-requires-in-Words-clause-rows : goal.tile-requires-in-Words-clause-rows
 tile-requires-in-Words-clause-rows c =
@@ -80,8 +75,8 @@ returns-in_ok-tiled-in-Words-clause-whole c =
     let parts = c.parts-kept in
     let same = subst (λ (held : RowSlice). slice_lists parts.result.1 each held ≡ c.args.rows.now) c.in-Words.is
     (parts.ensures.rows each c.requires.tiles.lengths) in
-    (tiles_of_samples c.args.width s.width s.depth parts.result.1 c.args.y c.args.count c.args.rows.now c.in-Words.words.now
-    c.in_ok-tiled-in-Words.tiled.items c.requires.tiles same parts.ensures.count c.in_ok-tiled-in-Words.ensures.made).0
+    (tiles_of_samples c.args.width s.width s.depth c.args.y c.args.count c.in-Words.words.now c.requires.tiles same parts.ensures.count
+    c.in_ok-tiled-in-Words.ensures.made).0
 
 pub returns-in_ok-tiled-in-Words-clause-made : goal.returns-in_ok-tiled-in-Words-clause-made
 returns-in_ok-tiled-in-Words-clause-made c =
@@ -90,5 +85,5 @@ returns-in_ok-tiled-in-Words-clause-made c =
     let parts = c.parts-kept in
     let same = subst (λ (held : RowSlice). slice_lists parts.result.1 each held ≡ c.args.rows.now) c.in-Words.is
     (parts.ensures.rows each c.requires.tiles.lengths) in
-    (tiles_of_samples c.args.width s.width s.depth parts.result.1 c.args.y c.args.count c.args.rows.now c.in-Words.words.now
-    c.in_ok-tiled-in-Words.tiled.items c.requires.tiles same parts.ensures.count c.in_ok-tiled-in-Words.ensures.made).1
+    (tiles_of_samples c.args.width s.width s.depth c.args.y c.args.count c.in-Words.words.now c.requires.tiles same parts.ensures.count
+    c.in_ok-tiled-in-Words.ensures.made).1

@@ -1,8 +1,4 @@
-use Rattle.std.proofs.Common.{inl, refl, ap, sym, ◌∙◌}
-use Rattle.pnm_image.specs.declared.shape.Shape.{Shape}
-use Rattle.pnm_image.specs.Heads.{head_value}
-use Rattle.pnm_tools.specs.declared.tool.Tool.TheVariants.{Tile}
-use Rattle.pnm_tools.proofs.HeadLaws.{head_so, fault_so}
+use Rattle.pnm_repeat_tools.proofs.Words.{inl, refl, ap, sym, ◌∙◌, Shape, head_value, Tile, head_so, fault_so}
 use Rattle.pnm_repeat_tools.proofs.TileRowLaws.{tiled_without_rows, tiled_head_made, tiled_row_small}
 use Rattle.pnm_repeat_tools.proofs.tile.tiled_head.Goals as goal
 
@@ -13,22 +9,20 @@ returns-then-shape-eq0-clause-refused c =
 pub returns-clause-made : goal.returns-clause-made
 returns-clause-made c =
     let s = c.shape-shape.result in
-    let made = tiled_head_made c.args.width c.args.height c.args.head.now s c.tuple_type.result.now c.shape-shape.ensures.shape c.tuple_type.ensures
-    c.if-shape-eq0.false in
+    let made = tiled_head_made c.args.width c.args.height c.args.head.now c.shape-shape.ensures.shape c.tuple_type.ensures c.if-shape-eq0.false in
     head_so (Tile c.args.width c.args.height) c.args.head.now (head_value (record s { width = c.args.width; height = c.args.height }) c.tuple_type.result.now)
     c.head_within_limits.result made c.head_within_limits.ensures.made
 
 pub returns-clause-limits : goal.returns-clause-limits
 returns-clause-limits c =
     let s = c.shape-shape.result in
-    tiled_row_small c.args.width c.args.height s c.args.head.now.shape
+    tiled_row_small c.args.width c.args.height
     (head_value (record s { width = c.args.width; height = c.args.height }) c.tuple_type.result.now) c.head_within_limits.result c.shape-shape.ensures.shape
     refl c.head_within_limits.ensures.made
 
 pub returns-clause-refused : goal.returns-clause-refused
 returns-clause-refused c =
     let s = c.shape-shape.result in
-    let made = tiled_head_made c.args.width c.args.height c.args.head.now s c.tuple_type.result.now c.shape-shape.ensures.shape c.tuple_type.ensures
-    c.if-shape-eq0.false in
+    let made = tiled_head_made c.args.width c.args.height c.args.head.now c.shape-shape.ensures.shape c.tuple_type.ensures c.if-shape-eq0.false in
     fault_so (Tile c.args.width c.args.height) c.args.head.now (head_value (record s { width = c.args.width; height = c.args.height }) c.tuple_type.result.now)
     c.head_within_limits.result made c.head_within_limits.ensures.refused

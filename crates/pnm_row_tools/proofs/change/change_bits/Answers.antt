@@ -1,5 +1,4 @@
-use Rattle.std.proofs.Common.{◌∙◌, sym}
-use Rattle.pnm_image.specs.declared.rows.RowVec.TheVariants.{Bits}
+use Rattle.pnm_row_tools.proofs.Words.{◌∙◌, sym, Bits}
 use Rattle.pnm_row_tools.proofs.ChangeLaws.{bits_exchanged, bits_stay, made_changed}
 use Rattle.pnm_row_tools.proofs.change.change_bits.Goals as goal
 
@@ -10,10 +9,9 @@ returns-in-0-eq1 g c =
 
 pub returns-in-1-eq0 : goal.returns-in-1-eq0
 returns-in-1-eq0 g c =
-    bits_exchanged (g.C.Change.changed c.args.change) c.args.bits c.invert.new.self (sym c.in-1-eq0.is-0 ∙ c.change.ensures)
+    bits_exchanged (g.C.Change.changed c.args.change) c.args.bits (sym c.in-1-eq0.is-0 ∙ c.change.ensures)
     (sym c.in-1-eq0.is-1 ∙ c.change-2.ensures) c.requires.range c.invert.ensures
 
 pub returns-in_ok-bytes-in_default : goal.returns-in_ok-bytes-in_default
 returns-in_ok-bytes-in_default g c =
-    made_changed (g.C.Change.changed c.args.change) (Bits c.args.bits) c.in_ok-bytes-in_default.bytes.items c.change_bytes.result
-    c.in_ok-bytes-in_default.ensures c.change_bytes.ensures
+    made_changed (g.C.Change.changed c.args.change) (Bits c.args.bits) c.change_bytes.result c.in_ok-bytes-in_default.ensures c.change_bytes.ensures

@@ -1,4 +1,4 @@
-use Rattle.std.proofs.Common.{◌≡◌, length, map, take}
+use Rattle.pnm_row_tools.proofs.Words.{◌≡◌, length, map, take}
 use Rattle.pnm_row_tools.proofs.change.change_into.Given as goal
 
 -- the samples that have passed are changed

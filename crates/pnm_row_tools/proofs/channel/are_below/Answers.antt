@@ -1,8 +1,5 @@
-use Rattle.std.proofs.Common.{ℕ, ◌<◌, ◌≤◌, ◌↔◌, Bool, true, false, List, length, All, IsTrue, MatchBool, refl, arith, rules, tests}
-use Rattle.std.specs.List.{HoldsAt, AllWithin}
-use Rattle.std.proofs.lemmas.Iterator.{cases_from_all, YieldsList-from_slice}
-use Rattle.std.proofs.lemmas.Bool.{false≢true}
-use Rattle.std.proofs.lemmas.Bool.Decides.{nat_tests}
+use Rattle.pnm_row_tools.proofs.Words.{ℕ, ◌<◌, ◌≤◌, ◌↔◌, Bool, true, false, List, length, All, IsTrue, MatchBool, refl, arith, rules, tests, HoldsAt, AllWithin}
+use Rattle.pnm_row_tools.proofs.Words.{cases_from_all, YieldsList-from_slice, false≢true, nat_tests}
 use Rattle.pnm_row_tools.proofs.channel.are_below.Goals as goal
 
 below_from_cases : (depth : ℕ) (r : Bool) (xs : List ℕ) → MatchBool r (AllWithin (λ x. x < depth) xs 0 (length xs))

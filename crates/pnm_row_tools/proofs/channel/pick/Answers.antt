@@ -1,8 +1,5 @@
-use Rattle.std.proofs.Common.{◌≡◌, ℕ, ◌+◌, ◌*◌, length, drop, map, slice_index, slice_index_or, ap, refl, ◌∙◌, arith}
-use Rattle.std.specs.List.{range_with_len}
-use Rattle.std.proofs.lemmas.Grind.{common_steps}
-use Rattle.pnm_tools.proofs.PickLaws.{piece_written, columns_picked}
-use Rattle.pnm_row_tools.specs.Internal.RowKeeping.{as_wide}
+use Rattle.pnm_row_tools.proofs.Words.{◌≡◌, ℕ, ◌+◌, ◌*◌, length, drop, map, slice_index, slice_index_or, ap, refl, ◌∙◌, arith, range_with_len, common_steps}
+use Rattle.pnm_row_tools.proofs.Words.{piece_written, columns_picked, as_wide}
 use Rattle.pnm_row_tools.proofs.ChannelRowsLaws.{plane_picked}
 use Rattle.pnm_row_tools.proofs.channel.pick.Goals as goal
 
@@ -36,9 +33,7 @@ returns-then-count-eq1 g c past =
     let all : picked.len ≡ c.args.pixels = omega (arith, c.in_ok-picked.ensures.len, ap (λ (n : ℕ). c.args.pixels * n) c.if-count-eq1.true) in
     let lent : length c.as_mut_slice-buffer.result.now ≡ c.args.pixels = omega (arith, all, c.as_mut_slice-buffer.ensures.len) in
     let number : ℕ = slice_index c.args.numbers.now 0 in
-    plane_picked past c.args.numbers.now number c.args.pixels picked.len c.args.shape c.args.samples.now c.pick_plane.new.buffer picked.items
-    c.if-count-eq1.true refl long all
-    (c.pick_plane.ensures past
+    plane_picked past c.args.numbers.now c.args.shape c.args.samples.now picked.items c.if-count-eq1.true refl long all (c.pick_plane.ensures past
     ∙ ap (λ (n : ℕ). map (λ x. slice_index_or c.args.samples.now (x * c.args.shape.depth + number) past) (range_with_len 0 n)) lent)
 
 pub offset_bounds-buffer-x : goal.offset_bounds-buffer-x

@@ -1,4 +1,4 @@
-use Rattle.pnm_tools.proofs.PickLaws.{HasColumnsOf}
+use Rattle.pnm_row_tools.proofs.Words.{HasColumnsOf}
 use Rattle.pnm_row_tools.proofs.channel.pick.Given as goal
 
 -- the columns that have passed were picked

@@ -1,5 +1,4 @@
-use Rattle.std.proofs.Common.{arith}
-use Rattle.pnm_tools.proofs.PickLaws.{planes_picked}
+use Rattle.pnm_row_tools.proofs.Words.{arith, planes_picked}
 use Rattle.pnm_row_tools.proofs.channel.pick_pixel.Goals as goal
 
 pub returns : goal.returns

@@ -1,4 +1,4 @@
-use Rattle.pnm_tools.proofs.PickLaws.{HasPlanesOf}
+use Rattle.pnm_row_tools.proofs.Words.{HasPlanesOf}
 use Rattle.pnm_row_tools.proofs.channel.pick_pixel.Given as goal
 
 -- the planes that have passed were picked

@@ -1,13 +1,5 @@
-use Rattle.std.proofs.Common.{◌≡◌, ◌*◌, ◌<◌, ℕ, List, All, length, map, ap, sym, subst, ◌∙◌, arith, mul_assoc, mul-le-mul}
-use Rattle.std.specs.List.{concat}
-use Rattle.std.proofs.lemmas.List.Elements.{All-from_recursion}
-use Rattle.pnm_image.specs.Heads.{row_length}
-use Rattle.pnm_image.specs.HeldRows.{AreRowsWithin}
-use Rattle.pnm_image.specs.Places.{IsRowOf}
-use Rattle.pnm_image.specs.declared.rows.RowVec.{RowVec}
-use Rattle.pnm_tools.specs.Channel.{picked_samples}
-use Rattle.pnm_row_tools.specs.Internal.EachRow.{HoldsRows}
-use Rattle.pnm_row_tools.specs.Internal.RowKeeping.{as_wide}
+use Rattle.pnm_row_tools.proofs.Words.{◌≡◌, ◌*◌, ◌<◌, ℕ, List, All, length, map, ap, sym, subst, ◌∙◌, arith, mul_assoc, mul-le-mul, concat, All-from_recursion}
+use Rattle.pnm_row_tools.proofs.Words.{row_length, AreRowsWithin, IsRowOf, RowVec, picked_samples, HoldsRows, as_wide}
 use Rattle.pnm_row_tools.proofs.ChannelRowsLaws.{picked_cut, picked_rows_within}
 use Rattle.pnm_row_tools.proofs.HeldRowsLaws.{concat_cut, concat_long, rows_within}
 use Rattle.pnm_row_tools.proofs.channel.pick_planes.Goals.{in-Bits+in_ok-unpacked-in-Bits+in_ok-picked-in-Bits, in-Bytes+in_ok-picked-in-Bytes}
@@ -20,7 +12,7 @@ pick-requires-clause-pixels c =
     let rows = c.args.rows.now in
     let long : All (λ row. length row ≡ row_length s) rows = λ k d lt. (All-from_recursion (IsRowOf s) rows c.requires.rows k d lt).count in
     ap length (c.as_slice-in-Bits.ensures.value ∙ c.in_ok-unpacked-in-Bits.ensures)
-    ∙ concat_long (length rows) (row_length s) c.in-Bits.bits.now (c.in-Bits.ensures.whole (row_length s) long)
+    ∙ concat_long (row_length s) c.in-Bits.bits.now (c.in-Bits.ensures.whole (row_length s) long)
     ∙ sym (mul_assoc (length rows) s.width s.depth) ∙ ap (λ (n : ℕ). n * s.width * s.depth) (sym c.count-count.ensures.rows)
 
 pub pick-requires-in-Bytes-clause-pixels : goal.pick-requires-in-Bytes-clause-pixels
@@ -63,19 +55,16 @@ made c =
       | in-Bits+in_ok-unpacked-in-Bits+in_ok-picked-in-Bits w ↦
           let bits = w.in-Bits.bits.now in
           let whole = w.in-Bits.ensures.whole (row_length s) long in
-          subst (Made (length rows)) (sym w.held-is)
-          (picked_cut numbers s (length rows) (concat bits) w.in_ok-picked-in-Bits.picked.items rows below (concat_long (length rows) (row_length s) bits whole)
-          (concat_cut (length rows) (row_length s) bits whole ∙ w.in-Bits.ensures.rows (row_length s) long)
+          subst (Made (length rows)) (sym w.held-is) (picked_cut numbers s (length rows) (concat bits) below (concat_long (row_length s) bits whole)
+          (concat_cut (row_length s) bits whole ∙ w.in-Bits.ensures.rows (row_length s) long)
           (w.in_ok-picked-in-Bits.ensures 0 ∙ ap (of c.count-count.result) (w.as_slice-in-Bits.ensures.value ∙ w.in_ok-unpacked-in-Bits.ensures)
           ∙ ap (λ (n : ℕ). of n (concat bits)) many))
       | in-Bytes+in_ok-picked-in-Bytes w ↦
-          subst (Made (length rows)) (sym w.held-is)
-          (picked_cut numbers s (length rows) w.in-Bytes.bytes.now w.in_ok-picked-in-Bytes.picked.items rows below
+          subst (Made (length rows)) (sym w.held-is) (picked_cut numbers s (length rows) w.in-Bytes.bytes.now below
           (w.in-Bytes.ensures.whole (row_length s) long)
           (w.in-Bytes.ensures.rows (row_length s) long) (w.in_ok-picked-in-Bytes.ensures 0 ∙ ap (λ (n : ℕ). of n w.in-Bytes.bytes.now) many))
       | in-Words+in_ok-picked-in-Words w ↦
-          subst (Made (length rows)) (sym w.held-is)
-          (picked_cut numbers s (length rows) w.in-Words.words.now w.in_ok-picked-in-Words.picked.items rows below
+          subst (Made (length rows)) (sym w.held-is) (picked_cut numbers s (length rows) w.in-Words.words.now below
           (w.in-Words.ensures.whole (row_length s) long)
           (w.in-Words.ensures.rows (row_length s) long) (w.in_ok-picked-in-Words.ensures 0 ∙ ap (λ (n : ℕ). of n w.in-Words.words.now) many))
     ])

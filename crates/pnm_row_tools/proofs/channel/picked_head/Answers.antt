@@ -1,8 +1,4 @@
-use Rattle.std.proofs.Common.{inl, length, refl}
-use Rattle.pnm_image.specs.declared.shape.Kind.TheVariants.{Pam}
-use Rattle.pnm_image.specs.Heads.{head_value}
-use Rattle.pnm_tools.specs.declared.tool.Tool.TheVariants.{Channel}
-use Rattle.pnm_tools.proofs.HeadLaws.{planes_outside, planes_inside, head_so, fault_so}
+use Rattle.pnm_row_tools.proofs.Words.{inl, length, refl, Pam, head_value, Channel, planes_outside, planes_inside, head_so, fault_so}
 use Rattle.pnm_row_tools.proofs.channel.picked_head.Goals as goal
 
 pub returns-then-not-are_below-clause-refused : goal.returns-then-not-are_below-clause-refused

@@ -1,5 +1,4 @@
-use Rattle.std.proofs.Common.{ℕ, ◌≡◌, ◌≤◌, ◌+◌, ◌-◌, ◌*◌, ◌/◌, List, length, ap, ◌∙◌, arith, mul-le-mul}
-use Rattle.std.specs.List.{copy_within}
+use Rattle.pnm_row_tools.proofs.Words.{ℕ, ◌≡◌, ◌≤◌, ◌+◌, ◌-◌, ◌*◌, ◌/◌, List, length, ap, ◌∙◌, arith, mul-le-mul, copy_within}
 use Rattle.pnm_row_tools.proofs.EachRowLaws.{copied_further}
 use Rattle.pnm_row_tools.proofs.cut.copy_by_chunks.Goals as goal
 

@@ -1,5 +1,4 @@
-use Rattle.std.proofs.Common.{◌≡◌, ◌+◌, ◌*◌}
-use Rattle.std.specs.List.{copy_within}
+use Rattle.pnm_row_tools.proofs.Words.{◌≡◌, ◌+◌, ◌*◌, copy_within}
 use Rattle.pnm_row_tools.proofs.cut.copy_by_chunks.Given as goal
 
 -- so many are copied as the chunks that have passed have room for

@@ -1,5 +1,4 @@
-use Rattle.std.proofs.Common.{arith}
-use Rattle.std.proofs.lemmas.Grind.{common_steps}
+use Rattle.pnm_row_tools.proofs.Words.{arith, common_steps}
 use Rattle.pnm_row_tools.proofs.cut.edge_of.Goals as goal
 
 pub returns-then-edge-lt0 : goal.returns-then-edge-lt0

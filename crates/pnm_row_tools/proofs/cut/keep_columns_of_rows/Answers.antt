@@ -1,11 +1,5 @@
-use Rattle.std.proofs.Common.{◌≡◌, ◌+◌, ◌-◌, ◌*◌, ℕ, List, length, take, drop, map, ap, sym, refl, subst, ◌∙◌, arith}
-use Rattle.pnm_image.specs.Heads.{row_length}
-use Rattle.pnm_image.specs.HeldRows.{AreRows, AreRowsWithin, row_lists}
-use Rattle.pnm_image.specs.declared.rows.RowVec.{RowVec}
-use Rattle.pnm_image.proofs.HeldRowLaws.{length_of_lists}
-use Rattle.pnm_tools.specs.Cut.{columns_of_row, span_count}
-use Rattle.pnm_row_tools.specs.declared.cut.Parts.{Parts}
-use Rattle.pnm_row_tools.specs.Internal.EachRow.{HoldsRows, held_samples}
+use Rattle.pnm_row_tools.proofs.Words.{◌≡◌, ◌+◌, ◌-◌, ◌*◌, ℕ, List, length, take, drop, map, ap, sym, refl, subst, ◌∙◌, arith, row_length, AreRows}
+use Rattle.pnm_row_tools.proofs.Words.{AreRowsWithin, row_lists, RowVec, length_of_lists, columns_of_row, span_count, Parts, HoldsRows, held_samples}
 use Rattle.pnm_row_tools.proofs.CutRowsLaws.{all_rows, are_cut, columns_within, kept_long, kept_rows_of, lists_kept, part_fits, part_in_row, parts_fit}
 use Rattle.pnm_row_tools.proofs.cut.keep_columns_of_rows.Goals.{in-Bits, in-Bytes, in-Words}
 use Rattle.pnm_row_tools.proofs.cut.keep_columns_of_rows.Goals as goal
@@ -33,40 +27,35 @@ keep_part-requires-clause-pixels c =
     let parts = c.into_parts-held in
     let cut = are_cut c.args.columns c.args.among c.args.shape parts.result.1 parts.result.2 parts.result.0 c.args.rows c.requires.columns c.requires.among
     parts.ensures.some parts.ensures.whole parts.ensures.rows c.requires.rows in
-    part_in_row c.args.columns c.args.among c.args.shape parts.result.1 parts.result.2 c.parts_kept-parts.result (held_samples parts.result.0) c.in-Bits.bits
-    c.args.rows cut c.parts_kept-parts.ensures (subst (AreRows parts.result.1 parts.result.2) c.in-Bits.is parts.ensures.whole).1
+    part_in_row c.in-Bits.bits cut c.parts_kept-parts.ensures (subst (AreRows parts.result.1 parts.result.2) c.in-Bits.is parts.ensures.whole).1
 
 pub keep_of_each-requires-clause-rows : goal.keep_of_each-requires-clause-rows
 keep_of_each-requires-clause-rows c =
     let parts = c.into_parts-held in
     let cut = are_cut c.args.columns c.args.among c.args.shape parts.result.1 parts.result.2 parts.result.0 c.args.rows c.requires.columns c.requires.among
     parts.ensures.some parts.ensures.whole parts.ensures.rows c.requires.rows in
-    parts_fit c.args.columns c.args.among c.args.shape parts.result.1 parts.result.2 c.parts_kept-parts.result (held_samples parts.result.0)
-    c.in-Bytes.bytes.items c.args.rows cut c.parts_kept-parts.ensures (sym (ap held_samples c.in-Bytes.is))
+    parts_fit cut c.parts_kept-parts.ensures (sym (ap held_samples c.in-Bytes.is))
 
 pub keep_of_each-requires-clause-within : goal.keep_of_each-requires-clause-within
 keep_of_each-requires-clause-within c =
     let parts = c.into_parts-held in
     let cut = are_cut c.args.columns c.args.among c.args.shape parts.result.1 parts.result.2 parts.result.0 c.args.rows c.requires.columns c.requires.among
     parts.ensures.some parts.ensures.whole parts.ensures.rows c.requires.rows in
-    part_fits c.args.columns c.args.among c.args.shape parts.result.1 parts.result.2 c.parts_kept-parts.result (held_samples parts.result.0) c.args.rows cut
-    c.parts_kept-parts.ensures
+    part_fits cut c.parts_kept-parts.ensures
 
 pub keep_of_each-requires-in-Words-clause-rows : goal.keep_of_each-requires-in-Words-clause-rows
 keep_of_each-requires-in-Words-clause-rows c =
     let parts = c.into_parts-held in
     let cut = are_cut c.args.columns c.args.among c.args.shape parts.result.1 parts.result.2 parts.result.0 c.args.rows c.requires.columns c.requires.among
     parts.ensures.some parts.ensures.whole parts.ensures.rows c.requires.rows in
-    parts_fit c.args.columns c.args.among c.args.shape parts.result.1 parts.result.2 c.parts_kept-parts.result (held_samples parts.result.0)
-    c.in-Words.words.items c.args.rows cut c.parts_kept-parts.ensures (sym (ap held_samples c.in-Words.is))
+    parts_fit cut c.parts_kept-parts.ensures (sym (ap held_samples c.in-Words.is))
 
 pub keep_of_each-requires-in-Words-clause-within : goal.keep_of_each-requires-in-Words-clause-within
 keep_of_each-requires-in-Words-clause-within c =
     let parts = c.into_parts-held in
     let cut = are_cut c.args.columns c.args.among c.args.shape parts.result.1 parts.result.2 parts.result.0 c.args.rows c.requires.columns c.requires.among
     parts.ensures.some parts.ensures.whole parts.ensures.rows c.requires.rows in
-    part_fits c.args.columns c.args.among c.args.shape parts.result.1 parts.result.2 c.parts_kept-parts.result (held_samples parts.result.0) c.args.rows cut
-    c.parts_kept-parts.ensures
+    part_fits cut c.parts_kept-parts.ensures
 
 -- however the rows are held
 made : (c : goal.Joined-held) → HoldsRows (c.args.among.last - c.args.among.first + 1) c.parts_kept-parts.result.kept c.match-held.kept
@@ -86,24 +75,22 @@ made c =
     HoldsRows kept_rows parts.kept kept (map (columns_of_row c.args.columns s.depth) (take (span_count c.args.among) (drop c.args.among.first c.args.rows))) in
     elim c.match-held.branch [
       | in-Bits w ↦
-          subst Made (sym w.kept-is)
-          (lists_kept c.args.columns c.args.among s count each kept_rows parts samples w.in-Bits.bits w.keep_part.new.self c.args.rows cut is
-          (all.ensures.rows ∙ ap (row_lists count each) w.in-Bits.is) w.keep_part.ensures refl)
+          subst Made (sym w.kept-is) (lists_kept cut is (all.ensures.rows ∙ ap (row_lists count each) w.in-Bits.is) w.keep_part.ensures refl)
       | in-Bytes w ↦
           let old = w.in-Bytes.bytes.items in
           let new = w.keep_of_each.new.samples.items in
           let same : old ≡ samples = sym (ap held_samples w.in-Bytes.is) in
           subst Made (sym w.kept-is) (
-            kept_long c.args.columns c.args.among s count each kept_rows parts samples old new c.args.rows cut is same w.keep_of_each.ensures refl,
-            kept_rows_of c.args.columns c.args.among s count each kept_rows parts samples old new c.args.rows cut is same w.keep_of_each.ensures refl,
+            kept_long cut is same w.keep_of_each.ensures refl,
+            kept_rows_of cut is same w.keep_of_each.ensures refl,
           )
       | in-Words w ↦
           let old = w.in-Words.words.items in
           let new = w.keep_of_each-in-Words.new.samples.items in
           let same : old ≡ samples = sym (ap held_samples w.in-Words.is) in
           subst Made (sym w.kept-is) (
-            kept_long c.args.columns c.args.among s count each kept_rows parts samples old new c.args.rows cut is same w.keep_of_each-in-Words.ensures refl,
-            kept_rows_of c.args.columns c.args.among s count each kept_rows parts samples old new c.args.rows cut is same w.keep_of_each-in-Words.ensures refl,
+            kept_long cut is same w.keep_of_each-in-Words.ensures refl,
+            kept_rows_of cut is same w.keep_of_each-in-Words.ensures refl,
           )
     ]
 

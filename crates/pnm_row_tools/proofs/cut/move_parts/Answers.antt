@@ -1,4 +1,4 @@
-use Rattle.std.proofs.Common.{ℕ, ◌+◌, ◌*◌, refl, arith}
+use Rattle.pnm_row_tools.proofs.Words.{ℕ, ◌+◌, ◌*◌, refl, arith}
 use Rattle.pnm_row_tools.proofs.EachRowLaws.{all_moved, none_moved, part_moved}
 use Rattle.pnm_row_tools.proofs.cut.move_parts.Goals as goal
 
@@ -9,11 +9,9 @@ pub loop-i-preserved : goal.loop-i-preserved
 loop-i-preserved g c =
     let p = c.args.parts in
     let from : ℕ = p.top * p.row_length + c.loop-i.i * p.row_length + p.first in
-    part_moved (p.top * p.row_length) p.first p.kept p.row_length c.loop-i.i p.count from (from + p.kept) (c.loop-i.i * p.kept)
-    c.args.samples.now c.loop-i.samples _ c.copy_down.ensures refl refl refl c.requires.within c.loop-i-test.true c.requires.rows c.loop-i.invariant
+    part_moved p.count c.copy_down.ensures refl refl refl c.requires.within c.loop-i-test.true c.requires.rows c.loop-i.invariant
 
 pub returns : goal.returns
 returns g c =
     let p = c.args.parts in
-    all_moved (p.top * p.row_length) p.first p.kept p.row_length c.loop-i.i p.count c.args.samples.now c.loop-i.samples
-    (omega (arith, c.loop-i-test.false, c.loop-i.auto.i-end)) c.loop-i.invariant
+    all_moved p.count (omega (arith, c.loop-i-test.false, c.loop-i.auto.i-end)) c.loop-i.invariant

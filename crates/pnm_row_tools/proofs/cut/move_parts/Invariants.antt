@@ -1,4 +1,4 @@
-use Rattle.std.proofs.Common.{◌*◌}
+use Rattle.pnm_row_tools.proofs.Words.{◌*◌}
 use Rattle.pnm_row_tools.proofs.EachRowLaws.{AreMoved}
 use Rattle.pnm_row_tools.proofs.cut.move_parts.Given as goal
 

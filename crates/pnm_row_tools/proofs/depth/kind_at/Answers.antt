@@ -1,5 +1,4 @@
-use Rattle.std.proofs.Common.{arith}
-use Rattle.std.proofs.lemmas.Grind.{common_steps}
+use Rattle.pnm_row_tools.proofs.Words.{arith, common_steps}
 use Rattle.pnm_row_tools.proofs.depth.kind_at.Goals as goal
 
 pub returns-in-Bit : goal.returns-in-Bit

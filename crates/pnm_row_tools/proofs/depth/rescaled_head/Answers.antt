@@ -1,10 +1,4 @@
-use Rattle.std.proofs.Common.{◌≡◌, refl}
-use Rattle.pnm_image.specs.Heads.{head_value}
-use Rattle.pnm_tools.specs.declared.tool.Tool.TheVariants.{Depth}
-use Rattle.pnm_tools.specs.ToolLimits.{within_limits}
-use Rattle.pnm_tools.specs.Tools.{result_head}
-use Rattle.pnm_tools.proofs.DepthLaws.{depth_is_samplewise}
-use Rattle.pnm_tools.proofs.HeadLaws.{changed_head_made, head_so, fault_so}
+use Rattle.pnm_row_tools.proofs.Words.{◌≡◌, refl, head_value, Depth, within_limits, result_head, depth_is_samplewise, changed_head_made, head_so, fault_so}
 use Rattle.pnm_row_tools.proofs.depth.rescaled_head.Goals as goal
 
 -- the head that is made is the one of the rule

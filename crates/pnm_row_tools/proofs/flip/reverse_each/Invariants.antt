@@ -1,4 +1,4 @@
-use Rattle.pnm_image.specs.Heads.{row_length}
+use Rattle.pnm_row_tools.proofs.Words.{row_length}
 use Rattle.pnm_row_tools.proofs.FlipRowsLaws.{AreMirrored}
 use Rattle.pnm_row_tools.proofs.flip.reverse_each.Given as goal
 

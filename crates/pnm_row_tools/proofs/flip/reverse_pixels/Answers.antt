@@ -1,17 +1,14 @@
-use Rattle.std.proofs.Common.{◌≡◌, ◌*◌, ◌∙◌, ℕ, ap, drop, reverse, arith}
+use Rattle.pnm_row_tools.proofs.Words.{◌≡◌, ◌*◌, ◌∙◌, ℕ, ap, drop, reverse, arith, columns_end, common_steps}
 use Rattle.pnm_row_tools.proofs.FlipRowLaws.{pixel_more, pixels_turned, one_plane}
-use Rattle.pnm_tools.proofs.PickLaws.{columns_end}
-use Rattle.std.proofs.lemmas.Grind.{common_steps}
 use Rattle.pnm_row_tools.proofs.flip.reverse_pixels.Goals as goal
 
 pub loop-x-preserved : goal.loop-x-preserved
 loop-x-preserved g c =
-    pixel_more c.args.pixels c.args.size c.args.samples.now c.loop-x.x _ c.loop-x.samples c.reverse-in-loop-x.new.self c.loop-x-test.true
+    pixel_more c.args.pixels c.args.size c.args.samples.now c.loop-x.x _ c.loop-x-test.true
     c.requires.pixels (omega arith) c.loop-x.invariant c.reverse-in-loop-x.ensures.after (omega arith)
 
 pub returns-else-size-gt1 : goal.returns-else-size-gt1
-returns-else-size-gt1 g c = one_plane c.args.pixels c.args.size c.args.samples.now c.reverse.new.self c.requires.size c.if-size-gt1.false c.requires.pixels
-    c.reverse.ensures.after
+returns-else-size-gt1 g c = one_plane c.args.pixels c.args.size c.args.samples.now c.requires.size c.if-size-gt1.false c.requires.pixels c.reverse.ensures.after
 
 pub overflow_mul-x : goal.overflow_mul-x
 overflow_mul-x g c =
@@ -34,5 +31,4 @@ pub offset_bounds-samples-x : goal.offset_bounds-samples-x
 offset_bounds-samples-x g c = grind (arith, common_steps)
 
 pub returns-after-loop-x : goal.returns-after-loop-x
-returns-after-loop-x g c =
-    pixels_turned c.args.pixels c.args.size c.args.samples.now c.loop-x.samples c.loop-x.x c.requires.pixels (omega arith) c.loop-x.invariant
+returns-after-loop-x g c = pixels_turned c.args.pixels c.args.size c.args.samples.now c.loop-x.x c.requires.pixels (omega arith) c.loop-x.invariant

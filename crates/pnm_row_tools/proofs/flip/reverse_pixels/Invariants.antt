@@ -1,4 +1,4 @@
-use Rattle.std.proofs.Common.{◌≡◌, ◌*◌, ◌++◌, drop, reverse}
+use Rattle.pnm_row_tools.proofs.Words.{◌≡◌, ◌*◌, ◌++◌, drop, reverse}
 use Rattle.pnm_row_tools.proofs.FlipRowLaws.{last_pixels}
 use Rattle.pnm_row_tools.proofs.flip.reverse_pixels.Given as goal
 

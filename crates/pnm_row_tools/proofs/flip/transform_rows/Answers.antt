@@ -1,10 +1,5 @@
-use Rattle.std.proofs.Common.{◌≤◌, All, Bool, ℕ, List, if◌then◌else◌, map, reverse, ap, sym, subst, ◌∙◌}
-use Rattle.std.proofs.lemmas.List.{map-id}
-use Rattle.std.proofs.lemmas.List.Elements.{All-from_recursion}
-use Rattle.pnm_image.specs.HeldRows.{AreRowsWithin}
-use Rattle.pnm_image.specs.Places.{IsRowOf}
-use Rattle.pnm_tools.specs.Flip.{mirrored_row}
-use Rattle.pnm_row_tools.specs.Internal.EachRow.{HoldsRows}
+use Rattle.pnm_row_tools.proofs.Words.{◌≤◌, All, Bool, ℕ, List, if◌then◌else◌, map, reverse, ap, sym, subst, ◌∙◌, map-id, All-from_recursion, AreRowsWithin}
+use Rattle.pnm_row_tools.proofs.Words.{IsRowOf, mirrored_row, HoldsRows}
 use Rattle.pnm_row_tools.proofs.FlipRowsLaws.{as_long, mirrored_rows_within}
 use Rattle.pnm_row_tools.proofs.HeldRowsLaws.{length_of_shape, rows_of_shape, reversed_all, rows_within}
 use Rattle.pnm_row_tools.proofs.flip.transform_rows.Goals as goal
@@ -12,8 +7,7 @@ use Rattle.pnm_row_tools.proofs.flip.transform_rows.Goals as goal
 pub turn_round-requires-clause-rows : goal.turn_round-requires-clause-rows
 turn_round-requires-clause-rows c =
     let parts = c.into_parts-held in
-    rows_of_shape c.args.shape parts.result.1 parts.result.2 parts.result.0 c.args.rows parts.ensures.some parts.ensures.whole
-    parts.ensures.rows c.requires.rows
+    rows_of_shape c.args.shape parts.result.1 parts.result.2 parts.result.0 parts.ensures.some parts.ensures.whole parts.ensures.rows c.requires.rows
 
 -- so many rows of as many samples as they had, turned round
 turned : (c : goal.In_ok-turned) → HoldsRows c.into_parts-held.result.1 c.into_parts-held.result.2 c.in_ok-turned.turned
@@ -22,9 +16,8 @@ turned c =
     let parts = c.into_parts-held in
     let s = c.args.shape in
     let f : List (List ℕ) → List (List ℕ) = λ rows. map (mirrored_row s) (reverse rows) in
-    let is = length_of_shape s parts.result.1 parts.result.2 parts.result.0 c.args.rows parts.ensures.some parts.ensures.whole parts.ensures.rows
-    c.requires.rows in
-    let made = as_long f s parts.result.1 parts.result.2 parts.result.0 c.in_ok-turned.turned is c.in_ok-turned.ensures in
+    let is = length_of_shape s parts.result.1 parts.result.2 parts.result.0 parts.ensures.some parts.ensures.whole parts.ensures.rows c.requires.rows in
+    let made = as_long f s parts.result.1 parts.result.0 c.in_ok-turned.turned is c.in_ok-turned.ensures in
     (made.0, made.1 ∙ ap f (sym parts.ensures.rows))
 
 pub new-requires-clause-whole : goal.new-requires-clause-whole

@@ -1,6 +1,4 @@
-use Rattle.std.proofs.Common.{◌≡◌, ◌*◌, length, ap, sym, ◌∙◌, mul_assoc, arith}
-use Rattle.pnm_image.specs.Heads.{row_length}
-use Rattle.pnm_row_tools.specs.Internal.EachRow.{held_samples}
+use Rattle.pnm_row_tools.proofs.Words.{◌≡◌, ◌*◌, length, ap, sym, ◌∙◌, mul_assoc, arith, row_length, held_samples}
 use Rattle.pnm_row_tools.proofs.FlipRowLaws.{mirrored_in_place}
 use Rattle.pnm_row_tools.proofs.FlipRowsLaws.{bits_turned, items_turned}
 use Rattle.pnm_row_tools.proofs.HeldRowsLaws.{held_long}
@@ -25,9 +23,7 @@ reverse_pixels-requires-in-Words-clause-pixels c =
     ∙ held_long c.args.count (row_length s) c.args.rows c.requires.rows ∙ sym (mul_assoc c.args.count s.width s.depth)
 
 pub returns-in-Bits : goal.returns-in-Bits
-returns-in-Bits c =
-    bits_turned c.args.shape c.args.count c.args.rows c.in-Bits.bits c.turn_round.new.self c.if-shape-eq1.true c.in-Bits.is c.turn_round.ensures
-    c.requires.rows
+returns-in-Bits c = bits_turned c.args.shape c.args.count c.if-shape-eq1.true c.in-Bits.is c.turn_round.ensures c.requires.rows
 
 pub returns-in_ok-unpacked-in-Bits-2 : goal.returns-in_ok-unpacked-in-Bits-2
 returns-in_ok-unpacked-in-Bits-2 c =
@@ -35,9 +31,7 @@ returns-in_ok-unpacked-in-Bits-2 c =
     let unpacked = c.in_ok-unpacked-in-Bits-2.unpacked in
     let turned = c.reverse_pixels.new.samples in
     let long : length turned ≡ length c.as_mut_slice.result.now = omega arith in
-    items_turned s c.args.count c.args.rows _
-    (mirrored_in_place (c.args.count * s.width) s.depth (held_samples c.args.rows) unpacked.items c.as_mut_slice.result.now turned unpacked.len
-    c.reverse_pixels.ensures long
+    items_turned s c.args.count c.args.rows (mirrored_in_place (c.args.count * s.width) s.depth c.reverse_pixels.ensures long
     c.as_mut_slice.ensures.value (c.in_ok-unpacked-in-Bits-2.ensures ∙ sym (ap held_samples c.in-Bits.is)) unpacked.ok.0) c.requires.rows
 
 pub returns-in-Bytes : goal.returns-in-Bytes
@@ -46,9 +40,7 @@ returns-in-Bytes c =
     let bytes = c.in-Bytes.bytes in
     let turned = c.reverse_pixels-in-Bytes.new.samples in
     let long : length turned ≡ length c.as_mut_slice-in-Bytes.result.now = omega arith in
-    items_turned s c.args.count c.args.rows _
-    (mirrored_in_place (c.args.count * s.width) s.depth (held_samples c.args.rows) bytes.items c.as_mut_slice-in-Bytes.result.now turned bytes.len
-    c.reverse_pixels-in-Bytes.ensures long
+    items_turned s c.args.count c.args.rows (mirrored_in_place (c.args.count * s.width) s.depth c.reverse_pixels-in-Bytes.ensures long
     c.as_mut_slice-in-Bytes.ensures.value (sym (ap held_samples c.in-Bytes.is)) bytes.ok.0) c.requires.rows
 
 pub returns-in-Words : goal.returns-in-Words
@@ -57,7 +49,5 @@ returns-in-Words c =
     let words = c.in-Words.words in
     let turned = c.reverse_pixels-in-Words.new.samples in
     let long : length turned ≡ length c.as_mut_slice-in-Words.result.now = omega arith in
-    items_turned s c.args.count c.args.rows _
-    (mirrored_in_place (c.args.count * s.width) s.depth (held_samples c.args.rows) words.items c.as_mut_slice-in-Words.result.now turned words.len
-    c.reverse_pixels-in-Words.ensures long
+    items_turned s c.args.count c.args.rows (mirrored_in_place (c.args.count * s.width) s.depth c.reverse_pixels-in-Words.ensures long
     c.as_mut_slice-in-Words.ensures.value (sym (ap held_samples c.in-Words.is)) words.ok.0) c.requires.rows

@@ -1,5 +1,4 @@
-use Rattle.std.proofs.Common.{rules, ◌≡◌, ◌++◌, [], ◌∷◌, List, ℕ, ◌∙◌, ap, sym, arith}
-use Rattle.std.proofs.lemmas.List.FromFn.{map-range_with_len_more}
+use Rattle.pnm_row_tools.proofs.Words.{rules, ◌≡◌, ◌++◌, [], ◌∷◌, List, ℕ, ◌∙◌, ap, sym, arith, map-range_with_len_more}
 use Rattle.pnm_row_tools.proofs.samplewise.words_of.Goals as goal
 
 pub loop-sample-preserved : goal.loop-sample-preserved

@@ -1,5 +1,4 @@
-use Rattle.std.proofs.Common.{◌≡◌, map}
-use Rattle.std.specs.List.{range_with_len}
+use Rattle.pnm_row_tools.proofs.Words.{◌≡◌, map, range_with_len}
 use Rattle.pnm_row_tools.proofs.samplewise.words_of.Given as goal
 
 -- the samples that have passed stand in the table

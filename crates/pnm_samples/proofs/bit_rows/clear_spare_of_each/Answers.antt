@@ -1,8 +1,4 @@
-use Rattle.std.proofs.Common.{◌≡◌, ◌+◌, ◌-◌, ◌*◌, ◌∙◌, ℕ, List, length, take, drop, refl, ap, ap₂, arith}
-use borrow.Rule.Slice.PartMut.{put_mid}
-use Rattle.pnm_samples.specs.Internal.BitRows.{row_bytes}
-use Rattle.pnm_samples.specs.PixelRows.{bytes_for}
-use Rattle.pnm_samples.specs.Pixels.{all_pixels}
+use Rattle.pnm_samples.proofs.Words.{◌≡◌, ◌+◌, ◌-◌, ◌*◌, ◌∙◌, ℕ, List, length, take, drop, refl, ap, ap₂, arith, put_mid, row_bytes, bytes_for, all_pixels}
 use Rattle.pnm_samples.proofs.BitRowLaws.{all_packed, none_changed, one_more_changed, row_within, rows_kept, whole_are_packed}
 use Rattle.pnm_samples.proofs.bit_rows.clear_spare_of_each.Goals as goal
 

@@ -1,5 +1,4 @@
-use Rattle.std.proofs.Common.{List, ℕ, take}
-use Rattle.pnm_samples.specs.Pixels.{all_pixels}
+use Rattle.pnm_samples.proofs.Words.{List, ℕ, take, all_pixels}
 use Rattle.pnm_samples.proofs.BitRowLaws.{AreChanged}
 use Rattle.pnm_samples.proofs.bit_rows.clear_spare_of_each.Given as goal
 

@@ -1,8 +1,5 @@
-use Rattle.std.proofs.Common.{◌≡◌, ◌+◌, ◌-◌, ◌*◌, ◌∙◌, ℕ, List, take, drop, reverse, refl, sym, ap, ap₂, subst, arith}
-use borrow.Rule.Slice.PartMut.{put_mid}
-use Rattle.pnm_samples.specs.Internal.BitRows.{row_bytes}
-use Rattle.pnm_samples.specs.PixelRows.{bytes_for}
-use Rattle.pnm_samples.specs.Pixels.{all_pixels, ArePacked}
+use Rattle.pnm_samples.proofs.Words.{◌≡◌, ◌+◌, ◌-◌, ◌*◌, ◌∙◌, ℕ, List, take, drop, reverse, refl, sym, ap, ap₂, subst, arith, put_mid, row_bytes, bytes_for}
+use Rattle.pnm_samples.proofs.Words.{all_pixels, ArePacked}
 use Rattle.pnm_samples.proofs.BitRowLaws.{all_changed, all_packed, none_changed, one_more_changed}
 use Rattle.pnm_samples.proofs.bit_rows.mirror_each.Goals as goal
 
@@ -43,8 +40,7 @@ loop-row-preserved c =
     c.mirror_row.ensures.packed
 
 pub returns-clause-turned : goal.returns-clause-turned
-returns-clause-turned c =
-    all_changed reverse c.loop-row.row c.args.count c.args.each c.args.bytes.now c.loop-row.bytes c.loop-row.invariant (omega arith)
+returns-clause-turned c = all_changed reverse c.loop-row.invariant (omega arith)
 
 pub returns-clause-packed : goal.returns-clause-packed
 returns-clause-packed c =

@@ -1,5 +1,4 @@
-use Rattle.std.proofs.Common.{List, ℕ, reverse, take}
-use Rattle.pnm_samples.specs.Pixels.{all_pixels}
+use Rattle.pnm_samples.proofs.Words.{List, ℕ, reverse, take, all_pixels}
 use Rattle.pnm_samples.proofs.BitRowLaws.{AreChanged}
 use Rattle.pnm_samples.proofs.bit_rows.mirror_each.Given as goal
 

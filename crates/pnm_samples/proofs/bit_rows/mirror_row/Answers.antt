@@ -1,5 +1,4 @@
-use Rattle.std.proofs.Common.{◌≡◌, ◌∙◌, ◌++◌, ℕ, take, replicate, reverse, refl, ap, sym}
-use Rattle.pnm_samples.specs.Pixels.{all_pixels}
+use Rattle.pnm_samples.proofs.Words.{◌≡◌, ◌∙◌, ◌++◌, ℕ, take, replicate, reverse, refl, ap, sym, all_pixels}
 use Rattle.pnm_samples.proofs.MirrorLaws.{turned_parts, reversed_view, reversed_is_packed}
 use Rattle.pnm_samples.proofs.bit_rows.mirror_row.Goals as goal
 
@@ -9,7 +8,7 @@ returns-clause-turned c =
     let bytes = c.args.bytes.now in
     let value = take each (all_pixels bytes) in
     let turned : all_pixels c.turn_round.new.bytes ≡ replicate c.spare_of.result 1 ++ reverse value = c.turn_round.ensures
-    ∙ turned_parts each bytes value c.requires refl ∙ ap (λ (k : ℕ). replicate k 1 ++ reverse value) (sym c.spare_of.ensures) in
+    ∙ turned_parts c.requires refl ∙ ap (λ (k : ℕ). replicate k 1 ++ reverse value) (sym c.spare_of.ensures) in
     reversed_view each bytes c.move_to_end.new.bytes value c.requires refl
     (c.move_to_end.ensures (reverse value) turned ∙ ap (λ (k : ℕ). reverse value ++ replicate k 1) c.spare_of.ensures)
 
@@ -19,6 +18,6 @@ returns-clause-packed c =
     let bytes = c.args.bytes.now in
     let value = take each (all_pixels bytes) in
     let turned : all_pixels c.turn_round.new.bytes ≡ replicate c.spare_of.result 1 ++ reverse value = c.turn_round.ensures
-    ∙ turned_parts each bytes value c.requires refl ∙ ap (λ (k : ℕ). replicate k 1 ++ reverse value) (sym c.spare_of.ensures) in
+    ∙ turned_parts c.requires refl ∙ ap (λ (k : ℕ). replicate k 1 ++ reverse value) (sym c.spare_of.ensures) in
     reversed_is_packed each bytes c.move_to_end.new.bytes value c.requires refl
     (c.move_to_end.ensures (reverse value) turned ∙ ap (λ (k : ℕ). reverse value ++ replicate k 1) c.spare_of.ensures)

@@ -1,8 +1,5 @@
-use Rattle.std.proofs.Common.{◌≡◌, ◌+◌, ◌-◌, ◌*◌, ◌%◌, ◌∙◌, ◌++◌, ℕ, List, length, take, drop, replicate, refl, sym, ap, ap₂, arith}
-use borrow.Rule.Slice.PartMut.{put_mid}
-use Rattle.pnm_samples.specs.Internal.BitRows.{row_bytes}
-use Rattle.pnm_samples.specs.PixelRows.{bytes_for}
-use Rattle.pnm_samples.specs.Pixels.{all_pixels}
+use Rattle.pnm_samples.proofs.Words.{◌≡◌, ◌+◌, ◌-◌, ◌*◌, ◌%◌, ◌∙◌, ◌++◌, ℕ, List, length, take, drop, replicate, refl, sym, ap, ap₂, arith, put_mid, row_bytes}
+use Rattle.pnm_samples.proofs.Words.{bytes_for, all_pixels}
 use Rattle.pnm_samples.proofs.BitRowLaws.{all_packed, length_of_row_bytes, none_changed, one_more_changed, row_within, whole_are_packed}
 use Rattle.pnm_samples.proofs.BitRowsMade.{moved_is_packed, moved_row, none_moved}
 use Rattle.pnm_samples.proofs.bit_rows.move_each_to_end.Goals as goal

@@ -1,5 +1,4 @@
-use Rattle.std.proofs.Common.{List, ℕ, ◌-◌, ◌%◌, drop}
-use Rattle.pnm_samples.specs.Pixels.{all_pixels}
+use Rattle.pnm_samples.proofs.Words.{List, ℕ, ◌-◌, ◌%◌, drop, all_pixels}
 use Rattle.pnm_samples.proofs.BitRowLaws.{AreChanged}
 use Rattle.pnm_samples.proofs.bit_rows.move_each_to_end.Given as goal
 

@@ -1,8 +1,5 @@
-use Rattle.std.proofs.Common.{◌≡◌, ◌≤◌, ◌+◌, ◌-◌, ◌*◌, ◌∙◌, ℕ, length, take, drop, refl, ap, ap₂, arith}
-use Rattle.std.proofs.lemmas.List.{take_at}
-use borrow.Rule.Slice.PartMut.{put_mid, same_len_mid, mid_len}
-use Rattle.pnm_samples.specs.Internal.BitRows.{row_bytes}
-use Rattle.pnm_samples.specs.PixelRows.{bytes_for}
+use Rattle.pnm_samples.proofs.Words.{◌≡◌, ◌≤◌, ◌+◌, ◌-◌, ◌*◌, ◌∙◌, ℕ, length, take, drop, refl, ap, ap₂, arith, take_at, put_mid, same_len_mid, mid_len}
+use Rattle.pnm_samples.proofs.Words.{row_bytes, bytes_for}
 use Rattle.pnm_samples.proofs.BitRowLaws.{length_of_row_bytes, row_within}
 use Rattle.pnm_samples.proofs.BitRowsMade.{samples_of_row_more, samples_of_all}
 use Rattle.pnm_samples.proofs.PixelLaws.{length-all_pixels}
@@ -37,7 +34,7 @@ loop-row-preserved c =
     let whole = take_at part _ l.samples.len (kept ∙ c.deref_mut.ensures.len) in (
       omega (arith, ap length whole, kept, same, l.invariant.0),
       ap (take ((row + 1) * each)) whole
-          ∙ samples_of_row_more c.args.count each row n bytes before stored _ (omega arith) given c.requires (omega (arith, buffer))
+          ∙ samples_of_row_more c.args.count each row n bytes before (omega arith) given c.requires (omega (arith, buffer))
           (ap (take (row * each)) c.deref_mut.ensures.value ∙ l.invariant.1) c.store_row.ensures,
     )
 

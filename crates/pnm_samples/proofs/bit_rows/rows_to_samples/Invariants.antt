@@ -1,6 +1,4 @@
-use Rattle.std.proofs.Common.{◌≡◌, ◌+◌, ◌*◌, length, take}
-use Rattle.std.specs.List.{concat}
-use Rattle.pnm_samples.specs.PixelRows.{rows_of_bytes}
+use Rattle.pnm_samples.proofs.Words.{◌≡◌, ◌+◌, ◌*◌, length, take, concat, rows_of_bytes}
 use Rattle.pnm_samples.proofs.bit_rows.rows_to_samples.Given as goal
 
 -- the rows that have passed lie one after another, and after them are the places of the others

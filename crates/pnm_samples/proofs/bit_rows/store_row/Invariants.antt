@@ -1,5 +1,4 @@
-use Rattle.std.proofs.Common.{◌≡◌, ◌+◌, ◌*◌, length, take}
-use Rattle.pnm_samples.specs.Pixels.{all_pixels}
+use Rattle.pnm_samples.proofs.Words.{◌≡◌, ◌+◌, ◌*◌, length, take, all_pixels}
 use Rattle.pnm_samples.proofs.bit_rows.store_row.Given as goal
 
 -- the pixels of the bytes that have passed, and after them the places of the others

@@ -1,7 +1,4 @@
-use Rattle.std.proofs.Common.{rules}
-use Rattle.std.proofs.Common.{refl, arith}
-use Rattle.std.proofs.lemmas.List.{length-take}
-use Rattle.pnm_samples.specs.Pixels.{all_pixels}
+use Rattle.pnm_samples.proofs.Words.{rules, refl, arith, length-take, all_pixels}
 use Rattle.pnm_samples.proofs.PixelLaws.{length-all_pixels}
 use Rattle.pnm_samples.proofs.PixelRowLaws.{black_from_looks, not_black}
 use Rattle.pnm_samples.proofs.bits.are_black.Goals as goal
@@ -16,7 +13,7 @@ returns-then-at-bytes c = (
 pub returns-then-pixel_of-gt0 : goal.returns-then-pixel_of-gt0
 returns-then-pixel_of-gt0 c = (
   λ e. search rules,
-  λ all. absurd (not_black c.args.count c.loop-at.at c.pixel_of.result c.args.bytes.now (omega arith) (omega arith) c.pixel_of.ensures (omega arith) all),
+  λ all. absurd (not_black c.args.count c.loop-at.at c.args.bytes.now (omega arith) (omega arith) c.pixel_of.ensures (omega arith) all),
 )
 
 pub returns : goal.returns

@@ -1,5 +1,4 @@
-use Rattle.std.proofs.Common.{ℕ, ◌≤◌, ◌<◌, get_or}
-use Rattle.pnm_samples.specs.Pixels.{all_pixels}
+use Rattle.pnm_samples.proofs.Words.{ℕ, ◌≤◌, ◌<◌, get_or, all_pixels}
 use Rattle.pnm_samples.proofs.bits.are_black.Given as goal
 
 -- the pixels that have passed are black

@@ -10,4 +10,4 @@ returns-then-whole-bytes-clause-spare c = whitened_is_packed c.args.bytes.now c.
     c.whiten_spare.ensures
 
 pub returns-else-whole-bytes-clause-spare : goal.returns-else-whole-bytes-clause-spare
-returns-else-whole-bytes-clause-spare c = whole_is_packed c.args.bytes.now c.args.count c.requires c.if-whole-bytes.false
+returns-else-whole-bytes-clause-spare c = whole_is_packed c.requires c.if-whole-bytes.false

@@ -1,8 +1,4 @@
-use Rattle.std.proofs.Common.{rules, ◌-◌, ◌<◌, ◌∙◌, length, get_or, ap, arith}
-use Rattle.std.proofs.lemmas.List.{get_or_default}
-use Rattle.std.proofs.lemmas.List.Edits.{map_over_more}
-use Rattle.pnm_samples.specs.Pixels.{all_pixels}
-use Rattle.pnm_samples.specs.Internal.Pixels.{AreBytes}
+use Rattle.pnm_samples.proofs.Words.{rules, ◌-◌, ◌<◌, ◌∙◌, length, get_or, ap, arith, get_or_default, map_over_more, all_pixels, AreBytes}
 use Rattle.pnm_samples.proofs.PixelLaws.{all_mapped, complement_pixels}
 use Rattle.pnm_samples.proofs.bits.complement.Goals as goal
 
@@ -16,5 +12,5 @@ loop-byte-preserved c =
 pub returns : goal.returns
 returns c =
     let fit : AreBytes c.args.bytes.now = search rules in
-    ap all_pixels (all_mapped (λ b. 255 - b) c.args.bytes.now c.loop-byte.bytes c.loop-byte.byte-index c.loop-byte-test.false c.loop-byte.invariant)
+    ap all_pixels (all_mapped (λ b. 255 - b) c.args.bytes.now c.loop-byte.byte-index c.loop-byte-test.false c.loop-byte.invariant)
     ∙ complement_pixels c.args.bytes.now fit

@@ -1,4 +1,4 @@
-use Rattle.std.proofs.Common.{◌≡◌, ◌++◌, ◌-◌, map, take, drop}
+use Rattle.pnm_samples.proofs.Words.{◌≡◌, ◌++◌, ◌-◌, map, take, drop}
 use Rattle.pnm_samples.proofs.bits.complement.Given as goal
 
 -- the bytes that have passed are complements

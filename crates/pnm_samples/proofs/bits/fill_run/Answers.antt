@@ -1,6 +1,4 @@
-use Rattle.std.proofs.Common.{◌≡◌, ◌*◌, ◌/◌, ◌%◌, ◌∙◌, ap, arith, ℕ, length, take, drop}
-use Rattle.std.proofs.lemmas.List.{length-take}
-use Rattle.pnm_samples.specs.Pixels.{all_pixels}
+use Rattle.pnm_samples.proofs.Words.{◌≡◌, ◌*◌, ◌/◌, ◌%◌, ◌∙◌, ap, arith, ℕ, length, take, drop, length-take, all_pixels}
 use Rattle.pnm_samples.proofs.PixelLaws.{run_filled, run_of_whole_bytes}
 use Rattle.pnm_samples.proofs.bits.fill_run.Goals as goal
 

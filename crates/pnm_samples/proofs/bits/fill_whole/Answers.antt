@@ -1,5 +1,4 @@
-use Rattle.std.proofs.Common.{◌∙◌, ap, arith, length}
-use Rattle.pnm_samples.specs.Pixels.{all_pixels}
+use Rattle.pnm_samples.proofs.Words.{◌∙◌, ap, arith, length, all_pixels}
 use Rattle.pnm_samples.proofs.PixelLaws.{aligned_run, shifted_run}
 use Rattle.pnm_samples.proofs.bits.fill_whole.Goals as goal
 

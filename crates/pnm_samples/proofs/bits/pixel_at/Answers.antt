@@ -1,5 +1,4 @@
-use Rattle.std.proofs.Common.{arith}
-use Rattle.std.proofs.lemmas.Grind.{common_steps}
+use Rattle.pnm_samples.proofs.Words.{arith, common_steps}
 use Rattle.pnm_samples.proofs.bits.pixel_at.Goals as goal
 
 pub returns : goal.returns

@@ -1,4 +1,4 @@
-use Rattle.std.proofs.Common.{sym, ◌∙◌}
+use Rattle.pnm_samples.proofs.Words.{sym, ◌∙◌}
 use Rattle.pnm_samples.proofs.PixelRowLaws.{pixel_of_bytes}
 use Rattle.pnm_samples.proofs.bits.pixel_of.Goals as goal
 

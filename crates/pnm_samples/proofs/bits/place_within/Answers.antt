@@ -1,4 +1,4 @@
-use Rattle.std.proofs.Common.{◌/◌, ◌%◌, ◌<◌, length, get_or, arith}
+use Rattle.pnm_samples.proofs.Words.{◌/◌, ◌%◌, ◌<◌, length, get_or, arith}
 use Rattle.pnm_samples.proofs.PixelLaws.{filled_up, placed_beyond, placed_in_byte}
 use Rattle.pnm_samples.proofs.bits.place_within.Goals as goal
 

@@ -1,4 +1,4 @@
-use Rattle.std.proofs.Common.{arith}
+use Rattle.pnm_samples.proofs.Words.{arith}
 use Rattle.pnm_samples.proofs.PixelLaws.{shift_step}
 use Rattle.pnm_samples.proofs.bits.shift_into.Goals as goal
 

@@ -1,5 +1,4 @@
-use Rattle.std.proofs.Common.{◌≡◌, ◌*◌, take, drop}
-use Rattle.pnm_samples.specs.Pixels.{all_pixels}
+use Rattle.pnm_samples.proofs.Words.{◌≡◌, ◌*◌, take, drop, all_pixels}
 use Rattle.pnm_samples.proofs.bits.shift_into.Given as goal
 
 -- the bytes that have passed hold the pixels that come after so many

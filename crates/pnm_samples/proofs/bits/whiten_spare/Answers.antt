@@ -1,8 +1,4 @@
-use Rattle.std.proofs.Common.{◌≡◌, ◌-◌, ◌/◌, ◌^◌, ℕ, ap, ◌∙◌, arith}
-use Rattle.std.specs.Prelude.{bit_and}
-use Rattle.std.proofs.lemmas.Nat.{pow_pos}
-use Rattle.std.proofs.lemmas.Nat.Bits.{ones_shr}
-use Rattle.pnm_samples.specs.Pixels.{pixels}
+use Rattle.pnm_samples.proofs.Words.{◌≡◌, ◌-◌, ◌/◌, ◌^◌, ℕ, ap, ◌∙◌, arith, bit_and, pow_pos, ones_shr, pixels}
 use Rattle.pnm_samples.proofs.PixelLaws.{whitened_pixels}
 use Rattle.pnm_samples.proofs.bits.whiten_spare.Goals as goal
 

@@ -1,5 +1,4 @@
-use Rattle.std.proofs.Common.{◌+◌, ◌*◌, ◌-◌, ◌/◌, ◌%◌, ◌^◌, ℕ, ap₂, ◌∙◌, arith}
-use Rattle.pnm_samples.specs.Pixels.{pixels}
+use Rattle.pnm_samples.proofs.Words.{◌+◌, ◌*◌, ◌-◌, ◌/◌, ◌%◌, ◌^◌, ℕ, ap₂, ◌∙◌, arith, pixels}
 use Rattle.pnm_samples.proofs.PixelLaws.{window_pixels}
 use Rattle.pnm_samples.proofs.bits.window.Goals as goal
 

@@ -1,5 +1,5 @@
-use Rattle.std.proofs.Common.{◌≢◌, ◌<◌, ◌∙◌, length, ap, arith, below_more, length-set, get_or-set_other, get_or-set_same}
-use Rattle.pnm_samples.specs.Internal.Blocks.{bits_of}
+use Rattle.pnm_samples.proofs.Words.{◌≢◌, ◌<◌, ◌∙◌, length, ap, arith, below_more, get_or-set_other, get_or-set_same, bits_of}
+use Rattle.std.proofs.Common.{length-set}
 use Rattle.pnm_samples.proofs.BlockLaws.{places_more, bits_moved}
 use Rattle.pnm_samples.proofs.block.columns_of_sixteen.Goals as goal
 
@@ -10,7 +10,7 @@ loop-k-preserved c =
     let inside : k < length c.loop-k.columns = omega (arith, known.count) in
     record {
       count = length-set c.loop-k.columns k c.highest_bits.result ∙ known.count;
-      lanes = places_more c.args.rows c.loop-k.lanes k known.lanes;
+      lanes = places_more c.args.rows k known.lanes;
       columns =
           below_more _ _ (λ j h. let other : j ≢ k = omega arith in rw get_or-set_other (known.columns j h))
           (rw get_or-set_same (c.highest_bits.ensures ∙ ap (bits_of 7) known.lanes ∙ bits_moved c.args.rows k (omega arith)));

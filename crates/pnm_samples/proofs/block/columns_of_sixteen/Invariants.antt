@@ -1,5 +1,4 @@
-use Rattle.std.proofs.Common.{◌≡◌, ℕ, ◌-◌, ◌*◌, ◌%◌, ◌^◌, ◌<◌, get_or, length, map}
-use Rattle.pnm_samples.specs.Internal.Blocks.{bits_of}
+use Rattle.pnm_samples.proofs.Words.{◌≡◌, ℕ, ◌-◌, ◌*◌, ◌%◌, ◌^◌, ◌<◌, get_or, length, map, bits_of}
 use Rattle.pnm_samples.proofs.block.columns_of_sixteen.Given as goal
 
 -- the columns that have passed, and each byte's bits so many places up

@@ -1,4 +1,4 @@
-use Rattle.std.proofs.Common.{◌∙◌, ◌<◌, sym, subst}
+use Rattle.pnm_samples.proofs.Words.{◌∙◌, ◌<◌, sym, subst}
 use Rattle.pnm_samples.proofs.BlockLaws.{mask_of_highest, mask_of_sixteen, sixteen_bits}
 use Rattle.pnm_samples.proofs.block.highest_bits.Goals as goal
 

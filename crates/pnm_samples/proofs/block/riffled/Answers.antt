@@ -1,4 +1,4 @@
-use Rattle.std.proofs.Common.{refl, arith}
+use Rattle.pnm_samples.proofs.Words.{refl, arith}
 use Rattle.pnm_samples.proofs.SquareLaws.{high_lane, low_lane, riffled_more}
 use Rattle.pnm_samples.proofs.block.riffled.Goals as goal
 
@@ -7,4 +7,4 @@ loop-i-preserved c =
     let i = c.loop-i.i in
     let rows = c.args.rows in
     let long = c.requires.each i (omega arith) in
-    riffled_more i rows c.loop-i.made _ _ (omega arith) refl refl (λ k lt. low_lane rows i k long lt) (λ k lt. high_lane rows i k long lt) c.loop-i.invariant
+    riffled_more _ _ (omega arith) refl refl (λ k lt. low_lane rows i k long lt) (λ k lt. high_lane rows i k long lt) c.loop-i.invariant

@@ -1,5 +1,4 @@
-use Rattle.std.proofs.Common.{◌≤◌, arith}
-use Rattle.std.proofs.lemmas.Bool.{leb-true, le-leb}
+use Rattle.pnm_samples.proofs.Words.{◌≤◌, arith, leb-true, le-leb}
 use Rattle.pnm_samples.proofs.BoundLaws.{all_of_width}
 use Rattle.pnm_samples.proofs.bounds.are_bytes_within.Goals as goal
 

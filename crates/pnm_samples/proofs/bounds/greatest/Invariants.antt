@@ -1,4 +1,4 @@
-use Rattle.std.proofs.Common.{◌≤◌, ◌↔◌, ℕ, All, take}
+use Rattle.pnm_samples.proofs.Words.{◌≤◌, ◌↔◌, ℕ, All, take}
 use Rattle.pnm_samples.proofs.bounds.greatest.Given as goal
 
 -- the greatest of the samples that have passed

@@ -1,4 +1,4 @@
-use Rattle.std.proofs.Common.{◌≤◌, ◌↔◌, ℕ, All, take}
+use Rattle.pnm_samples.proofs.Words.{◌≤◌, ◌↔◌, ℕ, All, take}
 use Rattle.pnm_samples.proofs.bounds.greatest_byte.Given as goal
 
 -- the greatest of the bytes that have passed

@@ -1,4 +1,4 @@
-use Rattle.std.proofs.Common.{◌≡◌, take}
+use Rattle.pnm_samples.proofs.Words.{◌≡◌, take}
 use Rattle.pnm_samples.proofs.PackedBytes.{packed_groups}
 use Rattle.pnm_samples.proofs.packing.pack.Given as goal
 

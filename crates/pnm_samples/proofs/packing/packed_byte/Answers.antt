@@ -1,4 +1,4 @@
-use Rattle.std.proofs.Common.{sym}
+use Rattle.pnm_samples.proofs.Words.{sym}
 use Rattle.pnm_samples.proofs.PackLaws.{byte_of_eight}
 use Rattle.pnm_samples.proofs.packing.packed_byte.Goals as goal
 

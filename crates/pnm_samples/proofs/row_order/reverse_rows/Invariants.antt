@@ -1,4 +1,4 @@
-use Rattle.std.proofs.Common.{◌≡◌}
+use Rattle.pnm_samples.proofs.Words.{◌≡◌}
 use Rattle.pnm_samples.proofs.RowOrderLaws.{swapped}
 use Rattle.pnm_samples.proofs.row_order.reverse_rows.Given as goal
 

@@ -1,8 +1,5 @@
-use Rattle.std.proofs.Common.{◌≡◌, ◌≤◌, ◌+◌, ◌/◌, ◌∙◌, length, take, ap, sym, arith}
-use Rattle.std.proofs.lemmas.Grind.{common_steps}
-use Rattle.std.proofs.lemmas.List.{take_all, length-take}
-use Rattle.std.specs.Vec.{with_items}
-use Rattle.pnm_samples.specs.Pixels.{all_pixels, packed_bytes}
+use Rattle.pnm_samples.proofs.Words.{◌≡◌, ◌≤◌, ◌+◌, ◌/◌, ◌∙◌, length, take, ap, sym, arith, common_steps, take_all, length-take, with_items, all_pixels}
+use Rattle.pnm_samples.proofs.Words.{packed_bytes}
 use Rattle.pnm_samples.proofs.PackLaws.{length-packed_bytes}
 use Rattle.pnm_samples.proofs.PackedAgain.{pixels_of_groups}
 use Rattle.pnm_samples.proofs.samples.pack_bits.Goals as goal

@@ -1,4 +1,4 @@
-use Rattle.std.proofs.Common.{arith}
+use Rattle.pnm_samples.proofs.Words.{arith}
 use Rattle.pnm_samples.proofs.BoundLaws.{all_of_width}
 use Rattle.pnm_samples.proofs.samples.word_bound.Goals as goal
 

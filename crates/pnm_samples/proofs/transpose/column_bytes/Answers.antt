@@ -1,10 +1,5 @@
-use denote.Ref.{Bor}
-use Rattle.std.proofs.Common.{◌≡◌, ◌+◌, ◌-◌, ◌*◌, ◌<◌, ◌≤◌, ◌∙◌, ℕ, Vec, List, [], ap, length, map, refl, subst, sym, get_or, arith}
-use Rattle.std.specs.Global.{Global}
-use Rattle.std.proofs.lemmas.List.{length-map}
-use Rattle.std.proofs.lemmas.Grind.{common_steps}
-use Rattle.pnm_samples.specs.Internal.Blocks.{bits_of}
-use Rattle.pnm_samples.specs.Internal.Columns.{HavePairs}
+use Rattle.pnm_samples.proofs.Words.{Bor, ◌≡◌, ◌+◌, ◌-◌, ◌*◌, ◌<◌, ◌≤◌, ◌∙◌, ℕ, Vec, List, [], ap, length, map, refl, subst, sym, get_or, arith, Global}
+use Rattle.pnm_samples.proofs.Words.{length-map, common_steps, bits_of, HavePairs}
 use Rattle.pnm_samples.proofs.ColumnLaws.{HoldEight, HoldsGroups, eight_more, sixteen_hold, written_whole}
 use Rattle.pnm_samples.proofs.transpose.column_bytes.Goals as goal
 
@@ -34,8 +29,7 @@ loop-beside-preserved c =
     subst (λ (l : List (Vec ℕ Global)). HavePairs 8 (8 * n) (2 * g) pairs l new) c.as_mut_slice.ensures.value c.put_pairs.ensures in
     let more = eight_more c.args.byte c.args.width c.div_ceil-groups.result rows g n pairs lanes old.items new count are low high put
     (omega (arith, c.min-beside-end.ensures)) c.requires.width c.loop-beside.invariant in
-    subst (HoldsGroups c.args.byte c.args.width c.div_ceil-groups.result rows g (n + 1)) (sym (written_whole old.len new old.items (old.ok.0 ∙ sym put.many)))
-    more
+    subst (HoldsGroups c.args.byte c.args.width c.div_ceil-groups.result rows g (n + 1)) (sym (written_whole new old.items (old.ok.0 ∙ sym put.many))) more
 
 pub returns : goal.returns
 returns c =

@@ -1,4 +1,4 @@
-use Rattle.std.proofs.Common.{min, ◌*◌}
+use Rattle.pnm_samples.proofs.Words.{min, ◌*◌}
 use Rattle.pnm_samples.proofs.ColumnLaws.{HoldsGroups}
 use Rattle.pnm_samples.proofs.transpose.column_bytes.Given as goal
 

@@ -1,9 +1,5 @@
-use Rattle.std.proofs.Common.{rules, ◌∙◌, length, map, sym, ap, arith}
-use Rattle.std.proofs.lemmas.List.{map-id}
-use Rattle.std.proofs.lemmas.Iterator.Adapters.{YieldsList-from_vec}
-use Rattle.std.proofs.lemmas.Iterator.Consumers.{YieldsList-end}
+use Rattle.pnm_samples.proofs.Words.{rules, ◌∙◌, length, map, sym, ap, arith, map-id, YieldsList-from_vec, YieldsList-end, common_steps}
 use Rattle.pnm_samples.proofs.ColumnLaws.{columns_made, pixels_of_column}
-use Rattle.std.proofs.lemmas.Grind.{common_steps}
 use Rattle.pnm_samples.proofs.transpose.columns.Goals as goal
 
 pub returns : goal.returns
@@ -15,8 +11,7 @@ returns c =
     let end = YieldsList-end given c.loop-column.yielded c.loop-column.column-iterator c.loop-column.yielded_by c.next.result c.next.new.self c.in-None.is
     c.next.ensures.steps in
     c.loop-column.invariant ∙ ap (map made) (sym (map-id c.loop-column.yielded) ∙ end.0 ∙ c.truncate.ensures.items)
-    ∙ columns_made c.args.byte c.div_ceil.result c.args.count c.args.rows.now columns c.in_ok-columns.ensures (omega (arith, c.div_ceil.ensures))
-    c.requires.rows
+    ∙ columns_made c.div_ceil.result c.args.count columns c.in_ok-columns.ensures (omega (arith, c.div_ceil.ensures)) c.requires.rows
 
 pub loop-column-preserved : goal.loop-column-preserved
 loop-column-preserved c = grind (arith, common_steps)

@@ -1,5 +1,4 @@
-use Rattle.std.proofs.Common.{◌≡◌, length, map, take}
-use Rattle.pnm_samples.specs.Pixels.{all_pixels}
+use Rattle.pnm_samples.proofs.Words.{◌≡◌, length, map, take, all_pixels}
 use Rattle.pnm_samples.proofs.transpose.columns.Given as goal
 
 -- the columns that have passed

@@ -1,4 +1,4 @@
-use Rattle.pnm_samples.specs.Internal.Columns.{AreLong}
+use Rattle.pnm_samples.proofs.Words.{AreLong}
 use Rattle.pnm_samples.proofs.transpose.columns_of_length.Given as goal
 
 -- so many columns are there

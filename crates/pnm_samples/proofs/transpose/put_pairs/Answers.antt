@@ -1,6 +1,4 @@
-use Rattle.std.proofs.Common.{◌+◌, get_or, arith}
-use Rattle.std.proofs.lemmas.Grind.{common_steps}
-use Rattle.pnm_samples.specs.Internal.Columns.{HasPair}
+use Rattle.pnm_samples.proofs.Words.{◌+◌, get_or, arith, common_steps, HasPair}
 use Rattle.pnm_samples.proofs.transpose.put_pairs.Goals as goal
 
 pub loop-k-preserved : goal.loop-k-preserved

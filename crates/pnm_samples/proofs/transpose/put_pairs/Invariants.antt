@@ -1,4 +1,4 @@
-use Rattle.pnm_samples.specs.Internal.Columns.{HavePairs}
+use Rattle.pnm_samples.proofs.Words.{HavePairs}
 use Rattle.pnm_samples.proofs.transpose.put_pairs.Given as goal
 
 -- the columns that have passed got their bytes

@@ -1,6 +1,4 @@
-use Rattle.std.proofs.Common.{◌+◌, ◌-◌, ◌∙◌, ℕ, take, drop, ap, get_or, arith}
-use Rattle.std.proofs.lemmas.List.{get_or-drop, get_or-take}
-use Rattle.std.proofs.lemmas.Simd.{get_or-chunk}
+use Rattle.pnm_samples.proofs.Words.{◌+◌, ◌-◌, ◌∙◌, ℕ, take, drop, ap, get_or, arith, get_or-drop, get_or-take, get_or-chunk}
 use Rattle.pnm_samples.proofs.transpose.sixteen_bytes.Goals as goal
 
 pub returns-clause-bytes : goal.returns-clause-bytes

@@ -1,5 +1,4 @@
-use Rattle.std.proofs.Common.{◌≡◌, get_or, arith}
-use Rattle.std.proofs.lemmas.Grind.{common_steps}
+use Rattle.pnm_samples.proofs.Words.{◌≡◌, get_or, arith, common_steps}
 use Rattle.pnm_samples.proofs.widths.bytes_to_words.Goals as goal
 
 pub loop-at-preserved : goal.loop-at-preserved

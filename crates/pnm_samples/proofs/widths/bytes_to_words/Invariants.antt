@@ -1,4 +1,4 @@
-use Rattle.std.proofs.Common.{◌≡◌, take, length}
+use Rattle.pnm_samples.proofs.Words.{◌≡◌, take, length}
 use Rattle.pnm_samples.proofs.widths.bytes_to_words.Given as goal
 
 -- the bytes that have passed

@@ -1,5 +1,4 @@
-use Rattle.std.proofs.Common.{◌≡◌, ◌+◌, get_or, take, arith}
-use Rattle.std.proofs.lemmas.Grind.{common_steps}
+use Rattle.pnm_samples.proofs.Words.{◌≡◌, ◌+◌, get_or, take, arith, common_steps}
 use Rattle.std.proofs.Math.ListN.{set}
 use Rattle.pnm_samples.proofs.widths.words_to_bytes.Goals as goal
 

@@ -1,4 +1,4 @@
-use Rattle.std.proofs.Common.{◌≡◌, take, length}
+use Rattle.pnm_samples.proofs.Words.{◌≡◌, take, length}
 use Rattle.pnm_samples.proofs.widths.words_to_bytes.Given as goal
 
 -- the words that have passed

@@ -1,4 +1,4 @@
-use Rattle.std.proofs.Common.{refl}
+use Rattle.pnm_serial.proofs.Words.{refl, RunExamplesHold}
 use Rattle.std.specs.Fmt.{digits}
 use Rattle.pnm_read.specs.HeaderTexts.{ends_by, uncommented_from}
 use Rattle.pnm_image.specs.Texts.{words}
@@ -10,7 +10,6 @@ use Rattle.pnm_read.specs.Said.{in_turn, format_at, pnm_head_at, pam_head_at, ra
 use Rattle.pnm_read.specs.Said.{later_said_in, later_said, text_said}
 use Rattle.pnm_tools.specs.Tools.{result_head, result_sample}
 use Rattle.pnm_tools.specs.Chains.{due_in_turn}
-use Rattle.pnm_serial.specs.RunExamples.{RunExamplesHold}
 use Rattle.pnm_serial.proofs.laws.examples_hold.Goals as goal
 
 computed : RunExamplesHold

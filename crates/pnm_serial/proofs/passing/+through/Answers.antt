@@ -1,15 +1,11 @@
-use Rattle.std.proofs.Common.{◌<◌, List, length, refl, sym, subst, ◌∙◌, arith}
-use Rattle.std.proofs.lemmas.Bool.Decides.{nat_tests}
-use Rattle.pnm_image.specs.declared.message.Message.{Message}
-use Rattle.pnm_serial.specs.Internal.SerialChains.{FeedsThrough}
+use Rattle.pnm_serial.proofs.Words.{◌<◌, List, length, refl, sym, subst, ◌∙◌, arith, nat_tests, Message, FeedsThrough}
 use Rattle.pnm_serial.proofs.PassingSteps.{passes_on, feeds_next, drops_rest, gives_on, gives_all}
 use Rattle.pnm_serial.proofs.passing.+through.Goals as goal
 
 -- ---- feed_through
 
 pub feed_through-returns-then-is_empty-clause-fed : goal.feed_through-returns-then-is_empty-clause-fed
-feed_through-returns-then-is_empty-clause-fed g t c = passes_on _ _ _ _ _
-    c.args.stages.now _ c.args.fused_sink.now _ (sym c.is_empty.ensures ∙ c.if-is_empty.true) assumption
+feed_through-returns-then-is_empty-clause-fed g t c = passes_on c.args.stages.now (sym c.is_empty.ensures ∙ c.if-is_empty.true) assumption
 
 pub feed_through-loop-alloc-init : goal.feed_through-loop-alloc-init
 feed_through-loop-alloc-init g t c = (
@@ -40,8 +36,8 @@ feed_through-returns-clause-fed g t c =
 pub pass_answers-loop-answer-preserved : goal.pass_answers-loop-answer-preserved
 pass_answers-loop-answer-preserved g t c =
     let some : 0 < length c.loop-answer.stages = omega (arith, c.loop-answer.auto.stages, c.requires.some) in (
-      λ new after then. c.loop-answer.invariant.0 new after (gives_on g.F.Filter.at _ _ g.met.F.Filter.at_answers _ _ c.loop-answer.stages
-          c.feed_through.new.stages new _ c.index-stages-0.result c.next.new.self _ _ _ after refl some c.in-Some.ensures.given
+      λ new after then. c.loop-answer.invariant.0 new after (gives_on g.met.F.Filter.at_answers c.loop-answer.stages new c.index-stages-0.result
+          c.next.new.self refl some c.in-Some.ensures.given
           c.feed_through.ensures.fed then),
       g.met.W.BytesOut.same_later _ _ _ c.loop-answer.invariant.1 c.feed_through.ensures.same_device,
     )

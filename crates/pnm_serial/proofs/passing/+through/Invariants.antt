@@ -1,11 +1,5 @@
-use Rattle.std.proofs.Common.{◌*◌, ◌+◌, List, length}
-use Rattle.pnm_image.specs.Packets.{messages_in}
-use Rattle.pnm_tools.specs.declared.fused_filter.FusedFilter.{FusedFilter}
-use Rattle.pnm_tools.specs.Unfed.{unfed_in}
-use Rattle.pnm_serial.specs.declared.fused_sink.FusedSink.{FusedSink}
-use Rattle.pnm_serial.specs.FusedSinks.{output_of}
-use Rattle.pnm_serial.specs.SerialChains.{FiltersAt}
-use Rattle.pnm_serial.specs.Internal.SerialChains.{FeedsThrough, FiltersBusy, GivesThrough}
+use Rattle.pnm_serial.proofs.Words.{◌*◌, ◌+◌, List, length, messages_in, FusedFilter, unfed_in, FusedSink, output_of, FiltersAt, FeedsThrough, FiltersBusy}
+use Rattle.pnm_serial.proofs.Words.{GivesThrough}
 use Rattle.pnm_serial.proofs.PassingSteps.{first_waiting}
 use Rattle.pnm_serial.proofs.passing.+through.Given as goal
 

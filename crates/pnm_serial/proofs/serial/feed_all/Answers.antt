@@ -1,7 +1,4 @@
-use Rattle.std.proofs.Common.{ap, arith, Err}
-use Rattle.std.proofs.lemmas.Result.{err_from_is_err_and}
-use Rattle.pnm_read.specs.declared.fault.InputFault.TheVariants.{ReadFailed}
-use Rattle.pnm_read.proofs.ReadCalls.{no_fault}
+use Rattle.pnm_serial.proofs.Words.{ap, arith, Err, err_from_is_err_and, ReadFailed, no_fault}
 use Rattle.pnm_serial.proofs.FeedingSteps.{going_none, going_flushed, going_more, fed_all, fed_until, fed_too_many}
 use Rattle.pnm_serial.proofs.serial.feed_all.Goals as goal
 

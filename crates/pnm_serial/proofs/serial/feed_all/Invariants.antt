@@ -1,5 +1,4 @@
-use Rattle.pnm_read.specs.Sources.{reader_of}
-use Rattle.pnm_serial.specs.FusedSinks.{output_of}
+use Rattle.pnm_serial.proofs.Words.{reader_of, output_of}
 use Rattle.pnm_serial.proofs.FeedingSteps.{Going}
 use Rattle.pnm_serial.proofs.serial.feed_all.Given as goal
 

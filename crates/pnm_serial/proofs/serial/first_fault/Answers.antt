@@ -1,8 +1,5 @@
-use Rattle.std.proofs.Common.{◌≡◌, ℕ, suc, ◌+◌, take, subst, ◌<◌, length, arith, ◌∙◌, sym, ap}
-use Rattle.std.proofs.lemmas.List.{get_or-map, length-map}
-use Rattle.pnm_tools.specs.ChainAnswers.{AreWell, IsFirstFault}
-use Rattle.pnm_tools.specs.FusedFilters.{refusal_in}
-use Rattle.pnm_serial.specs.Internal.SerialChains.{refusals_in}
+use Rattle.pnm_serial.proofs.Words.{◌≡◌, ℕ, suc, ◌+◌, take, subst, ◌<◌, length, arith, ◌∙◌, sym, ap, get_or-map, length-map, AreWell, IsFirstFault, refusal_in}
+use Rattle.pnm_serial.proofs.Words.{refusals_in}
 use Rattle.pnm_serial.proofs.FaultSteps.{well_more, first_here}
 use Rattle.pnm_serial.proofs.serial.first_fault.Goals as goal
 
@@ -12,7 +9,7 @@ returns-in-Some g c =
     let some = get_or-map refusal_in c.args.stages.now c.loop-index.index c.index-stages-index.result (refusal_in c.index-stages-index.result) within
     ∙ ap refusal_in (sym c.index-stages-index.is) ∙ sym c.fault.ensures ∙ c.in-Some.is in
     subst (λ (n : ℕ). IsFirstFault 1 (refusals_in c.args.stages.now) n c.in-Some.fault) (omega arith)
-    (first_here 1 (refusals_in c.args.stages.now) c.loop-index.index (refusal_in c.index-stages-index.result) c.in-Some.fault c.loop-index.invariant
+    (first_here 1 (refusals_in c.args.stages.now) c.loop-index.index (refusal_in c.index-stages-index.result) c.loop-index.invariant
     (omega (arith, length-map c.args.stages.now refusal_in)) some)
 
 pub loop-index-preserved : goal.loop-index-preserved

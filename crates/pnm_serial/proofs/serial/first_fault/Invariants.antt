@@ -1,6 +1,4 @@
-use Rattle.std.proofs.Common.{take}
-use Rattle.pnm_tools.specs.ChainAnswers.{AreWell}
-use Rattle.pnm_serial.specs.Internal.SerialChains.{refusals_in}
+use Rattle.pnm_serial.proofs.Words.{take, AreWell, refusals_in}
 use Rattle.pnm_serial.proofs.serial.first_fault.Given as goal
 
 -- the stages that were looked at haven't refused

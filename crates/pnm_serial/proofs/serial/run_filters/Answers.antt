@@ -1,10 +1,4 @@
-use Rattle.std.proofs.Common.{rules, refl}
-use Rattle.pnm_read.specs.Sources.{reader_of}
-use Rattle.pnm_serial.specs.FusedSinks.{output_of}
-use Rattle.pnm_serial.specs.Jobs.{job_of}
-use Rattle.pnm_serial.specs.Runs.{change}
-use Rattle.pnm_serial.specs.SerialRuns.{HasMostMessages}
-use Rattle.pnm_serial.specs.Internal.SerialChains.{refusals_in}
+use Rattle.pnm_serial.proofs.Words.{rules, refl, reader_of, output_of, job_of, change, HasMostMessages, refusals_in}
 use Rattle.pnm_serial.proofs.RunSteps.{failed_so, ran_of, stages_answered}
 use Rattle.pnm_serial.proofs.EndSteps.{Ended, HaveEnded, ended_in_one_thread, ended_without_reading, may_follow}
 use Rattle.pnm_serial.proofs.serial.run_filters.Goals as goal
@@ -32,14 +26,8 @@ pub returns-clause-ran : goal.returns-clause-ran
 returns-clause-ran g c = λ tools lawful fresh.
     let fed = c.feed_all-input.ensures.fed in
     let start = rw (← c.new-fused_sink.ensures.writer) at c.new-fused_sink.ensures.fresh in
-    let ran = ran_of (λ r. g.R.BytesIn.left r.now) (λ r. g.R.BytesIn.failures r.now) g.F.Filter.at g.F.Filter.all_given g.F.Filter.stopped
-    (λ w. g.W.BytesOut.held w.now) (λ w. g.W.BytesOut.failures w.now)
-    c.with_buffer-source.result c.feed_all-input.new.source c.feed_all-input.result c.args.stages.now c.feed_all-input.new.stages
-    c.new-fused_sink.result c.feed_all-input.new.fused_sink (job_of tools c.args.form) lawful fresh start fed in
-    let answered = stages_answered (λ r. g.R.BytesIn.left r.now) (λ r. g.R.BytesIn.failures r.now) g.F.Filter.at g.F.Filter.all_given g.F.Filter.stopped
-    (λ w. g.W.BytesOut.held w.now) (λ w. g.W.BytesOut.failures w.now)
-    c.with_buffer-source.result c.feed_all-input.new.source c.feed_all-input.result c.args.stages.now c.feed_all-input.new.stages
-    c.new-fused_sink.result c.feed_all-input.new.fused_sink tools lawful fresh fed in
+    let ran = ran_of lawful fresh start fed in
+    let answered = stages_answered tools lawful fresh fed in
     let stages : HaveEnded 1 (job_of tools c.args.form) (refusals_in c.feed_all-input.new.stages) fed.given fed.output.out c.first_fault.result = record {
       last = fed.output.out;
       answered = answered;
@@ -67,9 +55,7 @@ returns-clause-ran g c = λ tools lawful fresh.
       well = c.finish-written.ensures.well;
     } in
     let has = ended_in_one_thread reader (λ w. g.W.BytesOut.held w.now) (λ w. g.W.BytesOut.failures w.now) (output_of c.new-fused_sink.result)
-    c.finish-written.result.0 (job_of tools c.args.form)
-    c.feed_all-input.result c.first_fault.result c.finish-written.result.1 ended answered
-    stages.first in
+    c.finish-written.result.0 (job_of tools c.args.form) c.feed_all-input.result c.first_fault.result c.finish-written.result.1 ended answered stages.first in
     let all = rw (c.new-fused_sink.ensures.writer, c.with_buffer-source.ensures.reader_is, ← c.answer.ensures) at has in
     search rules
 

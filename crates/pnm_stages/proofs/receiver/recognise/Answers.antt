@@ -31,9 +31,9 @@ returns-clause-ends c =
 
 pub returns-in-Some-clause-together : goal.returns-in-Some-clause-together
 returns-in-Some-clause-together c =
-    let several : c.is_several.result ≡ is_together c.args.packet.now = several_by c.is_several.result c.is_several.ensures.several in several
+    let several : c.is_several.result ≡ is_together c.args.packet.now = several_by c.args.packet.now c.is_several.result c.is_several.ensures.several in several
 
 pub returns-clause-together : goal.returns-clause-together
 returns-clause-together c =
     let several : c.is_several-2.result ≡ is_together c.args.packet.now =
-    several_by c.is_several-2.result c.is_several-2.ensures.several in several
+    several_by c.args.packet.now c.is_several-2.result c.is_several-2.ensures.several in several

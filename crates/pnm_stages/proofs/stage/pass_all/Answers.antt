@@ -47,7 +47,8 @@ loop-preserved g c =
 pub returns-in-Whole-clause-ran : goal.returns-in-Whole-clause-ran
 returns-in-Whole-clause-ran g c tool fresh =
     let came = arrived (messages_in c.receive_known-packet.result) c.has_next.ensures.received c.receive_known-packet.ensures.received in
-    ends_well (passes_packet g.F.Filter.at g.F.Filter.all_given g.F.Filter.stopped c.args.stage.now c.loop.stage c.pass.new.stage
+    ends_well (known_items c.receive_known-packet.new.self)
+    (passes_packet g.F.Filter.at g.F.Filter.all_given g.F.Filter.stopped c.args.stage.now c.loop.stage c.pass.new.stage
     c.receive_known-packet.result (received c.args.input.now) (received c.loop.input) (received c.receive_known-packet.new.self) (sent c.args.output.now)
     (sent c.has_next.new.output) (sent c.pass.new.output)
     (still_sent c.loop.invariant.2 c.has_next.ensures.sent) came c.receive_known-packet.ensures.messages c.receive_known-packet.ensures.ends
@@ -56,7 +57,8 @@ returns-in-Whole-clause-ran g c tool fresh =
 pub returns-in-BrokenOff-clause-ran : goal.returns-in-BrokenOff-clause-ran
 returns-in-BrokenOff-clause-ran g c tool fresh =
     let came = arrived (messages_in c.receive_known-packet.result) c.has_next.ensures.received c.receive_known-packet.ensures.received in
-    ends_broken (passes_packet g.F.Filter.at g.F.Filter.all_given g.F.Filter.stopped c.args.stage.now c.loop.stage c.pass.new.stage
+    ends_broken (known_items c.receive_known-packet.new.self)
+    (passes_packet g.F.Filter.at g.F.Filter.all_given g.F.Filter.stopped c.args.stage.now c.loop.stage c.pass.new.stage
     c.receive_known-packet.result (received c.args.input.now) (received c.loop.input) (received c.receive_known-packet.new.self) (sent c.args.output.now)
     (sent c.has_next.new.output) (sent c.pass.new.output)
     (still_sent c.loop.invariant.2 c.has_next.ensures.sent) came c.receive_known-packet.ensures.messages c.receive_known-packet.ensures.ends

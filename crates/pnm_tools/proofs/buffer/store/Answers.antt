@@ -1,5 +1,4 @@
-use Rattle.std.proofs.Common.{List, ◌++◌, ◌-◌, ◌+◌, length, take, ap, ◌∙◌, arith}
-use Rattle.std.proofs.lemmas.Slice.{take-put_mid}
+use Rattle.pnm_tools.proofs.Words.{List, ◌++◌, ◌-◌, ◌+◌, length, take, ap, ◌∙◌, arith, take-put_mid}
 use Rattle.pnm_tools.proofs.buffer.store.Goals as goal
 
 pub returns : goal.returns

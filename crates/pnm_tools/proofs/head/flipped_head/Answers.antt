@@ -1,9 +1,4 @@
-use Rattle.std.proofs.Common.{rules, ◌≡◌, ◌⊎◌, inl, inr, true, false, ap, sym, ◌∙◌}
-use Rattle.pnm_image.specs.Heads.{head_value}
-use Rattle.pnm_tools.specs.declared.tool.Tool.TheVariants.{Flip}
-use Rattle.pnm_tools.specs.Flip.{transform_of, moves_rows}
-use Rattle.pnm_tools.specs.ToolLimits.{within_limits}
-use Rattle.pnm_tools.specs.Tools.{result_head}
+use Rattle.pnm_tools.proofs.Words.{rules, ◌≡◌, ◌⊎◌, inl, inr, true, false, ap, sym, ◌∙◌, head_value, Flip, transform_of, moves_rows, within_limits, result_head}
 use Rattle.pnm_tools.proofs.HeadLaws.{head_so, fault_so}
 use Rattle.pnm_tools.proofs.FlippedHeadLaws.{flip_without_rows, transformed_sizes, transformed_head_made}
 use Rattle.pnm_tools.proofs.head.flipped_head.Goals as goal

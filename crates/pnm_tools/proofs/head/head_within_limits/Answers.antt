@@ -1,5 +1,4 @@
-use Rattle.std.proofs.Common.{arith, rules}
-use Rattle.std.proofs.lemmas.Grind.{common_steps}
+use Rattle.pnm_tools.proofs.Words.{arith, rules, common_steps}
 use Rattle.pnm_tools.proofs.head.head_within_limits.Goals as goal
 
 pub returns-in-Err : goal.returns-in-Err

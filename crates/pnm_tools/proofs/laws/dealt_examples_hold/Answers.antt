@@ -1,4 +1,4 @@
-use Rattle.std.proofs.Common.{refl}
+use Rattle.pnm_tools.proofs.Words.{refl}
 use Rattle.pnm_tools.proofs.laws.dealt_examples_hold.Goals as goal
 
 pub returns : goal.returns

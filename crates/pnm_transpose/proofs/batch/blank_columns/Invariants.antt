@@ -1,4 +1,4 @@
-use Rattle.pnm_transpose.specs.Internal.ColumnBatches.{AreBlank}
+use Rattle.pnm_transpose.proofs.Words.{AreBlank}
 use Rattle.pnm_transpose.proofs.batch.blank_columns.Given as goal
 
 -- so many columns are there

@@ -1,7 +1,5 @@
-use Rattle.std.proofs.Common.{◌≡◌, ℕ, ◌*◌, length, ap, arith, ◌+◌, sym, subst, ◌∙◌}
-use Rattle.pnm_transpose.specs.declared.strip.TheConstants.{STRIP_ROWS}
+use Rattle.pnm_transpose.proofs.Words.{◌≡◌, ℕ, ◌*◌, length, ap, arith, ◌+◌, sym, subst, ◌∙◌, STRIP_ROWS, ReachColumns}
 use Rattle.pnm_transpose.proofs.StripLaws.{kept_columns_made}
-use Rattle.pnm_transpose.specs.Internal.Strips.{ReachColumns}
 use Rattle.pnm_transpose.proofs.ColumnLaws.{blank_enough}
 use Rattle.pnm_transpose.proofs.batch.columns_of.Goals as goal
 
@@ -55,5 +53,4 @@ put_kept-requires-clause-long g c =
     let parts = ap (λ (n : ℕ). STRIP_ROWS * c.args.depth * n) strips in
     let rows : c.len-2.result ≡ length c.args.kept.now.rows = c.len-2.ensures in
     let rest = ap (λ (n : ℕ). c.args.depth * n) rows in
-    blank_enough c.args.count _ _ c.in_ok-columns.columns.items c.as_mut_slice.result.now c.in_ok-columns.ensures.blank c.as_mut_slice.ensures.value
-    (omega (arith, parts, rest))
+    blank_enough _ c.in_ok-columns.ensures.blank c.as_mut_slice.ensures.value (omega (arith, parts, rest))

@@ -1,11 +1,10 @@
-use Rattle.std.proofs.Common.{◌≡◌, ℕ, List, [], ◌∷◌, ◌++◌, map, reverse, ap, sym, ◌∙◌}
-use Rattle.std.proofs.lemmas.List.{append_assoc, map-append, reverse-append}
+use Rattle.pnm_transpose.proofs.Words.{◌≡◌, ℕ, List, [], ◌∷◌, ◌++◌, map, reverse, ap, sym, ◌∙◌, append_assoc, map-append, reverse-append}
 use Rattle.pnm_transpose.proofs.batch.last_first.Goals as goal
 
 -- the last column goes over
-one_over : {X : Type 0} (f : X → List ℕ) (batch : List (List ℕ)) (front all : List X) (column : X) → all ≡ front ++ column ∷ []
+one_over : {X : Type 0} (f : X → List ℕ) (batch : List (List ℕ)) (front : List X) {all : List X} (column : X) → all ≡ front ++ column ∷ []
     → (batch ++ f column ∷ []) ++ reverse (map f front) ≡ batch ++ reverse (map f all)
-one_over {X = X} f batch front all column is =
+one_over {X = X} f batch front column is =
     append_assoc batch (f column ∷ []) (reverse (map f front))
     ∙ ap (λ (l : List (List ℕ)). batch ++ l) (sym (ap (λ (l : List X). reverse (map f l)) is
     ∙ ap (λ (l : List (List ℕ)). reverse l) (map-append f front (column ∷ [])) ∙ reverse-append (map f front) (f column ∷ [])))
@@ -20,4 +19,4 @@ loop-column-preserved g c =
     let batch = c.loop-column.batch.items in
     ap (λ (l : List (List ℕ)). l ++ reverse (map f c.pop.new.self.items))
     (c.in_ok-push.ensures.items ∙ ap (λ (samples : List ℕ). batch ++ samples ∷ []) c.into_samples.ensures)
-    ∙ one_over f batch c.pop.new.self.items c.loop-column.columns.items c.in-Some.column c.in-Some.ensures.items ∙ c.loop-column.invariant
+    ∙ one_over f batch c.pop.new.self.items c.in-Some.column c.in-Some.ensures.items ∙ c.loop-column.invariant

@@ -1,4 +1,4 @@
-use Rattle.std.proofs.Common.{◌≡◌, ◌++◌, length, map, reverse}
+use Rattle.pnm_transpose.proofs.Words.{◌≡◌, ◌++◌, length, map, reverse}
 use Rattle.pnm_transpose.proofs.batch.last_first.Given as goal
 
 -- the last columns have gone over

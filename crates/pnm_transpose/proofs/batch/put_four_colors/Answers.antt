@@ -1,8 +1,5 @@
-use Rattle.std.proofs.Common.{ap, drop, get_or, refl, take, [], ◌∙◌, ◌+◌, ◌*◌, refl, arith, ◌≡◌, ℕ, length, subst}
-use Rattle.pnm_tools.specs.Flip.{column_of}
+use Rattle.pnm_transpose.proofs.Words.{ap, drop, get_or, refl, take, [], ◌∙◌, ◌+◌, ◌*◌, arith, ◌≡◌, ℕ, length, subst, column_of, HavePixels, common_steps}
 use Rattle.pnm_transpose.proofs.ColumnLaws.{column_stored, room_in, four_of, row_of_part, row_reaches_at, four_colors, nothing_stored}
-use Rattle.pnm_transpose.specs.Internal.ColumnBatches.{HavePixels}
-use Rattle.std.proofs.lemmas.Grind.{common_steps}
 use Rattle.pnm_transpose.proofs.batch.put_four_colors.Goals as goal
 
 pub loop-k-preserved : goal.loop-k-preserved
@@ -11,43 +8,38 @@ loop-k-preserved g c =
     let k = c.loop-k.k in
     let v = c.index-columns-k.result in
     let rows = take 4 (drop c.args.y c.args.rows.now) in
-    column_stored k at (λ k. column_of 3 rows (c.args.first + k)) c.args.columns.now c.loop-k.columns v c.as_mut_slice.result.now
-    c.store.new.buffer _ c.loop-k.invariant (omega arith) c.as_mut_slice.ensures.value c.store.auto.buffer c.store.ensures
-    (four_colors (c.args.first + k) (3 * (c.args.first + k)) rows c.row-a.result.now c.row-b.result.now c.row-c.result.now
-    c.row-d.result.now _ _ _ _ refl (four_of c.args.y c.args.rows.now c.requires.four)
-    (row_of_part 4 c.args.y 0 c.args.rows.now c.row-a.result.now (omega arith) (omega arith)
-    (c.row-a.ensures ∙ ap (λ (n : ℕ). get_or c.args.rows.now n []) (omega arith)))
-    (row_of_part 4 c.args.y 1 c.args.rows.now c.row-b.result.now (omega arith) (omega arith) c.row-b.ensures)
-    (row_of_part 4 c.args.y 2 c.args.rows.now c.row-c.result.now (omega arith) (omega arith) c.row-c.ensures)
-    (row_of_part 4 c.args.y 3 c.args.rows.now c.row-d.result.now (omega arith) (omega arith) c.row-d.ensures)
+    column_stored (λ k. column_of 3 rows (c.args.first + k)) v
+    c.store.new.buffer c.loop-k.invariant (omega arith) c.as_mut_slice.ensures.value c.store.auto.buffer c.store.ensures
+    (four_colors (c.args.first + k) rows refl (four_of c.args.y c.args.rows.now c.requires.four)
+    (row_of_part 4 c.args.y 0 c.args.rows.now (omega arith) (omega arith) (c.row-a.ensures ∙ ap (λ (n : ℕ). get_or c.args.rows.now n []) (omega arith)))
+    (row_of_part 4 c.args.y 1 c.args.rows.now (omega arith) (omega arith) c.row-b.ensures)
+    (row_of_part 4 c.args.y 2 c.args.rows.now (omega arith) (omega arith) c.row-c.ensures)
+    (row_of_part 4 c.args.y 3 c.args.rows.now (omega arith) (omega arith) c.row-d.ensures)
     c.color_at-p.ensures c.color_at-q.ensures c.color_at-r.ensures c.color_at-s.ensures)
 
 pub color_at-p-requires : goal.color_at-p-requires
 color_at-p-requires g c =
-    let fits = row_reaches_at 3 c.args.first _ c.loop-k.k (c.args.y + 0) c.args.rows.now c.row-a.result.now (omega arith) (omega arith)
+    let fits = row_reaches_at 3 c.args.first _ c.loop-k.k (c.args.y + 0) c.args.rows.now (omega arith) (omega arith)
     (c.row-a.ensures ∙ ap (λ (n : ℕ). get_or c.args.rows.now n []) (omega arith)) c.requires.rows in
     omega (arith, fits)
 
 pub color_at-q-requires : goal.color_at-q-requires
 color_at-q-requires g c =
-    let fits = row_reaches_at 3 c.args.first _ c.loop-k.k (c.args.y + 1) c.args.rows.now c.row-b.result.now (omega arith) (omega arith)
-    c.row-b.ensures c.requires.rows in
+    let fits = row_reaches_at 3 c.args.first _ c.loop-k.k (c.args.y + 1) c.args.rows.now (omega arith) (omega arith) c.row-b.ensures c.requires.rows in
     omega (arith, fits)
 
 pub color_at-r-requires : goal.color_at-r-requires
 color_at-r-requires g c =
-    let fits = row_reaches_at 3 c.args.first _ c.loop-k.k (c.args.y + 2) c.args.rows.now c.row-c.result.now (omega arith) (omega arith)
-    c.row-c.ensures c.requires.rows in
+    let fits = row_reaches_at 3 c.args.first _ c.loop-k.k (c.args.y + 2) c.args.rows.now (omega arith) (omega arith) c.row-c.ensures c.requires.rows in
     omega (arith, fits)
 
 pub color_at-s-requires : goal.color_at-s-requires
 color_at-s-requires g c =
-    let fits = row_reaches_at 3 c.args.first _ c.loop-k.k (c.args.y + 3) c.args.rows.now c.row-d.result.now (omega arith) (omega arith)
-    c.row-d.ensures c.requires.rows in
+    let fits = row_reaches_at 3 c.args.first _ c.loop-k.k (c.args.y + 3) c.args.rows.now (omega arith) (omega arith) c.row-d.ensures c.requires.rows in
     omega (arith, fits)
 
 pub loop-k-init : goal.loop-k-init
-loop-k-init g c = nothing_stored _ _ _
+loop-k-init g c = nothing_stored
 
 pub returns : goal.returns
 returns g c =
@@ -57,9 +49,7 @@ returns g c =
     c.loop-k.invariant
 
 pub store-requires : goal.store-requires
-store-requires g c =
-    room_in c.loop-k.k c.args.at (c.args.at + 12) _ c.args.columns.now c.loop-k.columns c.index-columns-k.result c.as_mut_slice.result.now
-    c.loop-k.invariant c.requires.long (omega arith) c.as_mut_slice.ensures.value
+store-requires g c = room_in (c.args.at + 12) c.index-columns-k.result c.loop-k.invariant c.requires.long (omega arith) c.as_mut_slice.ensures.value
 
 pub shared_whole_as_slice-store : goal.shared_whole_as_slice-store
 shared_whole_as_slice-store g c = grind (arith, common_steps)

@@ -1,6 +1,4 @@
-use Rattle.std.proofs.Common.{◌+◌, drop, take}
-use Rattle.pnm_transpose.specs.Internal.ColumnBatches.{HavePixels}
-use Rattle.pnm_tools.specs.Flip.{column_of}
+use Rattle.pnm_transpose.proofs.Words.{◌+◌, drop, take, HavePixels, column_of}
 use Rattle.pnm_transpose.proofs.batch.put_four_colors.Given as goal
 
 -- the columns that have passed got their pixels

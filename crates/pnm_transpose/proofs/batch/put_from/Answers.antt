@@ -1,7 +1,5 @@
-use Rattle.std.proofs.Common.{◌+◌, ◌*◌, ◌/◌, ◌-◌, ◌≡◌, ◌∙◌, ℕ, ap, subst, sym, length, drop, take, refl, arith}
-use Rattle.std.proofs.lemmas.List.{length-drop}
-use Rattle.pnm_transpose.specs.Internal.ColumnBatches.{AreLongEnough, HavePixels}
-use Rattle.pnm_tools.specs.Flip.{column_of}
+use Rattle.pnm_transpose.proofs.Words.{◌+◌, ◌*◌, ◌/◌, ◌-◌, ◌≡◌, ◌∙◌, ℕ, ap, subst, sym, length, drop, take, refl, arith, length-drop, AreLongEnough, HavePixels}
+use Rattle.pnm_transpose.proofs.Words.{column_of}
 use Rattle.pnm_transpose.proofs.BlockLaws.{rest_reaches, rows_further}
 use Rattle.pnm_transpose.proofs.ColumnLaws.{all_behind, four_behind, rows_behind, room_left, within}
 use Rattle.pnm_transpose.proofs.StripLaws.{reach_lent}
@@ -18,15 +16,15 @@ put_four-requires-clause-long g c =
     let y = 4 * c.loop-group.group in
     let left = length c.args.rows.now - c.args.begun in
     let depth = c.args.depth in
-    room_left _ c.args.at (c.args.at + y * depth + 4 * depth) (c.args.at + left * depth) _ c.args.columns.now c.loop-group.columns
+    room_left (c.args.at + y * depth + 4 * depth) (c.args.at + left * depth)
     (omega (arith, within y 4 left depth (omega (arith, c.len.ensures)))) c.requires.long c.loop-group.invariant
 
 pub loop-group-preserved : goal.loop-group-preserved
 loop-group-preserved g c =
     let rows = c.args.rows.now in
-    four_behind c.args.first c.args.depth c.loop-group.group 4 c.args.at (drop c.args.begun rows) c.args.columns.now c.loop-group.columns c.put_four.new.columns
+    four_behind c.args.first c.args.depth c.loop-group.group (drop c.args.begun rows)
     (omega (arith, c.len.ensures, length-drop c.args.begun rows)) refl (rest_reaches c.args.begun _ rows c.requires.rows) c.loop-group.invariant
-    (rows_further c.args.begun (4 * c.loop-group.group) 4 c.args.first c.args.depth _ _ rows c.loop-group.columns c.put_four.new.columns c.put_four.ensures)
+    (rows_further c.args.begun (4 * c.loop-group.group) 4 c.args.first c.args.depth rows c.put_four.ensures)
 
 pub put_some-requires-clause-long : goal.put_some-requires-clause-long
 put_some-requires-clause-long g c =
@@ -34,8 +32,8 @@ put_some-requires-clause-long g c =
     let y = 4 * (left / 4) in
     let count = left - y in
     let all = within y count left c.args.depth (omega arith) in
-    room_left _ c.args.at (c.args.at + y * c.args.depth + count * c.args.depth) (c.args.at + left * c.args.depth) _ c.args.columns.now
-    c.loop-group.columns (omega (arith, all)) (subst (λ (n : ℕ). AreLongEnough (c.args.at + (n - c.args.begun) * c.args.depth) c.args.columns.now)
+    room_left (c.args.at + y * c.args.depth + count * c.args.depth) (c.args.at + left * c.args.depth) (omega (arith, all))
+    (subst (λ (n : ℕ). AreLongEnough (c.args.at + (n - c.args.begun) * c.args.depth) c.args.columns.now)
     (sym c.len.ensures) c.requires.long) c.loop-group.invariant
 
 pub put_some-requires-clause-sizes : goal.put_some-requires-clause-sizes
@@ -61,9 +59,7 @@ returns g c =
     let rest = drop c.args.begun rows in
     let before : c.loop-group.group ≡ left / 4 = omega arith in
     let size : length rest ≡ left = length-drop c.args.begun rows ∙ ap (λ (n : ℕ). n - c.args.begun) (sym c.len.ensures) in
-    all_behind c.args.first c.args.depth (y + count) c.args.at _ rest c.args.columns.now c.put_some.new.columns (omega (arith, size))
-    (rows_behind c.args.first c.args.depth y count c.args.at rest c.args.columns.now c.loop-group.columns c.put_some.new.columns
+    all_behind c.args.first c.args.depth (y + count) rest (omega (arith, size)) (rows_behind c.args.first c.args.depth y count rest
     (omega (arith, size)) (rest_reaches c.args.begun _ rows c.requires.rows)
     (subst (λ (n : ℕ). HavePixels (length c.args.columns.now) c.args.at (λ k. column_of c.args.depth (take (4 * n) rest) (c.args.first + k)) c.args.columns.now
-    c.loop-group.columns) before c.loop-group.invariant)
-    (rows_further c.args.begun y count c.args.first c.args.depth _ _ rows c.loop-group.columns c.put_some.new.columns c.put_some.ensures))
+    c.loop-group.columns) before c.loop-group.invariant) (rows_further c.args.begun y count c.args.first c.args.depth rows c.put_some.ensures))

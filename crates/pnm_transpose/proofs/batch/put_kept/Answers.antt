@@ -1,6 +1,5 @@
 use Rattle.pnm_transpose.proofs.ColumnLaws.{room_left}
-use Rattle.pnm_transpose.specs.declared.strip.TheConstants.{STRIP_ROWS}
-use Rattle.std.proofs.Common.{◌*◌, ℕ, ap, refl, arith}
+use Rattle.pnm_transpose.proofs.Words.{STRIP_ROWS, ◌*◌, ℕ, ap, refl, arith}
 use Rattle.pnm_transpose.proofs.StripLaws.{rows_stored_first, strips_stored_first, kept_samples, reach_lent}
 use Rattle.pnm_transpose.proofs.batch.put_kept.Goals as goal
 
@@ -53,7 +52,7 @@ put_rows-requires-clause-long g c =
     let many = ap (λ (n : ℕ). n * c.args.depth) c.len.ensures in
     let counted = kept_samples c.args.depth c.args.kept.now.strips.items c.args.kept.now.rows c.as_slice-strips.result.now c.args.kept.now.rows
     c.as_slice-strips.ensures.value refl in
-    room_left _ 0 _ _ _ c.args.columns.now c.put_all.new.columns (omega (arith, counted, many)) c.requires.long c.put_all.ensures
+    room_left _ _ (omega (arith, counted, many)) c.requires.long c.put_all.ensures
 
 pub put_rows-requires-clause-rows : goal.put_rows-requires-clause-rows
 put_rows-requires-clause-rows g c =
@@ -85,8 +84,7 @@ pub put_all-requires-else-rows_first-clause-long : goal.put_all-requires-else-ro
 put_all-requires-else-rows_first-clause-long g c =
     let counted = kept_samples c.args.depth c.args.kept.now.strips.items c.args.kept.now.rows c.as_slice-strips.result.now c.args.kept.now.rows
     c.as_slice-strips.ensures.value refl in
-    room_left _ 0 _ _ _ c.args.columns.now c.put_rows-else-rows_first.new.columns (omega (arith, counted)) c.requires.long
-    c.put_rows-else-rows_first.ensures
+    room_left _ _ (omega (arith, counted)) c.requires.long c.put_rows-else-rows_first.ensures
 
 pub put_all-requires-else-rows_first-clause-rows : goal.put_all-requires-else-rows_first-clause-rows
 put_all-requires-else-rows_first-clause-rows g c =

@@ -1,9 +1,5 @@
-use Rattle.std.proofs.Common.{◌≡◌, ◌+◌, ◌-◌, ◌*◌, ℕ, ap, arith, drop, take, length, subst}
-use Rattle.pnm_tools.specs.PixelSamples.{pixel_of}
+use Rattle.pnm_transpose.proofs.Words.{◌≡◌, ◌+◌, ◌-◌, ◌*◌, ℕ, ap, arith, drop, take, length, subst, pixel_of, mid_len, HavePixels, common_steps}
 use Rattle.pnm_transpose.proofs.ColumnLaws.{column_stored, nothing_stored, room_in, within}
-use borrow.Rule.Slice.PartMut.{mid_len}
-use Rattle.pnm_transpose.specs.Internal.ColumnBatches.{HavePixels}
-use Rattle.std.proofs.lemmas.Grind.{common_steps}
 use Rattle.pnm_transpose.proofs.batch.put_pixels.Goals as goal
 
 pub loop-k-preserved : goal.loop-k-preserved
@@ -14,12 +10,12 @@ loop-k-preserved g c =
     let v = c.index-columns-k.result in
     let x = (c.args.first + k) * depth in
     let pixel : (x + depth) - x ≡ depth = omega arith in
-    column_stored k at (λ k. pixel_of depth c.args.row.now (c.args.first + k)) c.args.columns.now c.loop-k.columns v c.as_mut_slice.result.now
-    c.store.new.buffer _ c.loop-k.invariant (omega arith) c.as_mut_slice.ensures.value c.store.auto.buffer c.store.ensures
+    column_stored (λ k. pixel_of depth c.args.row.now (c.args.first + k)) v
+    c.store.new.buffer c.loop-k.invariant (omega arith) c.as_mut_slice.ensures.value c.store.auto.buffer c.store.ensures
     (ap (λ (m : ℕ). take m (drop x c.args.row.now)) pixel)
 
 pub loop-k-init : goal.loop-k-init
-loop-k-init g c = nothing_stored _ _ _
+loop-k-init g c = nothing_stored
 
 pub overflow_mul-x : goal.overflow_mul-x
 overflow_mul-x g c =
@@ -47,6 +43,5 @@ store-requires g c =
     let k = c.loop-k.k in
     let x = (c.args.first + k) * depth in
     let end = within (c.args.first + k) 1 (c.args.first + length c.args.columns.now) depth (omega arith) in
-    let room = room_in k at (at + depth) _ c.args.columns.now c.loop-k.columns c.index-columns-k.result c.as_mut_slice.result.now c.loop-k.invariant
-    c.requires.long (omega arith) c.as_mut_slice.ensures.value in
+    let room = room_in (at + depth) c.index-columns-k.result c.loop-k.invariant c.requires.long (omega arith) c.as_mut_slice.ensures.value in
     omega (arith, room, mid_len x (x + depth) c.args.row.now (omega (arith, end, c.requires.row)))

@@ -1,6 +1,4 @@
-use Rattle.std.proofs.Common.{◌+◌}
-use Rattle.pnm_transpose.specs.Internal.ColumnBatches.{HavePixels}
-use Rattle.pnm_tools.specs.PixelSamples.{pixel_of}
+use Rattle.pnm_transpose.proofs.Words.{◌+◌, HavePixels, pixel_of}
 use Rattle.pnm_transpose.proofs.batch.put_pixels.Given as goal
 
 -- the columns that have passed got their pixels

@@ -1,6 +1,5 @@
-use Rattle.std.proofs.Common.{length, arith}
+use Rattle.pnm_transpose.proofs.Words.{length, arith, common_steps}
 use Rattle.pnm_transpose.proofs.ColumnLaws.{row_behind, all_behind, looked_up, within}
-use Rattle.std.proofs.lemmas.Grind.{common_steps}
 use Rattle.pnm_transpose.proofs.batch.put_rows.Goals as goal
 
 pub overflow_mul-n : goal.overflow_mul-n
@@ -11,13 +10,11 @@ overflow_add-at g c = omega (arith, c.requires.sizes.0, within c.loop-n.n 1 (len
 
 pub loop-n-preserved : goal.loop-n-preserved
 loop-n-preserved g c =
-    row_behind c.args.first c.args.depth c.loop-n.n c.args.at c.args.rows.now c.as_slice.result.now c.args.columns.now c.loop-n.columns c.put_pixels.new.columns
-    c.loop-n-test.true (looked_up c.args.rows.now c.loop-n.n c.as_slice.result.now c.index-rows-n.result c.as_slice.ensures c.index-rows-n.is) c.requires.rows
-    c.loop-n.invariant c.put_pixels.ensures
+    row_behind c.args.first c.args.depth c.loop-n.n c.args.rows.now
+    c.loop-n-test.true (looked_up c.args.rows.now c.loop-n.n c.as_slice.ensures c.index-rows-n.is) c.requires.rows c.loop-n.invariant c.put_pixels.ensures
 
 pub returns : goal.returns
-returns g c =
-    all_behind c.args.first c.args.depth c.loop-n.n c.args.at _ c.args.rows.now c.args.columns.now c.loop-n.columns c.loop-n-test.false c.loop-n.invariant
+returns g c = all_behind c.args.first c.args.depth c.loop-n.n c.args.rows.now c.loop-n-test.false c.loop-n.invariant
 
 pub put_pixels-requires-clause-long : goal.put_pixels-requires-clause-long
 put_pixels-requires-clause-long g c = grind (arith, common_steps)

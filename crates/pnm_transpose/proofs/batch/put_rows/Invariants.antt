@@ -1,6 +1,4 @@
-use Rattle.std.proofs.Common.{◌+◌, length, take}
-use Rattle.pnm_transpose.specs.Internal.ColumnBatches.{HavePixels}
-use Rattle.pnm_tools.specs.Flip.{column_of}
+use Rattle.pnm_transpose.proofs.Words.{◌+◌, length, take, HavePixels, column_of}
 use Rattle.pnm_transpose.proofs.batch.put_rows.Given as goal
 
 -- the pixels of the rows that have passed

@@ -1,8 +1,6 @@
-use Rattle.std.proofs.Common.{◌≡◌, ◌+◌, ◌-◌, ℕ, length, take, drop, length-drop, subst, arith}
+use Rattle.pnm_transpose.proofs.Words.{◌≡◌, ◌+◌, ◌-◌, ℕ, length, take, drop, subst, arith, HavePixels, column_of, common_steps}
+use Rattle.std.proofs.Common.{length-drop}
 use Rattle.pnm_transpose.proofs.ColumnLaws.{reach_rest, row_behind, row_of_rest, within}
-use Rattle.pnm_transpose.specs.Internal.ColumnBatches.{HavePixels}
-use Rattle.pnm_tools.specs.Flip.{column_of}
-use Rattle.std.proofs.lemmas.Grind.{common_steps}
 use Rattle.pnm_transpose.proofs.batch.put_some.Goals as goal
 
 pub overflow_mul-n : goal.overflow_mul-n
@@ -17,10 +15,8 @@ loop-n-preserved g c =
     let y = c.args.y in
     let part = drop y all in
     let long : length part ≡ length all - y = length-drop y all in
-    row_behind c.args.first c.args.depth c.loop-n.n c.args.at part c.row.result.now c.args.columns.now c.loop-n.columns c.put_pixels.new.columns
-    (omega arith) (row_of_rest y c.loop-n.n all c.row.result.now (omega arith) c.row.ensures)
-    (reach_rest c.args.depth c.args.first _ y all c.requires.rows)
-    c.loop-n.invariant c.put_pixels.ensures
+    row_behind c.args.first c.args.depth c.loop-n.n part (omega arith) (row_of_rest y c.loop-n.n all (omega arith) c.row.ensures)
+    (reach_rest c.args.depth c.args.first _ y all c.requires.rows) c.loop-n.invariant c.put_pixels.ensures
 
 pub returns : goal.returns
 returns g c =

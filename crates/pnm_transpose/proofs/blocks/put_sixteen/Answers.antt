@@ -1,8 +1,5 @@
-use denote.Ref.{Bor}
-use Rattle.std.proofs.Common.{◌≡◌, ◌∙◌, ◌+◌, ◌<◌, ℕ, List, [], ap, arith, drop, get_or, length, map, set, subst, take}
-use Rattle.std.specs.Vec.{with_items}
-use Rattle.pnm_transpose.specs.Internal.ColumnBatches.{HavePixels}
-use Rattle.pnm_tools.specs.Flip.{column_of}
+use Rattle.pnm_transpose.proofs.Words.{Bor, ◌≡◌, ◌∙◌, ◌+◌, ◌<◌, ℕ, List, [], ap, arith, drop, get_or, length, map, set, subst, take, with_items, HavePixels}
+use Rattle.pnm_transpose.proofs.Words.{column_of}
 use Rattle.pnm_transpose.proofs.BlockLaws.{block_reaches, column_of_sixteen}
 use Rattle.pnm_transpose.proofs.ColumnLaws.{column_stored}
 use Rattle.pnm_transpose.proofs.blocks.put_sixteen.Goals as goal
@@ -21,7 +18,7 @@ loop-i-preserved c =
     ∙ ap (λ (m : ℕ). map (λ (row : Bor (List ℕ)). get_or row.now m 0) sixteen) (omega arith)
     ∙ column_of_sixteen c.args.y x rows sixteen c.sixteen_rows-sixteen.ensures.count c.requires.sixteen c.sixteen_rows-sixteen.ensures.rows
     (block_reaches c.args.y x (c.args.first + length c.args.columns.now) rows (omega (arith, below)) c.requires.rows) in
-    let more = column_stored n at pixels c.args.columns.now c.loop-i.columns c.index-columns-done.result c.as_mut_slice.result.now c.store.new.buffer _
+    let more = column_stored pixels c.index-columns-done.result c.store.new.buffer
     c.loop-i.invariant (omega (arith, below, c.loop-i.invariant.many)) c.as_mut_slice.ensures.value c.store.auto.buffer c.store.ensures is in
     let next : n + 1 ≡ c.loop-done.done + (c.loop-i.i + 1) = omega arith in
     subst (λ (m : ℕ). HavePixels m at pixels c.args.columns.now

@@ -1,6 +1,4 @@
-use Rattle.std.proofs.Common.{◌+◌, ◌-◌, ◌≤◌, length, drop, take}
-use Rattle.pnm_transpose.specs.Internal.ColumnBatches.{HavePixels}
-use Rattle.pnm_tools.specs.Flip.{column_of}
+use Rattle.pnm_transpose.proofs.Words.{◌+◌, ◌-◌, ◌≤◌, length, drop, take, HavePixels, column_of}
 use Rattle.pnm_transpose.proofs.blocks.put_sixteen.Given as goal
 
 -- the columns that have passed got their pixels

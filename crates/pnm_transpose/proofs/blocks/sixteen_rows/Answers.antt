@@ -1,4 +1,5 @@
-use Rattle.std.proofs.Common.{[], ◌∷◌, ◌∙◌, refl, arith, length-set}
+use Rattle.pnm_transpose.proofs.Words.{[], ◌∷◌, ◌∙◌, refl, arith}
+use Rattle.std.proofs.Common.{length-set}
 use Rattle.pnm_transpose.proofs.BlockLaws.{first_row, row_more}
 use Rattle.pnm_transpose.proofs.blocks.sixteen_rows.Goals as goal
 

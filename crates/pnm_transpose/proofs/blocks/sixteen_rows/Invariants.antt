@@ -1,5 +1,4 @@
-use denote.Ref.{Bor}
-use Rattle.std.proofs.Common.{◌≡◌, ◌<◌, ◌+◌, ℕ, List, [], get_or, length}
+use Rattle.pnm_transpose.proofs.Words.{Bor, ◌≡◌, ◌<◌, ◌+◌, ℕ, List, [], get_or, length}
 use Rattle.pnm_transpose.proofs.blocks.sixteen_rows.Given as goal
 
 -- the rows that were taken

@@ -1,6 +1,5 @@
-use Rattle.std.proofs.Common.{refl, arith}
+use Rattle.pnm_transpose.proofs.Words.{refl, arith, common_steps}
 use Rattle.pnm_transpose.proofs.StripLaws.{columns_added}
-use Rattle.std.proofs.lemmas.Grind.{common_steps}
 use Rattle.pnm_transpose.proofs.strip.add_columns.Goals as goal
 
 pub returns-clause-added : goal.returns-clause-added

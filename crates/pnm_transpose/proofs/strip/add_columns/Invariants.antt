@@ -1,5 +1,4 @@
-use Rattle.std.proofs.Common.{◌≡◌, ◌++◌, take}
-use Rattle.std.specs.List.{flat_map}
+use Rattle.pnm_transpose.proofs.Words.{◌≡◌, ◌++◌, take, flat_map}
 use Rattle.pnm_transpose.proofs.strip.add_columns.Given as goal
 
 -- the columns that have passed stand in the strip

@@ -1,6 +1,5 @@
-use Rattle.std.proofs.Common.{◌<◌, ◌≤◌, ◌+◌, ◌*◌, length, ap, arith}
+use Rattle.pnm_transpose.proofs.Words.{◌<◌, ◌≤◌, ◌+◌, ◌*◌, length, ap, arith, common_steps}
 use Rattle.pnm_transpose.proofs.StripLaws.{next_columns, reach_more}
-use Rattle.std.proofs.lemmas.Grind.{common_steps}
 use Rattle.pnm_transpose.proofs.strip.strip_of.Goals as goal
 
 pub add_columns-requires-clause-rows : goal.add_columns-requires-clause-rows

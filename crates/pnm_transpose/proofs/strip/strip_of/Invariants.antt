@@ -1,7 +1,4 @@
-use Rattle.std.proofs.Common.{◌≡◌, ◌<◌, ◌≤◌, ◌-◌, ◌*◌, length}
-use Rattle.std.specs.List.{flat_map, range_with_len}
-use Rattle.pnm_transpose.specs.Internal.ColumnBatches.{AreAsLong}
-use Rattle.pnm_tools.specs.Flip.{column_of}
+use Rattle.pnm_transpose.proofs.Words.{◌≡◌, ◌<◌, ◌≤◌, ◌-◌, ◌*◌, length, flat_map, range_with_len, AreAsLong, column_of}
 use Rattle.pnm_transpose.proofs.strip.strip_of.Given as goal
 
 -- the columns that have passed stand in the strip, and there is room for others

@@ -1,4 +1,4 @@
-use Rattle.std.proofs.Common.{rules, arith, ◌≡◌, ◌++◌, ◌∷◌, [], Some, ap, ◌∙◌, List, ℕ, Option, option_to_list}
+use Rattle.pnm_transpose.proofs.Words.{rules, arith, ◌≡◌, ◌++◌, ◌∷◌, [], Some, ap, ◌∙◌, List, ℕ, Option, option_to_list}
 use Rattle.pnm_transpose.proofs.RowsTogetherLaws.{first_held}
 use Rattle.pnm_transpose.proofs.together.next_columns.Goals as goal
 

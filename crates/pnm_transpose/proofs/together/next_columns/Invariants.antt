@@ -1,6 +1,5 @@
-use Rattle.std.proofs.Common.{◌≡◌, ◌≤◌, ◌++◌, ◌-◌, reverse}
+use Rattle.pnm_transpose.proofs.Words.{◌≡◌, ◌≤◌, ◌++◌, ◌-◌, reverse, HoldsWithin}
 use Rattle.pnm_image.specs.HeldRows.{row_lists}
-use Rattle.pnm_transpose.specs.Internal.HeldColumns.{HoldsWithin}
 use Rattle.pnm_transpose.proofs.together.next_columns.Given as goal
 
 -- so many columns are held, and the others wait

@@ -1,5 +1,5 @@
-use Rattle.std.proofs.Common.{rules, ◌≡◌, ◌++◌, ◌∷◌, [], length, All, Some, ap, subst, sym, ◌∙◌, arith, List, ℕ, Option, option_to_list}
-use Rattle.std.proofs.lemmas.List.Elements.{All-cons, All-nil}
+use Rattle.pnm_transpose.proofs.Words.{rules, ◌≡◌, ◌++◌, ◌∷◌, [], length, All, Some, ap, subst, sym, ◌∙◌, arith, List, ℕ, Option, option_to_list, All-cons}
+use Rattle.pnm_transpose.proofs.Words.{All-nil}
 use Rattle.pnm_transpose.proofs.RowsTogetherLaws.{next_taken, none_taken}
 use Rattle.pnm_transpose.proofs.together.take_next.Goals as goal
 

@@ -1,5 +1,4 @@
-use Rattle.std.proofs.Common.{arith}
-use Rattle.std.proofs.lemmas.Grind.{common_steps}
+use Rattle.pnm_write.proofs.Words.{arith, common_steps}
 use Rattle.pnm_write.proofs.header.push_header.Goals as goal
 
 pub returns-in-Pam : goal.returns-in-Pam

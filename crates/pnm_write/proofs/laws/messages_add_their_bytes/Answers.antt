@@ -1,4 +1,4 @@
-use Rattle.pnm_image.specs.declared.place.Place.TheVariants.{Between}
+use Rattle.pnm_write.proofs.Words.{Between}
 use Rattle.pnm_write.proofs.MessageLaws.{bytes_of_more}
 use Rattle.pnm_write.proofs.laws.messages_add_their_bytes.Goals as goal
 

@@ -1,6 +1,4 @@
-use Rattle.std.proofs.Common.{◌≡◌, ◌<◌, ◌∙◌, ap, sym, length, map, get_or, arith}
-use Rattle.std.proofs.lemmas.List.{get_or-map, length-map}
-use Rattle.pnm_image.specs.declared.shape.Kind.TheVariants.{Gray}
+use Rattle.pnm_write.proofs.Words.{◌≡◌, ◌<◌, ◌∙◌, ap, sym, length, map, get_or, arith, get_or-map, length-map, Gray}
 use Rattle.pnm_write.proofs.PlainLaws.{column_more}
 use Rattle.pnm_write.proofs.NumeralLaws.{number_more, column_is}
 use Rattle.pnm_write.proofs.numerals.append_numbers.Goals as goal
@@ -17,11 +15,10 @@ loop-number-preserved g c =
     let number : value c.number-item.result ≡ get_or xs i 0 =
     ap value c.number-item.is ∙ sym (get_or-map value c.args.numbers.now i c.number-item.result 0 c.loop-number-test.true) in
     record {
-      text = number_more c.args.start c.args.column c.loop-number.end c.loop-number.at c.put-size.result i (value c.number-item.result) c.args.buffer.now
-          c.loop-number.buffer c.put-size.new.buffer c.break_line-at.new.buffer xs here.begun (omega arith) (omega arith) below number here.text here.column
+      text = number_more c.args.start c.args.column c.loop-number.end i c.args.buffer.now
+          c.loop-number.buffer c.put-size.new.buffer xs here.begun (omega arith) (omega arith) below number here.text here.column
           size.count size.text at.buffer;
-      column = column_more c.args.column Gray xs i (value c.number-item.result) c.loop-number.at c.break_line-at.result below number here.column
-          (column_is c.loop-number.at c.put-size.result _ c.break_line-at.result here.begun size.count at.column);
+      column = column_more c.args.column Gray xs i below number here.column (column_is c.loop-number.at _ here.begun size.count at.column);
       within = omega arith;
       begun = at.begun size.some;
       line = at.line;

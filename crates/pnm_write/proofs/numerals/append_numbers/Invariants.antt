@@ -1,6 +1,4 @@
-use Rattle.std.proofs.Common.{◌≡◌, ◌+◌, ◌*◌, ◌<◌, ◌≤◌, ◌++◌, map, take}
-use Rattle.pnm_image.specs.declared.shape.Kind.TheVariants.{Gray}
-use Rattle.pnm_write.specs.Internal.PlainParts.{text_of_part, column_after_part, sample_texts}
+use Rattle.pnm_write.proofs.Words.{◌≡◌, ◌+◌, ◌*◌, ◌<◌, ◌≤◌, ◌++◌, map, take, Gray, text_of_part, column_after_part, sample_texts}
 use Rattle.pnm_write.proofs.numerals.append_numbers.Given as goal
 
 -- the text of the numbers that have passed

@@ -1,4 +1,4 @@
-use Rattle.std.proofs.Common.{arith}
+use Rattle.pnm_write.proofs.Words.{arith}
 use Rattle.pnm_write.proofs.NumeralLaws.{three_alone, three_count, three_behind, behind_count, prefix_short}
 use Rattle.pnm_write.proofs.numerals.put.Goals as goal
 
@@ -18,8 +18,7 @@ returns-else-number-lt1000-clause-text c =
     c.if-number-lt1000.false c.requires.range c.put_small-size.ensures.text c.put_three-else-number-lt1000.ensures
 
 pub returns-else-number-lt1000-clause-count : goal.returns-else-number-lt1000-clause-count
-returns-else-number-lt1000-clause-count c = behind_count c.args.number c.put_small-size.result c.if-number-lt1000.false c.requires.range
-    c.put_small-size.ensures.count
+returns-else-number-lt1000-clause-count c = behind_count c.args.number c.if-number-lt1000.false c.requires.range c.put_small-size.ensures.count
 
 pub returns-else-number-lt1000-clause-within : goal.returns-else-number-lt1000-clause-within
 returns-else-number-lt1000-clause-within c = omega (arith, prefix_short c.args.number c.requires.range, c.put_small-size.ensures.count)

@@ -1,6 +1,5 @@
 use Rattle.pnm_write.proofs.NumeralLaws.{four_are_put}
-use Rattle.std.proofs.Common.{arith}
-use Rattle.std.proofs.lemmas.Grind.{common_steps}
+use Rattle.pnm_write.proofs.Words.{arith, common_steps}
 use Rattle.pnm_write.proofs.numerals.put_four.Goals as goal
 
 pub returns : goal.returns

@@ -1,4 +1,4 @@
-use Rattle.std.proofs.Common.{refl}
+use Rattle.pnm_write.proofs.Words.{refl}
 use Rattle.pnm_write.proofs.PixelLaws.{nibble_is}
 use Rattle.pnm_write.proofs.pixels.nibble.Goals as goal
 

@@ -1,6 +1,4 @@
-use Rattle.std.proofs.Common.{◌++◌, ◌∙◌, ℕ, take, ap, arith}
-use Rattle.pnm_samples.specs.Pixels.{pixels}
-use Rattle.pnm_write.specs.Internal.PixelCells.{cells}
+use Rattle.pnm_write.proofs.Words.{◌++◌, ◌∙◌, ℕ, take, ap, arith, pixels, cells}
 use Rattle.pnm_write.proofs.PixelLaws.{byte_is_put}
 use Rattle.pnm_write.proofs.pixels.put_byte.Goals as goal
 

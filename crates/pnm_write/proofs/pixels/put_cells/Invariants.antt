@@ -1,6 +1,4 @@
-use Rattle.std.proofs.Common.{◌≡◌, ◌*◌, take}
-use Rattle.pnm_samples.specs.Pixels.{all_pixels}
-use Rattle.pnm_write.specs.Internal.PixelCells.{cells}
+use Rattle.pnm_write.proofs.Words.{◌≡◌, ◌*◌, take, all_pixels, cells}
 use Rattle.pnm_write.proofs.pixels.put_cells.Given as goal
 
 -- the characters of the bytes that have passed

@@ -1,5 +1,4 @@
-use Rattle.std.proofs.Common.{take, refl, arith}
-use Rattle.pnm_samples.specs.Pixels.{all_pixels}
+use Rattle.pnm_write.proofs.Words.{take, refl, arith, all_pixels}
 use Rattle.pnm_write.proofs.PixelLaws.{cells_of_count, line_more, all_ended, count_of}
 use Rattle.pnm_write.proofs.pixels.put_pixels.Goals as goal
 
@@ -14,7 +13,7 @@ pub loop-done-preserved : goal.loop-done-preserved
 loop-done-preserved c =
     let here = c.loop-done.invariant in
     record {
-      text = line_more c.loop-done.buffer (take c.args.count (all_pixels c.args.bytes.now)) c.args.count c.loop-done.done c.min-next.result
+      text = line_more c.loop-done.buffer (take c.args.count (all_pixels c.args.bytes.now)) c.loop-done.done
           (count_of c.args.bytes.now c.args.count c.requires.enough) (omega arith) c.loop-done-test.true c.min-next.ensures (here.whole c.loop-done-test.true)
           here.text;
       within = omega arith;
@@ -23,5 +22,5 @@ loop-done-preserved c =
 
 pub returns : goal.returns
 returns c =
-    all_ended c.loop-done.buffer (take c.args.count (all_pixels c.args.bytes.now)) c.args.count c.loop-done.done
+    all_ended c.loop-done.buffer (take c.args.count (all_pixels c.args.bytes.now)) c.loop-done.done
     (count_of c.args.bytes.now c.args.count c.requires.enough) (omega arith) c.loop-done.invariant.text

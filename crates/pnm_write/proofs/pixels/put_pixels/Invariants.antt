@@ -1,8 +1,4 @@
-use Rattle.std.proofs.Common.{◌≡◌, ◌-◌, ◌*◌, ◌%◌, ◌<◌, ◌≤◌, ◌++◌, take, drop}
-use Rattle.pnm_samples.specs.Pixels.{all_pixels}
-use Rattle.pnm_image.specs.declared.shape.Kind.TheVariants.{Bit}
-use Rattle.pnm_write.specs.PlainRows.{plain_row_text}
-use Rattle.pnm_write.specs.Internal.PixelCells.{cells}
+use Rattle.pnm_write.proofs.Words.{◌≡◌, ◌-◌, ◌*◌, ◌%◌, ◌<◌, ◌≤◌, ◌++◌, take, drop, all_pixels, Bit, plain_row_text, cells}
 use Rattle.pnm_write.proofs.pixels.put_pixels.Given as goal
 
 -- lines that are ended, and the characters of the other pixels

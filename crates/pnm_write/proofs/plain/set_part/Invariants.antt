@@ -1,5 +1,4 @@
-use Rattle.std.proofs.Common.{◌≡◌, ◌*◌, ◌≤◌, length, take}
-use Rattle.pnm_write.specs.Internal.PlainParts.{text_of_part, column_after_part, sample_texts}
+use Rattle.pnm_write.proofs.Words.{◌≡◌, ◌*◌, ◌≤◌, length, take, text_of_part, column_after_part, sample_texts}
 use Rattle.pnm_write.proofs.plain.set_part.Given as goal
 
 -- the text of the samples that have passed

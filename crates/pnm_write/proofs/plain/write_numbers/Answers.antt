@@ -1,29 +1,24 @@
-use Rattle.std.proofs.Common.{◌≡◌, ◌==◌, ◌≤◌, ◌∙◌, ◌++◌, Bool, false, List, ℕ, ap, length, map, take, drop, arith, rules, subst, sym}
-use Rattle.std.proofs.lemmas.List.{drop-map, take-map, length-map}
-use Rattle.pnm_image.specs.declared.shape.Kind.TheVariants.{Gray}
-use Rattle.pnm_image.proofs.Written.{Sending, sending_part}
-use Rattle.pnm_write.specs.PlainRows.{plain_row_text}
-use Rattle.pnm_write.specs.Internal.PlainParts.{text_of_part, column_after_part, sample_texts, row_end}
+use Rattle.pnm_write.proofs.Words.{◌≡◌, ◌==◌, ◌≤◌, ◌∙◌, ◌++◌, Bool, false, List, ℕ, ap, length, map, take, drop, arith, rules, subst, sym, drop-map, take-map}
+use Rattle.pnm_write.proofs.Words.{length-map, Gray, Sending, sending_part, plain_row_text, text_of_part, column_after_part, sample_texts, row_end}
 use Rattle.pnm_write.proofs.PlainLaws.{text_left, part_of_numbers, row_text_left, some_left}
 use Rattle.pnm_write.proofs.WriteCallSteps.{call_failed}
 use Rattle.pnm_write.proofs.plain.write_numbers.Goals as goal
 
 -- what is left of a row of numbers, as it holds them, is the part that is written now, and the rest
-values_split : {X : Type 0} (value : X → ℕ) (column n : ℕ) (rest part after : List X) (set written : List ℕ) (then_column : ℕ) (is_none is_end : Bool)
-    → n ≤ length rest → is_none ≡ (length rest == 0) → is_none ≡ false → part ≡ take n rest → after ≡ drop n rest
+values_split : {X : Type 0} (value : X → ℕ) (column n : ℕ) (rest : List X) {part after : List X} {set written : List ℕ} {then_column : ℕ}
+    {is_none is_end : Bool} → n ≤ length rest → is_none ≡ (length rest == 0) → is_none ≡ false → part ≡ take n rest → after ≡ drop n rest
     → set ≡ text_of_part column (sample_texts Gray (map value part)) → then_column ≡ column_after_part column (sample_texts Gray (map value part))
     → is_end ≡ (length after == 0) → written ≡ set ++ row_end is_end
     → text_left column Gray (map value rest) ≡ written ++ text_left then_column Gray (map value after)
-values_split value column n rest part after set written then_column is_none is_end within none some front back text column_is ends whole =
-    part_of_numbers column n (map value rest) (map value part) (map value after) set written then_column is_end (omega (arith, length-map rest value))
-    (omega (arith, length-map rest value, some_left (length rest) is_none none some)) (ap (map value) front ∙ sym (take-map value n rest))
+values_split value column n rest {after} within none some front back text column_is ends whole =
+    part_of_numbers column n (map value rest) (omega (arith, length-map rest value))
+    (omega (arith, length-map rest value, some_left (length rest) none some)) (ap (map value) front ∙ sym (take-map value n rest))
     (ap (map value) back ∙ sym (drop-map value n rest)) text column_is (ends ∙ ap (λ (k : ℕ). k == 0) (sym (length-map after value))) whole
 
 pub returns-in_err-write_all : goal.returns-in_err-write_all
 returns-in_err-write_all g c =
     let value = g.N.Sample.value in
-    let split = values_split value c.loop-rest.column c.min-count.result c.loop-rest.rest.now c.split_at.result.0.now c.split_at.result.1.now
-    c.set_numbers-column.new.buffer c.as_slice.result.now c.set_numbers-column.result c.is_empty.result _ (omega arith) c.is_empty.ensures c.loop-rest-test.true
+    let split = values_split value c.loop-rest.column c.min-count.result c.loop-rest.rest.now (omega arith) c.is_empty.ensures c.loop-rest-test.true
     c.split_at.ensures.front c.split_at.ensures.back c.set_numbers-column.ensures.text c.set_numbers-column.ensures.column c.is_empty-in-loop-rest.ensures
     (c.as_slice.ensures ∙ c.end_row.ensures) in
     call_failed g.W.BytesOut.held g.W.BytesOut.failures g.W.BytesOut.same c.args.writer.now c.loop-rest.writer c.write_all.new.writer
@@ -35,8 +30,7 @@ returns-in_err-write_all g c =
 pub loop-rest-preserved : goal.loop-rest-preserved
 loop-rest-preserved g c =
     let value = g.N.Sample.value in
-    let split = values_split value c.loop-rest.column c.min-count.result c.loop-rest.rest.now c.split_at.result.0.now c.split_at.result.1.now
-    c.set_numbers-column.new.buffer c.as_slice.result.now c.set_numbers-column.result c.is_empty.result _ (omega arith) c.is_empty.ensures c.loop-rest-test.true
+    let split = values_split value c.loop-rest.column c.min-count.result c.loop-rest.rest.now (omega arith) c.is_empty.ensures c.loop-rest-test.true
     c.split_at.ensures.front c.split_at.ensures.back c.set_numbers-column.ensures.text c.set_numbers-column.ensures.column c.is_empty-in-loop-rest.ensures
     (c.as_slice.ensures ∙ c.end_row.ensures) in
     record {

@@ -1,7 +1,4 @@
-use Rattle.std.proofs.Common.{◌≤◌, length, map}
-use Rattle.pnm_image.specs.declared.shape.Kind.TheVariants.{Gray}
-use Rattle.pnm_image.proofs.Written.{Sending}
-use Rattle.pnm_write.specs.PlainRows.{plain_row_text}
+use Rattle.pnm_write.proofs.Words.{◌≤◌, length, map, Gray, Sending, plain_row_text}
 use Rattle.pnm_write.proofs.PlainLaws.{text_left}
 use Rattle.pnm_write.proofs.plain.write_numbers.Given as goal
 

@@ -1,32 +1,26 @@
-use Rattle.std.proofs.Common.{◌≡◌, ◌≤◌, ◌<◌, ◌^◌, ◌∙◌, ◌++◌, ◌+◌, ◌-◌, ◌==◌, min, Bool, true, false, List, ℕ, length, take, drop, All, ap, sym, subst, rules}
-use Rattle.std.proofs.Common.{arith}
-use Rattle.std.proofs.lemmas.List.{length-drop, length-take, length-append, take_at, drop-drop}
-use Rattle.std.proofs.lemmas.List.Elements.{All-weaker}
-use Rattle.std.proofs.lemmas.Bool.Decides.{nat_tests}
-use Rattle.pnm_image.specs.declared.shape.Kind.{Kind}
-use Rattle.pnm_samples.specs.SampleVecs.{slice_samples}
-use Rattle.pnm_image.proofs.Written.{Sending, sending_part}
-use Rattle.pnm_write.specs.PlainRows.{plain_row_text}
-use Rattle.pnm_write.specs.Internal.PlainParts.{text_of_part, column_after_part, sample_texts, row_end}
+use Rattle.pnm_write.proofs.Words.{◌≡◌, ◌≤◌, ◌<◌, ◌^◌, ◌∙◌, ◌++◌, ◌+◌, ◌-◌, ◌==◌, min, Bool, true, false, List, ℕ, length, take, drop, All, ap, sym, subst}
+use Rattle.pnm_write.proofs.Words.{rules, arith, length-drop, length-take, take_at, drop-drop, All-weaker, nat_tests, Kind, slice_samples, Sending}
+use Rattle.pnm_write.proofs.Words.{sending_part, plain_row_text, text_of_part, column_after_part, sample_texts, row_end}
+use Rattle.std.proofs.lemmas.List.{length-append}
 use Rattle.pnm_write.proofs.PlainLaws.{text_left, left_part, row_text_left}
 use Rattle.pnm_write.proofs.WriteCallSteps.{call_failed}
 use Rattle.pnm_write.proofs.plain.write_others.Goals as goal
 
 -- what was copied is a part of the row
-copied_part : (done n : ℕ) (samples copied words : List ℕ) → n ≤ 680 → length words ≡ 680 → copied ≡ take (length (take n words)) (drop done samples)
-    → copied ≡ take n (drop done samples)
-copied_part done n samples copied words few buffer same =
+copied_part : (done n : ℕ) (samples : List ℕ) {copied : List ℕ} (words : List ℕ) → n ≤ 680 → length words ≡ 680 → copied ≡ take (length (take n words))
+    (drop done samples) → copied ≡ take n (drop done samples)
+copied_part done n samples words few buffer same =
     let size : length (take n words) ≡ n = omega (arith, length-take n words) in
     same ∙ ap (λ (k : ℕ). take k (drop done samples)) size
 
 -- what is left is the part that is written now, and the rest
-part_and_rest : (kind : Kind) (column done n : ℕ) (row copied words written set : List ℕ) (is_end : Bool) (then_column : ℕ) → done < length row
-    → n ≡ min (length row - done) 680 → length copied ≡ n
-    → copied ≡ take n (drop done row) → set ≡ text_of_part column (sample_texts kind (take n (copied ++ drop n words)))
-    → then_column ≡ column_after_part column (sample_texts kind (take n (copied ++ drop n words)))
-    → (done + n ≡ length row → is_end ≡ true) → (done + n < length row → is_end ≡ false) → written ≡ set ++ row_end is_end
+part_and_rest : (kind : Kind) (column done : ℕ) {n : ℕ} (row : List ℕ) {copied : List ℕ} (words : List ℕ) {written set : List ℕ} (is_end : Bool)
+    {then_column : ℕ} → done < length row → n ≡ min (length row - done) 680 → length copied ≡ n → copied ≡ take n (drop done row)
+    → set ≡ text_of_part column (sample_texts kind (take n (copied ++ drop n words)))
+    → then_column ≡ column_after_part column (sample_texts kind (take n (copied ++ drop n words))) → (done + n ≡ length row → is_end ≡ true)
+    → (done + n < length row → is_end ≡ false) → written ≡ set ++ row_end is_end
     → text_left column kind (drop done row) ≡ written ++ text_left then_column kind (drop (done + n) row)
-part_and_rest kind column done n row copied words written set is_end then_column more count long taken text column_is last on whole =
+part_and_rest kind column done {n} row {copied} words {written} {set} is_end {then_column} more count long taken text column_is last on whole =
     let rest : List ℕ = drop done row in
     let size : length rest ≡ length row - done = length-drop done row in
     let prefix : take n (copied ++ drop n words) ≡ take n rest = take_at copied (drop n words) n long ∙ taken in
@@ -40,8 +34,8 @@ part_and_rest kind column done n row copied words written set is_end then_column
     ∙ ap (λ (l : List ℕ). written ++ text_left then_column kind l) (drop-drop n done row)
 
 -- whether the row ends here
-ends : (a b : ℕ) → a ≡ b → (a == b) ≡ true
-ends a b e = grind (arith, nat_tests)
+ends : {a b : ℕ} → a ≡ b → (a == b) ≡ true
+ends e = grind (arith, nat_tests)
 
 goes_on : (a b : ℕ) → a < b → (a == b) ≡ false
 goes_on a b h = grind (arith, nat_tests)
@@ -53,12 +47,11 @@ returns-in_err-write_all g c =
     let row = slice_samples c.args.row in
     let words = c.loop-done.words in
     let long : length row ≡ c.args.count = c.requires.count in
-    let same = copied_part done n row c.copy_to.new.buffer words (omega arith)
-    c.loop-done.invariant.buffer c.copy_to.ensures in
+    let same = copied_part done n row words (omega arith) c.loop-done.invariant.buffer c.copy_to.ensures in
     let size : length c.copy_to.new.buffer ≡ n = ap length same ∙ omega (arith, length-take n (drop done row), length-drop done row) in
-    let split = part_and_rest c.args.shape.kind c.loop-done.column done n row c.copy_to.new.buffer words c.as_slice.result.now c.set_part-column.new.buffer _
-    c.set_part-column.result (omega arith) (omega arith) size same c.set_part-column.ensures.text c.set_part-column.ensures.column
-    (λ e. ends _ _ (omega arith)) (λ h. goes_on _ _ (omega arith)) (c.as_slice.ensures ∙ c.end_row.ensures) in
+    let split = part_and_rest c.args.shape.kind c.loop-done.column done row words _ (omega arith) (omega arith) size same c.set_part-column.ensures.text
+    c.set_part-column.ensures.column
+    (λ e. ends (omega arith)) (λ h. goes_on _ _ (omega arith)) (c.as_slice.ensures ∙ c.end_row.ensures) in
     call_failed g.W.BytesOut.held g.W.BytesOut.failures g.W.BytesOut.same c.args.writer.now c.loop-done.writer c.write_all.new.writer
     (plain_row_text c.args.shape.kind row) (text_left c.loop-done.column c.args.shape.kind (drop done row)) c.as_slice.result.now
     (text_left c.set_part-column.result c.args.shape.kind (drop (done + n) row))
@@ -72,12 +65,11 @@ loop-done-preserved g c =
     let row = slice_samples c.args.row in
     let words = c.loop-done.words in
     let long : length row ≡ c.args.count = c.requires.count in
-    let same = copied_part done n row c.copy_to.new.buffer words (omega arith)
-    c.loop-done.invariant.buffer c.copy_to.ensures in
+    let same = copied_part done n row words (omega arith) c.loop-done.invariant.buffer c.copy_to.ensures in
     let size : length c.copy_to.new.buffer ≡ n = ap length same ∙ omega (arith, length-take n (drop done row), length-drop done row) in
-    let split = part_and_rest c.args.shape.kind c.loop-done.column done n row c.copy_to.new.buffer words c.as_slice.result.now c.set_part-column.new.buffer _
-    c.set_part-column.result (omega arith) (omega arith) size same c.set_part-column.ensures.text c.set_part-column.ensures.column
-    (λ e. ends _ _ (omega arith)) (λ h. goes_on _ _ (omega arith)) (c.as_slice.ensures ∙ c.end_row.ensures) in
+    let split = part_and_rest c.args.shape.kind c.loop-done.column done row words _ (omega arith) (omega arith) size same c.set_part-column.ensures.text
+    c.set_part-column.ensures.column
+    (λ e. ends (omega arith)) (λ h. goes_on _ _ (omega arith)) (c.as_slice.ensures ∙ c.end_row.ensures) in
     record {
       sending = sending_part g.W.BytesOut.held g.W.BytesOut.failures g.W.BytesOut.same c.args.writer.now c.loop-done.writer c.write_all.new.writer
           (plain_row_text c.args.shape.kind row) (text_left c.loop-done.column c.args.shape.kind (drop done row)) c.as_slice.result.now

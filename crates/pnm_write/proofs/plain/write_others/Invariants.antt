@@ -1,7 +1,4 @@
-use Rattle.std.proofs.Common.{◌≡◌, ◌≤◌, ◌-◌, length, drop}
-use Rattle.pnm_samples.specs.SampleVecs.{slice_samples}
-use Rattle.pnm_image.proofs.Written.{Sending}
-use Rattle.pnm_write.specs.PlainRows.{plain_row_text}
+use Rattle.pnm_write.proofs.Words.{◌≡◌, ◌≤◌, ◌-◌, length, drop, slice_samples, Sending, plain_row_text}
 use Rattle.pnm_write.proofs.PlainLaws.{text_left}
 use Rattle.pnm_write.proofs.plain.write_others.Given as goal
 

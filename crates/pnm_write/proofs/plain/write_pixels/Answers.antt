@@ -1,8 +1,4 @@
-use Rattle.std.proofs.Common.{◌∙◌, ◌-◌, ◌++◌, List, ℕ, take, sym, ap, arith}
-use Rattle.pnm_samples.specs.Pixels.{all_pixels}
-use Rattle.pnm_image.specs.declared.shape.Kind.TheVariants.{Bit}
-use Rattle.pnm_image.proofs.Written.{sending_part}
-use Rattle.pnm_write.specs.PlainRows.{plain_row_text}
+use Rattle.pnm_write.proofs.Words.{◌∙◌, ◌-◌, ◌++◌, List, ℕ, take, sym, ap, arith, all_pixels, Bit, sending_part, plain_row_text}
 use Rattle.pnm_write.proofs.PixelLaws.{pixels_split}
 use Rattle.pnm_write.proofs.WriteCallSteps.{call_failed}
 use Rattle.pnm_write.proofs.plain.write_pixels.Goals as goal

@@ -1,8 +1,4 @@
-use Rattle.std.proofs.Common.{◌*◌, ◌≤◌, length, take}
-use Rattle.pnm_samples.specs.Pixels.{all_pixels}
-use Rattle.pnm_image.specs.declared.shape.Kind.TheVariants.{Bit}
-use Rattle.pnm_image.proofs.Written.{Sending}
-use Rattle.pnm_write.specs.PlainRows.{plain_row_text}
+use Rattle.pnm_write.proofs.Words.{◌*◌, ◌≤◌, length, take, all_pixels, Bit, Sending, plain_row_text}
 use Rattle.pnm_write.proofs.plain.write_pixels.Given as goal
 
 -- what is left is what isn't written

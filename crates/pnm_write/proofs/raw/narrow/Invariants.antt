@@ -1,4 +1,4 @@
-use Rattle.std.proofs.Common.{◌≡◌, take}
+use Rattle.pnm_write.proofs.Words.{◌≡◌, take}
 use Rattle.pnm_write.proofs.raw.narrow.Given as goal
 
 -- the samples that have passed are bytes

@@ -1,5 +1,4 @@
-use Rattle.std.proofs.Common.{◌≡◌, ◌*◌, take}
-use Rattle.pnm_write.specs.Encoding.{wide_bytes}
+use Rattle.pnm_write.proofs.Words.{◌≡◌, ◌*◌, take, wide_bytes}
 use Rattle.pnm_write.proofs.raw.widen.Given as goal
 
 -- the bytes of the samples that have passed

@@ -1,7 +1,4 @@
-use Rattle.std.proofs.Common.{◌∙◌, ap, length, subst}
-use Rattle.pnm_samples.specs.SampleVecs.{HasWhiteSpare, slice_samples}
-use Rattle.pnm_samples.specs.declared.samples.SampleSlice.{SampleSlice}
-use Rattle.pnm_samples.proofs.PixelRowLaws.{length_of_packed}
+use Rattle.pnm_write.proofs.Words.{◌∙◌, ap, length, subst, HasWhiteSpare, slice_samples, SampleSlice, length_of_packed}
 use Rattle.pnm_write.proofs.row.count_of.Goals as goal
 
 pub returns-in-Bits : goal.returns-in-Bits

@@ -1,21 +1,10 @@
-use Rattle.std.proofs.Common.{◌≡◌, ◌∙◌, ◌++◌, ◌+◌, ◌-◌, ◌≤◌, min, List, [], ℕ, length, take, drop, All, refl, ap, sym, subst, arith}
-use Rattle.std.proofs.Common.{◌<◌, Bool, true, false, if◌then◌else◌, Ok}
-use Rattle.std.specs.Prelude.{nat_lt}
-use Rattle.std.proofs.lemmas.Bool.Decides.{nat_tests}
-use Rattle.std.proofs.lemmas.List.Elements.{All-weaker, All-take, All-drop}
-use Rattle.std.proofs.lemmas.List.{length-drop, length-take, length-append, take_at, drop-drop, drop_all}
-use Rattle.pnm_image.specs.declared.sample_width.SampleWidth.{SampleWidth}
-use Rattle.pnm_image.specs.declared.sample_width.SampleWidth.TheVariants.{Bits, Bytes, Words}
-use Rattle.pnm_image.specs.declared.shape.Kind.{Kind}
-use Rattle.pnm_image.specs.declared.shape.Kind.TheVariants.{Bit, Gray, Color, Pam}
-use Rattle.pnm_image.specs.SampleWidths.{sample_width_of}
-use Rattle.pnm_samples.specs.SampleVecs.{slice_samples}
-use Rattle.pnm_write.specs.Internal.WriteBuffers.{FitIn}
-use Rattle.pnm_write.specs.Encoding.{bytes_in}
-use Rattle.pnm_write.specs.Internal.WriteCalls.{WriteCall}
+use Rattle.pnm_write.proofs.Words.{◌≡◌, ◌∙◌, ◌++◌, ◌+◌, ◌-◌, ◌≤◌, min, List, [], ℕ, length, take, drop, All, refl, ap, sym, subst, arith, ◌<◌, Bool, true}
+use Rattle.pnm_write.proofs.Words.{false, if◌then◌else◌, Ok, nat_lt, nat_tests, All-weaker, All-take, All-drop, length-drop, length-take, take_at, drop-drop}
+use Rattle.pnm_write.proofs.Words.{drop_all, SampleWidth, Bits, Bytes, Words, Kind, Bit, Gray, Color, Pam, sample_width_of, slice_samples, FitIn, bytes_in}
+use Rattle.pnm_write.proofs.Words.{WriteCall, sending_part}
+use Rattle.std.proofs.lemmas.List.{length-append}
 use Rattle.pnm_write.proofs.PartLaws.{begin_sending}
 use Rattle.pnm_write.proofs.RawLaws.{few_parts}
-use Rattle.pnm_image.proofs.Written.{sending_part}
 use Rattle.pnm_write.proofs.WriteCallSteps.{call_failed, call_done}
 use Rattle.pnm_write.proofs.row.write_others.Goals as goal
 
@@ -26,17 +15,17 @@ no_bytes Bytes = refl
 no_bytes Words = refl
 
 -- what was copied is a part of the part
-copied_part : (done n : ℕ) (samples copied words : List ℕ) → n ≤ 2048 → length words ≡ 2048 → copied ≡ take (length (take n words)) (drop done samples)
-    → copied ≡ take n (drop done samples)
-copied_part done n samples copied words few buffer same =
+copied_part : (done n : ℕ) (samples : List ℕ) {copied : List ℕ} (words : List ℕ) → n ≤ 2048 → length words ≡ 2048 → copied ≡ take (length (take n words))
+    (drop done samples) → copied ≡ take n (drop done samples)
+copied_part done n samples words few buffer same =
     let size : length (take n words) ≡ n = omega (arith, length-take n words) in
     same ∙ ap (λ (k : ℕ). take k (drop done samples)) size
 
 -- the bytes that are left are those of the part that is written now, and those after it
-copied_and_rest : (p : SampleWidth) (done n : ℕ) (part copied words written : List ℕ) → n ≡ min (length part - done) 2048 → length copied ≡ n
-    → copied ≡ take n (drop done part) → written ≡ bytes_in p (take n (copied ++ drop n words))
+copied_and_rest : (p : SampleWidth) (done : ℕ) {n : ℕ} (part : List ℕ) {copied : List ℕ} (words : List ℕ) {written : List ℕ}
+    → n ≡ min (length part - done) 2048 → length copied ≡ n → copied ≡ take n (drop done part) → written ≡ bytes_in p (take n (copied ++ drop n words))
     → bytes_in p (drop done part) ≡ written ++ bytes_in p (drop (done + n) part)
-copied_and_rest p done n part copied words written e size same w =
+copied_and_rest p done {n} part {copied} words {written} e size same w =
     let count : n ≡ min (length (drop done part)) 2048 = omega (arith, length-drop done part) in
     few_parts p n (drop done part) count
     ∙ ap (λ (l : List ℕ). bytes_in p l ++ bytes_in p (drop n (drop done part))) (sym same ∙ sym (take_at copied (drop n words) n size))
@@ -69,13 +58,11 @@ fill-requires-clause-range g c =
     let range : ℕ → Type 0 = λ sample. sample ≤ c.args.shape.maxval in
     let part = slice_samples c.args.row in
     let long : length part ≡ c.args.count = c.requires.count in
-    let same = copied_part done n part c.copy_to.new.buffer words (omega arith)
-    c.loop-done.invariant.2 c.copy_to.ensures in
+    let same = copied_part done n part words (omega arith) c.loop-done.invariant.2 c.copy_to.ensures in
     let size : length c.copy_to.new.buffer ≡ n = ap length same ∙ omega (arith, length-take n (drop done part), length-drop done part) in
     let all : All range (take n (drop done part)) = All-take range n (drop done part) (All-drop range done part c.requires.range) in
     let copied : take n (c.copy_to.new.buffer ++ drop n words) ≡ take n (drop done part) = take_at c.copy_to.new.buffer (drop n words) n size ∙ same in
-    subst (FitIn c.of-sample_width.result) (sym copied)
-    (subst (λ (p : SampleWidth). FitIn p (take n (drop done part))) (sym c.of-sample_width.ensures)
+    subst (FitIn c.of-sample_width.result) (sym copied) (subst (λ (p : SampleWidth). FitIn p (take n (drop done part))) (sym c.of-sample_width.ensures)
     (fit_of c.args.shape.kind c.args.shape.maxval (take n (drop done part)) all))
 
 pub returns-in_err-write_all : goal.returns-in_err-write_all
@@ -85,11 +72,9 @@ returns-in_err-write_all g c =
     let part = slice_samples c.args.row in
     let words = c.loop-done.words in
     let long : length part ≡ c.args.count = c.requires.count in
-    let same = copied_part done n part c.copy_to.new.buffer words (omega arith)
-    c.loop-done.invariant.2 c.copy_to.ensures in
+    let same = copied_part done n part words (omega arith) c.loop-done.invariant.2 c.copy_to.ensures in
     let size : length c.copy_to.new.buffer ≡ n = ap length same ∙ omega (arith, length-take n (drop done part), length-drop done part) in
-    let split = copied_and_rest c.of-sample_width.result done n part c.copy_to.new.buffer words c.as_slice.result.now (omega arith) size same
-    (c.as_slice.ensures ∙ c.fill.ensures) in
+    let split = copied_and_rest c.of-sample_width.result done part words (omega arith) size same (c.as_slice.ensures ∙ c.fill.ensures) in
     let call = call_failed g.W.BytesOut.held g.W.BytesOut.failures g.W.BytesOut.same c.args.writer.now c.loop-done.writer c.write_all.new.writer
     (bytes_in c.of-sample_width.result part) (bytes_in c.of-sample_width.result (drop done part)) c.as_slice.result.now
     (bytes_in c.of-sample_width.result (drop (done + n) part))
@@ -105,16 +90,13 @@ loop-done-preserved g c =
     let part = slice_samples c.args.row in
     let words = c.loop-done.words in
     let long : length part ≡ c.args.count = c.requires.count in
-    let same = copied_part done n part c.copy_to.new.buffer words (omega arith)
-    c.loop-done.invariant.2 c.copy_to.ensures in
+    let same = copied_part done n part words (omega arith) c.loop-done.invariant.2 c.copy_to.ensures in
     let size : length c.copy_to.new.buffer ≡ n = ap length same ∙ omega (arith, length-take n (drop done part), length-drop done part) in
-    let split = copied_and_rest c.of-sample_width.result done n part c.copy_to.new.buffer words c.as_slice.result.now (omega arith) size same
-    (c.as_slice.ensures ∙ c.fill.ensures) in (
+    let split = copied_and_rest c.of-sample_width.result done part words (omega arith) size same (c.as_slice.ensures ∙ c.fill.ensures) in (
       sending_part g.W.BytesOut.held g.W.BytesOut.failures g.W.BytesOut.same c.args.writer.now c.loop-done.writer c.write_all.new.writer
           (bytes_in c.of-sample_width.result part) (bytes_in c.of-sample_width.result (drop done part)) c.as_slice.result.now
           (bytes_in c.of-sample_width.result (drop (done + n) part)) split c.loop-done.invariant.0 c.in_ok-write_all.ensures.written
-          c.in_ok-write_all.ensures.count
-          (g.met.W.BytesOut.same_later _ _ _ c.loop-done.invariant.0.same_device c.in_ok-write_all.ensures.same_device),
+          c.in_ok-write_all.ensures.count (g.met.W.BytesOut.same_later _ _ _ c.loop-done.invariant.0.same_device c.in_ok-write_all.ensures.same_device),
       omega arith,
       omega (arith, length-append c.copy_to.new.buffer (drop n words), length-drop n words, size),
     )

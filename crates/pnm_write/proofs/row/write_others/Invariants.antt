@@ -1,7 +1,4 @@
-use Rattle.std.proofs.Common.{◌≡◌, ◌≤◌, ◌-◌, length, drop}
-use Rattle.pnm_write.specs.Encoding.{bytes_in}
-use Rattle.pnm_samples.specs.SampleVecs.{slice_samples}
-use Rattle.pnm_image.proofs.Written.{Sending}
+use Rattle.pnm_write.proofs.Words.{◌≡◌, ◌≤◌, ◌-◌, length, drop, bytes_in, slice_samples, Sending}
 use Rattle.pnm_write.proofs.row.write_others.Given as goal
 
 -- what is left is what isn't written

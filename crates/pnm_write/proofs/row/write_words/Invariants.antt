@@ -1,7 +1,4 @@
-use Rattle.std.proofs.Common.{length}
-use Rattle.pnm_write.specs.Encoding.{bytes_in}
-use Rattle.pnm_write.specs.Internal.WriteBuffers.{FitIn}
-use Rattle.pnm_image.proofs.Written.{Sending}
+use Rattle.pnm_write.proofs.Words.{length, bytes_in, FitIn, Sending}
 use Rattle.pnm_write.proofs.row.write_words.Given as goal
 
 -- what is left is what isn't written, and each sample of it fits its bytes

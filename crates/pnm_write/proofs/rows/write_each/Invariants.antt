@@ -1,6 +1,4 @@
-use Rattle.std.proofs.Common.{drop}
-use Rattle.pnm_image.proofs.Written.{Sending}
-use Rattle.pnm_write.specs.Internal.Encoding.{rows_bytes}
+use Rattle.pnm_write.proofs.Words.{drop, Sending, rows_bytes}
 use Rattle.pnm_write.proofs.rows.write_each.Given as goal
 
 -- what is left is what isn't written

@@ -1,7 +1,4 @@
-use Rattle.std.proofs.Common.{◌-◌}
-use Rattle.pnm_image.specs.Repeats.{repeated}
-use Rattle.pnm_image.proofs.Written.{Sending}
-use Rattle.pnm_write.specs.Internal.Encoding.{rows_bytes}
+use Rattle.pnm_write.proofs.Words.{◌-◌, repeated, Sending, rows_bytes}
 use Rattle.pnm_write.proofs.rows.write_repeated.Given as goal
 
 -- the rows are still to be written as often as this says

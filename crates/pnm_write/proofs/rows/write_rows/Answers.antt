@@ -1,22 +1,12 @@
-use Rattle.std.proofs.Common.{◌≡◌, ◌∙◌, ℕ, List, refl, ap, sym, subst, rules}
-use Rattle.std.specs.List.{flat_map}
-use Rattle.pnm_image.specs.Heads.{row_length}
-use Rattle.pnm_image.specs.SampleWidths.{sample_width_of}
-use Rattle.pnm_image.specs.declared.format.Form.{Form}
-use Rattle.pnm_image.specs.declared.format.Form.TheVariants.{Raw}
-use Rattle.pnm_image.specs.declared.sample_width.SampleWidth.{SampleWidth}
-use Rattle.pnm_image.specs.declared.sample_width.SampleWidth.TheVariants.{Bits}
-use Rattle.pnm_image.specs.declared.shape.Shape.{Shape}
-use Rattle.pnm_write.specs.Encoding.{bytes_in, packed_bytes}
-use Rattle.pnm_write.specs.Internal.Encoding.{AreWholeBytes, rows_bytes}
-use Rattle.pnm_write.specs.Internal.WriteCalls.{WriteCall}
+use Rattle.pnm_write.proofs.Words.{◌≡◌, ◌∙◌, ℕ, List, refl, ap, sym, subst, rules, flat_map, row_length, sample_width_of, Form, Raw, SampleWidth, Bits, Shape}
+use Rattle.pnm_write.proofs.Words.{bytes_in, packed_bytes, AreWholeBytes, rows_bytes, WriteCall}
 use Rattle.pnm_write.proofs.RowsLaws.{long_rows}
 use Rattle.pnm_write.proofs.rows.write_rows.Goals as goal
 
 -- the bytes of rows of bits are those of the rows
-bytes_of_bits : (form : Form) (s : Shape) (p : SampleWidth) (bytes : List ℕ) (bits rows : List (List ℕ)) → form ≡ Raw → p ≡ Bits
+bytes_of_bits : {form : Form} (s : Shape) {p : SampleWidth} {bytes : List ℕ} {bits rows : List (List ℕ)} → form ≡ Raw → p ≡ Bits
     → p ≡ sample_width_of s.kind s.maxval → bytes ≡ flat_map packed_bytes bits → bits ≡ rows → bytes ≡ rows_bytes form s rows
-bytes_of_bits form s p bytes bits rows raw width is packed same =
+bytes_of_bits s {rows} raw width is packed same =
     packed ∙ ap (flat_map packed_bytes) same ∙ ap (λ (q : SampleWidth). flat_map (bytes_in q) rows) (sym width ∙ is)
     ∙ ap (λ (f : Form). rows_bytes f s rows) (sym raw)
 
@@ -24,10 +14,8 @@ pub returns-in-Raw-Bits-Bits : goal.returns-in-Raw-Bits-Bits
 returns-in-Raw-Bits-Bits g c =
     let rows = c.args.rows.now in
     subst (WriteCall g.W.BytesOut.held g.W.BytesOut.failures g.W.BytesOut.same c.args.writer.now c.write_all.new.writer c.write_all.result)
-    (bytes_of_bits c.args.form c.args.shape c.of-sample_width.result c.parts.result.0.now c.in-Raw-Bits-Bits.bits.now rows c.in-Raw-Bits-Bits.is-0
-    c.in-Raw-Bits-Bits.is-1 c.of-sample_width.ensures c.parts.ensures.bytes
-    (c.in-Raw-Bits-Bits.ensures.rows (row_length c.args.shape) (long_rows c.args.shape rows c.requires)))
-    (record {
+    (bytes_of_bits c.args.shape c.in-Raw-Bits-Bits.is-0 c.in-Raw-Bits-Bits.is-1 c.of-sample_width.ensures c.parts.ensures.bytes
+    (c.in-Raw-Bits-Bits.ensures.rows (row_length c.args.shape) (long_rows c.args.shape rows c.requires))) (record {
       written = c.write_all.ensures.written;
       failed = c.write_all.ensures.failed;
       count = c.write_all.ensures.count;

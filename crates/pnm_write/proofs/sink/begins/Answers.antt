@@ -1,9 +1,4 @@
-use Rattle.std.proofs.Common.{◌≡◌, true, List, None, sym, subst}
-use Rattle.std.specs.List.{AllByRecursion}
-use Rattle.pnm_image.specs.Packets.{messages_in}
-use Rattle.pnm_image.specs.declared.message.Message.{Message}
-use Rattle.pnm_write.specs.Forms.{form_fault_from, has_begun_by}
-use Rattle.pnm_write.specs.Sinks.{HasRows}
+use Rattle.pnm_write.proofs.Words.{◌≡◌, true, List, None, sym, subst, AllByRecursion, messages_in, Message, form_fault_from, has_begun_by, HasRows}
 use Rattle.pnm_write.proofs.MessageLaws.{begins_none, begins_with}
 use Rattle.pnm_write.proofs.sink.begins.Goals as goal
 

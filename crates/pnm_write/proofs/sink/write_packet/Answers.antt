@@ -1,9 +1,4 @@
-use Rattle.std.proofs.Common.{◌++◌, refl, rules, ap, ◌∙◌}
-use Rattle.pnm_image.specs.Packets.{messages_in}
-use Rattle.pnm_image.specs.Rows.{rows_list}
-use Rattle.pnm_image.proofs.Written.{sending_part}
-use Rattle.pnm_write.specs.Encoding.{header_text}
-use Rattle.pnm_write.specs.Internal.Encoding.{rows_bytes}
+use Rattle.pnm_write.proofs.Words.{◌++◌, refl, rules, ap, ◌∙◌, messages_in, rows_list, sending_part, header_text, rows_bytes}
 use Rattle.pnm_write.proofs.PartLaws.{begin_sending}
 use Rattle.pnm_write.proofs.RowMessages.{begun_bytes, begun_rows, inside_bytes, inside_rows, outside_bytes}
 use Rattle.pnm_write.proofs.WriteCallSteps.{call_failed, call_on}
@@ -13,14 +8,13 @@ pub write_repeated-requires : goal.write_repeated-requires
 write_repeated-requires g c =
     let part = c.parts.result in
     let is = ap messages_in c.in-Part.is ∙ c.parts.ensures.parts in
-    rw (c.shape.ensures.shape) (begun_rows c.args.place c.in-Some.head part.0.now part.1.now part.2 (messages_in c.args.packet.now) c.in-Some.is is c.requires)
+    rw (c.shape.ensures.shape) (begun_rows c.args.place part.1.now part.2 c.in-Some.is is c.requires)
 
 pub write_repeated-requires-in-Inside : goal.write_repeated-requires-in-Inside
 write_repeated-requires-in-Inside g c =
     let part = c.parts.result in
     let is = ap messages_in c.in-Part.is ∙ c.parts.ensures.parts in
-    inside_rows c.args.place c.in-Inside.shape c.in-Inside.field-1 part.0.now part.1.now part.2 (messages_in c.args.packet.now) c.in-Inside.is
-    c.in_default-head.is is c.requires
+    inside_rows part.1.now part.2 c.in-Inside.is c.in_default-head.is is c.requires
 
 pub returns-in_err-write_header : goal.returns-in_err-write_header
 returns-in_err-write_header g c =
@@ -30,7 +24,7 @@ returns-in_err-write_header g c =
     let header = header_text c.args.form head in
     let rows = rows_bytes c.args.form head.shape (rows_list part.1.now) in
     let writer = c.args.writer.now in
-    rw (begun_bytes c.args.form c.args.place head part.0.now part.1.now part.2 (messages_in c.args.packet.now) c.in-Some.is is)
+    rw (begun_bytes c.args.form c.args.place part.1.now part.2 c.in-Some.is is)
     (call_failed g.W.BytesOut.held g.W.BytesOut.failures g.W.BytesOut.same writer writer c.write_header.new.writer (header ++ rows) (header ++ rows) header rows
     c.from_residual.result c.from_residual.ensures.0 refl
     (begin_sending g.W.BytesOut.held g.W.BytesOut.failures g.W.BytesOut.same writer (header ++ rows) (g.met.W.BytesOut.same_at_once writer))
@@ -49,23 +43,17 @@ returns-in-Some g c =
     let first = sending_part g.W.BytesOut.held g.W.BytesOut.failures g.W.BytesOut.same writer writer c.write_header.new.writer (header ++ rows) (header ++ rows)
     header rows refl start wrote.written wrote.count wrote.same_device in
     let rest = rw (c.shape.ensures.shape) at c.write_repeated.ensures in
-    rw (begun_bytes c.args.form c.args.place head part.0.now part.1.now part.2 (messages_in c.args.packet.now) c.in-Some.is is)
-    (call_on g.W.BytesOut.held g.W.BytesOut.failures g.W.BytesOut.same writer c.write_header.new.writer c.write_repeated.new.writer (header ++ rows) rows
-    c.write_repeated.result first rest
+    rw (begun_bytes c.args.form c.args.place part.1.now part.2 c.in-Some.is is) (call_on c.write_repeated.result first rest
     (g.met.W.BytesOut.same_later _ _ _ wrote.same_device c.write_repeated.ensures.same_device))
 
 pub returns-in-Inside : goal.returns-in-Inside
 returns-in-Inside g c =
     let part = c.parts.result in
     let is = ap messages_in c.in-Part.is ∙ c.parts.ensures.parts in
-    rw (inside_bytes c.args.form c.args.place c.in-Inside.shape c.in-Inside.field-1 part.0.now part.1.now part.2 (messages_in c.args.packet.now) c.in-Inside.is
-    c.in_default-head.is is)
-    c.write_repeated-in-Inside.ensures
+    rw (inside_bytes c.args.form part.1.now part.2 c.in-Inside.is c.in_default-head.is is) c.write_repeated-in-Inside.ensures
 
 pub returns-in-Between : goal.returns-in-Between
 returns-in-Between g c =
     let part = c.parts.result in
     let is = ap messages_in c.in-Part.is ∙ c.parts.ensures.parts in
-    rw (outside_bytes c.args.form c.args.place part.0.now part.1.now part.2 (messages_in c.args.packet.now) c.in-Between.is c.in_default-head.is
-    is)
-    (search rules)
+    rw (outside_bytes c.args.form c.args.place part.1.now part.2 c.in-Between.is c.in_default-head.is is) (search rules)

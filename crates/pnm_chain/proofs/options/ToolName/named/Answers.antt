@@ -1,5 +1,4 @@
-use Rattle.std.proofs.Common.{arith}
-use Rattle.std.proofs.lemmas.Grind.{common_steps}
+use Rattle.pnm_chain.proofs.Words.{arith, common_steps}
 use Rattle.pnm_chain.specs.Options.{tool_named}
 use Rattle.pnm_chain.proofs.NameLaws.{tried_after}
 use Rattle.pnm_chain.proofs.options.ToolName.named.Goals as goal

@@ -1,5 +1,4 @@
-use Rattle.std.proofs.Common.{◌≡◌, rules}
-use Rattle.pnm_chain.specs.Internal.Settings.{has_option, said_by}
+use Rattle.pnm_chain.proofs.Words.{◌≡◌, rules, has_option, said_by}
 use Rattle.pnm_chain.proofs.settings.Settings.has.Goals as goal
 
 pub returns-in-Way : goal.returns-in-Way

@@ -1,7 +1,4 @@
-use Rattle.std.proofs.Common.{◌≡◌, ltb, arith}
-use Rattle.std.proofs.lemmas.Grind.{common_steps}
-use Rattle.pnm_chain.specs.Options.{tool_rule}
-use Rattle.pnm_chain.specs.Internal.Settings.{said_by}
+use Rattle.pnm_chain.proofs.Words.{◌≡◌, ltb, arith, common_steps, tool_rule, said_by}
 use Rattle.pnm_chain.proofs.settings.Settings.is_missing.Goals as goal
 
 pub returns-in_default : goal.returns-in_default

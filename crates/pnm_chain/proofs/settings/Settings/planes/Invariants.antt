@@ -1,6 +1,4 @@
-use Rattle.std.proofs.Common.{◌≡◌, take}
-use Rattle.pnm_chain.specs.declared.options.ToolName.TheVariants.{Channel}
-use Rattle.pnm_chain.specs.Internal.Settings.{AreTaken}
+use Rattle.pnm_chain.proofs.Words.{◌≡◌, take, Channel, AreTaken}
 use Rattle.pnm_chain.proofs.settings.Settings.planes.Given as goal
 
 abbrev pub invariant-loop-number : goal.invariant-loop-number

@@ -1,5 +1,4 @@
-use Rattle.std.proofs.Common.{sym, ◌∙◌}
-use Rattle.pnm_chain.specs.Internal.Settings.{value_read}
+use Rattle.pnm_chain.proofs.Words.{sym, ◌∙◌, value_read}
 use Rattle.pnm_chain.proofs.SettingLaws.{argument_refused, argument_set, option_again, option_refused, option_set}
 use Rattle.pnm_chain.proofs.settings.Settings.take.Goals as goal
 

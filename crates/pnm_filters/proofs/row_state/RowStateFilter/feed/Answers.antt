@@ -1,4 +1,4 @@
-use Rattle.pnm_image.specs.Packets.{messages_in}
+use Rattle.pnm_filters.proofs.Words.{messages_in}
 use Rattle.pnm_filters.proofs.RowStateSteps.{lane_gives_back, lane_judges, lane_takes}
 use Rattle.pnm_filters.proofs.row_state.RowStateFilter.feed.Goals as goal
 

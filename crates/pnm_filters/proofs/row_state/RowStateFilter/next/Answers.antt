@@ -1,6 +1,4 @@
-use Rattle.std.proofs.Common.{◌≡◌, [], ◌∷◌}
-use Rattle.pnm_image.specs.Packets.{messages_in}
-use Rattle.pnm_image.specs.declared.message.Message.TheVariants.{Stop}
+use Rattle.pnm_filters.proofs.Words.{◌≡◌, [], ◌∷◌, messages_in, Stop}
 use Rattle.pnm_filters.proofs.RowStateSteps.{lane_gives, lane_stops, lane_is_full}
 use Rattle.pnm_filters.proofs.row_state.RowStateFilter.next.Goals as goal
 

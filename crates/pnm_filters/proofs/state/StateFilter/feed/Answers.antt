@@ -1,11 +1,5 @@
-use Rattle.std.proofs.Common.{◌≡◌, Err, length, subst, sym, arith}
-use Rattle.pnm_image.specs.Packets.{messages_in}
-use Rattle.pnm_tools.specs.declared.fault.ToolFault.{ToolFault}
-use Rattle.pnm_tools.specs.Answers.{JudgesAll}
-use Rattle.pnm_tools.specs.Tools.{IsLawfulTool}
-use Rattle.pnm_filters.specs.Pendings.{is_all_given, is_idle}
-use Rattle.pnm_filters.specs.States.{StateValue}
-use Rattle.pnm_filters.specs.Internal.States.{state_value}
+use Rattle.pnm_filters.proofs.Words.{◌≡◌, Err, length, subst, sym, arith, messages_in, ToolFault, JudgesAll, IsLawfulTool, is_all_given, is_idle, StateValue}
+use Rattle.pnm_filters.proofs.Words.{state_value}
 use Rattle.pnm_filters.proofs.StateSteps.{all_may_come, fed, judged, judged_out_of_order, sound_fed}
 use Rattle.pnm_filters.proofs.state.StateFilter.feed.Goals as goal
 use Rattle.pnm_filters.proofs.state.StateFilter.feed.Goals.{in-Some-place_after+in-Err, in-None-2}

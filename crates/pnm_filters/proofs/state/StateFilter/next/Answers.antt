@@ -1,7 +1,5 @@
-use Rattle.pnm_filters.specs.Internal.States.{state_value}
+use Rattle.pnm_filters.proofs.Words.{state_value, subst, sym, ◌∙◌, IsLawfulTool}
 use Rattle.pnm_filters.proofs.GivingSteps.{given_by, stop_alone_by, full_by, wanted_memory}
-use Rattle.std.proofs.Common.{subst, sym, ◌∙◌}
-use Rattle.pnm_tools.specs.Tools.{IsLawfulTool}
 use Rattle.pnm_filters.proofs.StateSteps.{sound_given}
 use Rattle.pnm_filters.proofs.state.StateFilter.next.Goals as goal
 

@@ -1,4 +1,4 @@
-use Rattle.pnm_image.specs.Messages.{without_stop}
+use Rattle.pnm_io_loop.proofs.Words.{without_stop}
 use Rattle.pnm_io_loop.proofs.egress.Egress.flush_images.Goals as goal
 
 pub returns-clause-receiving : goal.returns-clause-receiving

@@ -1,7 +1,4 @@
-use Rattle.pnm_stages.specs.Rings.{sent, received, known_items}
-use Rattle.pnm_image.specs.Packets.{messages_in}
-use Rattle.pnm_stages.proofs.PacketLaws.{known_by}
-use Rattle.pnm_stages.proofs.RingSteps.{same_input}
+use Rattle.pnm_io_loop.proofs.Words.{sent, received, known_items, messages_in, known_by, same_input}
 use Rattle.pnm_io_loop.proofs.EgressSteps.{collects_some, still_all}
 use Rattle.pnm_io_loop.proofs.egress.Egress.receive_rest.Goals as goal
 
@@ -12,8 +9,7 @@ loop-self-preserved g c =
           (messages_in c.receive_known-packet.result) c.loop-self.self
           _ added (λ l put. c.put.ensures.put form start l (record { ended = put.ended; taken = put.taken })) c.count_image.ensures
           (c.loop-self.invariant.0 form start before was),
-      still_all (received c.loop-self.self.input) (received c.receive_known-packet.new.self) (known_items c.loop-self.self.input)
-          (known_items c.receive_known-packet.new.self) (sent c.look_beside.new.sender) (messages_in c.receive_known-packet.result)
+      still_all (received c.loop-self.self.input) (known_items c.receive_known-packet.new.self) (messages_in c.receive_known-packet.result)
           c.loop-self.invariant.1 added (known_by c.receive_known-packet.ensures.seen),
       same_input c.args.self.now.input c.loop-self.self.input c.receive_known-packet.new.self c.loop-self.invariant.2 c.receive_known-packet.ensures.ring,
       g.met.W.BytesOut.same_later _ _ _ c.loop-self.invariant.3 c.put.ensures.same_device,

@@ -1,9 +1,4 @@
-use Rattle.std.proofs.Common.{◌≡◌, List, ◌++◌, length}
-use Rattle.pnm_stages.specs.Rings.{sent, received, known_items, known_packets, SameReceiver}
-use Rattle.pnm_image.specs.declared.format.Form.{Form}
-use Rattle.pnm_image.specs.declared.message.Message.{Message}
-use Rattle.pnm_serial.specs.FusedSinks.{output_of}
-use Rattle.pnm_io_loop.specs.Egresses.{IsEgress}
+use Rattle.pnm_io_loop.proofs.Words.{◌≡◌, List, ◌++◌, length, sent, received, known_items, known_packets, SameReceiver, Form, Message, output_of, IsEgress}
 use Rattle.pnm_io_loop.proofs.egress.Egress.receive_rest.Given as goal
 
 -- what was sent was received, or is known

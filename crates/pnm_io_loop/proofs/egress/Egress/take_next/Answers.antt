@@ -1,9 +1,4 @@
-use Rattle.std.proofs.Common.{List, ap, sym, ◌∙◌, ◌++◌, length, arith}
-use Rattle.std.proofs.lemmas.List.{length-append}
-use Rattle.pnm_image.specs.declared.message.Message.{Message}
-use Rattle.pnm_image.specs.declared.packet.Packet.{Packet}
-use Rattle.pnm_image.specs.Packets.{messages_in}
-use Rattle.pnm_stages.specs.Rings.{received}
+use Rattle.pnm_io_loop.proofs.Words.{List, ap, sym, ◌∙◌, ◌++◌, length, arith, length-append, Message, Packet, messages_in, received}
 use Rattle.pnm_io_loop.proofs.EgressSteps.{collects_some, first_is}
 use Rattle.pnm_io_loop.proofs.egress.Egress.take_next.Goals as goal
 
@@ -11,7 +6,7 @@ use Rattle.pnm_io_loop.proofs.egress.Egress.take_next.Goals as goal
 pub returns-clause-receiving : goal.returns-clause-receiving
 returns-clause-receiving g c form start before =
     let packet = c.peek_known-packet.result.now in
-    let same = sym (first_is _ _ _ _ (sym c.peek_known-packet.ensures.next.1 ∙ c.receive_known.ensures.seen)) in
+    let same = sym (first_is (sym c.peek_known-packet.ensures.next.1 ∙ c.receive_known.ensures.seen)) in
     let added = c.receive_known.ensures.received ∙ ap (λ (p : Packet). received c.args.self.now.input ++ messages_in p) same in
     collects_some g.W.BytesOut.held g.W.BytesOut.failures form start before (messages_in packet) c.args.self.now _ added
     (λ l put. c.put.ensures.put form start l (record { ended = put.ended; taken = put.taken })) c.count_image.ensures

@@ -1,5 +1,4 @@
-use Rattle.std.proofs.Common.{arith}
-use Rattle.pnm_stages.proofs.RingSteps.{same_input}
+use Rattle.pnm_io_loop.proofs.Words.{arith, same_input}
 use Rattle.pnm_io_loop.proofs.egress.Egress.take_seen.Goals as goal
 
 pub loop-self-preserved : goal.loop-self-preserved

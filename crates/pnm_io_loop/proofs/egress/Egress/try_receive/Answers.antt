@@ -1,7 +1,4 @@
-use Rattle.std.proofs.Common.{Bool, List, ◌∙◌, inl, inr, refl, ap, length, arith}
-use Rattle.std.proofs.lemmas.Grind.{common_steps}
-use Rattle.pnm_image.specs.declared.message.Message.{Message}
-use Rattle.pnm_io_loop.specs.Egresses.{receiving_is_over}
+use Rattle.pnm_io_loop.proofs.Words.{Bool, List, ◌∙◌, inl, inr, refl, ap, length, arith, common_steps, Message, receiving_is_over}
 use Rattle.pnm_io_loop.proofs.EgressSteps.{not_ended, over_if_gone, still_going}
 use Rattle.pnm_io_loop.proofs.egress.Egress.try_receive.Goals as goal
 
@@ -24,7 +21,7 @@ returns-then-not-has_message-clause-none g c = λ not. (
   record {
     received = c.is_abandoned-self.ensures.received ∙ c.has_message.ensures.received;
     images = refl;
-    over = still_going c.args.self.now.has_ended c.args.self.now.is_gone c.is_abandoned-self.result c.requires.going not;
+    over = still_going c.args.self.now.has_ended c.args.self.now.is_gone c.requires.going not;
   },
   c.has_message.ensures.seen c.if-not-has_message.true,
 )

@@ -1,6 +1,4 @@
-use Rattle.std.proofs.Common.{◌≡◌, arith}
-use Rattle.std.proofs.lemmas.Grind.{common_steps}
-use Rattle.pnm_io_loop.specs.Ingresses.{ingress_is_over}
+use Rattle.pnm_io_loop.proofs.Words.{◌≡◌, arith, common_steps, ingress_is_over}
 use Rattle.pnm_io_loop.proofs.ingress.Ingress.is_over.Goals as goal
 
 pub returns-else-self : goal.returns-else-self

@@ -1,5 +1,4 @@
-use Rattle.std.proofs.Common.{arith}
-use Rattle.std.proofs.lemmas.Grind.{common_steps}
+use Rattle.pnm_io_loop.proofs.Words.{arith, common_steps}
 use Rattle.pnm_io_loop.proofs.ingress.Ingress.send_held.Goals as goal
 
 pub loop-preserved : goal.loop-preserved

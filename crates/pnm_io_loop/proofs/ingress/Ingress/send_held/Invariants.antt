@@ -1,11 +1,4 @@
-use Rattle.std.proofs.Common.{List}
-use Rattle.pnm_stages.specs.Rings.{SameSender}
-use Rattle.pnm_image.specs.declared.message.Message.{Message}
-use Rattle.pnm_read.specs.Sources.{reader_of}
-use Rattle.pnm_read.specs.declared.source.Source.{Source}
-use Rattle.pnm_io_loop.specs.declared.ingress.Ingress.{Ingress}
-use Rattle.pnm_io_loop.specs.Ingresses.{IsIngress}
-use Rattle.pnm_io_loop.specs.Internal.Ingresses.{HasGoneOn}
+use Rattle.pnm_io_loop.proofs.Words.{List, SameSender, Message, reader_of, Source, Ingress, IsIngress, HasGoneOn}
 use Rattle.pnm_io_loop.proofs.ingress.Ingress.send_held.Given as goal
 
 -- what was asked for was sent

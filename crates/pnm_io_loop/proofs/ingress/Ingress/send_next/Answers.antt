@@ -1,17 +1,11 @@
-use Rattle.std.proofs.Common.{List, Err, ap, arith, inl, length}
-use Rattle.std.proofs.lemmas.List.{length-append}
-use Rattle.pnm_image.specs.Packets.{messages_in}
-use Rattle.pnm_image.specs.declared.message.Message.{Message}
-use Rattle.pnm_stages.specs.Rings.{sent}
-use Rattle.pnm_read.specs.declared.fault.InputFault.TheVariants.{ReadFailed}
-use Rattle.pnm_read.proofs.ReadCalls.{no_fault}
+use Rattle.pnm_io_loop.proofs.Words.{List, Err, ap, arith, inl, length, length-append, messages_in, Message, sent, ReadFailed, no_fault}
 use Rattle.pnm_io_loop.proofs.IngressSteps.{feeds_packet, feeds_all, feeds_until}
 use Rattle.pnm_io_loop.proofs.ingress.Ingress.send_next.Goals as goal
 
 pub returns-in-Ok-Some-clause-sending : goal.returns-in-Ok-Some-clause-sending
 returns-in-Ok-Some-clause-sending g c first before =
     let told = rw c.in-Ok-Some.field-0-is at c.in-Ok-Some.ensures.told in
-    feeds_packet g.R.BytesIn.left g.R.BytesIn.failures first before c.args.self.now c.next.new.self c.in-Ok-Some.packet c.send_reserved.new.self _
+    feeds_packet c.send_reserved.new.self
     c.requires.going c.send_reserved.ensures.sent told c.next.ensures.end c.next.ensures.unread (c.in-Ok-Some.ensures.count (no_fault _ ReadFailed))
     c.count_image.ensures
 

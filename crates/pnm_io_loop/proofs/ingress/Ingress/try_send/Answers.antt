@@ -1,6 +1,4 @@
-use Rattle.std.proofs.Common.{◌∙◌, Bool, ap, inr, arith}
-use Rattle.std.proofs.lemmas.Grind.{common_steps}
-use Rattle.pnm_io_loop.specs.Ingresses.{sending_is_over}
+use Rattle.pnm_io_loop.proofs.Words.{◌∙◌, Bool, ap, inr, arith, common_steps, sending_is_over}
 use Rattle.pnm_io_loop.proofs.ingress.Ingress.try_send.Goals as goal
 
 pub returns-then-not-has_room-clause-sending : goal.returns-then-not-has_room-clause-sending

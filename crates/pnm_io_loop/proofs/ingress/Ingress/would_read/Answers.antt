@@ -1,4 +1,4 @@
-use Rattle.std.proofs.Common.{ap, not}
+use Rattle.pnm_io_loop.proofs.Words.{ap, not}
 use Rattle.pnm_io_loop.proofs.ingress.Ingress.would_read.Goals as goal
 
 pub returns-clause-ended : goal.returns-clause-ended

@@ -1,4 +1,4 @@
-use Rattle.std.proofs.Common.{ap, length, sym, ◌≡◌, ◌≤◌, [], subst, vec_capacity, ℕ, arith}
+use Rattle.pnm_lanes.proofs.Words.{ap, length, sym, ◌≡◌, ◌≤◌, [], subst, vec_capacity, ℕ, arith}
 use Rattle.pnm_lanes.proofs.MergeSteps.{made_so, unused_more, counted_more}
 use Rattle.pnm_lanes.proofs.lane_rings.LaneRings.new.Goals as goal
 
@@ -14,9 +14,9 @@ loop-preserved c =
       rw (c.push_reserved.ensures.items, c.push_reserved-in-loop.ensures.items, c.push_reserved-in-loop-2.ensures.items) more,
       omega (arith, c.loop-test.true),
       (
-        counted_more c.loop.outputs.items c.push_reserved.new.self.items sent.sender c.loop.counter c.push_reserved.ensures.items counts.0,
-        counted_more c.loop.ends.items c.push_reserved-in-loop.new.self.items _ c.loop.counter c.push_reserved-in-loop.ensures.items counts.1,
-        counted_more c.loop.inputs.items c.push_reserved-in-loop-2.new.self.items made.receiver c.loop.counter c.push_reserved-in-loop-2.ensures.items counts.2,
+        counted_more c.loop.outputs.items sent.sender c.push_reserved.ensures.items counts.0,
+        counted_more c.loop.ends.items _ c.push_reserved-in-loop.ensures.items counts.1,
+        counted_more c.loop.inputs.items made.receiver c.push_reserved-in-loop-2.ensures.items counts.2,
       ),
       (
         subst (λ (n : ℕ). c.args.lanes ≤ n) (sym c.push_reserved.ensures.capacity) reserved.0,
@@ -27,22 +27,19 @@ loop-preserved c =
 
 pub loop-init : goal.loop-init
 loop-init c =
-    let no_outputs : c.in_ok-outputs.outputs.items ≡ [] = made_so (λ v. v.items ≡ []) c.with_capacity.result
-    c.ok.result c.in_ok-outputs.outputs c.ok.ensures.value c.in_ok-outputs.was c.with_capacity.ensures.items in
-    let no_ends : c.in_ok-ends.ends.items ≡ [] = made_so (λ v. v.items ≡ []) c.with_capacity-2.result
-    c.ok-2.result c.in_ok-ends.ends c.ok-2.ensures.value c.in_ok-ends.was c.with_capacity-2.ensures.items in
-    let no_inputs : c.in_ok-inputs.inputs.items ≡ [] = made_so (λ v. v.items ≡ []) c.with_capacity-3.result
-    c.ok-3.result c.in_ok-inputs.inputs c.ok-3.ensures.value c.in_ok-inputs.was c.with_capacity-3.ensures.items in (
+    let no_outputs : c.in_ok-outputs.outputs.items ≡ [] = made_so (λ v. v.items ≡ []) c.with_capacity.result c.ok.ensures.value c.in_ok-outputs.was
+    c.with_capacity.ensures.items in
+    let no_ends : c.in_ok-ends.ends.items ≡ [] = made_so (λ v. v.items ≡ []) c.with_capacity-2.result c.ok-2.ensures.value c.in_ok-ends.was
+    c.with_capacity-2.ensures.items in
+    let no_inputs : c.in_ok-inputs.inputs.items ≡ [] = made_so (λ v. v.items ≡ []) c.with_capacity-3.result c.ok-3.ensures.value c.in_ok-inputs.was
+    c.with_capacity-3.ensures.items in (
       rw (no_outputs, no_ends, no_inputs) tt,
       omega arith,
       (ap length no_outputs, ap length no_ends, ap length no_inputs),
       (
-        made_so (λ v. c.args.lanes ≤ vec_capacity v) c.with_capacity.result
-            c.ok.result c.in_ok-outputs.outputs c.ok.ensures.value c.in_ok-outputs.was c.with_capacity.ensures.capacity,
-        made_so (λ v. c.args.lanes ≤ vec_capacity v) c.with_capacity-2.result
-            c.ok-2.result c.in_ok-ends.ends c.ok-2.ensures.value c.in_ok-ends.was c.with_capacity-2.ensures.capacity,
-        made_so (λ v. c.args.lanes ≤ vec_capacity v) c.with_capacity-3.result
-            c.ok-3.result c.in_ok-inputs.inputs c.ok-3.ensures.value c.in_ok-inputs.was c.with_capacity-3.ensures.capacity,
+        made_so (λ v. c.args.lanes ≤ vec_capacity v) c.with_capacity.result c.ok.ensures.value c.in_ok-outputs.was c.with_capacity.ensures.capacity,
+        made_so (λ v. c.args.lanes ≤ vec_capacity v) c.with_capacity-2.result c.ok-2.ensures.value c.in_ok-ends.was c.with_capacity-2.ensures.capacity,
+        made_so (λ v. c.args.lanes ≤ vec_capacity v) c.with_capacity-3.result c.ok-3.ensures.value c.in_ok-inputs.was c.with_capacity-3.ensures.capacity,
       ),
     )
 
@@ -57,10 +54,8 @@ push_reserved-requires-in-loop-2 c = omega (arith, c.loop.invariant.2.2, c.loop.
 
 pub returns-clause-reserved : goal.returns-clause-reserved
 returns-clause-reserved c = (
-  made_so (λ v. v.items ≡ []) c.with_capacity-4.result
-      c.ok-4.result c.in_ok-reserved.reserved c.ok-4.ensures.value c.in_ok-reserved.was c.with_capacity-4.ensures.items,
-  made_so (λ v. c.args.lanes ≤ vec_capacity v) c.with_capacity-4.result
-      c.ok-4.result c.in_ok-reserved.reserved c.ok-4.ensures.value c.in_ok-reserved.was c.with_capacity-4.ensures.capacity,
+  made_so (λ v. v.items ≡ []) c.with_capacity-4.result c.ok-4.ensures.value c.in_ok-reserved.was c.with_capacity-4.ensures.items,
+  made_so (λ v. c.args.lanes ≤ vec_capacity v) c.with_capacity-4.result c.ok-4.ensures.value c.in_ok-reserved.was c.with_capacity-4.ensures.capacity,
 )
 
 pub returns-clause-unused : goal.returns-clause-unused

@@ -1,5 +1,4 @@
-use Rattle.std.proofs.Common.{◌≡◌, ◌≤◌, length, vec_capacity}
-use Rattle.pnm_lanes.specs.LaneRings.{AreUnused}
+use Rattle.pnm_lanes.proofs.Words.{◌≡◌, ◌≤◌, length, vec_capacity, AreUnused}
 use Rattle.pnm_lanes.proofs.lane_rings.LaneRings.new.Given as goal
 
 -- rings to and from each lane so far

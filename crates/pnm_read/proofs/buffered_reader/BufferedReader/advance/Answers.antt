@@ -1,6 +1,5 @@
 use Rattle.pnm_read.proofs.ReadSteps.{range_after}
-use Rattle.std.proofs.Common.{arith}
-use Rattle.std.proofs.lemmas.Grind.{common_steps}
+use Rattle.pnm_read.proofs.Words.{arith, common_steps}
 use Rattle.pnm_read.proofs.buffered_reader.BufferedReader.advance.Goals as goal
 
 pub returns-clause-held : goal.returns-clause-held

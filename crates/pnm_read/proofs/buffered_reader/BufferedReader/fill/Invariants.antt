@@ -1,6 +1,4 @@
-use Rattle.std.proofs.Common.{◌≡◌, ◌+◌, ◌-◌, Ok, length, if◌then◌else◌}
-use Rattle.pnm_read.specs.BufferedReaders.{held_of}
-use Rattle.pnm_read.specs.Internal.BufferedReaders.{ReadCall, Fills, HoldsEnough}
+use Rattle.pnm_read.proofs.Words.{◌≡◌, ◌+◌, ◌-◌, Ok, length, if◌then◌else◌, held_of, ReadCall, Fills, HoldsEnough}
 use Rattle.pnm_read.proofs.buffered_reader.BufferedReader.fill.Given as goal
 
 abbrev pub invariant-loop-self : goal.invariant-loop-self

@@ -1,7 +1,4 @@
-use Rattle.std.proofs.Common.{◌≡◌, ◌-◌, arith}
-use Rattle.std.specs.List.{slice_range}
-use Rattle.std.proofs.lemmas.Grind.{common_steps}
-use Rattle.pnm_read.specs.BufferedReaders.{held_of}
+use Rattle.pnm_read.proofs.Words.{◌≡◌, ◌-◌, arith, slice_range, common_steps, held_of}
 use Rattle.pnm_read.proofs.buffered_reader.BufferedReader.move_to_front.Goals as goal
 
 pub returns-then-self-gt0-clause-held : goal.returns-then-self-gt0-clause-held

@@ -1,12 +1,6 @@
-use Rattle.std.proofs.Common.{◌≡◌, ◌⊎◌, ◌+◌, ◌-◌, ◌<◌, ◌≤◌, ◌==◌, Bool, true, List, ℕ, zero}
-use Rattle.std.proofs.Common.{suc, length, ◌++◌, take, drop, inl, inr, ap, sym, arith, ◌∙◌, append-nil}
-use borrow.Rule.Slice.PartMut.{post_of}
-use Rattle.std.specs.List.{slice_range}
-use Rattle.std.specs.Vec.{with_items}
-use Rattle.std.proofs.lemmas.Bool.{eqb-true}
-use Rattle.std.proofs.lemmas.Grind.{common_steps}
-use Rattle.std.proofs.lemmas.List.{length-append, length-take, length-drop}
-use Rattle.std.proofs.lemmas.Result.{err_from_is_err_and}
+use Rattle.pnm_read.proofs.Words.{◌≡◌, ◌⊎◌, ◌+◌, ◌-◌, ◌<◌, ◌≤◌, ◌==◌, Bool, true, List, ℕ, zero, suc, length, ◌++◌, take, drop, inl, inr, ap, sym, arith, ◌∙◌}
+use Rattle.pnm_read.proofs.Words.{append-nil, post_of, slice_range, with_items, eqb-true, common_steps, length-append, length-take, length-drop}
+use Rattle.pnm_read.proofs.Words.{err_from_is_err_and}
 use Rattle.pnm_read.proofs.ReadSteps.{call_grown, call_failed, range_grown}
 use Rattle.pnm_read.proofs.buffered_reader.BufferedReader.read_more.Goals as goal
 
@@ -17,9 +11,8 @@ returns-clause-read_call g c =
     let target : List ℕ = c.read_into.new.target in
     let post : List ℕ = post_of mid.end (length bytes - mid.end) bytes in
     let kept : (with_items mid.buffer (take mid.end bytes ++ (target ++ post))).items ≡ take mid.end bytes ++ (target ++ post) = grind (arith, common_steps) in
-    call_grown c.in_ok-self.field-0 target mid.reader c.in_ok-self.ensures.read c.move_to_front.ensures.reader c.requires.goes_on
-    (λ e. eqb-true c.in_ok-self.field-0 0 (sym c.in_ok-self.ensures.end ∙ e))
-    (ap (λ (l : List ℕ). slice_range l mid.at (mid.end + c.in_ok-self.field-0)) kept
+    call_grown target c.in_ok-self.ensures.read c.move_to_front.ensures.reader c.requires.goes_on
+    (λ e. eqb-true c.in_ok-self.field-0 0 (sym c.in_ok-self.ensures.end ∙ e)) (ap (λ (l : List ℕ). slice_range l mid.at (mid.end + c.in_ok-self.field-0)) kept
     ∙ range_grown bytes target post mid.at mid.end c.in_ok-self.field-0 (omega arith) (omega (arith, c.as_mut_slice.ensures.len)) c.in_ok-self.ensures.read.1
     ∙ ap (λ (l : List ℕ). l ++ take c.in_ok-self.field-0 target) (ap (λ (l : List ℕ). slice_range l mid.at mid.end) c.as_mut_slice.ensures.value
     ∙ c.move_to_front.ensures.held))
@@ -28,14 +21,13 @@ pub returns-in_err-self-clause-read_call : goal.returns-in_err-self-clause-read_
 returns-in_err-self-clause-read_call g c =
     let p = err_from_is_err_and c.from_residual.result c.from_residual.ensures.1 in
     let r = c.in_err-self.ensures.read in
-    rw (p.1, p.2) (call_failed c.in_err-self.field-0.0 c.read_into.new.target c.move_to_front.new.self.reader r c.move_to_front.ensures.reader
-    c.requires.goes_on c.in_err-self.ensures.end (λ b a. inl r.1))
+    rw (p.1, p.2) (call_failed c.read_into.new.target r c.move_to_front.ensures.reader c.requires.goes_on c.in_err-self.ensures.end (λ b a. inl r.1))
 
 -- more is held, or the end was seen
-grown_or_ended : (old new target : List ℕ) (count : ℕ) (ended : Bool) → new ≡ old ++ take count target → count ≤ length target → ended ≡ (count == 0)
-    → (length old < length new) ⊎ ((ended ≡ true) × (new ≡ old))
-grown_or_ended old new target zero ended more fits end = inr (end, more ∙ append-nil old)
-grown_or_ended old new target (suc count) ended more fits end =
+grown_or_ended : (old : List ℕ) {new : List ℕ} (target : List ℕ) (count : ℕ) {ended : Bool} → new ≡ old ++ take count target → count ≤ length target
+    → ended ≡ (count == 0) → (length old < length new) ⊎ ((ended ≡ true) × (new ≡ old))
+grown_or_ended old target zero more fits end = inr (end, more ∙ append-nil old)
+grown_or_ended old target (suc count) more fits end =
     inl (omega (arith, ap (λ (l : List ℕ). length l) more, length-append old (take (suc count) target), length-take (suc count) target))
 
 pub returns-clause-more : goal.returns-clause-more
@@ -45,12 +37,10 @@ returns-clause-more g c =
     let target : List ℕ = c.read_into.new.target in
     let post : List ℕ = post_of mid.end (length bytes - mid.end) bytes in
     let kept : (with_items mid.buffer (take mid.end bytes ++ (target ++ post))).items ≡ take mid.end bytes ++ (target ++ post) = grind (arith, common_steps) in
-    grown_or_ended _ _ target c.in_ok-self.field-0 _
-    (ap (λ (l : List ℕ). slice_range l mid.at (mid.end + c.in_ok-self.field-0)) kept
+    grown_or_ended _ target c.in_ok-self.field-0 (ap (λ (l : List ℕ). slice_range l mid.at (mid.end + c.in_ok-self.field-0)) kept
     ∙ range_grown bytes target post mid.at mid.end c.in_ok-self.field-0 (omega arith) (omega (arith, c.as_mut_slice.ensures.len)) c.in_ok-self.ensures.read.1
     ∙ ap (λ (l : List ℕ). l ++ take c.in_ok-self.field-0 target) (ap (λ (l : List ℕ). slice_range l mid.at mid.end) c.as_mut_slice.ensures.value
-    ∙ c.move_to_front.ensures.held))
-    c.in_ok-self.ensures.read.1 c.in_ok-self.ensures.end
+    ∙ c.move_to_front.ensures.held)) c.in_ok-self.ensures.read.1 c.in_ok-self.ensures.end
 
 pub read_into-requires-clause-target : goal.read_into-requires-clause-target
 read_into-requires-clause-target g c =

@@ -1,4 +1,4 @@
-use Rattle.std.proofs.Common.{arith}
+use Rattle.pnm_read.proofs.Words.{arith}
 use Rattle.pnm_read.proofs.buffered_reader.ReadBuffer.with_capacity.Goals as goal
 
 pub invariant_of-result : goal.invariant_of-result

@@ -1,6 +1,4 @@
-use denote.Ref.{Bor}
-use Rattle.std.proofs.Common.{◌≡◌, ◌⊎◌, inl, inr, ℕ, List, [], ◌∷◌, ap, arith}
-use Rattle.std.proofs.lemmas.Grind.{common_steps}
+use Rattle.pnm_read.proofs.Words.{Bor, ◌≡◌, ◌⊎◌, inl, inr, ℕ, List, [], ◌∷◌, ap, arith, common_steps}
 use Rattle.pnm_read.proofs.fields.Fields.add_tuple_type.Goals.{then-is_empty-2, else-is_empty-2}
 use Rattle.pnm_read.proofs.fields.Fields.add_tuple_type.Goals as goal
 

@@ -1,4 +1,4 @@
-use Rattle.std.proofs.Common.{rules}
+use Rattle.pnm_read.proofs.Words.{rules}
 use Rattle.pnm_read.proofs.FieldSteps.{no_fields}
 use Rattle.pnm_read.proofs.fields.Fields.new.Goals as goal
 

@@ -1,5 +1,4 @@
-use Rattle.std.proofs.Common.{arith}
-use Rattle.std.proofs.lemmas.Grind.{common_steps}
+use Rattle.pnm_read.proofs.Words.{arith, common_steps}
 use Rattle.pnm_read.proofs.fields.Fields.set_number.Goals as goal
 
 pub returns-in-Maxval : goal.returns-in-Maxval

@@ -1,6 +1,5 @@
-use Rattle.std.proofs.Common.{◌≡◌, ◌<◌, false, arith}
-use Rattle.std.proofs.lemmas.Grind.{common_steps}
-use Rattle.pnm_read.specs.Items.{header_item, header_limit}
+use Rattle.pnm_read.proofs.Words.{◌≡◌, ◌<◌, false, arith, common_steps, header_limit}
+use Rattle.pnm_read.specs.Items.{header_item}
 use Rattle.pnm_read.proofs.header.HeaderScanner.judge.Goals as goal
 
 -- white space outside comments, in time

@@ -1,5 +1,4 @@
-use Rattle.std.proofs.Common.{◌≡◌, ◌<◌, ◌==◌, false, get_or, length, rules, arith}
-use Rattle.std.proofs.lemmas.Grind.{common_steps}
+use Rattle.pnm_read.proofs.Words.{◌≡◌, ◌<◌, ◌==◌, false, get_or, length, rules, arith, common_steps}
 use Rattle.pnm_read.proofs.LineNames.{tried_after, tried_last, kind_named}
 use Rattle.pnm_read.proofs.line.LineKind.of.Goals as goal
 

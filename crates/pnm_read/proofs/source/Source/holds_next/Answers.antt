@@ -1,4 +1,4 @@
-use Rattle.std.proofs.Common.{refl}
+use Rattle.pnm_read.proofs.Words.{refl}
 use Rattle.pnm_read.proofs.source.Source.holds_next.Goals as goal
 
 pub returns-in-Ended-clause-ended : goal.returns-in-Ended-clause-ended

@@ -1,9 +1,4 @@
-use Rattle.std.proofs.Common.{◌≡◌, ◌++◌, ◌+◌, List, ℕ, sym, ap, ◌∙◌}
-use Rattle.pnm_image.specs.declared.message.Message.{Message}
-use Rattle.pnm_image.specs.Parts.{head_messages, end_messages}
-use Rattle.pnm_image.specs.Rows.{row_messages, rows_list}
-use Rattle.pnm_read.specs.Awaiting.{due_at}
-use Rattle.pnm_read.specs.Said.{after_messages}
+use Rattle.pnm_read.proofs.Words.{◌≡◌, ◌++◌, ◌+◌, List, ℕ, sym, ap, ◌∙◌, Message, head_messages, end_messages, row_messages, rows_list, due_at, after_messages}
 use Rattle.pnm_read.proofs.AwaitedSteps.{part_said, part_some, rows_mapped}
 use Rattle.pnm_read.proofs.source.Source.part.Goals as goal
 

@@ -1,4 +1,4 @@
-use Rattle.std.proofs.Common.{refl}
+use Rattle.pnm_read.proofs.Words.{refl}
 use Rattle.pnm_read.proofs.SourceSteps.{fresh_source}
 use Rattle.pnm_read.proofs.source.Source.with_buffer.Goals as goal
 

@@ -1,5 +1,4 @@
-use Rattle.std.proofs.Common.{arith}
-use Rattle.std.proofs.lemmas.Grind.{common_steps}
+use Rattle.pnm_repeat_tools.proofs.Words.{arith, common_steps}
 use Rattle.pnm_repeat_tools.proofs.enlarge.Enlarger.new.Goals as goal
 
 pub returns-clause-down : goal.returns-clause-down

@@ -1,5 +1,4 @@
-use Rattle.std.proofs.Common.{sym, ap, ◌∙◌}
-use Rattle.pnm_repeat_tools.specs.Enlarging.{ToEnlarge, larger_rows}
+use Rattle.pnm_repeat_tools.proofs.Words.{sym, ap, ◌∙◌, ToEnlarge, larger_rows}
 use Rattle.pnm_repeat_tools.proofs.EnlargedRowsLaws.{answers_are}
 use Rattle.pnm_repeat_tools.proofs.enlarge.EnlargerImageTool.take.Goals as goal
 

@@ -1,6 +1,5 @@
-use Rattle.std.proofs.Common.{◌≡◌, ◌-◌, ◌*◌, ◌≤◌, ◌<◌, ◌++◌, All, length, map, min, take, refl, ap, subst, sym, ◌∙◌, arith, ℕ}
+use Rattle.pnm_repeat_tools.proofs.Words.{◌≡◌, ◌-◌, ◌*◌, ◌≤◌, ◌<◌, ◌++◌, All, length, map, min, take, refl, ap, subst, sym, ◌∙◌, arith, ℕ, Tiled, tiled}
 use Rattle.std.proofs.Math.Nat.{mul-le-mul_right}
-use Rattle.pnm_repeat_tools.specs.Keeping.{Tiled, tiled}
 use Rattle.pnm_repeat_tools.proofs.CutRowsLaws.{lengths_of}
 use Rattle.pnm_repeat_tools.proofs.TileRowLaws.{lengths_shown, none_due}
 use Rattle.pnm_repeat_tools.proofs.TileRowsLaws.{none_answer, kept_rows, rows_beyond, tiling_behind}
@@ -12,8 +11,7 @@ returns-then-y-self-clause-ready c = λ come ready.
     let s = c.args.shape in
     let beyond : w.height ≤ c.args.y = omega (arith, c.if-y-self.true, ap (λ (w : Tiled). w.height) c.self.view_is) in
     tiling_behind w w s come c.args.rows refl ready.none_given
-    (rows_beyond w.width w.height c.args.y s w.rows c.requires.ready.0 come c.args.rows c.requires.ready.2.rows c.requires.ready.1 beyond ready.rows)
-    c.requires.rows.1 ready
+    (rows_beyond w.width w.height s c.requires.ready.0 come c.args.rows c.requires.ready.2.rows c.requires.ready.1 beyond ready.rows) c.requires.rows.1 ready
 
 pub returns-then-y-self-clause-due : goal.returns-then-y-self-clause-due
 returns-then-y-self-clause-due c =
@@ -25,8 +23,7 @@ push_fronts-requires-clause-alike c =
     let x = c.self.inside in
     let s = c.args.shape in
     let ready = rw (← c.self.view_is) at c.requires.ready.2 in
-    subst (λ (n : ℕ). All (λ row. length row ≡ n) x.rows) (sym c.shown_length-shown.ensures)
-    (lengths_shown (tiled x.width x.height x.shape.width x.shape.depth x.rows x.left) s c.requires.ready.0 ready)
+    subst (λ (n : ℕ). All (λ row. length row ≡ n) x.rows) (sym c.shown_length-shown.ensures) (lengths_shown ready)
 
 pub push_fronts-requires-clause-within : goal.push_fronts-requires-clause-within
 push_fronts-requires-clause-within c = λ k d lt.
@@ -49,8 +46,7 @@ returns-clause-ready c = λ come ready.
     let stored = c.in_ok-push_fronts.ensures.added
     ∙ ap (λ (n : ℕ). x.rows ++ map (take n) (take c.min-kept.result c.args.rows)) c.shown_length-shown.ensures in
     tiling_behind w (tiled x.width x.height x.shape.width x.shape.depth now x.left) s come c.args.rows refl ready_now.none_given
-    (kept_rows x.width x.height c.args.y c.min-kept.result s x.rows now c.requires.ready.0 come c.args.rows before.rows c.requires.ready.1 within
-    most ready_now.rows stored)
+    (kept_rows x.width x.height s c.requires.ready.0 come c.args.rows before.rows c.requires.ready.1 within most ready_now.rows stored)
     c.requires.rows.1 ready_now
 
 pub returns-clause-due : goal.returns-clause-due

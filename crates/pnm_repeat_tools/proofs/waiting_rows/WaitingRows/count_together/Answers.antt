@@ -1,5 +1,4 @@
-use Rattle.std.proofs.Common.{◌≤◌, ◌*◌, ◌/◌, ap, arith, mul-le-mul}
-use Rattle.pnm_repeat_tools.specs.Enlarging.{ToEnlarge}
+use Rattle.pnm_repeat_tools.proofs.Words.{◌≤◌, ◌*◌, ◌/◌, ap, arith, mul-le-mul, ToEnlarge}
 use Rattle.pnm_repeat_tools.proofs.WaitingLaws.{few_pixels, wide_row}
 use Rattle.pnm_repeat_tools.proofs.waiting_rows.WaitingRows.count_together.Goals as goal
 
@@ -39,7 +38,7 @@ returns-clause-pixels c =
     let most : c.min.result ≤ 65536 / (bytes * x.down) = omega (arith, c.min.ensures) in
     omega (
       arith,
-      few_pixels s.width s.depth x.across x.down each bytes c.min.result can.ready.limits.depth_low can.across.0 can.down.0 wide.0
+      few_pixels s.width s.depth x.across x.down bytes c.min.result can.ready.limits.depth_low can.across.0 can.down.0 wide.0
           c.bytes_of_row-bytes.ensures.enough (omega (arith, all)) most,
       ap (λ (w : ToEnlarge). w.shape.width * c.min.result) c.self.view_is,
     )

@@ -1,13 +1,11 @@
-use Rattle.std.proofs.Common.{◌≡◌, ◌∙◌, ap, drop, take}
-use Rattle.pnm_repeat_tools.specs.Enlarging.{ToEnlarge}
+use Rattle.pnm_repeat_tools.proofs.Words.{◌≡◌, ◌∙◌, ap, drop, take, ToEnlarge}
 use Rattle.pnm_repeat_tools.proofs.WaitingLaws.{rest_waits}
 use Rattle.pnm_repeat_tools.proofs.waiting_rows.WaitingRows.split.Goals as goal
 
 pub invariant_of-result : goal.invariant_of-result
 invariant_of-result c =
     let x = c.self.inside in
-    rest_waits x.across x.down x.next c.args.count c.count-all.result x.shape x.rows c.args.self c.self.view_is c.self.invariant c.requires.1
-    c.count-all.ensures.rows c.if-end-all.false
+    rest_waits x.across x.down x.next c.args.count x.shape x.rows c.self.view_is c.self.invariant c.requires.1 c.count-all.ensures.rows c.if-end-all.false
 
 pub returns-clause-next : goal.returns-clause-next
 returns-clause-next c =

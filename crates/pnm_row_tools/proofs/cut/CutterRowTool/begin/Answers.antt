@@ -1,15 +1,8 @@
-use Rattle.std.proofs.Common.{◌≡◌, Some, None, inl, ap, sym, subst, ◌∙◌, arith}
-use Rattle.pnm_image.specs.declared.shape.Shape.{Shape}
-use Rattle.pnm_image.specs.Heads.{IsWithinLimits, head_value}
-use Rattle.pnm_image.specs.declared.head.Head.{Head as HeadValue}
-use Rattle.pnm_tools.specs.declared.tool.Tool.TheVariants.{Cut}
-use Rattle.pnm_tools.specs.ToolLimits.{within_limits}
-use Rattle.pnm_tools.specs.Tools.{result_head}
-use Rattle.pnm_tools.proofs.HeadLaws.{head_so, fault_so}
-use Rattle.pnm_tools.proofs.CutRowLaws.{columns_lie, rows_lie, counts_within, cut_without_rows, cut_head_by, cut_head_made}
+use Rattle.pnm_row_tools.proofs.Words.{◌≡◌, Some, None, inl, ap, sym, subst, ◌∙◌, arith, Shape, IsWithinLimits, head_value, HeadValue, Cut, within_limits}
+use Rattle.pnm_row_tools.proofs.Words.{result_head, head_so, fault_so, columns_lie, rows_lie, counts_within, cut_without_rows, cut_head_by, cut_head_made}
+use Rattle.pnm_row_tools.proofs.Words.{MAX_SIDE}
 use Rattle.pnm_row_tools.proofs.cut.CutterRowTool.begin.Goals as goal
 use Rattle.pnm_row_tools.proofs.cut.CutterRowTool.begin.Goals.{in_default-via-in-Some+in_default, in_default-via-in_default}
-use Rattle.pnm_image.specs.declared.limits.TheConstants.{MAX_SIDE}
 
 pub returns-then-shape-eq0-clause-refused : goal.returns-then-shape-eq0-clause-refused
 returns-then-shape-eq0-clause-refused c =

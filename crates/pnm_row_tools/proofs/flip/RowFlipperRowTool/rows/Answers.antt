@@ -1,14 +1,5 @@
-use Rattle.std.proofs.Common.{Bool, [], ◌∷◌, if◌then◌else◌, map, ap, sym, subst, ◌∙◌}
-use Rattle.std.proofs.lemmas.List.{map-id}
-use Rattle.std.proofs.lemmas.Bool.{not-false, not-true}
-use Rattle.std.proofs.lemmas.List.Elements.{All-from_recursion}
-use Rattle.pnm_image.specs.HeldRows.{AreRowsWithin}
-use Rattle.pnm_image.specs.Places.{IsRowOf}
-use Rattle.pnm_tools.specs.declared.flip.Transform.{Transform}
-use Rattle.pnm_tools.specs.declared.tool.Tool.TheVariants.{Flip}
-use Rattle.pnm_tools.specs.Flip.{mirrored_row, transform_of, transformed_row}
-use Rattle.pnm_tools.proofs.TransformLaws.{row_stays}
-use Rattle.pnm_row_tools.specs.Internal.EachRow.{HoldsRows}
+use Rattle.pnm_row_tools.proofs.Words.{Bool, [], ◌∷◌, if◌then◌else◌, map, ap, sym, subst, ◌∙◌, map-id, not-false, not-true, All-from_recursion, AreRowsWithin}
+use Rattle.pnm_row_tools.proofs.Words.{IsRowOf, Transform, Flip, mirrored_row, transform_of, transformed_row, row_stays, HoldsRows}
 use Rattle.pnm_row_tools.proofs.FlipRowsLaws.{as_long, mirrored_rows_within, rows_turned}
 use Rattle.pnm_row_tools.proofs.HeldRowsLaws.{length_of_shape, rows_of_shape}
 use Rattle.pnm_row_tools.proofs.EachRowLaws.{each_answered}
@@ -17,8 +8,7 @@ use Rattle.pnm_row_tools.proofs.flip.RowFlipperRowTool.rows.Goals as goal
 pub mirror_rows-requires-clause-rows : goal.mirror_rows-requires-clause-rows
 mirror_rows-requires-clause-rows c =
     let parts = c.into_parts-held in
-    rows_of_shape c.args.shape parts.result.1 parts.result.2 parts.result.0 c.args.rows parts.ensures.some parts.ensures.whole
-    parts.ensures.rows c.requires.rows.1
+    rows_of_shape c.args.shape parts.result.1 parts.result.2 parts.result.0 parts.ensures.some parts.ensures.whole parts.ensures.rows c.requires.rows.1
 
 -- so many rows of as many samples as they had, each mirrored
 mirrored : (c : goal.In_ok-mirrored) → HoldsRows c.into_parts-held.result.1 c.into_parts-held.result.2 c.in_ok-mirrored.mirrored
@@ -26,9 +16,8 @@ mirrored : (c : goal.In_ok-mirrored) → HoldsRows c.into_parts-held.result.1 c.
 mirrored c =
     let parts = c.into_parts-held in
     let s = c.args.shape in
-    let is = length_of_shape s parts.result.1 parts.result.2 parts.result.0 c.args.rows parts.ensures.some parts.ensures.whole parts.ensures.rows
-    c.requires.rows.1 in
-    let made = as_long (map (mirrored_row s)) s parts.result.1 parts.result.2 parts.result.0 c.in_ok-mirrored.mirrored is c.in_ok-mirrored.ensures in
+    let is = length_of_shape s parts.result.1 parts.result.2 parts.result.0 parts.ensures.some parts.ensures.whole parts.ensures.rows c.requires.rows.1 in
+    let made = as_long (map (mirrored_row s)) s parts.result.1 parts.result.0 c.in_ok-mirrored.mirrored is c.in_ok-mirrored.ensures in
     (made.0, made.1 ∙ ap (map (mirrored_row s)) (sym parts.ensures.rows))
 
 pub new-requires-clause-whole : goal.new-requires-clause-whole
@@ -51,7 +40,6 @@ returns-then-not-transform-clause-made c =
 
 pub returns-clause-made : goal.returns-clause-made
 returns-clause-made c =
-    rows_turned c.args.self.now c.args.shape c.args._y c.args.rows c.new.result c.requires.ready.stays
+    rows_turned c.args.self.now c.args.shape c.args._y c.args.rows c.requires.ready.stays
     (ap (λ (t : Transform). t.columns_reversed) (sym (c.transform.ensures ∙ ap transform_of c.self.view_is)) ∙ not-false c.transform.result.columns_reversed
-    c.if-not-transform.false)
-    (c.new.ensures ∙ (mirrored c.before).1)
+    c.if-not-transform.false) (c.new.ensures ∙ (mirrored c.before).1)

@@ -1,9 +1,5 @@
-use Rattle.std.proofs.Common.{Option, ap, sym, ◌∙◌}
-use Rattle.std.proofs.lemmas.List.Elements.{All-from_recursion}
-use Rattle.pnm_image.specs.Places.{IsRowOf}
-use Rattle.pnm_row_tools.specs.RowKeeping.{Reversed, flattened, reversed, reversed_due}
-use Rattle.pnm_tools.specs.Flip.{moves_rows, transform_of}
-use Rattle.pnm_tools.proofs.TransformLaws.{reversed_moves}
+use Rattle.pnm_row_tools.proofs.Words.{Option, ap, sym, ◌∙◌, All-from_recursion, IsRowOf, Reversed, flattened, reversed, reversed_due, moves_rows, transform_of}
+use Rattle.pnm_row_tools.proofs.Words.{reversed_moves}
 use Rattle.pnm_row_tools.proofs.FlipRowsLaws.{more_kept, none_answer, rows_flattened}
 use Rattle.pnm_row_tools.proofs.flip.RowReverserImageTool.take.Goals as goal
 

@@ -1,6 +1,4 @@
-use Rattle.std.proofs.Common.{◌∙◌, ℕ, List, slice_index, subst, arith}
-use Rattle.pnm_tools.proofs.RowLaws.{at_of_values, within_values}
-use Rattle.pnm_row_tools.specs.RowKeeping.{IsTable}
+use Rattle.pnm_row_tools.proofs.Words.{◌∙◌, ℕ, List, slice_index, subst, arith, at_of_values, within_values, IsTable}
 use Rattle.pnm_row_tools.proofs.ChangeLaws.{made_alike}
 use Rattle.pnm_row_tools.proofs.samplewise.Samplewise.change.Goals as goal
 

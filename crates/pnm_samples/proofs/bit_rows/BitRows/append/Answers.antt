@@ -1,6 +1,4 @@
-use Rattle.std.proofs.Common.{◌≡◌, ◌+◌, ◌++◌, ◌∙◌, ℕ, List, sym, ap, ap₂, subst, arith}
-use Rattle.pnm_samples.specs.Internal.BitRows.{ArePackedRows}
-use Rattle.pnm_samples.specs.PixelRows.{rows_of_bytes}
+use Rattle.pnm_samples.proofs.Words.{◌≡◌, ◌+◌, ◌++◌, ◌∙◌, ℕ, List, sym, ap, ap₂, subst, arith, ArePackedRows, rows_of_bytes}
 use Rattle.pnm_samples.proofs.BitRowLaws.{packed_behind}
 use Rattle.pnm_samples.proofs.BitRowsMade.{row_of_rows}
 use Rattle.pnm_samples.proofs.PixelRowsLaws.{rows_behind}

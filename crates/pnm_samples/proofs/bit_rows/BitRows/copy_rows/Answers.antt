@@ -1,5 +1,4 @@
-use Rattle.std.proofs.Common.{◌≡◌, ◌+◌, ◌*◌, ◌-◌, ◌∙◌, ℕ, List, length, take, drop, ap, ap₂, arith}
-use Rattle.pnm_samples.specs.PixelRows.{bytes_for}
+use Rattle.pnm_samples.proofs.Words.{◌≡◌, ◌+◌, ◌*◌, ◌-◌, ◌∙◌, ℕ, List, length, take, drop, ap, ap₂, arith, bytes_for}
 use Rattle.pnm_samples.proofs.BitRowLaws.{counted}
 use Rattle.pnm_samples.proofs.BitRowParts.{copied_are_packed, rows_copied, rows_lie}
 use Rattle.pnm_samples.proofs.bit_rows.BitRows.copy_rows.Goals as goal
@@ -8,32 +7,28 @@ pub overflow_mul-start : goal.overflow_mul-start
 overflow_mul-start c =
     let x = c.self.inside in
     let size : c.div_ceil-size.result ≡ bytes_for x.each = omega (arith, c.div_ceil-size.ensures) in
-    let l = rows_lie x.count x.each c.args.top c.args.count c.div_ceil-size.result x.bytes.items c.args.self.now c.self.view_is c.self.invariant.enough
-    c.requires size in
+    let l = rows_lie x.count x.each c.args.top c.args.count x.bytes.items c.self.view_is c.self.invariant.enough c.requires size in
     omega (arith, l.0, l.1, counted c.args.top c.args.count c.div_ceil-size.result, x.bytes.ok.0)
 
 pub overflow_mul-count : goal.overflow_mul-count
 overflow_mul-count c =
     let x = c.self.inside in
     let size : c.div_ceil-size.result ≡ bytes_for x.each = omega (arith, c.div_ceil-size.ensures) in
-    let l = rows_lie x.count x.each c.args.top c.args.count c.div_ceil-size.result x.bytes.items c.args.self.now c.self.view_is c.self.invariant.enough
-    c.requires size in
+    let l = rows_lie x.count x.each c.args.top c.args.count x.bytes.items c.self.view_is c.self.invariant.enough c.requires size in
     omega (arith, l.0, l.1, counted c.args.top c.args.count c.div_ceil-size.result, x.bytes.ok.0)
 
 pub overflow_add-start : goal.overflow_add-start
 overflow_add-start c =
     let x = c.self.inside in
     let size : c.div_ceil-size.result ≡ bytes_for x.each = omega (arith, c.div_ceil-size.ensures) in
-    let l = rows_lie x.count x.each c.args.top c.args.count c.div_ceil-size.result x.bytes.items c.args.self.now c.self.view_is c.self.invariant.enough
-    c.requires size in
+    let l = rows_lie x.count x.each c.args.top c.args.count x.bytes.items c.self.view_is c.self.invariant.enough c.requires size in
     omega (arith, l.0, l.1, counted c.args.top c.args.count c.div_ceil-size.result, x.bytes.ok.0)
 
 pub slice_bounds-from_slice-end : goal.slice_bounds-from_slice-end
 slice_bounds-from_slice-end c =
     let x = c.self.inside in
     let size : c.div_ceil-size.result ≡ bytes_for x.each = omega (arith, c.div_ceil-size.ensures) in
-    let l = rows_lie x.count x.each c.args.top c.args.count c.div_ceil-size.result x.bytes.items c.args.self.now c.self.view_is c.self.invariant.enough
-    c.requires size in
+    let l = rows_lie x.count x.each c.args.top c.args.count x.bytes.items c.self.view_is c.self.invariant.enough c.requires size in
     omega (arith, l.0, l.1, counted c.args.top c.args.count c.div_ceil-size.result, ap length c.deref.ensures.value)
 
 pub invariant_of-result : goal.invariant_of-result

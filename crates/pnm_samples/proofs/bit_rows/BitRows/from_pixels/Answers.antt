@@ -1,9 +1,5 @@
-use Rattle.std.proofs.Common.{◌≡◌, ◌≤◌, ◌+◌, ◌-◌, ◌*◌, ◌∙◌, ℕ, length, take, drop, sym, ap, ap₂, subst, arith}
-use Rattle.std.proofs.lemmas.List.{length-drop, length-take, take_all, with_items_is}
-use Rattle.std.specs.Vec.{with_items}
-use borrow.Rule.Slice.PartMut.{put_mid, same_len_mid, mid_len}
-use Rattle.pnm_samples.specs.PixelRows.{bytes_for}
-use Rattle.pnm_samples.specs.Pixels.{packed_bytes}
+use Rattle.pnm_samples.proofs.Words.{◌≡◌, ◌≤◌, ◌+◌, ◌-◌, ◌*◌, ◌∙◌, ℕ, length, take, drop, sym, ap, ap₂, subst, arith, length-drop, length-take, take_all}
+use Rattle.pnm_samples.proofs.Words.{with_items_is, with_items, put_mid, same_len_mid, mid_len, bytes_for, packed_bytes}
 use Rattle.pnm_samples.proofs.BitRowLaws.{row_within}
 use Rattle.pnm_samples.proofs.BitRowsMade.{AreFilled, IsPacked, one_more_filled, rows_are_packed, rows_of_packed}
 use Rattle.pnm_samples.proofs.PackLaws.{length-packed_bytes}
@@ -47,8 +43,7 @@ loop-row-preserved c =
     let kept : length ws ≡ length now = same_len_mid (row * size) ((row + 1) * size - row * size) now part
     (omega (arith, long, wide, mid_len (row * size) ((row + 1) * size) now (omega (arith, end, room)))) in
     let stored : (with_items c.loop-row.bytes ws).items ≡ ws = with_items_is c.loop-row.bytes ws (kept ∙ c.as_mut_slice.ensures.len) in
-    one_more_filled (IsPacked each pixels) row c.args.count (bytes_for each) now part _ before (omega arith) long
-    (stored ∙ ap₂ (λ (n k : ℕ). put_mid k n now part) wide place) made
+    one_more_filled part before (omega arith) long (stored ∙ ap₂ (λ (n k : ℕ). put_mid k n now part) wide place) made
 
 pub invariant_of-result : goal.invariant_of-result
 invariant_of-result c =

@@ -1,4 +1,4 @@
-use Rattle.pnm_samples.specs.PixelRows.{bytes_for}
+use Rattle.pnm_samples.proofs.Words.{bytes_for}
 use Rattle.pnm_samples.proofs.BitRowsMade.{AreFilled, IsPacked}
 use Rattle.pnm_samples.proofs.bit_rows.BitRows.from_pixels.Given as goal
 

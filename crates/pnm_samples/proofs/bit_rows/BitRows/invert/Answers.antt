@@ -1,8 +1,4 @@
-use Rattle.std.proofs.Common.{◌≡◌, ◌-◌, ◌∙◌, ℕ, List, map, ap, arith}
-use Rattle.std.proofs.lemmas.Grind.{common_steps}
-use Rattle.std.specs.Vec.{with_items}
-use Rattle.pnm_samples.specs.PixelRows.{rows_of_bytes}
-use Rattle.pnm_samples.specs.Pixels.{all_pixels}
+use Rattle.pnm_samples.proofs.Words.{◌≡◌, ◌-◌, ◌∙◌, ℕ, List, map, ap, arith, common_steps, with_items, rows_of_bytes, all_pixels}
 use Rattle.pnm_samples.proofs.BitRowLaws.{rows_inverted}
 use Rattle.pnm_samples.proofs.bit_rows.BitRows.invert.Goals as goal
 

@@ -1,8 +1,5 @@
-use Rattle.std.proofs.Common.{◌≡◌, ◌+◌, ◌*◌, ◌∙◌, ℕ, List, length, take, drop, refl, ap, arith}
-use Rattle.std.proofs.lemmas.Grind.{common_steps}
-use Rattle.std.specs.Vec.{with_items}
-use Rattle.pnm_samples.specs.PixelRows.{bytes_for, rows_of_bytes}
-use Rattle.pnm_samples.specs.Pixels.{all_pixels}
+use Rattle.pnm_samples.proofs.Words.{◌≡◌, ◌+◌, ◌*◌, ◌∙◌, ℕ, List, length, take, drop, refl, ap, arith, common_steps, with_items, bytes_for, rows_of_bytes}
+use Rattle.pnm_samples.proofs.Words.{all_pixels}
 use Rattle.pnm_samples.proofs.BitRowLaws.{counted}
 use Rattle.pnm_samples.proofs.BitRowParts.{rows_lie}
 use Rattle.pnm_samples.proofs.BitRowsMade.{part_fits, row_of_rows}
@@ -13,16 +10,14 @@ pub overflow_mul-start : goal.overflow_mul-start
 overflow_mul-start c =
     let x = c.self.inside in
     let apart : c.div_ceil-apart.result ≡ bytes_for x.each = omega (arith, c.div_ceil-apart.ensures) in
-    let l = rows_lie x.count x.each c.args.top c.args.count c.div_ceil-apart.result x.bytes.items c.args.self.now c.self.view_is c.self.invariant.enough
-    c.requires.rows apart in
+    let l = rows_lie x.count x.each c.args.top c.args.count x.bytes.items c.self.view_is c.self.invariant.enough c.requires.rows apart in
     omega (arith, l.0, l.1, x.bytes.ok.0)
 
 pub move_runs-requires-clause-rows : goal.move_runs-requires-clause-rows
 move_runs-requires-clause-rows c =
     let x = c.self.inside in
     let apart : c.div_ceil-apart.result ≡ bytes_for x.each = omega (arith, c.div_ceil-apart.ensures) in
-    let l = rows_lie x.count x.each c.args.top c.args.count c.div_ceil-apart.result x.bytes.items c.args.self.now c.self.view_is c.self.invariant.enough
-    c.requires.rows apart in
+    let l = rows_lie x.count x.each c.args.top c.args.count x.bytes.items c.self.view_is c.self.invariant.enough c.requires.rows apart in
     omega (arith, l.1, counted c.args.top c.args.count c.div_ceil-apart.result, ap length c.as_mut_slice.ensures.value)
 
 pub move_runs-requires-clause-within : goal.move_runs-requires-clause-within
@@ -45,7 +40,7 @@ pub overflow_mul-count : goal.overflow_mul-count
 overflow_mul-count c =
     let x = c.self.inside in
     let size : c.div_ceil-size.result ≡ bytes_for c.args.each = omega (arith, c.div_ceil-size.ensures) in
-    let fits = part_fits x.count x.each c.args.top c.args.count c.args.left c.args.each x.bytes.items c.args.self.now c.self.view_is c.self.invariant.enough
+    let fits = part_fits x.count x.each c.args.top c.args.count c.args.left c.args.each x.bytes.items c.self.view_is c.self.invariant.enough
     c.requires.rows c.requires.pixels in
     omega (arith, fits, ap (λ (k : ℕ). c.args.count * k) size, x.bytes.ok.0)
 

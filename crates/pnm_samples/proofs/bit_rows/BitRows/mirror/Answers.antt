@@ -1,8 +1,4 @@
-use Rattle.std.proofs.Common.{◌≡◌, ◌∙◌, List, ℕ, map, reverse, ap, sym, subst, arith}
-use Rattle.std.proofs.lemmas.Grind.{common_steps}
-use Rattle.std.specs.Vec.{with_items}
-use Rattle.pnm_samples.specs.Internal.BitRows.{ArePackedRows}
-use Rattle.pnm_samples.specs.PixelRows.{rows_of_bytes}
+use Rattle.pnm_samples.proofs.Words.{◌≡◌, ◌∙◌, List, ℕ, map, reverse, ap, sym, subst, arith, common_steps, with_items, ArePackedRows, rows_of_bytes}
 use Rattle.pnm_samples.proofs.bit_rows.BitRows.mirror.Goals as goal
 
 pub mirror_each-requires : goal.mirror_each-requires

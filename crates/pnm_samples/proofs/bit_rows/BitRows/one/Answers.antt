@@ -1,5 +1,4 @@
-use Rattle.std.proofs.Common.{◌∙◌, ◌∷◌, [], ℕ, List, take, sym, ap, subst}
-use Rattle.pnm_samples.specs.Pixels.{all_pixels, ArePacked}
+use Rattle.pnm_samples.proofs.Words.{◌∙◌, ◌∷◌, [], ℕ, List, take, sym, ap, subst, all_pixels, ArePacked}
 use Rattle.pnm_samples.proofs.BitRowLaws.{one_is_packed}
 use Rattle.pnm_samples.proofs.bit_rows.BitRows.one.Goals as goal
 

@@ -1,10 +1,5 @@
-use Rattle.std.proofs.Common.{◌≡◌, ◌≤◌, ◌<◌, IfOk, ◌+◌, ◌-◌, ◌*◌, ◌∙◌, ℕ, List, [], get_or, length, take, drop, sym, ap, ap₂, subst, arith}
-use Rattle.std.proofs.lemmas.List.{length-drop, length-take, with_items_is}
-use Rattle.std.specs.Vec.{with_items}
-use borrow.Rule.Slice.PartMut.{put_mid, same_len_mid, mid_len}
-use Rattle.pnm_samples.specs.Internal.BitRows.{row_bytes}
-use Rattle.pnm_samples.specs.PixelRows.{bytes_for}
-use Rattle.pnm_samples.specs.Pixels.{all_pixels}
+use Rattle.pnm_samples.proofs.Words.{◌≡◌, ◌≤◌, ◌<◌, IfOk, ◌+◌, ◌-◌, ◌*◌, ◌∙◌, ℕ, List, [], get_or, length, take, drop, sym, ap, ap₂, subst, arith, length-drop}
+use Rattle.pnm_samples.proofs.Words.{length-take, with_items_is, with_items, put_mid, same_len_mid, mid_len, row_bytes, bytes_for, all_pixels}
 use Rattle.pnm_samples.proofs.BitRowLaws.{counted, length_of_row_bytes, row_within}
 use Rattle.pnm_samples.proofs.BitRowParts.{whole_rows}
 use Rattle.pnm_samples.proofs.BitRowsMade.{AreFilled, HasPixels, one_more_filled, part_fits, part_is, row_of_rows}
@@ -16,7 +11,7 @@ overflow_mul-count c =
     let x = c.self.inside in
     let size : c.div_ceil-size.result ≡ bytes_for c.args.each = omega (arith, c.div_ceil-size.ensures) in
     let all : c.args.count * c.div_ceil-size.result ≡ c.args.count * bytes_for c.args.each = ap (λ (k : ℕ). c.args.count * k) size in
-    let fits = part_fits x.count x.each c.args.top c.args.count c.args.left c.args.each x.bytes.items c.args.self.now c.self.view_is c.self.invariant.enough
+    let fits = part_fits x.count x.each c.args.top c.args.count c.args.left c.args.each x.bytes.items c.self.view_is c.self.invariant.enough
     c.requires.rows c.requires.pixels in
     omega (arith, fits, all, x.bytes.ok.0)
 
@@ -112,7 +107,7 @@ loop-row-preserved c =
     ap₂ (λ (n k : ℕ). take n (drop k c.deref.result.now)) count from ∙ ap (row_bytes (bytes_for x.each) row) c.deref.ensures.value in
     let inside : c.args.left + c.args.each ≤ x.each = omega (arith, c.requires.pixels row (omega arith), lies.1) in
     let made = c.fill_run.ensures ∙ ap (λ (l : List ℕ). take c.args.each (drop c.args.left (all_pixels l))) lent
-    ∙ run_of_row (row_bytes (bytes_for x.each) row x.bytes.items) (get_or c.args.self.now row []) c.args.left c.args.each x.each inside lies.2 in
+    ∙ run_of_row (row_bytes (bytes_for x.each) row x.bytes.items) c.args.left c.args.each x.each inside lies.2 in
     let r = c.loop-row.row in
     let now = c.as_mut_slice.result.now in
     let part = c.fill_run.new.buffer in
@@ -139,8 +134,7 @@ loop-row-preserved c =
     let kept : length ws ≡ length now = same_len_mid taken ((r + 1) * c.div_ceil-size.result - taken) now part
     (omega (arith, long, wide, mid_len taken ((r + 1) * c.div_ceil-size.result) now (omega (arith, end, room)))) in
     let stored : (with_items c.loop-row.bytes ws).items ≡ ws = with_items_is c.loop-row.bytes ws (kept ∙ c.as_mut_slice.ensures.len) in
-    one_more_filled holds r c.args.count (bytes_for each) now part _ before (omega arith) long
-    (stored ∙ ap₂ (λ (n k : ℕ). put_mid k n now part) wide place) made
+    one_more_filled part before (omega arith) long (stored ∙ ap₂ (λ (n k : ℕ). put_mid k n now part) wide place) made
 
 pub returns-then-each-self : goal.returns-then-each-self
 returns-then-each-self c =
@@ -148,7 +142,7 @@ returns-then-each-self c =
     let wide : (k : ℕ) → k < length c.args.self.now → length (get_or c.args.self.now k []) ≤ c.args.each = λ k lt.
     omega (arith, c.if-each-self.true, (row_of_rows x.count x.each k x.bytes.items c.args.self.now c.self.view_is c.self.invariant.enough lt).1) in
     subst (λ (l : List (List ℕ)). IfOk c.copy_rows.result (λ part. part ≡ l))
-    (whole_rows c.args.top c.args.count c.args.left c.args.each c.args.self.now c.if-left-eq0.true c.requires.rows wide) c.copy_rows.ensures
+    (whole_rows c.args.top c.args.count c.args.each c.args.self.now c.if-left-eq0.true c.requires.rows wide) c.copy_rows.ensures
 
 pub returns : goal.returns
 returns c =

@@ -1,5 +1,4 @@
-use Rattle.std.proofs.Common.{ℕ, ◌+◌, [], drop, get_or, take}
-use Rattle.pnm_samples.specs.PixelRows.{bytes_for}
+use Rattle.pnm_samples.proofs.Words.{ℕ, ◌+◌, [], drop, get_or, take, bytes_for}
 use Rattle.pnm_samples.proofs.BitRowsMade.{AreFilled, HasPixels}
 use Rattle.pnm_samples.proofs.bit_rows.BitRows.part.Given as goal
 

@@ -1,8 +1,4 @@
-use Rattle.std.proofs.Common.{◌∙◌, ℕ, List, sym, ap, subst}
-use Rattle.std.specs.List.{flat_map}
-use Rattle.pnm_samples.specs.Internal.BitRows.{ArePackedRows}
-use Rattle.pnm_samples.specs.PixelRows.{rows_of_bytes}
-use Rattle.pnm_samples.specs.Pixels.{packed_bytes}
+use Rattle.pnm_samples.proofs.Words.{◌∙◌, ℕ, List, sym, ap, subst, flat_map, ArePackedRows, rows_of_bytes, packed_bytes}
 use Rattle.pnm_samples.proofs.BitRowLaws.{bytes_of_rows}
 use Rattle.pnm_samples.proofs.bit_rows.BitRows.parts.Goals as goal
 
@@ -11,5 +7,5 @@ returns-clause-bytes c =
     let count = c.self.inside.count in
     let each = c.self.inside.each in
     let same = c.bytes_of.ensures.same ∙ c.as_slice.ensures.value in
-    bytes_of_rows count each c.bytes_of.result.now (subst (ArePackedRows count each) (sym same) c.self.invariant) c.bytes_of.ensures.fit
+    bytes_of_rows count c.bytes_of.result.now (subst (ArePackedRows count each) (sym same) c.self.invariant) c.bytes_of.ensures.fit
     ∙ ap (λ (l : List ℕ). flat_map packed_bytes (rows_of_bytes count each l)) same ∙ ap (flat_map packed_bytes) c.self.view_is

@@ -1,9 +1,5 @@
-use Rattle.std.proofs.Common.{◌≡◌, ◌*◌, ◌∙◌, ℕ, List, length, reverse, ap, ap₂, sym, subst, arith}
-use Rattle.std.proofs.lemmas.Grind.{common_steps}
-use Rattle.std.specs.Vec.{with_items}
-use Rattle.pnm_samples.specs.Internal.BitRows.{ArePackedRows}
-use Rattle.pnm_samples.specs.Cuts.{last_first}
-use Rattle.pnm_samples.specs.PixelRows.{bytes_for, rows_of_bytes}
+use Rattle.pnm_samples.proofs.Words.{◌≡◌, ◌*◌, ◌∙◌, ℕ, List, length, reverse, ap, ap₂, sym, subst, arith, common_steps, with_items, ArePackedRows, last_first}
+use Rattle.pnm_samples.proofs.Words.{bytes_for, rows_of_bytes}
 use Rattle.pnm_samples.proofs.BitRowsMade.{reversed_are_packed, rows_reversed}
 use Rattle.pnm_samples.proofs.bit_rows.BitRows.reverse.Goals as goal
 

@@ -1,7 +1,5 @@
-use Rattle.std.proofs.Common.{◌≡◌, ◌<◌, ◌+◌, ◌-◌, ◌*◌, ◌∙◌, ℕ, List, [], get_or, length, take, drop, sym, ap, ap₂, subst, arith}
-use Rattle.pnm_samples.specs.Internal.BitRows.{row_bytes}
-use Rattle.pnm_samples.specs.PixelRows.{bytes_for}
-use Rattle.pnm_samples.specs.Pixels.{all_pixels, ArePacked}
+use Rattle.pnm_samples.proofs.Words.{◌≡◌, ◌<◌, ◌+◌, ◌-◌, ◌*◌, ◌∙◌, ℕ, List, [], get_or, length, take, drop, sym, ap, ap₂, subst, arith, row_bytes, bytes_for}
+use Rattle.pnm_samples.proofs.Words.{all_pixels, ArePacked}
 use Rattle.pnm_samples.proofs.BitRowLaws.{pixels_of_row, row_within}
 use Rattle.pnm_samples.proofs.PixelRowsLaws.{length_of_rows}
 use Rattle.pnm_samples.proofs.bit_rows.BitRows.row.Goals as goal

@@ -1,8 +1,4 @@
-use Rattle.std.proofs.Common.{◌≡◌, ◌∙◌, List, ℕ, map, reverse, ap, arith}
-use Rattle.std.proofs.lemmas.Grind.{common_steps}
-use Rattle.std.specs.Vec.{with_items}
-use Rattle.pnm_samples.specs.PixelRows.{rows_of_bytes}
-use Rattle.pnm_samples.specs.Pixels.{all_pixels}
+use Rattle.pnm_samples.proofs.Words.{◌≡◌, ◌∙◌, List, ℕ, map, reverse, ap, arith, common_steps, with_items, rows_of_bytes, all_pixels}
 use Rattle.pnm_samples.proofs.BitRowsMade.{rows_turned, turned_begin_white}
 use Rattle.pnm_samples.proofs.bit_rows.BitRows.turn_round.Goals as goal
 

@@ -1,9 +1,5 @@
-use Rattle.std.proofs.Common.{◌≡◌, ◌≤◌, ◌+◌, ◌-◌, ◌*◌, ◌∙◌, ℕ, List, length, take, drop, map, sym, ap, ap₂, subst, mul-le-mul, arith}
-use Rattle.std.proofs.lemmas.Grind.{common_steps}
-use Rattle.std.proofs.lemmas.List.{length-drop, length-take}
-use Rattle.pnm_samples.specs.Internal.BitRows.{row_bytes}
-use Rattle.pnm_samples.specs.PixelRows.{bytes_for, rows_of_bytes}
-use Rattle.pnm_samples.specs.Pixels.{all_pixels}
+use Rattle.pnm_samples.proofs.Words.{◌≡◌, ◌≤◌, ◌+◌, ◌-◌, ◌*◌, ◌∙◌, ℕ, List, length, take, drop, map, sym, ap, ap₂, subst, mul-le-mul, arith, common_steps}
+use Rattle.pnm_samples.proofs.Words.{length-drop, length-take, row_bytes, bytes_for, rows_of_bytes, all_pixels}
 use Rattle.pnm_samples.proofs.BitRowLaws.{row_within}
 use Rattle.pnm_samples.proofs.BitRowsMade.{bytes_of_wide, length_of_wide, one_more_copied, pixels_of_wide, rows_widened, wide_enough}
 use Rattle.pnm_samples.proofs.RepeatLaws.{repeated}
@@ -25,7 +21,7 @@ new-requires c =
     let size : c.div_ceil-size.result ≡ bytes_for each = omega (arith, c.div_ceil-size.ensures) in
     let long : length wide ≡ x.count * apart = length_of_wide times c.in-Some.pixels x.bytes.items c.in_ok-from_slice.field-0.items c.new-pixels.result
     c.in_ok-repeat.field-0 wide number copied c.new-pixels.ensures c.in_ok-repeat.ensures c.into_bytes-wide.ensures.pixels c.into_bytes-wide.ensures.packed
-    ∙ bytes_of_wide x.count x.each times apart (length x.bytes.items) c.self.invariant.enough row_size in
+    ∙ bytes_of_wide x.count x.each times c.self.invariant.enough row_size in
     let as_size : apart ≡ bytes_for each = omega (arith, size) in
     long ∙ ap (λ (k : ℕ). x.count * k) as_size
 
@@ -45,7 +41,7 @@ returns-then-apart-size c =
     let size : c.div_ceil-size.result ≡ bytes_for each = omega (arith, c.div_ceil-size.ensures) in
     let long : length wide ≡ x.count * apart = length_of_wide times c.in-Some.pixels x.bytes.items c.in_ok-from_slice.field-0.items c.new-pixels.result
     c.in_ok-repeat.field-0 wide number copied c.new-pixels.ensures c.in_ok-repeat.ensures c.into_bytes-wide.ensures.pixels c.into_bytes-wide.ensures.packed
-    ∙ bytes_of_wide x.count x.each times apart (length x.bytes.items) c.self.invariant.enough row_size in
+    ∙ bytes_of_wide x.count x.each times c.self.invariant.enough row_size in
     let pixels : all_pixels wide ≡ repeated times (all_pixels x.bytes.items) = pixels_of_wide times c.in-Some.pixels x.bytes.items
     c.in_ok-from_slice.field-0.items c.new-pixels.result c.in_ok-repeat.field-0 wide number copied c.new-pixels.ensures c.in_ok-repeat.ensures
     c.into_bytes-wide.ensures.pixels c.into_bytes-wide.ensures.packed in
@@ -71,8 +67,8 @@ overflow_mul-self-inside c =
     let size : c.div_ceil-size.result ≡ bytes_for each = omega (arith, c.div_ceil-size.ensures) in
     let long : length wide ≡ x.count * apart = length_of_wide times c.in-Some.pixels x.bytes.items c.in_ok-from_slice.field-0.items c.new-pixels.result
     c.in_ok-repeat.field-0 wide number copied c.new-pixels.ensures c.in_ok-repeat.ensures c.into_bytes-wide.ensures.pixels c.into_bytes-wide.ensures.packed
-    ∙ bytes_of_wide x.count x.each times apart (length x.bytes.items) c.self.invariant.enough row_size in
-    let narrow : c.div_ceil-size.result ≤ apart = wide_enough x.each times apart c.div_ceil-size.result row_size (size ∙ ap bytes_for whole) in
+    ∙ bytes_of_wide x.count x.each times c.self.invariant.enough row_size in
+    let narrow : c.div_ceil-size.result ≤ apart = wide_enough x.each times row_size (size ∙ ap bytes_for whole) in
     let most : x.count * c.div_ceil-size.result ≤ x.count * apart =
     mul-le-mul {n₁ = x.count} {m₁ = c.div_ceil-size.result} {n₂ = x.count} {m₂ = apart} (omega arith) narrow in
     omega (arith, most, long, c.into_bytes-wide.result.ok.0)
@@ -93,7 +89,7 @@ overflow_mul-start c =
     let size : c.div_ceil-size.result ≡ bytes_for each = omega (arith, c.div_ceil-size.ensures) in
     let long : length wide ≡ x.count * apart = length_of_wide times c.in-Some.pixels x.bytes.items c.in_ok-from_slice.field-0.items c.new-pixels.result
     c.in_ok-repeat.field-0 wide number copied c.new-pixels.ensures c.in_ok-repeat.ensures c.into_bytes-wide.ensures.pixels c.into_bytes-wide.ensures.packed
-    ∙ bytes_of_wide x.count x.each times apart (length x.bytes.items) c.self.invariant.enough row_size in
+    ∙ bytes_of_wide x.count x.each times c.self.invariant.enough row_size in
     let row = c.loop-row.row in
     let within = row_within x.count apart row (length wide) long (omega arith) in
     omega (arith, within, c.into_bytes-wide.result.ok.0)
@@ -114,8 +110,8 @@ overflow_add-start c =
     let size : c.div_ceil-size.result ≡ bytes_for each = omega (arith, c.div_ceil-size.ensures) in
     let long : length wide ≡ x.count * apart = length_of_wide times c.in-Some.pixels x.bytes.items c.in_ok-from_slice.field-0.items c.new-pixels.result
     c.in_ok-repeat.field-0 wide number copied c.new-pixels.ensures c.in_ok-repeat.ensures c.into_bytes-wide.ensures.pixels c.into_bytes-wide.ensures.packed
-    ∙ bytes_of_wide x.count x.each times apart (length x.bytes.items) c.self.invariant.enough row_size in
-    let narrow : c.div_ceil-size.result ≤ apart = wide_enough x.each times apart c.div_ceil-size.result row_size (size ∙ ap bytes_for whole) in
+    ∙ bytes_of_wide x.count x.each times c.self.invariant.enough row_size in
+    let narrow : c.div_ceil-size.result ≤ apart = wide_enough x.each times row_size (size ∙ ap bytes_for whole) in
     let row = c.loop-row.row in
     let within = row_within x.count apart row (length wide) long (omega arith) in
     omega (arith, within, narrow, c.into_bytes-wide.result.ok.0)
@@ -136,8 +132,8 @@ slice_bounds-extend_from_slice-end c =
     let size : c.div_ceil-size.result ≡ bytes_for each = omega (arith, c.div_ceil-size.ensures) in
     let long : length wide ≡ x.count * apart = length_of_wide times c.in-Some.pixels x.bytes.items c.in_ok-from_slice.field-0.items c.new-pixels.result
     c.in_ok-repeat.field-0 wide number copied c.new-pixels.ensures c.in_ok-repeat.ensures c.into_bytes-wide.ensures.pixels c.into_bytes-wide.ensures.packed
-    ∙ bytes_of_wide x.count x.each times apart (length x.bytes.items) c.self.invariant.enough row_size in
-    let narrow : c.div_ceil-size.result ≤ apart = wide_enough x.each times apart c.div_ceil-size.result row_size (size ∙ ap bytes_for whole) in
+    ∙ bytes_of_wide x.count x.each times c.self.invariant.enough row_size in
+    let narrow : c.div_ceil-size.result ≤ apart = wide_enough x.each times row_size (size ∙ ap bytes_for whole) in
     let row = c.loop-row.row in
     let within = row_within x.count apart row (length wide) long (omega arith) in
     omega (arith, within, narrow, ap length c.deref.ensures.value)
@@ -158,8 +154,8 @@ loop-row-preserved c =
     let size : c.div_ceil-size.result ≡ bytes_for each = omega (arith, c.div_ceil-size.ensures) in
     let long : length wide ≡ x.count * apart = length_of_wide times c.in-Some.pixels x.bytes.items c.in_ok-from_slice.field-0.items c.new-pixels.result
     c.in_ok-repeat.field-0 wide number copied c.new-pixels.ensures c.in_ok-repeat.ensures c.into_bytes-wide.ensures.pixels c.into_bytes-wide.ensures.packed
-    ∙ bytes_of_wide x.count x.each times apart (length x.bytes.items) c.self.invariant.enough row_size in
-    let narrow : c.div_ceil-size.result ≤ apart = wide_enough x.each times apart c.div_ceil-size.result row_size (size ∙ ap bytes_for whole) in
+    ∙ bytes_of_wide x.count x.each times c.self.invariant.enough row_size in
+    let narrow : c.div_ceil-size.result ≤ apart = wide_enough x.each times row_size (size ∙ ap bytes_for whole) in
     let row = c.loop-row.row in
     let within = row_within x.count apart row (length wide) long (omega arith) in
     let start = row * apart in
@@ -192,7 +188,7 @@ returns c =
     let size : c.div_ceil-size.result ≡ bytes_for each = omega (arith, c.div_ceil-size.ensures) in
     let long : length wide ≡ x.count * apart = length_of_wide times c.in-Some.pixels x.bytes.items c.in_ok-from_slice.field-0.items c.new-pixels.result
     c.in_ok-repeat.field-0 wide number copied c.new-pixels.ensures c.in_ok-repeat.ensures c.into_bytes-wide.ensures.pixels c.into_bytes-wide.ensures.packed
-    ∙ bytes_of_wide x.count x.each times apart (length x.bytes.items) c.self.invariant.enough row_size in
+    ∙ bytes_of_wide x.count x.each times c.self.invariant.enough row_size in
     let pixels : all_pixels wide ≡ repeated times (all_pixels x.bytes.items) = pixels_of_wide times c.in-Some.pixels x.bytes.items
     c.in_ok-from_slice.field-0.items c.new-pixels.result c.in_ok-repeat.field-0 wide number copied c.new-pixels.ensures c.in_ok-repeat.ensures
     c.into_bytes-wide.ensures.pixels c.into_bytes-wide.ensures.packed in

@@ -1,5 +1,4 @@
-use Rattle.std.proofs.Common.{ℕ, ◌*◌, drop, take}
-use Rattle.pnm_samples.specs.PixelRows.{bytes_for}
+use Rattle.pnm_samples.proofs.Words.{ℕ, ◌*◌, drop, take, bytes_for}
 use Rattle.pnm_samples.proofs.BitRowsMade.{AreCopied}
 use Rattle.pnm_samples.proofs.bit_rows.BitRows.widen.Given as goal
 

@@ -1,5 +1,4 @@
-use Rattle.std.proofs.Common.{◌≡◌, ◌≤◌, ◌+◌, ◌-◌, ◌*◌, ◌/◌, ℕ, length, subst, arith}
-use Rattle.pnm_samples.specs.Internal.BitRows.{IsMovedRun}
+use Rattle.pnm_samples.proofs.Words.{◌≡◌, ◌≤◌, ◌+◌, ◌-◌, ◌*◌, ◌/◌, ℕ, length, subst, arith, IsMovedRun}
 use Rattle.pnm_samples.proofs.RunLaws.{moved_further}
 use Rattle.pnm_samples.proofs.bit_rows.runs.move_by_chunks.Goals as goal
 
@@ -10,8 +9,7 @@ loop-i-preserved c =
     let done : ℕ = c.loop-i.i * size in
     let more : 8 * done + 8 * size ≡ 8 * ((c.loop-i.i + 1) * size) = omega arith in
     subst (λ (n : ℕ). IsMovedRun a.from a.to a.skipped n a.bytes.now c.move_chunk.new.bytes) more
-    (moved_further a.from a.to a.skipped done (8 * size) a.bytes.now c.loop-i.bytes c.move_chunk.new.bytes (omega (arith, c.requires.down)) c.loop-i.invariant
-    c.move_chunk.ensures)
+    (moved_further done (omega (arith, c.requires.down)) c.loop-i.invariant c.move_chunk.ensures)
 
 pub returns : goal.returns
 returns c =
@@ -25,6 +23,5 @@ returns c =
     let whole : 8 * done + (a.count - 8 * done) ≡ a.count = omega (arith, places, within) in
     let first : IsMovedRun a.from a.to a.skipped (8 * done) a.bytes.now c.loop-i.bytes =
     subst (λ (n : ℕ). IsMovedRun a.from a.to a.skipped (8 * (n * size)) a.bytes.now c.loop-i.bytes) all c.loop-i.invariant in
-    subst (λ (n : ℕ). IsMovedRun a.from a.to a.skipped n a.bytes.now c.move_chunk-2.new.bytes) whole
-    (moved_further a.from a.to a.skipped done (a.count - 8 * done) a.bytes.now c.loop-i.bytes c.move_chunk-2.new.bytes (omega (arith, c.requires.down)) first
+    subst (λ (n : ℕ). IsMovedRun a.from a.to a.skipped n a.bytes.now c.move_chunk-2.new.bytes) whole (moved_further done (omega (arith, c.requires.down)) first
     c.move_chunk-2.ensures)

@@ -1,5 +1,4 @@
-use Rattle.std.proofs.Common.{◌*◌}
-use Rattle.pnm_samples.specs.Internal.BitRows.{IsMovedRun}
+use Rattle.pnm_samples.proofs.Words.{◌*◌, IsMovedRun}
 use Rattle.pnm_samples.proofs.bit_rows.runs.move_by_chunks.Given as goal
 
 -- the pixels of the chunks that have passed are moved

@@ -1,6 +1,4 @@
-use Rattle.std.proofs.Common.{◌≡◌, ◌≤◌, ◌+◌, ◌-◌, ◌*◌, ◌/◌, ◌%◌, ℕ, ap, subst, arith, mul-le-mul}
-use Rattle.pnm_samples.specs.Internal.BitRows.{IsMovedRun}
-use Rattle.pnm_samples.specs.PixelRows.{bytes_for}
+use Rattle.pnm_samples.proofs.Words.{◌≡◌, ◌≤◌, ◌+◌, ◌-◌, ◌*◌, ◌/◌, ◌%◌, ℕ, ap, subst, arith, mul-le-mul, IsMovedRun, bytes_for}
 use Rattle.pnm_samples.proofs.RunLaws.{one_more_run, one_run}
 use Rattle.pnm_samples.proofs.bit_rows.runs.move_runs.Goals as goal
 
@@ -10,8 +8,7 @@ returns-then-pixels-lt18446744073709551615 c row lt =
     let all : c.saturating_mul-pixels.result ≡ 8 * (a.count * a.apart) =
     omega (arith, c.saturating_mul-pixels.ensures, c.if-pixels-lt18446744073709551615.true) in
     let close : bytes_for a.each ≡ a.apart = omega (arith, c.div_ceil-size.ensures, c.if-size-apart.true) in
-    one_run a.start a.apart a.count a.left a.each (c.saturating_mul-pixels.result - a.left) row a.bytes.now c.move_by_chunks.new.bytes
-    (ap (λ (k : ℕ). k - a.left) all) (c.requires.within (omega (arith, lt))) close lt c.move_by_chunks.ensures
+    one_run a.count a.each row (ap (λ (k : ℕ). k - a.left) all) (c.requires.within (omega (arith, lt))) close lt c.move_by_chunks.ensures
 
 pub loop-row-preserved : goal.loop-row-preserved
 loop-row-preserved c =
@@ -23,5 +20,5 @@ loop-row-preserved c =
     let narrow : bytes_for a.each ≤ a.apart = omega (arith, c.requires.within (omega (arith, c.loop-row-test.true))) in
     let before : row * bytes_for a.each ≤ row * a.apart =
     mul-le-mul {n₁ = row} {m₁ = bytes_for a.each} {n₂ = row} {m₂ = a.apart} (omega arith) narrow in
-    one_more_run a.start a.apart a.left a.each row a.bytes.now c.loop-row.bytes c.move_run.new.bytes c.loop-row.invariant (omega (arith, before))
+    one_more_run c.loop-row.invariant (omega (arith, before))
     (subst (λ (n : ℕ). IsMovedRun from n (a.left % 8) a.each c.loop-row.bytes c.move_run.new.bytes) place c.move_run.ensures)

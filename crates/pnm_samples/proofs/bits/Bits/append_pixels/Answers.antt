@@ -1,8 +1,5 @@
-use Rattle.std.proofs.Common.{◌≡◌, ◌+◌, ◌-◌, ◌*◌, ◌++◌, ◌∙◌, ℕ, List, length, take, replicate, sym, ap, ap₂, subst, arith}
-use Rattle.std.proofs.lemmas.List.{take_all}
-use Rattle.std.proofs.lemmas.Grind.{common_steps}
-use Rattle.std.specs.Vec.{with_items}
-use Rattle.pnm_samples.specs.Pixels.{all_pixels, ArePacked}
+use Rattle.pnm_samples.proofs.Words.{◌≡◌, ◌+◌, ◌-◌, ◌*◌, ◌++◌, ◌∙◌, ℕ, List, length, take, replicate, sym, ap, ap₂, subst, arith, take_all, common_steps}
+use Rattle.pnm_samples.proofs.Words.{with_items, all_pixels, ArePacked}
 use Rattle.pnm_samples.proofs.PixelLaws.{length-all_pixels}
 use Rattle.pnm_samples.proofs.PixelRowLaws.{appended_view}
 use Rattle.pnm_samples.proofs.bits.Bits.append_pixels.Goals as goal
@@ -32,9 +29,8 @@ returns-clause-appended c =
     grind (arith, common_steps) in
     let placed : c.as_mut_slice-2.result.now ≡ c.place_run.new.buffer = grind (arith, common_steps) in
     ap (λ l. take count (all_pixels l)) last
-    ∙ appended_view c.self.inside.count c.args.start c.args.count (8 * length c.args.from.now) bytes c.as_mut_slice.result.now c.place_run.new.buffer
-    c.clear_spare.new.bytes c.args.from.now c.args.self.now (all_pixels c.args.from.now)
-    (c.clear_spare.ensures.kept ∙ ap (λ l. take count (all_pixels l)) placed) c.place_run.ensures
+    ∙ appended_view c.self.inside.count c.args.start c.args.count (8 * length c.args.from.now) bytes c.place_run.new.buffer
+    c.clear_spare.new.bytes c.args.from.now (c.clear_spare.ensures.kept ∙ ap (λ l. take count (all_pixels l)) placed) c.place_run.ensures
     (replicate more 0) grown (omega (arith, c.self.invariant.enough)) c.self.view_is c.requires
     (take_all (8 * length c.args.from.now) (all_pixels c.args.from.now) (omega (arith, length-all_pixels c.args.from.now)))
 

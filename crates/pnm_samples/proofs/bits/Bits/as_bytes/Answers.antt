@@ -1,7 +1,4 @@
-use Rattle.std.proofs.Common.{ℕ, length, ap, sym, arith, ◌≡◌, ◌∙◌, subst}
-use Rattle.std.proofs.lemmas.Grind.{common_steps}
-use Rattle.pnm_samples.specs.Pixels.{ArePacked}
-use Rattle.pnm_samples.specs.Internal.Pixels.{AreBytes}
+use Rattle.pnm_samples.proofs.Words.{ℕ, length, ap, sym, arith, ◌≡◌, ◌∙◌, subst, common_steps, ArePacked, AreBytes}
 use Rattle.pnm_samples.proofs.PackedBytes.{packed_view}
 use Rattle.pnm_samples.proofs.PixelRowLaws.{length_of_packed}
 use Rattle.pnm_samples.proofs.bits.Bits.as_bytes.Goals as goal

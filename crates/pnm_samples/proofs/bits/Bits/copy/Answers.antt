@@ -1,5 +1,4 @@
-use Rattle.std.proofs.Common.{◌∙◌, ℕ, List, ap, subst, sym, take}
-use Rattle.pnm_samples.specs.Pixels.{all_pixels, ArePacked}
+use Rattle.pnm_samples.proofs.Words.{◌∙◌, ℕ, List, ap, subst, sym, take, all_pixels, ArePacked}
 use Rattle.pnm_samples.proofs.bits.Bits.copy.Goals as goal
 
 pub invariant_of-result : goal.invariant_of-result

@@ -1,5 +1,4 @@
-use Rattle.std.proofs.Common.{arith}
-use Rattle.std.proofs.lemmas.Grind.{common_steps}
+use Rattle.pnm_samples.proofs.Words.{arith, common_steps}
 use Rattle.pnm_samples.proofs.bits.Bits.empty.Goals as goal
 
 pub invariant_of-result : goal.invariant_of-result

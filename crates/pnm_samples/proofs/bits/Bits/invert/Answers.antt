@@ -1,6 +1,4 @@
-use Rattle.std.proofs.Common.{◌∙◌, take, ap, arith}
-use Rattle.std.proofs.lemmas.List.{with_items_is}
-use Rattle.pnm_samples.specs.Pixels.{all_pixels}
+use Rattle.pnm_samples.proofs.Words.{◌∙◌, take, ap, arith, with_items_is, all_pixels}
 use Rattle.pnm_samples.proofs.PixelRowLaws.{inverted_view}
 use Rattle.pnm_samples.proofs.bits.Bits.invert.Goals as goal
 
@@ -11,5 +9,5 @@ invariant_of-self c =
 pub returns : goal.returns
 returns c =
     ap (λ l. take c.self.inside.count (all_pixels l)) (with_items_is c.self.inside.bytes c.clear_spare.new.bytes (omega arith))
-    ∙ inverted_view c.self.inside.count c.self.inside.bytes.items c.complement.new.bytes c.clear_spare.new.bytes c.args.self.now c.clear_spare.ensures.kept
+    ∙ inverted_view c.self.inside.count c.self.inside.bytes.items c.complement.new.bytes c.clear_spare.new.bytes c.clear_spare.ensures.kept
     (rw c.as_mut_slice-bytes.ensures.value at c.complement.ensures) c.self.view_is

@@ -1,4 +1,4 @@
-use Rattle.std.proofs.Common.{length, ap, arith}
+use Rattle.pnm_samples.proofs.Words.{length, ap, arith}
 use Rattle.pnm_samples.proofs.PixelRowLaws.{length_of_packed}
 use Rattle.pnm_samples.proofs.bits.Bits.len.Goals as goal
 

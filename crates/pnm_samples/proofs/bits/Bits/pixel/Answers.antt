@@ -1,6 +1,4 @@
-use Rattle.std.proofs.Common.{◌<◌, ◌∙◌, ℕ, List, sym, length, get_or, ap, arith}
-use Rattle.std.proofs.lemmas.List.{get_or-take}
-use Rattle.pnm_samples.specs.Pixels.{all_pixels}
+use Rattle.pnm_samples.proofs.Words.{◌<◌, ◌∙◌, ℕ, List, sym, length, get_or, ap, arith, get_or-take, all_pixels}
 use Rattle.pnm_samples.proofs.PixelRowLaws.{length_of_packed}
 use Rattle.pnm_samples.proofs.bits.Bits.pixel.Goals as goal
 

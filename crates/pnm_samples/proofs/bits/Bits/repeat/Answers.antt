@@ -1,5 +1,4 @@
-use Rattle.std.proofs.Common.{rules}
-use Rattle.std.proofs.Common.{◌≡◌, ◌∙◌, ℕ, List, sym, ap, subst}
+use Rattle.pnm_samples.proofs.Words.{rules, ◌≡◌, ◌∙◌, ℕ, List, sym, ap, subst}
 use Rattle.std.specs.Prelude.{IfOk}
 use Rattle.pnm_samples.proofs.RepeatLaws.{repeated, once}
 use Rattle.pnm_samples.proofs.bits.Bits.repeat.Goals as goal

@@ -1,4 +1,4 @@
-use Rattle.std.proofs.Common.{◌-◌, length, arith}
+use Rattle.pnm_samples.proofs.Words.{◌-◌, length, arith}
 use Rattle.pnm_samples.proofs.MirrorLaws.{moved_step, kept_after, moved_last, moved_none}
 use Rattle.pnm_samples.proofs.bits.mirror.move_to_end.Goals as goal
 

@@ -1,9 +1,5 @@
-use Rattle.std.proofs.Common.{rules, ◌<◌, ◌∙◌, ℕ, length, get_or, set, map, ap, arith}
-use Rattle.std.specs.Int.{w8, reverse_bits}
-use Rattle.std.proofs.lemmas.List.{get_or_default}
-use Rattle.std.proofs.lemmas.List.Edits.{map_over_more}
-use Rattle.pnm_samples.specs.Pixels.{all_pixels}
-use Rattle.pnm_samples.specs.Internal.Pixels.{AreBytes}
+use Rattle.pnm_samples.proofs.Words.{rules, ◌<◌, ◌∙◌, ℕ, length, get_or, set, map, ap, arith, w8, reverse_bits, get_or_default, map_over_more, all_pixels}
+use Rattle.pnm_samples.proofs.Words.{AreBytes}
 use Rattle.pnm_samples.proofs.MirrorLaws.{turned_round}
 use Rattle.pnm_samples.proofs.PixelLaws.{all_mapped}
 use Rattle.pnm_samples.proofs.bits.mirror.turn_round.Goals as goal
@@ -20,6 +16,6 @@ loop-byte-preserved c =
 pub returns : goal.returns
 returns c =
     let fit : AreBytes c.args.bytes.now = search rules in
-    ap all_pixels (all_mapped (λ b. reverse_bits w8 b) c.reverse.new.self c.loop-byte.bytes c.loop-byte.byte-index c.loop-byte-test.false c.loop-byte.invariant
+    ap all_pixels (all_mapped (λ b. reverse_bits w8 b) c.reverse.new.self c.loop-byte.byte-index c.loop-byte-test.false c.loop-byte.invariant
     ∙ ap (map (λ b. reverse_bits w8 b)) c.reverse.ensures.after)
     ∙ turned_round c.args.bytes.now fit

@@ -1,5 +1,4 @@
-use Rattle.std.proofs.Common.{◌≡◌, ◌++◌, map, take, drop}
-use Rattle.std.specs.Int.{w8, reverse_bits}
+use Rattle.pnm_samples.proofs.Words.{◌≡◌, ◌++◌, map, take, drop, w8, reverse_bits}
 use Rattle.pnm_samples.proofs.bits.mirror.turn_round.Given as goal
 
 -- the bytes that have passed are turned round

@@ -1,6 +1,4 @@
-use Rattle.std.proofs.Common.{ℕ, ap, ◌∙◌, arith}
-use Rattle.std.specs.Int.{w16, to_be_bytes}
-use Rattle.pnm_samples.specs.Pixels.{all_pixels}
+use Rattle.pnm_samples.proofs.Words.{ℕ, ap, ◌∙◌, arith, w16, to_be_bytes, all_pixels}
 use Rattle.pnm_samples.proofs.RepeatLaws.{spread, doubled_pixels}
 use Rattle.pnm_samples.proofs.bits.repeat.double_bits.Goals as goal
 

@@ -1,7 +1,5 @@
-use Rattle.std.proofs.Common.{◌≡◌, ◌+◌, ◌-◌, ◌*◌, ◌/◌, ◌%◌, ◌<◌, ◌≤◌, ◌∙◌, List, ℕ, length, get_or, take, drop, refl, ap, sym, arith}
-use Rattle.std.proofs.Math.Nat.{mul-le-mul_right}
-use Rattle.std.proofs.lemmas.List.{length-take, length-drop, take_all}
-use Rattle.pnm_samples.specs.Pixels.{all_pixels}
+use Rattle.pnm_samples.proofs.Words.{◌≡◌, ◌+◌, ◌-◌, ◌*◌, ◌/◌, ◌%◌, ◌<◌, ◌≤◌, ◌∙◌, List, ℕ, length, get_or, take, drop, refl, ap, sym, arith, mul-le-mul_right}
+use Rattle.pnm_samples.proofs.Words.{length-take, length-drop, take_all, all_pixels}
 use Rattle.pnm_samples.proofs.RepeatLaws.{repeated}
 use Rattle.pnm_samples.proofs.StretchLaws.{stretched_more, overlaid_byte, half_at}
 use Rattle.pnm_samples.proofs.bits.stretch.fill_stretched.Goals as goal
@@ -127,9 +125,8 @@ loop-i-preserved c =
     omega (arith, c.requires.left.enough, mul-le-mul_right {m = byte / 16 + 1} {n = 16} step (omega arith), c.stride_of-stride.ensures.whole) in
     let second : byte % 16 * step + step ≤ length c.args.right.now =
     omega (arith, c.requires.right.enough, mul-le-mul_right {m = byte % 16 + 1} {n = 16} step (omega arith), c.stride_of-stride.ensures.whole) in
-    stretched_more times i at size buffer _ part bytes (omega arith) refl (omega (arith, c.stride_of-stride.ensures.enough)) long within refl c.loop-i.invariant
-    (overlaid_byte times byte part left right lt c.overlay.ensures
-    (half_at times 16 (byte / 16) high (high + step - high) c.args.left.now c.requires.left (omega arith)
+    stretched_more times i buffer part bytes (omega arith) refl (omega (arith, c.stride_of-stride.ensures.enough)) long within refl c.loop-i.invariant
+    (overlaid_byte times byte left right lt c.overlay.ensures (half_at (byte / 16) (high + step - high) c.requires.left (omega arith)
     (ap (λ (k : ℕ). byte / 16 * k) c.stride_of-stride.ensures.whole) (omega (arith, c.stride_of-stride.ensures.whole)))
-    (half_at times 1 (byte % 16) low (low + step - low) c.args.right.now c.requires.right (omega arith)
+    (half_at (byte % 16) (low + step - low) c.requires.right (omega arith)
     (ap (λ (k : ℕ). byte % 16 * k) c.stride_of-stride.ensures.whole) (omega (arith, c.stride_of-stride.ensures.whole))))

@@ -1,6 +1,4 @@
-use Rattle.std.proofs.Common.{◌≡◌, ◌*◌, take}
-use Rattle.std.specs.Prelude.{bit_or}
-use lib.Lanes.{zip2}
+use Rattle.pnm_samples.proofs.Words.{◌≡◌, ◌*◌, take, bit_or, zip2}
 use Rattle.pnm_samples.proofs.bits.stretch.overlay.Given as goal
 
 -- the sixteens that have passed are of both

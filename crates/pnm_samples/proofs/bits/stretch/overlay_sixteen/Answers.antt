@@ -1,8 +1,4 @@
-use Rattle.std.proofs.Common.{◌≡◌, ◌∙◌, length, take, ap, ap₂, arith}
-use Rattle.std.specs.Prelude.{bit_or}
-use Rattle.std.proofs.lemmas.List.{take_all}
-use Rattle.std.proofs.lemmas.Simd.{put_chunk_whole, length-zip2}
-use lib.Lanes.{zip2}
+use Rattle.pnm_samples.proofs.Words.{◌≡◌, ◌∙◌, length, take, ap, ap₂, arith, bit_or, take_all, put_chunk_whole, length-zip2, zip2}
 use Rattle.pnm_samples.proofs.bits.stretch.overlay_sixteen.Goals as goal
 
 pub returns : goal.returns

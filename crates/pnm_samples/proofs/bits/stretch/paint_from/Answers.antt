@@ -1,8 +1,6 @@
-use Rattle.std.proofs.Common.{rules, ◌≡◌, ◌+◌, ◌-◌, ◌/◌, ◌%◌, ◌<◌, ◌∙◌, List, ℕ, length, get_or, set, replicate, ap, arith}
-use Rattle.pnm_samples.specs.Pixels.{all_pixels}
+use Rattle.pnm_samples.proofs.Words.{rules, ◌≡◌, ◌+◌, ◌-◌, ◌/◌, ◌%◌, ◌<◌, ◌∙◌, List, ℕ, length, get_or, set, replicate, ap, arith, all_pixels, put_mid}
 use Rattle.pnm_samples.proofs.PixelLaws.{filled_up}
 use Rattle.pnm_samples.proofs.StretchLaws.{painted_bytes, painted_within}
-use borrow.Rule.Slice.PartMut.{put_mid}
 use Rattle.pnm_samples.proofs.bits.stretch.paint_from.Goals as goal
 
 pub returns-then-used-eq0 : goal.returns-then-used-eq0

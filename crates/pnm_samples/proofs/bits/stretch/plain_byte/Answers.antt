@@ -1,4 +1,4 @@
-use Rattle.std.proofs.Common.{◌≡◌, ◌∙◌, ℕ, replicate, ap, arith}
+use Rattle.pnm_samples.proofs.Words.{◌≡◌, ◌∙◌, ℕ, replicate, ap, arith}
 use Rattle.pnm_samples.proofs.RepeatLaws.{black_byte, white_byte}
 use Rattle.pnm_samples.proofs.bits.stretch.plain_byte.Goals as goal
 

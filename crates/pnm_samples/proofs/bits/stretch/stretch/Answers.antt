@@ -1,7 +1,4 @@
-use Rattle.std.proofs.Common.{◌≡◌, ◌*◌, ◌-◌, ◌++◌, ◌∙◌, ℕ, length, take, replicate, ap, sym, arith}
-use Rattle.std.proofs.Math.Nat.{mul-le-mul_right}
-use Rattle.std.proofs.lemmas.List.{take_all}
-use Rattle.pnm_samples.specs.Pixels.{pixels, all_pixels}
+use Rattle.pnm_samples.proofs.Words.{◌≡◌, ◌*◌, ◌-◌, ◌++◌, ◌∙◌, ℕ, length, take, replicate, ap, sym, arith, mul-le-mul_right, take_all, pixels, all_pixels}
 use Rattle.pnm_samples.proofs.PixelLaws.{length-pixels, length-all_pixels, get_or-pixels}
 use Rattle.pnm_samples.proofs.RepeatLaws.{repeated}
 use Rattle.pnm_samples.proofs.StretchLaws.{stretched_step, white_pixels}
@@ -21,13 +18,13 @@ paint-requires-clause-held c =
 pub loop-i-init : goal.loop-i-init
 loop-i-init c =
     let none : 0 * c.args.times ≡ 0 = omega arith in
-    white_pixels (0 * c.args.times) c.args.buffer.now none c.requires.white
+    white_pixels none c.requires.white
 
 pub loop-i-preserved : goal.loop-i-preserved
 loop-i-preserved c =
     let i = c.loop-i.i in let times = c.args.times in let old = all_pixels c.loop-i.buffer in let pixel = c.pixel_at-pixel.result in
     let size : 8 * length c.loop-i.buffer ≡ length old = sym (length-all_pixels c.loop-i.buffer) in
-    stretched_step times i pixel old (all_pixels c.paint.new.buffer) (pixels c.args.byte) (omega arith) (length-pixels c.args.byte)
+    stretched_step times i old (all_pixels c.paint.new.buffer) (pixels c.args.byte) (omega arith) (length-pixels c.args.byte)
     (omega (arith, size)) (get_or-pixels c.args.byte i (omega arith) ∙ sym c.pixel_at-pixel.ensures) c.loop-i.invariant.0
     (c.paint.ensures ∙ ap (λ (k : ℕ). take (i * times) old ++ replicate (k - i * times) pixel) size)
 

@@ -1,5 +1,4 @@
-use Rattle.std.proofs.Common.{◌≡◌, ◌*◌, take}
-use Rattle.pnm_samples.specs.Pixels.{pixels, all_pixels}
+use Rattle.pnm_samples.proofs.Words.{◌≡◌, ◌*◌, take, pixels, all_pixels}
 use Rattle.pnm_samples.proofs.RepeatLaws.{repeated}
 use Rattle.pnm_samples.proofs.StretchLaws.{IsPainted}
 use Rattle.pnm_samples.proofs.bits.stretch.stretch.Given as goal

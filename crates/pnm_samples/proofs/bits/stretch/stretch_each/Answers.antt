@@ -1,7 +1,5 @@
-use Rattle.std.proofs.Common.{◌≡◌, ◌+◌, ◌-◌, ◌*◌, ◌≤◌, ◌∙◌, List, ℕ, length, take, drop, replicate, refl, ap, sym, arith}
-use Rattle.std.proofs.Math.Nat.{mul-le-mul_right}
-use Rattle.std.proofs.lemmas.List.{length-take, length-drop, take-replicate, take_all}
-use Rattle.pnm_samples.specs.Pixels.{all_pixels}
+use Rattle.pnm_samples.proofs.Words.{◌≡◌, ◌+◌, ◌-◌, ◌*◌, ◌≤◌, ◌∙◌, List, ℕ, length, take, drop, replicate, refl, ap, sym, arith, mul-le-mul_right, length-take}
+use Rattle.pnm_samples.proofs.Words.{length-drop, take-replicate, take_all, all_pixels}
 use Rattle.pnm_samples.proofs.RepeatLaws.{repeated}
 use Rattle.pnm_samples.proofs.StretchLaws.{stretched_more, white_behind}
 use Rattle.pnm_samples.proofs.bits.stretch.stretch_each.Goals as goal
@@ -48,6 +46,6 @@ loop-i-preserved c =
     let enough : (i + 1) * times ≤ length bytes * times = mul-le-mul_right {m = i + 1} {n = length bytes} times (omega arith) in
     let within : at + size ≤ length buffer = omega (arith, c.loop-i.auto.buffer, c.requires.buffer) in
     let long : length part ≡ size = omega (arith, c.stretch.auto.buffer, length-take size (drop at buffer), length-drop at buffer) in (
-      stretched_more times i at size buffer _ part bytes (omega arith) refl (omega arith) long within refl c.loop-i.invariant.0 c.stretch.ensures,
-      white_behind at size ((i + 1) * times) buffer _ part within long (omega arith) refl c.loop-i.invariant.1,
+      stretched_more times i buffer part bytes (omega arith) refl (omega arith) long within refl c.loop-i.invariant.0 c.stretch.ensures,
+      white_behind at ((i + 1) * times) buffer part within long (omega arith) refl c.loop-i.invariant.1,
     )

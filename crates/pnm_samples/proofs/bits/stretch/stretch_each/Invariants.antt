@@ -1,5 +1,4 @@
-use Rattle.std.proofs.Common.{◌≡◌, ◌-◌, ◌*◌, length, take, drop, replicate}
-use Rattle.pnm_samples.specs.Pixels.{all_pixels}
+use Rattle.pnm_samples.proofs.Words.{◌≡◌, ◌-◌, ◌*◌, length, take, drop, replicate, all_pixels}
 use Rattle.pnm_samples.proofs.RepeatLaws.{repeated}
 use Rattle.pnm_samples.proofs.bits.stretch.stretch_each.Given as goal
 

@@ -1,9 +1,5 @@
-use Rattle.std.proofs.Common.{◌≡◌, ◌+◌, ◌-◌, ◌*◌, ◌++◌, ◌∙◌, ℕ, List, length, replicate, sym, ap, subst, refl, arith}
-use Rattle.std.specs.Vec.{with_items}
-use Rattle.std.proofs.lemmas.Grind.{common_steps}
-use Rattle.std.proofs.lemmas.List.{take_all, length-drop}
-use borrow.Rule.Slice.PartMut.{put_mid}
-use Rattle.pnm_samples.specs.Internal.Stretches.{AreStretched, stride}
+use Rattle.pnm_samples.proofs.Words.{◌≡◌, ◌+◌, ◌-◌, ◌*◌, ◌++◌, ◌∙◌, ℕ, List, length, replicate, sym, ap, subst, refl, arith, with_items, common_steps, take_all}
+use Rattle.pnm_samples.proofs.Words.{length-drop, put_mid, AreStretched, stride}
 use Rattle.pnm_samples.proofs.StretchLaws.{half_more}
 use Rattle.pnm_samples.proofs.bits.stretch.stretched_halves.Goals as goal
 
@@ -21,5 +17,5 @@ loop-half-preserved c =
     let size : length part ≡ stride times =
     omega (arith, c.stretch.auto.buffer, length-drop at grown, ap length c.as_mut_slice.ensures.value, c.in_ok-resize.ensures.len) in
     let last : (with_items c.resize.new.self stored).items ≡ stored = grind (arith, common_steps) in
-    let next = half_more times c.args.unit v at before grown stored part rest c.loop-half.invariant.0 long is more refl size c.stretch.ensures in
+    let next = half_more part rest c.loop-half.invariant.0 long is more refl size c.stretch.ensures in
     (subst (AreStretched times c.args.unit (v + 1)) (sym last) next.0, ap length last ∙ next.1)

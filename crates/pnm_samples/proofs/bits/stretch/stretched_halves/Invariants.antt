@@ -1,5 +1,4 @@
-use Rattle.std.proofs.Common.{◌≡◌, ◌*◌, length}
-use Rattle.pnm_samples.specs.Internal.Stretches.{AreStretched, stride}
+use Rattle.pnm_samples.proofs.Words.{◌≡◌, ◌*◌, length, AreStretched, stride}
 use Rattle.pnm_samples.proofs.bits.stretch.stretched_halves.Given as goal
 
 -- the halves that have passed, and no byte more

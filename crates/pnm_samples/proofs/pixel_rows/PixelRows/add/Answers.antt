@@ -1,6 +1,5 @@
-use Rattle.std.proofs.Common.{◌≡◌, ◌<◌, ◌+◌, ◌*◌, ◌++◌, ◌∙◌, ℕ, List, length, take, drop, refl, ap, arith}
-use Rattle.std.proofs.lemmas.List.{drop_at, length-append, take_at}
-use Rattle.pnm_samples.specs.PixelRows.{bytes_for, ordered_rows, rows_of_bytes}
+use Rattle.pnm_samples.proofs.Words.{◌≡◌, ◌<◌, ◌+◌, ◌*◌, ◌++◌, ◌∙◌, ℕ, List, length, take, drop, refl, ap, arith, drop_at, length-append, take_at, bytes_for}
+use Rattle.pnm_samples.proofs.Words.{ordered_rows, rows_of_bytes}
 use Rattle.pnm_samples.proofs.PixelRowsLaws.{bytes_added, rows_pushed}
 use Rattle.pnm_samples.proofs.pixel_rows.PixelRows.add.Goals.{else-self-gt0-via-then-self-gt0+else-self-each, else-self-gt0-via-else-self-gt0}
 use Rattle.pnm_samples.proofs.pixel_rows.PixelRows.add.Goals as goal
@@ -14,7 +13,7 @@ invariant_of-self-2 c =
     ] in
     ap length c.in_ok-extend_from_slice.ensures.items ∙ length-append x.bytes.items c.args.bytes.now
     ∙ ap (λ (n : ℕ). length x.bytes.items + n) c.requires
-    ∙ bytes_added x.count x.each c.args.count c.args.each (length x.bytes.items) c.self.invariant alike
+    ∙ bytes_added x.count x.each c.args.count c.args.each c.self.invariant alike
     ∙ ap (λ (n : ℕ). n * bytes_for c.args.each) (omega (arith, c.in-Some.ensures))
 
 pub returns-clause-added : goal.returns-clause-added
@@ -28,8 +27,7 @@ returns-clause-added c =
     let new = c.extend_from_slice.new.self.items in
     let items : new ≡ x.bytes.items ++ c.args.bytes.now = c.in_ok-extend_from_slice.ensures.items in
     ap (λ (n : ℕ). ordered_rows x.is_reversed n c.args.each new) total
-    ∙ rows_pushed x.is_reversed x.count x.each c.args.count c.args.each x.bytes.items new c.args.self.now _ c.if-self.false
-    c.self.view_is c.self.invariant alike
+    ∙ rows_pushed x.count x.each c.args.count c.args.each new c.if-self.false c.self.view_is c.self.invariant alike
     (ap (take (length x.bytes.items)) items ∙ take_at x.bytes.items c.args.bytes.now (length x.bytes.items) refl)
     (ap (λ (l : List ℕ). rows_of_bytes c.args.count c.args.each (drop (length x.bytes.items) l)) items
     ∙ ap (rows_of_bytes c.args.count c.args.each) (drop_at x.bytes.items c.args.bytes.now (length x.bytes.items) refl))

@@ -1,4 +1,4 @@
-use Rattle.std.proofs.Common.{◌≡◌, ◌∙◌, Bool, length, sym, ap, arith}
+use Rattle.pnm_samples.proofs.Words.{◌≡◌, ◌∙◌, Bool, length, sym, ap, arith}
 use Rattle.pnm_samples.proofs.PixelRowsLaws.{length_of_ordered, place_of, row_enough, row_held, row_room}
 use Rattle.pnm_samples.proofs.pixel_rows.PixelRows.bytes_from.Goals.{then-self, else-self}
 use Rattle.pnm_samples.proofs.pixel_rows.PixelRows.bytes_from.Goals as goal
@@ -15,7 +15,7 @@ overflow_mul-result c =
       | then-self w ↦ w.place-is ∙ sym (ap (λ (b : Bool). place_of b x.count c.args.at) w.if-self.true)
       | else-self w ↦ w.place-is ∙ sym (ap (λ (b : Bool). place_of b x.count c.args.at) w.if-self.false)
     ] in
-    let room = row_room x.is_reversed x.count x.each c.args.at c.args.byte c.div_ceil.result c.if-self.place x.bytes.items c.args.self.now c.self.view_is
+    let room = row_room x.is_reversed x.count x.each c.args.at c.args.byte c.div_ceil.result x.bytes.items c.self.view_is
     c.self.invariant c.requires.row c.requires.byte (omega (arith, c.div_ceil.ensures)) place in
     omega (arith, room, x.bytes.ok.0)
 
@@ -26,7 +26,7 @@ overflow_add-result c =
       | then-self w ↦ w.place-is ∙ sym (ap (λ (b : Bool). place_of b x.count c.args.at) w.if-self.true)
       | else-self w ↦ w.place-is ∙ sym (ap (λ (b : Bool). place_of b x.count c.args.at) w.if-self.false)
     ] in
-    let room = row_room x.is_reversed x.count x.each c.args.at c.args.byte c.div_ceil.result c.if-self.place x.bytes.items c.args.self.now c.self.view_is
+    let room = row_room x.is_reversed x.count x.each c.args.at c.args.byte c.div_ceil.result x.bytes.items c.self.view_is
     c.self.invariant c.requires.row c.requires.byte (omega (arith, c.div_ceil.ensures)) place in
     omega (arith, room, x.bytes.ok.0)
 
@@ -37,7 +37,7 @@ slice_bounds-result-count c =
       | then-self w ↦ w.place-is ∙ sym (ap (λ (b : Bool). place_of b x.count c.args.at) w.if-self.true)
       | else-self w ↦ w.place-is ∙ sym (ap (λ (b : Bool). place_of b x.count c.args.at) w.if-self.false)
     ] in
-    let room = row_room x.is_reversed x.count x.each c.args.at c.args.byte c.div_ceil.result c.if-self.place x.bytes.items c.args.self.now c.self.view_is
+    let room = row_room x.is_reversed x.count x.each c.args.at c.args.byte c.div_ceil.result x.bytes.items c.self.view_is
     c.self.invariant c.requires.row c.requires.byte (omega (arith, c.div_ceil.ensures)) place in
     omega (arith, room, ap length c.deref.ensures.value)
 
@@ -48,7 +48,7 @@ slice_bounds-result-start c =
       | then-self w ↦ w.place-is ∙ sym (ap (λ (b : Bool). place_of b x.count c.args.at) w.if-self.true)
       | else-self w ↦ w.place-is ∙ sym (ap (λ (b : Bool). place_of b x.count c.args.at) w.if-self.false)
     ] in
-    let room = row_room x.is_reversed x.count x.each c.args.at c.args.byte c.div_ceil.result c.if-self.place x.bytes.items c.args.self.now c.self.view_is
+    let room = row_room x.is_reversed x.count x.each c.args.at c.args.byte c.div_ceil.result x.bytes.items c.self.view_is
     c.self.invariant c.requires.row c.requires.byte (omega (arith, c.div_ceil.ensures)) place in
     omega (arith, room, ap length c.deref.ensures.value)
 
@@ -59,7 +59,7 @@ returns-clause-enough c =
       | then-self w ↦ w.place-is ∙ sym (ap (λ (b : Bool). place_of b x.count c.args.at) w.if-self.true)
       | else-self w ↦ w.place-is ∙ sym (ap (λ (b : Bool). place_of b x.count c.args.at) w.if-self.false)
     ] in
-    row_enough x.is_reversed x.count x.each c.args.at c.args.byte c.div_ceil.result c.if-self.place x.bytes.items c.deref.result.now c.args.self.now
+    row_enough x.is_reversed x.count x.each c.args.at c.args.byte c.div_ceil.result
     c.self.view_is c.self.invariant c.requires.row c.requires.byte (omega (arith, c.div_ceil.ensures)) place c.deref.ensures.value
 
 pub returns-clause-held : goal.returns-clause-held
@@ -69,5 +69,5 @@ returns-clause-held c =
       | then-self w ↦ w.place-is ∙ sym (ap (λ (b : Bool). place_of b x.count c.args.at) w.if-self.true)
       | else-self w ↦ w.place-is ∙ sym (ap (λ (b : Bool). place_of b x.count c.args.at) w.if-self.false)
     ] in
-    row_held x.is_reversed x.count x.each c.args.at c.args.byte c.div_ceil.result c.if-self.place x.bytes.items c.deref.result.now c.args.self.now
+    row_held x.is_reversed x.count x.each c.args.at c.args.byte c.div_ceil.result
     c.self.view_is c.self.invariant c.requires.row (omega (arith, c.div_ceil.ensures)) place c.deref.ensures.value

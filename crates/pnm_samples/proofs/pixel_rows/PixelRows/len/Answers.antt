@@ -1,4 +1,4 @@
-use Rattle.std.proofs.Common.{length, sym, ap, ◌∙◌}
+use Rattle.pnm_samples.proofs.Words.{length, sym, ap, ◌∙◌}
 use Rattle.pnm_samples.proofs.PixelRowsLaws.{length_of_ordered}
 use Rattle.pnm_samples.proofs.pixel_rows.PixelRows.len.Goals as goal
 

@@ -1,7 +1,4 @@
-use Rattle.std.proofs.Common.{rules}
-use Rattle.std.proofs.Common.{◌≤◌, ◌↔◌, All, IsTrue, take, sym, subst, arith}
-use Rattle.pnm_samples.specs.Pixels.{all_pixels}
-use Rattle.pnm_samples.specs.SampleVecs.{slice_samples}
+use Rattle.pnm_samples.proofs.Words.{rules, ◌≤◌, ◌↔◌, All, IsTrue, take, sym, subst, arith, all_pixels, slice_samples}
 use Rattle.pnm_samples.proofs.PixelRowLaws.{byte_pixels_within}
 use Rattle.pnm_samples.proofs.samples.SampleSlice.are_within.Goals as goal
 

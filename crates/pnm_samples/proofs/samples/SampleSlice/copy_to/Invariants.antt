@@ -1,5 +1,4 @@
-use Rattle.std.proofs.Common.{◌≡◌, take, drop}
-use Rattle.pnm_samples.specs.SampleVecs.{slice_samples}
+use Rattle.pnm_samples.proofs.Words.{◌≡◌, take, drop, slice_samples}
 use Rattle.pnm_samples.proofs.samples.SampleSlice.copy_to.Given as goal
 
 abbrev pub invariant-loop-i : goal.invariant-loop-i

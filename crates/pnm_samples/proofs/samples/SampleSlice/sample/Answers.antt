@@ -1,7 +1,4 @@
-use Rattle.std.proofs.Common.{length, ap, arith}
-use Rattle.std.proofs.lemmas.List.{length-take}
-use Rattle.pnm_samples.specs.Pixels.{all_pixels}
-use Rattle.pnm_samples.specs.SampleVecs.{slice_samples}
+use Rattle.pnm_samples.proofs.Words.{length, ap, arith, length-take, all_pixels, slice_samples}
 use Rattle.pnm_samples.proofs.PixelLaws.{length-all_pixels}
 use Rattle.pnm_samples.proofs.samples.SampleSlice.sample.Goals as goal
 

@@ -1,4 +1,4 @@
-use Rattle.std.proofs.Common.{rules}
+use Rattle.pnm_samples.proofs.Words.{rules}
 use Rattle.pnm_samples.proofs.samples.Samples.into_words.Goals as goal
 
 pub returns-in-Words : goal.returns-in-Words

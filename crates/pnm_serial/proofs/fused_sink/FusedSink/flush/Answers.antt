@@ -1,5 +1,4 @@
-use Rattle.std.proofs.Common.{arith, rules}
-use Rattle.std.proofs.lemmas.Grind.{common_steps}
+use Rattle.pnm_serial.proofs.Words.{arith, rules, common_steps}
 use Rattle.pnm_serial.proofs.fused_sink.FusedSink.flush.Goals as goal
 
 pub returns-clause-written : goal.returns-clause-written

@@ -1,5 +1,4 @@
-use Rattle.std.proofs.Common.{◌≡◌, sym, ◌∙◌, true}
-use Rattle.std.specs.Result.{is_ok}
+use Rattle.pnm_serial.proofs.Words.{◌≡◌, sym, ◌∙◌, true, is_ok}
 use Rattle.pnm_serial.proofs.FusedSinkSteps.{put_passed_on}
 use Rattle.pnm_serial.proofs.fused_sink.FusedSink.flush_images.Goals as goal
 

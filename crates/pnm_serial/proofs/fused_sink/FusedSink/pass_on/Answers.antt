@@ -1,4 +1,4 @@
-use Rattle.std.proofs.Common.{refl}
+use Rattle.pnm_serial.proofs.Words.{refl}
 use Rattle.pnm_serial.proofs.FusedSinkSteps.{still_written}
 use Rattle.pnm_serial.proofs.fused_sink.FusedSink.pass_on.Goals as goal
 

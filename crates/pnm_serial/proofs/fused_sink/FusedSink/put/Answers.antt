@@ -1,6 +1,4 @@
-use Rattle.std.proofs.Common.{◌≡◌, ◌++◌, refl, sym, ◌∙◌, true, false}
-use Rattle.std.specs.Result.{is_ok}
-use Rattle.pnm_image.specs.Packets.{messages_in}
+use Rattle.pnm_serial.proofs.Words.{◌≡◌, ◌++◌, refl, sym, ◌∙◌, true, false, is_ok, messages_in}
 use Rattle.pnm_serial.proofs.FusedSinkSteps.{put_written, put_passed_on, put_refused, put_dropped}
 use Rattle.pnm_serial.proofs.fused_sink.FusedSink.put.Goals as goal
 

@@ -1,9 +1,5 @@
-use Rattle.std.proofs.Common.{◌≡◌, ℕ, Bool, true, false, List, ap, sym, ◌∙◌}
-use Rattle.pnm_image.specs.declared.message.Message.{Message}
-use Rattle.pnm_image.specs.declared.message.Message.TheVariants.{ImageEnd}
-use Rattle.pnm_image.specs.Packets.{messages_in}
-use Rattle.pnm_image.specs.Parts.{part_messages}
-use Rattle.pnm_serial.specs.Counts.{image_count_after, images_in, rows_in}
+use Rattle.pnm_serial.proofs.Words.{◌≡◌, ℕ, Bool, true, false, List, ap, sym, ◌∙◌, Message, ImageEnd, messages_in, part_messages, image_count_after, images_in}
+use Rattle.pnm_serial.proofs.Words.{rows_in}
 use Rattle.pnm_serial.proofs.MessageSteps.{images_in-part, rows_in-part}
 use Rattle.pnm_serial.proofs.summary.Summary.count.Goals as goal
 

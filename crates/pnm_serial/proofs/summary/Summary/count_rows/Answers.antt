@@ -1,8 +1,5 @@
-use Rattle.std.proofs.Common.{◌≡◌, ◌≤◌, ◌+◌, ◌*◌, ◌∙◌, ℕ, List, length, ap, sym, subst}
-use Rattle.pnm_image.specs.Rows.{row_messages, rows_list}
-use Rattle.pnm_image.specs.Repeats.{repeated}
-use Rattle.pnm_image.proofs.RepeatLaws.{length_of_repeated, repeated_some}
-use Rattle.pnm_serial.specs.Counts.{saturate_u64, rows_in}
+use Rattle.pnm_serial.proofs.Words.{◌≡◌, ◌≤◌, ◌+◌, ◌*◌, ◌∙◌, ℕ, List, length, ap, sym, subst, row_messages, rows_list, repeated, length_of_repeated}
+use Rattle.pnm_serial.proofs.Words.{repeated_some, saturate_u64, rows_in}
 use Rattle.pnm_serial.proofs.MessageSteps.{rows_in-rows}
 use Rattle.pnm_serial.proofs.summary.Summary.count_rows.Goals as goal
 

@@ -1,5 +1,4 @@
-use Rattle.std.proofs.Common.{arith}
-use Rattle.std.proofs.lemmas.Grind.{common_steps}
+use Rattle.pnm_tools.proofs.Words.{arith, common_steps}
 use Rattle.pnm_tools.proofs.channel.Planes.numbers.Goals as goal
 
 pub returns : goal.returns

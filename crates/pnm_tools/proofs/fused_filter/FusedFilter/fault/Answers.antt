@@ -1,4 +1,4 @@
-use Rattle.std.proofs.Common.{rules}
+use Rattle.pnm_tools.proofs.Words.{rules}
 use Rattle.pnm_tools.proofs.fused_filter.FusedFilter.fault.Goals as goal
 
 pub returns-in-Refused : goal.returns-in-Refused

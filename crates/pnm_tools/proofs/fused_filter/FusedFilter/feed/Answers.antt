@@ -1,7 +1,4 @@
-use Rattle.std.proofs.Common.{◌++◌, sym, subst}
-use Rattle.pnm_image.specs.Packets.{messages_in}
-use Rattle.pnm_tools.specs.declared.fused_filter.FusedFilter.{FusedFilter}
-use Rattle.pnm_tools.specs.FusedFilters.{FilterBusy}
+use Rattle.pnm_tools.proofs.Words.{◌++◌, sym, subst, messages_in, FusedFilter, FilterBusy}
 use Rattle.pnm_tools.proofs.FusedSteps.{feeds, refuses}
 use Rattle.pnm_tools.proofs.fused_filter.FusedFilter.feed.Goals as goal
 

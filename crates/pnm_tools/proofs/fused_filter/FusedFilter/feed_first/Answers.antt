@@ -1,6 +1,4 @@
-use Rattle.std.proofs.Common.{◌++◌, ap, is_some}
-use Rattle.pnm_image.specs.Packets.{messages_in}
-use Rattle.pnm_tools.specs.Unfed.{unfed_in}
+use Rattle.pnm_tools.proofs.Words.{◌++◌, ap, is_some, messages_in, unfed_in}
 use Rattle.pnm_tools.proofs.UnfedSteps.{behind_message, lacks_memory}
 use Rattle.pnm_tools.proofs.fused_filter.FusedFilter.feed_first.Goals as goal
 

@@ -1,10 +1,4 @@
-use Rattle.std.proofs.Common.{◌∙◌, ◌++◌, Option, ap, subst, sym, is_some}
-use Rattle.pnm_image.specs.Packets.{messages_in}
-use Rattle.pnm_image.specs.declared.packet.Packet.{Packet}
-use Rattle.pnm_tools.specs.declared.fused_filter.FusedFilter.{FusedFilter}
-use Rattle.pnm_tools.specs.FusedFilters.{FilterAt}
-use Rattle.pnm_image.specs.Packets.{packet_list}
-use Rattle.pnm_tools.specs.Unfed.{unfed_in}
+use Rattle.pnm_tools.proofs.Words.{◌∙◌, ◌++◌, Option, ap, subst, sym, is_some, messages_in, Packet, FusedFilter, FilterAt, packet_list, unfed_in}
 use Rattle.pnm_tools.proofs.UnfedSteps.{drops_unfed, lacks_memory}
 use Rattle.pnm_tools.proofs.fused_filter.FusedFilter.feed_next.Goals as goal
 

@@ -1,5 +1,4 @@
-use Rattle.std.proofs.Common.{arith}
-use Rattle.std.proofs.lemmas.Grind.{common_steps}
+use Rattle.pnm_tools.proofs.Words.{arith, common_steps}
 use Rattle.pnm_tools.proofs.tool.Tool.is_row_wise.Goals as goal
 
 pub returns-in-Enlarge : goal.returns-in-Enlarge

@@ -1,4 +1,4 @@
-use Rattle.std.proofs.Common.{length, sym, ap, ◌∙◌}
+use Rattle.pnm_transpose.proofs.Words.{length, sym, ap, ◌∙◌}
 use Rattle.pnm_transpose.proofs.FlatRowsLaws.{length_of_ordered}
 use Rattle.pnm_transpose.proofs.flat_rows.FlatRows.len.Goals as goal
 

@@ -1,5 +1,4 @@
-use Rattle.std.proofs.Common.{◌≡◌, ◌<◌, ◌+◌, ◌*◌, ◌∙◌, ℕ, ap, arith}
-use Rattle.pnm_transpose.specs.Internal.FlatRows.{ordered_rows_in}
+use Rattle.pnm_transpose.proofs.Words.{◌≡◌, ◌<◌, ◌+◌, ◌*◌, ◌∙◌, ℕ, ap, arith, ordered_rows_in}
 use Rattle.pnm_transpose.proofs.FlatRowsLaws.{rows_pushed, samples_added}
 use Rattle.pnm_transpose.proofs.flat_rows.FlatRows.push_rows.Goals.{else-self-gt0-via-then-self-gt0+else-self-each, else-self-gt0-via-else-self-gt0}
 use Rattle.pnm_transpose.proofs.flat_rows.FlatRows.push_rows.Goals as goal
@@ -11,7 +10,7 @@ invariant_of-self-2 g c =
       | else-self-gt0-via-then-self-gt0+else-self-each w ↦ omega (arith, w.if-self-each.false)
       | else-self-gt0-via-else-self-gt0 w ↦ absurd (omega (arith, some, w.if-self-gt0.false))
     ] in
-    samples_added x.count x.each c.args.count c.args.each x.samples.items c.args.samples.now c.extend_from_slice.new.self.items c.self.invariant alike
+    samples_added x.count x.each c.args.count c.args.each x.samples.items c.args.samples.now c.self.invariant alike
     c.in_ok-extend_from_slice.ensures.items c.requires ∙ ap (λ (n : ℕ). n * c.args.each) (omega (arith, c.in-Some.ensures))
 
 pub returns-clause-added : goal.returns-clause-added
@@ -23,5 +22,5 @@ returns-clause-added g c =
     ] in
     let total : c.in-Some.total ≡ x.count + c.args.count = omega (arith, c.in-Some.ensures) in
     ap (λ (n : ℕ). ordered_rows_in x.is_reversed n c.args.each c.extend_from_slice.new.self.items) total
-    ∙ rows_pushed x.is_reversed x.count x.each c.args.count c.args.each x.samples.items c.args.samples.now c.extend_from_slice.new.self.items c.args.self.now
+    ∙ rows_pushed x.count x.each c.args.count c.args.each x.samples.items c.args.samples.now
     c.if-self.false c.self.view_is c.self.invariant alike c.in_ok-extend_from_slice.ensures.items

@@ -1,4 +1,4 @@
-use Rattle.std.proofs.Common.{◌≡◌, ◌∙◌, Bool, length, sym, ap, arith}
+use Rattle.pnm_transpose.proofs.Words.{◌≡◌, ◌∙◌, Bool, length, sym, ap, arith}
 use Rattle.pnm_transpose.proofs.FlatRowsLaws.{length_of_ordered, place_of, row_is, row_room}
 use Rattle.pnm_transpose.proofs.flat_rows.FlatRows.row.Goals.{then-self, else-self}
 use Rattle.pnm_transpose.proofs.flat_rows.FlatRows.row.Goals as goal
@@ -15,8 +15,7 @@ overflow_mul-start g c =
       | then-self w ↦ w.place-is ∙ sym (ap (λ (b : Bool). place_of b x.count c.args.at) w.if-self.true)
       | else-self w ↦ w.place-is ∙ sym (ap (λ (b : Bool). place_of b x.count c.args.at) w.if-self.false)
     ] in
-    let room = row_room x.is_reversed x.count x.each c.args.at c.if-self.place x.samples.items c.args.self.now c.self.view_is c.self.invariant c.requires
-    place in
+    let room = row_room x.is_reversed x.count x.each c.args.at x.samples.items c.self.view_is c.self.invariant c.requires place in
     omega (arith, room, x.samples.ok.0)
 
 pub overflow_add-result : goal.overflow_add-result
@@ -26,8 +25,7 @@ overflow_add-result g c =
       | then-self w ↦ w.place-is ∙ sym (ap (λ (b : Bool). place_of b x.count c.args.at) w.if-self.true)
       | else-self w ↦ w.place-is ∙ sym (ap (λ (b : Bool). place_of b x.count c.args.at) w.if-self.false)
     ] in
-    let room = row_room x.is_reversed x.count x.each c.args.at c.if-self.place x.samples.items c.args.self.now c.self.view_is c.self.invariant c.requires
-    place in
+    let room = row_room x.is_reversed x.count x.each c.args.at x.samples.items c.self.view_is c.self.invariant c.requires place in
     omega (arith, room, x.samples.ok.0)
 
 pub offset_bounds-deref-start : goal.offset_bounds-deref-start
@@ -37,8 +35,7 @@ offset_bounds-deref-start g c =
       | then-self w ↦ w.place-is ∙ sym (ap (λ (b : Bool). place_of b x.count c.args.at) w.if-self.true)
       | else-self w ↦ w.place-is ∙ sym (ap (λ (b : Bool). place_of b x.count c.args.at) w.if-self.false)
     ] in
-    let room = row_room x.is_reversed x.count x.each c.args.at c.if-self.place x.samples.items c.args.self.now c.self.view_is c.self.invariant c.requires
-    place in
+    let room = row_room x.is_reversed x.count x.each c.args.at x.samples.items c.self.view_is c.self.invariant c.requires place in
     omega (arith, room, ap length c.deref.ensures.value)
 
 pub slice_bounds-result-end : goal.slice_bounds-result-end
@@ -48,8 +45,7 @@ slice_bounds-result-end g c =
       | then-self w ↦ w.place-is ∙ sym (ap (λ (b : Bool). place_of b x.count c.args.at) w.if-self.true)
       | else-self w ↦ w.place-is ∙ sym (ap (λ (b : Bool). place_of b x.count c.args.at) w.if-self.false)
     ] in
-    let room = row_room x.is_reversed x.count x.each c.args.at c.if-self.place x.samples.items c.args.self.now c.self.view_is c.self.invariant c.requires
-    place in
+    let room = row_room x.is_reversed x.count x.each c.args.at x.samples.items c.self.view_is c.self.invariant c.requires place in
     omega (arith, room, ap length c.deref.ensures.value)
 
 pub returns : goal.returns
@@ -59,5 +55,4 @@ returns g c =
       | then-self w ↦ w.place-is ∙ sym (ap (λ (b : Bool). place_of b x.count c.args.at) w.if-self.true)
       | else-self w ↦ w.place-is ∙ sym (ap (λ (b : Bool). place_of b x.count c.args.at) w.if-self.false)
     ] in
-    row_is x.is_reversed x.count x.each c.args.at c.if-self.place x.samples.items c.deref.result.now c.args.self.now c.self.view_is c.requires
-    place c.deref.ensures.value
+    row_is x.is_reversed x.count x.each c.args.at c.self.view_is c.requires place c.deref.ensures.value

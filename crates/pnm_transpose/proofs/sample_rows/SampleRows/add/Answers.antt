@@ -1,5 +1,5 @@
-use Rattle.std.proofs.Common.{IsTrue, arith}
-use Rattle.std.proofs.lemmas.Grind.{common_steps}
+use Rattle.pnm_transpose.proofs.Words.{arith, common_steps}
+use Rattle.std.proofs.Common.{IsTrue}
 use Rattle.pnm_transpose.proofs.sample_rows.SampleRows.add.Goals as goal
 
 pub returns-then-are_added-clause-kept : goal.returns-then-are_added-clause-kept

@@ -1,6 +1,4 @@
-use Rattle.std.proofs.Common.{◌+◌, ◌∙◌, [], get_or, take, arith}
-use Rattle.std.proofs.lemmas.List.{take_more}
-use Rattle.pnm_transpose.specs.SampleRows.{row_lists, strip_lists}
+use Rattle.pnm_transpose.proofs.Words.{◌+◌, ◌∙◌, [], get_or, take, arith, take_more, row_lists, strip_lists}
 use Rattle.pnm_transpose.proofs.StripLaws.{row_more}
 use Rattle.pnm_transpose.proofs.sample_rows.SampleRows.push_each.Goals as goal
 

@@ -1,6 +1,4 @@
-use Rattle.std.proofs.Common.{◌≡◌, ◌++◌, take}
-use Rattle.pnm_transpose.specs.SampleRows.{row_lists, strip_lists, rows_width}
-use Rattle.pnm_transpose.specs.Internal.Strips.{KeepColumns}
+use Rattle.pnm_transpose.proofs.Words.{◌≡◌, ◌++◌, take, row_lists, strip_lists, rows_width, KeepColumns}
 use Rattle.pnm_transpose.proofs.sample_rows.SampleRows.push_each.Given as goal
 
 -- the rows that have passed are added, some of them in strips

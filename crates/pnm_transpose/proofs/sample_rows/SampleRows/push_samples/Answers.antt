@@ -1,5 +1,4 @@
-use Rattle.std.proofs.Common.{[], ◌∷◌, ◌++◌, ◌∙◌, ap, refl, List, ℕ}
-use Rattle.std.proofs.lemmas.Result.{err_from_is_err_and}
+use Rattle.pnm_transpose.proofs.Words.{[], ◌∷◌, ◌++◌, ◌∙◌, ap, refl, List, ℕ, err_from_is_err_and}
 use Rattle.pnm_transpose.proofs.sample_rows.SampleRows.push_samples.Goals as goal
 
 pub into_bits-requires : goal.into_bits-requires

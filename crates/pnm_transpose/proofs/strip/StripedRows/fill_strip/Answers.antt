@@ -1,4 +1,4 @@
-use Rattle.std.proofs.Common.{arith}
+use Rattle.pnm_transpose.proofs.Words.{arith}
 use Rattle.pnm_transpose.proofs.StripLaws.{kept_so, ordered_reach, ordered_count}
 use Rattle.pnm_transpose.proofs.strip.StripedRows.fill_strip.Goals as goal
 

@@ -1,10 +1,6 @@
-use Rattle.std.proofs.Common.{◌≡◌, ◌<◌, ◌≤◌, ◌+◌, false, ap, sym, ◌∙◌, arith}
-use Rattle.pnm_tools.specs.declared.flip.Transform.{Transform}
-use Rattle.pnm_tools.specs.Flip.{transform_of}
-use Rattle.pnm_transpose.specs.SampleRows.{row_lists, strip_lists, rows_width}
-use Rattle.pnm_transpose.specs.Keeping.{Transposed, transposed, transposed_due}
+use Rattle.pnm_transpose.proofs.Words.{◌≡◌, ◌<◌, ◌≤◌, ◌+◌, false, ap, sym, ◌∙◌, arith, Transform, transform_of, row_lists, strip_lists, rows_width, Transposed}
+use Rattle.pnm_transpose.proofs.Words.{transposed, transposed_due, common_steps}
 use Rattle.pnm_transpose.proofs.TransposeLaws.{batch_some, first_made}
-use Rattle.std.proofs.lemmas.Grind.{common_steps}
 use Rattle.pnm_transpose.proofs.transpose.Transposer.make_first.Goals as goal
 
 pub returns-clause-due : goal.returns-clause-due
@@ -15,7 +11,7 @@ returns-clause-due c =
     let order = ap (λ (t : Transform). t.rows_reversed) c.transform-rows_first.ensures in
     let none = ap (λ (w : Transposed). w.batch) c.self.view_is ∙ c.requires.left.0 in
     let within : x.next + c.min-count.result ≤ x.columns = omega arith in
-    first_made x.way x.depth (rows_width x.rows) x.next x.columns c.min-count.result _ (strip_lists x.rows) (row_lists x.rows) c.in_ok-self-inside.field-0.items
+    first_made x.way x.depth (rows_width x.rows) x.next x.columns c.min-count.result (strip_lists x.rows) (row_lists x.rows)
     first_first order within c.in_ok-self-inside.ensures.made
     ∙ ap (λ l. transposed_due (transposed x.way x.depth (rows_width x.rows) (strip_lists x.rows) (row_lists x.rows) l x.next x.columns)) (sym none)
     ∙ ap transposed_due c.self.view_is
@@ -28,7 +24,7 @@ returns-clause-some c =
     let x = c.self.inside in
     let left : x.next < x.columns =
     omega (arith, ap (λ (w : Transposed). w.next) c.self.view_is, ap (λ (w : Transposed). w.columns) c.self.view_is, c.requires.left.1) in
-    batch_some _ x.next c.min-count.result _ c.in_ok-self-inside.ensures.made (omega (arith, left, c.min-count.ensures, c.batch_length.ensures.some))
+    batch_some _ x.next c.min-count.result c.in_ok-self-inside.ensures.made (omega (arith, left, c.min-count.ensures, c.batch_length.ensures.some))
 
 pub batch-requires-clause-sizes : goal.batch-requires-clause-sizes
 batch-requires-clause-sizes c = grind (arith, common_steps)

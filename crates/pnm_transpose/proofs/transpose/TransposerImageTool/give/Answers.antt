@@ -1,5 +1,4 @@
-use Rattle.std.proofs.Common.{arith}
-use Rattle.std.proofs.lemmas.Grind.{common_steps}
+use Rattle.pnm_transpose.proofs.Words.{arith, common_steps}
 use Rattle.pnm_transpose.proofs.transpose.TransposerImageTool.give.Goals as goal
 
 pub returns-clause-due : goal.returns-clause-due

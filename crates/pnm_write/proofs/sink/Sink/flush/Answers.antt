@@ -1,5 +1,4 @@
-use Rattle.std.proofs.Common.{refl}
-use Rattle.pnm_image.proofs.Written.{fails}
+use Rattle.pnm_write.proofs.Words.{refl, fails}
 use Rattle.pnm_write.proofs.sink.Sink.flush.Goals as goal
 
 pub returns-in-Err-clause-sound : goal.returns-in-Err-clause-sound

@@ -1,6 +1,4 @@
-use Rattle.std.proofs.Common.{Some, None, Option, List, ℕ, refl}
-use Rattle.std.specs.Io.KnownBytes.{Keeps}
-use Rattle.pnm_image.specs.Packets.{messages_in}
+use Rattle.pnm_write.proofs.Words.{Some, None, Option, List, ℕ, refl, Keeps, messages_in}
 use Rattle.pnm_write.proofs.MessageLaws.{refused_with}
 use Rattle.pnm_write.proofs.sink.Sink.write.Goals as goal
 

@@ -1,5 +1,4 @@
-use Rattle.std.proofs.Common.{arith}
-use Rattle.std.proofs.lemmas.Grind.{common_steps}
+use Rattle.pnm_write.proofs.Words.{arith, common_steps}
 use Rattle.pnm_write.proofs.write_buffer.WriteBuffer.push.Goals as goal
 
 pub returns-clause-count : goal.returns-clause-count
