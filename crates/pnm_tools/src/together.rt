@@ -3,7 +3,7 @@
 ghost use Rattle.std.specs.Prelude.{◌≤◌};
 
 /// The most samples of a row that is given together with others. A longer row costs little to hand over by itself.
-const MOST_SAMPLES: usize = 1024;
+const MOST_SAMPLES: usize = 8192;
 
 /// The most samples of rows that are given together: as words they take 65,536 bytes.
 const MOST_TOGETHER: usize = 32_768;

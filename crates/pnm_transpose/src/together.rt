@@ -5,11 +5,15 @@ ghost use Rattle.pnm_tools.specs.declared.fault.ToolFault.TheVariants.{Memory};
 ghost use Rattle.pnm_image.specs.Rows.{rows_list};
 ghost use Rattle.pnm_transpose.specs.Internal.HeldColumns.{HasTaken, HoldsWithin};
 
-use pnm_image::{RowVec, Rows, Samples};
+use pnm_image::{RowSlice, RowVec, Rows, Samples};
 use pnm_tools::{ToolFault, count_together};
 
 /// The most rows that `next_columns` gives together.
 const MOST_ROWS: u32 = 256;
+
+/// The most samples of a column of bytes or words that is given together with others. A longer one costs more to copy
+/// than to hand over by itself.
+const MOST_SAMPLES: usize = 1024;
 
 /// Takes the next columns of a batch, whose last column is the next one: as many together as are short and alike, or
 /// one. The only fault is `Memory`.
@@ -22,9 +26,9 @@ pub(crate) fn next_columns(batch: &mut Vec<Samples>) -> Result<Option<Rows>, Too
         return Ok(None);
     };
     let first = Rows::one(first);
+    let most = most_like(&first);
     let mut bound = first.bound();
     let (mut held, mut count, each) = first.into_parts();
-    let most = count_together(each, MOST_ROWS);
     while count < most {
         if !take_next(batch, &mut held, &mut bound, each)? {
             break;
@@ -32,6 +36,15 @@ pub(crate) fn next_columns(batch: &mut Vec<Samples>) -> Result<Option<Rows>, Too
         count += 1;
     }
     Ok(Some(Rows::new(held, bound, count, each)))
+}
+
+/// How many columns like this one are given together.
+fn most_like(first: &Rows) -> u32 {
+    let each = first.row_length();
+    match first.as_slice() {
+        RowSlice::Bytes(_) | RowSlice::Words(_) if each > MOST_SAMPLES => 1,
+        _ => count_together(each, MOST_ROWS),
+    }
 }
 
 /// Moves the next column of a batch to those that are held, which have `each` samples and none above `bound`. Returns
