@@ -2,7 +2,7 @@
 
 PROGRAM := crates/pnmpipe
 
-.PHONY: all bench bench-files bench-library bench-sweep bench-waits built check deb dist disturb gate help install install-library
+.PHONY: all bench bench-files bench-library bench-sweep bench-waits built check deb dist gate help install install-library
 .PHONY: lanes library lint long-stream model near pass pictures recipes refused scripts soak soak-library tables test toolchain uninstall wheel
 
 # where `make install` puts things, below DESTDIR
@@ -213,14 +213,10 @@ refused: toolchain
 soak-library: built
 	python3 scripts/soak_library.py
 
-# random chains over random streams, in one thread and over threads between slow devices
-soak: toolchain
-	cd crates/pnm_soak && rt run -- 4 2 7 raw pnminvert < stdin > /dev/null
-	python3 scripts/soak.py --seconds $(SECONDS)
-
-# random runs of the program that make has left, between slow neighbours, and stopped by signals at times
-disturb: built
-	python3 scripts/disturb.py
+# random chains over random streams, by the program that make has left, between slow neighbours and stopped by signals at
+# times, beside the C library, where make library has left one, which runs in one thread
+soak: built
+	python3 scripts/soak.py --program $(BUILT) --seconds $(SECONDS)
 
 toolchain:
 	@$(if $(shell command -v rt),:,$(error the command rt of the Rattle toolchain is not on the PATH))
@@ -240,8 +236,7 @@ help:
 	@echo "make lanes           times the program that make has left with 1, 2, 4 and 8 lanes"
 	@echo "make long-stream     passes a stream of 4 GiB through the program that make has left, and wants less than 32 MB of memory"
 	@echo "make refused         refuses each allocation and each start of a thread in turn, of the program that make has left and of tests"
-	@echo "make soak SECONDS=n  runs random chains over random streams for n seconds, in one thread and over threads"
-	@echo "make disturb         runs random chains by the program that make has left, between slow neighbours and signals that stop it"
+	@echo "make soak SECONDS=n  runs random chains for n seconds, between slow neighbours and signals that stop them, beside the C library if there is one"
 	@echo "make soak-library    runs 100,000 random cases by the C library and by the program, and compares"
 	@echo "make tables          writes what completions, stand-ins and the C library have of the table of tools, the programs' options and the faults' numbers"
 	@echo "make lint            checks what is written: the layout, lengths, what documents, pages and completions claim, and whether scripts can be read"

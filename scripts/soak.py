@@ -1,10 +1,15 @@
 #!/usr/bin/env python3
-"""Runs random chains over random streams, in one thread and over threads, until the seconds are over.
+"""Runs random chains over random streams while something disturbs them, and wants what a run in one thread answers.
 
-The program of crates/pnm_soak does both runs and compares what they answer and write; its devices are slow at times,
-and rings, lanes and the form are random. Each run is made of a seed alone. One that doesn't end within its bound, or
-ends otherwise than well, is named by its seed, and `--first SEED --runs 1` repeats it. `make soak SECONDS=n` builds
-the program first.
+Rings, lanes and the form of the output are random. So is what disturbs a run: a slow writer before it and a slow reader
+behind it, signals that stop it and let it go on, one processor for all its threads. The bytes, the status and the line
+have to be those of the C library, which runs in one thread; or, if there is none, those of a quiet run with one lane,
+as with --reference. After a fault one's bytes are a prefix of the other's. Each run is made of a seed: `--first SEED
+--runs 1` repeats one.
+
+Where there is a C compiler the sleeps that timed out are counted, too. Some do, since they wait for a slow writer or
+reader, or for a tool that has much to do. What counts is how many went on with something then, for which nobody had
+woken the thread: none does but in a run that a signal has stopped.
 """
 
 import argparse
@@ -12,199 +17,173 @@ import collections
 import concurrent.futures
 import os
 import random
-import re
+import signal
 import subprocess
 import sys
+import tempfile
+import threading
 import time
+import typing
 
-from places import ROOT
-from tool_examples import EXAMPLES
+sys.dont_write_bytecode = True
 
-# samples that a result may have at most, so that a run is over soon; few are let through beyond it, to ten times as
-# many
-MOST_SAMPLES = 400_000
+from places import ROOT  # pylint: disable=wrong-import-position
+from random_runs import by_library, by_program, chain_of, library, stream_of  # pylint: disable=wrong-import-position
+from waits import counted_in, counter_in, sleeps_told_in  # pylint: disable=wrong-import-position
 
-MAXVALS = [1, 2, 9, 100, 254, 255, 256, 300, 4095, 65535]
-
-TYPES = [b"", b"RGB", b"GRAYSCALE", b"BLACKANDWHITE", b"BLACKANDWHITE_ALPHA", b"two words"]
-
-LINE = re.compile(r"(Ok|Err\((\w+)).*, ([0-9]+) bytes")
+# seconds after which a run is taken to hang
+BOUND = 60
 
 
-def size_of(numbers):
-    """A width and a height: small mostly, wide or tall at times."""
-    form = numbers.random()
-    if form < 0.05:
-        return numbers.randint(1, 3), numbers.randint(100, 2000)
-    if form < 0.1:
-        return numbers.randint(1000, 20000), numbers.randint(1, 3)
-    if form < 0.5:
-        return numbers.randint(1, 6), numbers.randint(1, 6)
-    return numbers.randint(1, 70), numbers.randint(1, 40)
+def feed(child, stream, numbers, is_slow):
+    """Writes the first 4,000 bytes by parts, with pauses, where the writer is slow, and all else at once."""
+    at = 0
+    try:
+        while at < len(stream):
+            size = numbers.choice([1, 7, 100, 1000]) if is_slow and at < 4000 else len(stream)
+            child.stdin.write(stream[at : at + size])
+            child.stdin.flush()
+            at += size
+            if is_slow and numbers.random() < 0.05:
+                time.sleep(numbers.random() * 0.004)
+        child.stdin.close()
+    except BrokenPipeError:
+        pass
 
 
-def samples_of(numbers, count, maxval):
-    """Samples, seldom one above the maxval, where the bytes of one have room for that."""
-    samples = [numbers.randint(0, maxval) for _ in range(count)]
-    if maxval not in (255, 65535) and numbers.random() < 0.02:
-        samples[numbers.randrange(count)] = maxval + 1
-    return samples
+def stop_at_times(child, numbers):
+    try:
+        for _ in range(numbers.randint(1, 4)):
+            time.sleep(numbers.random() * 0.004)
+            child.send_signal(signal.SIGSTOP)
+            time.sleep(numbers.random() * 0.004)
+            child.send_signal(signal.SIGCONT)
+    except ProcessLookupError:
+        pass
 
 
-def plain_image(numbers):
-    """An image whose raster is a text, with comments and blanks here and there."""
-    kind = numbers.choice([1, 2, 3])
-    width, height = numbers.randint(1, 30), numbers.randint(1, 20)
-    maxval = 1 if kind == 1 else numbers.choice(MAXVALS)
-    gap = numbers.choice([" ", "\n", " # a comment\n", "\t \r\n"])
-    header = f"P{kind}{gap}{width}{gap}{height}{gap}" + ("" if kind == 1 else f"{maxval}\n")
-    samples = samples_of(numbers, width * height * (3 if kind == 3 else 1), maxval)
-    parts = [str(sample) for sample in samples]
-    text = "".join(part + numbers.choice(["", " "]) for part in parts) if kind == 1 else gap.join(parts)
-    return (header + text).encode() + numbers.choice([b"", b"\n", b"\njunk"]), width, height, 3 if kind == 3 else 1
+def taken(child, numbers, is_slow):
+    """All bytes of the output, the first ones by parts and with pauses where the reader is slow."""
+    parts = []
+    while True:
+        size = numbers.choice([1, 100, 65536]) if is_slow and len(parts) < 40 else 65536
+        part = os.read(child.stdout.fileno(), size)
+        if not part:
+            return b"".join(parts)
+        parts.append(part)
+        if is_slow and numbers.random() < 0.05:
+            time.sleep(numbers.random() * 0.003)
 
 
-def raw_image(numbers):
-    kind = numbers.choice([4, 5, 6, 7])
-    width, height = size_of(numbers)
-    if kind == 4:
-        raster = numbers.randbytes((width + 7) // 8 * height)
-        return b"P4\n%d %d\n" % (width, height) + raster, width, height, 1
-    maxval = numbers.choice(MAXVALS)
-    depth = {5: 1, 6: 3}.get(kind) or numbers.randint(1, 5)
-    samples = samples_of(numbers, width * height * depth, maxval)
-    raster = b"".join(sample.to_bytes(1 if maxval < 256 else 2, "big") for sample in samples)
-    if kind == 7:
-        typed = numbers.choice(TYPES)
-        lines = [b"WIDTH %d" % width, b"HEIGHT %d" % height, b"DEPTH %d" % depth, b"MAXVAL %d" % maxval]
-        lines.append(b"TUPLTYPE " + typed)
-        numbers.shuffle(lines)
-        return b"P7\n" + b"\n".join(lines) + b"\nENDHDR\n" + raster, width, height, depth
-    return b"P%d\n# c\n%d %d\n%d\n" % (kind, width, height, maxval) + raster, width, height, depth
+def disturbed(program, words, stream, numbers, environment):
+    """The bytes, status and line of a disturbed run, its seconds, and whether a signal stopped it."""
+    start = time.monotonic()
+    pipe = subprocess.PIPE
+    child = subprocess.Popen([program, *words], stdin=pipe, stdout=pipe, stderr=pipe, env=environment)
+    if numbers.random() < 0.5:
+        os.sched_setaffinity(child.pid, {numbers.choice(sorted(os.sched_getaffinity(0)))})
+    lines = []
+    is_fed_slowly, is_stopped, is_read_slowly = (numbers.random() < part for part in (0.3, 0.2, 0.2))
+    threads = [threading.Thread(target=feed, args=(child, stream, random.Random(numbers.random()), is_fed_slowly))]
+    threads.append(threading.Thread(target=lambda: lines.append(child.stderr.read())))
+    if is_stopped:
+        threads.append(threading.Thread(target=stop_at_times, args=(child, random.Random(numbers.random()))))
+    for thread in threads:
+        thread.start()
+    bound = threading.Timer(BOUND, child.kill)
+    bound.start()
+    made = taken(child, numbers, is_read_slowly)
+    child.wait()
+    bound.cancel()
+    for thread in threads:
+        thread.join()
+    child.stdout.close()
+    child.stderr.close()
+    return made, child.returncode, lines[0].decode(), time.monotonic() - start, is_stopped
 
 
-def stream_of(numbers):
-    """A stream, and the greatest width, height and depth of its images; sometimes it is cut or a byte is another."""
-    if numbers.random() < 0.15:
-        images = [plain_image(numbers)]
-    else:
-        images = [raw_image(numbers) for _ in range(numbers.choice([1, 1, 2, 3, 5]))]
-    stream = bytearray(b"".join(image for image, _, _, _ in images))
-    damage = numbers.random()
-    if damage < 0.12:
-        del stream[numbers.randrange(len(stream)) :]
-    elif damage < 0.2:
-        stream[numbers.randrange(len(stream))] = numbers.randrange(256)
-    elif damage < 0.23:
-        stream += numbers.choice([b"\n", b"P", b"P1 1 1 0", b"P5 1 1 0\n\x00", b"XX"])
-    return bytes(stream), *(max(sizes) for sizes in list(zip(*images))[1:])
+class Judged(typing.NamedTuple):
+    """The seconds of a run, its sleeps that timed out, of which the second ones went on with something, whether a
+    signal stopped it, the line that it ended with, and what is wrong, if anything."""
+
+    seconds: float
+    sleeps: tuple[int, int]
+    is_stopped: bool
+    line: str
+    fault: str | None
 
 
-def cut_of(numbers):
-    options = []
-    for start, end, size in [("left", "right", "width"), ("top", "bottom", "height")]:
-        forms = [[], [], [(start, (0, 2))], [(end, (-3, -1))], [(start, (-3, 1)), (end, (-1, -1))], [(size, (1, 2))]]
-        some = numbers.choice(forms)
-        options += [f"-{name} {numbers.randint(*between)}" for name, between in some]
-    return " ".join(["pamcut", *options])
-
-
-# two planes of any image, so many times as wide, are more samples than a row may have
-TOO_LARGE = ["pamchannel 0 0", "pamenlarge -xscale 8388609"]
-
-
-def scale_of(numbers, wide, high):
-    across, down = numbers.randint(1, 3), numbers.randint(1, 3)
-    samples = wide * across * high * down
-    if samples > 10 * MOST_SAMPLES or samples > MOST_SAMPLES and numbers.random() < 0.98:
-        across, down = 1, 1
-    text = numbers.choice([f"-xscale {across}", f"-yscale {down}", f"-xscale {across} -yscale {down}"])
-    return "pamenlarge " + text, wide * across, high * down
-
-
-def chain_of(numbers, width, height, depth):
-    """1 to 64 tools, and how large a result may be, so that no chain makes too much. A tool without a branch of its own
-    makes no image larger, and stands there by its examples in turn."""
-    tools = []
-    wide, high = width * depth, height
-    count = numbers.choice([1, 1, 2, 2, 3, 4, 5, 8, 16, 17, 64])
-    while len(tools) < count:
-        name = numbers.choice(list(EXAMPLES))
-        if name == "pamcut":
-            tools.append(cut_of(numbers))
-        elif name == "pamdepth":
-            tools.append(f"pamdepth {numbers.choice(MAXVALS)}")
-        elif name == "pamchannel":
-            planes = [numbers.choice([0, 0, 0, 0, 1, 2]) for _ in range(numbers.randint(1, 3))]
-            wide *= len(planes)
-            typed = numbers.choice(["", " -tupletype=", " -tupletype RGB"])
-            tools.append(f"pamchannel {' '.join(map(str, planes))}{typed}")
-        elif name == "pamenlarge" and len(tools) + 2 <= count and numbers.random() < 0.02:
-            tools += TOO_LARGE
-        elif name == "pamenlarge":
-            text, wide, high = scale_of(numbers, wide, high)
-            tools.append(text)
-        elif name == "pamflip":
-            way = numbers.choice(["-null", "-lr", "-tb", "-xy", "-r90", "-r180", "-r270"])
-            wide, high = (max(wide, high * depth), max(high, wide)) if way in ("-xy", "-r90", "-r270") else (wide, high)
-            tools.append(f"pamflip {way}")
-        elif name == "pnmtile":
-            across, down = numbers.randint(1, 90), numbers.randint(1, 60)
-            wide, high = max(wide, across * depth), max(high, down)
-            tools.append(f"pnmtile {across} {down}")
-        else:
-            tools.append(EXAMPLES[name][len(tools) % len(EXAMPLES[name])])
-    return " | ".join(tools)
-
-
-def soak(program, seed, seconds):
-    """The run of this seed: what kind of answer came and how many bytes went in and out; or a fault."""
+def judged(asked, seed, counter, folder):
+    """A run, judged by one in one thread, or by a quiet one."""
     numbers = random.Random(seed)
     stream, width, height, depth = stream_of(numbers)
     chain = chain_of(numbers, width, height, depth)
-    capacity = numbers.choice([1, 1, 2, 3, 8, 64, numbers.randint(1, 1024), 1024])
-    form = numbers.choice(["raw", "raw", "plain"])
-    words = [program, str(capacity), str(numbers.randint(1, 8)), str(seed), form, chain]
-    try:
-        ran = subprocess.run(words, input=stream, capture_output=True, timeout=seconds)
-    except subprocess.TimeoutExpired:
-        return f"seed {seed}: it hasn't ended after {seconds} seconds: {words[1:]}"
-    said = LINE.match(ran.stdout.decode(errors="replace"))
-    if ran.returncode or not said:
-        return f"seed {seed}: status {ran.returncode}: {words[1:]}: {ran.stdout.decode(errors='replace')}"
-    return said[2] or "Ok", len(stream), int(said[3])
+    ring = numbers.choice([1, 1, 2, 2, 3, 8, 64, numbers.randint(1, 1024), 1024])
+    lanes, plain = numbers.choice([1, 1, numbers.randint(1, 8)]), numbers.random() < 0.3
+    words = ["--ring", str(ring), "--lanes", str(lanes), *["--plain"] * plain, chain]
+    if asked.module:
+        want = by_library(asked.module, stream, chain, plain)
+    else:
+        want = by_program(asked.reference or asked.program, stream, chain, plain)
+    told = os.path.join(folder, str(seed))
+    environment = counted_in(counter, told)
+    made, status, line, seconds, is_stopped = disturbed(asked.program, words, stream, numbers, environment)
+    sleeps = sleeps_told_in(told) if counter else (0, 0)
+    both = sorted((made, want[0]), key=len)
+    fits = both[1].startswith(both[0]) if status else both[0] == both[1]
+    if (status, line) == (1 if want[1] else 0, want[1]) and fits:
+        return Judged(seconds, sleeps, is_stopped, line, None)
+    fault = f"{status}, {line}, {len(made)} bytes; wanted {want[1]}, {len(want[0])} bytes"
+    return Judged(seconds, sleeps, is_stopped, line, f"seed {seed}: {words}: {fault}")
+
+
+def seeds_of(asked):
+    """The seeds of the runs: so many, or as many as begin within the seconds."""
+    end, seed = time.monotonic() + asked.seconds, asked.first
+    while seed < asked.first + asked.runs if asked.runs else time.monotonic() < end:
+        yield seed
+        seed += 1
 
 
 def main():
-    parser = argparse.ArgumentParser(description=__doc__.split("\n")[0])
-    parser.add_argument("--program", default=os.path.join(ROOT, "crates/pnm_soak/out/pnm_soak"))
+    parser = argparse.ArgumentParser(description=__doc__.split("\n", maxsplit=1)[0])
+    parser.add_argument("--program", default=os.path.join(ROOT, "bin/pnmpipe"))
+    parser.add_argument("--reference", help="the program whose quiet runs are compared with, in place of the library")
     parser.add_argument("--seconds", type=float, default=60, help="how long runs are started")
-    parser.add_argument("--bound", type=float, default=30, help="how long a run may take, in seconds")
     parser.add_argument("--first", type=int, default=None, help="the first seed; by default one of the clock's")
     parser.add_argument("--runs", type=int, default=None)
-    parser.add_argument("--jobs", type=int, default=2)
-    args = parser.parse_args()
-    first = time.time_ns() // 1_000_000 if args.first is None else args.first
-    end, answers, faults = time.monotonic() + args.seconds, collections.Counter(), 0
-    given = written = greatest = runs = 0
-    print(f"soak: seeds from {first}", flush=True)
-    with concurrent.futures.ThreadPoolExecutor(args.jobs) as pool:
-        while time.monotonic() < end and (args.runs is None or runs < args.runs):
-            count = 50 if args.runs is None else min(50, args.runs - runs)
-            jobs = [pool.submit(soak, args.program, first + runs + index, args.bound) for index in range(count)]
-            runs += count
-            for result in (job.result() for job in jobs):
-                if isinstance(result, str):
-                    faults += 1
-                    print(f"soak: {result}", flush=True)
-                    continue
-                answers[result[0]] += 1
-                given, written, greatest = given + result[1], written + result[2], max(greatest, result[2])
-    told = ", ".join(f"{count} {name}" for name, count in answers.most_common())
-    sizes = f"{given} bytes in, {written} out, {greatest} of the largest"
-    print(f"soak: {runs} runs, {sizes}; answers: {told}; {faults} faults")
-    sys.exit(1 if faults or not answers else 0)
+    asked = parser.parse_args()
+    asked.program = os.path.abspath(asked.program)
+    asked.first = time.time_ns() // 1_000_000 if asked.first is None else asked.first
+    asked.module = None if asked.reference else library()
+    print(f"soak: seeds from {asked.first}, beside {'the library' if asked.module else 'quiet runs'}", flush=True)
+    runs, wrong, longest, sleeps, vain, lines = 0, 0, (0.0, None), 0, {False: 0, True: 0}, collections.Counter()
+    with tempfile.TemporaryDirectory() as folder, concurrent.futures.ThreadPoolExecutor(2 * os.cpu_count()) as pool:
+        counter, waiting = counter_in(folder), collections.deque()
+        seeds = seeds_of(asked)
+        while True:
+            seed = next(seeds, None)
+            if seed is not None:
+                waiting.append((seed, pool.submit(judged, asked, seed, counter, folder)))
+            if not waiting:
+                break
+            if seed is not None and len(waiting) < 4 * os.cpu_count():
+                continue
+            seed, run = waiting[0][0], waiting.popleft()[1].result()
+            runs, longest, sleeps = runs + 1, max(longest, (run.seconds, seed)), sleeps + sum(run.sleeps)
+            vain[run.is_stopped] += run.sleeps[1]
+            lines[run.line.rpartition(": ")[2].strip() or "well"] += 1
+            if run.sleeps[1] and not run.is_stopped:
+                print(f"soak: seed {seed}: {run.sleeps[1]} sleeps went on by their time-out", flush=True)
+            if run.fault:
+                wrong += 1
+                print(f"soak: {run.fault}", flush=True)
+    print(f"soak: {runs} runs, {wrong} wrong, the longest {longest[0]:.2f} s by seed {longest[1]}; {dict(lines)}")
+    if counter:
+        print(f"soak: {sleeps} sleeps timed out, of which {sum(vain.values())} went on with something, "
+              f"{vain[True]} of these in runs that a signal stopped")
+    return 1 if wrong or not runs else 0
 
 
 if __name__ == "__main__":
-    main()
+    sys.exit(main())

@@ -8,13 +8,13 @@ import collections
 import os
 import random
 import socket
-import subprocess
 import sys
 
 from places import ROOT
+from random_runs import SHARED, by_library, by_program, library
 from tool_examples import STAGES
 
-PROGRAM, SHARED = os.path.join(ROOT, "bin/pnmpipe"), os.path.join(ROOT, "bin/libpnmpipe.so.1")
+PROGRAM = os.path.join(ROOT, "bin/pnmpipe")
 
 # (an image of three planes alone has the third one)
 TOOLS = [*STAGES, "pamchannel 2 0"]
@@ -53,18 +53,6 @@ def case(source):
     return text, chain, source.random() < 0.3
 
 
-def by_program(program, text, chain, plain):
-    ran = subprocess.run([program, *["--plain"] * plain, "--", chain], input=text, capture_output=True, check=False)
-    return ran.stdout, ran.stderr.decode()
-
-
-def by_library(module, text, chain, plain):
-    try:
-        return module.run(chain, text, plain), ""
-    except module.Fault as fault:
-        return fault.results, f"pnmpipe: {fault}\n"
-
-
 def by_descriptors(module, text, chain, plain, source):
     """The same from a socket, each packet of which is what one read gives, to a file."""
     cuts = sorted(source.randint(0, len(text)) for _ in range(source.choice([0, 1, 2, 9])))
@@ -90,13 +78,9 @@ def main():
     parser.add_argument("--program", default=PROGRAM)
     parser.add_argument("--library", default=SHARED)
     words = parser.parse_args()
-    if not (os.path.exists(words.program) and os.path.exists(words.library)):
+    pnmpipe = library(words.library)
+    if not (pnmpipe and os.path.exists(words.program)):
         sys.exit(f"soak_library: there is no {words.program} or {words.library}: run make and make library first")
-    os.environ["PNMPIPE_LIBRARY"] = words.library
-    sys.path.insert(0, os.path.join(ROOT, "library/python"))
-    sys.dont_write_bytecode = True
-    import pnmpipe
-
     source, lines = random.Random(words.seed), collections.Counter()
     for number in range(words.cases):
         given = case(source)

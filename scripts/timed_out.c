@@ -1,4 +1,4 @@
-/* Loaded before a program (scripts/waits.py and disturb.py do so), it adds a byte to the file that TIMED_OUT names for
+/* Loaded before a program (scripts/waits.py and soak.py do so), it adds a byte to the file that TIMED_OUT names for
    each of the program's sleeps that ends by its time-out, a call of futex that fails so: `a` where the thread looks and
    sleeps again at once, so that there was nothing to do, and `b` where it goes on with something, so that nobody had
    woken it for that.

@@ -22,7 +22,7 @@ from support import COLOR, GRAY, HELPERS, ROOT, loaded, read, run
 import tables
 from input_faults import Words, in_words
 from judge_formats import SETS
-from soak import chain_of, stream_of
+from random_runs import chain_of, stream_of
 from test_commands import stored_commands
 from tool_examples import untried
 
