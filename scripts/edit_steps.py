@@ -9,17 +9,25 @@ from rust_places import begin_of, blanked, function_named, functions, is_marked,
 # how the name of a copy ends, before its number
 TRIED = "_tried_"
 
+# how a line of an edit's control begins in the edit's text; `rt` takes it for a remark
+OF_CONTROL = "# "
 
-def steps_of(text):
-    """The steps of an edit's text."""
+
+def steps_of(text, kind="edit"):
+    """The steps of an edit's text, or those of its control: its new texts are lines of their own, and it has the edit's
+    file and old text, unless such a line says which."""
     file = old = None
     steps = []
     for line in text.split("\n"):
+        is_of_control = line.startswith(OF_CONTROL)
+        if is_of_control and kind == "edit":
+            continue
+        line = line.removeprefix(OF_CONTROL)
         if line.startswith("file: "):
             file = line[6:].strip()
         elif line.startswith("old: "):
             old = line[5:]
-        elif line.startswith("new:"):
+        elif line.startswith("new:") and is_of_control == (kind == "control"):
             steps.append((file, old, line[4:].removeprefix(" ")))
     return tuple(steps)
 

@@ -3,13 +3,13 @@
 
     edits.py --proved FOLDER [--plan] [--logs FOLDER] [CRATE..]
 
-An edit, crates/NAME/must-fail/*.edit, changes what the code means, and the prover has to refuse it; its control, of
-the same name in crates/NAME/controls, has its shape and keeps the meaning, and has to prove. The crates are proved as
-they stand, and so one check tells of many changes: each is made in a copy of its function, which stands beside that one
-and has its contract and its answers, with holes for the proofs of the functions as they stand. An edit is refused where
-a goal of the very function stays open that it changes: a type that differs, or a goal that doesn't follow. What stops
-at a limit of the search alone might hold, so such an edit counts as a fault. A control has no goal open in the
-functions that it changes.
+An edit, crates/NAME/must-fail/*.edit, changes what the code means, and the prover has to refuse it; its control, in
+lines of the same file that begin with `# `, has its shape and keeps the meaning, and has to prove. The crates are
+proved as they stand, and so one check tells of many changes: each is made in a copy of its function, which stands
+beside that one and has its contract and its answers, with holes for the proofs of the functions as they stand. An edit
+is refused where a goal of the very function stays open that it changes: a type that differs, or a goal that doesn't
+follow. What stops at a limit of the search alone might hold, so such an edit counts as a fault. A control has no goal
+open in the functions that it changes.
 
 A function of a trait and a few others have no copies (`may_be_copied`), and are changed where they stand, those of
 different functions in one check. So is what a copy doesn't show to be well. What a group can't judge, since a function
@@ -21,6 +21,7 @@ from FOLDER. The crates are tried side by side, one a processor.
 
 import argparse
 import concurrent.futures
+import glob
 import os
 import re
 import sys
@@ -33,7 +34,6 @@ from edit_checks import CHECKS, LIMIT, WHOLE, Crate
 from edit_steps import applied, copied, functions_of, may_be_copied, steps_of, written
 from rust_places import blanked
 
-FOLDERS = {"edit": "must-fail", "control": "controls"}
 WORDS = {"edit": ("refused", "NOT REFUSED"), "control": ("proved", "NOT PROVED")}
 LAWS = "src/laws.rt"
 LIMITS = (LAWS, ("", "", "limits_are"))
@@ -90,7 +90,7 @@ def clause_on(crate, name):
 def change_of(crate, kind, name, steps):
     """The edit or control, with where a check tells of it."""
     if applied(crate.texts, steps) is None:
-        sys.exit(f"edits: {crate.name}/{FOLDERS[kind]}/{name}: an old text doesn't stand in its file once")
+        sys.exit(f"edits: {crate.name}/{kind}/{name}: an old text doesn't stand in its file once")
     (places, is_within), constant = functions_of(crate.texts, steps), constant_of(crate.texts, steps)
     if places:
         is_copied = is_within and all(may_be_copied(crate, it) for it in places)
@@ -106,11 +106,11 @@ def change_of(crate, kind, name, steps):
 
 def changes_of(crate, folder, kind):
     """All edits, or all controls, of a crate."""
-    at = os.path.join(folder, FOLDERS[kind])
-    for name in sorted(os.listdir(at)) if os.path.isdir(at) else ():
-        if name.endswith(".edit"):
-            with open(os.path.join(at, name), encoding="utf-8") as file:
-                yield change_of(crate, kind, name[:-5], steps_of(file.read()))
+    for path in sorted(glob.glob(os.path.join(folder, "must-fail/*.edit"))):
+        with open(path, encoding="utf-8") as file:
+            steps = steps_of(file.read(), kind)
+        if steps or kind == "edit":
+            yield change_of(crate, kind, os.path.basename(path)[:-5], steps)
 
 
 def grouped(changes, texts):
@@ -219,7 +219,7 @@ class Judge:
     def report(self, change, is_well, why):
         self.failed += not is_well
         verdict = " ".join([WORDS[change.kind][0], why]) if is_well else f"{WORDS[change.kind][1]}: {why}"
-        self.told.append(f"{self.crate.name}/{FOLDERS[change.kind]}/{change.name}: {verdict}")
+        self.told.append(f"{self.crate.name}/{change.kind}/{change.name}: {verdict}")
 
     def try_all(self, changes):
         left = self.try_groups(first_groups(changes, self.crate.texts), "group")
@@ -234,17 +234,13 @@ def tried(crate, changes, logs):
     with tempfile.TemporaryDirectory(prefix="pnmpipe-edits-kept-") as kept:
         judge = Judge(crate, kept, logs)
         judge.try_all(changes)
-    edits = {it.name for it in changes if it.kind == "edit"}
-    for change in changes:
-        if change.name not in edits:
-            judge.report(change, False, "no edit has its name")
     return judge
 
 
 def plan(crate, changes):
     groups = [len(it) for it in first_groups(changes, crate.texts)]
     alone = [f"{it.kind} {it.name}" for it in changes if not it.is_grouped]
-    counts = [sum(it.kind == kind for it in changes) for kind in FOLDERS]
+    counts = [sum(it.kind == kind for it in changes) for kind in WORDS]
     copies = sum(it.is_copied for it in changes)
     told = f"{counts[0]} edits, {counts[1]} controls, {copies} in copies, in groups of {groups}, alone: {alone}"
     print(f"{crate.name}: {told}")
@@ -282,7 +278,7 @@ def main():
     for name in asked.crates or read_crates():
         folder = os.path.join(ROOT, "crates", name)
         crate = Crate(name, folder, toolchain, os.path.abspath(asked.proved))
-        changes = [it for kind in FOLDERS for it in changes_of(crate, folder, kind)]
+        changes = [it for kind in WORDS for it in changes_of(crate, folder, kind)]
         if changes:
             crates.append((crate, changes))
     if asked.plan:

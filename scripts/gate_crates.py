@@ -51,7 +51,7 @@ def rt_ci(folder):
 
 def judged(folder, crates, whole, alone=False):
     """Judges these crates in a copy: of some the tests and edits too, of the others the proof. Gives the status."""
-    left_out = {"out"} if alone else {"out", "must-fail", "controls"}
+    left_out = {"out"} if alone else {"out", "must-fail"}
 
     def parts_of(name):
         return SOURCES if name not in whole else set(os.listdir(os.path.join(ROOT, "crates", name))) - left_out

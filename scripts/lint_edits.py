@@ -1,7 +1,9 @@
-"""Wants an edit that must fail of each exported function that has a body and promises something. `lint.py` calls it."""
+"""Wants an edit that must fail of each exported function that has a body and promises something, and each line of an
+edit to be read. `lint.py` calls it."""
 
 import glob
 import os
+import re
 
 from definitions_of import contract, read_lines
 from edit_steps import functions_of, steps_of
@@ -48,7 +50,12 @@ def edited(crate):
 
 
 def faults(root):
-    """Each exported function of a crate with edits that none of them changes."""
+    """Each exported function of a crate with edits that none of them changes, and each line of an edit that is neither
+    its own nor its control's."""
+    for path in sorted(glob.glob(os.path.join(root, "crates/*/must-fail/*.edit"))):
+        for line in read_lines(path):
+            if line.strip() and not re.match(r"(# )?(file: |old: |new:)", line):
+                yield f"{os.path.relpath(path, root)}: a line that isn't read: {line.strip()}"
     for folder in sorted(glob.glob(os.path.join(root, "crates/*/must-fail"))):
         crate = os.path.dirname(folder)
         if os.path.exists(os.path.join(crate, "src/lib.rt")):

@@ -111,9 +111,12 @@ class Edits(Folder):
         self.write("bin/rt", RT.encode(), 0o755)
         self.write("kit/bin/rattle", RATTLE.encode(), 0o755)
 
-    def edit(self, name, *steps, file="src/lib.rt", kind="must-fail"):
-        text = "".join(f"old: {old}\nnew: {new}\n" for old, new in steps)
-        self.write(f"root/crates/one/{kind}/{name}.edit", f"file: {file}\n{text}".encode())
+    def edit(self, name, *steps, file="src/lib.rt"):
+        """Writes an edit: of each step the old text, the new one, and that of its control, if it has one."""
+        text = "".join(
+            f"old: {old}\nnew: {new}\n" + "".join(f"# new: {it}\n" for it in kept) for old, new, *kept in steps
+        )
+        self.write(f"root/crates/one/must-fail/{name}.edit", f"file: {file}\n{text}".encode())
 
     def start(self, **variables):
         path = f"{self.path('bin')}:{os.path.dirname(sys.executable)}:{os.environ['PATH']}"
@@ -140,48 +143,41 @@ class Edits(Folder):
         self.edit("answer_differs", ("is_answered(x)", "DIFFERS(x)"))
         status, said, checks = self.tried()
         self.assertEqual((status, checks), (0, ["low answered_tried_0"]))
-        self.assertEqual(said["must-fail/low_is_wrong"], "refused at `returns` of low: a goal that doesn't follow")
+        self.assertEqual(said["edit/low_is_wrong"], "refused at `returns` of low: a goal that doesn't follow")
         differs = "refused at `returns-in-Ok` of answered: a type that differs"
-        self.assertEqual(said["must-fail/answer_differs"], differs)
+        self.assertEqual(said["edit/answer_differs"], differs)
 
     def test_changes_of_one_function_are_tried_in_copies_in_one_check(self):
-        self.edit("side_is_wrong", ("is_side(x", "WRONG(x"))
-        self.edit("side_differs", ("is_side(x, SIDE)", "DIFFERS(x)"))
-        self.edit("side_is_wrong", ("is_side(x, SIDE)", "is_side(x, { SIDE })"), kind="controls")
-        self.edit("side_differs", ("is_side(x, SIDE)", "is_side({ x }, SIDE)"), kind="controls")
-        self.edit("answer_differs", ("is_answered(x)", "DIFFERS(x)"))
-        self.edit("answer_differs", ("is_answered(x)", "is_answered({ x })"), kind="controls")
+        self.edit("side_is_wrong", ("is_side(x, SIDE)", "WRONG(x, SIDE)", "is_side(x, { SIDE })"))
+        self.edit("side_differs", ("is_side(x, SIDE)", "DIFFERS(x)", "is_side({ x }, SIDE)"))
+        self.edit("answer_differs", ("is_answered(x)", "DIFFERS(x)", "is_answered({ x })"))
         status, said, checks = self.tried()
         self.assertEqual((status, len(checks), len(said)), (0, 1, 6))
         tried = [it.rpartition("_")[0] for it in checks[0].split()]
         self.assertEqual(tried, 4 * ["side_tried"] + 2 * ["answered_tried"])
-        self.assertEqual(said["must-fail/side_is_wrong"], "refused at `returns` of side: a goal that doesn't follow")
-        self.assertEqual(said["must-fail/side_differs"], "refused at `returns-in-Ok` of side: a type that differs")
-        self.assertEqual(said["controls/side_differs"], "proved as it must be")
+        self.assertEqual(said["edit/side_is_wrong"], "refused at `returns` of side: a goal that doesn't follow")
+        self.assertEqual(said["edit/side_differs"], "refused at `returns-in-Ok` of side: a type that differs")
+        self.assertEqual(said["control/side_differs"], "proved as it must be")
 
     def test_edits_and_controls_of_one_check_are_judged_each_for_itself(self):
         # (what isn't well in a copy is tried where the function stands)
         names = {"copied": ("is_side(x, SIDE)", "side"), "placed": ("is_low(x)", "low")}
         for name, (old, _) in names.items():
-            self.edit(f"{name}_is_wrong", (old, old.replace("is_", "WRONG_")))
-            self.edit(f"{name}_is_kept", (old, f"{{ {old} }}"))
-            self.edit(f"{name}_is_wrong", (old, f"{{ {old} }}"), kind="controls")
-            self.edit(f"{name}_is_kept", (old, old.replace("is_", "DEEP_")), kind="controls")
+            self.edit(f"{name}_is_wrong", (old, old.replace("is_", "WRONG_"), f"{{ {old} }}"))
+            self.edit(f"{name}_is_kept", (old, f"{{ {old} }}", old.replace("is_", "DEEP_")))
         status, said, checks = self.tried()
         self.assertEqual((status, len(said), len(checks)), (1, 8, 6))
         for name, (_, function) in names.items():
             why = f"refused at `returns` of {function}: a goal that doesn't follow"
-            self.assertEqual(said[f"must-fail/{name}_is_wrong"], why)
-            self.assertEqual(said[f"must-fail/{name}_is_kept"], "NOT REFUSED: no goal of its own is open")
-            self.assertEqual(said[f"controls/{name}_is_wrong"], "proved as it must be")
+            self.assertEqual(said[f"edit/{name}_is_wrong"], why)
+            self.assertEqual(said[f"edit/{name}_is_kept"], "NOT REFUSED: no goal of its own is open")
+            self.assertEqual(said[f"control/{name}_is_wrong"], "proved as it must be")
             why = f"NOT PROVED: at `returns` of {function}: a limit of the search"
-            self.assertEqual(said[f"controls/{name}_is_kept"], why)
+            self.assertEqual(said[f"control/{name}_is_kept"], why)
 
     def test_a_control_whose_callee_is_edited_is_tried_again(self):
-        self.edit("low_is_wrong", ("is_low(x)", "WRONG(x)"))
-        self.edit("high_is_wrong", ("{ low(x) }", "{ WRONG(x) }"))
-        self.edit("high_is_wrong", ("{ low(x) }", "{ { low(x) } }"), kind="controls")
-        self.edit("low_is_wrong", ("is_low(x)", "{ is_low(x) }"), kind="controls")
+        self.edit("low_is_wrong", ("is_low(x)", "WRONG(x)", "{ is_low(x) }"))
+        self.edit("high_is_wrong", ("{ low(x) }", "{ WRONG(x) }", "{ { low(x) } }"))
         status, said, _ = self.tried()
         self.assertEqual((status, len(said)), (0, 4))
 
@@ -194,7 +190,7 @@ class Edits(Folder):
     def test_an_edit_that_keeps_the_meaning_is_a_fault(self):
         self.edit("low_is_low", ("is_low(x)", "{ is_low(x) }"))
         status, said, _ = self.tried()
-        self.assertEqual((status, said["must-fail/low_is_low"]), (1, "NOT REFUSED: no goal of its own is open"))
+        self.assertEqual((status, said["edit/low_is_low"]), (1, "NOT REFUSED: no goal of its own is open"))
 
     def test_an_edit_that_another_function_refuses_is_a_fault(self):
         # (what calls a function that was edited isn't proved either, and says nothing of its own edit)
@@ -202,33 +198,33 @@ class Edits(Folder):
         self.edit("high_is_low", ("{ low(x) }", "{ low(x) + 0 }"))
         status, said, checks = self.tried()
         self.assertEqual((status, checks), (1, ["low high", "high"]))
-        self.assertTrue(said["must-fail/low_is_wrong"].startswith("refused"))
-        self.assertTrue(said["must-fail/high_is_low"].startswith("NOT REFUSED"))
+        self.assertTrue(said["edit/low_is_wrong"].startswith("refused"))
+        self.assertTrue(said["edit/high_is_low"].startswith("NOT REFUSED"))
 
     def test_an_edit_that_a_limit_alone_refuses_is_a_fault(self):
         self.edit("low_is_deep", ("is_low(x)", "DEEP(x)"))
         status, said, _ = self.tried()
-        told = {"must-fail/low_is_deep": "NOT REFUSED: at `returns` of low: a limit of the search"}
+        told = {"edit/low_is_deep": "NOT REFUSED: at `returns` of low: a limit of the search"}
         self.assertEqual((status, said), (1, told))
 
     def test_an_edit_that_takes_a_name_from_an_answer_is_a_fault(self):
         self.edit("low_is_renamed", ("is_low(x)", "RENAMED(x)"))
         status, said, _ = self.tried()
         why = "no goal of its own is open, and it isn't proved"
-        self.assertEqual((status, said), (1, {"must-fail/low_is_renamed": f"NOT REFUSED: {why}"}))
+        self.assertEqual((status, said), (1, {"edit/low_is_renamed": f"NOT REFUSED: {why}"}))
 
     def test_an_edit_that_does_not_compile_is_a_fault_and_spoils_no_other(self):
         self.edit("low_is_broken", ("is_low(x)", "BROKEN(x)"))
         self.edit("answer_is_wrong", ("is_answered(x)", "WRONG(x)"))
         status, said, _ = self.tried()
         self.assertEqual(status, 1)
-        self.assertTrue(said["must-fail/low_is_broken"].startswith("NOT REFUSED: the check has no verdict"))
-        self.assertTrue(said["must-fail/answer_is_wrong"].startswith("refused"))
+        self.assertTrue(said["edit/low_is_broken"].startswith("NOT REFUSED: the check has no verdict"))
+        self.assertTrue(said["edit/answer_is_wrong"].startswith("refused"))
 
     def test_an_edit_whose_function_is_gone_is_a_fault(self):
         self.edit("low_is_gone", ("fn low(x: u32)", "fn lower(x: u32)"), ("{ low(x) }", "{ lower(x) }"))
         status, said, _ = self.tried()
-        self.assertEqual((status, said["must-fail/low_is_gone"][:11]), (1, "NOT REFUSED"))
+        self.assertEqual((status, said["edit/low_is_gone"][:11]), (1, "NOT REFUSED"))
 
     def test_an_edit_that_cannot_be_made_is_told(self):
         self.edit("old_text_is_gone", ("is_lower(x)", "WRONG(x)"))
@@ -241,24 +237,23 @@ class Edits(Folder):
         self.edit("depth_of_4", ("DEPTH: u32 = 4", "DEPTH: u32 = 4"))
         status, said, checks = self.tried()
         self.assertEqual((status, checks[0]), (1, "limits_are"))
-        self.assertIn("`returns-clause-side`", said["must-fail/side_of_9"])
-        self.assertIn("refused at `returns-clause-depth`", said["must-fail/depth_of_5"])
-        self.assertTrue(said["must-fail/depth_of_4"].startswith("NOT REFUSED"))
+        self.assertIn("`returns-clause-side`", said["edit/side_of_9"])
+        self.assertIn("refused at `returns-clause-depth`", said["edit/depth_of_5"])
+        self.assertTrue(said["edit/depth_of_4"].startswith("NOT REFUSED"))
 
     def test_definitions_are_tried_over_the_laws(self):
         self.edit("word_is_wrong", ("word = right", "word = wrong"), file="specs/Words.antt")
         status, said, checks = self.tried()
         self.assertEqual((status, checks), (0, ["limits_are words_hold"]))
-        self.assertIn("refused at `word_is_right` of laws::words_hold", said["must-fail/word_is_wrong"])
+        self.assertIn("refused at `word_is_right` of laws::words_hold", said["edit/word_is_wrong"])
 
     def test_controls_have_to_prove(self):
-        self.edit("low_is_wrong", ("is_low(x)", "WRONG(x)"))
-        self.edit("low_is_wrong", ("is_low(x)", "{ is_low(x) }"), kind="controls")
+        self.edit("low_is_wrong", ("is_low(x)", "WRONG(x)", "{ is_low(x) }"))
         self.assertEqual(self.tried()[0], 0)
         for word in ("WRONG", "DEEP", "RENAMED", "BROKEN"):
-            self.edit("low_is_wrong", ("is_low(x)", f"{word}(x)"), kind="controls")
+            self.edit("low_is_wrong", ("is_low(x)", "WRONG(x)", f"{word}(x)"))
             status, said, _ = self.tried()
-            self.assertEqual((status, said["controls/low_is_wrong"][:10]), (1, "NOT PROVED"), word)
+            self.assertEqual((status, said["control/low_is_wrong"][:10]), (1, "NOT PROVED"), word)
 
     def test_a_signal_ends_the_checks(self):
         self.edit("low_is_wrong", ("is_low(x)", "WRONG(x)"))
@@ -276,10 +271,11 @@ class Edits(Folder):
         left = subprocess.run(["pgrep", "-f", self.path("kit/bin/rattle")], stdout=subprocess.PIPE, check=False)
         self.assertEqual(left.stdout, b"")
 
-    def test_a_control_is_of_an_edit(self):
-        self.edit("low_is_low", ("is_low(x)", "{ is_low(x) }"), kind="controls")
+    def test_a_control_may_have_an_old_text_of_its_own(self):
+        self.edit("low_is_wrong", ("is_low(x)", "WRONG(x)\n# old: { low(x) }", "{ DEEP(x) }"))
         status, said, _ = self.tried()
-        self.assertEqual((status, said["controls/low_is_low"]), (1, "NOT PROVED: no edit has its name"))
+        told = "NOT PROVED: at `returns` of high: a limit of the search"
+        self.assertEqual((status, said["control/low_is_wrong"]), (1, told))
 
 
 if __name__ == "__main__":

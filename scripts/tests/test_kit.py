@@ -37,12 +37,16 @@ fn main(rt: HostRuntime) -> io::Result<()> {
     Ok(())
 }
 """
+EDIT = """file: src/lib.rt
+old:     number + 1
+new:     number + 2
+# new:     1 + number
+"""
 FILES = {
     "crates.txt": "low:\npnmpipe: low\n",
     "HANDLES": "Handles allowed: none.\n",
     "crates/low/src/lib.rt": LOW,
-    "crates/low/must-fail/adds_2.edit": "file: src/lib.rt\nold:     number + 1\nnew:     number + 2\n",
-    "crates/low/controls/adds_2.edit": "file: src/lib.rt\nold:     number + 1\nnew:     1 + number\n",
+    "crates/low/must-fail/adds_2.edit": EDIT,
     "crates/pnmpipe/src/main.rt": PROGRAM,
     "crates/pnmpipe/stdin": "word\n",
     "crates/pnmpipe/stdout": "2 word\n",
@@ -74,8 +78,8 @@ class Kit(Folder):
         self.assertIn("\n3 passed, 0 failed\n", self.printed("rt", "ci"))
         told = self.printed(sys.executable, "scripts/change.py", "pass", "low")
         self.assertIn("\n1 passed, 0 failed\n", told)
-        self.assertIn("low/must-fail/adds_2: refused at `returns` of next: ", told)
-        self.assertIn("low/controls/adds_2: proved", told)
+        self.assertIn("low/edit/adds_2: refused at `returns` of next: ", told)
+        self.assertIn("low/control/adds_2: proved", told)
         self.assertIn("2 were proved before", self.printed(*build))
 
 

@@ -281,6 +281,11 @@ IsHeld width = IsSmall width
         elsewhere = "file: src/held.rt\nold:     1\nnew:     2\n"
         self.assertEqual(self.told_of_edits(elsewhere), [told + "Row::take", told + "width"])
 
+    def test_lines_of_edits_are_read(self):
+        turned = "file: src/rows.rt\nold:     1\nnew:     2\n# new:     { 1 }\n#new:     1\n"
+        told = "crates/a/must-fail/turned.edit: a line that isn't read: #new:     1"
+        self.assertEqual(self.told_of_edits(turned)[0], told)
+
 
 class Tools(unittest.TestCase):
     """Differences that are planted: a file, a text of it and what stands in its place, and the line that is told."""
