@@ -1,9 +1,9 @@
 #!/usr/bin/env python3
-"""Makes the pictures of the documents, docs/pictures: a test card that is drawn here, also as PPM for the README's
-first run, and what each tool makes of it.
+"""Makes the pictures of the documents, docs/pictures: what each tool makes of the test card, card.ppm, and the charts of
+figures (charts.py), where gnuplot is installed. The diagram of threads, threads.svg, is edited by hand.
 
 With --check nothing is written: the pictures that are there have to be the same, pixel by pixel, as those that would be
-made. The diagram of threads is made here too, and the charts of figures (charts.py), where gnuplot is installed.
+made.
 """
 
 import argparse
@@ -17,8 +17,6 @@ import charts
 from places import ROOT
 
 FOLDER = f"{ROOT}/docs/pictures"
-
-WIDTH, HEIGHT = 96, 64
 
 # the chain that makes each picture of the card, by numbers that show best what it does; PNG has no PAM, so `channel` is
 # told to be gray
@@ -34,33 +32,11 @@ CHAINS = {
     "chain": "pamcut -left 16 -width 64 | pamflip -xy | pnminvert",
 }
 
-# the letters R and F, which no turn makes look alike
-LETTERS = [
-    "11110011111",
-    "10001010000",
-    "10001010000",
-    "11110011110",
-    "10100010000",
-    "10010010000",
-    "10001010000",
-]
-
-
-def color_at(x, y):
-    """The card: a slope of colors, two letters, a disc at the top left and a black bar at the bottom right."""
-    column, row = (x - 20) // 5, (y - 16) // 5
-    if x >= 20 and y >= 16 and row < len(LETTERS) and column < len(LETTERS[0]) and LETTERS[row][column] == "1":
-        return (24, 32, 96)
-    if (x - 10) ** 2 + (y - 10) ** 2 < 49:
-        return (208, 32, 32)
-    if x >= 80 and y >= 52:
-        return (0, 0, 0)
-    return (255 - x, 160 + y, 128 + x // 2 + y // 2)
-
 
 def card():
-    pixels = bytes(sample for y in range(HEIGHT) for x in range(WIDTH) for sample in color_at(x, y))
-    return b"P6\n%d %d\n255\n" % (WIDTH, HEIGHT) + pixels
+    """The card: a slope of colors, the letters R and F, which no turn makes look alike, a disc and a bar."""
+    with open(f"{FOLDER}/card.ppm", "rb") as file:
+        return file.read()
 
 
 def pixels_of(program, chain):
@@ -107,53 +83,17 @@ def opened(data):
     return header, zlib.decompress(packed)
 
 
-def box(x, width, text, below):
-    middle = x + width // 2
-    return (
-        f'<rect x="{x}" y="30" width="{width}" height="44" rx="6" fill="#eef3fb" stroke="#345"/>'
-        f'<text x="{middle}" y="50" text-anchor="middle">{text}</text>'
-        f'<text x="{middle}" y="66" text-anchor="middle" fill="#567">{below}</text>'
-    )
-
-
-def ring(x, text):
-    form = '<rect x="{}" y="46" width="9" height="12" fill="#fff" stroke="#888"/>'
-    cells = "".join(form.format(x + 9 * cell) for cell in range(4))
-    arrow = f'<path d="M{x - 9} 52h5M{x + 38} 52h5" stroke="#345" marker-end="url(#a)"/>'
-    return cells + arrow + f'<text x="{x + 18}" y="90" text-anchor="middle" fill="#567">{text}</text>'
-
-
-def threads():
-    """The diagram: the caller's thread at both ends, a thread for each tool, and a ring before each and behind the
-    last."""
-    parts = [box(4, 84, "reads", "the caller"), ring(104, "ring")]
-    parts += [box(156, 84, "tool 1", "a thread"), ring(256, "ring")]
-    parts += [box(308, 84, "tool 2", "a thread"), ring(408, "ring"), box(460, 84, "writes", "the caller")]
-    arrow = (
-        '<marker id="a" viewBox="0 0 6 6" refX="5" refY="3" markerWidth="5" markerHeight="5" orient="auto">'
-        '<path d="M0 0L6 3L0 6z" fill="#345"/></marker>'
-    )
-    said = "A row passes from thread to thread; each ring holds the rows that wait, 64 by itself."
-    note = f'<text x="4" y="18" fill="#345">{said}</text>'
-    return (
-        '<svg xmlns="http://www.w3.org/2000/svg" width="548" height="100" viewBox="0 0 548 100" '
-        f'font-family="sans-serif" font-size="12"><rect width="548" height="100" fill="#fff"/><defs>{arrow}</defs>'
-        f"{note}{''.join(parts)}</svg>\n"
-    )
-
-
 def drawings():
-    """The pictures that aren't made of the card, by their names."""
+    """The charts, by their names."""
     if not charts.can_draw():
         print("pictures: gnuplot isn't installed, so no chart is looked at")
-        return {"threads": threads()}
-    return {"threads": threads(), **charts.drawn()}
+        return {}
+    return charts.drawn()
 
 
 def checked(program):
     """The pictures that differ from those that would be made."""
-    with open(f"{FOLDER}/card.ppm", "rb") as file:
-        found = [] if file.read() == card() else ["card.ppm is another picture"]
+    found = []
     for name, chain in CHAINS.items():
         path = f"{FOLDER}/{name}.png"
         if not os.path.exists(path):
@@ -186,9 +126,6 @@ def main():
         found = checked(options.program)
         print("\n".join(f"pictures: {line}" for line in found) or "pictures: they are as the program makes them")
         sys.exit(bool(found))
-    os.makedirs(FOLDER, exist_ok=True)
-    with open(f"{FOLDER}/card.ppm", "wb") as file:
-        file.write(card())
     for name, chain in CHAINS.items():
         with open(f"{FOLDER}/{name}.png", "wb") as file:
             file.write(png(*pixels_of(options.program, chain)))
