@@ -6,8 +6,7 @@ Each command of `refused.py` has to end as it does with room enough, in a stack 
 thread and of each thread that the program starts, and of some more for each further tool, which is started within the
 frame of the one behind it, and for each further lane, which is started within that of the next one. A stack that is
 too small ends a run by a signal, which no line names, so a frame that grows, as by a buffer that lies in it, is
-refused here. The system takes up to 8 KiB of the main thread's stack, at random. `--least` finds the least stack of
-each command in place of that.
+refused here. The system takes up to 8 KiB of the main thread's stack, at random.
 
 `pnmtile` keeps the columns that it shows, and no whole rows of an image that is larger than what fits beside them. The
 rows of a plain bitmap of one column are held as those of a raw one, eight pixels a byte, by what turns it upside down.
@@ -16,7 +15,6 @@ Whether a header is held whole is asked before each image, so the search for its
 """
 
 import argparse
-import collections
 import os
 import resource
 import shlex
@@ -32,11 +30,6 @@ from refused import LANES, MOST_TOOLS, STREAM, Answer, Command, Fault, commands,
 FIRST = 32
 FURTHER = 6
 FURTHER_LANE = 3
-
-# steps in which the least stack is looked for, how often each is tried, and the most
-STEP = 2
-TRIES = 6
-MOST = 8192
 
 # a PGM image of 80 MB, five of whose columns are shown, and the MB that may be resident at any time
 WIDE, HIGH = 10_000, 8_000
@@ -81,38 +74,12 @@ def name_of(command):
     return textwrap.shorten(shlex.join(command.words), 90, placeholder=" ..")
 
 
-def least_of(program, command, seconds):
-    """The least stack, in KiB, in which the command ends well, as it has to in each larger one."""
-    below, enough = 0, MOST
-    while enough - below > STEP:
-        middle = (below + enough) // (2 * STEP) * STEP
-        try:
-            for _ in range(TRIES):
-                run(program, command, middle, seconds)
-            enough = middle
-        except Fault:
-            below = middle
-    return enough
-
-
-def tell_least(args):
-    """Prints the least stack of each command, and the greatest of these by the numbers of tools and lanes."""
-    greatest = collections.defaultdict(int)
-    for command in all_commands(args.program):
-        least = least_of(args.program, command, args.seconds)
-        both = tools_of(command), lanes_of(command)
-        greatest[both] = max(greatest[both], least)
-        print(f"room: {least} KiB: {name_of(command)}", flush=True)
-    for (tools, lanes), least in sorted(greatest.items()):
-        print(f"room: {least} KiB at most for {tools} tools over {lanes} lanes")
-
-
 def check_stacks(args):
     """Runs each command in its stack. Gives how many ran, and how many of them failed."""
     count = failed = 0
     for command in all_commands(args.program):
         further = FURTHER * (tools_of(command) - 1) + FURTHER_LANE * (lanes_of(command) - 1)
-        room = args.stack or FIRST + further
+        room = FIRST + further
         count += 1
         try:
             run(args.program, command, room, args.seconds)
@@ -206,13 +173,8 @@ def main():
     parser = argparse.ArgumentParser(description=__doc__.split("\n\n")[0])
     parser.add_argument("--program", default=os.path.join(ROOT, "bin/pnmpipe"))
     parser.add_argument("--seconds", type=float, default=60, help="how long a run may take")
-    parser.add_argument("--stack", type=int, help="KiB of each command's stack, in place of its own")
-    parser.add_argument("--least", action="store_true", help="tells the least stack of each command")
     args = parser.parse_args()
     args.program = os.path.abspath(args.program)
-    if args.least:
-        tell_least(args)
-        return
     count, failed = check_stacks(args)
     memory, headers = check_tiles(args) + check_column(args), check_headers(args)
     print(f"room: {count} commands, {failed} of them failed in their stack, {memory} runs in their memory")
