@@ -1,6 +1,6 @@
 #!/usr/bin/env python3
-"""Makes the pictures of the documents, docs/pictures: what each tool makes of the test card, card.ppm, and the charts of
-figures (charts.py), where gnuplot is installed. The diagram of threads, threads.svg, is edited by hand.
+"""Makes the pictures of the documents, docs/pictures: what each tool makes of the test card, card.ppm, and the charts
+of figures (charts.py), where gnuplot is installed. The diagram of threads, threads.svg, is edited by hand.
 
 With --check nothing is written: the pictures that are there have to be the same, pixel by pixel, as those that would be
 made.
