@@ -20,7 +20,7 @@ SHIMDIR = $(LIBEXECDIR)/pnmpipe/netpbm
 # helpers that stand beside the modules they use, with a link in BINDIR
 HELPERS := pnmpipe-explain pnmpipe-files pnmpipe-split pnmpipe-translate
 MODULES := chain_text.py end_signals.py file_machines.py file_parts.py file_tasks.py file_workers.py image_stream.py
-MODULES += input_faults.py netpbm_words.py shell_reader.py slow_reader.py tool_table.py translation.py
+MODULES += input_faults.py netpbm_words.py shell_reader.py slow_heads.py slow_reader.py tool_table.py translation.py
 SHIMS = $(shell python3 helpers/tool_table.py)
 
 # crates whose tests of want of memory are refused each allocation

@@ -1,5 +1,5 @@
-"""The text of a chain: which tools it names, or what is wrong with it, where, and what would be right; and what each
-tool makes of an image's head. `pnmpipe-explain` uses it."""
+"""The text of a chain: which tools it names, or what is wrong with it, where, and what would be right; and why a tool
+refuses an image. `pnmpipe-explain` uses it."""
 
 import difflib
 import importlib.machinery
@@ -9,14 +9,13 @@ import re
 import shlex
 import typing
 
-from slow_reader import Fault, judged
+from slow_heads import named_tool, result_head, span
+from slow_reader import Fault
 from tool_table import TOOLS, TYPE
 
 MOST_BYTES, MOST_STAGES, MOST_TYPE = 4_096, 64, 255
 BLANKS = " \t\r\n"
 WORD = re.compile(r"[^ \t\r\n]+")
-
-EXCHANGED = ("xy", "transpose", "r90", "r270")
 
 AXES = [("left", "right", "width"), ("top", "bottom", "height")]
 
@@ -278,60 +277,39 @@ def finish(tool, words):
         raise ChainFault("MissingArgument", words, f"{tool.name} lacks an argument.", remedy)
 
 
-# --- what tools make of heads
+# --- why tools refuse images
 
 
-def span(length, start, end, size):
-    """The first and the last column that a cut keeps, of an image with so many, wherever they lie."""
-    start, end = (it if it is None or it >= 0 else it + length for it in (start, end))
-    if start is None:
-        start = 0 if end is None or size is None else end + 1 - size
-    if end is None:
-        end = length - 1 if size is None else start + size - 1
-    return start, end
+def cut_outside(stage, head):
+    """What a cut keeps that the image doesn't have."""
+    for axis, length, unit in zip(AXES, head[1:3], ("column", "row")):
+        first, last = span(length, *map(stage.options.get, axis))
+        if 0 <= first <= last < length:
+            continue
+        given = listed(f"-{name} {stage.options[name]}" for name in axis if name in stage.options)
+        if not 0 <= first < length:
+            asks = f"begins at {unit} {first:,}"
+        elif last >= length:
+            asks = f"ends at {unit} {last:,}"
+        else:
+            asks = f"ends at {unit} {last:,}, and begins behind it at {unit} {first:,}"
+        return f"It has {length:,} {unit}{'s' * (length > 1)}, numbered from 0, and what {given} keeps {asks}."
 
 
-def cut_length(tool, length, axis, unit):
-    """How many columns, or rows, a cut keeps."""
-    first, last = span(length, *(tool.options.get(name) for name in axis))
-    if 0 <= first <= last < length:
-        return last - first + 1
-    given = listed(f"-{name} {tool.options[name]}" for name in axis if name in tool.options)
-    if not 0 <= first < length:
-        asks = f"begins at {unit} {first:,}"
-    elif last >= length:
-        asks = f"ends at {unit} {last:,}"
-    else:
-        asks = f"ends at {unit} {last:,}, and begins behind it at {unit} {first:,}"
-    has = f"It has {length:,} {unit}{'s' * (length > 1)}, numbered from 0, and what {given} keeps {asks}."
-    raise ToolFault("CutOutside", has, "Ask for what every image of the stream has, or leave this one out.")
-
-
-def head_of_result(tool, head):
+def head_of_result(stage, head):
     """The head of what a tool makes of an image."""
-    kind, width, height, depth, maxval, tuple_type = head
-    options, arguments = tool.options, tool.arguments
-    if tool.name == "pamcut":
-        width, height = cut_length(tool, width, AXES[0], "column"), cut_length(tool, height, AXES[1], "row")
-    elif tool.name == "pamdepth":
-        maxval = arguments[0]
-        kind = "Gray" if kind == "Bit" and maxval != 1 else kind
-    elif tool.name == "pamchannel":
-        beyond = [plane for plane in arguments if plane >= depth]
-        if beyond:
-            what = f"It has {depth} plane{'s' * (depth > 1)}, numbered from 0, so there is no plane {beyond[0]}."
-            raise ToolFault("ChannelOutside", what, "Ask for planes that every image of the stream has.")
-        kind, depth, tuple_type = "Pam", len(arguments), options.get("tupletype", "")
-    elif tool.name == "pamenlarge":
-        both = arguments[0] if arguments else 1
-        width, height = width * options.get("xscale", both), height * options.get("yscale", both)
-    elif tool.name == "pamflip" and options["way"] in EXCHANGED:
-        width, height = height, width
-    elif tool.name == "pnmtile":
-        width, height = arguments
     try:
-        return judged(kind, width, height, depth, maxval, tuple_type)
-    except Fault:
-        size = f"{width:,} columns, {height:,} rows and {depth} plane{'s' * (depth > 1)}"
-        most = "an image has at most 16,777,216 columns, as many rows, and as many samples a row (columns times planes)"
-        raise ToolFault("TooLarge", f"The result would have {size}; {most}.", "Ask for a smaller result.") from None
+        return result_head(named_tool(stage), head)
+    except Fault as fault:
+        name, size = str(fault), fault.what
+    if name == "CutOutside":
+        remedy = "Ask for what every image of the stream has, or leave this one out."
+        raise ToolFault(name, cut_outside(stage, head), remedy)
+    if name == "ChannelOutside":
+        depth, beyond = head[3], next(plane for plane in stage.arguments if plane >= head[3])
+        what = f"It has {depth} plane{'s' * (depth > 1)}, numbered from 0, so there is no plane {beyond}."
+        raise ToolFault(name, what, "Ask for planes that every image of the stream has.")
+    width, height, depth = (size[it] for it in ("width", "height", "depth"))
+    made = f"{width:,} columns, {height:,} rows and {depth} plane{'s' * (depth > 1)}"
+    most = "an image has at most 16,777,216 columns, as many rows, and as many samples a row (columns times planes)"
+    raise ToolFault(name, f"The result would have {made}; {most}.", "Ask for a smaller result.")

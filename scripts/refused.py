@@ -28,7 +28,7 @@ from places import ROOT, SCRIPTS
 
 from chain_text import read_chain
 from slow_rasters import Image, answer, unpacked
-from slow_tools import is_row_wise, named_tool
+from slow_heads import is_row_wise, named_tool
 from tool_examples import untried
 
 PROGRAM = os.path.join(ROOT, "crates/pnmpipe")

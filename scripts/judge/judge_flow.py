@@ -7,8 +7,9 @@ from array import array
 import judge_rings
 from case_text import changes, numbers_in, text_of
 from chain_text import read_chain
+from slow_heads import named_tool
 from slow_reader import answers, answers_to_all, tell_text
-from slow_tools import named_tool, stage
+from slow_tools import stage
 from slow_writer import Sink, Writer
 
 # so many calls are never made

@@ -7,8 +7,9 @@ from functools import lru_cache
 
 from case_text import Sweep, Together, changes, handed_in, is_row, numbers_in, one_by_one, parts_in, text_of
 from chain_text import ChainFault, read_chain
+from slow_heads import Tool, is_row_wise, named_tool, result_head
 from slow_reader import Fault, tell, tell_head
-from slow_tools import Filter, Tool, is_lawful, is_row_wise, named_tool, printed, result_head, written_tool
+from slow_tools import Filter, is_lawful, printed, written_tool
 
 # the kind of an image, its maxval and its planes; how samples are held is no matter here
 TYPES = [("Bit", 1, 1)] * 3 + [("Pam", 1, 2)] * 3 + [("Pam", 1, 3)] * 3 + [("Gray", 200, 1)] * 2

@@ -1,5 +1,5 @@
 """What each tool makes of images of many or wide rows, and what a run writes and prints, worked out from the manual
-pages as in slow_tools.py and slow_writer.py, but of many bytes at once. Heads and refusals are those of slow_tools.py.
+pages as in slow_tools.py and slow_writer.py, but of many bytes at once. Heads and refusals are those of slow_heads.py.
 test_cases.py compares the samples with what slow_tools.py works out of each sample.
 
 A piece is a pixel or a row: so many bytes. Pieces of one size stand one after another. A function goes over the pieces,
@@ -11,8 +11,9 @@ import typing
 from array import array
 from functools import lru_cache
 
+from slow_heads import kept, result_head
 from slow_reader import Fault
-from slow_tools import keeps_images, kept, result_head
+from slow_tools import keeps_images
 from slow_writer import header, lines_of
 
 NUMERALS = [str(number) for number in range(65_536)]

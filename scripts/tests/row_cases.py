@@ -12,10 +12,10 @@ import typing
 from functools import lru_cache
 
 from chain_text import read_chain
+from slow_heads import named_tool, result_head
 from slow_rasters import Image, answer, unpacked, written
 from slow_reader import MOST_HEADER, Fault
 from slow_reading import BUFFER, STRAIGHT, raw_row
-from slow_tools import named_tool, result_head
 from slow_writer import header
 from tool_examples import untried
 
