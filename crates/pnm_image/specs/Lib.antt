@@ -12,3 +12,4 @@ pub mod Packets
 pub mod Images
 pub mod Completion
 pub mod HeldRows
+pub mod Internal

@@ -1,11 +1,13 @@
 //! Several rows of an image in one.
 
-ghost use Rattle.std.specs.Prelude.{◌≡◌, ℕ, ◌≤◌, ◌<◌, ◌+◌, ◌*◌, ◌↔◌, All, IsTrue, IfOk, length, take, drop, ◌++◌, ◌∷◌};
+ghost use Rattle.std.specs.Prelude.{◌≡◌, ℕ, ◌≤◌, ◌<◌, ◌+◌, ◌-◌, ◌*◌, ◌↔◌, All, IsTrue, IfOk, length, take, drop, ◌++◌, ◌∷◌};
 ghost use Rattle.std.specs.Prelude.{[], IfErr, IsFalse, OnErr, get_or};
 ghost use Rattle.pnm_samples.specs.Cuts.{cut_rows};
 ghost use Rattle.pnm_samples.specs.SampleVecs.{HasWhiteSpare, samples_of, slice_samples};
 ghost use Rattle.pnm_image.specs.HeldRows.{AreRows, AreRowsWithin, AreSliceRows, HasAdded, HoldsSame, row_lists};
 ghost use Rattle.pnm_image.specs.HeldRows.{slice_lists};
+ghost use Rattle.pnm_image.specs.Internal.PickedRows.{AreEvery, HasAddedRow, HasPicked};
+ghost use Rattle.pnm_image.specs.Rows.{every};
 
 use pnm_samples::{BitRows, Bits, SampleSlice, SampleVec, Samples, bytes_to_words};
 use std::alloc::{AllocError, Global};
@@ -69,9 +71,43 @@ impl RowVec {
             _ => Ok(false),
         }
     }
+
+    /// Adds a row behind those that are held. Returns false, and adds nothing, if it isn't held alike.
+    ///
+    /// # Errors
+    ///
+    /// If there is no memory for it. Then nothing has changed.
+    fn append_row(&mut self, row: SampleSlice<'_>) -> Result<bool, AllocError>
+        requires { HasWhiteSpare row }
+        ensures added { IfOk result (λ done. IsTrue done → HasAddedRow self.old (slice_samples row.entry) self.new) }
+        ensures same { IfOk result (λ done. IsFalse done → HoldsSame self.old self.new) }
+        ensures failed { OnErr result (HoldsSame self.old self.new) }
+    {
+        match (self, row) {
+            (RowVec::Bits(rows), SampleSlice::Bits(row, each)) => rows.append_row(row, each),
+            (RowVec::Bytes(bytes), SampleSlice::Bytes(row)) => {
+                bytes.extend_from_slice(row)?;
+                Ok(true)
+            }
+            (RowVec::Words(words), SampleSlice::Words(row)) => {
+                words.extend_from_slice(row)?;
+                Ok(true)
+            }
+            _ => Ok(false),
+        }
+    }
 }
 
 impl RowSlice<'_> {
+    /// How many bytes the rows take as they are held.
+    pub fn bytes(self) -> usize {
+        match self {
+            RowSlice::Bits(rows) => rows.parts().0.len(),
+            RowSlice::Bytes(bytes) => bytes.len(),
+            RowSlice::Words(words) => words.len().saturating_mul(2),
+        }
+    }
+
     /// All samples as words.
     ///
     /// # Errors
@@ -262,6 +298,44 @@ impl Rows {
         Ok(Rows::new(held, self.bound, count, each))
     }
 
+    /// A copy of row `from`, counted from 0, and of every row that comes `step` rows behind one that is copied.
+    ///
+    /// # Errors
+    ///
+    /// If there is no memory for it.
+    pub fn every(&self, alloc: Global, from: u32, step: u32) -> Result<Rows, AllocError>
+        requires from { from < length self.now }
+        requires step { 1 ≤ step }
+        ensures { IfOk result (λ rows. rows ≡ every from (step - 1) self.now) }
+    {
+        let many = (self.count - from).div_ceil(step);
+        let held = every_of(alloc, &self.held, self.row_length, from, step, many)?;
+        Ok(Rows::new(held, self.bound, many, self.row_length))
+    }
+
+    /// Adds row `at` of others, counted from 0, behind these. Returns false, and adds nothing, if it isn't as long, or
+    /// isn't held alike, or if there are too many rows.
+    ///
+    /// # Errors
+    ///
+    /// If there is no memory for it. Then nothing has changed.
+    pub fn append_row(&mut self, more: &Rows, at: u32) -> Result<bool, AllocError>
+        requires { at < length more.now }
+        ensures added { IfOk result (λ done. IsTrue done → self.new ≡ self.old ++ get_or more.now at [] ∷ []) }
+        ensures same { IfOk result (λ done. IsFalse done → self.new ≡ self.old) }
+        ensures failed { OnErr result (self.new ≡ self.old) }
+    {
+        if more.row_length != self.row_length || self.count == u32::MAX {
+            return Ok(false);
+        }
+        let is_added = self.held.append_row(more.row_slice(at))?;
+        if is_added {
+            self.count += 1;
+            self.bound = self.bound.max(more.bound);
+        }
+        Ok(is_added)
+    }
+
     /// The rows as they are held, the number of rows, and the number of samples in each, without a copy.
     pub fn into_parts(self) -> (RowVec, u32, usize)
         ensures rows { self ≡ row_lists result.1 result.2 result.0 }
@@ -323,6 +397,67 @@ fn part_of(
             Ok(RowVec::Words(part))
         }
     }
+}
+
+/// Of rows of `each` samples, a copy of row `from` and of those that come `step`, twice `step`, .. rows behind it,
+/// `many` in all.
+///
+/// # Errors
+///
+/// If there is no memory for it.
+fn every_of(
+    alloc: Global,
+    held: &RowVec,
+    each: usize,
+    from: u32,
+    step: u32,
+    many: u32,
+) -> Result<RowVec, AllocError>
+    requires { (count : ℕ) × AreRows count each held.now × AreEvery count from step many }
+    ensures whole { IfOk result (λ rows. AreRows many each rows) }
+    ensures rows { (count : ℕ) → AreRows count each held.now → AreEvery count from step many
+        → IfOk result (λ rows. row_lists many each rows ≡ every from (step - 1) (row_lists count each held.now)) }
+{
+    match held {
+        RowVec::Bits(rows) => {
+            let bytes = every_run(alloc, rows.parts().0, each.div_ceil(8), from, step, many)?;
+            Ok(RowVec::Bits(BitRows::new(bytes, many as usize, each)))
+        }
+        RowVec::Bytes(bytes) => {
+            let bytes = every_run(alloc, bytes.as_slice(), each, from, step, many)?;
+            Ok(RowVec::Bytes(bytes))
+        }
+        RowVec::Words(words) => {
+            let words = every_run(alloc, words.as_slice(), each, from, step, many)?;
+            Ok(RowVec::Words(words))
+        }
+    }
+}
+
+/// Of runs of `each`, a copy of run `from` and of those that come `step`, twice `step`, .. runs behind it, `many` in
+/// all.
+///
+/// # Errors
+///
+/// If there is no memory for it.
+fn every_run<T: Copy>(
+    alloc: Global,
+    runs: &[T],
+    each: usize,
+    from: u32,
+    step: u32,
+    many: u32,
+) -> Result<Vec<T>, AllocError>
+    requires { (count : ℕ) × (length runs.now ≡ count * each) × AreEvery count from step many }
+    ensures { IfOk result (λ picked. HasPicked many each from step runs.now picked.items) }
+{
+    let (from, step, many) = (from as usize, step as usize, many as usize);
+    let mut picked = Vec::with_capacity(alloc, many * each)?;
+    for at in 0..many {
+        let start = (from + at * step) * each;
+        picked.extend_from_slice(&runs[start..start + each])?;
+    }
+    Ok(picked)
 }
 
 /// A copy of samples.

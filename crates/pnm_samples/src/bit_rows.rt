@@ -150,6 +150,30 @@ impl BitRows {
         Ok(true)
     }
 
+    /// Adds a row of `each` pixels at the end, which the bytes hold. Returns false, and adds nothing, if these rows were
+    /// made with another row length.
+    ///
+    /// # Errors
+    ///
+    /// If there is no memory for it, or if a `usize` can't hold the number of rows. Then nothing is changed.
+    pub fn append_row(&mut self, row: &[u8], each: usize) -> Result<bool, AllocError>
+        requires { ArePacked each row.now }
+        ensures added { IfOk result (λ done. IsTrue done
+            → self.new ≡ self.old ++ take each (all_pixels row.now) ∷ []) }
+        ensures same { IfOk result (λ done. IsFalse done → self.new ≡ self.old) }
+        ensures failed { OnErr result (self.new ≡ self.old) }
+    {
+        if each != self.each {
+            return Ok(false);
+        }
+        let Some(count) = self.count.checked_add(1) else {
+            return Err(AllocError);
+        };
+        self.bytes.extend_from_slice(row)?;
+        self.count = count;
+        Ok(true)
+    }
+
     /// Exchanges black and white, in place.
     pub fn invert(&mut self)
         ensures { self.new ≡ map (map (λ s. 1 - s)) self.old }

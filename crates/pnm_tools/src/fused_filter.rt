@@ -108,11 +108,10 @@ impl<F: Filter + Drop> FusedFilter<F> {
             → FilterAt F.at F.all_given F.stopped self.new tool
             (l ++ (messages_in packet ++ unfed_in unfed.old)) g }
     {
-        let Ok((first, more)) = packet.split_first(alloc) else {
+        let Ok(first) = unfed.first_of(alloc, packet) else {
             self.refuse(ToolFault::Memory);
             return false;
         };
-        unfed.apart = more;
         match self.feed(first) {
             Ok(()) => true,
             Err(_) => unreachable!(),

@@ -34,7 +34,7 @@ impl Unfed {
     ///
     /// If there is no memory for the copies.
     #[inline(always)]
-    pub(crate) fn next(&mut self, alloc: Global) -> Result<Option<Packet>, AllocError>
+    pub fn next(&mut self, alloc: Global) -> Result<Option<Packet>, AllocError>
         ensures taken { IfOk result (λ next. unfed_in self.old ≡ packet_list next ++ unfed_in self.new) }
         ensures some { IfOk result (λ next. IfSome next (λ packet. 1 ≤ length (messages_in packet))) }
         ensures none { IfOk result (λ next. IfNone next (unfed_in self.old ≡ [])) }
@@ -54,6 +54,23 @@ impl Unfed {
             return self.next_copies(alloc, packet);
         }
         Ok(Some(packet))
+    }
+
+    /// Takes the first message of several that came next; the others come then.
+    ///
+    /// # Errors
+    ///
+    /// If there is no memory for a copy of rows.
+    #[inline(always)]
+    pub fn first_of(&mut self, alloc: Global, packet: Packet) -> Result<Packet, AllocError>
+        requires { self.old.apart ≡ None }
+        ensures parts { IfOk result (λ first.
+            messages_in packet ++ unfed_in self.old ≡ messages_in first ++ unfed_in self.new) }
+        ensures one { IfOk result (λ first. length (messages_in first) ≡ 1) }
+    {
+        let (first, more) = packet.split_first(alloc)?;
+        self.apart = more;
+        Ok(first)
     }
 
     /// The next copies of a part whose rows repeat; what is left of it comes then.

@@ -1,0 +1,2 @@
+-- Words that no contract of an exported function reaches.
+pub mod PickedRows
