@@ -16,6 +16,7 @@ use Rattle.pnm_image.specs.declared.rows.RowVec.{RowVec}
 use Rattle.pnm_image.specs.declared.rows.RowVec.TheVariants.{Bits, Bytes, Words}
 use Rattle.pnm_image.specs.declared.rows.RowSlice.{RowSlice}
 use Rattle.pnm_image.specs.HeldRows.{AreRows, AreRowsWithin, HasAdded, row_lists}
+use Rattle.pnm_image.specs.Internal.PickedRows.{HasAddedRow}
 use Rattle.pnm_image.proofs.RowLaws.{lengths_of_cut_rows, row_ends_within}
 
 -- there are as many as it says
@@ -173,6 +174,28 @@ pub added_as : (old other new next : RowVec) (more lent : RowSlice) → old ≡ 
 added_as old other new next more lent olds news mores h =
     subst (λ (o : RowVec). HasAdded o more new) (sym olds)
     (subst (λ (n : RowVec). HasAdded other more n) (sym news) (subst (λ (m : RowSlice). HasAdded other m next) (sym mores) h))
+
+-- a row behind others
+pub cut_row_behind : (count each : ℕ) (held row both : List ℕ) → both ≡ held ++ row → length held ≡ count * each → length row ≡ each
+    → (cut_rows (count + 1) each both ≡ cut_rows count each held ++ row ∷ []) × (length both ≡ (count + 1) * each)
+cut_row_behind count each held row both is long also =
+    let behind = cut_behind count 1 each held row both is long (omega (arith, also)) in
+    let whole : take each row ≡ row = take_all each row (omega (arith, also)) in (
+      behind.0 ∙ ap (λ (r : List ℕ). cut_rows count each held ++ r ∷ []) whole,
+      behind.1,
+    )
+
+pub bits_row_behind : (count each : ℕ) (held : List (List ℕ)) (row : List ℕ) (both : List (List ℕ)) → both ≡ held ++ row ∷ []
+    → (length held ≡ count) × All (λ row. length row ≡ each) held → length row ≡ each
+    → (both ≡ held ++ row ∷ []) × ((length both ≡ count + 1) × All (λ row. length row ≡ each) both)
+bits_row_behind count each held row both is h also =
+    let P : List ℕ → Type 0 = λ row. length row ≡ each in
+    bits_behind count 1 each held (row ∷ []) both is h (refl, All-cons P row [] also (All-nil P))
+
+-- what is so of rows that are held is so of them by other names
+pub row_added_as : (old other new next : RowVec) (row : List ℕ) → old ≡ other → new ≡ next → HasAddedRow other row next → HasAddedRow old row new
+row_added_as old other new next row olds news h =
+    subst (λ (o : RowVec). HasAddedRow o row new) (sym olds) (subst (λ (n : RowVec). HasAddedRow other row n) (sym news) h)
 
 -- ---- rows of pixels
 

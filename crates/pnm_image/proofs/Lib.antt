@@ -3,6 +3,7 @@ pub mod Heads
 pub mod HeldRowLaws
 pub mod Lists
 pub mod PartLaws
+pub mod PickedLaws
 pub mod Places
 pub mod RepeatLaws
 pub mod RowLaws

@@ -1,5 +1,5 @@
 -- A stage that is fed: it takes the messages, refuses them, or drops them.
-use Rattle.pnm_tools.proofs.Words.{◌≡◌, inl, inr, ℕ, Bool, true, List, [], ◌∷◌, ◌++◌, Option, None, Ok, Err, refl, sym, ap, subst, ◌∙◌, append_assoc, Message}
+use Rattle.pnm_tools.proofs.Words.{◌≡◌, inl, inr, Bool, List, [], ◌∷◌, ◌++◌, Option, None, Ok, Err, refl, ap, subst, ◌∙◌, append_assoc, Message}
 use Rattle.pnm_tools.proofs.Words.{Begin, Row, ImageEnd, StreamEnd, Stop, ToolFault, Tool, JudgesAll, RefusesFirst, AreTaken, IsRefusedNext, HasRefused, IsIdle}
 use Rattle.pnm_tools.proofs.Words.{IsBusy}
 

@@ -1,5 +1,4 @@
-use Rattle.std.proofs.Common.{◌≡◌, ◌++◌, Option, None, rules}
-use Rattle.pnm_image.specs.Heads.{HeadValue}
+use Rattle.std.proofs.Common.{◌≡◌, ◌++◌, None, rules}
 use Rattle.pnm_image.specs.Packets.{packet_list}
 use Rattle.pnm_image.specs.Parts.{part_list}
 use Rattle.pnm_image.specs.Rows.{rows_list}

@@ -1,5 +1,4 @@
-use Rattle.std.proofs.Common.{◌≡◌, ◌≤◌, ◌+◌, ◌*◌, ◌∙◌, ℕ, List, length, arith, subst, refl}
-use Rattle.std.specs.List.{AllByRecursion}
+use Rattle.std.proofs.Common.{◌≡◌, ◌≤◌, ◌+◌, ◌*◌, ℕ, length, arith, subst, refl}
 use Rattle.pnm_image.specs.Places.{IsRowOf}
 use Rattle.pnm_image.specs.Repeats.{repeated}
 use Rattle.pnm_image.proofs.Places.{rows_lead, rows_lead_nowhere, rows_lie_inside}

@@ -1,4 +1,4 @@
-use Rattle.std.proofs.Common.{◌≡◌, ◌≤◌, ℕ, List, length, subst, arith}
+use Rattle.std.proofs.Common.{◌≤◌, ℕ, List, length, subst, arith}
 use Rattle.pnm_image.proofs.RepeatLaws.{repeated_several}
 use Rattle.pnm_image.proofs.repeated_rows.RepeatedRows.are_several.Goals as goal
 

@@ -1,5 +1,5 @@
 use Rattle.pnm_tools.proofs.Words.{◌++◌, ap, is_some, messages_in, unfed_in}
-use Rattle.pnm_tools.proofs.UnfedSteps.{behind_message, lacks_memory}
+use Rattle.pnm_tools.proofs.UnfedSteps.{lacks_memory}
 use Rattle.pnm_tools.proofs.fused_filter.FusedFilter.feed_first.Goals as goal
 
 -- there is no memory for the first message by itself
@@ -12,6 +12,6 @@ returns-in_default-clause-dropped g c = λ _ tool l given stage more.
 pub returns-clause-fed : goal.returns-clause-fed
 returns-clause-fed g c = λ _. record {
   fed = messages_in c.in-Ok.first;
-  parts = behind_message c.args.unfed.now (messages_in c.args.packet) (messages_in c.in-Ok.first) c.in-Ok.more c.requires.apart c.in-Ok.ensures.parts;
+  parts = c.in-Ok.ensures.parts;
   busy = c.in-Ok-feed.ensures.fed;
 }
