@@ -29,22 +29,26 @@ REFUSED := pnm_unit_tests pnm_flow_tests pnmpipe
 # how long `make soak` starts runs
 SECONDS ?= 60
 
-# the crates that the program stands on, side by side where they can be, and the program, as bin/pnmpipe; the tests, their
-# crates, the edits and the soak are left to `make check`
+## make                 proves the crates that the program stands on, builds it and leaves it as bin/pnmpipe
 all: toolchain
 	python3 scripts/build.py
 
-# the same with the crates that the C library stands on, and the library, as bin/libpnmpipe.a, bin/libpnmpipe.so.1 and
-# bin/pnmpipe.h
+## make library         does what make does, and beside it the same for the C library, as bin/libpnmpipe.a and
+##                      bin/libpnmpipe.so.1, with bin/pnmpipe.h
 library: toolchain
 	python3 scripts/build.py library
 
-# crates that were changed, CRATES="..": in minutes, over what earlier checks kept; and from nothing, as the gate judges them
+## make near CRATES=..  tries changed crates in minutes: layout, proof, edits that must fail and their controls, tests
+##                      as they stand, and the crates above
+## make pass CRATES=..  proves changed crates, their tests and edits from nothing, as the gate does, with what they
+##                      stand on
 near pass: toolchain
 	python3 scripts/change.py $@ $(CRATES)
 
-# the whole gate, how long it took by the clock and of all processors, and the last lines of `rt ci` and of the edits; sh
-# has no `time`
+## make check           the whole gate: every proof, the edits that must fail and their controls, the tests, the
+##                      stored runs and commands, refused allocations, silent inputs, small stacks, the C library,
+##                      scripts and pages, the model
+# (sh has no `time`)
 check: SHELL := bash
 check: toolchain
 	TIMEFORMAT='gate: %lR, and %lU + %lS of all processors'; { time $(MAKE) --no-print-directory gate; } 2>&1
@@ -69,17 +73,20 @@ gate:
 	python3 scripts/cases.py
 	python3 model/check.py --where-installed
 
-# what completions, stand-ins and the C library have of the table of tools, the programs' options and the faults' numbers
+## make tables          writes what completions, stand-ins and the C library have of the table of tools, the programs'
+##                      options and the faults' numbers
 tables:
 	python3 scripts/tables.py
 
-# what is written: the layout, lengths, what documents, pages and completions claim, and whether scripts can be read
+## make lint            checks what is written: the layout, lengths, what documents, pages and completions claim, and
+##                      whether scripts can be read
 lint:
 	python3 scripts/lint.py
 
-# lint, and the stored cases, the stored commands, rows of all sizes, the helpers, the pages' examples and pictures, and
-# whether functions have changed that the model restates: in some minutes, and with what is installed
 BUILT ?= bin/pnmpipe
+## make scripts         does what make lint does, and tries the stored cases and commands, rows of all sizes, the
+##                      helpers, the pages' examples and pictures, with the program that make has left, and whether
+##                      functions have changed that the model restates
 scripts: lint
 	python3 scripts/tests/test_lint.py
 	python3 scripts/tests/test_cases.py
@@ -101,15 +108,16 @@ scripts: lint
 	python3 model/functions.py
 	python3 model/test_functions.py
 
-# the model of how threads wait, searched for small sizes; the big ones too: make model ALL=1
+## make model           searches the model of how threads wait, for small sizes, with spin and gcc; ALL=1: for bigger
+##                      ones too
 model:
 	python3 model/check.py $(if $(ALL),--all)
 
 built:
 	@test -x $(BUILT) || { echo "there is no $(BUILT): run make first" >&2; exit 1; }
 
-# the program that make has left, its pages, the completions, the helpers, and the stand-ins for Netpbm's tools; and the
-# C library, where make library has left it
+## make install         installs the program that make has left, and the C library that make library has left, below
+##                      PREFIX=/usr/local; make uninstall takes it away
 install: built
 	install -d "$(DESTDIR)$(BINDIR)" "$(DESTDIR)$(MANDIR)/man1" "$(DESTDIR)$(SHIMDIR)"
 	install -d "$(DESTDIR)$(COMPLETIONDIR)" "$(DESTDIR)$(ZSHDIR)" "$(DESTDIR)$(FISHDIR)"
@@ -139,7 +147,7 @@ install-library:
 	umask 022; sed -e 's|@PREFIX@|$(PREFIX)|' -e 's|@LIBDIR@|$(LIBDIR)|' -e "s|@VERSION@|$$(cat VERSION)|" \
 		library/pnmpipe.pc.in > "$(DESTDIR)$(LIBDIR)/pkgconfig/pnmpipe.pc"
 
-# a wheel of the Python module, with the C library that make library has left, in dist/
+## make wheel           leaves a wheel of the Python module, with the C library that make library has left, in dist/
 wheel:
 	python3 scripts/wheel.py
 
@@ -154,97 +162,77 @@ uninstall:
 	for name in $(SHIMS); do rm -f "$(DESTDIR)$(SHIMDIR)/$$name"; done
 	for folder in /netpbm /pnmpipe ''; do folder="$(DESTDIR)$(LIBEXECDIR)/pnmpipe$$folder"; test ! -d "$$folder" || rmdir "$$folder"; done
 
-# archives of the source and of the built program, and Debian packages, in dist/
+## make dist, make deb  archives, and Debian packages (by debhelper), of what make and make library have left, in
+##                      dist/
 dist deb: built
 	sh scripts/package.sh $@
 
-# the pictures of the documents, made anew by the program that make has left, and by gnuplot from docs/figures.tsv
+## make pictures        makes the pictures of the documents anew
 pictures: built
 	python3 scripts/pictures.py
 
-# each block of docs/RECIPES.md, with the real programs
+## make recipes         runs each block of docs/RECIPES.md, with the programs that are installed
 recipes: built
 	python3 scripts/recipes.py
 
-# whether the program that make has left works: the stored commands, rows of all sizes beside what the judge works out, and
-# the pages' examples; nothing is proved
+## make test            whether the program that make has left works: the stored commands, rows of all sizes, the
+##                      pages' examples; no proof
 test: built
 	python3 scripts/tests/test_commands.py --program $(BUILT)
 	python3 scripts/tests/test_rows.py --program $(BUILT)
 	python3 scripts/tests/test_pages.py --program $(BUILT)
 
-# the program that make has left beside Netpbm's own tools, where these are installed: a table, for a quiet machine, and
-# the figures of the documents, which `make scripts` then wants in their tables
+## make bench           times the program that make has left beside Netpbm's own tools, on large images, narrow rows
+##                      and small images, and writes docs/figures.tsv
 bench:
 	for table in tools turns plain narrow curves; do python3 bench/bench.py $$table --figures docs/figures.tsv || exit 1; done
 
-# all tools by kinds of images and by options, beside Netpbm's own: which pairs take more processor time than these
+## make bench-sweep     all tools by kinds of images and by options, and which take more processor time than Netpbm's
 bench-sweep:
 	python3 bench/bench.py sweep
 
-# many files in each way, beside Netpbm: a table, for a quiet machine, with what make and make library have left
+## make bench-files     times many files in each way, beside Netpbm's own tools
 bench-files:
 	python3 bench/bench.py files
 
-# the program that make has left beside busy processes on its processors, and Netpbm's tools: a table, for a quiet machine
+## make bench-waits     times the program that make has left beside busy processes on its processors, and Netpbm's own
+##                      tools
 bench-waits:
 	python3 bench/bench.py waits
 
-# calls of the C library that make library has left, in C and in Python, beside a process of pnmpipe a file, Pillow, numpy
-# and libvips: a table, for a quiet machine
+## make bench-library   times calls of the C library beside a process a file, Pillow, numpy and libvips, and its
+##                      streams
 bench-library:
 	python3 bench/bench.py library
 	python3 bench/bench.py streams
 
-# the program that make has left with 1, 2, 4 and 8 lanes: a table, for a quiet machine
+## make lanes           times the program that make has left with 1, 2, 4 and 8 lanes
 lanes:
 	python3 bench/bench.py lanes
 
-# a stream of 4 GiB through the program that make has left, in constant memory
+## make long-stream     passes a stream of 4 GiB through the program that make has left, and wants less than 32 MB of
+##                      memory
 long-stream:
 	sh scripts/long_stream.sh
 
-# each allocation and each start of a thread refused in turn, of the program that make has left and of tests
+## make refused         refuses each allocation and each start of a thread in turn, of the program that make has left
+##                      and of tests
 refused: toolchain
 	for crate in $(REFUSED); do (cd crates/$$crate && rt test) || exit 1; done
 	python3 scripts/refused.py growth start silent tests
 
-# random chains over random texts, by the C library and by the program that make and make library have left
+## make soak-library    runs 100,000 random cases by the C library and by the program, and compares
 soak-library: built
 	python3 scripts/soak_library.py
 
-# random chains over random streams, by the program that make has left, between slow neighbours and stopped by signals at
-# times, beside the C library, where make library has left one, which runs in one thread
+## make soak SECONDS=n  runs random chains over random streams for n seconds, between slow neighbours and signals that
+##                      stop the program, beside the C library if make library has left one
 soak: built
 	python3 scripts/soak.py --program $(BUILT) --seconds $(SECONDS)
 
 toolchain:
 	@$(if $(shell command -v rt),:,$(error the command rt of the Rattle toolchain is not on the PATH))
 
+## make help            this list
 help:
-	@echo "make                 proves the crates that the program stands on, builds it and leaves it as bin/pnmpipe"
-	@echo "make library         does what make does, and beside it the same for the C library, as bin/libpnmpipe.a and bin/libpnmpipe.so.1, with bin/pnmpipe.h"
-	@echo "make near CRATES=..  tries changed crates in minutes: layout, proof, edits that must fail and their controls, tests as they stand, and the crates above"
-	@echo "make pass CRATES=..  proves changed crates, their tests and edits from nothing, as the gate does, with what they stand on"
-	@echo "make test            whether the program that make has left works: the stored commands, rows of all sizes, the pages' examples; no proof"
-	@echo "make check           the whole gate: every proof, the edits that must fail and their controls, the tests, the stored runs and commands, refused allocations, silent inputs, small stacks, the C library, scripts and pages, the model"
-	@echo "make bench           times the program that make has left beside Netpbm's own tools, on large images, narrow rows and small images, and writes docs/figures.tsv"
-	@echo "make bench-sweep     all tools by kinds of images and by options, and which take more processor time than Netpbm's"
-	@echo "make bench-files     times many files in each way, beside Netpbm's own tools"
-	@echo "make bench-waits     times the program that make has left beside busy processes on its processors, and Netpbm's own tools"
-	@echo "make bench-library   times calls of the C library beside a process a file, Pillow, numpy and libvips, and its streams"
-	@echo "make lanes           times the program that make has left with 1, 2, 4 and 8 lanes"
-	@echo "make long-stream     passes a stream of 4 GiB through the program that make has left, and wants less than 32 MB of memory"
-	@echo "make refused         refuses each allocation and each start of a thread in turn, of the program that make has left and of tests"
-	@echo "make soak SECONDS=n  runs random chains for n seconds, between slow neighbours and signals that stop them, beside the C library if there is one"
-	@echo "make soak-library    runs 100,000 random cases by the C library and by the program, and compares"
-	@echo "make tables          writes what completions, stand-ins and the C library have of the table of tools, the programs' options and the faults' numbers"
-	@echo "make lint            checks what is written: the layout, lengths, what documents, pages and completions claim, and whether scripts can be read"
-	@echo "make scripts         does what make lint does, and runs the tests of the stored commands, of rows of all sizes, the helpers and the pages, with the program that make has left"
-	@echo "make model           searches the model of how threads wait, for small sizes, with spin and gcc; ALL=1: for bigger ones too"
-	@echo "make wheel           leaves a wheel of the Python module, with the C library that make library has left, in dist/"
-	@echo "make install         installs the program that make has left, and the C library that make library has left, below PREFIX=/usr/local; make uninstall takes it away"
-	@echo "make dist, make deb  archives, and Debian packages (by debhelper), of what make and make library have left, in dist/"
-	@echo "make pictures        makes the pictures of the documents anew"
-	@echo "make recipes         runs each block of docs/RECIPES.md, with the programs that are installed"
-	@echo "make help            this list"
+	@sed -n 's/^## //p' Makefile

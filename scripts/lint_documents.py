@@ -280,7 +280,7 @@ WITHIN = {"all", "built", "gate", "install-library", "toolchain"}
 
 
 def faults_of_help(known):
-    told = set(re.findall(r"make ([a-z-]+)", " ".join(re.findall(r'@echo "(.*)"', read("Makefile")))))
+    told = set(re.findall(r"make ([a-z-]+)", " ".join(re.findall(r"^## (.*)", read("Makefile"), re.M))))
     for goal in sorted(known - WITHIN - told):
         yield f"make help lacks make {goal}"
 
