@@ -20,8 +20,9 @@ HERE = os.path.dirname(os.path.abspath(__file__))
 ROOT = os.path.dirname(HERE)
 LIST = os.path.join(HERE, "functions.txt")
 
-FUNCTION = re.compile(r"( *)(?:pub(?:\([a-z]+\))? )?(?:const )?(?:unsafe )?fn (\w+)")
-CLAUSE = re.compile(r" *(requires|ensures)\b")
+sys.path.append(os.path.join(ROOT, "scripts"))
+
+import rust_places  # pylint: disable=wrong-import-position
 
 
 def without_comments(text):
@@ -30,53 +31,18 @@ def without_comments(text):
     return part.sub(lambda found: found[0] if found[0].startswith('"') else "", text)
 
 
-def without_clauses(lines):
-    """A function's lines without contracts, its own and those of its closures: each ends before the line that begins by
-    the brace of the body."""
-    kept, is_clause = [], False
-    for line in lines:
-        is_clause = CLAUSE.match(line) is not None or (is_clause and not line.strip().startswith("{"))
-        if not is_clause:
-            kept.append(line)
-    return kept
-
-
 def joined(lines):
     """Lines of code as one, without the blanks and the commas that only lay it out."""
     code = re.sub(r" ?([^\w ]) ?", r"\1", " ".join(" ".join(lines).split()))
     return re.sub(r",(?=[)\]}>])", "", code)
 
 
-def owner_of(header):
-    """The type of an impl, of which this is all before its brace."""
-    if " for " in header:
-        header = header.rpartition(" for ")[2]
-    else:
-        header = re.sub(r"^impl(<.*?>(?= \w))?", "", header)
-    return re.match(r" *(\w*)", header)[1]
-
-
 def functions(text):
-    """The name of each function of a source that rt fmt has laid out, with that of its type, and its code."""
-    lines = without_comments(text).split("\n")
-    owner = ""
-    for number, line in enumerate(lines):
-        if line.startswith(("impl ", "impl<")):
-            brace = next(at for at in range(number, len(lines)) if lines[at].endswith("{"))
-            owner = owner_of(" ".join(it.strip() for it in lines[number : brace + 1])) + "::"
-        elif line == "}":
-            owner = ""
-        found = FUNCTION.match(line)
-        if not found:
-            continue
-        rest = range(number, len(lines))
-        begin = next((at for at in rest if lines[at].endswith(("{", "{}", ";"))), number)
-        if lines[begin].endswith(";"):
-            continue  # what a trait declares
-        end = next((at for at in rest if lines[at] in (found[1] + "}", found[1] + "{}")), len(lines))
-        if lines[begin].endswith("{}"):
-            end = begin
-        yield (owner if found[1] else "") + found[2], joined(without_clauses(lines[number : end + 1]))
+    """The name of each function of a source, with that of its type, and its code."""
+    for it in rust_places.functions(text):
+        begin = text.rfind("\n", 0, it.start) + 1
+        lines = without_comments(text[begin : it.end]).split("\n")
+        yield f"{it.owner}::{it.name}" if it.owner else it.name, joined(rust_places.without_clauses(lines))
 
 
 def sum_of(code):

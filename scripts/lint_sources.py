@@ -12,43 +12,18 @@ import shutil
 import subprocess
 
 from places import ROOT
+from rust_places import functions, without_clauses
 
 COLUMNS, COLUMNS_OF_PROOFS, LINES, LINES_OF_BODY = 120, 160, 500, 40
 
 LONG_TEXT = re.compile(r'"(?:[^"\\]|\\.){60,}"')
-FUNCTION = re.compile(r"( *)(?:pub(?:\([a-z]+\))? )?(?:const )?(?:unsafe )?fn (\w+)")
 
 
-def without_clauses(lines):
-    """A body without the clauses of its closures, which end before the brace that stands alone."""
-    kept, is_clause = [], False
-    for line in lines:
-        is_clause = (is_clause and line.strip() != "{") or re.match(r" *(requires|ensures)\b", line) is not None
-        if not is_clause:
-            kept.append(line)
-    return kept
-
-
-def bodies(lines):
+def bodies(text):
     """The name of each function, the number of its first line, and how many lines its body has."""
-    for number, line in enumerate(lines):
-        found = FUNCTION.match(line)
-        if not found:
-            continue
-        indent = found[1]
-        begins = None
-        for at in range(number, len(lines)):
-            text = lines[at]
-            # clauses stand further in than the brace that begins the body
-            if begins is None and (text == indent + "{" or (at == number and text.endswith("{"))):
-                begins = at
-            elif begins is None and text.startswith(indent + ")") and text.endswith("{"):
-                begins = at
-            elif text == indent + "}" and begins is not None:
-                yield found[2], number + 1, len(without_clauses(lines[begins + 1 : at]))
-                break
-            elif begins is None and at > number and FUNCTION.match(text):
-                break
+    for it in functions(text):
+        inside = text[it.body : it.end].split("\n")[1:-1]
+        yield it.name, text.count("\n", 0, it.start) + 1, len(without_clauses(inside))
 
 
 def findings(path, text):
@@ -63,7 +38,7 @@ def findings(path, text):
         if len(line) > limit and not LONG_TEXT.search(line):
             yield f"{path}:{number} has {len(line)} columns, more than {limit}"
     if path.endswith(".rt"):
-        for name, number, count in bodies(lines):
+        for name, number, count in bodies(text):
             if count > LINES_OF_BODY:
                 yield f"{path}:{number}: the body of {name} has {count} lines, more than {LINES_OF_BODY}"
 

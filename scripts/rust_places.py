@@ -103,6 +103,17 @@ def functions(text):
             yield Function(found[1], owner, trait, found.start(), *body)
 
 
+def without_clauses(lines):
+    """Lines of code without contracts, those of closures too: each ends before the line that begins by the brace of the
+    body."""
+    kept, is_clause = [], False
+    for line in lines:
+        is_clause = re.match(r" *(requires|ensures)\b", line) or is_clause and not line.strip().startswith("{")
+        if not is_clause:
+            kept.append(line)
+    return kept
+
+
 def begin_of(text, function):
     """Where a function begins, with its attributes and its docstring."""
     at = text.rfind("\n", 0, function.start) + 1
