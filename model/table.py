@@ -216,7 +216,7 @@ edit("lanes.pml", "CAP=1 COARSE MOST_ROWS=0 NO_FAULTS AWAITS M_NO_WAKE_BEFORE_IN
 edit("lanes.pml", f"{BARE} MOST_ROWS=4 M_NO_DRAIN_AT_REFUSAL", "a lane that refuses doesn't drain its input",
      "stage.rt, break_off: without input.drain_after(..)", is_big=True)
 edit("lanes.pml", f"{BARE} MOST_ROWS=3 M_NO_STOP_TO_LANES", "a dealer that breaks off sends no Stop",
-     "dealing.rt, break_off: without send_each(Stop)", is_big=True)
+     "dealing.rt, break_off: without send_end(..)", is_big=True)
 edit("lanes.pml", "CAP=1 COARSE HOLDS=0 MOST_ROWS=1 M_NO_DRAIN_BY_DEALER",
      "a dealer that breaks off doesn't drain its input",
      "dealing.rt, break_off: without input.drain_after(..)", is_big=True)

@@ -1,13 +1,14 @@
 -- How dealing is broken off.
 use Rattle.pnm_lanes.proofs.Words.{◌≡◌, ◌⊎◌, inl, inr, ℕ, Bool, true, false, List, [], ◌∷◌, ◌++◌, length, Option, None, Some, refl, sym, ap, subst, ◌∙◌}
-use Rattle.pnm_lanes.proofs.Words.{append_assoc, append-nil, AllByRecursion, Packet, Sender, messages_in, sent, Message, Stop, Place, Between, IsMessage}
-use Rattle.pnm_lanes.proofs.Words.{ending_of, EndsBy, Accepts, IsLawful, place_of, same_first, lawful_more, next_may_come, place_of-append, OutOfOrder, Memory}
-use Rattle.pnm_lanes.proofs.Words.{Ending, More, Whole, BrokenOff, dealt_message, dealt, both_all, EndNothing, ends_after, StageEnd, Fault, PeerGone}
+use Rattle.pnm_lanes.proofs.Words.{append_assoc, append-nil, AllByRecursion, Packet, Sender, messages_in, Message, Stop, Place, Between, IsMessage}
+use Rattle.pnm_lanes.proofs.Words.{EndsBy, Accepts, IsLawful, IsLawfulFrom, place_of, same_first, next_may_come, ToolFault, IsRefused, place_of-append}
+use Rattle.pnm_lanes.proofs.Words.{OutOfOrder, Memory}
+use Rattle.pnm_lanes.proofs.Words.{Ending, More, Whole, BrokenOff, dealt, both_all, EndNothing, ends_after, StageEnd, Fault, PeerGone}
 use Rattle.pnm_lanes.proofs.Words.{IsLongestLawfulPrefix, IsEnded, EndsAtMostOnce, HasDrainedAfter, prefix_goes_on, ends_nothing, same_output, AtEach}
 use Rattle.pnm_lanes.proofs.Words.{HasReceivedSo, HasSentSo, HasLane, HasDealt, part_at, IsSentPart, HasBrokenOffDealing, HasDealtAll, IsReason, HasLeftOff}
 use Rattle.pnm_lanes.proofs.Words.{HasDealtMessages}
 use Rattle.pnm_lanes.proofs.EachLaws.{each-map, each-then}
-use Rattle.pnm_lanes.proofs.MessageSteps.{all_then, dealt_then}
+use Rattle.pnm_lanes.proofs.MessageSteps.{all_then, lawful_both, dealt_then}
 use Rattle.pnm_lanes.proofs.DealSteps.{HasAll, IsDealing, parts_of, HasPrefix, all_is_prefix, part_is_prefix, IsAccepted, all_accepted}
 use Rattle.pnm_lanes.proofs.DealSteps.{accepted_more, whole_lane, sent_lane, lost_lane}
 
@@ -161,70 +162,74 @@ ends_so end ending unstopped {received_old} {received_new} {left} {olds} nows {n
 
 -- ---- where it is broken off
 
--- messages were received that end so, those before one of them were dealt, and that one wasn't, or not to each lane
+-- messages were received that end so, those before some of them were dealt, and these weren't, or not to each lane
 pub record IsInterrupted (end : StageEnd) (ending : Ending) (received_old received_now : List Message) (olds news : List Sender) : Type 0 where
   pub took : List Message
   pub before : List Message
   pub at : Message
+  pub more : List Message
   pub after : List Message
   pub input : received_now ≡ received_old ++ took
   pub messages : AllByRecursion IsMessage took
   pub ends : EndsBy ending took
-  pub parts : took ≡ before ++ at ∷ after
+  pub parts : took ≡ before ++ at ∷ (more ++ after)
   pub goes : EndsBy More before
   pub nows : List Sender
   pub dealt : HasDealtAll Between before olds nows
-  pub reason : IsReason end (place_of Between before) at nows news
+  pub reason : IsReason end (place_of Between before) at more nows news
 
-goes_within : (before : List Message) (m : Message) (after : List Message) → EndNothing (before ++ m ∷ after) → ending_of m ≡ More
-goes_within [] m after nothing = nothing.0
-goes_within (n ∷ before) m after nothing = goes_within before m after nothing.1
+goes_within : (before l after : List Message) → EndNothing (before ++ (l ++ after)) → EndNothing l
+goes_within [] [] after nothing = tt
+goes_within [] (m ∷ l) after nothing = (nothing.0, goes_within [] l after nothing.1)
+goes_within (n ∷ before) l after nothing = goes_within before l after nothing.1
 
-with_message : (took before : List Message) (m : Message) (after : List Message) → took ≡ before ++ m ∷ after → IsLawful before
-    → Accepts (place_of Between before) m → IsAccepted (before ++ m ∷ []) took
-with_message took before m after parts lawful accepts = record {
+with_more : (took before l after : List Message) → took ≡ before ++ (l ++ after) → IsLawful before → IsLawfulFrom (place_of Between before) l
+    → IsAccepted (before ++ l) took
+with_more took before l after parts lawful more = record {
   rest = after;
-  parts = parts ∙ sym (append_assoc before (m ∷ []) after);
-  lawful = lawful_more Between before m lawful accepts;
+  parts = parts ∙ sym (append_assoc before l after);
+  lawful = lawful_both Between before l lawful more;
 }
 
 -- it may end so before the message
-before_message : {end : StageEnd} {lanes : ℕ} {before : List Message} (m : Message) (after : List Message) → IsLawful before
-    → ((end ≡ Fault OutOfOrder) × (Accepts (place_of Between before) m → ⊥)) ⊎ (end ≡ Fault Memory) → MayEndSo end true lanes before (before ++ m ∷ after)
-before_message {lanes} {before} m after lawful (inl (same, refused)) =
-    subst (λ (e : StageEnd). MayEndSo e true lanes before (before ++ m ∷ after)) (sym same) (out_of_order lanes before m after lawful refused)
-before_message m after lawful (inr memory) = for_reason (inl memory)
+before_message : {end : StageEnd} {lanes : ℕ} {before : List Message} (m : Message) (more after : List Message) (fault : ToolFault) → IsLawful before
+    → end ≡ Fault fault → IsRefused fault (place_of Between before) (m ∷ more) → MayEndSo end true lanes before (before ++ m ∷ after)
+before_message {lanes} {before} m more after fault lawful same (inr (order, refused)) =
+    subst (λ (e : StageEnd). MayEndSo e true lanes before (before ++ m ∷ after)) (sym (same ∙ ap Fault order))
+    (out_of_order lanes before m after lawful refused)
+before_message m more after fault lawful same (inl memory) = for_reason (inl (same ∙ ap Fault memory))
 
 not_of_order : {end : StageEnd} → end ≡ Fault OutOfOrder → (end ≡ Fault Memory) ⊎ (end ≡ PeerGone) → ⊥
 not_of_order same (inl memory) = let e : Fault OutOfOrder ≡ Fault Memory = sym same ∙ memory in absurd cc
 not_of_order same (inr gone) = let e : Fault OutOfOrder ≡ PeerGone = sym same ∙ gone in absurd cc
 
-goes_on_there : (end : StageEnd) (ending : Ending) {took : List Message} (before : List Message) (m : Message) (after : List Message) → EndsBy ending took
-    → took ≡ before ++ m ∷ after → (end ≡ Fault Memory) ⊎ (end ≡ PeerGone) → (end ≡ Fault OutOfOrder) ⊎ (ending ≡ More) → ending_of m ≡ More
-goes_on_there end ending before m after ends parts reason (inl same) = absurd (not_of_order same reason)
-goes_on_there end ending {took} before m after ends parts reason (inr more) =
-    goes_within before m after (subst EndNothing parts (ends_nothing took (subst (λ (e : Ending). EndsBy e took) more ends)))
+goes_on_there : (end : StageEnd) (ending : Ending) {took : List Message} (before l after : List Message) → EndsBy ending took
+    → took ≡ before ++ (l ++ after) → (end ≡ Fault Memory) ⊎ (end ≡ PeerGone) → (end ≡ Fault OutOfOrder) ⊎ (ending ≡ More) → EndNothing l
+goes_on_there end ending before l after ends parts reason (inl same) = absurd (not_of_order same reason)
+goes_on_there end ending {took} before l after ends parts reason (inr more) =
+    goes_within before l after (subst EndNothing parts (ends_nothing took (subst (λ (e : Ending). EndsBy e took) more ends)))
 
--- nothing was sent of the message; or not each lane was sent its part
+-- nothing was sent of the messages; or not each lane was sent its part
 cut_by : (end : StageEnd) (ending : Ending) (received_old received_new : List Message) (olds news : List Sender)
     (i : IsInterrupted end ending received_old received_new olds news) → (end ≡ Fault OutOfOrder) ⊎ (ending ≡ More)
-    → IsReason end (place_of Between i.before) i.at i.nows news → IsCut end ending received_old received_new olds news
-cut_by end ending received_old received_new olds news i goes (inl (same, why)) = record {
+    → IsReason end (place_of Between i.before) i.at i.more i.nows news → IsCut end ending received_old received_new olds news
+cut_by end ending received_old received_new olds news i goes (inl (same, (fault, is, why))) = record {
   took = i.took;
   accepted = i.before;
   all = true;
   input = i.input;
   messages = i.messages;
   ends = i.ends;
-  is = record { rest = i.at ∷ i.after; parts = i.parts; lawful = i.dealt.0 };
-  may = subst (MayEndSo end true (length olds) i.before) (sym i.parts) (before_message i.at i.after i.dealt.0 why);
+  is = record { rest = i.at ∷ (i.more ++ i.after); parts = i.parts; lawful = i.dealt.0 };
+  may = subst (MayEndSo end true (length olds) i.before) (sym i.parts) (before_message i.at i.more (i.more ++ i.after) fault i.dealt.0 is why);
   lanes = subst (λ (l : List Sender). AtEach (HasPrefix true (length olds) i.before) olds l) (sym same)
       (each-map (HasAll (length olds) i.before) (HasPrefix true (length olds) i.before) 0 olds i.nows (all_is_prefix (length olds) i.before i.goes) i.dealt.1);
 }
-cut_by end ending received_old received_new olds news i goes (inr (accepts, parts)) =
+cut_by end ending received_old received_new olds news i goes (inr (lawful, parts)) =
     let place = place_of Between i.before in
-    let accepted : List Message = i.before ++ i.at ∷ [] in
-    let goes_on : ending_of i.at ≡ More = goes_on_there end ending i.before i.at i.after i.ends i.parts parts.reason goes in
+    let l : List Message = i.at ∷ i.more in
+    let accepted : List Message = i.before ++ l in
+    let nothing : EndNothing l = goes_on_there end ending i.before l i.after i.ends i.parts parts.reason goes in
     record {
       took = i.took;
       accepted = accepted;
@@ -232,24 +237,23 @@ cut_by end ending received_old received_new olds news i goes (inr (accepts, part
       input = i.input;
       messages = i.messages;
       ends = i.ends;
-      is = with_message i.took i.before i.at i.after i.parts i.dealt.0 accepts;
+      is = with_more i.took i.before l i.after i.parts i.dealt.0 lawful;
       may = for_reason parts.reason;
-      lanes = each-then (HasAll (length olds) i.before) (IsSentPart (part_at (length olds) place i.at) (Some end)) (HasPrefix false (length olds) accepted) 0
-          olds i.nows news (part_is_prefix place (length olds) i.before i.at (Some end) i.goes goes_on refl) i.dealt.1
-          (parts_of place i.at olds i.before i.dealt.1 parts).lanes;
+      lanes = each-then (HasAll (length olds) i.before) (IsSentPart (part_at (length olds) place l) (Some end)) (HasPrefix false (length olds) accepted) 0
+          olds i.nows news (part_is_prefix place (length olds) i.before l (Some end) i.goes nothing refl) i.dealt.1
+          (parts_of place l olds i.before i.dealt.1 parts).lanes;
     }
 
 -- ---- where the other end of a ring was seen dropped
 
--- the message was dealt to those lanes that it could be sent to
-last_lane : {lanes : ℕ} (before : List Message) (m : Message) {l : List Message} (end : StageEnd) → IsAccepted before l → IsAccepted (before ++ m ∷ []) l
-    → (lane : ℕ) (old now new : Sender) → HasAll lanes before lane old now → IsSentPart (part_at lanes (place_of Between before) m) (Some end) lane now new
-    → HasLane PeerGone lanes l lane old new
-last_lane {lanes} before m {l} end without is lane old now new all (same, inl added) =
-    whole_lane PeerGone lanes (before ++ m ∷ []) l is (λ n. tt) lane old new (all_then Between before (m ∷ []) lanes lane old now new all
-    (same, added ∙ ap (λ (x : List Message). sent now ++ x) (sym (append-nil (dealt_message lane lanes (place_of Between before) m)))))
-last_lane {lanes} before m {l} end without is lane old now new all (same, inr lost) =
-    whole_lane PeerGone lanes before l without (λ n. tt) lane old new (same_output old now new all.0 same, lost.0 ∙ all.1)
+-- the messages were dealt to those lanes that their part could be sent to
+last_lane : {lanes : ℕ} (before l : List Message) {took : List Message} (end : StageEnd) → IsAccepted before took → IsAccepted (before ++ l) took
+    → (lane : ℕ) (old now new : Sender) → HasAll lanes before lane old now → IsSentPart (part_at lanes (place_of Between before) l) (Some end) lane now new
+    → HasLane PeerGone lanes took lane old new
+last_lane {lanes} before l {took} end without is lane old now new all (same, inl added) =
+    whole_lane PeerGone lanes (before ++ l) took is (λ n. tt) lane old new (all_then Between before l lanes lane old now new all (same, added))
+last_lane {lanes} before l {took} end without is lane old now new all (same, inr lost) =
+    whole_lane PeerGone lanes before took without (λ n. tt) lane old new (same_output old now new all.0 same, lost.0 ∙ all.1)
 
 is_ended_so : (ending : Ending) (l : List Message) → EndsBy ending l → (ending ≡ Whole) ⊎ (ending ≡ BrokenOff) → IsEnded l
 is_ended_so ending l ends (inl whole) = inl (subst (λ (e : Ending). EndsBy e l) whole ends)
@@ -279,14 +283,15 @@ module _ {end : StageEnd} {ending : Ending} {received_old received_new : List Me
   interrupts {place} {l} {nows} dealing added are ends left =
       let took = dealing.took in
       let first = left.before in
-      let rest : List Message = left.at ∷ left.after in
-      let goes : EndsBy More first = prefix_goes_on ending first left.at left.after (subst (EndsBy ending) left.parts ends) in
+      let rest : List Message = left.at ∷ (left.more ++ left.after) in
+      let goes : EndsBy More first = prefix_goes_on ending first left.at (left.more ++ left.after) (subst (EndsBy ending) left.parts ends) in
       let here : place_of place first ≡ place_of Between (took ++ first) =
       ap (λ (p : Place). place_of p first) dealing.here ∙ sym (place_of-append Between took first) in
       record {
         took = took ++ l;
         before = took ++ first;
         at = left.at;
+        more = left.more;
         after = left.after;
         input = added ∙ ap (λ (x : List Message). x ++ l) dealing.input ∙ append_assoc received_old took l;
         messages = both_all IsMessage took l dealing.messages are;
@@ -296,7 +301,7 @@ module _ {end : StageEnd} {ending : Ending} {received_old received_new : List Me
         nows = left.nows;
         dealt = dealt_then Between took first olds nows left.nows (dealing.lawful, dealing.lanes)
             (subst (λ (p : Place). HasDealtAll p first nows left.nows) dealing.here left.dealt);
-        reason = subst (λ (p : Place). IsReason end p left.at left.nows news) here left.reason;
+        reason = subst (λ (p : Place). IsReason end p left.at left.more left.nows news) here left.reason;
       }
 
   -- at a packet of which not all was dealt
@@ -312,17 +317,19 @@ module _ {end : StageEnd} {ending : Ending} {received_old received_new : List Me
       → IsCut end ending received_old received_new olds news
   cuts i goes = cut_by end ending received_old received_new olds news i goes i.reason
 
-  last_lanes : (i : IsInterrupted end ending received_old received_new olds news) → IsReason end (place_of Between i.before) i.at i.nows news
+  last_lanes : (i : IsInterrupted end ending received_old received_new olds news) → IsReason end (place_of Between i.before) i.at i.more i.nows news
       → AtEach (HasLane PeerGone (length olds) i.took) olds news
   last_lanes i (inl (same, why)) =
       subst (λ (l : List Sender). AtEach (HasLane PeerGone (length olds) i.took) olds l) (sym same)
       (each-map (HasAll (length olds) i.before) (HasLane PeerGone (length olds) i.took) 0 olds i.nows
-      (whole_lane PeerGone (length olds) i.before i.took (record { rest = i.at ∷ i.after; parts = i.parts; lawful = i.dealt.0 }) (λ n. tt)) i.dealt.1)
-  last_lanes i (inr (accepts, parts)) =
+      (whole_lane PeerGone (length olds) i.before i.took (record { rest = i.at ∷ (i.more ++ i.after); parts = i.parts; lawful = i.dealt.0 }) (λ n. tt))
+      i.dealt.1)
+  last_lanes i (inr (lawful, parts)) =
       let place = place_of Between i.before in
-      each-then (HasAll (length olds) i.before) (IsSentPart (part_at (length olds) place i.at) (Some end)) (HasLane PeerGone (length olds) i.took) 0
-      olds i.nows news (last_lane i.before i.at end (record { rest = i.at ∷ i.after; parts = i.parts; lawful = i.dealt.0 })
-      (with_message i.took i.before i.at i.after i.parts i.dealt.0 accepts)) i.dealt.1 (parts_of place i.at olds i.before i.dealt.1 parts).lanes
+      let l : List Message = i.at ∷ i.more in
+      each-then (HasAll (length olds) i.before) (IsSentPart (part_at (length olds) place l) (Some end)) (HasLane PeerGone (length olds) i.took) 0
+      olds i.nows news (last_lane i.before l end (record { rest = i.at ∷ (i.more ++ i.after); parts = i.parts; lawful = i.dealt.0 })
+      (with_more i.took i.before l i.after i.parts i.dealt.0 lawful)) i.dealt.1 (parts_of place l olds i.before i.dealt.1 parts).lanes
 
   pub ends_gone : {left : List Message} → IsInterrupted end ending received_old received_new olds news → (ending ≡ Whole) ⊎ (ending ≡ BrokenOff)
       → HasDealt PeerGone received_old received_new left olds news

@@ -1,8 +1,9 @@
 -- What has been dealt so far, and how the dealing ends.
 use Rattle.pnm_lanes.proofs.Words.{◌≡◌, inl, inr, ℕ, Bool, true, false, List, [], ◌∷◌, ◌++◌, length, Option, None, Some, refl, sym, ap, subst, ◌∙◌}
 use Rattle.pnm_lanes.proofs.Words.{append_assoc, append-nil, AllByRecursion, Packet, Sender, messages_in, sent, SameSender, Message, Stop, Place, Between}
-use Rattle.pnm_lanes.proofs.Words.{IsMessage, without_stop, ending_of, EndsBy, IsLawful, place_of, IsPrefixOf, place_of-append, Ending, More, Whole, BrokenOff}
-use Rattle.pnm_lanes.proofs.Words.{dealt_message, dealt, prefix_of_prefix, ends_after, both_all, StageEnd, Well, Broken, PeerGone, ends_nothing, same_output}
+use Rattle.pnm_lanes.proofs.Words.{IsMessage, without_stop, EndsBy, IsLawful, place_of, IsPrefixOf, place_of-append, Ending, More, Whole, BrokenOff}
+use Rattle.pnm_lanes.proofs.Words.{dealt_from, dealt, prefix_of_prefix, EndNothing, ends_after, both_all, StageEnd, Well, Broken, PeerGone, ends_nothing}
+use Rattle.pnm_lanes.proofs.Words.{same_output}
 use Rattle.pnm_lanes.proofs.Words.{stop_is_cut, AtEach, HasSentSo, IsPrefixOfDealt, HasLane, HasDealt, part_at, IsSameEnd, IsSentPart, HasSentParts, IsSentAll}
 use Rattle.pnm_lanes.proofs.Words.{HasDealtAll, HasDealtMessages}
 use Rattle.pnm_lanes.proofs.EachLaws.{each-map, each-then, each-count}
@@ -57,11 +58,11 @@ wakes_dealing place received_old received_now received_new olds nows news dealin
 }
 
 -- the parts of the lanes, by the number of lanes at the beginning
-pub parts_of : (place : Place) (m : Message) (olds : List Sender) {nows news : List Sender} (took : List Message) {unsent : Option StageEnd}
-    → AtEach (HasAll (length olds) took) olds nows → HasSentParts (part_at (length nows) place m) unsent nows news
-    → HasSentParts (part_at (length olds) place m) unsent nows news
-parts_of place m olds {nows} {news} took {unsent} all parts =
-    subst (λ (n : ℕ). HasSentParts (part_at n place m) unsent nows news) (each-count (HasAll (length olds) took) 0 olds nows all) parts
+pub parts_of : (place : Place) (l : List Message) (olds : List Sender) {nows news : List Sender} (took : List Message) {unsent : Option StageEnd}
+    → AtEach (HasAll (length olds) took) olds nows → HasSentParts (part_at (length nows) place l) unsent nows news
+    → HasSentParts (part_at (length olds) place l) unsent nows news
+parts_of place l olds {nows} {news} took {unsent} all parts =
+    subst (λ (n : ℕ). HasSentParts (part_at n place l) unsent nows news) (each-count (HasAll (length olds) took) 0 olds nows all) parts
 
 module _ {ending : Ending} {place : Place} {received_old received_now received_new : List Message} {olds nows news : List Sender} where
   -- messages were dealt
@@ -152,29 +153,28 @@ pub all_is_prefix : (lanes : ℕ) (took : List Message) → EndsBy More took →
 all_is_prefix lanes took more lane old now all =
     (all.0, (dealt lane lanes took, all.1, dealt_goes_on lane lanes took more, itself_prefix (dealt lane lanes took), λ e. refl))
 
--- with its part of one more, or without it
-pub part_is_prefix : (place : Place) (lanes : ℕ) (took : List Message) (m : Message) (unsent : Option StageEnd) → EndsBy More took → ending_of m ≡ More
+-- with its part of more, or without it
+pub part_is_prefix : (place : Place) (lanes : ℕ) (took l : List Message) (unsent : Option StageEnd) → EndsBy More took → EndNothing l
     → place ≡ place_of Between took → (lane : ℕ) (old now new : Sender)
-    → HasAll lanes took lane old now → IsSentPart (part_at lanes place m) unsent lane now new → HasPrefix false lanes (took ++ m ∷ []) lane old new
-part_is_prefix place lanes took m unsent more goes here lane old now new all (same, inl is) =
-    let more_dealt = dealt_more lane lanes took m here in (
+    → HasAll lanes took lane old now → IsSentPart (part_at lanes place l) unsent lane now new → HasPrefix false lanes (took ++ l) lane old new
+part_is_prefix place lanes took l unsent more nothing here lane old now new all (same, inl is) =
+    let part : List Message = dealt_from lane lanes place l in (
       same_output old now new all.0 same,
       (
-        dealt lane lanes took ++ dealt_message lane lanes place m,
-        is ∙ ap (λ (x : List Message). x ++ dealt_message lane lanes place m) all.1
-            ∙ append_assoc (sent old) (dealt lane lanes took) (dealt_message lane lanes place m),
-        dealt_part_goes_on lane lanes place took m more goes,
-        ([], more_dealt ∙ sym (append-nil (dealt lane lanes took ++ dealt_message lane lanes place m))),
+        dealt lane lanes took ++ part,
+        is ∙ ap (λ (x : List Message). x ++ part) all.1 ∙ append_assoc (sent old) (dealt lane lanes took) part,
+        dealt_part_goes_on lane lanes place took l more nothing,
+        ([], dealt_more lane lanes took l here ∙ sym (append-nil (dealt lane lanes took ++ part))),
         λ e. absurd cc,
       ),
     )
-part_is_prefix place lanes took m unsent more goes here lane old now new all (same, inr lost) = (
+part_is_prefix place lanes took l unsent more nothing here lane old now new all (same, inr lost) = (
   same_output old now new all.0 same,
   (
     dealt lane lanes took,
     lost.0 ∙ all.1,
     dealt_goes_on lane lanes took more,
-    (dealt_message lane lanes place m, dealt_more lane lanes took m here),
+    (dealt_from lane lanes place l, dealt_more lane lanes took l here),
     λ e. absurd cc,
   ),
 )

@@ -13,17 +13,11 @@ dealt_from-append lane lanes place (m ∷ a) b =
     ap (λ (l : List Message). dealt_message lane lanes place m ++ l) (dealt_from-append lane lanes (place_after place m) a b)
     ∙ sym (append_assoc (dealt_message lane lanes place m) (dealt_from lane lanes (place_after place m) a) (dealt_from lane lanes (place_of place (m ∷ a)) b))
 
--- one message more
-pub dealt_from-push : (lane lanes : ℕ) (place : Place) (l : List Message) (m : Message)
-    → dealt_from lane lanes place (l ++ m ∷ []) ≡ dealt_from lane lanes place l ++ dealt_message lane lanes (place_of place l) m
-dealt_from-push lane lanes place l m =
-    dealt_from-append lane lanes place l (m ∷ [])
-    ∙ ap (λ (x : List Message). dealt_from lane lanes place l ++ x) (append-nil (dealt_message lane lanes (place_of place l) m))
-
--- at this place
-pub dealt_more : (lane lanes : ℕ) {place : Place} (l : List Message) (m : Message) → place ≡ place_of Between l
-    → dealt lane lanes (l ++ m ∷ []) ≡ dealt lane lanes l ++ dealt_message lane lanes place m
-dealt_more lane lanes l m here = dealt_from-push lane lanes Between l m ∙ ap (λ (p : Place). dealt lane lanes l ++ dealt_message lane lanes p m) (sym here)
+-- and so from a place on
+pub dealt_more : (lane lanes : ℕ) {place : Place} (took l : List Message) → place ≡ place_of Between took
+    → dealt lane lanes (took ++ l) ≡ dealt lane lanes took ++ dealt_from lane lanes place l
+dealt_more lane lanes took l here =
+    dealt_from-append lane lanes Between took l ∙ ap (λ (p : Place). dealt lane lanes took ++ dealt_from lane lanes p l) (sym here)
 
 -- ---- ends
 
@@ -58,13 +52,13 @@ nothing_goes_on l ends = subst (EndsBy More) (append-nil l) (ends_after More l [
 pub dealt_goes_on : (lane lanes : ℕ) (l : List Message) → EndsBy More l → EndsBy More (dealt lane lanes l)
 dealt_goes_on lane lanes l more = nothing_goes_on (dealt lane lanes l) (dealt_ends_nothing lane lanes Between l (ends_nothing l more))
 
--- and with the next part, if that ends nothing
-pub dealt_part_goes_on : (lane lanes : ℕ) (place : Place) (l : List Message) (m : Message) → EndsBy More l → ending_of m ≡ More
-    → EndsBy More (dealt lane lanes l ++ dealt_message lane lanes place m)
-dealt_part_goes_on lane lanes place l m more goes =
-    nothing_goes_on (dealt lane lanes l ++ dealt_message lane lanes place m)
-    (both_end_nothing (dealt lane lanes l) (dealt_message lane lanes place m) (dealt_ends_nothing lane lanes Between l (ends_nothing l more))
-    (part_ends_nothing lane lanes place m goes))
+-- and with what is dealt of more, if that ends nothing
+pub dealt_part_goes_on : (lane lanes : ℕ) (place : Place) (took l : List Message) → EndsBy More took → EndNothing l
+    → EndsBy More (dealt lane lanes took ++ dealt_from lane lanes place l)
+dealt_part_goes_on lane lanes place took l more nothing =
+    nothing_goes_on (dealt lane lanes took ++ dealt_from lane lanes place l)
+    (both_end_nothing (dealt lane lanes took) (dealt_from lane lanes place l) (dealt_ends_nothing lane lanes Between took (ends_nothing took more))
+    (dealt_ends_nothing lane lanes place l nothing))
 
 -- ---- prefixes
 

@@ -2,6 +2,7 @@ mod Words
 pub mod HeightLaws
 pub mod EachLaws
 pub mod DealtLaws
+pub mod DealtRows
 pub mod SendSteps
 pub mod MessageSteps
 pub mod DealSteps

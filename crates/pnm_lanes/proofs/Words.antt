@@ -1,17 +1,15 @@
 -- What the proofs of pnm_lanes name of its definitions, of std and of the crates below.
 pub use Rattle.pnm_image.proofs.Lists.{all_of_prefix, each-middle, each-push, same_first, same_rest}
 pub use Rattle.pnm_image.proofs.Places.{lawful_more, lawful_prefix, next_may_come, place_of-append}
-pub use Rattle.pnm_image.proofs.RepeatLaws.{messages_from, messages_once_more}
 pub use Rattle.pnm_image.proofs.Streams.{completion, is_stream_of, stream_is_lawful}
 pub use Rattle.pnm_image.specs.Completion.{Completes, IsPrefixOf, IsStreamOf}
 pub use Rattle.pnm_image.specs.Heads.{HeadValue, IsHead, with_height}
 pub use Rattle.pnm_image.specs.Images.{AreImages, Image, IsImage, messages_of_image, messages_of_stream, rows_of}
 pub use Rattle.pnm_image.specs.Messages.{EndsBy, IsMessage, ending_of, without_stop}
-pub use Rattle.pnm_image.specs.Packets.{ending_of_packet, messages_in}
-pub use Rattle.pnm_image.specs.Parts.{end_messages, part_messages, rest_messages}
+pub use Rattle.pnm_image.specs.Packets.{ending_of_packet, messages_in, packet_list}
+pub use Rattle.pnm_image.specs.Parts.{end_messages, head_messages, part_messages}
 pub use Rattle.pnm_image.specs.Places.{Accepts, IsLawful, IsLawfulFrom, place_after, place_of}
-pub use Rattle.pnm_image.specs.Repeats.{repeated}
-pub use Rattle.pnm_image.specs.Rows.{row_messages, rows_list}
+pub use Rattle.pnm_image.specs.Rows.{every, row_messages, rows_list}
 pub use Rattle.pnm_image.specs.declared.limits.TheConstants.{MAX_SIDE}
 pub use Rattle.pnm_image.specs.declared.message.Ending.{Ending}
 pub use Rattle.pnm_image.specs.declared.message.Ending.TheVariants.{BrokenOff, More, Whole}
@@ -24,8 +22,9 @@ pub use Rattle.pnm_image.specs.declared.shape.Shape.{Shape}
 pub use Rattle.pnm_lanes.specs.Deals.{AtEach, AtEachFrom, HasDealt, HasLane, HasReceivedSo, HasSentSo, IsPrefixOfDealt}
 pub use Rattle.pnm_lanes.specs.Gathers.{AreDealt, AreSameInputs, BeginsOrEnds, HasGathered, HasGatheredOrRefused, HasGatheredSo, HasPassedSo, HasSentAll}
 pub use Rattle.pnm_lanes.specs.Gathers.{IsGathered, IsStopped, at_lane, have_received_rows}
-pub use Rattle.pnm_lanes.specs.Internal.DealParts.{HasBrokenOffDealing, HasDealtAll, HasDealtMessages, HasLeftOff, HasSentParts, IsReason, IsRow, IsSameEnd}
-pub use Rattle.pnm_lanes.specs.Internal.DealParts.{IsSentAll, IsSentPart, lane_part, part_at, row_part}
+pub use Rattle.pnm_lanes.specs.Internal.DealParts.{AreLeftFrom, HasBrokenOffDealing, HasDealtAll, HasDealtMessages, HasLeftOff, HasSentParts, HasTakenLawful}
+pub use Rattle.pnm_lanes.specs.Internal.DealParts.{IsReason, IsRefused, IsSameEnd, IsSentAll, IsSentPart, IsSentTo, dealt_begin, part_at, row_at}
+pub use Rattle.pnm_lanes.specs.Internal.DealParts.{stream_end}
 pub use Rattle.pnm_lanes.specs.Internal.GatherParts.{AreAlike, AreDealtHeights, AreLanes, AreOpen, AwaitsNoRow, BeginsNone, CarriesOn, HasBrokenOffAll}
 pub use Rattle.pnm_lanes.specs.Internal.GatherParts.{HasDrainedAll, HasDrainedOne, HasGatheredBy, HasStopped, HasTakenAlike, HasTakenFrom, HasTakenLike}
 pub use Rattle.pnm_lanes.specs.Internal.GatherParts.{HasTakenNext, HasTakenNone, HasTakenParts, HasTakenWhole, IsAgreed, IsCause, IsDone, IsLane, IsLeftBy}
@@ -70,6 +69,7 @@ pub use Rattle.pnm_tools.specs.ChainAnswers.{IsRefusedNext}
 pub use Rattle.pnm_tools.specs.Dealing.{IsRowWise, dealt, dealt_from, dealt_head, dealt_height, dealt_image, dealt_message, dealt_result, dealt_row, dealt_rows}
 pub use Rattle.pnm_tools.specs.Formulas.{image_by}
 pub use Rattle.pnm_tools.specs.Tools.{AreTaken, IsLawfulTool, applied, is_row_wise, output_due, result_head, result_sample}
+pub use Rattle.pnm_tools.specs.Unfed.{unfed_in}
 pub use Rattle.pnm_tools.specs.declared.fault.ToolFault.{ToolFault}
 pub use Rattle.pnm_tools.specs.declared.fault.ToolFault.TheVariants.{ChannelOutside, CutOutside, Memory, OutOfOrder, TooLarge}
 pub use Rattle.pnm_tools.specs.declared.tool.Tool.{Tool}

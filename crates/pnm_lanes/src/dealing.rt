@@ -1,25 +1,29 @@
 //! Dealing: the rows of each image go to lanes in turn, and each lane gets a stream of images of its own.
 
-ghost use Rattle.std.specs.Prelude.{◌≡◌, ◌⊎◌, ◌<◌, ◌≤◌, ◌∷◌, ◌++◌, [], length, IfSome, IsTrue, IsFalse};
+ghost use Rattle.std.specs.Prelude.{◌≡◌, ◌⊎◌, ◌<◌, ◌≤◌, ◌+◌, ◌-◌, ◌∷◌, ◌++◌, [], length, IfOk, IfErr, IfSome, IfNone};
+ghost use Rattle.std.specs.Prelude.{IsTrue, IsFalse};
 ghost use Rattle.pnm_image.specs.declared.message.Ending.TheVariants.{More, Whole, BrokenOff};
-ghost use Rattle.pnm_image.specs.Parts.{rest_messages};
-ghost use Rattle.pnm_image.specs.Rows.{row_messages, rows_list};
-ghost use Rattle.pnm_image.specs.Packets.{messages_in};
+ghost use Rattle.pnm_image.specs.Parts.{head_messages, end_messages};
+ghost use Rattle.pnm_image.specs.Rows.{every, row_messages, rows_list};
+ghost use Rattle.pnm_image.specs.Packets.{messages_in, packet_list};
 ghost use Rattle.pnm_stages.specs.Rings.{sent, received, known_items, SameReceiver};
-ghost use Rattle.pnm_image.specs.Places.{Accepts};
+ghost use Rattle.pnm_image.specs.Places.{IsLawfulFrom};
 ghost use Rattle.pnm_tools.specs.declared.fault.ToolFault.TheVariants.{OutOfOrder};
 ghost use Rattle.pnm_tools.specs.Dealing.{dealt_height};
+ghost use Rattle.pnm_tools.specs.Unfed.{unfed_in};
 ghost use Rattle.pnm_stages.specs.declared.stage.StageEnd.TheVariants.{Fault};
 ghost use Rattle.pnm_lanes.specs.LaneLimits.{IsLaneCount};
 ghost use Rattle.pnm_lanes.specs.Deals.{AtEach, HasDealt};
-ghost use Rattle.pnm_lanes.specs.Internal.DealParts.{IsRow, IsSameEnd, part_at, row_part, lane_part, HasSentParts};
-ghost use Rattle.pnm_lanes.specs.Internal.DealParts.{HasDealtMessages, HasBrokenOffDealing};
+ghost use Rattle.pnm_lanes.specs.Internal.DealParts.{HasDealtMessages, HasTakenLawful, IsRefused, HasSentParts};
+ghost use Rattle.pnm_lanes.specs.Internal.DealParts.{part_at};
+ghost use Rattle.pnm_lanes.specs.Internal.DealParts.{AreLeftFrom, row_at, dealt_begin, stream_end, IsSentTo, IsSameEnd};
+ghost use Rattle.pnm_lanes.specs.Internal.DealParts.{HasBrokenOffDealing};
 ghost use Rattle.pnm_lanes.specs.declared.lane.TheConstants.{MAX_LANES};
 
-use pnm_image::{Ending, Message, Packet, Place, RepeatedRows, Rows, Samples};
+use pnm_image::{Ending, Head, Packet, Part, Place, RepeatedRows, Rows};
 use pnm_stages::{Receiver, Sender, StageEnd};
-use pnm_tools::ToolFault;
-use std::alloc::Global;
+use pnm_tools::{ToolFault, Unfed};
+use std::alloc::{AllocError, Global};
 use std::sync::Wait;
 
 /// The ring ends of a thread that has dealt, and how it ended.
@@ -34,13 +38,13 @@ pub struct DealDone {
 }
 
 /// Deals what comes on `input` to lanes, one for each of the `outputs`, of which there are 1 to 8. Row y of an image
-/// goes to lane y mod the number of lanes, both counted from 0; it is moved, or copied if it comes together with
-/// other rows. Each lane gets a copy of each head, with the number of the lane's rows as the
-/// height, and each end of an image and of the stream.
+/// goes to lane y mod the number of lanes, both counted from 0. Of rows that come together each lane gets its own
+/// together, as a copy; a single row is moved. Each lane gets a copy of each head, with the number of the lane's rows
+/// as the height, and each end of an image and of the stream.
 ///
 /// The faults are `OutOfOrder`, if a message can't come at its place, and `Memory`, if there is no memory for the copy
-/// of a head or a row. After a fault each lane is sent Stop, and the input is taken and dropped through its end or its
-/// Stop. If the other end of a ring is dropped early, the end is `PeerGone`: each lane whose stream hasn't ended is
+/// of a head or of rows. After a fault each lane is sent Stop, and the input is taken and dropped through its end or
+/// its Stop. If the other end of a ring is dropped early, the end is `PeerGone`: each lane whose stream hasn't ended is
 /// sent Stop, and the input is drained.
 pub fn deal<R: Wait>(rt: &R, alloc: Global, input: Receiver, outputs: Vec<Sender>) -> DealDone
     requires { IsLaneCount (length outputs.items) }
@@ -119,163 +123,252 @@ fn deal_packet<R: Wait>(
     requires { IsLaneCount (length outputs.old) }
     ensures { HasDealtMessages place.old place.new (messages_in packet) result outputs.old outputs.new }
 {
-    let part = match packet.into_message() {
-        Ok(message) => return deal_message(rt, place, message, outputs),
-        Err(part) => part,
-    };
-    let (head, rows, ends_image) = part.into_parts();
-    let Some(head) = head else {
-        return deal_rest(rt, alloc, place, rows, ends_image, outputs);
-    };
-    if let Some(end) = deal_message(rt, place, Message::Begin(head), outputs) {
-        return Some(end);
-    }
-    deal_rest(rt, alloc, place, rows, ends_image, outputs)
+    deal_unfed(rt, alloc, place, &mut Unfed::of(packet), outputs)
 }
 
-/// Deals the rows and the end of an image, if they come, as if each had come by itself.
-fn deal_rest<R: Wait>(
+/// Deals what is left of a packet.
+fn deal_unfed<R: Wait>(
     rt: &R,
     alloc: Global,
     place: &mut Place,
-    rows: Option<RepeatedRows>,
-    ends_image: bool,
+    unfed: &mut Unfed,
     outputs: &mut [Sender],
 ) -> Option<StageEnd>
     requires { IsLaneCount (length outputs.old) }
-    ensures { HasDealtMessages place.old place.new (rest_messages rows ends_image) result outputs.old outputs.new }
+    ensures { HasDealtMessages place.old place.new (unfed_in unfed.old) result outputs.old outputs.new }
 {
-    if let Some(end) = deal_repeated(rt, alloc, place, rows, outputs) {
-        return Some(end);
-    }
-    if ends_image {
-        return deal_message(rt, place, Message::ImageEnd, outputs);
-    }
-    None
-}
-
-/// Deals each of the rows by itself, as a copy, each time that they come; a single row isn't copied.
-fn deal_repeated<R: Wait>(
-    rt: &R,
-    alloc: Global,
-    place: &mut Place,
-    rows: Option<RepeatedRows>,
-    outputs: &mut [Sender],
-) -> Option<StageEnd>
-    requires { IsLaneCount (length outputs.old) }
-    ensures { HasDealtMessages place.old place.new (row_messages (rows_list rows)) result outputs.old outputs.new }
-{
-    let Some(rows) = rows else {
-        return None;
-    };
-    let rows = match rows.into_one() {
-        Ok(row) => return deal_message(rt, place, Message::Row(row), outputs),
-        Err(rows) => rows,
-    };
-    let (held, times) = rows.parts();
-    for _time in 0..times {
-        if let Some(end) = deal_rows(rt, alloc, place, held, outputs) {
-            return Some(end);
-        }
-    }
-    None
-}
-
-/// Deals each of the rows by itself, as a copy.
-fn deal_rows<R: Wait>(
-    rt: &R,
-    alloc: Global,
-    place: &mut Place,
-    rows: &Rows,
-    outputs: &mut [Sender],
-) -> Option<StageEnd>
-    requires { IsLaneCount (length outputs.old) }
-    ensures { HasDealtMessages place.old place.new (row_messages rows.now) result outputs.old outputs.new }
-{
-    for at in 0..rows.count() {
-        let Ok(row) = rows.row(alloc, at) else {
-            return Some(StageEnd::Fault(ToolFault::Memory));
+    loop {
+        let next = match next_lawful(alloc, place, unfed) {
+            Ok(next) => next,
+            Err(fault) => return Some(StageEnd::Fault(fault)),
         };
-        if let Some(end) = deal_message(rt, place, Message::Row(row), outputs) {
+        let Some((packet, after)) = next else {
+            return None;
+        };
+        if let Some(end) = send_packet(rt, alloc, *place, packet, outputs) {
             return Some(end);
         }
+        *place = after;
     }
-    None
 }
 
-/// Deals a message, if it may come at its place, and goes on to the place after it.
-fn deal_message<R: Wait>(
-    rt: &R,
-    place: &mut Place,
-    message: Message,
-    outputs: &mut [Sender],
-) -> Option<StageEnd>
-    requires { IsLaneCount (length outputs.old) }
-    ensures { HasDealtMessages place.old place.new (message ∷ []) result outputs.old outputs.new }
+/// What comes next of a packet, if all of it may come at this place, or else its first message; and the place after
+/// that. Returns `None` if nothing is left.
+///
+/// # Errors
+///
+/// `OutOfOrder` if the next message can't come here, and `Memory` if there is no memory to take the packet apart.
+fn next_lawful(
+    alloc: Global,
+    place: &Place,
+    unfed: &mut Unfed,
+) -> Result<Option<(Packet, Place)>, ToolFault>
+    ensures some { IfOk result (λ next. IfSome next (λ taken.
+        HasTakenLawful place.now (unfed_in unfed.old) taken.0 taken.1 (unfed_in unfed.new))) }
+    ensures none { IfOk result (λ next. IfNone next (unfed_in unfed.old ≡ [])) }
+    ensures refused { IfErr result (λ fault. IsRefused fault place.now (unfed_in unfed.old)) }
 {
-    if !place.accepts(&message) {
-        return Some(StageEnd::Fault(ToolFault::OutOfOrder));
+    let Ok(next) = unfed.next(alloc) else {
+        return Err(ToolFault::Memory);
+    };
+    let Some(packet) = next else {
+        return Ok(None);
+    };
+    if let Some(after) = place.after(&packet) {
+        return Ok(Some((packet, after)));
     }
-    let here = *place;
-    place.step(&message);
-    send_parts(rt, here, message, outputs)
+    let Ok(first) = unfed.first_of(alloc, packet) else {
+        return Err(ToolFault::Memory);
+    };
+    match place.after(&first) {
+        Some(after) => Ok(Some((first, after))),
+        None => Err(ToolFault::OutOfOrder),
+    }
 }
 
-/// Sends each lane its part of a message at this place. If a lane can't be sent its part, returns how the dealing ends;
-/// other lanes may have been sent theirs.
-fn send_parts<R: Wait>(
+/// Sends each lane its part of a packet, all of which may come at this place. If a lane can't be sent its part, returns
+/// how the dealing ends; other lanes may have been sent theirs.
+fn send_packet<R: Wait>(
     rt: &R,
+    alloc: Global,
     place: Place,
-    message: Message,
+    packet: Packet,
     outputs: &mut [Sender],
 ) -> Option<StageEnd>
     requires lanes { IsLaneCount (length outputs.old) }
-    requires place { Accepts place message }
-    ensures { HasSentParts (part_at (length outputs.old) place message) result outputs.old outputs.new }
+    requires lawful { IsLawfulFrom place (messages_in packet) }
+    ensures { HasSentParts (part_at (length outputs.old) place (messages_in packet)) result outputs.old outputs.new }
 {
-    match message {
-        Message::Row(row) => {
-            let Place::Inside(_, y) = place else {
-                unreachable!();
-            };
-            send_row(rt, y, row, outputs)
-        }
-        other => send_each(rt, &other, outputs),
+    match packet {
+        Packet::Part(part) => send_part(rt, alloc, place, part, outputs),
+        Packet::StreamEnd => send_end(rt, true, outputs),
+        Packet::Stop => send_end(rt, false, outputs),
     }
 }
 
-/// Sends the row with this number to its lane.
-fn send_row<R: Wait>(rt: &R, y: u32, row: Samples, outputs: &mut [Sender]) -> Option<StageEnd>
-    requires { IsLaneCount (length outputs.old) }
-    ensures { HasSentParts (row_part (length outputs.old) y row) result outputs.old outputs.new }
-{
-    let lane = y as usize % outputs.len();
-    wake_before_room(outputs, lane);
-    if outputs[lane].send(rt, Packet::from(Message::Row(row))) {
-        None
-    } else {
-        Some(StageEnd::PeerGone)
-    }
-}
-
-/// Sends each lane its part of a message that isn't a row, and goes on past a lane whose other end was seen dropped.
-fn send_each<R: Wait>(rt: &R, message: &Message, outputs: &mut [Sender]) -> Option<StageEnd>
+/// Sends each lane its part of a part of an image, first the lane of the row that comes next. Goes on past a lane whose
+/// other end was seen dropped.
+fn send_part<R: Wait>(
+    rt: &R,
+    alloc: Global,
+    place: Place,
+    part: Part,
+    outputs: &mut [Sender],
+) -> Option<StageEnd>
     requires lanes { IsLaneCount (length outputs.old) }
-    requires message { IsRow message.now → ⊥ }
-    ensures { HasSentParts (lane_part (length outputs.old) message.now) result outputs.old outputs.new }
+    requires lawful { IsLawfulFrom place part }
+    ensures { HasSentParts (part_at (length outputs.old) place part) result outputs.old outputs.new }
 {
-    let lanes = outputs.len();
+    let (head, rows, ends_image) = part.into_parts();
+    let Ok(mut rows) = once(alloc, rows) else {
+        return Some(StageEnd::Fault(ToolFault::Memory));
+    };
+    let lanes = outputs.len() as u32;
+    let first = next_row(place) % lanes;
     let mut unsent = None;
-    for lane in 0..lanes {
-        let Some(part) = part_of(message, lane, lanes) else {
+    for turn in 0..lanes {
+        let lane = (first + turn) % lanes;
+        let Ok(part) = part_of(alloc, &head, &mut rows, ends_image, turn, lane, lanes) else {
             return Some(StageEnd::Fault(ToolFault::Memory));
         };
-        wake_before_room(outputs, lane);
-        if !outputs[lane].send(rt, Packet::from(part)) {
+        if !send_to(rt, lane as usize, part, outputs) {
             unsent = Some(StageEnd::PeerGone);
         }
     }
     unsent
+}
+
+/// The number of the row that comes next at a place, 0 where none can.
+fn next_row(place: Place) -> u32
+    ensures { result ≡ row_at place }
+{
+    match place {
+        Place::Inside(_, y) => y,
+        Place::Between | Place::After => 0,
+    }
+}
+
+/// The rows, all their copies one after another.
+///
+/// # Errors
+///
+/// If there is no memory for these.
+fn once(alloc: Global, rows: Option<RepeatedRows>) -> Result<Option<Rows>, AllocError>
+    ensures { IfOk result (λ held. rows_list held ≡ rows_list rows) }
+{
+    match rows {
+        Some(rows) => Ok(Some(rows.into_rows(alloc)?)),
+        None => Ok(None),
+    }
+}
+
+/// What the lane whose turn it is gets of a part of an image, if it gets something. Takes the rows out if they aren't
+/// needed for the turns that follow.
+///
+/// # Errors
+///
+/// If there is no memory for a copy.
+fn part_of(
+    alloc: Global,
+    head: &Option<Head>,
+    rows: &mut Option<Rows>,
+    ends_image: bool,
+    turn: u32,
+    lane: u32,
+    lanes: u32,
+) -> Result<Option<Packet>, AllocError>
+    requires turn { turn < lanes }
+    requires lane { lane < lanes }
+    requires lanes { lanes ≤ MAX_LANES }
+    ensures part { IfOk result (λ part. packet_list part ≡ dealt_begin lane lanes head.now
+        ++ (row_messages (every turn (lanes - 1) (rows_list rows.old)) ++ end_messages ends_image)) }
+    ensures left { AreLeftFrom (turn + 1) lanes (rows_list rows.old) (rows_list rows.new) }
+{
+    let head = head_of(head, lane, lanes)?;
+    let rows = rows_of(alloc, rows, turn, lanes)?;
+    Ok(Part::of(head, rows.map(RepeatedRows::once), ends_image).map(Packet::Part))
+}
+
+/// A lane's copy of a head, if one comes, with the number of the lane's rows as the height.
+///
+/// # Errors
+///
+/// If there is no memory for it.
+fn head_of(head: &Option<Head>, lane: u32, lanes: u32) -> Result<Option<Head>, AllocError>
+    requires lane { lane < lanes }
+    requires lanes { lanes ≤ MAX_LANES }
+    ensures { IfOk result (λ part. head_messages part ≡ dealt_begin lane lanes head.now) }
+{
+    let Some(head) = head else {
+        return Ok(None);
+    };
+    let height = dealt_height(head.shape().height, lane, lanes);
+    let Ok(head) = head.copy() else {
+        return Err(AllocError);
+    };
+    Ok(Some(head.with_height(height)))
+}
+
+/// Of the rows, if some come, those of number `from`, `from + lanes`, and so on, as a copy; a single row, or those of a
+/// single lane, are taken out.
+///
+/// # Errors
+///
+/// If there is no memory for a copy.
+fn rows_of(
+    alloc: Global,
+    rows: &mut Option<Rows>,
+    from: u32,
+    lanes: u32,
+) -> Result<Option<Rows>, AllocError>
+    requires { from < lanes }
+    ensures rows { IfOk result (λ part. rows_list part ≡ every from (lanes - 1) (rows_list rows.old)) }
+    ensures left { AreLeftFrom (from + 1) lanes (rows_list rows.old) (rows_list rows.new) }
+{
+    let Some(held) = &*rows else {
+        return Ok(None);
+    };
+    let count = held.count();
+    if count <= from {
+        return Ok(None);
+    }
+    if count == 1 || lanes == 1 {
+        return Ok(rows.take());
+    }
+    Ok(Some(held.every(alloc, from, lanes)?))
+}
+
+/// Sends each lane the end of the stream, or Stop if it isn't whole, and goes on past a lane whose other end was seen
+/// dropped.
+fn send_end<R: Wait>(rt: &R, is_whole: bool, outputs: &mut [Sender]) -> Option<StageEnd>
+    ensures { HasSentParts (λ lane. stream_end is_whole ∷ []) result outputs.old outputs.new }
+{
+    let mut unsent = None;
+    for lane in 0..outputs.len() {
+        let end = if is_whole {
+            Packet::StreamEnd
+        } else {
+            Packet::Stop
+        };
+        if !send_to(rt, lane, Some(end), outputs) {
+            unsent = Some(StageEnd::PeerGone);
+        }
+    }
+    unsent
+}
+
+/// Sends a lane a packet, if there is one. Returns false, and the packet is lost, if the lane's other end was seen
+/// dropped.
+fn send_to<R: Wait>(rt: &R, lane: usize, packet: Option<Packet>, outputs: &mut [Sender]) -> bool
+    requires { lane < length outputs.old }
+    ensures given { IsTrue result → AtEach (IsSentTo lane (packet_list packet)) outputs.old outputs.new }
+    ensures gone { IsFalse result → AtEach IsSameEnd outputs.old outputs.new }
+{
+    let Some(packet) = packet else {
+        return true;
+    };
+    wake_before_room(outputs, lane);
+    outputs[lane].send(rt, packet)
 }
 
 /// From now on, wakes each lane once for several short messages. So the dealer has to wake each before it waits for
@@ -317,27 +410,6 @@ fn wake_each(outputs: &mut [Sender])
     }
 }
 
-/// A lane's part of a message that isn't a row: a head with the number of the lane's rows as the height, or the same
-/// message. Returns `None` if there is no memory for a head.
-fn part_of(message: &Message, lane: usize, lanes: usize) -> Option<Message>
-    requires lane { lane < lanes }
-    requires lanes { lanes ≤ MAX_LANES }
-    requires message { IsRow message.now → ⊥ }
-    ensures { IfSome result (λ part. lane_part lanes message.now lane ≡ part ∷ []) }
-{
-    match message {
-        Message::Begin(head) => {
-            let height = dealt_height(head.shape().height, lane as u32, lanes as u32);
-            let head = head.copy().ok()?;
-            Some(Message::Begin(head.with_height(height)))
-        }
-        Message::ImageEnd => Some(Message::ImageEnd),
-        Message::StreamEnd => Some(Message::StreamEnd),
-        Message::Stop => Some(Message::Stop),
-        Message::Row(_) => unreachable!(),
-    }
-}
-
 /// How many rows of an image of this height the lane gets, if row y goes to lane y mod `lanes`, both counted from 0.
 pub fn dealt_height(height: u32, lane: u32, lanes: u32) -> u32
     requires { lane < lanes }
@@ -365,7 +437,7 @@ fn break_off<R: Wait>(
     ensures broken { HasBrokenOffDealing end ending result
         (received input.old) (received input.new) (known_items input.new) outputs.old outputs.new }
 {
-    let untold = send_each(rt, &Message::Stop, outputs);
+    let untold = send_end(rt, false, outputs);
     let drained = input.drain_after(rt, ending);
     if untold.is_none() && drained {
         end
