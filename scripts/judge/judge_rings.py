@@ -3,6 +3,7 @@ to lanes, the gathering from them, and a chain over lanes. What lies in a ring t
 together, as the tool likes."""
 
 import re
+from copy import copy
 
 from case_text import Apart, OneOf, Together, handed_in, is_head, is_row, one_by_one
 from chain_text import read_chain
@@ -40,7 +41,7 @@ def want(word, text):
     number, gone, *takes = text.split(" ", 2)
     if word == "deal":
         handed = handed_in(takes[0] if takes else "")
-        return " no case" if len(handed) > PLACES else want_of_deal(one_by_one(handed), int(number), gone)
+        return " no case" if len(handed) > PLACES else want_of_deal(handed, int(number), gone)
     if word == "gather":
         lanes = [handed_in(lane) for lane in (takes[0].split("|") if takes else [])]
         return want_of_gather(lanes, int(number), gone)
@@ -108,34 +109,59 @@ def with_height(head, height):
     return (*head[:2], height, *head[3:])
 
 
-def want_of_deal(messages, lanes, gone):
+def want_of_deal(handed, lanes, gone):
     """How the dealing ends, what it leaves of what came, and what each lane is sent that is there."""
     sent, place, end = [[] for _ in range(lanes)], Place(), "PeerGone"
     missed = int(gone) if gone.isdigit() else None
-    taken = len(messages)
-    for count, message in enumerate(messages, 1):
-        if not place.accepts(message):
+    messages, taken = one_by_one(handed), 0
+    for part in parts_that_come(handed, place):
+        taken += len(part)
+        if not place.accepts(part[0]):
             end = "Fault(OutOfOrder)"
             break
-        to = [place.row % lanes] if is_row(message) else range(lanes)
-        for lane in to:
-            is_cut = is_head(message)
-            sent[lane].append(with_height(message, dealt_height(message[2], lane, lanes)) if is_cut else message)
-        place.step(message)
+        deal(part, place, sent)
         # the ring of the lane that is gone has one place
         if missed is not None and len(sent[missed]) > 1:
             break
-        if message in ENDS:
-            end, taken = "Well" if message == "StreamEnd" else "Broken", count
+        if part[-1] in ENDS:
+            end = "Well" if part[-1] == "StreamEnd" else "Broken"
             break
     for lane in sent:
-        if not lane or lane[-1] not in ENDS:
-            lane.append("Stop")
+        if not lane or lane[-1][-1] not in ENDS:
+            lane.append(["Stop"])
     if end.startswith("Fault") or missed is not None:
         ends = [at for at, it in enumerate(messages) if it in ENDS]
         taken = ends[0] + 1 if ends else len(messages)
-    told = "".join(f" |{tell(it)}" for lane, it in enumerate(sent) if lane != missed)
+    told = "".join(f" |{''.join(map(tell_part, it))}" for lane, it in enumerate(sent) if lane != missed)
     return f" {end}{told_after('left', messages[taken:])}{told}"
+
+
+def parts_that_come(handed, place):
+    """What is dealt at once: what is handed over together, if all of it may come at the place, which the caller moves;
+    or else its messages one by one."""
+    for it in handed:
+        part = it if isinstance(it, Together) else [it]
+        after = copy(place)
+        may_come = all(after.accepts(message) and not after.step(message) for message in part)
+        yield from [part] if may_come else ([message] for message in part)
+
+
+def deal(part, place, sent):
+    """Sends each lane its messages of a part together, and moves the place past these."""
+    its = [[] for _ in sent]
+    for message in part:
+        for lane in [place.row % len(sent)] if is_row(message) else range(len(sent)):
+            is_cut = is_head(message)
+            its[lane].append(with_height(message, dealt_height(message[2], lane, len(sent))) if is_cut else message)
+        place.step(message)
+    for lane, messages in enumerate(its):
+        if messages:
+            sent[lane].append(messages)
+
+
+def tell_part(messages):
+    """A message, or several with the braces around them."""
+    return f" {{{tell(messages)} }}" if len(messages) > 1 else tell(messages)
 
 
 class Over(Exception):
