@@ -5,7 +5,7 @@ import re
 
 import slow_rows
 from case_text import BRACES, Apart, Sweep, changes, handed_in, numbers_in, one_by_one, text_of
-from slow_reader import FORMATS, MOST, answers, answers_to_all, tell, tell_text
+from slow_reader import FORMATS, answers, answers_to_all, tell, tell_text
 from slow_reading import Reading, needs
 from slow_writer import Sink, Writer, lines_of
 
@@ -110,16 +110,16 @@ def want_of_source(word, rest):
 
 def want_of_reading(word, rest):
     """What is answered, and what each read asked for and got."""
-    size, most_rows = 4096, 1 if word.startswith("reads") else MOST
+    size, is_apart = 4096, word.startswith("reads")
     if word.endswith("_by"):
         number, _, rest = rest.partition(" ")
         size = max(size, int(number))
     most, failing, written = rest.split(" ", 2)
     text = text_of(written)
-    reading = Reading(text, size, int(most), int(failing), most_rows)
+    reading = Reading(text, size, int(most), int(failing), is_apart)
     told = reading.read() + " by" + "".join(f" {asked}:{got}" for asked, got in reading.calls)
     is_plain = text[:1] == b"P" and FORMATS.get(text[1:2], ("", False))[1]
-    return PlainApart(told) if is_plain and most_rows > 1 else told
+    return PlainApart(told) if is_plain and not is_apart else told
 
 
 class PlainApart(Apart):

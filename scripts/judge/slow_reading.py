@@ -42,11 +42,11 @@ def needs(text):
 
 class Reading:
     """What a source answers that reads a text through a buffer of this size, a read giving some bytes at most and the
-    one with a number failing, 0 for none; so many rows come together at most. Those of a plain image are told one by
-    one."""
+    one with a number failing, 0 for none. Each message is told by itself, or what comes together between braces, but for
+    the rows of a plain image."""
 
-    def __init__(self, text, size, most, failing, most_rows):
-        self.text, self.size, self.most, self.failing, self.most_rows = text, size, most, failing, most_rows
+    def __init__(self, text, size, most, failing, is_apart):
+        self.text, self.size, self.most, self.failing, self.is_apart = text, size, most, failing, is_apart
         self.whole, self.needs = answers(text), needs(text)
         # the bytes that have come; what each read asked for, and what it got
         self.come, self.calls = 0, []
@@ -55,14 +55,14 @@ class Reading:
         self.start, self.row, self.sample, self.maxval, self.rows = 0, 0, 1, None, 0
 
     def read(self):
-        """Tells all answers. What comes together stands between braces, unless rows come one by one."""
+        """Tells all answers. What comes together stands between braces, unless it is told apart."""
         told, number = "", 0
         while number < len(self.whole):
             count = self.fetch(number)
             if not count:
                 return f"{told} ReadFailed"
             given = self.whole[number : number + count]
-            told += f" {{{tell(given)} }}" if count > 1 and self.most_rows > 1 else tell(given)
+            told += f" {{{tell(given)} }}" if count > 1 and not self.is_apart else tell(given)
             number += count
         return told
 
@@ -101,7 +101,7 @@ class Reading:
     def held_rows(self, number):
         """How many of the next rows of a raw image are held whole; if one of them is at fault half of them are taken,
         and so on."""
-        count = min(self.rows, self.most_rows, len(self.held()) // self.row)
+        count = min(self.rows, len(self.held()) // self.row)
         while not all(isinstance(it, list) for it in self.whole[number : number + count]):
             count //= 2
         return count

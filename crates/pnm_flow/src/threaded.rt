@@ -77,9 +77,7 @@ pub fn run<H: Threads + Wait + Sync, R: BytesIn, W: BytesOut, G: Gate>(
         Err(fault) => return Err(RunFault::Input(fault)),
     };
     let source = Source::with_buffer(read, &mut *reader);
-    // A dealer would have to take rows apart that come together.
-    let most_rows = if lanes == 1 { u32::MAX } else { 1 };
-    let ingress = Ingress::new(source, to_chain, most_rows);
+    let ingress = Ingress::new(source, to_chain);
     let egress = Egress::new(from_chain, write, &mut *writer, form);
     let both = beside_chain(
         rt, alloc, tools, capacity, lanes, gate, input, output, ingress, egress,

@@ -18,7 +18,7 @@
 //! - `samples WIDTH FIRST-LAST`, `parts WIDTH`: a sweep over made rows of bits, bytes or words, and over parts of one
 //!   of 20 samples
 //!
-//! Of what a source answers (`read`), where rows come one by one unless it says otherwise:
+//! Of what a source answers (`read`), each message by itself unless it says otherwise:
 //!
 //! - `text TEXT`: the answers, which are the same however few bytes a read gives, and no read follows one that gave
 //!   none
@@ -27,7 +27,7 @@
 //! - `fails TEXT`: the answers if one of the reads of a byte each fails, by the number of reads before it
 //! - `reads MOST FAILING TEXT`: the answers, and what each read asked for and got: a read gives at most MOST bytes, and
 //!   read FAILING fails, none for 0
-//! - `together MOST FAILING TEXT`: the same where as many rows come together as may, what comes so between braces
+//! - `together MOST FAILING TEXT`: the same, what comes together between braces
 //! - `reads_by SIZE MOST FAILING TEXT`, `together_by ..`: the same through a buffer of SIZE bytes
 //! - `ahead COUNT TEXT`: how many reads of a byte each were made before the first answer, and after each
 //! - `held COUNT TEXT`: for each number of bytes a read, for how many of COUNT answers the source rightly tells

@@ -29,17 +29,15 @@ pub struct Ingress<R> {
     is_gone: bool,
     /// How many images have had their end sent, up to `u64::MAX`.
     images: u64,
-    /// How many rows are sent together at most.
-    most_rows: u32,
 }
 
 impl<R: BytesIn + Drop> Ingress<R> {
     ghost use Rattle.pnm_io_loop.specs.Ingresses.{IsIngress, HasSentMore, ingress_is_over};
     ghost use Rattle.pnm_io_loop.specs.Internal.Ingresses.{HasGoneOn};
 
-    /// An ingress that has sent nothing yet, and sends at most `most_rows` rows together. Of short packets it sends a
-    /// few before it wakes the first tool (`wake_receiver`).
-    pub fn new(source: Source<R>, output: Sender, most_rows: u32) -> Ingress<R>
+    /// An ingress that has sent nothing yet. Of short packets it sends a few before it wakes the first tool
+    /// (`wake_receiver`).
+    pub fn new(source: Source<R>, output: Sender) -> Ingress<R>
         requires { IsUnread (reader_of source) source }
         ensures sending { IsIngress R.left R.failures source (sent output) result }
         ensures parts { (result.source ≡ source) × SameSender output result.output
@@ -53,7 +51,6 @@ impl<R: BytesIn + Drop> Ingress<R> {
             input: None,
             is_gone: false,
             images: 0,
-            most_rows,
         }
     }
 
@@ -158,7 +155,7 @@ impl<R: BytesIn + Drop> Ingress<R> {
         ensures same_device { R.same (reader_of self.old.source) (reader_of self.new.source) }
         ensures goes_on { HasGoneOn self.old self.new }
     {
-        match self.source.next(spares, self.most_rows) {
+        match self.source.next(spares) {
             Ok(Some(packet)) => {
                 count_image(&mut self.images, &packet);
                 self.output.send_reserved(packet);

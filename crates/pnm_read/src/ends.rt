@@ -44,7 +44,7 @@ fn is_decided(alloc: Global, text: &[u8]) -> Result<bool, InputFault>
     let mut source = Source::new(alloc, OpenReader::new(text))?;
     let mut spares = SpareRows::none(alloc);
     for _ in 0..u64::MAX {
-        match source.next(&mut spares, u32::MAX) {
+        match source.next(&mut spares) {
             Ok(Some(_)) => {}
             Ok(None) => return Ok(true),
             Err(fault) => return is_of_text(fault),

@@ -51,8 +51,8 @@ pub fn wanted_ahead(bytes: &[u8], raster: &Raster) -> usize {
     if are_within { wanted } else { 0 }
 }
 
-/// The next rows of a raster together, if it is raw: as many as are held whole, `most` at most, of which those from a
-/// sample above the maxval on stay behind, and maybe some before them. `None` if these are none; nothing is taken then.
+/// The next rows of a raster together, if it is raw: as many as are held whole, of which those from a sample above the
+/// maxval on stay behind, and maybe some before them. `None` if these are none; nothing is taken then.
 ///
 /// # Errors
 ///
@@ -61,7 +61,6 @@ pub fn take<R: BytesIn>(
     input: &mut BufferedReader<R>,
     spares: &mut SpareRows,
     raster: &Raster,
-    most: u32,
 ) -> Result<Option<Rows>, InputFault>
     ensures raw { IfOk result (λ r. IfSome r (λ _. is_plain_form raster.now.format.form ≡ false)) }
     ensures some { IfOk result (λ r. IfSome r (λ rows. 1 ≤ length rows)) }
@@ -76,8 +75,8 @@ pub fn take<R: BytesIn>(
     if raster.format.is_plain() {
         return Ok(None);
     }
-    let most = most.min(raster.shape.height - raster.y);
-    let count = count_whole(input.bytes(), raster.row_bytes(), most);
+    let left = raster.shape.height - raster.y;
+    let count = count_whole(input.bytes(), raster.row_bytes(), left);
     match raster.sample_width {
         SampleWidth::Bits | SampleWidth::Bytes => {
             let count = count_within(input.bytes(), raster, count);

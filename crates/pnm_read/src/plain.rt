@@ -30,16 +30,14 @@ const GREATEST_PIXEL: u32 = 1;
 /// How many bytes a sample usually takes, with the white space before it.
 const USUAL_BYTES: usize = 4;
 
-/// The next row, and those behind it that the held bytes determine then, `most` rows at most; or the text's fault
-/// there, `ReadFailed` or `Memory`. The last row of an image comes without others, since what follows it is looked at.
+/// The next row, and those behind it that the held bytes determine then; or the text's fault there, `ReadFailed` or
+/// `Memory`. The last row of an image comes without others, since what follows it is looked at.
 pub fn read_rows<R: BytesIn>(
     input: &mut BufferedReader<R>,
     raster: &Raster,
-    most: u32,
 ) -> Result<Rows, InputFault>
     requires row { raster.now.y < raster.now.shape.height }
     requires plain { is_plain_form raster.now.format.form ≡ true }
-    requires some { 1 ≤ most }
     ensures { ReadCall R.left R.failures R.same input.old input.new result (FindsRows raster.now result) }
 {
     let mut samples = read_samples(input, raster.shape)?;
@@ -48,7 +46,7 @@ pub fn read_rows<R: BytesIn>(
         check_end(input)?;
         return rows_of(input.allocator(), samples, raster, 1);
     }
-    let others = take_held(input, raster.shape, most.min(more) - 1, &mut samples)?;
+    let others = take_held(input, raster.shape, more - 1, &mut samples)?;
     rows_of(input.allocator(), samples, raster, others + 1)
 }
 

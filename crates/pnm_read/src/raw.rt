@@ -19,21 +19,18 @@ use crate::spare_rows::SpareRows;
 use crate::units::{append_wide, are_units_within, units_in_row};
 use pnm_image::{Bits, BytesIn, Rows, SampleVec, SampleWidth, Samples, Shape};
 
-/// The next rows: those that are held whole, `most` at most, after one read if none is; or one row, which is read to
-/// its end. No sample is above the maxval.
+/// The next rows: those that are held whole, after one read if none is; or one row, which is read to its end. No sample is above the maxval.
 pub fn read_rows<R: BytesIn>(
     input: &mut BufferedReader<R>,
     spares: &mut SpareRows,
     raster: &Raster,
-    most: u32,
 ) -> Result<Rows, InputFault>
     requires row { raster.now.y < raster.now.shape.height }
     requires raw { is_plain_form raster.now.format.form ≡ false }
-    requires some { 1 ≤ most }
     ensures { ReadCall R.left R.failures R.same input.old input.new result (FindsRows raster.now result) }
 {
     input.read_towards(held_rows::wanted_ahead(input.bytes(), raster))?;
-    match held_rows::take(input, spares, raster, most)? {
+    match held_rows::take(input, spares, raster)? {
         Some(rows) => Ok(rows),
         None => Ok(Rows::one(read_row(input, raster.shape, raster.units, raster.sample_width)?)),
     }

@@ -88,10 +88,9 @@ impl<R: BytesIn> Source<R> {
     }
 
     /// The next packet, or `None` after the end of the stream, for good. Of an image it is as many rows as are held
-    /// whole, `most_rows` at most (at least one comes), or one row, for which it reads; before them the head, if it was
-    /// just read, and behind them the image's end, if they are the last. The head comes without rows if the image is
-    /// plain, or if none of them is held whole or comes before a sample above the maxval, and with the end if there are
-    /// none.
+    /// whole, or one row, for which it reads; before them the head, if it was just read, and behind them the image's end,
+    /// if they are the last. The head comes without rows if the image is plain, or if none of them is held whole or
+    /// comes before a sample above the maxval, and with the end if there are none.
     ///
     /// The fault is the first that the text has (see `InputFault`), after all that comes before it. If the reader
     /// fails, `ReadFailed` takes the place of all later faults; if memory runs out, `Memory` does. After a fault,
@@ -99,11 +98,7 @@ impl<R: BytesIn> Source<R> {
     ///
     /// Raw rows of bits or bytes that are held whole take the memory of the spare row that was kept the longest, if
     /// they fit in it.
-    pub fn next(
-        &mut self,
-        spares: &mut SpareRows,
-        most_rows: u32,
-    ) -> Result<Option<Packet>, InputFault>
+    pub fn next(&mut self, spares: &mut SpareRows) -> Result<Option<Packet>, InputFault>
         // What is said of the text comes in turn, and then its end or its fault. Stop doesn't come.
         ensures told { Tells R.left self.old result self.new }
         ensures some { IfOk result (λ r. IfSome r (λ packet. 1 ≤ length (messages_in packet))) }
@@ -128,7 +123,7 @@ impl<R: BytesIn> Source<R> {
             ⊎ ((rest : List ℕ) → MayGive self.new rest) }
     {
         match self.state {
-            State::Awaits(awaited) => match self.go_on(awaited, spares, most_rows.max(1)) {
+            State::Awaits(awaited) => match self.go_on(awaited, spares) {
                 Ok(packet) => Ok(Some(packet)),
                 Err(fault) => {
                     self.state = State::Failed(fault);
@@ -154,55 +149,38 @@ impl<R: BytesIn> Source<R> {
     }
 
     /// The next packet, where this is awaited.
-    fn go_on(
-        &mut self,
-        awaited: Awaited,
-        spares: &mut SpareRows,
-        most_rows: u32,
-    ) -> Result<Packet, InputFault>
+    fn go_on(&mut self, awaited: Awaited, spares: &mut SpareRows) -> Result<Packet, InputFault>
         requires row { HasRow awaited }
-        requires some { 1 ≤ most_rows }
         ensures { ReadCall R.left R.failures R.same self.old.input self.new.input result
             (Gives awaited result self.new.state) }
     {
         match awaited {
-            Awaited::FirstImage => self.begin(true, spares, most_rows),
-            Awaited::Row(raster) => self.give_rows(&raster, spares, most_rows),
-            Awaited::ImageOrEnd => self.follow(spares, most_rows),
+            Awaited::FirstImage => self.begin(true, spares),
+            Awaited::Row(raster) => self.give_rows(&raster, spares),
+            Awaited::ImageOrEnd => self.follow(spares),
             Awaited::End => Ok(self.end()),
         }
     }
 
     /// The head of an image, which is the first of the stream or comes after a raw one, and the rows that are held.
-    fn begin(
-        &mut self,
-        is_first: bool,
-        spares: &mut SpareRows,
-        most_rows: u32,
-    ) -> Result<Packet, InputFault>
+    fn begin(&mut self, is_first: bool, spares: &mut SpareRows) -> Result<Packet, InputFault>
         ensures { ReadCall R.left R.failures R.same self.old.input self.new.input result
             (GivesAtStart is_first result self.new.state) }
     {
         let format = read_format(&mut self.input, is_first)?;
         let head = read_head(&mut self.input, format)?;
         let raster = Raster::new(format, head.shape());
-        let rows = held_rows::take(&mut self.input, spares, &raster, most_rows)?;
+        let rows = held_rows::take(&mut self.input, spares, &raster)?;
         Ok(self.part(Some(head), &raster, rows))
     }
 
     /// The next rows of a raster.
-    fn give_rows(
-        &mut self,
-        raster: &Raster,
-        spares: &mut SpareRows,
-        most_rows: u32,
-    ) -> Result<Packet, InputFault>
+    fn give_rows(&mut self, raster: &Raster, spares: &mut SpareRows) -> Result<Packet, InputFault>
         requires row { raster.now.y < raster.now.shape.height }
-        requires some { 1 ≤ most_rows }
         ensures { ReadCall R.left R.failures R.same self.old.input self.new.input result
             (Gives (Awaited.Row raster.now) result self.new.state) }
     {
-        let rows = read_rows(&mut self.input, spares, raster, most_rows)?;
+        let rows = read_rows(&mut self.input, spares, raster)?;
         Ok(self.part(None, raster, Some(rows)))
     }
 
@@ -224,14 +202,14 @@ impl<R: BytesIn> Source<R> {
     }
 
     /// What follows a raw image: the next one, or the end of the stream if no byte is left.
-    fn follow(&mut self, spares: &mut SpareRows, most_rows: u32) -> Result<Packet, InputFault>
+    fn follow(&mut self, spares: &mut SpareRows) -> Result<Packet, InputFault>
         ensures { ReadCall R.left R.failures R.same self.old.input self.new.input result
             (Gives Awaited.ImageOrEnd result self.new.state) }
     {
         if is_at_end(&mut self.input)? {
             return Ok(self.end());
         }
-        self.begin(false, spares, most_rows)
+        self.begin(false, spares)
     }
 
     /// The end of the stream.
@@ -262,21 +240,19 @@ fn holds_at<R: BytesIn>(input: &BufferedReader<R>, awaited: &Awaited) -> bool {
     }
 }
 
-/// The next rows of the raster, `most` at most.
+/// The next rows of the raster.
 fn read_rows<R: BytesIn>(
     input: &mut BufferedReader<R>,
     spares: &mut SpareRows,
     raster: &Raster,
-    most: u32,
 ) -> Result<Rows, InputFault>
     requires row { raster.now.y < raster.now.shape.height }
-    requires some { 1 ≤ most }
     ensures { ReadCall R.left R.failures R.same input.old input.new result (FindsRows raster.now result) }
 {
     if raster.format.is_plain() {
-        plain::read_rows(input, raster, most)
+        plain::read_rows(input, raster)
     } else {
-        raw::read_rows(input, spares, raster, most)
+        raw::read_rows(input, spares, raster)
     }
 }
 

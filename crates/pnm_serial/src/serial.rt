@@ -104,7 +104,7 @@ fn feed_all<R: BytesIn, F: Filter + Drop, W: BytesOut + Drop>(
     let mut spares = SpareRows::none(alloc);
     for _ in 0..u64::MAX {
         flush_before_read(source, fused_sink);
-        let next = source.next(&mut spares, u32::MAX)?;
+        let next = source.next(&mut spares)?;
         match next {
             Some(packet) => feed_through(alloc, stages, packet, fused_sink),
             None => return Ok(()),

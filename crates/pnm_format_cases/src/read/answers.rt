@@ -31,29 +31,28 @@ pub fn source_by<R: BytesIn + Drop>(
     }
 }
 
-/// Adds all that a source answers up to its end, and a word if it doesn't stay there. What comes together, at most
-/// `most_rows` rows, stands between braces, but not where rows come one by one. All rows that were told become spare
-/// ones.
+/// Adds all that a source answers up to its end, and a word if it doesn't stay there. What comes together stands
+/// between braces, unless it is told apart. All rows that were told become spare ones.
 pub fn write_answers<R: BytesIn>(
     alloc: Global,
     source: &mut Source<R>,
-    most_rows: u32,
+    is_apart: bool,
     out: &mut String,
 ) -> Result<(), AllocError> {
     let mut spares = SpareRows::new(alloc)?;
     for _ in 0..MOST_ANSWERS {
-        match source.next(&mut spares, most_rows) {
+        match source.next(&mut spares) {
             Ok(Some(packet)) => {
                 let is_end = matches!(&packet, Packet::StreamEnd);
-                write_given(alloc, packet, most_rows, out, &mut spares)?;
+                write_given(alloc, packet, is_apart, out, &mut spares)?;
                 if is_end {
-                    return write_stays(source, None, most_rows, out, &mut spares);
+                    return write_stays(source, None, out, &mut spares);
                 }
             }
             Ok(None) => return out.push_str(" nothing"),
             Err(fault) => {
                 write!(out, " {fault}")?;
-                return write_stays(source, Some(fault), most_rows, out, &mut spares);
+                return write_stays(source, Some(fault), out, &mut spares);
             }
         }
     }
@@ -64,24 +63,16 @@ pub fn write_answers<R: BytesIn>(
 fn write_given(
     alloc: Global,
     packet: Packet,
-    most_rows: u32,
+    is_apart: bool,
     out: &mut String,
     spares: &mut SpareRows,
 ) -> Result<(), AllocError> {
-    let outcome = match (&packet, most_rows) {
-        (Packet::Part(part), 1) if !has_several_rows(part) => write_part(alloc, out, part),
+    let outcome = match &packet {
+        Packet::Part(part) if is_apart => write_part(alloc, out, part),
         _ => write_packet(alloc, out, &packet),
     };
     spare_rows(packet, spares);
     outcome
-}
-
-/// Whether rows came together.
-fn has_several_rows(part: &Part) -> bool {
-    match part.parts().1 {
-        Some(rows) => rows.are_several(),
-        None => false,
-    }
 }
 
 /// Drops what was given at once, but for its rows, which become spare ones.
@@ -99,12 +90,11 @@ fn spare_rows(packet: Packet, spares: &mut SpareRows) {
 fn write_stays<R: BytesIn>(
     source: &mut Source<R>,
     fault: Option<InputFault>,
-    most_rows: u32,
     out: &mut String,
     spares: &mut SpareRows,
 ) -> Result<(), AllocError> {
     for _ in 0..3 {
-        if !is_same(source.next(spares, most_rows), fault) {
+        if !is_same(source.next(spares), fault) {
             out.push_str(" and another answer")?;
         }
     }
@@ -122,7 +112,7 @@ fn is_same(answer: Result<Option<Packet>, InputFault>, fault: Option<InputFault>
 /// Adds the answers to a text that comes at once.
 pub fn write_whole(alloc: Global, text: &[u8], out: &mut String) -> Result<(), AllocError> {
     let mut source = source_by(alloc, None, Device::new(text))?;
-    write_answers(alloc, &mut source, 1, out)
+    write_answers(alloc, &mut source, true, out)
 }
 
 /// Whether the answers are `whole` if a read gives up to `most` bytes, and no read follows one that gave none.
@@ -189,7 +179,7 @@ fn first_width<R: BytesIn>(alloc: Global, source: &mut Source<R>) -> &'static st
 
 /// How the samples of the next row are held, if it comes at once.
 fn next_width<R: BytesIn>(source: &mut Source<R>, spares: &mut SpareRows) -> Option<&'static str> {
-    match source.next(spares, 1) {
+    match source.next(spares) {
         Ok(Some(Packet::Part(part))) => width_in(&part),
         _ => None,
     }

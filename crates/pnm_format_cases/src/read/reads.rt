@@ -20,19 +20,19 @@ pub struct Reading<'a> {
     failing: usize,
     /// How many bytes the buffer has; `None` if the source makes its own.
     size: Option<usize>,
-    /// How many rows come together at most.
-    most_rows: u32,
+    /// Whether each message is told by itself, and not what comes together between braces.
+    is_apart: bool,
 }
 
 impl<'a> Reading<'a> {
-    /// A reading of up to `most` bytes a read, in which no read fails and rows come one by one.
+    /// A reading of up to `most` bytes a read, in which no read fails. Each message is told by itself.
     pub fn of(text: &'a [u8], most: usize) -> Reading<'a> {
         Reading {
             text,
             most,
             failing: 0,
             size: None,
-            most_rows: 1,
+            is_apart: true,
         }
     }
 }
@@ -54,14 +54,14 @@ pub fn write_recorded(
     let drips = Drips::new(reading.text, reading.most, failing_at(reading.failing));
     let mut reader = Recorded::new(alloc, drips);
     let mut source = source_by(alloc, reading.size, Device::new(&mut reader))?;
-    write_answers(alloc, &mut source, reading.most_rows, out)?;
+    write_answers(alloc, &mut source, reading.is_apart, out)?;
     let _ = source.into_reader();
     Vec::from_slice(alloc, reader.calls())
 }
 
 /// Adds the answers to a text, and what each read asked for and got. The line says how many bytes a read gives at most,
-/// and which read fails, counted from 1. `how` says whether rows come together, and whether the line begins with the
-/// size of the buffer that the source reads through.
+/// and which read fails, counted from 1. `how` says whether what comes together is told so, and whether the line begins
+/// with the size of the buffer that the source reads through.
 pub fn write_reads(
     alloc: Global,
     how: How,
@@ -76,16 +76,13 @@ pub fn write_reads(
         _ => (None, line),
     };
     let (most, failing, text) = cut_pair(rest);
-    let most_rows = match how {
-        How::Together | How::TogetherBy => u32::MAX,
-        _ => 1,
-    };
+    let is_apart = matches!(how, How::Reads | How::ReadsBy);
     let reading = Reading {
         text,
         most,
         failing,
         size,
-        most_rows,
+        is_apart,
     };
     let calls = write_recorded(alloc, reading, out)?;
     write_calls(calls.as_slice(), out)
@@ -142,7 +139,7 @@ fn reads_of(
     let mut source = source_by(alloc, None, Device::new(&mut reader))?;
     let mut spares = SpareRows::none(alloc);
     for _ in 0..count {
-        let _ = source.next(&mut spares, 1);
+        let _ = source.next(&mut spares);
     }
     let is_held = source.holds_next();
     let _ = source.into_reader();

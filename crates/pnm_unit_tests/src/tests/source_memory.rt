@@ -39,7 +39,7 @@ fn gives_parts<R: BytesIn>(rt: &impl Abort, alloc: Global, source: &mut Source<R
         if given == PARTS.len() {
             return packets;
         }
-        match source.next(&mut spares, u32::MAX) {
+        match source.next(&mut spares) {
             Ok(Some(packet)) => are_wanted(rt, &packet, PARTS, &mut given),
             Ok(None) => holds(rt, false, &"an end", &"the next part", &given),
             Err(fault) => {

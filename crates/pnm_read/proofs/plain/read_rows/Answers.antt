@@ -48,7 +48,7 @@ pub returns : goal.returns
 returns g c =
     let raster = c.args.raster.now in
     let more = raster.shape.height - raster.y - 1 in
-    let few : c.in_ok-others.others < more = omega (arith, c.in_ok-others.ensures.most, c.min.ensures, c.requires.some) in
+    let few : c.in_ok-others.others < more = omega (arith, c.in_ok-others.ensures.most) in
     more_found raster more c.requires.plain
     (omega (arith, c.requires.row)) few c.in_ok-others.ensures.taken c.in_ok-others.ensures.reader c.in_ok-others.ensures.ended c.rows_of-2.ensures.rows
     c.rows_of-2.ensures.refused (words_found c.in_ok-samples.ensures)
