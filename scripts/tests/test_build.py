@@ -10,13 +10,12 @@ import shutil
 import signal
 import subprocess
 import sys
-import tempfile
 import time
 import types
 import unittest
 import unittest.mock
 
-from support import SCRIPTS
+from support import SCRIPTS, Folder
 
 import build
 import crates
@@ -142,10 +141,10 @@ cp "$3" "$2" && chmod 755 "$2"
 '''
 
 
-class Repository(unittest.TestCase):
+class Repository(Folder):
     def setUp(self):
-        self.folder = os.path.realpath(tempfile.mkdtemp())
-        self.addCleanup(shutil.rmtree, self.folder)
+        super().setUp()
+        self.folder = os.path.realpath(self.folder)
         self.root = self.path("root")
         own = ("build", "change", "crates", "gate_crates", "gate_library", "library", "places")
         self.write("root/scripts/edits.py", EDITS)
@@ -167,19 +166,13 @@ class Repository(unittest.TestCase):
         self.write("root/VERSION", "1.2.3\n")
         tools = [(f"bin/{tool}", TOOL) for tool in TOOLS]
         for file, text in (("bin/rt", RT), ("kit/bin/rattle", RATTLE), ("kit/bin/rattle-link", LINK), *tools):
-            self.write(file, text)
-            os.chmod(self.path(file), 0o755)
+            self.write(file, text, 0o755)
         for library in ("std", "thiserror", "clap"):
             os.makedirs(self.path(f"kit/rlibs/{library}.rlib"))
         os.mkdir(self.path("tmp"))
 
-    def path(self, name):
-        return os.path.join(self.folder, name)
-
-    def write(self, name, text):
-        os.makedirs(os.path.dirname(self.path(name)), exist_ok=True)
-        with open(self.path(name), "w", encoding="utf-8") as file:
-            file.write(text)
+    def write(self, name, text, mode=0o644):
+        return super().write(name, text.encode(), mode)
 
     def notes(self):
         """What the stand-in has noted since the last call."""

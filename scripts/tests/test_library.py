@@ -87,6 +87,7 @@ TYPES = {
 # and as the header has those of the functions, which take any pointer
 OF_HEADER = {"const char *": "const uint8_t *", "const void *": "const uint8_t *", "void *": "uint8_t *"}
 
+
 def without_comments(text):
     return re.sub(r"/\*.*?\*/", " ", text, flags=re.S)
 
@@ -246,10 +247,6 @@ def faults_of_commands(driver):
     # those that ask for help or the version, or have wrong words, aren't runs
     if count < len(stored) / 2:
         yield f"only {count} runs of {len(stored)} commands"
-
-
-def command_of(chain):
-    return next(it for it in refused.commands_over(1) if it.words[-1] == chain)
 
 
 def faults_of_memory(built):
