@@ -6,15 +6,12 @@ import re
 import sys
 from array import array
 
-from slow_reader import Fault, magic, pam_head, pnm_head
+from slow_reader import MOST_GAP, MOST_HEADER, Fault, magic, read_head
 
 BLANKS = b" \t\r\n"
 
 # bytes of a read, of a piece of a plain raster, and of a header that most have room in
 ROOM, PIECE, SHORT_HEADER = 1 << 20, 1 << 16, 256
-
-# the most bytes of a header, and of a plain raster from one sample's last digit through the next one's
-MOST_HEADER, MOST_GAP = 65_536, 1_048_576
 
 # the most digits that a number is made of at once
 MOST_DIGITS = 1_000
@@ -151,15 +148,12 @@ class Reader:
         start = self.image.start
         try:
             kind, self.image.is_plain = magic(text, self.image.number > 1)
-            header = text[:MOST_HEADER]
-            self.image.head, length = pam_head(header) if kind == "Pam" else pnm_head(kind, header)
+            self.image.head, length = read_head(kind, text)
             return length
         except Fault as fault:
             name = str(fault)
             if name in ("HeaderCut", "EmptyInput") and len(text) < most and self.stream.failure:
                 raise Fault("ReadFailed", start + len(text), self.stream.failure) from None
-            if name == "HeaderCut" and len(text) > MOST_HEADER:
-                raise Fault("TooLong", start + MOST_HEADER) from None
             raise Fault(name, start + (len(text) if name == "HeaderCut" else fault.at), fault.what) from None
 
     def read_raster(self):

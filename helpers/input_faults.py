@@ -4,7 +4,8 @@ to do. `pnmpipe-explain` uses it."""
 import errno
 import re
 
-from image_stream import BLANKS, MOST_GAP, MOST_HEADER, PIECE
+from image_stream import BLANKS, PIECE
+from slow_reader import MOST_GAP, MOST_HEADER
 
 KINDS = {"Bit": "PBM", "Gray": "PGM", "Color": "PPM", "Pam": "PAM"}
 

@@ -77,7 +77,7 @@ def read_head(kind, text):
         return pam_head(text[:MOST_HEADER]) if kind == "Pam" else pnm_head(kind, text[:MOST_HEADER])
     except Fault as fault:
         if str(fault) == "HeaderCut" and len(text) > MOST_HEADER:
-            raise Fault("TooLong") from None
+            raise Fault("TooLong", MOST_HEADER) from None
         raise
 
 
