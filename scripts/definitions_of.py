@@ -6,12 +6,10 @@ From the clauses of the function's contract it follows each name to its definiti
 constants that the code declares, and the toolchain's own definitions, aren't counted. It tells how many definitions
 there are, in how many files, how many such members, and how many of all are bookkeeping: what BOOKKEEPING names, with
 the reason there.
---files tells the counts of each file, and --names the definitions. The count goes by names alone: a variable that has a
-definition's name counts as that.
+--names tells the definitions. The count goes by names alone: a variable that has a definition's name counts as that.
 """
 
 import argparse
-import collections
 import glob
 import os
 import re
@@ -248,21 +246,16 @@ def main():
     parser = argparse.ArgumentParser(description=__doc__, formatter_class=argparse.RawDescriptionHelpFormatter)
     parser.add_argument("function", metavar="CRATE::FUNCTION")
     parser.add_argument("--root", default=ROOT, help="the folder that has crates")
-    parser.add_argument("--files", action="store_true")
     parser.add_argument("--names", action="store_true")
     args = parser.parse_args()
     found = definitions_of(args.root, args.function)
     of_specs = [name for name in found if not name.file.endswith(".rt")]
-    files = collections.Counter(name[:2] for name in found)
     kept = [name for name in found if is_bookkeeping(name)]
     for name in gone(Specs(args.root)):
         print(f"definitions_of: BOOKKEEPING names {name}, which isn't there any more")
     if args.names:
         for name in sorted(found):
             print(f"{name.crate} {name.file} {name.name}{' (bookkeeping)' * is_bookkeeping(name)}")
-    if args.files:
-        for (crate, file), count in sorted(files.items(), key=lambda each: (-each[1], each[0])):
-            print(f"{count:4} {crate} {file}")
     told = f"{len(of_specs)} definitions in {len({name[:2] for name in of_specs})} files of specs"
     told += f" and {len(found) - len(of_specs)} ghost members, {len(kept)} of all bookkeeping"
     print(f"{args.function}: {told}")
