@@ -15,6 +15,7 @@ Whether a header is held whole is asked before each image, so the search for its
 """
 
 import argparse
+import itertools
 import os
 import resource
 import shlex
@@ -96,52 +97,34 @@ def peak_of(process):
         return next(int(line.split()[1]) for line in status if line.startswith("VmHWM:")) // 1024
 
 
-def check_tiles(args):
-    """Whether `pnmtile` takes less than what the whole image would, and shows what it has to. Gives 1 where not."""
-    row = bytes(range(250)) * (WIDE // 250)
-    want = b"P5\n%d %d\n255\n" % (SHOWN, HIGH) + row[:SHOWN] * HIGH
-    words = [args.program, f"pnmtile {SHOWN} {HIGH}"]
-    with subprocess.Popen(words, stdin=subprocess.PIPE, stdout=subprocess.PIPE) as child:
-
-        def give():
-            child.stdin.write(b"P5\n%d %d\n255\n" % (WIDE, HIGH))
-            for _ in range(HIGH):
-                child.stdin.write(row)
-            child.stdin.flush()
-
-        giver = threading.Thread(target=give)
+def check_memory(args, chain, given, want, come, most):
+    """Whether a chain makes of these parts of an input what it has to, and less memory than so many MB is resident once
+    so much of that has come, while the input is still open. Gives 1 where not."""
+    with subprocess.Popen([args.program, chain], stdin=subprocess.PIPE, stdout=subprocess.PIPE) as child:
+        giver = threading.Thread(target=lambda: [*map(child.stdin.write, given), child.stdin.flush()])
         giver.start()
-        # the whole result comes while the input is open, and the program waits for another image
-        written = child.stdout.read(len(want))
+        written = child.stdout.read(come)
         resident = peak_of(child)
         giver.join()
         child.stdin.close()
-        rest = child.stdout.read()
-    print(f"room: {resident} MB for {SHOWN} columns of {WIDE} by {HIGH}")
-    is_right = written == want and not rest
-    return 0 if is_right and child.returncode == 0 and resident < RESIDENT else 1
+        written += child.stdout.read()
+    print(f"room: {resident} MB for {chain}")
+    return 0 if written == want and child.returncode == 0 and resident < most else 1
+
+
+def check_tiles(args):
+    row = bytes(range(250)) * (WIDE // 250)
+    want = b"P5\n%d %d\n255\n" % (SHOWN, HIGH) + row[:SHOWN] * HIGH
+    given = itertools.chain([b"P5\n%d %d\n255\n" % (WIDE, HIGH)], itertools.repeat(row, HIGH))
+    # (the whole result comes, and the program waits for another image)
+    return check_memory(args, f"pnmtile {SHOWN} {HIGH}", given, want, len(want), RESIDENT)
 
 
 def check_column(args):
-    """Whether a plain column is turned upside down in little memory. Gives 1 where not."""
     digits = "".join(f"{byte:08b}" for byte in range(256)).encode() * (TALL // 2048)
     want = b"P4\n1 %d\n" % TALL + digits[::-1].translate(bytes.maketrans(b"01", b"\x00\x80"))
-    words = [args.program, "pamflip -tb"]
-    with subprocess.Popen(words, stdin=subprocess.PIPE, stdout=subprocess.PIPE) as child:
-
-        def give():
-            child.stdin.write(b"P1\n1 %d\n" % TALL + digits)
-            child.stdin.close()
-
-        giver = threading.Thread(target=give)
-        giver.start()
-        # the rest is more than a pipe holds, so the program hasn't ended yet
-        written = child.stdout.read(TALL // 2)
-        resident = peak_of(child)
-        written += child.stdout.read()
-        giver.join()
-    print(f"room: {resident} MB for a plain column of {TALL}")
-    return 0 if written == want and child.returncode == 0 and resident <= RESIDENT_OF_TALL else 1
+    # (the rest is more than a pipe holds, so the program hasn't ended yet)
+    return check_memory(args, "pamflip -tb", [b"P1\n1 %d\n" % TALL, digits, b"\n"], want, TALL // 2, RESIDENT_OF_TALL)
 
 
 def seconds_of_pixels(args, last_line):
