@@ -1,6 +1,7 @@
-/* What stands between C and the proved functions. These take no null pointer: one beside a length of 0 becomes a
- * pointer to a byte that isn't read, and any other is answered by PNMPIPE_NULL. Nor do they touch descriptors:
- * pnmpipe_run_fd reads and writes, and calls one for what it has read. And the names of the codes stand here. */
+/* The C layer above the proved functions: null checks, file descriptors, and the names of the codes. The proved
+ * functions take no null pointer: one with length 0 becomes a pointer to a byte that isn't read, and for any other the
+ * answer is PNMPIPE_NULL. Nor do they touch descriptors: pnmpipe_run_fd reads and writes, and calls them for what it
+ * has read. */
 #define _POSIX_C_SOURCE 200809L
 #include "pnmpipe.h"
 #include <errno.h>

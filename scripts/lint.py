@@ -1,10 +1,10 @@
 #!/usr/bin/env python3
-"""Wants what is written in this repository to be so, as `make lint` does: the crates' sources in layout and of some
-length at most (`lint_sources.py`), pages, completions and documents that say what the sources do (`lint_documents.py`),
-the same names, options and ranges of the tools everywhere (`lint_tools.py`), what `make tables` writes (`tables.py`),
-words of contracts in the folder where a reader looks for them (`lint_words.py`), an edit that must fail of each
-exported function (`lint_edits.py`), and scripts that python3, sh and, where they are installed, shellcheck, zsh and
-fish read without a fault, with lines of at most 120 columns. Given folders, it reads the sources in these alone.
+"""Checks sources, pages, documents and scripts against each other (`make lint`): layout and length limits of sources
+(`lint_sources.py`); pages, completions and documents against the sources (`lint_documents.py`); the tools' names,
+options and ranges everywhere (`lint_tools.py`); what `make tables` writes (`tables.py`); the folder of each word of a
+contract (`lint_words.py`); an edit that must fail for each exported function (`lint_edits.py`); and scripts, which
+python3, sh and, where they are installed, shellcheck, zsh and fish have to read, with lines of at most 120 columns.
+With folders as arguments, it checks only the sources in these.
 """
 
 import glob

@@ -35,7 +35,7 @@ pub extern "C" fn pnm_c_run(
     answer.code
 }
 
-/// As `pnm_c_run`, with the results in a block that C frees.
+/// Runs as `pnm_c_run` does, with the results in a block that C frees.
 #[unsafe(no_mangle)]
 pub extern "C" fn pnm_c_run_new(
     alloc: Global,
@@ -54,8 +54,9 @@ pub extern "C" fn pnm_c_run_new(
     answer.code
 }
 
-/// Where the image ends that a text begins with, of which more may follow. Returns 0 or the number of a fault that the
-/// header has, whatever follows. If the end is beyond the text, so many bytes have to be there before more can be said.
+/// Finds the end of the image that a text begins with. More of the text may follow. Returns 0, or the number of a fault
+/// that the header has, whatever follows. If `end` is beyond the text, that many bytes are needed before more can be
+/// said.
 #[unsafe(no_mangle)]
 pub extern "C" fn pnm_c_image_end(alloc: Global, text: &[u8], is_first: u32, end: &mut usize) -> u32
     ensures { IsReportedEnd text.now is_first result end.new }

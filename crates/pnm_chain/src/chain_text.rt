@@ -48,7 +48,7 @@ pub enum ChainKind {
     /// The value or the argument isn't a number, is out of range, or is too long; or the option takes no value.
     #[error("BadValue")]
     BadValue,
-    /// The options, or an argument and an option, can't be given together.
+    /// The options, or an argument and an option, exclude each other.
     #[error("Conflict")]
     Conflict,
     /// The tool wants another argument, a way to flip, or a factor.

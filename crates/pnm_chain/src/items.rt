@@ -9,11 +9,11 @@ ghost use Rattle.pnm_chain.specs.Internal.Settings.{item_read, value_read};
 use crate::options::{ToolName, ToolOption};
 use crate::word::split_word;
 
-/// What a word, or an option's word and its value, says.
+/// What a word says, or an option's word with its value.
 #[derive(Clone, Copy, Debug)]
 pub(crate) enum Item<'a> {
     Argument(&'a [u8]),
-    /// An option of the tool, and its value, if one is given.
+    /// An option of the tool, and its value, if it has one.
     Given(ToolOption, Option<&'a [u8]>),
     /// An option that the tool doesn't have.
     Unknown,

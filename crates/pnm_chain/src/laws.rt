@@ -5,7 +5,7 @@ ghost use Rattle.pnm_chain.specs.ChainText.{ChainFaultsArePlaced, OneChainOrOneF
 ghost use Rattle.pnm_chain.specs.declared.chain_text.TheConstants.{MAX_TEXT_LENGTH};
 ghost use Rattle.std.specs.Prelude.{◌≡◌};
 
-/// Small texts of chains, their faults and what they mean, as the definitions compute them.
+/// What the definitions make of small texts of chains: their faults and what they mean.
 pub fn chain_texts_hold()
     ensures { ChainTextsHold }
 {}
@@ -26,7 +26,7 @@ pub fn spelled_chains_are_lawful()
     ensures { SpelledChainsAreLawful }
 {}
 
-/// The limit of a chain's text in a number: the definitions have it by its name, from the code.
+/// The limit of a chain's text in a number. The definitions take it from the code by its name.
 pub fn limits_are()
     ensures text_length { MAX_TEXT_LENGTH ≡ 4096 }
 {}

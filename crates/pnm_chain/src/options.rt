@@ -117,7 +117,7 @@ impl ToolOption {
     }
 }
 
-/// The option of `pamcut` with this name.
+/// Returns the option of `pamcut` with this name.
 #[tactic(auto, using(crate::proofs::NameLaws::tried_after), unfolding(crate::specs::Options::cut_option))]
 fn cut_option(name: &[u8]) -> Option<ToolOption>
     ensures { result ≡ cut_option name.now }
@@ -130,7 +130,7 @@ fn cut_option(name: &[u8]) -> Option<ToolOption>
         .or(spelled(name, b"height", ToolOption::Height))
 }
 
-/// The option of `pamchannel` with this name.
+/// Returns the option of `pamchannel` with this name.
 #[tactic(auto, using(crate::proofs::NameLaws::tried_after), unfolding(crate::specs::Options::channel_option))]
 fn channel_option(name: &[u8]) -> Option<ToolOption>
     ensures { result ≡ channel_option name.now }
@@ -138,14 +138,14 @@ fn channel_option(name: &[u8]) -> Option<ToolOption>
     spelled(name, b"tupletype", ToolOption::TupleType)
 }
 
-/// The option of `pamenlarge` with this name.
+/// Returns the option of `pamenlarge` with this name.
 fn enlarge_option(name: &[u8]) -> Option<ToolOption>
     ensures { result ≡ enlarge_option name.now }
 {
     spelled(name, b"xscale", ToolOption::XScale).or(spelled(name, b"yscale", ToolOption::YScale))
 }
 
-/// The option of `pamflip` with this name, but for the turns.
+/// Returns the option of `pamflip` with this name, except for the turns.
 fn flip_option(name: &[u8]) -> Option<ToolOption>
     ensures { result ≡ flip_option name.now }
 {
@@ -158,7 +158,7 @@ fn flip_option(name: &[u8]) -> Option<ToolOption>
         .or(spelled(name, b"transpose", ToolOption::Way(FlipWay::Transpose)))
 }
 
-/// The turn of `pamflip` with this name.
+/// Returns the turn of `pamflip` with this name.
 fn turn_option(name: &[u8]) -> Option<ToolOption>
     ensures { result ≡ turn_option name.now }
 {

@@ -98,7 +98,7 @@ impl<'a> Settings<'a> {
         self.meant(alloc)
     }
 
-    /// Returns true if three options of an axis are given together, or an argument and a scale.
+    /// Returns true if three options of an axis are set, or an argument and a scale.
     fn is_conflict(&self) -> bool
         ensures { result ≡ (tool_rule self.now.tool).conflict (said_by self.now) }
     {
@@ -150,8 +150,7 @@ impl<'a> Settings<'a> {
         self.numbers.get(at).copied().unwrap_or(0)
     }
 
-    /// Returns a factor. The one argument is both factors, or each factor has a scale of its own. A scale that isn't
-    /// given is 1.
+    /// Returns a factor. The one argument is both factors, or each factor has a scale of its own. A missing scale is 1.
     fn factor(&self, scale: Option<u32>) -> u32
         ensures { result ≡ factor_by self.now.numbers.items scale }
     {
@@ -175,7 +174,7 @@ impl<'a> Settings<'a> {
         Ok(Planes::new(planes, tuple_type))
     }
 
-    /// Returns true if the option was given.
+    /// Returns true if the option was set.
     fn has(&self, option: ToolOption) -> bool
         ensures { result ≡ has_option (said_by self.now) option }
     {
@@ -266,7 +265,7 @@ fn set_extent(extent: &mut Option<u32>, word: &[u8]) -> Result<(), ChainKind>
     Ok(())
 }
 
-/// Returns true if both edges and the size of an axis are given.
+/// Returns true if both edges and the size of an axis are set.
 fn has_three(cut: &CutBox) -> bool
     ensures { result ≡ has_three cut.now }
 {

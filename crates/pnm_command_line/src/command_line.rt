@@ -20,7 +20,7 @@ use std::alloc::{AllocError, Global};
 /// The version, as in the file VERSION.
 const VERSION: &str = "0.1.0";
 
-/// What a call for the version prints.
+/// The line that `--version` prints.
 pub const VERSION_LINE: &str = "pnmpipe 0.1.0\n";
 
 /// How the program is called.
@@ -66,14 +66,14 @@ pub struct CommandLine<'a> {
     pub form: Form,
 }
 
-/// Why words name no run.
+/// Why the words name no run.
 #[derive(Debug, Drop)]
 pub enum CommandLineFault {
     /// They ask for help, which is this text.
     Help(String),
     /// They ask for the version.
     Version,
-    /// They are no command line.
+    /// They are wrong.
     Usage,
     /// Memory ran out.
     Memory,
@@ -111,7 +111,7 @@ pub fn read_words<'a>(
     })
 }
 
-/// The form that the flag asks for.
+/// Returns the form that the flag asks for.
 fn form_by(is_plain: Option<bool>) -> Form
     ensures { result ≡ form_by is_plain }
 {
@@ -121,7 +121,7 @@ fn form_by(is_plain: Option<bool>) -> Form
     }
 }
 
-/// The command that reads the words.
+/// Returns the command that reads the words.
 fn program<'a>(alloc: Global) -> Result<Command<'a>, AllocError>
     ensures { IfOk result (λ command. app_of command ≡ program) }
 {
@@ -132,7 +132,7 @@ fn program<'a>(alloc: Global) -> Result<Command<'a>, AllocError>
         .arg(chain_argument(alloc))
 }
 
-/// The command before it has arguments.
+/// Returns the command before it has arguments.
 fn described<'a>(alloc: Global) -> Command<'a>
     ensures { app_of result ≡ named }
 {
@@ -143,7 +143,7 @@ fn described<'a>(alloc: Global) -> Command<'a>
         .after_help(AFTER_HELP)
 }
 
-/// The argument `CHAIN`.
+/// Returns the argument `CHAIN`.
 fn chain_argument<'a>(alloc: Global) -> Arg<'a>
     ensures { rule_of result ≡ chain_rule }
 {
@@ -153,7 +153,7 @@ fn chain_argument<'a>(alloc: Global) -> Arg<'a>
         .help(CHAIN_HELP)
 }
 
-/// The option `--ring`.
+/// Returns the option `--ring`.
 fn ring_option<'a>(alloc: Global) -> Arg<'a>
     ensures { rule_of result ≡ ring_rule }
 {
@@ -161,7 +161,7 @@ fn ring_option<'a>(alloc: Global) -> Arg<'a>
     value_option(alloc, "ring", "N", parser, "64", RING_HELP)
 }
 
-/// The option `--lanes`.
+/// Returns the option `--lanes`.
 fn lanes_option<'a>(alloc: Global) -> Arg<'a>
     ensures { rule_of result ≡ lanes_rule }
 {
@@ -169,7 +169,7 @@ fn lanes_option<'a>(alloc: Global) -> Arg<'a>
     value_option(alloc, "lanes", "K", parser, "1", LANES_HELP)
 }
 
-/// An option whose value this parser reads, and which has the default if it isn't given.
+/// Returns an option whose value this parser reads. Without the option, the value is the default.
 fn value_option<'a>(
     alloc: Global,
     name: &'a str,
@@ -189,7 +189,7 @@ fn value_option<'a>(
         .help(help)
 }
 
-/// The option `--plain`.
+/// Returns the option `--plain`.
 fn plain_option<'a>(alloc: Global) -> Arg<'a>
     ensures { rule_of result ≡ plain_rule }
 {
@@ -199,7 +199,7 @@ fn plain_option<'a>(alloc: Global) -> Arg<'a>
         .help(PLAIN_HELP)
 }
 
-/// The fault for this error of `clap`.
+/// Returns the fault for this error of `clap`.
 fn fault_of(alloc: Global, error: &clap::Error) -> CommandLineFault
     ensures { FitsKind (kind_of error.now) result }
 {

@@ -11,18 +11,18 @@ use std::io::Write;
 /// The room for a line. The longest, of usage, has 63 bytes.
 const LINE_ROOM: usize = 128;
 
-/// Prints the usage line, for words that are no command line. If it can't be written, it is left out.
+/// Prints the usage line, for wrong words. A failed write is ignored.
 pub fn print_usage<E: Write>(errors: &mut E) {
     print_fault(errors, "usage", &USAGE);
 }
 
-/// Prints the line for want of memory before the chain is read. If it can't be written, it is left out.
+/// Prints the line for want of memory before the chain is read. A failed write is ignored.
 pub fn print_want_of_memory<E: Write>(errors: &mut E) {
     print_fault(errors, "command line", &"Memory");
 }
 
-/// Prints the line for a text that is no chain: the number of the stage, unless that is 0, and the kind of the fault.
-/// If it can't be written, it is left out.
+/// Prints the line for a text that isn't a chain: the number of the stage, unless that is 0, and the kind of the fault.
+/// A failed write is ignored.
 pub fn print_chain_fault<E: Write>(errors: &mut E, fault: ChainFault) {
     let ChainFault { stage, kind } = fault;
     if stage == 0 {
@@ -32,7 +32,7 @@ pub fn print_chain_fault<E: Write>(errors: &mut E, fault: ChainFault) {
     }
 }
 
-/// Prints the line for a run that ended in a fault. If it can't be written, it is left out.
+/// Prints the line for a run that ended in a fault. A failed write is ignored.
 pub fn print_run_fault<E: Write>(errors: &mut E, fault: RunFault) {
     match fault {
         RunFault::NoStart => print_line(errors, "NoStart"),
@@ -60,8 +60,8 @@ fn print_numbered_fault<E: Write, F: Display>(
     print_line(errors, format_args!("{place} {number}: {fault}"));
 }
 
-/// Prints a line that is no more than this text, in one write, so that the lines of programs that share standard error
-/// don't mix. It puts the line together on the stack, since the line may say that memory ran out.
+/// Prints this text as a line in one write, so that the lines of programs that share standard error don't mix. The line
+/// is put together on the stack, since it may say that memory ran out.
 #[inline(never)]
 fn print_line<E: Write, T: Display + Drop>(errors: &mut E, text: T) {
     let mut line = ArrayString::<LINE_ROOM>::new();

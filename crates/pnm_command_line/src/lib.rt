@@ -1,5 +1,5 @@
-//! The words of the command line: what they name, as `clap` reads them, the help text and the version; the lines that
-//! are printed for faults; and what the program does with its words, whatever runs the tools.
+//! The words of the command line, as `clap` reads them, the help text and the version; the lines for faults; and what
+//! the program does with its words, whatever runs the tools.
 #![tactic(auto)]
 
 mod command_line;

@@ -26,12 +26,12 @@ pub(crate) const RUN_FAULT: u8 = 1;
 pub const COMMAND_LINE_FAULT: u8 = 2;
 
 /// Runs the program: `words` are its own name, options and the chain. It has the runner read the images of `input` and
-/// write those that come out to `output`, in the form that the words ask for. It buffers what it writes, and makes a
-/// call again that a signal has interrupted. If the words ask for help or the version, it writes that to `output` and
-/// reads nothing. At a fault it prints one line to `errors`; if that can't be written, nothing else changes.
+/// write the results to `output`, in the form that the words ask for. It buffers what it writes, and repeats a call
+/// that a signal has interrupted. If the words ask for help or the version, it writes that to `output` and reads
+/// nothing. At a fault it prints one line to `errors`. If that can't be written, nothing else changes.
 ///
 /// The status is 0 if all went well, or if the words ask for help or the version; 1 after a fault of the run; and 2 if
-/// the words name no chain, or if memory ran out before the run, and then nothing is read or written.
+/// the words name no chain, or if memory ran out before the run. With status 2 nothing is read or written.
 pub fn command<
     A: Runner,
     H: AllocGlobal + Threads + Wait + Sync,
@@ -41,9 +41,9 @@ pub fn command<
 >(rt: &H, runner: &A, words: &[String], input: R, output: W, errors: &mut E) -> Ended<R, W>
     ensures status { result.status ≤ 2 }
     ensures untouched { result.status ≡ 2 → (result.input ≡ input) × IfSome result.output (λ w. w ≡ output) }
-    // What was kept back is dropped after a fault of the run alone.
+    // What was kept back stays unwritten only after a fault of the run.
     ensures whole { result.status ≢ 1 → result.unwritten.items ≡ [] }
-    // Help reads nothing, and fails only for want of memory, whatever becomes of its text.
+    // Help reads nothing, and fails only for want of memory, even if its text can't be written.
     ensures help { AsksForHelp (map string_bytes words.now) → (result.status ≢ 1) × (result.input ≡ input) }
     ensures helped { AsksForHelp (map string_bytes words.now) → result.status ≡ 0
         → (text : List ℕ) × Appends (W.contents output) (held_at_end W.contents result) text }

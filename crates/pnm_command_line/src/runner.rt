@@ -14,13 +14,13 @@ use pnm_tools::Tool;
 use std::sync::Wait;
 use std::thread::Threads;
 
-/// What runs the tools that the words name, so that what is made of words is proved beside the runs.
+/// What runs the tools that the words name. With it the code that handles the words is proved beside the runs.
 pub trait Runner {
     /// What is known of a run, by its number of lanes, its job, its answer, and what it read and wrote.
     ghost has_run: { RunRelation };
 
-    /// Reads the images of the reader, passes them through the tools and writes what comes out in the form, over rings
-    /// of `capacity` packets and `lanes` lanes of each row-wise tool.
+    /// Reads the images of the reader, passes them through the tools and writes the results in the form, over rings of
+    /// `capacity` packets and `lanes` lanes of each row-wise tool.
     fn run<H: AllocGlobal + Threads + Wait + Sync, R: BytesIn, W: BytesOut>(
         &self,
         rt: &H,

@@ -1,4 +1,4 @@
-//! What lies between the program's streams and a run: a buffer before the output, and calls that are made again.
+//! Wrappers between the program's streams and a run: a buffer before the output, and calls that are repeated.
 
 ghost use Rattle.std.specs.Prelude.{◌≡◌, ◌≢◌, ◌⊎◌, ◌≤◌, [], Some, IfSome};
 ghost use Rattle.std.specs.Io.Buffered.{writer_buffer, writer_contents};
@@ -37,12 +37,12 @@ pub struct Ended<R, W> {
     pub input: R,
     /// What it wrote to; `None` if there was no memory for the buffer before it.
     pub output: Option<W>,
-    /// What was kept back when a write failed. It comes behind what was written.
+    /// The bytes that were kept back when a write failed. They come behind what was written.
     pub unwritten: Vec<u8>,
 }
 
 impl<R, W> Ended<R, W> {
-    /// An end with nothing unwritten.
+    /// Creates an end with nothing unwritten.
     pub(crate) fn new(alloc: Global, status: u8, input: R, output: W) -> Ended<R, W>
         ensures status { result.status ≡ status }
         ensures input { result.input ≡ input }
@@ -67,7 +67,7 @@ pub(crate) fn tell<W: Write>(output: W, text: &str) -> W
     output.into_inner().into_inner()
 }
 
-/// Writes the text. After a failed write, the rest is left out.
+/// Writes the text, up to a failed write.
 pub fn print_text<W: BytesOut>(output: &mut W, text: &str)
     ensures prefix { AppendsPrefix (W.held output.old) (W.held output.new) text.now }
     ensures whole { Appends (W.held output.old) (W.held output.new) text.now
@@ -78,7 +78,7 @@ pub fn print_text<W: BytesOut>(output: &mut W, text: &str)
     }
 }
 
-/// Runs the tools over the streams, and prints the run's fault. A long write goes past the buffer before the output.
+/// Runs the tools over the streams, and prints the run's fault. A long write bypasses the buffer before the output.
 pub(crate) fn run_over_streams<
     A: Runner,
     H: AllocGlobal + Threads + Wait + Sync,
@@ -132,7 +132,7 @@ pub(crate) fn run_over_streams<
     );
     let mut buffered = writer.into_inner().into_inner();
     let status = flush_after(status, &mut buffered, errors);
-    // To drop the buffer would write what is left after a failed write.
+    // If the buffer were dropped, it would write what is left after a failed write.
     let (output, unwritten) = buffered.into_parts();
     Ended {
         status,
@@ -142,8 +142,8 @@ pub(crate) fn run_over_streams<
     }
 }
 
-/// The status of a run with this one, once nothing of a run that ended well is kept back. Such a run has flushed, so
-/// that there is nothing left to write.
+/// Flushes the output if this status is that of a run that ended well, and returns the status after the flush. Such a
+/// run has flushed already, so nothing is left to write.
 fn flush_after<W: Write + Drop, E: Write>(
     status: u8,
     output: &mut BufWriter<W>,
@@ -165,9 +165,9 @@ fn flush_after<W: Write + Drop, E: Write>(
     RUN_FAULT
 }
 
-/// Runs the tools over the input, with rings for `ring` packets between them and each row-wise tool over `lanes`
-/// lanes, writes the results in the form, and prints the run's fault. It has a stack frame of its own, and so has what
-/// reads the words, so that the latter takes no stack while the tools run.
+/// Runs the tools over the input, with rings for `ring` packets between them and each row-wise tool over `lanes` lanes,
+/// writes the results in the form, and prints the run's fault. Like the code that reads the words it has a stack frame
+/// of its own, so that the words take no stack while the tools run.
 #[inline(never)]
 fn run_tools<A: Runner, H: AllocGlobal + Threads + Wait + Sync, R: BytesIn, W: BytesOut, E: Write>(
     rt: &H,

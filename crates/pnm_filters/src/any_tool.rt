@@ -1,4 +1,4 @@
-//! A tool at work, whichever it is.
+//! Any of the tools at work.
 
 use pnm_image::{Head, RepeatedRows, Rows, Shape};
 use pnm_repeat_tools::{Enlarger, Tiler};
@@ -7,7 +7,7 @@ use pnm_tools::{ImageTool, Planes, ToolFault};
 use pnm_transpose::Transposer;
 use std::alloc::Global;
 
-/// What the tool at work does, whichever it is.
+/// Calls a method of the tool at work, whichever it is.
 macro_rules! with_tool {
     ($self:ident, $work:ident => $does:expr) => {
         match $self {
@@ -72,7 +72,7 @@ impl ImageTool for AnyTool {
         with_tool!(self, work => work.end(shape))
     }
 
-    // Which tool it is was seen as it took the row: the choice stands beside the state's own.
+    // Which tool it is was known when it took the row, so the choice stands beside the state's own.
     #[inline(always)]
     fn give(&mut self, alloc: Global) -> Result<Option<RepeatedRows>, ToolFault> {
         with_tool!(self, work => work.give(alloc))

@@ -1,4 +1,5 @@
-//! The filters of a chain: each is a tool at work, which takes the messages of images and gives those of its results.
+//! The filters of a chain: each is a tool at work, which takes the messages of images and gives the messages of its
+//! results.
 #![tactic(auto)]
 
 mod any_tool;

@@ -1,34 +1,34 @@
-//! What a tool at work has still to give.
+//! What a tool at work still has to give.
 
 ghost use Rattle.std.specs.Prelude.{◌≡◌};
 ghost use Rattle.pnm_filters.specs.Pendings.{is_idle};
 
 use pnm_image::{Head, Packet, Place, RepeatedRows};
 
-/// What is still to be given for what was accepted last.
+/// What the tool still has to give for what it accepted last.
 #[derive(Clone, Copy)]
 pub enum Phase {
-    /// Nothing, and the caller knows.
+    /// Nothing is due, and the caller knows it.
     Idle,
-    /// The head, if one waits, and the rows that the tool still gives.
+    /// The head, if one waits, and the rows that the tool still makes.
     Rows,
-    /// The same, the rows that were asked for ahead before those that the tool still gives, and the end of the image.
+    /// The head, if one waits, the rows in `ahead`, the rows that the tool still makes, and the end of the image.
     RowsAndEnd,
     /// The end of the stream.
     StreamEnd,
     /// Stop.
     Stop,
-    /// Nothing, but the caller doesn't know yet.
+    /// Everything due was given; the next call of `next` returns `None`.
     Done,
 }
 
-/// What is still to be given for what was accepted last, besides the rows that the tool still gives.
+/// What is due for what was accepted last, besides the rows that the tool still makes.
 #[derive(Drop)]
 pub struct Pending {
     pub phase: Phase,
     /// The head of the result.
     pub head: Option<Head>,
-    /// Rows that were asked for ahead, to learn whether those before them are the last of the image.
+    /// Rows that the tool was asked for ahead of time, to learn whether the rows before them are the image's last.
     pub ahead: Option<RepeatedRows>,
 }
 
@@ -37,7 +37,7 @@ impl Pending {
     ghost use Rattle.pnm_filters.specs.Internal.Pendings.{LeadsOn};
     ghost use Rattle.pnm_image.specs.Packets.{messages_in};
 
-    /// What is given in this phase, with neither a head nor rows.
+    /// Creates a pending answer in this phase, with neither a head nor rows.
     pub fn alone(phase: Phase) -> Pending
         ensures phase { result.phase ≡ phase }
         ensures head { result.head ≡ None }
@@ -50,8 +50,8 @@ impl Pending {
         }
     }
 
-    /// The place after the packet, or `None` if not all of its messages may come at this place: before the caller knows
-    /// that all was given, none may.
+    /// Returns the place after the packet, or `None` if not all of its messages may come at this place. None may come
+    /// before the caller knows that all was given.
     #[inline(always)]
     pub fn place_after(&self, place: Place, packet: &Packet) -> Option<Place>
         ensures { LeadsOn (is_idle self.now.phase) place (messages_in packet.now) result }
@@ -64,7 +64,7 @@ impl Pending {
     }
 }
 
-/// Whether nothing is still to be given, and the caller knows.
+/// Returns true once everything due was given and the caller knows it.
 fn is_idle(phase: Phase) -> bool
     ensures { result ≡ is_idle phase }
 {

@@ -1,4 +1,4 @@
-//! A row-wise tool at work on what a lane sees.
+//! A row-wise tool at work on a lane's share of the stream.
 
 ghost use Rattle.std.specs.Prelude.{◌≡◌, true, List, IfOk, IfErr, length, []};
 ghost use Rattle.pnm_image.specs.declared.message.Message.{Message as MessageValue};
@@ -15,8 +15,8 @@ use pnm_image::Packet;
 use pnm_tools::{Filter, FusedFilter, Tool, ToolFault};
 use std::alloc::Global;
 
-/// A tool at work whose rows may be dealt to several copies of it: what it makes of the image that a lane sees is what
-/// the lane gets of the result, and it refuses the one if it refuses the other.
+/// A tool at work whose rows may be dealt to several copies of it. Applied to a lane's share of an image it makes that
+/// lane's share of the result, and it refuses the share exactly when it refuses the image.
 pub trait RowWise: Filter {
     /// The tool is row-wise.
     ghost row_wise: { (s : Self) (t : ToolValue) (l g : List MessageValue) → Self.at s t l g → IsRowWise t };

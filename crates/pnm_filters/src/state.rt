@@ -1,4 +1,4 @@
-//! A tool at work on a stream: the place, what is still to be given, and the fault that stays.
+//! A tool at work on a stream: its place in the stream, what is due, and the fault that stays.
 
 ghost use Rattle.std.specs.Prelude.{◌≡◌, None, [], IfErr};
 ghost use Rattle.pnm_filters.specs.Pendings.{is_all_given};
@@ -91,7 +91,7 @@ impl<T: ImageTool> Filter for State<T> {
 }
 
 impl<T: ImageTool> State<T> {
-    /// The tool before the first message.
+    /// Creates the state before the first message.
     pub fn new(alloc: Global, work: T) -> State<T>
         requires lawful { IsLawfulTool (T.tool work) }
         requires kept { T.kept work ≡ [] }

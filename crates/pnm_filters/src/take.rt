@@ -1,4 +1,4 @@
-//! How a tool at work takes what comes at once: the head of an image, rows of it, and its end.
+//! How a tool at work takes a packet: the head of an image, rows of it, and its end.
 
 ghost use Rattle.std.specs.Prelude.{◌≡◌, [], List, ℕ, IfOk, IfErr, OnOk};
 ghost use Rattle.pnm_image.specs.Packets.{messages_in};
@@ -18,8 +18,8 @@ use pnm_image::{Head, Packet, Part, Place, RepeatedRows, Shape};
 use pnm_tools::{ImageTool, ToolFault};
 use std::alloc::Global;
 
-/// Takes a packet all of whose messages may come at this place. Returns what is still to be given for it, besides the
-/// rows that the tool still gives.
+/// Takes a packet all of whose messages may come at this place. Returns what is due for it, besides the rows that the
+/// tool still makes.
 #[inline(always)]
 pub fn take<T: ImageTool>(
     alloc: Global,
@@ -68,7 +68,7 @@ fn take_part<T: ImageTool>(
     })
 }
 
-/// The phase after a part of an image, which ends it or not.
+/// Returns the phase after a part of an image. `ends_image` says whether the part ends it.
 fn phase_of(ends_image: bool) -> Phase
     ensures { result ≡ phase_of ends_image }
 {

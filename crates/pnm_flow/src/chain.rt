@@ -44,17 +44,16 @@ pub struct ChainDone {
     pub ends: Vec<StageEnd>,
 }
 
-/// Passes what comes on `input` through the tools to `output`, each tool a stage in a thread of its own. If there are
+/// Passes the messages of `input` through the tools to `output`, each tool a stage in a thread of its own. If there are
 /// several `lanes`, 8 at most, a row-wise tool works over that many lanes instead: it has a thread for each lane, one
 /// that deals the rows to the lanes, and one that gathers what they make. Each ring holds `capacity` packets, 1 to
 /// 1,024. Each stage calls the gate with its tool's number, from 1, and lane 0; each lane calls it with its tool's
 /// number and its own, from 0.
 ///
-/// It returns once all tools have ended. They end when the end of the stream or Stop has come, or the input's other end
-/// is dropped; they see that the output's other end is dropped only when its ring is full. So other threads have to
-/// send and take, or the input has to hold all that is to come, and the output room for what comes of it. Returns
-/// `NoStart` if there is no memory for a ring or a list, if a ring's wakers have too many owners, or if a thread can't
-/// be started.
+/// It returns once all tools have ended. They end when the end of the stream or Stop has come, or when the sender at
+/// the input hangs up. They notice that the receiver at the output hung up only when its ring is full. So either other
+/// threads send and take, or the input holds all messages and the output has room for all results. Returns `NoStart` if
+/// there is no memory for a ring or a list, if a ring's wakers have too many owners, or if a thread can't be started.
 pub fn run_chain<R: Threads + Wait + Sync, G: Gate>(
     rt: &R,
     alloc: Global,
@@ -80,8 +79,8 @@ pub fn run_chain<R: Threads + Wait + Sync, G: Gate>(
     }
 }
 
-/// Passes what comes on `input` through the tools to `output`, as `run_chain` does. Once each of its threads is
-/// started, this thread does the work `beside`. At `NoStart` that work isn't done.
+/// Passes the messages of `input` through the tools to `output`, as `run_chain` does. Once each of its threads is
+/// started, this thread does the work `beside`. Doesn't do that work if it returns `NoStart`.
 pub fn run_chain_beside<R: Threads + Wait + Sync, G: Gate, T: Task<Output = B> + Drop, B: Drop>(
     rt: &R,
     alloc: Global,
@@ -133,7 +132,7 @@ impl Reserved {
     }
 }
 
-/// Starts the tools, at least one, from the last one on, each in threads of its own, and does the work `beside` once
+/// Starts the tools, at least one, each in threads of its own and the last one first, and does the work `beside` once
 /// all are started.
 fn run_stages<R: Threads + Wait + Sync, G: Gate, T: Task<Output = B> + Drop, B: Drop>(
     rt: &R,
@@ -206,7 +205,7 @@ fn run_stages<R: Threads + Wait + Sync, G: Gate, T: Task<Output = B> + Drop, B: 
     }
 }
 
-/// The answer of a chain of which nothing was started: it gives the ring ends back.
+/// Returns the answer of a chain of which nothing was started. It gives the ring ends back.
 fn not_started(input: Receiver, output: Sender) -> NoStart
     ensures { IfSome result.ends (IsUntouched input output) }
 {
@@ -215,7 +214,7 @@ fn not_started(input: Receiver, output: Sender) -> NoStart
     }
 }
 
-/// The last of the tools, and those before it.
+/// Returns the last tool, and the tools before it.
 fn last_and_others(tools: &[Tool]) -> (&Tool, &[Tool])
     requires lawful { AreLawfulTools tools.now }
     requires some { 1 ≤ length tools.now }
@@ -229,7 +228,7 @@ fn last_and_others(tools: &[Tool]) -> (&Tool, &[Tool])
     }
 }
 
-/// A chain of one stage.
+/// Creates a chain of one stage.
 fn only(done: StageDone, reserved: Reserved) -> ChainDone
     requires { IsReserved 1 reserved.links.items (vec_capacity reserved.links) reserved.ends.items
         (vec_capacity reserved.ends) }
@@ -249,7 +248,7 @@ fn only(done: StageDone, reserved: Reserved) -> ChainDone
     }
 }
 
-/// A chain and the stage after it.
+/// Adds the stage after a chain to it.
 fn extended(chain: ChainDone, done: StageDone) -> ChainDone
     requires ring { IsPair chain.output done.input }
     requires reserved { (length chain.links.items < vec_capacity chain.links)

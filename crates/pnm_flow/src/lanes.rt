@@ -21,11 +21,11 @@ use std::alloc::Global;
 use std::sync::Wait;
 use std::thread::Threads;
 
-/// Passes what comes on `input` through a row-wise tool to `output`, over 1 to 8 lanes. One thread deals the rows, row
-/// y to lane y mod the number of lanes; each lane does the tool's work on the images that it sees, in a thread of its
-/// own; and another thread gathers the rows. Each ring to or from a lane holds `capacity` packets, 1 to 1,024. Each
-/// lane calls the gate with the tool's number and its own, from 0, before it takes its first message; the threads that
-/// deal and gather don't.
+/// Passes the messages of `input` through a row-wise tool to `output`, over 1 to 8 lanes. One thread deals the rows,
+/// row y to lane y mod the number of lanes; each lane applies the tool to its rows, in a thread of its own; and another
+/// thread gathers the results. Each ring to or from a lane holds `capacity` packets, 1 to 1,024. Each lane calls the
+/// gate with the tool's number and its own, from 0, before it takes its first message; the threads that deal and gather
+/// don't.
 ///
 /// It ends as `run_stage` does, with the same messages in the same order; rows that come together are dealt one by one,
 /// as copies. Its end is `PeerGone` if one of its threads ended so; otherwise it is the first fault, in this order: the
@@ -64,9 +64,9 @@ pub fn run_lanes<R: Threads + Wait + Sync, G: Gate>(
     }
 }
 
-/// Passes what comes on `input` through a row-wise tool to `output`, as `run_lanes` does, over the lanes of these
+/// Passes the messages of `input` through a row-wise tool to `output`, as `run_lanes` does, over the lanes of these
 /// rings. Once each of its threads is started, this thread does the work `beside`. Returns `None` if a thread can't be
-/// started, or if the output's wakers have too many owners; then that work isn't done, and the threads that were
+/// started, or if the output's wakers have too many owners; then it hasn't done that work, and the threads that were
 /// started have ended.
 pub fn run_lanes_beside<R: Threads + Wait + Sync, G: Gate, T: Task<Output = B> + Drop, B: Drop>(
     rt: &R,
@@ -149,9 +149,9 @@ impl<'a, R: Wait, G: Gate> Task for Lane<'a, R, G> {
     }
 }
 
-/// Starts the threads of these lanes, from the last one on, and those that gather and deal; then does the work `beside`
-/// in this one. Returns `None` if one can't be started, or if a lane can't have its home; then all that were started
-/// have ended.
+/// Starts the threads of these lanes, the last one first, and those that gather and deal, and then does the work
+/// `beside` in this thread. Returns `None` if a thread can't be started, or if a lane can't have its home; then all
+/// threads that were started have ended.
 fn run_threads<R: Threads + Wait + Sync, G: Gate, T: Task<Output = B> + Drop, B: Drop>(
     rt: &R,
     alloc: Global,

@@ -1,5 +1,5 @@
-//! Runs: the images of a reader pass through the tools of a chain, in one thread or each in a thread of its own or over
-//! lanes in several, and what comes out is written.
+//! Runs: the images of a reader pass through the tools of a chain, in one thread, or each in a thread of its own or in
+//! several lanes, and the results are written.
 #![tactic(auto)]
 
 mod chain;

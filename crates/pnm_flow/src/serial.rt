@@ -15,13 +15,12 @@ use pnm_serial::{RunFault, Summary, run_filters};
 use pnm_tools::{FusedFilter, Tool, ToolFault};
 use std::alloc::Global;
 
-/// Reads the images of the reader, passes them through the tools and writes what comes out in the
-/// form. If there are several faults, returns the first in this order: the input's, those of the tools in their order,
-/// the output's. The output's fault is the writer's, or that the form can't hold the results. After a fault of a tool
-/// or of the output it goes on reading, so that it still meets a fault that comes before that one in this order; it
-/// does so if there is no memory for one of the tools, too. If there is no memory for the list of the tools, it reads
-/// nothing, and the fault is that of tool 1. After `u64::MAX` messages, or rows that pass together, it returns
-/// `ReadFailed`.
+/// Reads the images of the reader, passes them through the tools and writes the results in the form. If there are
+/// several faults, returns the first in this order: the input's, those of the tools in their order, the output's. The
+/// output's fault is the writer's, or that the form can't hold the results. After a fault of a tool or of the output it
+/// reads on, since a fault that comes earlier in this order may still follow. It also does so if there is no memory for
+/// one of the tools. If there is no memory for the list of the tools, it reads nothing, and the fault is that of tool
+/// 1. After `u64::MAX` messages, or rows that pass together, it returns `ReadFailed`.
 pub fn run_serial<R: BytesIn, W: BytesOut>(
     alloc: Global,
     reader: &mut R,
@@ -39,8 +38,9 @@ pub fn run_serial<R: BytesIn, W: BytesOut>(
     run_serial_over(alloc, reader, writer, tools, form, usize::MAX)
 }
 
-/// As `run_serial`, over an input that has `length` bytes, as far as is known. For a small input it reads fewer bytes
-/// at a time, and takes less memory. The length changes no answer, even if the input has more bytes or fewer.
+/// Runs as `run_serial` does, over an input that has `length` bytes, as far as is known. For a small input it reads
+/// fewer bytes at a time, and takes less memory. The length changes no answer, even if the input has more bytes or
+/// fewer.
 pub fn run_serial_over<R: BytesIn, W: BytesOut>(
     alloc: Global,
     reader: &mut R,
@@ -63,8 +63,8 @@ pub fn run_serial_over<R: BytesIn, W: BytesOut>(
     run_filters(alloc, reader, writer, stages.as_mut_slice(), form, length)
 }
 
-/// Each tool at work, fused; a tool for which there is no memory has refused. The only fault is `Memory`, if there is
-/// no memory for the list.
+/// Fuses each tool at work. A tool for which there is no memory has refused. The only fault is `Memory`, if there is no
+/// memory for the list.
 fn filters_of(alloc: Global, tools: &[Tool]) -> Result<Vec<FusedFilter<ToolState>>, ToolFault>
     requires { AreLawfulTools tools.now }
     ensures fresh { IfOk result (λ stages. AreFresh stages.items tools.now) }

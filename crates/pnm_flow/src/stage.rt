@@ -11,10 +11,10 @@ use pnm_tools::Tool;
 use std::alloc::Global;
 use std::sync::Wait;
 
-/// Passes what comes on `input` through the tool to `output`, message by message, until the stream
-/// has ended. It calls the gate once, with the tool's number and lane 0, before it takes the first message. If the
-/// input's other end is dropped early, or the output's, the stage ends by `PeerGone`; otherwise it ends only once it
-/// has taken the end of the stream or Stop.
+/// Passes the messages of `input` through the tool to `output`, message by message, until the stream has ended. It
+/// calls the gate once, with the tool's number and lane 0, before it takes the first message. If the sender or the
+/// receiver hangs up early, the stage ends by `PeerGone`. Otherwise it ends only once it has taken the end of the
+/// stream or Stop.
 pub fn run_stage<R: Wait, G: Gate>(
     rt: &R,
     alloc: Global,

@@ -29,7 +29,7 @@ pub enum Plan {
 }
 
 impl Plan {
-    /// How this tool is run, if there are so many lanes for the tools that can have them, with rings for so many
+    /// Plans how the tool is run if each tool that can have lanes has `lanes` of them. Its rings hold `capacity`
     /// packets each. Returns `None` if there is no memory.
     pub fn new(alloc: Global, tool: &Tool, lanes: usize, capacity: usize) -> Option<Plan>
         requires lanes { IsLaneCount lanes }
@@ -46,15 +46,15 @@ impl Plan {
     }
 }
 
-/// Whether the tool works over several lanes, if there are `lanes` of them. If it does, one thread receives for it, and
-/// another sends.
+/// Returns whether the tool works over several lanes, if there are `lanes` of them. If it does, one thread receives for
+/// it, and another sends.
 pub fn runs_in_lanes(tool: &Tool, lanes: usize) -> bool
     ensures { IsTrue result ↔ RunsInLanes lanes tool.now }
 {
     lanes > 1 && tool.is_row_wise()
 }
 
-/// Notifies that all threads of a tool are started, by a message. Where they aren't, the ring's end goes.
+/// Sends one message once all threads of a tool have started. If a start fails, its end of the ring is dropped instead.
 #[derive(Drop)]
 struct Notifier<'a, R> {
     rt: &'a R,
@@ -74,7 +74,7 @@ impl<'a, R: Wait> Task for Notifier<'a, R> {
     }
 }
 
-/// Work that waits for the message that the threads of a tool are started; none if its ring's other end goes
+/// Work that waits for the message that all threads of a tool have started. It isn't done if the sender hangs up
 /// before.
 #[derive(Drop)]
 struct Waiter<'a, R, T> {
@@ -101,9 +101,9 @@ impl<'a, R: Wait, T: Task<Output = B> + Drop, B: Drop> Task for Waiter<'a, R, T>
     }
 }
 
-/// Passes what comes on `input` through the tool to `output`, in threads of its own. Once these are started, this
+/// Passes the messages of `input` through the tool to `output`, in threads of its own. Once these are started, this
 /// thread does the work `beside`. Returns `None` if a thread can't be started, or if the output's wakers have too many
-/// owners; then that work isn't done, and the threads that were started have ended.
+/// owners; then it hasn't done that work, and the threads that were started have ended.
 pub fn run_tool<R: Threads + Wait + Sync, G: Gate, T: Task<Output = B> + Drop, B: Drop>(
     rt: &R,
     alloc: Global,
@@ -137,7 +137,7 @@ pub fn run_tool<R: Threads + Wait + Sync, G: Gate, T: Task<Output = B> + Drop, B
             run_both(rt, stage, beside)
         }
         Plan::Lanes(rings, notify, notified) => {
-            // A closure, since a struct that is a task can't hand on that its gate may be shared.
+            // This is a closure, since a task that is a struct can't pass on the fact that its gate may be shared.
             let over_lanes = Call(
                 move || -> Option<StageDone>
                     requires { (IsSync R.row × IsSync G.row)

@@ -3,8 +3,8 @@
 use pnm_image::Form;
 use pnm_test_support::{cut_number, cut_pair};
 
-/// How many bytes a call of the reader and of the writer moves, and after how many reads, writes and flushes one fails,
-/// which succeeds when it is made again.
+/// How many bytes a read and a write move, and after how many reads, writes and flushes one fails. A call that failed
+/// succeeds when it is repeated.
 #[derive(Clone, Copy)]
 pub struct Calls {
     pub read_size: usize,
@@ -14,10 +14,10 @@ pub struct Calls {
     pub flushes: usize,
 }
 
-/// What a run reads from and writes to.
+/// The devices of a run.
 #[derive(Clone, Copy)]
 pub enum Devices {
-    /// All bytes are given and taken.
+    /// No call fails.
     Whole,
     /// Each call moves few bytes, and some calls fail.
     Failing(Calls),
@@ -30,7 +30,7 @@ pub enum Devices {
 }
 
 impl Calls {
-    /// The calls that a text begins with.
+    /// Returns the calls that a text begins with.
     pub fn of(text: &[u8]) -> Calls {
         let (read_size, reads, rest) = cut_pair(text);
         let (write_size, writes, rest) = cut_pair(rest);
@@ -44,7 +44,7 @@ impl Calls {
         }
     }
 
-    /// These calls, but the one of this name that fails is `by` calls later.
+    /// Returns these calls, but with the failing call of this name `by` calls later.
     pub fn later(self, name: &[u8], by: usize) -> Calls {
         let mut calls = self;
         match name {
@@ -56,7 +56,7 @@ impl Calls {
     }
 }
 
-/// The form of this name.
+/// Returns the form of this name.
 pub fn form_of(name: &[u8]) -> Form {
     if name == b"plain".as_slice() {
         Form::Plain

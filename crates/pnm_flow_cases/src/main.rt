@@ -1,5 +1,5 @@
-//! Tells what runs answer and write. A line of standard input is a word, the text of a chain in parentheses, and an
-//! input; escapes are those of texts (`pnm_test_support`). A line that begins with `#` is given back.
+//! Prints what runs answer and write. A line of standard input is a word, the text of a chain in parentheses, and an
+//! input; escapes are those of texts (`pnm_test_support`). A line that begins with `#` is printed as it is.
 //!
 //! - `raw (CHAIN) INPUT`, `plain (CHAIN) INPUT`: the images and rows of the output, or the fault; and the bytes
 //! - `cuts (CHAIN) INPUT`: the same for each prefix of the input, with the length from which on it holds
@@ -12,10 +12,10 @@
 //! - `buffered COUNT (CHAIN) INPUT`: the same over a writer behind a buffer, with room for 0 bytes, 1 and so on, for
 //!   COUNT numbers
 //! - `stage ROOM GONE (TOOL) MESSAGES`, `deal LANES GONE MESSAGES`, `gather ROOM GONE MESSAGES|MESSAGES`: how a stage
-//!   over rings ends, the dealing to lanes and the gathering from lanes; what is left of what came, and what is sent
-//!   (`rings`); an end of a ring is gone: `input`, `inputs`, `output`, that of a lane by its number, or none of them.
-//!   Messages between braces lie in a ring together
-//! - `chain LANES (CHAIN) MESSAGES`: how each tool of a chain over LANES lanes ends; what is left of what came, and
+//!   over rings, the dealing to lanes or the gathering from lanes ends; what is left of its input, and what is sent
+//!   (`rings`). GONE names a ring end that was dropped: `input`, `inputs`, `output`, that of a lane by its number, or
+//!   none of these. Messages between braces lie in a ring together
+//! - `chain LANES (CHAIN) MESSAGES`: how each tool of a chain over LANES lanes ends; what is left of its input, and
 //!   what is sent
 //! - `heights LANES HEIGHT`: how many rows of an image each lane gets
 //!
@@ -71,8 +71,8 @@ fn main(rt: HostRuntime) -> Result<(), Unmade> {
     write_lines(&rt)
 }
 
-/// Prints what comes of the case of each line of the standard input, and a line that begins with `#` as it is. This is
-/// a function of its own, since a method of `Solver` can't be told that its runtime may be shared between threads.
+/// Prints the answer to the case in each line of standard input, and a line that begins with `#` as it is. It is a
+/// function of its own, since a method of `Solver` can't require that its runtime may be shared between threads.
 fn write_lines<H: AllocGlobal + Input + Print + Threads + Wait + Sync>(
     rt: &H,
 ) -> Result<(), Unmade> {
@@ -84,7 +84,7 @@ fn write_lines<H: AllocGlobal + Input + Print + Threads + Wait + Sync>(
     Ok(())
 }
 
-/// Prints what comes of the case of a line.
+/// Prints the answer to the case of a line.
 fn write_line<H: Print + Threads + Wait + Sync>(
     rt: &H,
     alloc: Global,
@@ -96,7 +96,7 @@ fn write_line<H: Print + Threads + Wait + Sync>(
     Ok(())
 }
 
-/// Adds what comes of the case of a line, or ` no case` if it isn't one, or can't be made.
+/// Adds the answer to the case of a line, or ` no case` if it isn't one, or can't be made.
 fn write_case<R: Threads + Wait + Sync>(
     rt: &R,
     alloc: Global,
@@ -114,7 +114,7 @@ fn write_case<R: Threads + Wait + Sync>(
     }
 }
 
-/// Adds what comes of a case: of a word, and the text after it.
+/// Adds the answer to a case: a word, and the text after it.
 fn solve<R: Threads + Wait + Sync>(
     rt: &R,
     alloc: Global,
@@ -132,7 +132,7 @@ fn solve<R: Threads + Wait + Sync>(
     }
 }
 
-/// Adds what comes of runs of the chain that stands in a text.
+/// Adds what runs of a text's chain answer and write.
 fn write_runs<R: Threads + Wait + Sync>(
     rt: &R,
     alloc: Global,
@@ -167,8 +167,7 @@ fn write_runs<R: Threads + Wait + Sync>(
     }
 }
 
-/// Adds what runs answer and write if a call of this name fails, and if a later one does, for as many calls as `facts`
-/// says.
+/// Adds what runs answer and write if a call of this name fails, for as many calls, one after another, as `facts` says.
 fn write_failing<R: Threads + Wait + Sync>(
     rt: &R,
     alloc: Global,

@@ -1,5 +1,5 @@
-//! Threads at rings whose messages are there before they begin: a stage, the dealing to lanes, the gathering from them,
-//! and a chain over lanes. Messages between braces lie in a ring together.
+//! Work at rings that hold all messages before it begins: a stage, the dealing to lanes, the gathering from them, and a
+//! chain over lanes. Messages between braces lie in a ring together.
 
 ghost use Rattle.std.specs.Prelude.{IfOk};
 ghost use Rattle.pnm_tools.specs.Chains.{IsChain};
@@ -19,12 +19,12 @@ use std::thread::Threads;
 /// How many packets a ring has room for.
 const CAPACITY: usize = 8;
 
-/// A ring for `capacity` packets.
+/// Makes a ring for `capacity` packets.
 fn ring(alloc: Global, capacity: usize) -> Result<(Sender, Receiver), Unmade> {
     new_ring(alloc, capacity).ok_or(Unmade)
 }
 
-/// A ring that holds written messages, and its sending end, unless that is gone.
+/// Makes a ring that holds written messages. Returns it with its sending end, unless that was dropped.
 fn holding<R: Wait>(
     rt: &R,
     alloc: Global,
@@ -44,7 +44,7 @@ fn holding<R: Wait>(
     Ok((Some(sender), receiver))
 }
 
-/// A ring for `capacity` packets: its sending end, and its receiving end unless that is gone.
+/// Makes a ring for `capacity` packets. Returns its sending end, and its receiving end unless that was dropped.
 fn taking(
     alloc: Global,
     capacity: usize,
@@ -81,7 +81,7 @@ fn write_end(end: StageEnd, out: &mut String) -> Result<(), AllocError> {
     write!(out, " {end:?}")
 }
 
-/// The tools that a text names.
+/// Returns the tools that a text names.
 fn tools_of(alloc: Global, text: &[u8]) -> Result<Vec<Tool>, Unmade>
     ensures { IfOk result (λ tools. IsChain tools.items) }
 {
@@ -94,7 +94,7 @@ fn tools_of(alloc: Global, text: &[u8]) -> Result<Vec<Tool>, Unmade>
     }
 }
 
-/// Adds how a stage of a tool ends, or each tool of a chain over lanes; what is left of what came; and what is sent.
+/// Adds how a stage of a tool ends, or each tool of a chain over lanes; what is left of the input; and what is sent.
 pub fn write_tools<R: Threads + Wait + Sync>(
     rt: &R,
     alloc: Global,
@@ -147,7 +147,7 @@ fn write_done(
     write_left(alloc, input, out)
 }
 
-/// Adds what is left of what came.
+/// Adds what is left of the input.
 fn write_left(alloc: Global, input: Receiver, out: &mut String) -> Result<(), AllocError> {
     let mut input = input;
     write_ring(alloc, " left", &mut input, out)
@@ -193,7 +193,7 @@ fn write_sent(alloc: Global, receiver: Option<Receiver>, out: &mut String) -> Re
     Ok(())
 }
 
-/// Makes `count` rings. Of the lane that is gone, there is only the sending end, with room for the head.
+/// Makes `count` rings. Of a lane that hung up, there is only the sending end, with room for the head.
 fn lanes_but(
     alloc: Global,
     count: usize,
@@ -212,7 +212,7 @@ fn lanes_but(
     Ok((outputs, inputs))
 }
 
-/// The number of a lane, or `None` if the word names no lane.
+/// Returns the number of a lane, or `None` if the word names no lane.
 fn lane_of(word: &[u8]) -> Option<usize> {
     match word.first() {
         Some(b'0'..=b'9') => {
@@ -257,7 +257,8 @@ fn write_rings(
     Ok(())
 }
 
-/// Rings that hold what the lanes give, which a bar parts in the text, and their sending ends, unless these are gone.
+/// Makes rings that hold what the lanes give. In the text, bars stand between the lanes. Returns them with their
+/// sending ends, unless these were dropped.
 fn giving<R: Wait>(
     rt: &R,
     alloc: Global,

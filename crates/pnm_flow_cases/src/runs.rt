@@ -36,19 +36,19 @@ pub fn write_input<R: Threads + Wait + Sync>(
     }
 }
 
-/// How runs that are told one after another differ.
+/// How runs one after another differ.
 #[derive(Clone, Copy)]
 pub enum Changes<'a> {
     /// The input is cut after 0 bytes, 1 and so on.
     Input,
-    /// The call of this name that fails is 0 calls later, 1 and so on.
+    /// The failing call of this name is 0 calls later, 1 and so on.
     Calls(&'a [u8], Calls),
     /// The writer has room for 0 bytes behind a buffer, 1 and so on.
     Room,
 }
 
 impl Changes<'_> {
-    /// The job that comes of this one.
+    /// Returns the job with change `number`.
     fn job(self, job: Job<'_>, number: usize) -> Job<'_> {
         let mut changed = job;
         match self {
@@ -62,8 +62,7 @@ impl Changes<'_> {
     }
 }
 
-/// Adds what `count` runs that change so answer and write, each answer with the number of the run from which on it
-/// holds.
+/// Adds what `count` runs that change so answer and write. Each answer has the number of the first run that gives it.
 pub fn write_changes<R: Threads + Wait + Sync>(
     rt: &R,
     alloc: Global,
@@ -81,7 +80,7 @@ pub fn write_changes<R: Threads + Wait + Sync>(
     Ok(())
 }
 
-/// Adds what a run of these tools answers and writes, and what a run in another way does, if that is something else.
+/// Adds what a run of these tools answers and writes, and what runs in other ways do, where that differs.
 fn write_ways<R: Threads + Wait + Sync>(
     rt: &R,
     alloc: Global,
@@ -100,7 +99,7 @@ fn write_ways<R: Threads + Wait + Sync>(
     Ok(())
 }
 
-/// Adds what a run in another way answers and writes, if that is something else than `out`.
+/// Adds what a run in another way answers and writes, if that differs from `out`.
 fn write_other(out: &mut String, way: Way, again: &str) -> Result<(), AllocError> {
     if again != out.as_str() {
         write!(out, " but by {way:?}")?;
@@ -137,7 +136,7 @@ fn write_run<R: Threads + Wait + Sync>(
     }
 }
 
-/// The run in this way of a job whose input is all given, and whose output goes to a writer.
+/// Runs a job in this way, over its whole input and this writer.
 fn run_over<R: Threads + Wait + Sync, W: BytesOut>(
     rt: &R,
     alloc: Global,

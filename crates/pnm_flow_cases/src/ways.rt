@@ -32,7 +32,7 @@ pub const WAYS: [Way; 10] = [
     Way::Threads(64, 1),
 ];
 
-/// The run of these tools that writes in this form, in this way.
+/// Runs these tools in this way, and writes in this form.
 pub fn run_by<H: Threads + Wait + Sync, R: BytesIn, W: BytesOut>(
     rt: &H,
     alloc: Global,

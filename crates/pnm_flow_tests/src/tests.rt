@@ -24,7 +24,7 @@ const IMAGE: &[u8] = b"P5\n2 1\n122\nAB";
 type Outcome<'a> = (Result<Summary, RunFault>, &'a [u8]);
 
 /// Stops the test if something isn't so, and shows these values. An assertion that shows its values takes long to
-/// prove: this one stands for all others.
+/// prove: this one serves all tests.
 fn is_so<P: fmt::Debug>(rt: &impl Abort, is_right: bool, shown: &P) {
     assert!(rt; is_right, "{shown:?}");
 }

@@ -1,11 +1,11 @@
-//! Tells what formats are made of: what rows hold, what is read of texts, and what is written of messages. A line of
-//! standard input is a word, and what it is about; escapes are those of texts, and messages are written as they are
-//! told (`pnm_test_support`). A line that begins with `#` is given back.
+//! Prints what rows hold, what is read of texts, and what is written of messages. A line of standard input is a word,
+//! and what it is about. Escapes, and the form of messages, are those of `pnm_test_support`. A line that begins with
+//! `#` is printed as it is.
 //!
 //! Of rows of bits, bytes and words (`samples`):
 //!
 //! - `bits COUNT BYTES`: what a row of COUNT pixels holds (`pixels`), made of BYTES, and what an empty row holds
-//! - `new FIRST-LAST`, `invert ..`, `reverse ..`: a sweep over made rows (`made`) of FIRST to LAST pixels, as they are,
+//! - `new FIRST-LAST`, `invert ..`, `reverse ..`: a sweep over made rows (`made`) of FIRST to LAST pixels, unchanged,
 //!   inverted, and reversed
 //! - `take FIRST-LAST`: a sweep over FIRST to LAST pixels of the bytes of 40
 //! - `append HELD-HELD START-START COUNT-COUNT`: a sweep over runs of a made row, each after HELD pixels
@@ -20,10 +20,9 @@
 //!
 //! Of what a source answers (`read`), each message by itself unless it says otherwise:
 //!
-//! - `text TEXT`: the answers, which are the same however few bytes a read gives, and no read follows one that gave
-//!   none
+//! - `text TEXT`: the answers. They are the same however few bytes a read gives, and no read follows one that gave none
 //! - `long TEXT`: the answers to a long text, whole and 4,097 bytes a read
-//! - `cuts TEXT`: the answers to each prefix of the text, by the length from which on they stay the same
+//! - `cuts TEXT`: the answers to each prefix of the text, by the least length that has them
 //! - `fails TEXT`: the answers if one of the reads of a byte each fails, by the number of reads before it
 //! - `reads MOST FAILING TEXT`: the answers, and what each read asked for and got: a read gives at most MOST bytes, and
 //!   read FAILING fails, none for 0
@@ -38,12 +37,12 @@
 //! - `image TEXT`, then `streams`, `after TEXT`: how many texts, and the CRC-32 of the answers, to these images one
 //!   after another, and to them with a text after them
 //!
-//! Of what a sink writes, and which messages it refuses (`write`); those between braces are put together:
+//! Of what a sink writes, and which messages it refuses (`write`). Messages between braces are put together:
 //!
 //! - `raw MESSAGES`, `plain MESSAGES`: the faults, how the stream ends, and the bytes, however wide rows are held
 //! - `sips FORM MOST WRITE FLUSH MESSAGES`: the faults, how the stream ends, and the bytes if a write takes up to MOST
 //!   bytes, and the write after WRITE others and the flush after FLUSH others fail once, `_` for none; the sink is
-//!   flushed after each image, and the number of flushes is told, too
+//!   flushed after each image, and the number of flushes is printed, too
 //! - `numbers KIND MAXVAL WIDTH-WIDTH SHIFT-SHIFT`: a sweep over plain images of a made row (`made`), however it is
 //!   held
 //! - `bitmaps FIRST WIDTH-WIDTH`: a sweep over plain images of pixels of a made row
@@ -65,7 +64,7 @@ fn main(rt: HostRuntime) -> Result<(), Unmade> {
     write_lines(&rt, &mut formats)
 }
 
-/// Tells what formats are made of.
+/// The solver of these cases.
 #[derive(Drop)]
 struct Formats {
     /// The raw images so far.
@@ -93,7 +92,7 @@ impl Solver for Formats {
     }
 }
 
-/// Adds the faults of sources or of sinks as they are printed.
+/// Adds the names of the faults of sources or of sinks.
 fn write_names(word: &[u8], text: &[u8], out: &mut String) -> Result<(), Unmade> {
     if word != b"names".as_slice() {
         return Err(Unmade);

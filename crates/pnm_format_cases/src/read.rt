@@ -8,7 +8,7 @@ mod sweeps;
 use pnm_read::InputFault;
 use std::alloc::{AllocError, Global};
 
-/// How a case is told.
+/// What a case prints.
 #[derive(Clone, Copy)]
 pub enum How {
     Text,
@@ -29,7 +29,7 @@ pub enum How {
     After,
 }
 
-/// How a case of each word is told.
+/// What a case of each word prints.
 pub const WORDS: &[(&[u8], How)] = &[
     (b"text", How::Text),
     (b"long", How::Long),
@@ -70,7 +70,7 @@ pub const FAULTS: &[InputFault] = &[
     InputFault::Memory,
 ];
 
-/// Adds what comes of a case. `images` holds the raw images so far.
+/// Adds the answer to a case. `images` holds the raw images so far.
 pub fn solve(
     alloc: Global,
     how: How,

@@ -49,7 +49,7 @@ pub const WORDS: &[(&[u8], How)] = &[
     (b"parts", How::Parts),
 ];
 
-/// Adds what comes of a case.
+/// Adds the answer to a case.
 pub fn solve(alloc: Global, how: How, text: &[u8], out: &mut String) -> Result<(), Unmade> {
     match how {
         How::Bits => pixels::write_bits_of(alloc, text, out),

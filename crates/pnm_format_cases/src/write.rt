@@ -36,7 +36,7 @@ pub const FAULTS: &[SinkFault] = &[
     SinkFault::PlainPam,
 ];
 
-/// Adds what comes of a case.
+/// Adds the answer to a case.
 pub fn solve(alloc: Global, how: How, text: &[u8], out: &mut String) -> Result<(), Unmade> {
     match how {
         How::Raw => sinks::write_written(alloc, Form::Raw, text, out),
@@ -47,7 +47,7 @@ pub fn solve(alloc: Global, how: How, text: &[u8], out: &mut String) -> Result<(
     }
 }
 
-/// The form of this name: raw by default.
+/// Returns the form of this name: raw by default.
 fn form_of(word: &[u8]) -> Form {
     if word == b"plain".as_slice() {
         Form::Plain

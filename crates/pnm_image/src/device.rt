@@ -16,7 +16,7 @@ pub struct DeviceFailed;
 
 /// A device that gives bytes.
 pub trait BytesIn {
-    /// The bytes that it will still give, if it tells them.
+    /// The bytes that it will still give, if its contract says which.
     ghost left: { Self → Option (List ℕ) };
 
     /// How many calls have failed, up to `u64::MAX`.
@@ -42,7 +42,7 @@ pub trait BytesIn {
 
 /// A device that takes bytes.
 pub trait BytesOut {
-    /// The bytes that it holds, if it tells them.
+    /// The bytes that it holds, if its contract says which.
     ghost held: { Self → Option (List ℕ) };
 
     /// How many calls have failed, up to `u64::MAX`.
@@ -109,8 +109,8 @@ impl<W: BytesOut> BytesOut for &mut W {
     }
 }
 
-/// A std `Read` or `Write` as a device. It tells the bytes that `D` tells. Each error of `D` is a
-/// failure, and so is a write that takes none of its bytes.
+/// A std `Read` or `Write` as a device. It says as much of its bytes as `D` does. Each error of `D` is a failure, and
+/// so is a write that takes none of its bytes.
 #[derive(Debug, Drop)]
 pub struct Device<D> {
     inner: D,
@@ -118,7 +118,7 @@ pub struct Device<D> {
 }
 
 impl<D> Device<D> {
-    /// The reader or writer as a device without a failed call.
+    /// Wraps the reader or writer as a device of which no call has failed.
     pub fn new(inner: D) -> Device<D>
         ensures inner { device_inner result ≡ inner }
         ensures count { device_failures result ≡ 0 }
@@ -126,7 +126,7 @@ impl<D> Device<D> {
         Device { inner, failures: 0 }
     }
 
-    /// The reader or writer.
+    /// Returns the reader or writer.
     pub fn into_inner(self) -> D
         ensures { result ≡ device_inner self }
     {

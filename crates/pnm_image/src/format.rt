@@ -25,7 +25,7 @@ pub struct Format {
 }
 
 impl Format {
-    /// The format that the second byte of a magic names, or `None` if it names none.
+    /// Returns the format that the second byte of a magic names, or `None` if it names none.
     pub fn of(byte: u8) -> Option<Format>
         ensures { result ≡ format_of byte }
     {
@@ -42,7 +42,7 @@ impl Format {
         Some(Format { kind, form })
     }
 
-    /// Whether samples are written as text.
+    /// Returns whether samples are written as text.
     pub fn is_plain(self) -> bool
         ensures { result ≡ is_plain_form self.form }
     {
@@ -52,7 +52,7 @@ impl Format {
         }
     }
 
-    /// The two bytes that an image of this format begins with. As there is no plain PAM, its magic is that of
+    /// Returns the two bytes that an image of this format begins with. As there is no plain PAM, its magic is that of
     /// PAM.
     pub fn magic(self) -> &'static [u8]
         ensures { result.now ≡ magic_of self.kind self.form }

@@ -1,4 +1,4 @@
-//! Heads: what an image says of itself before its rows.
+//! Heads: the description of an image before its rows.
 
 ghost use Rattle.std.specs.Prelude.{◌≡◌, ◌≤◌, ◌⊎◌, ◌↔◌, IsTrue, IfOk, OnOk, IfErr};
 ghost use Rattle.pnm_image.specs.declared.limits.TheConstants.{MAX_SIDE};
@@ -46,9 +46,9 @@ impl Model for Head {
 }
 
 impl Head {
-    /// Whether the kind allows this depth, this maxval and this tuple type, whatever the limits on
-    /// numbers say: `Bit` has depth 1 and maxval 1, `Gray` depth 1 and `Color` depth 3; only `Pam`
-    /// has a tuple type, of at most 255 bytes, without LF and with no blank, TAB or CR at its ends.
+    /// Returns whether the kind allows this depth, this maxval and this tuple type, whatever the limits on numbers say:
+    /// `Bit` has depth 1 and maxval 1, `Gray` depth 1 and `Color` depth 3; only `Pam` has a tuple type, of at most 255
+    /// bytes, without LF and with no blank, TAB or CR at its ends.
     pub fn suits(kind: Kind, depth: u32, maxval: u32, tuple_type: &[u8]) -> bool
         ensures { IsTrue result ↔ Suits kind depth maxval tuple_type.now }
     {
@@ -60,7 +60,7 @@ impl Head {
         }
     }
 
-    /// A head with these fields, or the first fault in the order of `HeadFault`.
+    /// Creates a head with these fields, or returns the first fault in the order of `HeadFault`.
     pub fn new(alloc: Global, shape: Shape, tuple_type: &[u8]) -> Result<Head, HeadFault>
         requires { Suits shape.kind shape.depth shape.maxval tuple_type.now }
         ensures made { IfOk result (λ head. head ≡ head_value shape tuple_type.now) }
@@ -78,7 +78,7 @@ impl Head {
         }
     }
 
-    /// An equal head. The only fault is `Memory`.
+    /// Returns an equal head. The only fault is `Memory`.
     pub fn copy(&self) -> Result<Head, HeadFault>
         ensures equal { IfOk result (λ head. head ≡ self.now) }
         ensures refused { IfErr result (λ fault. fault ≡ HeadFault.Memory) }
@@ -92,7 +92,7 @@ impl Head {
         }
     }
 
-    /// This head with another height, which may be 0 inside a program.
+    /// Returns this head with another height, which may be 0 inside a program.
     pub fn with_height(self, height: u32) -> Head
         requires { height ≤ MAX_SIDE }
         ensures { result ≡ with_height self height }
@@ -104,7 +104,7 @@ impl Head {
         }
     }
 
-    /// The kind, the sizes and the maxval.
+    /// Returns the kind, the sizes and the maxval.
     pub fn shape(&self) -> Shape
         ensures shape { result ≡ self.now.shape }
         ensures sound { IsHead self.now }
@@ -112,7 +112,7 @@ impl Head {
         self.shape
     }
 
-    /// The bytes of the tuple type; there are none if the kind isn't `Pam`.
+    /// Returns the bytes of the tuple type; there are none if the kind isn't `Pam`.
     pub fn tuple_type(&self) -> &[u8]
         ensures { result.now ≡ self.now.tuple_type }
     {
@@ -120,7 +120,7 @@ impl Head {
     }
 }
 
-/// Whether a head of a PAM image may have this tuple type.
+/// Returns whether a head of a PAM image may have this tuple type.
 fn is_tuple_type(text: &[u8]) -> bool
     ensures { IsTrue result ↔ IsTupleType text.now }
 {

@@ -1,5 +1,4 @@
-//! Laws of lists of messages. Each is stated over the definitions alone, as the contract of a function that does
-//! nothing.
+//! Laws of lists of messages. Each is about the definitions alone, as the contract of a function that does nothing.
 
 ghost use Rattle.pnm_image.specs.Completion.{LawfulListsAreStreams, StreamsAreLawful, LawfulListsCanBeCompleted};
 ghost use Rattle.pnm_image.specs.declared.limits.TheConstants.{MAX_DEPTH, MAX_MAXVAL, MAX_ROW_LENGTH, MAX_SIDE};

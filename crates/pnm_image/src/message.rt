@@ -33,7 +33,7 @@ pub enum Ending {
 }
 
 impl Message {
-    /// How this message ends its stream.
+    /// Returns how this message ends its stream.
     pub fn ending(&self) -> Ending
         ensures { result ≡ ending_of self.now }
     {

@@ -28,16 +28,16 @@ pub enum Place {
 }
 
 impl Place {
-    /// The place before the first message.
+    /// Returns the place before the first message.
     pub fn new() -> Place
         ensures { result ≡ Place.Between }
     {
         Self::Between
     }
 
-    /// Whether the message may come here. An image begins, or the stream ends, between images; an
-    /// image of height h has h rows of width times depth samples up to its maxval, and then ends;
-    /// a stream may be broken off anywhere before its end.
+    /// Returns whether the message may come here. Between images an image begins, or the stream ends. An image of
+    /// height h has h rows of width times depth samples up to its maxval, and then ends. A stream may be broken off
+    /// anywhere before its end.
     // A tool and the sink ask this for each row. Inlined into them, it leaves the message in registers.
     #[inline(always)]
     pub fn accepts(&self, message: &Message) -> bool
@@ -54,7 +54,7 @@ impl Place {
         }
     }
 
-    /// The place after the packet, or `None` if one of its messages can't come where it stands.
+    /// Returns the place after the packet, or `None` if one of its messages can't come where it stands.
     #[inline(always)]
     pub fn after(&self, packet: &Packet) -> Option<Place>
         ensures { LeadsTo self.now (messages_in packet.now) result }
@@ -75,7 +75,7 @@ impl Place {
         }
     }
 
-    /// The place after the head of an image, if it comes, or `None` if none can begin here.
+    /// Returns the place after the head of an image, if it comes, or `None` if none can begin here.
     #[inline(always)]
     fn after_head(&self, head: &Option<Head>) -> Option<Place>
         ensures { LeadsTo self.now (head_messages head.now) result }
@@ -87,7 +87,8 @@ impl Place {
         }
     }
 
-    /// The place after the rows, if some come, and the end of the image, or `None` if one of these can't come here.
+    /// Returns the place after the rows, if some come, and the end of the image, or `None` if one of these can't come
+    /// here.
     #[inline(always)]
     fn after_rest(&self, rows: &Option<RepeatedRows>, ends_image: bool) -> Option<Place>
         ensures { LeadsTo self.now (rest_messages rows.now ends_image) result }
@@ -98,7 +99,7 @@ impl Place {
         }
     }
 
-    /// The place after the rows, if some come, or `None` if one of them can't come here.
+    /// Returns the place after the rows, if some come, or `None` if one of them can't come here.
     #[inline(always)]
     fn after_rows(&self, rows: &Option<RepeatedRows>) -> Option<Place>
         ensures { LeadsTo self.now (row_messages (rows_list rows.now)) result }
@@ -112,8 +113,8 @@ impl Place {
         }
     }
 
-    /// The place after the rows, which come `times` times, one after another, or `None` if one of them can't come
-    /// here.
+    /// Returns the place after the rows, which come `times` times one after another, or `None` if one of them can't
+    /// come here.
     fn after_copies(&self, rows: &Rows, times: u32) -> Option<Place>
         requires some { 1 ≤ times }
         ensures { LeadsTo self.now (row_messages (repeated times rows.now)) result }
@@ -130,7 +131,7 @@ impl Place {
         }
     }
 
-    /// The place after the end of an image, if it comes, or `None` if none can end here.
+    /// Returns the place after the end of an image, if it comes, or `None` if none can end here.
     #[inline(always)]
     fn after_end(&self, ends_image: bool) -> Option<Place>
         ensures { LeadsTo self.now (end_messages ends_image) result }
@@ -162,7 +163,7 @@ impl Place {
     }
 }
 
-/// Whether the row has as many samples as the shape says, none of them above the maxval.
+/// Returns whether the row has as many samples as the shape says, none of them above the maxval.
 #[inline(always)]
 fn is_row_of(shape: &Shape, row: &Samples) -> bool
     ensures { IsTrue result ↔ IsRowOf shape.now row.now }
@@ -170,7 +171,7 @@ fn is_row_of(shape: &Shape, row: &Samples) -> bool
     row.len() as u64 == shape.row_length() && row.are_within(shape.maxval)
 }
 
-/// Whether each row has as many samples as the shape says, none of them above the maxval.
+/// Returns whether each row has as many samples as the shape says, none of them above the maxval.
 fn are_rows_of(shape: &Shape, rows: &Rows) -> bool
     ensures { IsTrue result ↔ AllByRecursion (IsRowOf shape.now) rows.now }
 {

@@ -17,7 +17,7 @@ pub enum SampleWidth {
 }
 
 impl SampleWidth {
-    /// The width of the samples of images of this kind and maxval.
+    /// Returns the width of the samples of images of this kind and maxval.
     pub fn of(kind: Kind, maxval: u32) -> SampleWidth
         ensures { result ≡ sample_width_of kind maxval }
     {

@@ -35,14 +35,14 @@ pub struct Shape {
 }
 
 impl Shape {
-    /// Samples in a row: the width times the depth.
+    /// Returns the number of samples in a row: the width times the depth.
     pub fn row_length(&self) -> u64
         ensures { result ≡ row_length self.now }
     {
         u64::from(self.width) * u64::from(self.depth)
     }
 
-    /// The first fault of a new head's numbers, in the order of `HeadFault`.
+    /// Returns the first fault of a new head's numbers, in the order of `HeadFault`.
     pub(crate) fn fault(&self) -> Option<HeadFault>
         ensures { result ≡ shape_fault self.now }
     {

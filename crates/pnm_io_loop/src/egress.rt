@@ -1,4 +1,4 @@
-//! What comes behind the tools of a run: the ring that their results come from, and what is written of them.
+//! The output side of a run over threads: the ring that brings the results, and the sink that writes them.
 
 ghost use Rattle.std.specs.Prelude.{◌≡◌, ◌<◌, ◌⊎◌, [], ◌++◌, List, length, IsTrue, IsFalse, true, false};
 ghost use Rattle.pnm_image.specs.Messages.{EndsBy};
@@ -18,25 +18,25 @@ use pnm_stages::{Receiver, Sender};
 use pnm_write::WriteBuffer;
 use std::sync::Wait;
 
-/// The ring that the results of a run come from, and what is written of them.
+/// The ring that brings the results of a run, and the sink that writes them.
 #[derive(Drop)]
 pub struct Egress<W> {
     /// The end of the ring that the results are received on.
     pub input: Receiver,
-    /// What is written of them.
+    /// The sink.
     pub fused_sink: FusedSink<W>,
     /// Whether the end of the stream, or Stop, was taken.
     pub has_ended: bool,
-    /// Whether the ring's other end was seen dropped.
+    /// Whether the sender hung up.
     is_gone: bool,
-    /// How many images have had their end taken, up to `u64::MAX`.
+    /// The number of images whose end was taken, at most `u64::MAX`.
     images: u64,
 }
 
 impl<W: BytesOut + Drop> Egress<W> {
     ghost use Rattle.pnm_io_loop.specs.Egresses.{IsEgress, egress_is_over, HasTakenMore, HasTakenNothing};
 
-    /// An egress that has taken nothing yet, and is to encode into this buffer and write in this form.
+    /// Creates an egress that encodes through `buffer` and writes in `form`. It has taken nothing yet.
     pub fn new(input: Receiver, buffer: WriteBuffer, writer: W, form: Form) -> Egress<W>
         ensures receiving { IsEgress W.held W.failures form writer (received input) result }
         ensures parts { (result.input ≡ input) × (output_of result.fused_sink ≡ writer) }
@@ -50,23 +50,22 @@ impl<W: BytesOut + Drop> Egress<W> {
         }
     }
 
-    /// Whether there is nothing more to take: the end of the stream or Stop was taken, or the ring's other end was seen
-    /// dropped.
+    /// Returns whether there is nothing more to take: the end of the stream or Stop was taken, or the sender hung up.
     pub fn is_over(&self) -> bool
         ensures { result ≡ egress_is_over self.now }
     {
         self.has_ended || self.is_gone
     }
 
-    /// How many images have had their end taken, up to `u64::MAX`.
+    /// Returns the number of images whose end was taken, at most `u64::MAX`.
     pub fn images(&self) -> u64
         ensures { result ≡ self.now.images }
     {
         self.images
     }
 
-    /// Takes the messages that one look at the ring shows, and writes them; the rows become spare ones. Returns false
-    /// if there is no message, and the ring's other end wasn't seen dropped.
+    /// Takes the messages that one look at the ring shows, and writes them. The rows become spare ones. Returns false
+    /// if there is no message, and the sender didn't hang up.
     pub fn try_receive(&mut self, spares: &mut SpareRows) -> bool
         requires going { egress_is_over self.old ≡ false }
         ensures receiving { (form : FormValue) (start : W) (before : List MessageValue)
@@ -85,8 +84,8 @@ impl<W: BytesOut + Drop> Egress<W> {
         true
     }
 
-    /// Takes the packets that were seen in the ring, up to one that ends the stream, and writes them. Each is written
-    /// while it lies in the ring, and is taken out of it only then.
+    /// Writes and takes the packets that were seen in the ring, up to one that ends the stream. Each is written while
+    /// it is still in the ring.
     fn take_seen(&mut self, spares: &mut SpareRows)
         requires going { self.old.has_ended ≡ false }
         requires some { 0 < length (known_packets self.old.input) }
@@ -140,8 +139,8 @@ impl<W: BytesOut + Drop> Egress<W> {
         self.input.wait(rt);
     }
 
-    /// Takes and writes what is left in the ring, with both of its ends at hand: what was sent before the other end was
-    /// seen dropped.
+    /// Takes and writes what is left in the ring, with both of its ends at hand: what the sender sent before it hung
+    /// up.
     pub fn receive_rest(&mut self, sender: &mut Sender)
         requires one_ring { IsPair sender.old self.old.input }
         ensures receiving { (form : FormValue) (start : W) (before : List MessageValue)
@@ -162,7 +161,7 @@ impl<W: BytesOut + Drop> Egress<W> {
         }
     }
 
-    /// Returns what comes behind the ring, and whether the end of the stream or Stop was taken.
+    /// Returns the sink, and whether the end of the stream or Stop was taken.
     pub fn into_parts(self) -> (FusedSink<W>, bool)
         ensures { (result.0 ≡ self.fused_sink) × (result.1 ≡ self.has_ended) }
     {

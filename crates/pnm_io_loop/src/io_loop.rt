@@ -1,4 +1,4 @@
-//! What the caller of a run over threads does while the tools work: it writes what it takes, and sends what it reads.
+//! The work of a run's caller while the tools work in their threads: it sends what it reads, and writes what it takes.
 
 ghost use Rattle.std.specs.Prelude.{◌≡◌, ◌<◌, ◌⊎◌, List, IsTrue, IsFalse, IfSome, true, false};
 ghost use Rattle.pnm_stages.specs.Rings.{SameReceiver};
@@ -18,8 +18,8 @@ use pnm_stages::Task;
 use std::alloc::Global;
 use std::sync::Wait;
 
-/// The loop of the caller, until all is sent and taken. Both of its sides are boxed, since each level of a chain's
-/// starts hands the task on to the next.
+/// The caller's loop, until all is sent and taken. Both of its sides are boxed, since each level of a chain's starts
+/// moves the task to the next.
 #[derive(Drop)]
 pub struct IoLoop<'a, H, R, W> {
     pub rt: &'a H,
@@ -29,7 +29,8 @@ pub struct IoLoop<'a, H, R, W> {
 }
 
 impl<'a, H, R: BytesIn + Drop, W: BytesOut + Drop> IoLoop<'a, H, R, W> {
-    /// The loop of a caller that has this before its chain, and that behind it; none if there is no memory.
+    /// Creates the loop of a caller that has `ingress` before its chain and `egress` behind it. Returns `None` if there
+    /// is no memory.
     pub fn new(
         rt: &'a H,
         alloc: Global,
@@ -70,7 +71,7 @@ impl<'a, H: Wait, R: BytesIn + Drop, W: BytesOut + Drop> Task for IoLoop<'a, H, 
     }
 }
 
-/// Takes and sends until there is no more to do. New rows are made of the rows that were written.
+/// Takes and sends until there is no more to do. New rows take the memory of those that were written.
 fn run_loop<H: Wait, R: BytesIn + Drop, W: BytesOut + Drop>(
     rt: &H,
     ingress: &mut Ingress<R>,
@@ -94,8 +95,8 @@ fn run_loop<H: Wait, R: BytesIn + Drop, W: BytesOut + Drop>(
     unreachable!()
 }
 
-/// Waits once for both rings, if nothing can be done: at the first if there is more to be sent, since
-/// there is no room for it and so the tools have enough to do that something comes of it, and else at the last.
+/// Waits once, if nothing can be done: at the first ring while there is more to send, since that ring is full, so that
+/// the tools have work and will make room; otherwise at the last ring.
 fn wait<H: Wait, R: BytesIn + Drop, W: BytesOut + Drop>(
     rt: &H,
     ingress: &mut Ingress<R>,
@@ -111,8 +112,8 @@ fn wait<H: Wait, R: BytesIn + Drop, W: BytesOut + Drop>(
     }
 }
 
-/// Whether a message is taken first, if one is there: so it is if one was taken in the step before, or if the source
-/// would have to wait for its reader. The first tool is woken for all that was sent then.
+/// Returns whether this step takes before it sends: it does if the last step took, or if the source might have to wait
+/// for its reader. Then it first wakes the first tool for all that was sent.
 fn wake_before_taking<R: BytesIn + Drop, W: BytesOut + Drop>(
     ingress: &mut Ingress<R>,
     egress: &Egress<W>,
@@ -128,9 +129,8 @@ fn wake_before_taking<R: BytesIn + Drop, W: BytesOut + Drop>(
     takes_first
 }
 
-/// Goes on with what was done in the step before, to take and write a message or to send one, as long as that can be
-/// done, and then does the other: so the caller looks at a ring for many messages at once. Returns false if nothing can
-/// be done.
+/// Does what the last step did, taking or sending, if it can, and else the other. So each look at a ring covers many
+/// messages. Returns false if nothing can be done.
 fn run_once<R: BytesIn + Drop, W: BytesOut + Drop>(
     ingress: &mut Ingress<R>,
     egress: &mut Egress<W>,
@@ -152,7 +152,7 @@ fn run_once<R: BytesIn + Drop, W: BytesOut + Drop>(
     send_or_take(ingress, egress, spares, takes)
 }
 
-/// Sends a message. If that can't be done, takes one, and goes on with taking.
+/// Sends a message. If that can't be done, takes one, and notes in `takes` that the next step takes first.
 #[inline(always)]
 fn send_or_take<R: BytesIn + Drop, W: BytesOut + Drop>(
     ingress: &mut Ingress<R>,
@@ -209,8 +209,8 @@ fn take<W: BytesOut + Drop>(egress: &mut Egress<W>, spares: &mut SpareRows) -> b
     !egress.is_over() && egress.try_receive(spares)
 }
 
-/// Whether there is more to send. While the result of an image that was sent isn't written yet, what the source may
-/// have to wait for doesn't count.
+/// Returns whether there is more to send. What the source may have to wait for doesn't count while the result of an
+/// image that was sent isn't written yet.
 fn may_send<R: BytesIn + Drop, W: BytesOut + Drop>(ingress: &Ingress<R>, egress: &Egress<W>) -> bool
     ensures yes { IsTrue result → ingress_is_over ingress.now ≡ false }
     ensures no { IsFalse result → (ingress_is_over ingress.now ≡ true)

@@ -7,7 +7,7 @@ ghost use Rattle.pnm_memory.specs.CallAnswers.{refusal, run_answer, without_room
 use crate::codes::{ROOM, WELL, run_code, run_number};
 use pnm_flow::{RunFault, Summary};
 
-/// What came of a call, laid out as C lays it out.
+/// The outcome of a call, laid out as C lays it out.
 #[repr(C)]
 #[derive(Clone, Copy)]
 pub struct Answer {
@@ -29,7 +29,7 @@ pub struct Answer {
     pub reserved_2: u64,
 }
 
-/// The answer of a call that ran nothing.
+/// Returns the answer of a call that ran nothing.
 pub(crate) fn refused(code: u32, number: usize) -> Answer
     ensures { result ≡ refusal code number }
 {
@@ -45,7 +45,7 @@ pub(crate) fn refused(code: u32, number: usize) -> Answer
     }
 }
 
-/// The answer of a run that wrote `size` bytes.
+/// Returns the answer of a run that wrote `size` bytes.
 pub(crate) fn answer_of(answer: Result<Summary, RunFault>, size: usize) -> Answer
     requires { IsOfOneThread answer }
     ensures { result ≡ run_answer answer size }
@@ -64,7 +64,7 @@ pub(crate) fn answer_of(answer: Result<Summary, RunFault>, size: usize) -> Answe
     }
 }
 
-/// The answer if the room was too small for what a run wrote. Any other fault comes before that one.
+/// Returns the answer if the room was too small for what a run wrote. Any other fault comes before that one.
 pub(crate) fn without_room(answer: Answer) -> Answer
     ensures { result ≡ told_without_room answer }
 {

@@ -1,4 +1,4 @@
-//! The text of a chain, as bytes that may be no text.
+//! The text of a chain, as bytes that may not be UTF-8.
 
 ghost use Rattle.std.specs.Prelude.{◌≡◌, IfOk, IfErr};
 ghost use Rattle.pnm_tools.specs.Chains.{IsChain};
@@ -21,7 +21,7 @@ pub fn check(alloc: Global, chain: &[u8]) -> Answer
     }
 }
 
-/// Reads the tools of a chain. If there are none, returns the answer that says why.
+/// Reads the tools of a chain. If it has a fault, returns the answer that says so.
 pub(crate) fn read_chain(alloc: Global, chain: &[u8]) -> Result<Vec<Tool>, Answer>
     ensures lawful { IfOk result (λ tools. IsChain tools.items) }
     ensures spelled { IfOk result (λ tools. SpellsChain chain.now tools.items) }

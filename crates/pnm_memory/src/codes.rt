@@ -1,4 +1,4 @@
-//! The numbers of faults. They stay as they are; new ones may be added.
+//! The numbers of faults. They never change; new ones may be added.
 
 ghost use Rattle.std.specs.Prelude.{◌≡◌, Err};
 ghost use Rattle.pnm_serial.specs.declared.summary.Summary.{Summary as RunSummary};
@@ -24,7 +24,7 @@ pub const BAD_TEXT: u32 = 2;
 /// The room for the results is too small.
 pub const ROOM: u32 = 3;
 
-/// The number of a fault of a chain's text.
+/// Returns the number of a fault of a chain's text.
 pub(crate) fn chain_code(kind: ChainKind) -> u32
     ensures { result ≡ code_of_chain kind }
 {
@@ -44,7 +44,7 @@ pub(crate) fn chain_code(kind: ChainKind) -> u32
     }
 }
 
-/// The number of a fault of a run in memory, which is in one thread.
+/// Returns the number of a fault of a run in memory, which is in one thread.
 pub(crate) fn run_code(fault: RunFault) -> u32
     requires { IsOfOneThread {A = RunSummary} (Err fault) }
     ensures { result ≡ code_of fault }
@@ -57,7 +57,7 @@ pub(crate) fn run_code(fault: RunFault) -> u32
     }
 }
 
-/// The number of the tool that is at fault.
+/// Returns the number of the tool that is at fault.
 pub(crate) fn run_number(fault: RunFault) -> usize
     ensures { result ≡ number_of fault }
 {
@@ -67,7 +67,7 @@ pub(crate) fn run_number(fault: RunFault) -> usize
     }
 }
 
-/// The number of a fault of the input.
+/// Returns the number of a fault of the input.
 pub(crate) fn input_code(fault: InputFault) -> u32
     ensures { result ≡ code_of_input fault }
 {

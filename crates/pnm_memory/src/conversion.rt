@@ -11,10 +11,10 @@ use pnm_image::Form;
 use pnm_tools::Tool;
 use std::alloc::Global;
 
-/// What came of a run, and the bytes that it wrote, whatever came of it.
+/// The outcome of a run, and the bytes that it wrote, even before a fault.
 #[derive(Drop)]
 pub struct Converted {
-    /// What the run answers.
+    /// The run's answer.
     pub answer: Result<Summary, RunFault>,
     /// What it wrote.
     pub written: Vec<u8>,

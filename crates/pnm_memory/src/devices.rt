@@ -1,11 +1,11 @@
-//! The two ends of a run in memory: a reader of bytes that are there, and a writer that keeps all that it takes.
+//! The two ends of a run in memory: a reader of a slice, and a writer that keeps all that it takes.
 
 ghost use Rattle.std.specs.Prelude.{◌≡◌, [], Some};
 
 use pnm_image::{BytesIn, BytesOut, DeviceFailed};
 use std::alloc::Global;
 
-/// Reads bytes that are there. It never fails.
+/// Reads a slice. It never fails.
 #[derive(Drop)]
 pub struct TextReader<'a> {
     rest: &'a [u8],
@@ -48,7 +48,7 @@ pub struct VecWriter {
 }
 
 impl VecWriter {
-    /// A writer that holds nothing.
+    /// Creates a writer that holds nothing.
     pub fn new(alloc: Global) -> VecWriter
         ensures bytes { result.bytes.items ≡ [] }
         ensures failures { result.failures ≡ 0 }
@@ -59,7 +59,7 @@ impl VecWriter {
         }
     }
 
-    /// The bytes.
+    /// Returns the bytes that it holds.
     pub fn into_inner(self) -> Vec<u8>
         ensures { result ≡ self.bytes }
     {

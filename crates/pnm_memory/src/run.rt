@@ -16,7 +16,7 @@ use std::alloc::Global;
 /// Results in memory of their own, and the answer.
 #[derive(Drop)]
 pub struct Made {
-    /// What was written, also before a fault.
+    /// The bytes that were written, even before a fault.
     pub results: Vec<u8>,
     /// The answer of the call.
     pub answer: Answer,
@@ -47,7 +47,7 @@ fn convert_into(alloc: Global, tools: &[Tool], form: Form, input: &[u8], room: &
     if fits { answer } else { without_room(answer) }
 }
 
-/// Puts the bytes into the front of the room, if there are no more than it holds. Returns whether it has.
+/// Puts the bytes into the front of the room. Returns false, and puts nothing, if they don't fit.
 fn put(room: &mut [u8], bytes: &[u8]) -> bool
     ensures { IsPut bytes.now room.old room.new result }
 {
@@ -58,7 +58,7 @@ fn put(room: &mut [u8], bytes: &[u8]) -> bool
     true
 }
 
-/// As `run_into`, with the results in memory of their own.
+/// Runs as `run_into` does, with the results in memory of their own.
 pub fn run_new(alloc: Global, chain: &[u8], form: u32, input: &[u8]) -> Made
     ensures { IsMade chain.now form input.now result }
 {
@@ -83,7 +83,7 @@ fn convert_new(alloc: Global, tools: &[Tool], form: Form, input: &[u8]) -> Made
     }
 }
 
-/// This answer, with no results.
+/// Returns this answer, with no results.
 fn nothing(alloc: Global, answer: Answer) -> Made
     ensures results { result.results.items ≡ [] }
     ensures answer { result.answer ≡ answer }
@@ -94,7 +94,7 @@ fn nothing(alloc: Global, answer: Answer) -> Made
     }
 }
 
-/// The form of a number: 0 is raw, 1 is plain.
+/// Returns the form of a number: 0 is raw, 1 is plain.
 fn form_of(number: u32) -> Option<Form>
     ensures { result ≡ form_numbered number }
 {

@@ -1,4 +1,4 @@
-//! The bytes of a reader, of which a buffer's worth is held.
+//! A buffered reader, which holds up to a buffer of its reader's bytes.
 
 ghost use Rattle.std.specs.Prelude.{◌≡◌, ◌==◌, ◌≤◌, ◌<◌, ◌⊎◌, ◌↔◌, IsTrue, [], true, false, drop, length};
 ghost use Rattle.std.specs.Prelude.{vec_len, OnOk, IfOk, IfErr, MatchResult};
@@ -12,11 +12,11 @@ use std::alloc::Global;
 /// The bytes of the smallest buffer.
 const LEAST_BYTES: usize = 4096;
 
-/// The size of the smallest target that is read into past the buffer. For a smaller one, one read fetches what it wants
-/// and what follows.
+/// The size of the smallest target that is read into past the buffer. For a smaller one, one read into the buffer
+/// fetches what it wants and what follows.
 const LEAST_BYTES_PAST: usize = 16_384;
 
-/// A buffer of 4,096 bytes or more for what is read from an input.
+/// A buffer of 4,096 bytes or more that an input is read into.
 #[derive(Drop)]
 pub struct ReadBuffer {
     bytes: Vec<u8>,
@@ -24,7 +24,7 @@ pub struct ReadBuffer {
 }
 
 impl ReadBuffer {
-    /// A buffer of 4,096 bytes that holds nothing yet. The only fault is `Memory`.
+    /// Creates a buffer of 4,096 bytes that holds nothing yet. The only fault is `Memory`.
     pub(crate) fn new(alloc: Global) -> Result<ReadBuffer, InputFault>
         ensures size { IfOk result (λ buffer. vec_len buffer.bytes ≡ 4096) }
         ensures refused { IfErr result (λ fault. fault ≡ Memory) }
@@ -32,7 +32,7 @@ impl ReadBuffer {
         ReadBuffer::with_capacity(alloc, LEAST_BYTES)
     }
 
-    /// A buffer of `capacity` bytes that holds nothing yet. The only fault is `Memory`.
+    /// Creates a buffer of `capacity` bytes that holds nothing yet. The only fault is `Memory`.
     pub fn with_capacity(alloc: Global, capacity: usize) -> Result<ReadBuffer, InputFault>
         requires { 4096 ≤ capacity }
         ensures size { IfOk result (λ buffer. vec_len buffer.bytes ≡ capacity) }
@@ -45,7 +45,7 @@ impl ReadBuffer {
     }
 }
 
-/// A reader, and what was read from it but isn't taken yet.
+/// A reader, and the bytes that were read from it and not taken yet.
 #[derive(Drop)]
 pub struct BufferedReader<R> {
     reader: R,
@@ -53,7 +53,7 @@ pub struct BufferedReader<R> {
     buffer: Vec<u8>,
     at: usize,
     end: usize,
-    /// The reader's end was seen.
+    /// Whether the reader's end was seen.
     ended: bool,
     ghost size: { 4096 ≤ vec_len buffer },
     ghost order: { at ≤ end },
@@ -64,7 +64,7 @@ impl<R: BytesIn> BufferedReader<R> {
     ghost use Rattle.pnm_read.specs.BufferedReaders.{held_of};
     ghost use Rattle.pnm_read.specs.Internal.BufferedReaders.{ReadCall, Fills, Reads, IsByte, HoldsEnough};
 
-    /// A buffered reader that has read nothing yet.
+    /// Creates a buffered reader that has read nothing yet.
     pub fn new(buffer: ReadBuffer, reader: R) -> BufferedReader<R>
         ensures reader { result.reader ≡ reader }
         ensures nothing_held { held_of result ≡ [] }
@@ -79,26 +79,26 @@ impl<R: BytesIn> BufferedReader<R> {
         }
     }
 
-    /// The reader.
+    /// Returns the reader.
     pub fn into_reader(self) -> R
         ensures { result ≡ self.reader }
     {
         self.reader
     }
 
-    /// The allocator that made the buffer.
+    /// Returns the allocator that made the buffer.
     pub fn allocator(&self) -> Global {
         *self.buffer.allocator()
     }
 
-    /// The bytes that are held.
+    /// Returns the bytes that are held.
     pub fn bytes(&self) -> &[u8]
         ensures { result.now ≡ held_of self.now }
     {
         &self.buffer[self.at..self.end]
     }
 
-    /// Whether `wanted` bytes are held, or all that are left.
+    /// Returns whether `wanted` bytes are held, or all that are left.
     pub fn holds(&self, wanted: usize) -> bool
         ensures { IsTrue result ↔ HoldsEnough wanted self.now }
     {
@@ -129,7 +129,7 @@ impl<R: BytesIn> BufferedReader<R> {
         Ok(())
     }
 
-    /// Reads once, behind the bytes that are held, if they are fewer than `wanted`, the buffer has room for so many,
+    /// Reads once, behind the bytes that are held, if they are fewer than `wanted`, the buffer has room for `wanted`,
     /// and the input hasn't ended. The only fault is `ReadFailed`.
     pub fn read_towards(&mut self, wanted: usize) -> Result<(), InputFault>
         ensures read_call { ReadCall R.left R.failures R.same self.old self.new result (Fills result) }
@@ -172,8 +172,8 @@ impl<R: BytesIn> BufferedReader<R> {
     }
 
     /// Takes the next bytes into the front of the target, and returns how many came: 0 only at the end of the input.
-    /// These are bytes that are held or, if none are, those of one read, which goes straight into a target of at least
-    /// 16,384 bytes. The only fault is `ReadFailed`.
+    /// These are bytes that are held. If none are, it reads once, straight into a target of at least 16,384 bytes. The
+    /// only fault is `ReadFailed`.
     pub fn read(&mut self, target: &mut [u8]) -> Result<usize, InputFault>
         requires { 0 < length target.old }
         ensures read_call { ReadCall R.left R.failures R.same self.old self.new result (Reads target.new result) }
@@ -205,7 +205,7 @@ impl<R: BytesIn> BufferedReader<R> {
         read_into(&mut self.reader, &mut self.ended, target)
     }
 
-    /// The next byte, or `None` at the end of the input.
+    /// Takes the next byte. Returns `None` at the end of the input.
     pub fn next_byte(&mut self) -> Result<Option<u8>, InputFault>
         ensures { ReadCall R.left R.failures R.same self.old self.new result (IsByte result) }
     {
@@ -221,8 +221,7 @@ impl<R: BytesIn> BufferedReader<R> {
     }
 }
 
-/// Reads once into the front of the target, and returns how many bytes came: 0 only at the end, and `ended` is set
-/// then.
+/// Reads once into the front of the target, and returns how many bytes came: 0 only at the end, where it sets `ended`.
 fn read_into<R: BytesIn>(
     reader: &mut R,
     ended: &mut bool,

@@ -5,15 +5,15 @@ ghost use Rattle.pnm_read.specs.HeaderTexts.{is_apart, commented};
 
 use pnm_image::characters::is_white;
 
-/// White space, or the beginning of a comment.
+/// Returns whether the byte is white space or begins a comment.
 pub fn is_apart(byte: u8) -> bool
     ensures { result ≡ is_apart byte }
 {
     is_white(byte) || byte == b'#'
 }
 
-/// Whether what follows the byte is inside a comment; `inside` says whether the byte itself is. A comment goes from a
-/// `#` through the next CR or LF.
+/// Returns whether what follows the byte is inside a comment; `inside` says whether the byte itself is. A comment goes
+/// from a `#` through the next CR or LF.
 pub fn commented(inside: bool, byte: u8) -> bool
     ensures { result ≡ commented inside byte }
 {

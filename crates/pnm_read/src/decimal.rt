@@ -15,12 +15,12 @@ use pnm_image::characters::is_digit;
 /// The most bytes from after a sample's last digit, or after the header, through the last digit of the next sample.
 pub const GAP_LIMIT: usize = 1_048_576;
 
-/// Takes a number and the gap before it, byte by byte.
+/// A scanner of a number and the gap before it.
 #[derive(Drop)]
 pub struct DecimalScanner {
     /// The number that the digits so far spell; it stops at `u32::MAX`.
     value: u32,
-    /// The last byte is a digit, outside comments.
+    /// Whether the last byte is a digit, outside comments.
     in_number: bool,
     in_comment: bool,
     /// The number of bytes so far.
@@ -31,7 +31,7 @@ pub struct DecimalScanner {
 impl DecimalScanner {
     ghost use Rattle.pnm_read.specs.Internal.Scanners.{IsDecimalAfter, JudgesDecimal, PushesDecimal};
 
-    /// A scanner before its first byte.
+    /// Creates a scanner before its first byte.
     pub fn new() -> DecimalScanner
         ensures { IsDecimalAfter result [] }
     {
@@ -43,14 +43,14 @@ impl DecimalScanner {
         }
     }
 
-    /// The number that the digits so far spell, at most `u32::MAX`.
+    /// Returns the number that the digits so far spell, at most `u32::MAX`.
     pub fn value(&self) -> u32
         ensures { result ≡ self.now.value }
     {
         self.value
     }
 
-    /// The judgement of the next byte.
+    /// Judges the next byte.
     #[tactic(auto, unfolding(crate::specs::Items::decimal_item))]
     fn judge(&self, byte: u8) -> ScanStatus
         ensures judged { JudgesDecimal self.now byte result }

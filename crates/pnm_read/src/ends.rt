@@ -1,4 +1,4 @@
-//! Where the first image of a text ends, of which more may follow.
+//! Where the first image of a text ends, if more of the text may follow.
 
 ghost use Rattle.std.specs.Prelude.{◌≡◌, IfOk, IfErr, Ok, true};
 ghost use Rattle.pnm_read.specs.declared.fault.InputFault.TheVariants.{Memory};
@@ -12,9 +12,9 @@ use crate::source::Source;
 use crate::spare_rows::SpareRows;
 use std::alloc::Global;
 
-/// Where the image ends that the text begins with, whatever follows the text; or, if that is beyond the end of the
-/// text, how many bytes have to be there before more can be said. A plain image may only come first, and is said to end
-/// with the text in which it does: what follows it is ignored.
+/// Finds where the image ends that the text begins with, whatever follows the text. If that is beyond the end of the
+/// text, returns how many bytes are needed before more can be said. A plain image may only come first. It is said to
+/// end with the text in which it ends, since what follows it is ignored.
 ///
 /// # Errors
 ///
@@ -32,11 +32,11 @@ pub fn image_end(alloc: Global, text: &[u8], is_first: bool) -> Result<usize, In
     }
 }
 
-/// Whether the text alone tells all that is said of a stream that begins with it.
+/// Returns whether the text alone tells all that is said of a stream that begins with it.
 ///
 /// # Errors
 ///
-/// `Memory` alone.
+/// Only `Memory`.
 fn is_decided(alloc: Global, text: &[u8]) -> Result<bool, InputFault>
     ensures decided { IfOk result (λ told. told ≡ true → IsDecided text.now) }
     ensures refused { IfErr result (λ fault. fault ≡ Memory) }
@@ -53,11 +53,11 @@ fn is_decided(alloc: Global, text: &[u8]) -> Result<bool, InputFault>
     Ok(false)
 }
 
-/// Whether the fault is the text's own, and not that of the reader, which has no more bytes.
+/// Returns whether the fault is the text's own, and not that of the reader, which has no more bytes.
 ///
 /// # Errors
 ///
-/// `Memory`, if it is that.
+/// `Memory`, if the fault is `Memory`.
 fn is_of_text(fault: InputFault) -> Result<bool, InputFault>
     ensures own { result ≡ Ok true → IsOutsideFault fault → ⊥ }
     ensures refused { IfErr result (λ fault. fault ≡ Memory) }

@@ -15,8 +15,7 @@ pub enum InputFault {
     /// The input ends in a header.
     #[error("HeaderCut")]
     HeaderCut,
-    /// The bytes of a header, of a tuple type, or of a plain raster without the end of a sample are
-    /// beyond the limits.
+    /// A header, a tuple type, or the bytes of a plain raster without the end of a sample are longer than the limits.
     #[error("TooLong")]
     TooLong,
     /// A byte of a PBM, PGM or PPM header outside comments is neither a digit nor white space, or the
@@ -32,8 +31,7 @@ pub enum InputFault {
     /// The maxval is 0 or beyond the limits.
     #[error("BadMaxval")]
     BadMaxval,
-    /// A line of a PAM header begins with no name that such a line can have, or lacks its number; or the
-    /// byte after `P7` isn't LF.
+    /// A line of a PAM header begins with an unknown name or lacks its number, or the byte after `P7` isn't LF.
     #[error("BadPamLine")]
     BadPamLine,
     /// A number of a PAM header is there twice.

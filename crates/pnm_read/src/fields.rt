@@ -17,7 +17,7 @@ use pnm_image::limits::MAX_TUPLE_TYPE_LENGTH;
 use pnm_image::{Head, Kind, Shape};
 use std::alloc::Global;
 
-/// The fields of a header that have come.
+/// The fields of a header that have been read.
 #[derive(Drop)]
 pub struct Fields {
     width: Option<u32>,
@@ -28,7 +28,7 @@ pub struct Fields {
 }
 
 impl Fields {
-    /// No field has come.
+    /// Creates the fields of a header of which no line was read.
     pub fn new(alloc: Global) -> Fields
         ensures { IsFields result [] }
     {
@@ -41,7 +41,7 @@ impl Fields {
         }
     }
 
-    /// The shape, or `None` if a number is missing.
+    /// Returns the shape, or `None` if a number is missing.
     fn shape(&self) -> Option<Shape>
         ensures { result ≡ shape_held self.now }
     {
@@ -54,7 +54,7 @@ impl Fields {
         })
     }
 
-    /// Judges a line, without its LF, and takes what it says.
+    /// Judges a line, without its LF, and sets the field that it names.
     pub fn take(&mut self, line: &[u8]) -> ScanStatus
         ensures judged { JudgesLine self.old line.now self.new result }
         ensures of_text { result ≡ Fails ReadFailed → ⊥ }
@@ -69,7 +69,7 @@ impl Fields {
         }
     }
 
-    /// Takes the number of a field: the first token of the text.
+    /// Sets the number of a field: the first token of the text.
     fn set_number(&mut self, field: Field, text: &[u8]) -> ScanStatus
         ensures { SetsNumber self.old field text.now self.new result }
     {
@@ -122,7 +122,7 @@ fn set_once(place: &mut Option<u32>, number: u32) -> ScanStatus
     ScanStatus::GoesOn
 }
 
-/// The head of these fields, or what is wrong with them.
+/// Makes the head of these fields, or returns what is wrong with them.
 pub fn head_of(alloc: Global, fields: Fields) -> Result<Head, InputFault>
     requires { IsTupleType fields.tuple_type.items }
     ensures { (lines : List (List ℕ)) → IsFields fields lines → GivesInMemory result (lines_item lines) }

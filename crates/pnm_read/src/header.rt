@@ -24,14 +24,14 @@ use pnm_image::characters::{is_digit, is_white};
 use pnm_image::{BytesIn, Format, Head, HeadFault, Kind, Shape};
 use std::alloc::Global;
 
-/// The most bytes of a header, including those of its magic.
+/// The most bytes of a header, including its magic.
 pub const MAX_HEADER_LENGTH: usize = 65_536;
 
 /// The most bytes of a header after its magic.
 const HEADER_LIMIT: usize = MAX_HEADER_LENGTH - 2;
 
-/// The format that the input's magic names, or the text's fault there, or `ReadFailed`. A plain format may only come
-/// first.
+/// Reads the format that the input's magic names. Its fault is the text's fault there, or `ReadFailed`. A plain format
+/// may only come first.
 pub fn read_format<R: BytesIn>(
     input: &mut BufferedReader<R>,
     is_first: bool,
@@ -49,7 +49,7 @@ pub fn read_format<R: BytesIn>(
     }
 }
 
-/// The format that the second byte of a magic names. A plain format may only come first.
+/// Returns the format that the second byte of a magic names. A plain format may only come first.
 pub fn format_named(byte: u8, is_first: bool) -> Result<Format, InputFault>
     ensures { result ≡ format_named is_first byte }
 {
@@ -62,8 +62,8 @@ pub fn format_named(byte: u8, is_first: bool) -> Result<Format, InputFault>
     Ok(format)
 }
 
-/// The head that follows the magic, or the text's fault there, `ReadFailed` or `Memory`. It takes the header through
-/// its last byte.
+/// Reads the head that follows the magic, through the header's last byte. Its fault is the text's fault there,
+/// `ReadFailed` or `Memory`.
 pub fn read_head<R: BytesIn>(
     input: &mut BufferedReader<R>,
     format: Format,
@@ -76,8 +76,8 @@ pub fn read_head<R: BytesIn>(
     }
 }
 
-/// The head whose header these bytes begin with, which follow the magic, and how many of them the header takes; or
-/// `None` if it goes on after them. A fault of the header is that of any text which begins so.
+/// Finds the head in these bytes, which follow the magic, and how many of them the header takes. Returns `None` if the
+/// header goes on after them. A fault of the header is that of any text which begins so.
 pub fn head_in(
     alloc: Global,
     format: Format,
@@ -91,7 +91,7 @@ pub fn head_in(
     }
 }
 
-/// The same of PBM, PGM or PPM.
+/// Does the same for PBM, PGM and PPM.
 fn pnm_head_in(alloc: Global, kind: Kind, bytes: &[u8]) -> Result<Option<(Head, usize)>, InputFault>
     ensures { FindsIn (pnm_head_at kind) bytes.now result }
 {
@@ -103,7 +103,7 @@ fn pnm_head_in(alloc: Global, kind: Kind, bytes: &[u8]) -> Result<Option<(Head, 
     Ok(Some((head, taken)))
 }
 
-/// Whether these bytes, with which the image begins, determine its header, or the fault there, without any more bytes.
+/// Returns whether these bytes, with which an image begins, determine its header, or the fault there.
 pub fn is_complete(bytes: &[u8], is_first: bool) -> bool {
     match bytes {
         [] | [b'P'] => false,
@@ -115,7 +115,8 @@ pub fn is_complete(bytes: &[u8], is_first: bool) -> bool {
     }
 }
 
-/// Whether the header of an image of this kind ends within these bytes, which follow its magic, or has its fault there.
+/// Returns whether the header of an image of this kind ends within these bytes, which follow its magic, or has its
+/// fault there.
 fn ends_within(kind: Kind, bytes: &[u8]) -> bool {
     match kind {
         Kind::Bit | Kind::Gray | Kind::Color => {
@@ -127,8 +128,8 @@ fn ends_within(kind: Kind, bytes: &[u8]) -> bool {
     }
 }
 
-/// Whether these bytes begin with `wanted` numbers, each with white space after it and nothing but white space before
-/// it. Most headers are found whole like this, in less time than a scanner takes.
+/// Returns whether these bytes begin with `wanted` numbers, each with white space after it and nothing but white space
+/// before it. Most headers are found whole like this, in less time than a scanner takes.
 fn has_numbers(wanted: usize, bytes: &[u8]) -> bool {
     let mut missing = wanted;
     let mut in_number = false;
@@ -148,7 +149,7 @@ fn has_numbers(wanted: usize, bytes: &[u8]) -> bool {
     false
 }
 
-/// The head of PBM, PGM or PPM. It takes the header through its last byte, the delimiter.
+/// Reads the head of PBM, PGM or PPM, through the last byte of its header, the delimiter.
 fn read_pnm_head<R: BytesIn>(input: &mut BufferedReader<R>, kind: Kind) -> Result<Head, InputFault>
     ensures { ReadCall R.left R.failures R.same input.old input.new result (Finds (pnm_head_at kind) result) }
 {
@@ -157,7 +158,7 @@ fn read_pnm_head<R: BytesIn>(input: &mut BufferedReader<R>, kind: Kind) -> Resul
     head_of(input.allocator(), kind, header.numbers)
 }
 
-/// The head of these numbers, or what is wrong with them. PBM has only the last two.
+/// Makes the head of these numbers, or returns what is wrong with them. PBM has only the last two.
 fn head_of(alloc: Global, kind: Kind, numbers: [u32; 3]) -> Result<Head, InputFault>
     ensures { (found : List ℕ) → IsNumbers (number_count kind) found numbers
         → GivesInMemory result (numbers_item kind found) }
@@ -177,7 +178,7 @@ fn head_of(alloc: Global, kind: Kind, numbers: [u32; 3]) -> Result<Head, InputFa
     Head::new(alloc, shape, b"").map_err(fault_of_head)
 }
 
-/// What is wrong with a head.
+/// Returns what is wrong with a head.
 pub fn fault_of_head(fault: HeadFault) -> InputFault
     ensures { result ≡ fault_of_head fault }
 {
@@ -189,7 +190,7 @@ pub fn fault_of_head(fault: HeadFault) -> InputFault
     }
 }
 
-/// Takes a header of PBM, PGM or PPM after its magic, byte by byte.
+/// A scanner of a header of PBM, PGM or PPM after its magic.
 #[derive(Drop)]
 struct HeaderScanner {
     /// How many numbers the header has.
@@ -198,7 +199,7 @@ struct HeaderScanner {
     found: usize,
     /// The last three numbers, 0 for one that hasn't come; each stops at `u32::MAX`.
     numbers: [u32; 3],
-    /// The last byte outside comments is a digit.
+    /// Whether the last byte outside comments is a digit.
     in_number: bool,
     in_comment: bool,
     /// The number of bytes so far.
@@ -211,7 +212,7 @@ impl HeaderScanner {
     ghost use Rattle.pnm_read.specs.Internal.Scanners.{IsHeaderFresh, JudgesHeader, PushesHeader, PushesDigit};
     ghost use Rattle.pnm_read.specs.Internal.Scanners.{is_bad_after};
 
-    /// A scanner before the first byte, for a header of so many numbers.
+    /// Creates a scanner before the first byte, for a header of `wanted` numbers.
     fn new(wanted: usize) -> HeaderScanner
         ensures { IsHeaderFresh wanted result }
     {
@@ -225,7 +226,7 @@ impl HeaderScanner {
         }
     }
 
-    /// The judgement of the next byte.
+    /// Judges the next byte.
     #[tactic(auto, unfolding(crate::specs::Items::header_item))]
     fn judge(&self, byte: u8) -> ScanStatus
         ensures judged { JudgesHeader self.now byte result }
@@ -244,7 +245,7 @@ impl HeaderScanner {
         }
     }
 
-    /// Whether the byte can't come here.
+    /// Returns whether the byte can't come here.
     fn is_bad(&self, byte: u8) -> bool
         ensures { result ≡ is_bad_after self.now byte }
     {
@@ -314,7 +315,7 @@ impl Scanner for HeaderScanner {
     }
 }
 
-/// How many numbers a PNM header has: the width, the height and, except for PBM, the maxval.
+/// Returns how many numbers a PNM header has: the width, the height and, except for PBM, the maxval.
 pub fn number_count(kind: Kind) -> usize
     ensures { result ≡ number_count kind }
 {
@@ -324,7 +325,7 @@ pub fn number_count(kind: Kind) -> usize
     }
 }
 
-/// The planes of an image of PBM, PGM or PPM.
+/// Returns the planes of an image of PBM, PGM or PPM.
 pub fn planes(kind: Kind) -> u32
     ensures { result ≡ planes kind }
 {

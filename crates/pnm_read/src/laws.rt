@@ -1,4 +1,4 @@
-//! Laws of texts. Each is stated over the definitions alone, as the contract of a function that does nothing.
+//! Laws of texts. Each is about the definitions alone, as the contract of a function that does nothing.
 
 ghost use Rattle.pnm_read.specs.Examples.{TextExamplesHold};
 ghost use Rattle.pnm_read.specs.TextLaws.{SpelledIsSaid, SaidIsSpelled, SpelledAreSaid, SpelledAreImages};
@@ -20,7 +20,7 @@ pub fn said_is_spelled()
     ensures { SaidIsSpelled }
 {}
 
-/// The images that a text spells are those that are said of it, and the other way round.
+/// A text spells exactly the images that are said of it.
 pub fn spelled_are_said()
     ensures { SpelledAreSaid }
 {}
@@ -64,7 +64,7 @@ pub fn faults_are_of_texts()
     ensures { FaultsAreOfTexts }
 {}
 
-/// Small texts, as the definitions compute them.
+/// What the definitions make of small texts.
 pub fn examples_hold()
     ensures { TextExamplesHold }
 {}

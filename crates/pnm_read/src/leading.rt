@@ -1,6 +1,6 @@
-//! The samples that bytes of a plain raster begin with, as far as these bytes alone determine them.
+//! The samples that bytes of a plain raster begin with, as far as these bytes determine them.
 //!
-//! Comments, long numbers, faults, and a number that the bytes end in, are left to the scanners.
+//! Comments, long numbers, faults and a number at the end of the bytes are left to the scanners.
 
 ghost use Rattle.std.specs.Prelude.{◌≡◌, ◌≤◌, ◌<◌, ◌-◌, length, take, true, IfOk, IfSome};
 ghost use Rattle.std.specs.List.{AllPass};
@@ -90,7 +90,7 @@ fn take_numbers(
     Ok(taken)
 }
 
-/// How many bytes of white space come first.
+/// Returns how many bytes of white space come first.
 fn white_first(bytes: &[u8]) -> usize
     ensures within { result ≤ length bytes.now }
     ensures white { AllPass is_white (take result bytes.now) }
@@ -103,7 +103,7 @@ fn white_first(bytes: &[u8]) -> usize
     bytes.len()
 }
 
-/// The number up to the maxval that comes first, and how many digits it has.
+/// Returns the number up to the maxval that comes first, and how many digits it has.
 fn sample_first(bytes: &[u8], maxval: u32) -> Option<(u16, usize)>
     requires { maxval ≤ MAX_MAXVAL }
     ensures number { IfSome result (λ found. IsNumberFirst bytes.now found.0 found.1) }
@@ -120,8 +120,8 @@ fn sample_first(bytes: &[u8], maxval: u32) -> Option<(u16, usize)>
     Some((number as u16, count))
 }
 
-/// The number of at most three digits that comes first, if white space follows, and how many digits it has. No branch
-/// depends on how many there are, since it couldn't be predicted.
+/// Returns the number of at most three digits that comes first, if white space follows, and how many digits it has. No
+/// branch depends on how many there are, since it couldn't be predicted.
 fn short_number_first(bytes: &[u8]) -> Option<(u32, usize)>
     ensures { IfSome result (λ found. IsNumberFirst bytes.now found.0 found.1) }
 {
@@ -144,7 +144,7 @@ fn short_number_first(bytes: &[u8]) -> Option<(u32, usize)>
     Some(([of_one, of_two, of_three][more], more + 1))
 }
 
-/// The number of at most five digits that comes first, if white space follows, and how many digits it has.
+/// Returns the number of at most five digits that comes first, if white space follows, and how many digits it has.
 fn number_first(bytes: &[u8]) -> Option<(u32, usize)>
     ensures { IfSome result (λ found. IsNumberFirst bytes.now found.0 found.1) }
 {
@@ -172,7 +172,7 @@ fn number_first(bytes: &[u8]) -> Option<(u32, usize)>
     Some((number, more + 1))
 }
 
-/// The value of a digit. The result for any other byte means nothing.
+/// Returns the value of a digit. The result for any other byte means nothing.
 fn digit_value(digit: u8) -> u32
     ensures within { result < 256 }
     ensures value { is_digit digit ≡ true → result ≡ digit - byte "0" }

@@ -28,12 +28,12 @@ pub enum LineKind {
     TupleType,
     /// It is the last line.
     End,
-    /// Nothing that such a line can say.
+    /// Its first token is unknown.
     Unknown,
 }
 
 impl LineKind {
-    /// What a line with this first token says. The token is empty if the line has none.
+    /// Returns what a line with this first token says. The token is empty if the line has none.
     #[tactic(auto, unfolding(crate::specs::PamLines::kind_of_token))]
     pub fn of(token: &[u8]) -> LineKind
         ensures { result ≡ kind_of_token token.now }
@@ -58,7 +58,7 @@ fn spelled<T: Copy>(token: &[u8], name: &[u8], named: T) -> Option<T>
     if token == name { Some(named) } else { None }
 }
 
-/// The first token of a line, which is empty if there is none, and what follows it.
+/// Returns the first token of a line, which is empty if there is none, and what follows it.
 pub fn split_token(line: &[u8]) -> (&[u8], &[u8])
     ensures token { result.0.now ≡ first_token line.now }
     ensures rest { result.1.now ≡ after_first line.now }
@@ -71,7 +71,7 @@ pub fn split_token(line: &[u8]) -> (&[u8], &[u8])
     text.split_at(length)
 }
 
-/// The text without white space at its ends.
+/// Returns the text without white space at its ends.
 pub fn trim(text: &[u8]) -> &[u8]
     ensures { result.now ≡ trimmed text.now }
 {
@@ -102,7 +102,7 @@ fn trimmed_end(text: &[u8]) -> &[u8]
     rest
 }
 
-/// The number that a token spells, at most `u32::MAX`, or `None` if it isn't decimal.
+/// Returns the number that a token spells, at most `u32::MAX`, or `None` if it isn't decimal.
 pub fn number_of(token: &[u8]) -> Option<u32>
     ensures { result ≡ number_of token.now }
 {

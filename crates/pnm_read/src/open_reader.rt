@@ -1,11 +1,11 @@
-//! A reader of bytes that are there, of which more may follow.
+//! A reader of a text that may go on.
 
 ghost use Rattle.std.specs.Prelude.{◌≡◌, ◌∷◌, ◌++◌, [], Some};
 
 use pnm_image::{BytesIn, DeviceFailed};
 
-/// Reads bytes that are there, and fails after them: more may follow. So it never tells an end, and what is known after
-/// it has failed doesn't depend on what follows.
+/// Reads the beginning of a text, and fails behind it, since more may follow. So it never tells an end, and what is
+/// known after it has failed holds however the text goes on.
 #[derive(Drop)]
 pub struct OpenReader<'a> {
     rest: &'a [u8],

@@ -20,8 +20,8 @@ use std::alloc::Global;
 /// The most bytes of a header after its magic and the LF.
 const PAM_LIMIT: usize = MAX_HEADER_LENGTH - 3;
 
-/// The head that follows the magic, or the text's fault there, `ReadFailed` or `Memory`. It takes the header through
-/// the LF of its line ENDHDR.
+/// Reads the head that follows the magic, through the LF of its line ENDHDR. Its fault is the text's fault there,
+/// `ReadFailed` or `Memory`.
 #[tactic(auto, unfolding(crate::specs::Said::pam_head_at))]
 pub fn read_head<R: BytesIn>(input: &mut BufferedReader<R>) -> Result<Head, InputFault>
     ensures { ReadCall R.left R.failures R.same input.old input.new result (Finds pam_head_at result) }
@@ -32,8 +32,8 @@ pub fn read_head<R: BytesIn>(input: &mut BufferedReader<R>) -> Result<Head, Inpu
     head_of(input.allocator(), header.fields)
 }
 
-/// The head whose header these bytes begin with, which follow the magic, and how many of them the header takes; or
-/// `None` if it goes on after them.
+/// Finds the head in these bytes, which follow the magic, and how many of them the header takes. Returns `None` if the
+/// header goes on after them.
 pub fn head_in(alloc: Global, bytes: &[u8]) -> Result<Option<(Head, usize)>, InputFault>
     ensures { FindsIn pam_head_at bytes.now result }
 {
@@ -51,7 +51,8 @@ pub fn head_in(alloc: Global, bytes: &[u8]) -> Result<Option<(Head, usize)>, Inp
     Ok(Some((head, 1 + taken)))
 }
 
-/// Whether a header ends within these bytes, which follow its magic, by its last line or by one that none can have.
+/// Returns whether a header ends within these bytes, which follow its magic: by its last line, or by a line of an
+/// unknown name.
 pub fn has_last_line(bytes: &[u8]) -> bool {
     let mut start = 0;
     for (end, byte) in bytes.iter().enumerate() {
@@ -66,7 +67,7 @@ pub fn has_last_line(bytes: &[u8]) -> bool {
     false
 }
 
-/// The LF after the magic.
+/// Reads the LF after the magic.
 #[tactic(auto, unfolding(crate::specs::Items::line_feed_item))]
 fn read_line_feed<R: BytesIn>(input: &mut BufferedReader<R>) -> Result<(), InputFault>
     ensures { ReadCall R.left R.failures R.same input.old input.new result (Passes line_feed_item result) }
@@ -78,7 +79,7 @@ fn read_line_feed<R: BytesIn>(input: &mut BufferedReader<R>) -> Result<(), Input
     }
 }
 
-/// Takes a header after its magic and the LF, byte by byte. A line is judged once it has ended.
+/// A scanner of a header after its magic and the LF. It judges a line once the line has ended.
 #[derive(Drop)]
 struct PamScanner {
     /// The line that hasn't ended.
@@ -93,7 +94,7 @@ struct PamScanner {
 impl PamScanner {
     ghost use Rattle.pnm_read.specs.Internal.PamScanners.{IsPamAfter};
 
-    /// A scanner before the first byte.
+    /// Creates a scanner before the first byte.
     fn new(alloc: Global) -> PamScanner
         ensures { IsPamAfter result [] }
     {

@@ -11,7 +11,7 @@ use crate::fault::InputFault;
 use crate::scan::Scanner;
 use crate::scan_status::ScanStatus;
 
-/// Takes a pixel and the gap before it, byte by byte.
+/// A scanner of a pixel and the gap before it.
 #[derive(Drop)]
 pub struct PixelScanner {
     /// The pixel as a sample, once it has come: 0 for black, 1 for white.
@@ -25,7 +25,7 @@ pub struct PixelScanner {
 impl PixelScanner {
     ghost use Rattle.pnm_read.specs.Internal.Scanners.{IsPixelAfter, JudgesPixel};
 
-    /// A scanner before its first byte.
+    /// Creates a scanner before its first byte.
     pub fn new() -> PixelScanner
         ensures { IsPixelAfter result [] }
     {
@@ -36,14 +36,14 @@ impl PixelScanner {
         }
     }
 
-    /// The pixel as a sample, once it has come.
+    /// Returns the pixel as a sample, once it has come.
     pub fn pixel(&self) -> u16
         ensures { result ≡ self.now.pixel }
     {
         self.pixel
     }
 
-    /// The judgement of the next byte.
+    /// Judges the next byte.
     #[tactic(auto, unfolding(crate::specs::Items::pixel_item))]
     fn judge(&self, byte: u8) -> ScanStatus
         ensures judged { JudgesPixel self.now byte result }

@@ -26,7 +26,7 @@ pub struct Raster {
 }
 
 impl Raster {
-    /// A raster of which no row has passed.
+    /// Creates a raster of which no row has passed.
     pub fn new(format: Format, shape: Shape) -> Raster
         requires width { shape.width ≤ MAX_SIDE }
         requires maxval { shape.maxval ≤ MAX_MAXVAL }
@@ -44,7 +44,7 @@ impl Raster {
         }
     }
 
-    /// How many bytes a row takes, if the raster is raw.
+    /// Returns how many bytes a row takes, if the raster is raw.
     pub fn row_bytes(&self) -> usize
         ensures narrow { (self.now.sample_width ≡ Words → ⊥) → result ≡ self.now.units }
         ensures wide { self.now.sample_width ≡ Words → result ≡ min (self.now.units * 2) (2 ^ 64 - 1) }
@@ -55,7 +55,7 @@ impl Raster {
         }
     }
 
-    /// The raster after `count` more rows.
+    /// Returns the raster after `count` more rows.
     pub fn after_rows(self, count: u32) -> Raster
         requires { count ≤ self.shape.height - self.y }
         ensures format { result.format ≡ self.format }

@@ -1,4 +1,4 @@
-//! Pieces of a text that are judged byte by byte: a header, or a sample of a plain raster.
+//! Scanners, which judge a piece of a text byte by byte: a header, or a sample of a plain raster.
 
 ghost use Rattle.std.specs.Prelude.{◌≡◌, ◌<◌, ◌≤◌, ◌+◌, ℕ, Bool, true, List, Option, IfOk, IfSome, IfNone, Some, Err};
 ghost use Rattle.std.specs.Prelude.{length};
@@ -44,7 +44,7 @@ pub trait Scanner {
         ensures of_text { result ≡ Fails ReadFailed → ⊥ }
         ensures memory { result ≡ Fails Memory → keeps_bytes ≡ true };
 
-    /// The fault, if any, of a text that ends here.
+    /// Returns the fault, if any, of a text that ends here.
     fn end(&self) -> Option<InputFault>
         ensures judged { JudgesEnd (at_end self.now) (is_after self.now) (is_whole self.now) result }
         ensures of_text { result ≡ Some ReadFailed → ⊥ };

@@ -1,8 +1,8 @@
-//! What judging a byte of a header or a plain raster tells.
+//! A scanner's judgement of a byte.
 
 use crate::fault::InputFault;
 
-/// What judging a byte of a header or a plain raster tells of the piece that it may belong to.
+/// A scanner's judgement of a byte of a header or a plain raster.
 #[derive(Clone, Copy, PartialEq, Eq)]
 pub enum ScanStatus {
     /// The byte belongs to the piece, which goes on.

@@ -1,4 +1,4 @@
-//! How many bytes the image has that a text begins with.
+//! The number of bytes of a text's first image.
 
 ghost use Rattle.std.specs.Prelude.{◌≡◌, ◌≤◌, ◌*◌};
 ghost use Rattle.pnm_image.specs.Heads.{IsWithinLimits};
@@ -16,14 +16,14 @@ use std::alloc::Global;
 pub enum ImageSize {
     /// The header isn't whole.
     HeaderCut,
-    /// The image is raw, and its header and raster have so many bytes.
+    /// The image is raw, and its header and raster have this many bytes.
     Raw(usize),
     /// The header is that of a plain image: only the samples tell where it ends.
     Plain,
 }
 
-/// What these bytes, with which an image begins, tell of its size. Only the header is looked at. A plain image may only
-/// come first.
+/// Returns what these bytes, with which an image begins, tell of its size. Only the header is looked at. A plain image
+/// may only come first.
 ///
 /// # Errors
 ///
@@ -44,7 +44,7 @@ pub fn image_size(alloc: Global, bytes: &[u8], is_first: bool) -> Result<ImageSi
     size_after(alloc, format, rest)
 }
 
-/// The same by the bytes after the magic, which names this format.
+/// Returns the same from the bytes after the magic, which names this format.
 fn size_after(alloc: Global, format: Format, bytes: &[u8]) -> Result<ImageSize, InputFault>
     ensures { TellsSizeAfter format bytes.now result }
 {
@@ -57,7 +57,7 @@ fn size_after(alloc: Global, format: Format, bytes: &[u8]) -> Result<ImageSize, 
     Ok(ImageSize::Raw(2 + taken + raster_size(head.shape())))
 }
 
-/// The bytes of a raw raster.
+/// Returns the number of bytes in a raw raster.
 fn raster_size(shape: Shape) -> usize
     requires { IsWithinLimits shape }
     ensures size { result ≡ shape.height * bytes_in_row shape }
@@ -66,7 +66,7 @@ fn raster_size(shape: Shape) -> usize
     shape.height as usize * row_size(shape)
 }
 
-/// The bytes of a raw row.
+/// Returns the number of bytes in a raw row.
 fn row_size(shape: Shape) -> usize
     requires { IsWithinLimits shape }
     ensures size { result ≡ bytes_in_row shape }

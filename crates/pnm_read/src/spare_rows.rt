@@ -1,4 +1,4 @@
-//! Rows that are no longer in use, whose memory new rows take.
+//! The memory of rows that are no longer in use, for new rows.
 
 ghost use Rattle.std.specs.Prelude.{◌≡◌, ◌≤◌, IfOk, length, vec_capacity};
 
@@ -9,13 +9,14 @@ use std::collections::VecDeque;
 /// The most rows that are kept.
 const MOST_ROWS: usize = 128;
 
-/// The most bytes of a row that is kept, or of rows that were handed over together.
+/// The most bytes of a row, or of rows that were together, that are kept.
 const MOST_BYTES: usize = 65_536;
 
 /// About how many bytes are kept in all: as many as a ring holds.
 const MOST_KEPT: usize = 1_048_576;
 
-/// A row is kept only if it has at most this many times the room that was asked for last: more of it would lie idle.
+/// A row is kept only if it has room for at most this many times the bytes that were asked for last: more room would
+/// lie idle.
 const MOST_TIMES: usize = 4;
 
 /// Rows that are no longer in use, whose memory a source takes for its next ones, the oldest first. At most 128 of at
@@ -28,7 +29,7 @@ pub struct SpareRows {
 }
 
 impl SpareRows {
-    /// No rows, and a place for each that may be kept.
+    /// Creates an empty store with room for 128 rows.
     ///
     /// # Errors
     ///
@@ -40,7 +41,7 @@ impl SpareRows {
         })
     }
 
-    /// No rows, and no place to keep one. It takes no memory.
+    /// Creates a store that keeps no rows. It takes no memory.
     pub fn none(alloc: Global) -> SpareRows {
         SpareRows {
             rows: VecDeque::new(alloc),
@@ -48,8 +49,7 @@ impl SpareRows {
         }
     }
 
-    /// Keeps the memory of the rows, if it serves for a row like the one that was asked for last, and otherwise drops
-    /// it.
+    /// Keeps the memory of the rows if it suits a row like the one that was asked for last, and drops it otherwise.
     pub fn keep_rows(&mut self, rows: Rows) {
         match rows.into_parts().0 {
             RowVec::Bits(bits) => self.keep_bytes(bits.into_bytes()),
@@ -58,7 +58,7 @@ impl SpareRows {
         }
     }
 
-    /// Keeps the row if there is a place for it, and if it has room for the bytes that were asked for last and not for
+    /// Keeps the row if there is a place for it, and if it has room for the bytes that were asked for last, but not for
     /// many more.
     fn keep_bytes(&mut self, row: Vec<u8>) {
         let size = row.capacity();
@@ -70,7 +70,8 @@ impl SpareRows {
         }
     }
 
-    /// A row of these bytes, in the memory that was kept the longest if they fit in it. Memory that is too small goes.
+    /// Returns a row of these bytes, in the memory that was kept the longest if they fit in it. Memory that is too
+    /// small is freed.
     ///
     /// # Errors
     ///

@@ -29,7 +29,7 @@ pub fn append_wide(bytes: &[u8], maxval: u32, row: &mut Vec<u16>) -> Result<(), 
     Ok(())
 }
 
-/// Whether no unit of a byte is a sample above the maxval. A byte of eight pixels never is one.
+/// Returns whether no unit of a byte is a sample above the maxval. A byte of eight pixels never is one.
 pub fn are_units_within(bytes: &[u8], sample_width: SampleWidth, maxval: u32) -> bool
     ensures { IsTrue result ↔ AreBytesWithin sample_width maxval bytes.now }
 {
@@ -39,7 +39,7 @@ pub fn are_units_within(bytes: &[u8], sample_width: SampleWidth, maxval: u32) ->
     }
 }
 
-/// The units in a row of this shape.
+/// Returns the number of units in a row of this shape.
 pub fn units_in_row(sample_width: SampleWidth, shape: Shape) -> usize
     requires { shape.width ≤ MAX_SIDE }
     ensures { result ≡ units_in_row sample_width shape }

@@ -14,7 +14,7 @@ use pnm_tools::{ImageTool, ToolFault, head_within_limits};
 use std::alloc::Global;
 use std::mem;
 
-/// Repeats pixels across, and rows down. It keeps the rows that came together, and makes the rows of the result as it
+/// Repeats pixels across, and rows down. It keeps the rows that came together, and makes the rows of the result when it
 /// gives them: at most 65,536 bytes at once, unless one row takes more.
 #[derive(Drop)]
 pub struct Enlarger {
@@ -45,8 +45,8 @@ impl ImageTool for Enlarger {
 
     fn end(&mut self, _shape: Shape) {}
 
-    /// Gives the rows that several rows make together. If a row of the result is long, or its copies are more than is
-    /// given at once, gives that row and the number of its copies, and makes none.
+    /// Gives the result rows of several rows together. If a result row is long, or its copies exceed what is given at
+    /// once, gives that row and the number of its copies, and makes no copies.
     #[inline(never)]
     fn give(&mut self, alloc: Global) -> Result<Option<RepeatedRows>, ToolFault> {
         let Some(waiting) = mem::replace(&mut self.waiting, None) else {
@@ -69,7 +69,7 @@ impl ImageTool for Enlarger {
 }
 
 impl Enlarger {
-    /// The tool with these factors, before the first row.
+    /// Creates the tool with these factors, before the first row.
     pub fn new(across: u32, down: u32) -> Enlarger
         ensures across { across_of result ≡ across }
         ensures down { down_of result ≡ down }
@@ -83,7 +83,7 @@ impl Enlarger {
     }
 }
 
-/// The head of the enlarged image, or the refusal.
+/// Returns the head of the enlarged image, or the refusal.
 fn enlarged_head(alloc: Global, across: u32, down: u32, head: &Head) -> Result<Head, ToolFault>
     requires { IsExtent across × IsExtent down }
     ensures made { IfOk result (λ made. result_head (Enlarge across down) head.now ≡ Ok made) }

@@ -31,7 +31,7 @@ impl Model for KeptRows {
 }
 
 impl KeptRows {
-    /// No rows.
+    /// Creates an empty list of rows.
     pub fn new(alloc: Global) -> KeptRows
         ensures { result ≡ [] }
     {
@@ -42,7 +42,7 @@ impl KeptRows {
         }
     }
 
-    /// Returns the rows as they are held, borrowed, and the number of rows.
+    /// Borrows the rows in the width that holds them, and returns the number of rows.
     pub fn parts(&self) -> (RowSlice<'_>, usize)
         ensures rows { (each : ℕ) → All (λ row. length row ≡ each) self.now
             → slice_lists result.1 each result.0 ≡ self.now }
@@ -85,7 +85,7 @@ impl KeptRows {
     }
 }
 
-/// Adds rows behind those that are held. All rows become words if they aren't held alike.
+/// Adds rows at the end. All rows become words if the two widths differ.
 ///
 /// # Errors
 ///

@@ -1,4 +1,4 @@
-//! Enlarges rows as they are held: repeats their pixels across, and the rows down.
+//! Enlarges rows in the width that holds them: repeats their pixels across, and the rows down.
 
 ghost use Rattle.std.specs.Prelude.{◌≡◌, ◌≤◌, ◌<◌, ◌*◌, ◌^◌, length, map, replicate, IfOk, IfErr};
 ghost use Rattle.std.specs.List.{AllByRecursion, flat_map};
@@ -20,7 +20,7 @@ pub(crate) const MOST_GIVEN: usize = 65_536;
 /// The fewest bytes of a row that is given once, with the number of its copies. Shorter rows are copied here.
 pub(crate) const LEAST_REPEATED: usize = 8_192;
 
-/// Returns how many bytes a row of `samples` samples takes if it is held as `rows` are. Bits of several planes count as
+/// Returns how many bytes a row of `samples` samples takes in the width of `rows`. Bits of several planes count as
 /// bytes, since they become bytes.
 pub(crate) fn bytes_of_row(rows: RowSlice<'_>, depth: u32, samples: usize) -> usize
     ensures enough { samples ≤ 8 * result }
@@ -33,8 +33,8 @@ pub(crate) fn bytes_of_row(rows: RowSlice<'_>, depth: u32, samples: usize) -> us
     }
 }
 
-/// Repeats each pixel of `count` rows of an image of this shape `across` times. The result is held as the rows are, but
-/// bits of several planes become bytes.
+/// Repeats each pixel of `count` rows of an image of this shape `across` times. The result has the width of the rows,
+/// but bits of several planes become bytes.
 ///
 /// # Errors
 ///
@@ -52,7 +52,7 @@ fn widen_rows(
         (map (enlarged_row across shape) (slice_lists count (row_length shape) rows.entry)) made) }
     ensures refused { IfErr result (λ fault. fault ≡ Memory) }
 {
-    // The pixels of all rows are those of one long row.
+    // All rows are repeated as one long row.
     let long = Shape {
         width: shape.width * count,
         ..shape
@@ -78,7 +78,7 @@ fn widen_rows(
     }
 }
 
-/// Repeats each of `count` rows of `each` samples `down` times. The result is held as the rows are.
+/// Repeats each of `count` rows of `each` samples `down` times. The result has the width of the rows.
 ///
 /// # Errors
 ///
@@ -138,7 +138,7 @@ pub(crate) fn enlarge_together(
     Ok(Rows::new(held, shape.maxval, rows.count() * down, wide))
 }
 
-/// Enlarges rows as `enlarge_together` does, and returns them as they are held.
+/// Enlarges rows as `enlarge_together` does, and returns them as a `RowVec`.
 ///
 /// # Errors
 ///

@@ -70,7 +70,7 @@ pub(crate) fn repeat_pixels<T: Copy + Default>(
     let Some(count) = row.len().checked_mul(across as usize) else {
         return Err(ToolFault::Memory);
     };
-    // The buffer has its full length first, so that the stores don't grow it.
+    // The buffer is allocated at full length, so that no store has to grow it.
     let mut enlarged = Vec::from_elem(alloc, T::default(), count)?;
     repeat_into(across, shape, row, enlarged.as_mut_slice());
     Ok(enlarged)
@@ -163,8 +163,8 @@ fn repeat_samples<T: Copy>(across: u32, shape: Shape, row: &[T], buffer: &mut [T
     }
 }
 
-/// Stores a sample `count` times, from `at` on. Stores sixteen at once if there is room for them, since what is behind
-/// the last one is stored later.
+/// Stores a sample `count` times, from `at` on. Stores sixteen at once if there is room for them, since the samples
+/// behind the last copy are stored later.
 fn put_copies<T: Copy>(buffer: &mut [T], at: usize, count: usize, sample: T)
     requires { at + count ≤ length buffer.old }
     ensures long { length buffer.new ≡ length buffer.old }

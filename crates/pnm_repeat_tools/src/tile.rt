@@ -22,15 +22,15 @@ use pnm_tools::{ImageTool, ToolFault, count_together, head_within_limits};
 use std::alloc::{AllocError, Global};
 use std::marker::Model;
 
-/// Lays copies of an image side by side: keeps what the result shows of the rows, one after another, and makes the rows
-/// of the result from these.
+/// Lays copies of an image side by side. Keeps the part of the rows that the result shows, and makes the rows of the
+/// result from it.
 #[derive(Drop)]
 pub struct Tiler {
     width: u32,
     height: u32,
-    /// The shape of the image, once the image has ended, with the number of columns of the kept rows.
+    /// The shape of the image, once the image has ended. Its width is that of the kept rows.
     shape: Shape,
-    /// What the result shows of the rows that have come.
+    /// The part of the rows so far that the result shows.
     rows: KeptRows,
     /// The number of rows of the result that are still to be given; 0 until the image has ended.
     left: u32,
@@ -125,7 +125,7 @@ fn tile_row<T: Copy>(
     let filled = width as usize * shape.depth as usize;
     let start = tiled.len();
     tiled.extend_from_slice(&row[..filled.min(row.len())])?;
-    // What was added so far is whole copies, and so is twice as much.
+    // What was added so far is whole copies, and so is its double.
     while tiled.len() - start < filled {
         let copied = tiled.len() - start;
         let more = copied.min(filled - copied);
@@ -281,7 +281,7 @@ impl ImageTool for Tiler {
         Ok(tiled)
     }
 
-    /// Keeps what the result shows of the rows, and makes none of the result yet.
+    /// Keeps the part of the rows that the result shows, and makes no row of the result yet.
     fn take(&mut self, alloc: Global, shape: Shape, y: u32, rows: Rows) -> Result<(), ToolFault> {
         if y >= self.height {
             return Ok(());
@@ -343,7 +343,7 @@ impl Tiler {
     }
 }
 
-/// The head of the tiled image, or the refusal.
+/// Returns the head of the tiled image, or the refusal.
 fn tiled_head(alloc: Global, width: u32, height: u32, head: &Head) -> Result<Head, ToolFault>
     requires { IsExtent width × IsExtent height }
     ensures made { IfOk result (λ made. result_head (Tile width height) head.now ≡ Ok made) }

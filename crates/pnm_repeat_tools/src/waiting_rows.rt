@@ -82,8 +82,8 @@ impl WaitingRows {
         (self.rows.count() - self.next).min(most as u32)
     }
 
-    /// Enlarges the next `count` rows, each `down` times down. Returns them and the rows that wait behind them, if some
-    /// do. The only fault is `Memory`.
+    /// Enlarges the next `count` rows, each `down` times down. Returns them and the rows that still wait, if any. The
+    /// only fault is `Memory`.
     pub fn enlarge_next(
         self,
         alloc: Global,
@@ -107,8 +107,8 @@ impl WaitingRows {
         Ok((enlarged, rest))
     }
 
-    /// Returns the next `count` rows as they are, without a copy if no others came with them, and the rows behind them,
-    /// if some are left.
+    /// Returns the next `count` rows unchanged, without a copy if no others came with them, and the rows behind them,
+    /// if any are left.
     ///
     /// # Errors
     ///

@@ -1,4 +1,4 @@
-//! Changes rows sample by sample, in whichever width they are held.
+//! Changes rows sample by sample, in any width.
 
 ghost use Rattle.std.specs.Prelude.{ℕ, ◌≡◌, ◌≤◌, ◌<◌, All, IfOk, map, length, slice_index};
 ghost use Rattle.std.specs.List.{concat};
@@ -16,7 +16,7 @@ use std::alloc::{AllocError, Global};
 /// The greatest sample that fits a byte.
 const GREATEST_BYTE: u32 = 255;
 
-/// What becomes of samples. It is copied into the loops over samples.
+/// A change of samples. It is copied into the loops over samples.
 pub(crate) trait Change: Copy {
     /// The change is defined for this sample.
     ghost takes: { Self → ℕ → Type 0 };
@@ -24,13 +24,13 @@ pub(crate) trait Change: Copy {
     /// What becomes of the sample.
     ghost changed: { Self → ℕ → ℕ };
 
-    /// What becomes of a sample.
+    /// Returns what becomes of a sample.
     fn change(self, sample: u16) -> u16
         requires { takes self sample }
         ensures { result ≡ changed self sample };
 }
 
-/// What a tool makes of samples of an image of this maxval, computed one by one.
+/// The change that a tool makes in an image of this maxval, computed for each sample.
 #[derive(Clone, Copy)]
 pub(crate) struct Computed<T: SampleTool> {
     pub(crate) tool: T,
@@ -49,7 +49,7 @@ impl<T: SampleTool> Change for Computed<T> {
     }
 }
 
-/// What a table holds for each sample, by the sample's number.
+/// The change that a table holds, by each sample's number.
 #[derive(Clone, Copy)]
 pub(crate) struct LookedUp<'a> {
     pub(crate) table: &'a [u16],
@@ -67,8 +67,8 @@ impl Change for LookedUp<'_> {
 }
 
 /// Changes each sample of rows whose samples are at most `most` afterwards. Rows become bytes if `most` is at most 255,
-/// and words otherwise; those that are held that way already are changed in place. Bits of an image of maxval 1 stay
-/// bits if black and white stay or are exchanged; all other bits become bytes first.
+/// and words otherwise. Rows of that width are changed in place. Bits of an image of maxval 1 stay bits if black and
+/// white stay or are exchanged; all other bits become bytes first.
 ///
 /// # Errors
 ///

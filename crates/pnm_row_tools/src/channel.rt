@@ -16,8 +16,8 @@ use pnm_image::{Head, Kind, RowSlice, RowVec, Rows, Shape};
 use pnm_tools::{Planes, ToolFault, head_within_limits};
 use std::alloc::{AllocError, Global};
 
-/// Picks planes of rows of an image of this shape, for all pixels at once. The result is held as the rows are, but bits
-/// become bytes.
+/// Picks planes of rows of an image of this shape, for all pixels at once. The result has the width of the rows, but
+/// bits become bytes.
 ///
 /// # Errors
 ///

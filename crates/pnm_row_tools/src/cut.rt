@@ -16,7 +16,7 @@ use pnm_image::{Head, RowVec, Rows, Shape};
 use pnm_tools::{CutBox, Span, ToolFault, head_within_limits};
 use std::alloc::Global;
 
-/// How many samples are copied at once if they overlap the place that they go to.
+/// How many samples are copied at once if source and target overlap.
 const CHUNK: usize = 512;
 
 /// The samples to keep of rows that follow one another.
@@ -32,8 +32,8 @@ struct Parts {
     kept: usize,
 }
 
-/// Keeps the columns that `columns` spans, of those of the rows that `among` spans: moves their samples to the front in
-/// place. The rows are those of an image of this shape.
+/// Keeps the columns `columns` of the rows `among`: moves their samples to the front, in place. The rows are of an
+/// image of this shape.
 fn keep_columns_of_rows(columns: Span, among: Span, shape: Shape, rows: Rows) -> Rows
     requires columns { (columns.first ≤ columns.last) × (columns.last < shape.width) }
     requires among { (among.first ≤ among.last) × (among.last < length rows) }
@@ -63,7 +63,7 @@ fn keep_columns_of_rows(columns: Span, among: Span, shape: Shape, rows: Rows) ->
     Rows::new(kept, shape.maxval, kept_rows, parts.kept)
 }
 
-/// Returns the samples to keep of the rows that `among` spans: those of the columns that `columns` spans.
+/// Returns the samples to keep of the rows `among`: the columns `columns`.
 fn parts_kept(columns: Span, among: Span, depth: usize, row_length: usize) -> Parts
     requires columns { (columns.first ≤ columns.last) × ((columns.last + 1) * depth < 2 ^ 64) }
     requires among { among.first ≤ among.last }
@@ -78,8 +78,7 @@ fn parts_kept(columns: Span, among: Span, depth: usize, row_length: usize) -> Pa
     }
 }
 
-/// Keeps these parts of the rows, that of the first row first, in place. Samples that overlap their new place go there
-/// by way of the chunk.
+/// Keeps these parts of the rows, in place and in order. Samples that overlap their new place pass through `chunk`.
 fn keep_of_each<T: Copy>(samples: &mut Vec<T>, chunk: &mut [T], parts: Parts)
     requires chunk { 0 < length chunk.old }
     requires rows { parts.top * parts.row_length + parts.count * parts.row_length
@@ -91,7 +90,7 @@ fn keep_of_each<T: Copy>(samples: &mut Vec<T>, chunk: &mut [T], parts: Parts)
     samples.truncate(parts.count * parts.kept);
 }
 
-/// Moves these parts of the rows to the front, that of the first row first, as `keep_of_each` does.
+/// Moves these parts of the rows to the front, as `keep_of_each` does.
 #[inline(always)]
 fn move_parts<T: Copy>(samples: &mut [T], chunk: &mut [T], parts: Parts)
     requires chunk { 0 < length chunk.old }
@@ -106,8 +105,8 @@ fn move_parts<T: Copy>(samples: &mut [T], chunk: &mut [T], parts: Parts)
     }
 }
 
-/// Copies `count` samples from `from` to `to`, which isn't behind `from`: by way of the chunk if the two places
-/// overlap. Copies nothing if they are the same.
+/// Copies `count` samples down from `from` to `to` (`to <= from`), through `chunk` if the two ranges overlap. Does
+/// nothing if they are the same.
 #[inline]
 fn copy_down<T: Copy>(samples: &mut [T], chunk: &mut [T], from: usize, to: usize, count: usize)
     requires chunk { 0 < length chunk.old }
@@ -125,8 +124,8 @@ fn copy_down<T: Copy>(samples: &mut [T], chunk: &mut [T], from: usize, to: usize
     }
 }
 
-/// Copies `count` samples to a place before them that they overlap: as many at a time as the chunk has room for. This
-/// takes a fraction of the time that it takes to copy one sample after another.
+/// Copies `count` samples down to a range that they overlap, through `chunk`, as many at a time as it has room for.
+/// This takes a fraction of the time of copying one sample after another.
 fn copy_by_chunks<T: Copy>(samples: &mut [T], chunk: &mut [T], from: usize, to: usize, count: usize)
     requires chunk { 0 < length chunk.old }
     requires down { to ≤ from }
@@ -144,7 +143,7 @@ fn copy_by_chunks<T: Copy>(samples: &mut [T], chunk: &mut [T], from: usize, to: 
     copy_chunk(samples, &mut chunk[..rest], from + done, to + done, rest);
 }
 
-/// Copies `count` samples, which just fill the chunk, by way of it to a place that isn't behind them.
+/// Copies `count` samples, which just fill `chunk`, through it down to `to`.
 fn copy_chunk<T: Copy>(samples: &mut [T], chunk: &mut [T], from: usize, to: usize, count: usize)
     requires chunk { length chunk.old ≡ count }
     requires down { to ≤ from }
@@ -155,7 +154,7 @@ fn copy_chunk<T: Copy>(samples: &mut [T], chunk: &mut [T], from: usize, to: usiz
     samples[to..to + count].copy_from_slice(chunk);
 }
 
-/// Copies `count` samples to a place before them that they don't overlap.
+/// Copies `count` samples down to a range that they don't overlap.
 #[inline]
 fn copy_apart<T: Copy>(samples: &mut [T], from: usize, to: usize, count: usize)
     requires apart { to + count ≤ from }
@@ -299,7 +298,7 @@ fn span_of(count: u32, start: Option<i32>, end: Option<i32>, size: Option<u32>) 
     }
 }
 
-/// The first column, or row, that is kept, counted from 0; it may lie outside the image.
+/// Returns the first column, or row, that is kept, counted from 0; it may lie outside the image.
 fn first_kept(count: u32, start: Option<i32>, end: Option<i32>, size: Option<u32>) -> i64
     requires { IsLawfulAxis start end size }
     ensures { result ≡ first_kept count start end size }
@@ -311,7 +310,7 @@ fn first_kept(count: u32, start: Option<i32>, end: Option<i32>, size: Option<u32
     }
 }
 
-/// The last column, or row, that is kept, counted from 0; it may lie outside the image.
+/// Returns the last column, or row, that is kept, counted from 0; it may lie outside the image.
 fn last_kept(count: u32, start: Option<i32>, end: Option<i32>, size: Option<u32>) -> i64
     requires { IsLawfulAxis start end size }
     ensures { result ≡ last_kept count start end size }

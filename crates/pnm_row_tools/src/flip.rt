@@ -1,4 +1,4 @@
-//! `pamflip` for the ways by which rows stay rows, from pamflip(1). Each way is a rule: it may reverse the order of the
+//! `pamflip` for the ways in which rows stay rows, from pamflip(1). Each way is a rule: it may reverse the order of the
 //! columns and that of the rows.
 
 ghost use Rattle.std.specs.Prelude.{◌≡◌, ◌≤◌, ◌*◌, ◌⊎◌, All, if◌then◌else◌, length, map, reverse, false, [], None};
@@ -192,7 +192,7 @@ fn transform_rows(
     }
 }
 
-/// Passes the rows of images on, with their pixels reversed or as they are: any way that leaves rows in their places.
+/// Passes the rows of images on, with their pixels reversed or unchanged: any way that leaves rows in their places.
 #[derive(Drop)]
 pub struct RowFlipper {
     way: FlipWay,
@@ -239,7 +239,7 @@ impl RowTool for RowFlipper {
 }
 
 impl RowFlipper {
-    /// The tool before the first row.
+    /// Creates the tool before the first row.
     pub fn new(way: FlipWay) -> RowFlipper
         requires { moves_rows (transform_of way) ≡ false }
         ensures { result ≡ way }
@@ -248,8 +248,8 @@ impl RowFlipper {
     }
 }
 
-/// Reverses the order of rows: keeps the rows of an image in the blocks in which they come, and gives the last row
-/// first, each with its pixels reversed or as it is.
+/// Reverses the order of rows, and maybe that of the pixels of each row. Keeps the rows of an image in the blocks in
+/// which they come, and gives the last row first.
 #[derive(Drop)]
 pub struct RowReverser {
     way: FlipWay,
@@ -319,7 +319,7 @@ impl ImageTool for RowReverser {
 }
 
 impl RowReverser {
-    /// The tool before the first row.
+    /// Creates the tool before the first row.
     pub fn new(alloc: Global, way: FlipWay) -> RowReverser
         requires { ReversesRows (transform_of way) }
         ensures way { result.way ≡ way }

@@ -14,7 +14,7 @@ use pnm_image::{Head, Rows, Shape};
 use pnm_tools::ToolFault;
 use std::alloc::Global;
 
-/// The head rule and the row rule of a tool. Rows come together; a row by itself comes as `Rows` of one.
+/// The head rule and the row rule of a tool. Rows come together; a single row comes as `Rows` of one.
 pub trait RowTool {
     /// Which tool it is.
     ghost tool: { Self → ToolValue };
@@ -32,8 +32,7 @@ pub trait RowTool {
         ensures refused { IfErr result (λ fault. (result_head (tool self.old) head.now ≡ Err fault)
             ⊎ ((fault ≡ Memory) × TakesHead (tool self.old) head.now)) };
 
-    /// Returns the rows of the result that `rows` make, if they make some. `rows` are those of an image of this shape,
-    /// from row `y` on.
+    /// Returns the result rows made from `rows`, if any. `rows` are of an image of this shape, from row `y` on.
     ///
     /// # Errors
     ///

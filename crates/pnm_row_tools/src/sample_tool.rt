@@ -50,7 +50,7 @@ pub trait SampleTool: Copy {
     ghost changes: { (s : Self) → ChangesSamples (tool s) (rule s) };
 }
 
-/// Copies the head of an image, for a tool that leaves it as it is.
+/// Copies the head of an image, for a tool that doesn't change it.
 ///
 /// # Errors
 ///

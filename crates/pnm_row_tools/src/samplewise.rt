@@ -15,7 +15,7 @@ use pnm_image::{Head, RowVec, Rows, Shape};
 use pnm_tools::ToolFault;
 use std::alloc::{AllocError, Global};
 
-/// A tool that changes each sample by itself, and a table of what becomes of samples, if a table pays.
+/// A tool that changes each sample by itself, and a table of the changes if that pays.
 #[derive(Drop)]
 pub struct Samplewise<T: SampleTool> {
     /// The tool.
@@ -34,7 +34,7 @@ pub enum Table {
 }
 
 impl<T: SampleTool> Samplewise<T> {
-    /// The tool, before the first image.
+    /// Creates the tool before the first image.
     pub fn new(tool: T) -> Samplewise<T>
         ensures { result.tool ≡ tool }
     {
@@ -94,7 +94,7 @@ impl<T: SampleTool> RowTool for Samplewise<T> {
         Ok(made)
     }
 
-    /// Changes the rows in place if their samples stay in the width in which they are held.
+    /// Changes the rows in place if their samples keep their width.
     fn rows(
         &self,
         alloc: Global,

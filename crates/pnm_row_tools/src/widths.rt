@@ -1,8 +1,8 @@
-//! The widths in which the loops over samples find them.
+//! The widths of samples that the loops over them know.
 
 ghost use Rattle.std.specs.Prelude.{ℕ, ◌≡◌, ◌≤◌};
 
-/// A sample as it is held: a byte or a word.
+/// A sample in the width that holds it: a byte or a word.
 pub(crate) trait Width: Copy {
     /// The number that the sample is.
     ghost value: { Self → ℕ };
@@ -10,7 +10,7 @@ pub(crate) trait Width: Copy {
     /// The greatest number that this width holds.
     ghost greatest: { ℕ };
 
-    /// The number that the sample is.
+    /// Returns the number that the sample is.
     fn number(self) -> u16
         ensures { result ≡ value self };
 

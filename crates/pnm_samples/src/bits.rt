@@ -1,4 +1,4 @@
-//! A row of pixels of one bit, as they lie in a file.
+//! A row of pixels of one bit, packed as in a file.
 
 ghost use Rattle.std.specs.Prelude.{◌≡◌, ℕ, ◌+◌, ◌-◌, ◌*◌, ◌/◌, ◌%◌, ◌^◌, ◌<◌, ◌≤◌, List, [], ◌++◌, length, take};
 ghost use Rattle.std.specs.Prelude.{drop, map, replicate, OnOk, OnErr, IfOk, IsTrue, ◌↔◌, All, slice_index};
@@ -35,8 +35,8 @@ impl Model for Bits {
 }
 
 impl Bits {
-    /// The first `count` pixels of the bytes, or all if there are fewer, without a copy. Spare bits of the last byte
-    /// are cleared.
+    /// Creates a row of the first `count` pixels of the bytes, or of all if there are fewer, without a copy. Clears the
+    /// spare bits of the last byte.
     pub fn new(bytes: Vec<u8>, count: usize) -> Bits
         ensures { result ≡ take count (all_pixels bytes.items) }
     {
@@ -47,7 +47,7 @@ impl Bits {
         Bits { bytes, count }
     }
 
-    /// No pixels.
+    /// Creates a row of no pixels.
     pub fn empty(alloc: Global) -> Bits
         ensures { result ≡ [] }
     {
@@ -57,7 +57,7 @@ impl Bits {
         }
     }
 
-    /// A copy of the pixels.
+    /// Copies the pixels.
     ///
     /// # Errors
     ///
@@ -71,14 +71,14 @@ impl Bits {
         })
     }
 
-    /// The number of pixels.
+    /// Returns the number of pixels.
     pub fn len(&self) -> usize
         ensures { result ≡ length self.now }
     {
         self.count
     }
 
-    /// The bytes of the pixels, with white spare bits.
+    /// Returns the bytes of the pixels, with white spare bits.
     pub fn as_bytes(&self) -> &[u8]
         ensures bytes { result.now ≡ packed_bytes self.now }
         ensures count { length result.now ≡ (length self.now + 7) / 8 }
@@ -88,7 +88,7 @@ impl Bits {
         bytes_of(self.bytes.as_slice())
     }
 
-    /// The bytes of the pixels, with white spare bits, without a copy.
+    /// Returns the bytes of the pixels, with white spare bits, without a copy.
     pub fn into_bytes(self) -> Vec<u8>
         ensures bytes { result.items ≡ packed_bytes self }
         ensures packed { ArePacked (length self) result.items }
@@ -100,7 +100,7 @@ impl Bits {
         bytes
     }
 
-    /// The pixel at place `at`.
+    /// Returns the pixel at place `at`.
     pub fn pixel(&self, at: usize) -> u16
         requires { at < length self.now }
         ensures { result ≡ slice_index self.now at }
@@ -108,7 +108,7 @@ impl Bits {
         pixel_of(self.bytes.as_slice(), at)
     }
 
-    /// The greatest number that a pixel can be.
+    /// Returns the greatest number that a pixel can be.
     pub(crate) fn bound(&self) -> u32
         ensures white { result ≡ 1 }
         ensures within { All (λ sample. sample ≤ result) self.now }
@@ -118,7 +118,7 @@ impl Bits {
         1
     }
 
-    /// The samples as words.
+    /// Returns the pixels as samples held in words.
     ///
     /// # Errors
     ///
@@ -129,7 +129,7 @@ impl Bits {
         bytes_to_words(alloc, self.to_bytes(alloc)?.as_slice())
     }
 
-    /// The samples, a byte each.
+    /// Returns the pixels as samples, a byte each.
     ///
     /// # Errors
     ///
@@ -197,7 +197,7 @@ impl Bits {
     }
 }
 
-/// The pixel of the bytes at place `at`.
+/// Returns the pixel of the bytes at place `at`.
 pub(crate) fn pixel_of(bytes: &[u8], at: usize) -> u16
     requires { at < 8 * length bytes.now }
     ensures { result ≡ slice_index (all_pixels bytes.now) at }
@@ -205,7 +205,7 @@ pub(crate) fn pixel_of(bytes: &[u8], at: usize) -> u16
     u16::from(pixel_at((7 - at % 8) as u32, bytes[at / 8]))
 }
 
-/// Whether the first `count` pixels of the bytes, or all if there are fewer, are black.
+/// Returns whether the first `count` pixels of the bytes, or all if there are fewer, are black.
 pub(crate) fn are_black(bytes: &[u8], count: usize) -> bool
     ensures { IsTrue result ↔ All (λ sample. sample ≤ 0) (take count (all_pixels bytes.now)) }
 {
@@ -223,7 +223,7 @@ pub(crate) fn are_black(bytes: &[u8], count: usize) -> bool
 /// More pixels than there is memory for.
 const PIXELS_BEYOND_MEMORY: usize = 4_611_686_018_427_387_904;
 
-/// The same bytes. A proof learns from the call that each one is below 256.
+/// Returns the same bytes. A proof learns from the call that each one is below 256.
 pub(crate) fn bytes_of(bytes: &[u8]) -> &[u8]
     ensures same { result.now ≡ bytes.now }
     ensures fit { AreBytes result.now }
@@ -247,7 +247,7 @@ pub(crate) fn store_pixels(samples: &mut [u8], byte: u8)
     samples[7] = pixel_at(0, byte);
 }
 
-/// The pixel in a bit of a byte, the bit counted from the right.
+/// Returns the pixel in a bit of a byte, the bit counted from the right.
 fn pixel_at(bit: u32, byte: u8) -> u8
     requires { bit < 8 }
     ensures { result ≡ pixel_at bit byte }
@@ -264,7 +264,7 @@ pub(crate) fn complement(bytes: &mut [u8])
     }
 }
 
-/// The eight pixels of two bytes that follow the first `skipped`.
+/// Returns the eight pixels of two bytes that follow the first `skipped`.
 #[inline]
 fn window(high: u8, low: u8, skipped: u32) -> u8
     requires { skipped < 8 }
@@ -274,7 +274,7 @@ fn window(high: u8, low: u8, skipped: u32) -> u8
     ((both >> (8 - skipped)) % 256) as u8
 }
 
-/// The byte with all pixels white but the first `kept`.
+/// Returns the byte with all pixels white but the first `kept`.
 #[inline]
 fn whiten_spare(byte: u8, kept: u32) -> u8
     requires { kept < 8 }
@@ -295,8 +295,8 @@ pub(crate) fn clear_spare(bytes: &mut [u8], count: usize)
     }
 }
 
-/// Fills the buffer with the pixels of the part that follow the first `skipped`. The part is a byte longer. If this
-/// were inlined where both are of one slice, it would shift one byte at a time.
+/// Fills the buffer with the pixels of `part` behind the first `skipped`. `part` is a byte longer. If this were inlined
+/// where both are of one slice, it would shift one byte at a time.
 #[inline(never)]
 fn shift_into(buffer: &mut [u8], part: &[u8], skipped: u32)
     requires skipped { skipped < 8 }
@@ -308,7 +308,7 @@ fn shift_into(buffer: &mut [u8], part: &[u8], skipped: u32)
     }
 }
 
-/// The byte of the pixels that follow the first `skipped`. Pixels past the end are white.
+/// Returns the byte of the pixels that follow the first `skipped`. Pixels past the end are white.
 #[inline]
 fn byte_after(bytes: &[u8], skipped: usize) -> u8
     requires { skipped < 8 * length bytes.now }

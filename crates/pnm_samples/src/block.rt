@@ -5,8 +5,8 @@ ghost use Rattle.pnm_samples.specs.Internal.Blocks.{bits_of, IsSquare, lane_at};
 
 use std::simd::prelude::*;
 
-/// The eight columns that lie in one byte of each of sixteen rows; `rows` holds these bytes. The column of the highest
-/// bit comes first. In each column the first row has the lowest bit.
+/// Returns the eight columns that lie in one byte of each of sixteen rows; `rows` holds these bytes. The column of the
+/// highest bit comes first. In each column the first row has the lowest bit.
 #[inline]
 pub(crate) fn columns_of_sixteen(rows: u8x16) -> [u16; 8]
     requires count { length rows ≡ 16 }
@@ -23,7 +23,7 @@ pub(crate) fn columns_of_sixteen(rows: u8x16) -> [u16; 8]
     columns
 }
 
-/// The highest bits of sixteen bytes. That of the first byte is the lowest.
+/// Returns the highest bits of sixteen bytes. That of the first byte is the lowest.
 #[inline]
 fn highest_bits(lanes: u8x16) -> u16
     requires count { length lanes ≡ 16 }
@@ -33,7 +33,7 @@ fn highest_bits(lanes: u8x16) -> u16
     lanes.simd_ge(u8x16::splat(128)).to_bitmask() as u16
 }
 
-/// Sixteen bytes of each of sixteen rows, with rows and columns exchanged.
+/// Exchanges rows and columns of sixteen bytes of each of sixteen rows.
 #[inline(always)]
 pub(crate) fn transposed(rows: [u8x16; 16]) -> [u8x16; 16]
     requires { IsSquare rows }
@@ -43,7 +43,7 @@ pub(crate) fn transposed(rows: [u8x16; 16]) -> [u8x16; 16]
     riffled(riffled(riffled(riffled(rows))))
 }
 
-/// The bytes of the first eight rows, each followed by the byte of the row eight further down.
+/// Returns the bytes of the first eight rows, each followed by the byte of the row eight further down.
 #[inline(always)]
 fn riffled(rows: [u8x16; 16]) -> [u8x16; 16]
     requires { IsSquare rows }

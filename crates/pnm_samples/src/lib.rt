@@ -1,8 +1,7 @@
 //! Rows of samples, held as wide as they have to be: packed bits, bytes or words.
 //!
-//! A row is a list of numbers, whatever form it is held in. The samples of PBM are packed eight a
-//! byte, as they lie in a file; those of images up to maxval 255 are bytes, and all others words of
-//! 16 bits.
+//! A row is a list of numbers, whatever form it is held in. The samples of PBM are packed eight a byte, as in a file;
+//! those of images up to maxval 255 are bytes, and all others words of 16 bits.
 #![tactic(auto)]
 
 mod bit_rows;

@@ -25,7 +25,7 @@ pub fn pack(samples: &[u16], buffer: &mut [u8]) -> usize
     whole + 1
 }
 
-/// The byte of eight pixels.
+/// Returns the byte of eight pixels.
 #[inline]
 fn packed_byte(pixels: &[u16]) -> u8
     requires { length pixels.now ≡ 8 }
@@ -41,7 +41,7 @@ fn packed_byte(pixels: &[u16]) -> u8
         + black(pixels[7])
 }
 
-/// The bit of a pixel.
+/// Returns the bit of a pixel.
 #[inline]
 fn black(sample: u16) -> u8
     ensures bit { result ≡ 1 - sample }

@@ -35,7 +35,7 @@ impl Model for PixelRows {
 }
 
 impl PixelRows {
-    /// No rows.
+    /// Creates an empty list of rows.
     pub fn new(alloc: Global) -> PixelRows
         ensures { result ≡ [] }
     {
@@ -47,7 +47,7 @@ impl PixelRows {
         }
     }
 
-    /// The number of rows.
+    /// Returns the number of rows.
     pub(crate) fn len(&self) -> usize
         ensures { result ≡ length self.now }
     {
@@ -113,7 +113,7 @@ impl PixelRows {
         self.is_reversed = !self.is_reversed;
     }
 
-    /// The bytes of row `at` from byte `byte` on, and any bytes that are held after them.
+    /// Returns the bytes of row `at` from byte `byte` on, and any bytes that are held after them.
     #[inline]
     pub(crate) fn bytes_from(&self, at: usize, byte: usize) -> &[u8]
         requires row { at < length self.now }

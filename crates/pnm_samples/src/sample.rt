@@ -8,7 +8,7 @@ pub trait Sample: Copy {
     /// The number that it is.
     ghost value: { Self → ℕ };
 
-    /// The maxval minus the sample.
+    /// Returns the maxval minus the sample.
     fn taken_from(self, maxval: Self) -> Self
         requires { value self ≤ value maxval }
         ensures { value result ≡ value maxval - value self };

@@ -21,7 +21,7 @@ pub enum SampleVec {
     Words(Vec<u16>),
 }
 
-/// Borrowed samples, as wide as they are held.
+/// Borrowed samples, in the width that holds them.
 #[derive(Clone, Copy, Debug)]
 pub enum SampleSlice<'a> {
     /// Each is 0 or 1: the first pixels of these bytes, and how many there are.
@@ -33,7 +33,7 @@ pub enum SampleSlice<'a> {
 }
 
 impl SampleVec {
-    /// The samples, borrowed.
+    /// Borrows the samples in the width that holds them.
     pub fn as_slice(&self) -> SampleSlice<'_>
         ensures samples { slice_samples result ≡ samples_of self.now }
         ensures spare { HasWhiteSpare result }
@@ -47,7 +47,7 @@ impl SampleVec {
 }
 
 impl SampleSlice<'_> {
-    /// The sample at a place, counted from 0.
+    /// Returns the sample at a place, counted from 0.
     pub fn sample(self, at: usize) -> u16
         requires { at < length (slice_samples self) }
         ensures { result ≡ slice_index (slice_samples self.entry) at }
@@ -59,7 +59,7 @@ impl SampleSlice<'_> {
         }
     }
 
-    /// Whether no sample is above `most`. It looks at no sample if none can be above it.
+    /// Returns whether no sample is above `most`. It looks at no sample if none can be above it.
     pub fn are_within(self, most: u32) -> bool
         ensures { IsTrue result ↔ All (λ sample. sample ≤ most) (slice_samples self.entry) }
     {
@@ -82,7 +82,7 @@ impl SampleSlice<'_> {
 }
 
 /// The samples of a row: columns left to right, and in each column the planes in order. It keeps a bound that no sample
-/// is above, so that a row is looked at once, and not by everyone who is handed it.
+/// is above, so that the samples are compared with the maxval once, and not at each stage.
 #[derive(Debug, Drop)]
 pub struct Samples {
     held: SampleVec,
@@ -102,14 +102,14 @@ impl Model for Samples {
 }
 
 impl Samples {
-    /// The samples that the vector holds, without a copy.
+    /// Wraps the samples that the vector holds, without a copy.
     pub fn new(samples: Vec<u16>) -> Samples
         ensures { result ≡ samples.items }
     {
         Samples::from_vec(SampleVec::Words(samples))
     }
 
-    /// The samples in `held`, without a copy.
+    /// Wraps the samples in `held`, without a copy.
     pub fn from_vec(held: SampleVec) -> Samples
         ensures { result ≡ samples_of held }
     {
@@ -117,8 +117,8 @@ impl Samples {
         Samples::within(held, bound)
     }
 
-    /// The samples in `held`, none of them above `bound`, without a copy. A place looks at no sample of a row if this
-    /// bound is within the maxval.
+    /// Wraps the samples in `held`, none of them above `bound`, without a copy. If the bound is within the maxval, a
+    /// place looks at no sample of the row.
     pub fn within(held: SampleVec, bound: u32) -> Samples
         requires { All (λ sample. sample ≤ bound) (samples_of held) }
         ensures { result ≡ samples_of held }
@@ -126,14 +126,14 @@ impl Samples {
         Samples { held, bound }
     }
 
-    /// The samples as they are held, without a copy.
+    /// Returns the samples in the width that holds them, without a copy.
     pub fn into_vec(self) -> SampleVec
         ensures { samples_of result ≡ self }
     {
         self.held
     }
 
-    /// The samples as they are held, borrowed.
+    /// Borrows the samples in the width that holds them.
     pub fn as_slice(&self) -> SampleSlice<'_>
         ensures samples { slice_samples result ≡ self.now }
         ensures spare { HasWhiteSpare result }
@@ -141,7 +141,7 @@ impl Samples {
         self.held.as_slice()
     }
 
-    /// A number that no sample is above.
+    /// Returns a number that no sample is above.
     pub fn bound(&self) -> u32
         ensures { All (λ sample. sample ≤ result) self.now }
     {
@@ -150,7 +150,7 @@ impl Samples {
         self.bound
     }
 
-    /// The number of samples.
+    /// Returns the number of samples.
     pub fn len(&self) -> usize
         ensures { result ≡ length self.now }
     {
@@ -161,7 +161,7 @@ impl Samples {
         }
     }
 
-    /// The sample at a place, counted from 0.
+    /// Returns the sample at a place, counted from 0.
     pub fn sample(&self, at: usize) -> u16
         requires { at < length self.now }
         ensures { result ≡ slice_index self.now at }
@@ -169,7 +169,7 @@ impl Samples {
         self.as_slice().sample(at)
     }
 
-    /// Whether no sample is above `most`. It looks at no sample if none can be above it.
+    /// Returns whether no sample is above `most`. It looks at no sample if none can be above it.
     #[inline(always)]
     pub fn are_within(&self, most: u32) -> bool
         ensures { IsTrue result ↔ All (λ sample. sample ≤ most) self.now }
@@ -177,7 +177,7 @@ impl Samples {
         self.bound <= most || self.as_slice().are_within(most)
     }
 
-    /// The samples as bits, without a copy if they are held as bits.
+    /// Returns the samples as bits, without a copy if they are held as bits.
     ///
     /// # Errors
     ///
@@ -196,7 +196,7 @@ impl Samples {
         }
     }
 
-    /// The samples as bytes, without a copy if they are held as bytes.
+    /// Returns the samples as bytes, without a copy if they are held as bytes.
     ///
     /// # Errors
     ///
@@ -212,7 +212,7 @@ impl Samples {
         }
     }
 
-    /// The samples as words, without a copy if they are held as words.
+    /// Returns the samples as words, without a copy if they are held as words.
     ///
     /// # Errors
     ///
@@ -227,7 +227,7 @@ impl Samples {
         }
     }
 
-    /// The samples as words, in a new vector.
+    /// Returns the samples as words, in a new vector.
     ///
     /// # Errors
     ///
@@ -242,7 +242,7 @@ impl Samples {
         }
     }
 
-    /// A copy of the samples, held in the same way.
+    /// Copies the samples, in the same width.
     ///
     /// # Errors
     ///
@@ -262,7 +262,7 @@ impl Samples {
     }
 }
 
-/// The greatest number that a sample of this width can be.
+/// Returns the greatest number that a sample of this width can be.
 fn bound_of(held: &SampleVec) -> u32
     ensures { All (λ sample. sample ≤ result) (samples_of held.now) }
 {
@@ -273,21 +273,21 @@ fn bound_of(held: &SampleVec) -> u32
     }
 }
 
-/// A number that no byte is above. A proof learns from the call that this holds for `bytes`.
+/// Returns a number that no byte is above. A proof learns from the call that this holds for `bytes`.
 fn byte_bound(bytes: &[u8]) -> u32
     ensures { All (λ sample. sample ≤ result) bytes.now }
 {
     GREATEST_BYTE
 }
 
-/// A number that no word is above. A proof learns from the call that this holds for `words`.
+/// Returns a number that no word is above. A proof learns from the call that this holds for `words`.
 fn word_bound(words: &[u16]) -> u32
     ensures { All (λ sample. sample ≤ result) words.now }
 {
     GREATEST_WORD
 }
 
-/// Pixels as bits.
+/// Packs samples of 0 and 1 into pixels.
 fn pack_bits(alloc: Global, pixels: &[u16]) -> Result<Bits, AllocError>
     requires { All (λ sample. sample ≤ 1) pixels.now }
     ensures { IfOk result (λ bits. bits ≡ pixels.now) }

@@ -12,12 +12,12 @@ use crate::pixel_rows::PixelRows;
 use std::alloc::{AllocError, Global};
 use std::simd::prelude::*;
 
-/// The bytes of white pixels, for a row that isn't there. 32 bytes of a row are read side by side, so that all that the
+/// The bytes of white pixels, for a missing row. 32 bytes of a row are read side by side, so that all that the
 /// processor fetches with one of them is used.
 static WHITE: [u8; 32] = [0; 32];
 
-/// `count` columns of the rows, at most 256, each as a row of its own. The first column lies in the highest bit of byte
-/// `byte` of each row. A column has as many pixels as there are rows.
+/// Makes `count` columns of the rows, at most 256, each a row of its own. The first column lies in the highest bit of
+/// byte `byte` of each row. A column has as many pixels as there are rows.
 ///
 /// # Errors
 ///
@@ -42,8 +42,8 @@ pub fn columns(
     Ok(made)
 }
 
-/// The bytes of the columns that lie in `width` bytes of each row, from byte `byte` on: two bytes of each column for
-/// every sixteen rows.
+/// Makes the bytes of the columns that lie in `width` bytes of each row, from byte `byte` on: two bytes of each column
+/// for every sixteen rows.
 fn column_bytes(
     alloc: Global,
     rows: &PixelRows,
@@ -71,7 +71,7 @@ fn column_bytes(
     Ok(columns)
 }
 
-/// `count` columns of `length` bytes each.
+/// Makes `count` columns of `length` bytes each.
 fn columns_of_length(alloc: Global, count: usize, length: usize) -> Result<Vec<Vec<u8>>, AllocError>
     ensures { IfOk result (λ columns. AreLong count length columns.items) }
 {
@@ -82,8 +82,8 @@ fn columns_of_length(alloc: Global, count: usize, length: usize) -> Result<Vec<V
     Ok(columns)
 }
 
-/// The bytes from `byte` on of the sixteen rows from `first` on, with white ones for rows that aren't there. Of every
-/// eight rows the last one comes first, since the first pixel of a byte lies in its highest bit.
+/// Returns the bytes from `byte` on of the sixteen rows from `first` on, with white ones for missing rows. In each
+/// group of eight rows the last one comes first, since the first pixel of a byte lies in its highest bit.
 #[inline]
 fn sixteen_from(rows: &PixelRows, first: usize, byte: usize, width: usize) -> [&[u8]; 16]
     requires width { width ≤ 32 }
@@ -113,7 +113,7 @@ fn sixteen_from(rows: &PixelRows, first: usize, byte: usize, width: usize) -> [&
     ]
 }
 
-/// The bytes of row `at` from byte `byte` on, at least `width` of them.
+/// Returns the bytes of row `at` from byte `byte` on, at least `width` of them.
 #[inline]
 fn bytes_from(rows: &PixelRows, at: usize, byte: usize, width: usize) -> &[u8]
     requires width { width ≤ 32 }
@@ -127,8 +127,8 @@ fn bytes_from(rows: &PixelRows, at: usize, byte: usize, width: usize) -> &[u8]
     rows.bytes_from(at, byte)
 }
 
-/// Sixteen bytes of each of sixteen rows, from byte `at` on. Each vector holds the bytes that all rows have in one
-/// place.
+/// Returns sixteen bytes of each of sixteen rows, from byte `at` on. Each vector holds the bytes that all rows have in
+/// one place.
 #[inline]
 pub fn lanes_beside(rows: &[&[u8]], at: usize) -> [u8x16; 16]
     requires count { length rows.now ≡ 16 }
@@ -156,7 +156,7 @@ pub fn lanes_beside(rows: &[&[u8]], at: usize) -> [u8x16; 16]
     ])
 }
 
-/// Sixteen bytes from `at` on, with white ones after the last.
+/// Returns sixteen bytes from `at` on, with white ones after the last.
 #[inline]
 fn sixteen_bytes(row: &[u8], at: usize) -> u8x16
     requires { at < length row.now }
@@ -169,7 +169,7 @@ fn sixteen_bytes(row: &[u8], at: usize) -> u8x16
     u8x16::from_slice(&row[at..at + 16])
 }
 
-/// Fewer than sixteen bytes, with white ones after them.
+/// Extends fewer than sixteen bytes by white ones.
 #[inline(never)]
 fn last_bytes(bytes: &[u8]) -> u8x16
     requires { length bytes.now < 16 }

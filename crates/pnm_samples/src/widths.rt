@@ -4,7 +4,7 @@ ghost use Rattle.std.specs.Prelude.{◌≡◌, ◌≤◌, All, IfOk};
 
 use std::alloc::{AllocError, Global};
 
-/// Words, each at most 255, as bytes, a byte per sample.
+/// Returns words, each at most 255, as bytes, a byte per sample.
 ///
 /// # Errors
 /// If there is no memory for them.
@@ -19,8 +19,8 @@ pub fn words_to_bytes(alloc: Global, words: &[u16]) -> Result<Vec<u8>, AllocErro
     Ok(bytes)
 }
 
-/// Bytes as words, a word per sample. The vector gets all its memory first, so that nothing asks for more if there is
-/// none.
+/// Returns bytes as words, a word per sample. The vector gets all its memory first, so that nothing asks for more if
+/// there is none.
 ///
 /// # Errors
 /// If there is no memory for them.

@@ -7,15 +7,15 @@ use pnm_read::{InputFault, ReadBuffer};
 use pnm_write::WriteBuffer;
 use std::alloc::Global;
 
-/// The most bytes that a run reads at a time. If images are small, these are the bytes of several, and before each read
-/// the run takes and writes the result of each image that was sent whole.
+/// The most bytes that a run reads at a time. One read may bring several small images. Before each read the run takes
+/// and writes the result of each image that was sent whole.
 const READ_BYTES: usize = 65_536;
 
 /// The fewest bytes that a read buffer has room for.
 const LEAST_READ_BYTES: usize = 4096;
 
-/// What a run reads into, and what it encodes into. Both are made before it takes its reader and its writer, so that a
-/// run for which there is no memory leaves the reader and the writer as they were.
+/// The buffers that a run reads into and encodes into. It makes both before it takes its reader and its writer, so that
+/// a run for which there is no memory leaves these as they were.
 #[derive(Drop)]
 pub struct Buffers {
     pub read: ReadBuffer,
@@ -23,15 +23,15 @@ pub struct Buffers {
 }
 
 impl Buffers {
-    /// Buffers that hold nothing yet. The only fault is `Memory`.
+    /// Creates buffers that hold nothing yet. The only fault is `Memory`.
     pub fn new(alloc: Global) -> Result<Buffers, InputFault>
         ensures refused { IfErr result (λ fault. fault ≡ Memory) }
     {
         Buffers::for_input(alloc, READ_BYTES)
     }
 
-    /// As `new`, for an input of `length` bytes: if they are few, there is less room to read into. The only fault is
-    /// `Memory`.
+    /// Creates buffers as `new` does, for an input of `length` bytes: if they are few, there is less room to read into.
+    /// The only fault is `Memory`.
     pub(crate) fn for_input(alloc: Global, length: usize) -> Result<Buffers, InputFault>
         ensures refused { IfErr result (λ fault. fault ≡ Memory) }
     {

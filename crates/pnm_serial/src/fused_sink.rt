@@ -1,4 +1,4 @@
-//! What comes behind the tools of a run: the sink, and the count of what it wrote.
+//! The end of a run: the sink, and the count of what it wrote.
 
 ghost use Rattle.std.specs.Prelude.{◌≡◌, [], ◌++◌, List, Ok, Err};
 ghost use Rattle.std.specs.Result.{is_err};
@@ -13,7 +13,7 @@ use crate::summary::Summary;
 use pnm_image::{BytesOut, Form, Packet};
 use pnm_write::{Sink, SinkFault, WriteBuffer};
 
-/// The sink, and what came of it so far.
+/// The sink, what it has counted, and its fault.
 #[derive(Drop)]
 pub struct FusedSink<W> {
     /// The sink, which encodes and writes.
@@ -21,7 +21,7 @@ pub struct FusedSink<W> {
     summary: Summary,
     /// The fault of the output, once there is one.
     pub output: Result<(), SinkFault>,
-    /// Whether it writes in plain form: then a second image is refused, and nothing is flushed after that.
+    /// Whether it writes in plain form. Then a second image is refused, and nothing is flushed after that.
     is_plain: bool,
     /// Whether an image has ended since the last flush.
     keeps_image: bool,
@@ -32,7 +32,7 @@ pub struct FusedSink<W> {
 impl<W: BytesOut + Drop> FusedSink<W> {
     ghost use Rattle.pnm_serial.specs.FusedSinks.{output_of, AreWritten, HasTaken, AnswersFlushes};
 
-    /// The sink before the first message, which encodes into this buffer and writes in this form.
+    /// Creates the sink before the first message. It encodes into `buffer` and writes in `form`.
     pub fn new(buffer: WriteBuffer, writer: W, form: Form) -> FusedSink<W>
         ensures fresh { HasTaken W.held W.failures form writer [] result }
         ensures writer { output_of result ≡ writer }
@@ -65,7 +65,7 @@ impl<W: BytesOut + Drop> FusedSink<W> {
         }
     }
 
-    /// If the packet has ended an image, notes that, and in plain form flushes the writer.
+    /// Notes the end of an image if the packet has one, and in plain form flushes the writer then.
     fn pass_on(&mut self, packet: &Packet)
         ensures written { (form : FormValue) (start : W) (messages : List MessageValue)
             → AreWritten W.held W.failures form start messages self.old

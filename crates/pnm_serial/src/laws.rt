@@ -1,5 +1,5 @@
-//! Laws of what is written and read again, of what is answered and of what is due for a text. Each
-//! stands over the definitions alone, as the contract of a function that does nothing.
+//! Laws of what is written and read again, of what is answered and of what is due for a text. Each is about the
+//! definitions alone, as the contract of a function that does nothing.
 
 ghost use Rattle.pnm_serial.specs.RunExamples.{RunExamplesHold, ResultBeforeRefusalIsWritten};
 ghost use Rattle.pnm_serial.specs.ReadAgain.{WrittenIsReadAgain};
@@ -12,8 +12,8 @@ pub fn written_is_read_again()
     ensures { WrittenIsReadAgain }
 {}
 
-/// Each text has exactly one verdict with each job: its fault, or the chain's refusal of the images
-/// that it spells, or why the form can't hold the results, or none.
+/// For each text and job there is exactly one verdict: the text's fault, a tool's refusal of an image, a fault of the
+/// output's form, or none.
 pub fn one_verdict_for_each_text()
     ensures { OneVerdictForEachText }
 {}
@@ -30,16 +30,16 @@ pub fn one_answer_for_each_text()
     ensures { OneAnswerForEachText }
 {}
 
-/// What a run tells by its answer, over threads and in one: each fact by the cases of the answer and by what is said of
-/// the text. And what holds if there is no memory for the list of the tools: nothing is read or written.
+/// What a run's answer tells, in one thread or over several: the facts for each case of the answer. And what holds if
+/// there is no memory for the list of the tools: nothing is read or written.
 pub fn what_a_run_tells()
     ensures over_threads { WhatARunTells }
     ensures in_one_thread { WhatARunInOneThreadTells }
     ensures without_list { WhatARunWithoutListTells }
 {}
 
-/// Small texts, the images that are said of them, and the bytes due for these from small chains, as
-/// the definitions compute them.
+/// What the definitions make of small texts and small chains: the images that the texts spell, and the bytes due for
+/// them.
 pub fn examples_hold()
     ensures { RunExamplesHold }
 {}

@@ -1,5 +1,5 @@
-//! What a run answers and writes, and a run in one thread, over filters that are given: the images of a reader pass
-//! through them, and what comes out is written.
+//! What a run answers and writes; and a run in one thread, over any filters: it reads images, passes them through the
+//! filters and writes the results.
 #![tactic(auto)]
 
 mod buffers;

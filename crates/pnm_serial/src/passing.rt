@@ -39,8 +39,8 @@ pub fn feed_through<F: Filter + Drop, W: BytesOut + Drop>(
     }
 }
 
-/// Feeds a filter what comes next of a packet, as `FusedFilter::feed_next` does. It is a function of its own, so that
-/// its room on the stack isn't taken once for each tool.
+/// Feeds a filter the next part of a packet, as `FusedFilter::feed_next` does. It is a function of its own, so that its
+/// stack frame isn't taken once for each tool.
 #[inline(never)]
 fn feed_next<F: Filter + Drop>(alloc: Global, stage: &mut FusedFilter<F>, unfed: &mut Unfed) -> bool
     ensures fed { IsTrue result → HasFedNext F.at F.all_given F.stopped stage.old stage.new

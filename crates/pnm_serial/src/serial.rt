@@ -26,9 +26,9 @@ use pnm_tools::{Filter, FusedFilter, ToolFault};
 use pnm_write::SinkFault;
 use std::alloc::Global;
 
-/// Reads the images of the reader, passes them through the tools that these filters are, each before its first message,
-/// and writes what comes out in the form, as `run_serial` does once it has made the filters. `length` is the input's
-/// length, or `usize::MAX` if that isn't known: if it is small, so is the buffer that is read into.
+/// Reads the images of the reader, passes them through these filters, which have had no message yet, and writes the
+/// results in the form, as `run_serial` does once it has made the filters. `length` is the input's length, or
+/// `usize::MAX` if that isn't known. If it is small, so is the read buffer.
 pub fn run_filters<R: BytesIn, F: Filter + Drop, W: BytesOut>(
     alloc: Global,
     reader: &mut R,
@@ -53,7 +53,7 @@ pub fn run_filters<R: BytesIn, F: Filter + Drop, W: BytesOut>(
     let input = feed_all(alloc, &mut source, stages, &mut fused_sink);
     let read = source.into_reader();
     let (written, output) = fused_sink.finish();
-    // No effect at run time. The proof reads from these uses what the two devices hold.
+    // No effect at run time. A proof learns from these uses what the two devices hold.
     let _ = &*read;
     let _ = &*written;
     answer(input, first_fault(stages), output)
@@ -75,7 +75,7 @@ fn answer(
     }
 }
 
-/// The number and the fault of the first filter that has refused.
+/// Returns the number and the fault of the first filter that has refused.
 fn first_fault<F: Filter + Drop>(stages: &[FusedFilter<F>]) -> Option<(usize, ToolFault)>
     ensures { IsFirstRefusal (refusals_in stages.now) result }
 {
@@ -87,7 +87,7 @@ fn first_fault<F: Filter + Drop>(stages: &[FusedFilter<F>]) -> Option<(usize, To
     None
 }
 
-/// Passes on all packets of the source, through to its end or its fault. Returns `ReadFailed` after it has asked for
+/// Passes on all packets of the source, up to its end or its fault. Returns `ReadFailed` after it has asked for
 /// `u64::MAX` packets.
 fn feed_all<R: BytesIn, F: Filter + Drop, W: BytesOut + Drop>(
     alloc: Global,

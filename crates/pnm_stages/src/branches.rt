@@ -9,15 +9,15 @@ use std::sync::Wait;
 use std::thread;
 use std::thread::{Promise, Threads};
 
-/// Work that is done once. A thread is started with such a value, since a closure that is a parameter can't be.
+/// Work that is done once. A thread starts with such a value, since it can't start with a closure that is a parameter.
 pub trait Task {
-    /// What it gives.
+    /// What the work returns.
     type Output;
 
-    /// When it may be done.
+    /// When the work may be done.
     ghost can_run: { Self → Type 0 };
 
-    /// What is known of what it gives.
+    /// What is known of what the work returns.
     ghost run_gives: { Self → Self.Output → Type 0 };
 
     /// Does the work.
@@ -26,7 +26,7 @@ pub trait Task {
         ensures { run_gives self result };
 }
 
-/// The promise that a thread gives what its task does.
+/// The promise that a thread returns what its task does.
 #[derive(Drop)]
 struct Gives<S>(Snapshot<S>);
 
@@ -34,8 +34,8 @@ impl<S: Task<Output = A>, A> Promise<A> for Gives<S> {
     ghost kept_by = { λ p r. S.run_gives p.0.value r };
 }
 
-/// Runs the first task in a thread of its own and the second in the caller's. Returns `None` if the thread couldn't be
-/// started; then the second isn't run.
+/// Runs the first task in a thread of its own and the second in the caller's. Returns `None`, and doesn't run the
+/// second, if the thread can't be started.
 pub fn run_both<
     R: Threads + Wait + Sync,
     S: Task<Output = A> + Send + Drop,
@@ -65,15 +65,15 @@ pub fn run_both<
                     let here = second.run();
                     Some((started.join(rt), here))
                 }
-                // The refused task goes, and with it what it holds.
+                // The refused task is dropped, with all that it holds.
                 Err(_) => None,
             }
         },
     )
 }
 
-/// A closure as a task. It is for a function that starts itself again beside other work, since a cycle of calls can't
-/// go through a struct that is a task.
+/// A closure as a task. It serves a function that starts itself again beside other work: a cycle of calls can't go
+/// through a struct that is a task.
 #[derive(Drop)]
 pub struct Call<F>(pub F);
 
@@ -103,7 +103,7 @@ impl Task for Idle {
     fn run(self) {}
 }
 
-/// Work over threads that wasn't started whole: there was no memory for a ring or a list, a ring's wakers had too many
+/// Work over threads that couldn't be started: there was no memory for a ring or a list, a ring's wakers had too many
 /// owners, or a thread couldn't be started.
 #[derive(Drop)]
 pub struct NoStart {

@@ -1,4 +1,4 @@
-//! Laws of what is due. Each stands over the definitions alone, as the contract of a function that does nothing.
+//! Laws of what is due. Each is about the definitions alone, as the contract of a function that does nothing.
 
 ghost use Rattle.pnm_stages.specs.Prefixes.{ListsHaveLongestPrefixes, LongestPrefixIsDue};
 ghost use Rattle.pnm_stages.specs.declared.ring.TheConstants.{MAX_RING_CAPACITY};
@@ -15,7 +15,7 @@ pub fn longest_prefix_is_due()
     ensures { LongestPrefixIsDue }
 {}
 
-/// The limit of rings as a number: the definitions take it from the code, by its name.
+/// The limit of rings as a number. The definitions take it from the code by its name.
 pub fn limits_are()
     ensures ring_capacity { MAX_RING_CAPACITY ≡ 1024 }
 {}

@@ -1,4 +1,5 @@
-//! The rings between stages: what passes over them, how many packets they hold, and how they are made.
+//! The rings between stages: what passes over them, how many packets they hold, and how they are made. An end of a ring
+//! *hangs up* when it is dropped. The other end may see that only after a while: after it found no message, or no room.
 
 ghost use Rattle.std.specs.Prelude.{◌≡◌, [], IfSome};
 ghost use Rattle.pnm_stages.specs.Rings.{sent, received, IsPair};

@@ -16,9 +16,10 @@ use pnm_tools::{Filter, FusedFilter, ToolFault, Unfed};
 use std::alloc::Global;
 use std::sync::Wait;
 
-/// What each thread that runs a tool calls once, before it takes its first message. Tests use it to hold a thread back.
+/// What each thread of a tool calls once, before it takes its first message. Tests use it to hold a thread back.
 pub trait Gate: Sync {
-    /// The thread of the tool of this number, from 1, in this lane, from 0, has come to the gate.
+    /// Tells the gate that the thread of a tool has come. `stage` is the number of the tool, from 1, and `lane` that of
+    /// the lane, from 0.
     fn arrive(&self, stage: usize, lane: usize);
 }
 
@@ -37,11 +38,11 @@ pub enum StageEnd {
     Well,
     /// Stop was taken, and sent.
     Broken,
-    /// The tool refused with this fault. Stop was sent, and the input was taken and dropped through its end or its
-    /// Stop.
+    /// The tool refused with this fault. Stop was sent, and the input was drained: taken and dropped through the end of
+    /// the stream or Stop.
     Fault(ToolFault),
-    /// The other end of a ring was seen dropped. If it was the output's, the input was drained first; if it was the
-    /// input's, Stop was sent.
+    /// The other end of a ring hung up. If it was the receiver, the input was drained first; if it was the sender, Stop
+    /// was sent.
     PeerGone,
 }
 
@@ -56,10 +57,10 @@ pub struct StageDone {
     pub end: StageEnd,
 }
 
-/// Passes what comes on `input` through a tool at work, or one that has refused, to `output`, as `run_stage` does
-/// behind its gate. The messages of a packet are fed together, but for rows that repeat, whose copies are fed some at a
-/// time. If not all of them may come, each is fed by itself; those behind the one that is refused are dropped. If there
-/// is no memory for a copy of rows, the tool refuses by `Memory`. Each packet that the tool gives is sent as it is.
+/// Passes the messages of `input` through a tool at work, or one that has refused, to `output`, as `run_stage` does
+/// behind its gate. The messages of a packet are fed together, but rows that repeat are fed some copies at a time. If
+/// not all of the messages may come, each is fed by itself, and the ones behind the refused one are dropped. If there
+/// is no memory for a copy of rows, the tool refuses by `Memory`. Each packet that the tool gives is sent unchanged.
 pub fn run_filter<R: Wait, F: Filter + Drop>(
     rt: &R,
     alloc: Global,
@@ -121,7 +122,7 @@ fn pass_all<R: Wait, F: Filter + Drop>(
     unreachable!()
 }
 
-/// Waits until a message is there. Returns false once the ring is empty and its other end was seen dropped.
+/// Waits until a message is there. Returns false if the ring is empty and the sender hung up.
 #[inline(always)]
 fn has_next<R: Wait>(rt: &R, input: &mut Receiver, output: &mut Sender) -> bool
     ensures ring { SameReceiver input.old input.new }
@@ -134,9 +135,9 @@ fn has_next<R: Wait>(rt: &R, input: &mut Receiver, output: &mut Sender) -> bool
     input.has_seen_message() || wait(rt, input, output)
 }
 
-/// Waits until a message is there, once the thread behind is woken for all that was sent, since the stage may have to
-/// wait. Returns false once the ring is empty and its other end was seen dropped. It is a function of its own, since
-/// `has_next` mostly finds a message at once.
+/// Wakes the receiver for all that was sent, since the stage may have to wait, and waits until a message is there.
+/// Returns false if the ring is empty and the sender hung up. It is a function of its own, since `has_next` mostly
+/// finds a message at once.
 #[inline(never)]
 fn wait<R: Wait>(rt: &R, input: &mut Receiver, output: &mut Sender) -> bool
     ensures ring { SameReceiver input.old input.new }
@@ -150,8 +151,7 @@ fn wait<R: Wait>(rt: &R, input: &mut Receiver, output: &mut Sender) -> bool
     input.has_message() || input.wait_for_message(rt)
 }
 
-/// Passes a packet through the tool, and sends what the tool makes of it. Returns false if the output's other end was
-/// seen dropped before all was sent.
+/// Passes a packet through the tool, and sends what the tool makes of it. Returns false if the receiver hung up first.
 fn pass<R: Wait, F: Filter + Drop>(
     rt: &R,
     alloc: Global,
@@ -192,8 +192,7 @@ fn send_answers<R: Wait, F: Filter + Drop>(
     true
 }
 
-/// Ends the stage of a tool that refused at a message with this ending: sends Stop, and drops what
-/// comes, through the end of the stream or Stop.
+/// Ends the stage of a tool that refused a message with this ending: sends Stop, and drains the input.
 fn break_off<R: Wait>(
     rt: &R,
     fault: ToolFault,

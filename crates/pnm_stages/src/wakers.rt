@@ -5,14 +5,14 @@ use std::sync::{Arc, Wait};
 use std::thread::Parker;
 use std::time::Duration;
 
-/// How long a sleep may last, in milliseconds. The thread at the other end ends it; so this bounds only what it would
-/// cost if nobody did.
+/// How long a sleep may last, in milliseconds. The thread at the other end ends each sleep, so this bounds only the
+/// cost of a missed wake-up.
 const LONGEST_SLEEP: u64 = 400;
 
-/// What the thread at one end of a ring sleeps on. While messages flow, only the thread at the other end wakes it. So
-/// to wake a thread at work costs an exchange on a cache line that no other thread writes: the waker shares that line
-/// with nothing. The threads that have it as a home (`SenderWaker::set_home`) wake it only before they sleep
-/// themselves, and once their stream ends.
+/// What the thread at one end of a ring sleeps on. While messages flow, only the thread at the other end wakes it. So a
+/// wake-up of a thread at work is an exchange on a cache line that no other thread writes; the waker shares that line
+/// with nothing. Threads whose home it is (`SenderWaker::set_home`) wake it only before they sleep themselves, and when
+/// their stream ends.
 #[derive(Drop)]
 struct Waker {
     _before: [u64; 7],
@@ -52,7 +52,7 @@ struct Wakers {
 /// it at its home, too.
 pub struct SenderWaker {
     wakers: Arc<Wakers>,
-    /// The wakers of the ring at whose sending end the thread at the receiving end may sleep as well.
+    /// The wakers of the ring at whose sending end the receiver may sleep as well.
     home: Option<Arc<Wakers>>,
 }
 
@@ -75,16 +75,16 @@ pub fn new_wakers(alloc: Global) -> Option<(SenderWaker, ReceiverWaker)> {
 }
 
 impl SenderWaker {
-    /// From now on, wakes the thread at the receiving end at `home` as well, before this end's thread sleeps and when
-    /// this end is dropped. That thread sends on the ring of `home`. Returns false if as many share that ring's wakers
-    /// as may; then that thread has no home, not even an earlier one.
+    /// Sets a home: from now on this end wakes the thread at the receiving end at `home` as well, before its own thread
+    /// sleeps and when it is dropped. That thread sends on the ring of `home`. Returns false if as many share that
+    /// ring's wakers as may. Then that thread has no home, not even an earlier one.
     pub fn set_home(&mut self, home: &SenderWaker) -> bool {
         self.home = Arc::try_clone(&home.wakers).ok();
         self.home.is_some()
     }
 
-    /// Wakes the thread at the receiving end at its home, if it has one, and then sleeps until that thread wakes this
-    /// one. Doesn't sleep if it did so since the last sleep.
+    /// Wakes the thread at the receiving end at its home, if it has one, and sleeps until that thread wakes this one.
+    /// Returns at once if this one was woken since its last sleep.
     pub fn sleep<R: Wait>(&self, rt: &R) {
         self.wake_home();
         self.wakers.sender.sleep(rt);
@@ -112,7 +112,8 @@ impl Drop for SenderWaker {
 }
 
 impl ReceiverWaker {
-    /// Sleeps until the thread at the sending end wakes this one. Returns at once if it did so since the last sleep.
+    /// Sleeps until the thread at the sending end wakes this one. Returns at once if this one was woken since its last
+    /// sleep.
     pub fn sleep<R: Wait>(&self, rt: &R) {
         self.0.receiver.sleep(rt);
     }

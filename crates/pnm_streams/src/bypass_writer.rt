@@ -6,7 +6,7 @@ ghost use Rattle.std.specs.Io.Buffered.{writer_contents};
 use std::io;
 use std::io::{BufWriter, Write};
 
-/// What has so many bytes bypasses the buffer: to copy it would take longer than the call that is saved.
+/// A part of so many bytes bypasses the buffer: to copy it would take longer than the call that this saves.
 const LONG: usize = 16_384;
 
 /// A buffered writer that keeps back only short parts. It writes a long part straight, once it has written what was
@@ -24,7 +24,7 @@ impl<W: Write + Drop> BypassWriter<W> {
         BypassWriter { buffered }
     }
 
-    /// The buffered writer.
+    /// Returns the buffered writer.
     pub fn into_inner(self) -> BufWriter<W>
         ensures { result ≡ self.buffered }
     {

@@ -1,5 +1,5 @@
-//! What lies between a process's standard streams and a run: calls that a signal interrupts are made again, and long
-//! writes go past a buffer.
+//! Wrappers between a process's standard streams and a run. They repeat calls that a signal interrupts, and let long
+//! writes bypass a buffer.
 #![tactic(auto)]
 
 mod bypass_writer;

@@ -6,7 +6,7 @@ use std::io;
 use std::io::{ErrorKind, Read, Write};
 
 /// A reader or writer that makes each call again if a signal has interrupted it (signal(7)), so that a process that was
-/// stopped and goes on loses nothing. It hands on any other error.
+/// stopped and goes on loses nothing. It passes on any other error.
 #[derive(Debug, Drop)]
 pub struct Retry<D> {
     inner: D,
@@ -20,7 +20,7 @@ impl<D> Retry<D> {
         Retry { inner }
     }
 
-    /// The reader or writer.
+    /// Returns the reader or writer.
     pub fn into_inner(self) -> D
         ensures { result ≡ self.inner }
     {

@@ -12,7 +12,7 @@ mod runs;
 mod tools;
 
 /// Stops the test if something isn't so, and shows these values. An assertion that shows its values takes long to
-/// prove: this one stands for all others.
+/// prove: this one serves all tests.
 fn is_so<P: fmt::Debug>(rt: &impl Abort, is_right: bool, shown: &P) {
     assert!(rt; is_right, "{shown:?}");
 }
@@ -22,7 +22,7 @@ fn same<T: PartialEq + fmt::Debug, P: fmt::Debug>(rt: &impl Abort, given: &T, wa
     is_so(rt, given == want, &(given, want, place));
 }
 
-/// What `Head::new` answers. The kind has to suit the rest.
+/// Returns what `Head::new` answers. The kind has to suit the rest.
 fn new_head(
     rt: &impl Abort,
     alloc: Global,

@@ -7,7 +7,7 @@ use std::io;
 
 /// What answers the cases of a program.
 pub trait Solver {
-    /// Adds what comes of a case: of a word, and the text after it.
+    /// Adds the answer to a case: a word, and the text after it.
     fn solve(
         &mut self,
         alloc: Global,
@@ -17,7 +17,7 @@ pub trait Solver {
     ) -> Result<(), Unmade>;
 }
 
-/// Prints what comes of the case in each line of standard input. Prints a line that begins with `#` as it is.
+/// Prints the answer to the case in each line of standard input. Prints a line that begins with `#` as it is.
 pub fn write_lines<H: AllocGlobal + Input + Print, T: Solver>(
     rt: &H,
     solver: &mut T,
@@ -30,7 +30,7 @@ pub fn write_lines<H: AllocGlobal + Input + Print, T: Solver>(
     Ok(())
 }
 
-/// Prints what comes of the case of a line.
+/// Prints the answer to the case of a line.
 fn write_line<H: Print, T: Solver>(
     rt: &H,
     alloc: Global,
@@ -43,7 +43,7 @@ fn write_line<H: Print, T: Solver>(
     Ok(())
 }
 
-/// Adds what comes of the case of a line, which is ` no case` if the line isn't one, or it can't be made.
+/// Adds the answer to the case of a line, or ` no case` if it isn't one, or can't be made.
 fn write_case<T: Solver>(
     alloc: Global,
     solver: &mut T,

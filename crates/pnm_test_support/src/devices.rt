@@ -4,8 +4,8 @@ use std::alloc::Global;
 use std::io;
 use std::io::{ErrorKind, Read, Write};
 
-/// Makes one call fail, once, after `before` calls that succeed. The error is one after which std's own loops make the
-/// call again.
+/// Makes one call fail, once, after `before` calls that succeed. The error is one after which std's own loops repeat
+/// the call.
 #[derive(Drop)]
 pub struct FailsOnce {
     before: usize,
@@ -13,7 +13,7 @@ pub struct FailsOnce {
 }
 
 impl FailsOnce {
-    /// The call after the first `before` fails.
+    /// Fails the call after the first `before`.
     pub fn after(before: usize) -> FailsOnce {
         FailsOnce {
             before,
@@ -21,7 +21,7 @@ impl FailsOnce {
         }
     }
 
-    /// No call fails.
+    /// Fails no call.
     pub fn never() -> FailsOnce {
         FailsOnce {
             before: 0,
@@ -50,7 +50,7 @@ pub struct Drips<'a> {
 }
 
 impl<'a> Drips<'a> {
-    /// A reader that gives this text, up to `most` bytes a read. One of the reads may fail.
+    /// Creates a reader that gives this text, up to `most` bytes a read. One of the reads may fail.
     pub fn new(text: &'a [u8], most: usize, reads: FailsOnce) -> Drips<'a> {
         Drips {
             rest: text,
@@ -79,7 +79,7 @@ pub struct Sips {
 }
 
 impl Sips {
-    /// A writer that takes up to `most` bytes a write. One of the writes may fail, and one of the flushes.
+    /// Creates a writer that takes up to `most` bytes a write. One of the writes may fail, and one of the flushes.
     pub fn new(alloc: Global, most: usize, writes: FailsOnce, flushes: FailsOnce) -> Sips {
         Sips {
             held: Vec::new(alloc),
@@ -90,12 +90,12 @@ impl Sips {
         }
     }
 
-    /// The bytes that were taken.
+    /// Returns the bytes that were taken.
     pub fn held(&self) -> &[u8] {
         self.held.as_slice()
     }
 
-    /// How often it was asked to flush.
+    /// Returns how often it was asked to flush.
     pub fn flushed(&self) -> usize {
         self.flushed
     }
@@ -121,14 +121,14 @@ pub struct NeverFlushes {
 }
 
 impl NeverFlushes {
-    /// A writer that holds nothing yet.
+    /// Creates a writer that holds nothing yet.
     pub fn new(alloc: Global) -> NeverFlushes {
         NeverFlushes {
             held: Vec::new(alloc),
         }
     }
 
-    /// The bytes that were taken.
+    /// Returns the bytes that were taken.
     pub fn held(&self) -> &[u8] {
         self.held.as_slice()
     }
@@ -152,7 +152,7 @@ pub struct Recorded<R> {
 }
 
 impl<R: Read + Drop> Recorded<R> {
-    /// A reader that isn't read yet.
+    /// Wraps a reader that isn't read yet.
     pub fn new(alloc: Global, reader: R) -> Recorded<R> {
         Recorded {
             reader,
@@ -160,7 +160,7 @@ impl<R: Read + Drop> Recorded<R> {
         }
     }
 
-    /// How many bytes each read asked for, and how many it got.
+    /// Returns how many bytes each read asked for, and how many it got.
     pub fn calls(&self) -> &[(usize, usize)] {
         self.calls.as_slice()
     }

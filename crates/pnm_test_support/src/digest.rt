@@ -1,6 +1,6 @@
 //! A number that tells long texts apart.
 
-/// What half a byte in the lowest bits of the register becomes, by the polynomial 0xedb8_8320.
+/// What the register's lowest half byte becomes, by the polynomial 0xedb8_8320.
 const STEPS: [u32; 16] = [
     0x0000_0000,
     0x1db7_1064,
@@ -27,7 +27,7 @@ pub struct Crc32 {
 }
 
 impl Crc32 {
-    /// The CRC-32 of no bytes.
+    /// Returns the CRC-32 of no bytes.
     pub fn new() -> Crc32 {
         Crc32 { register: u32::MAX }
     }

@@ -1,5 +1,5 @@
-//! What tests share: devices that give and take few bytes a call, or fail; what messages are made of; and, of the
-//! programs that tell what comes of written cases, how a case is written and how an answer is told.
+//! Parts that tests share: devices that give and take few bytes a call, or fail; what messages are made of; and, for
+//! the programs of cases, how a case is written and an answer is printed.
 #![tactic(auto)]
 
 mod cases;

@@ -1,11 +1,11 @@
-//! Messages as they are written, which is how they are told, and rows that are held in a given width.
+//! Messages in the form that cases and answers have, and rows of a given width.
 
 use super::writing::{Numbers, cut_at, cut_number, cut_numbers, cut_word, named};
 use pnm_image::{Bits, Head, HeadFault, Kind, Message, SampleVec, SampleWidth, Samples, Shape};
 use std::alloc::{AllocError, AllocFailed, Global};
 use std::io;
 
-/// What is written wasn't made: there is no such head, or memory or a device failed.
+/// A written value can't be made: there is no such head, or memory or a device failed.
 #[derive(Clone, Copy, Debug)]
 pub struct Unmade;
 
@@ -33,9 +33,9 @@ impl From<io::Error> for Unmade {
     }
 }
 
-/// Adds the message that a line begins with, its row in as few bits as hold its samples, or in words. Returns what
-/// follows it. `[#COUNT,FIRST,STEP,MODULUS,LENGTH]` stands for rows of LENGTH samples: COUNT samples in all, each of
-/// them FIRST plus k times STEP modulo MODULUS.
+/// Adds the message that a line begins with; a row is held in as few bits as hold its samples, or in words. Returns
+/// what follows it. `[#COUNT,FIRST,STEP,MODULUS,LENGTH]` stands for rows of LENGTH samples: COUNT samples in all, each
+/// of them FIRST plus k times STEP modulo MODULUS.
 pub fn cut_messages<'a>(
     alloc: Global,
     line: &'a [u8],
@@ -52,7 +52,7 @@ pub fn cut_messages<'a>(
     Ok(rest)
 }
 
-/// The message that a line begins with, which is no row, and what follows it.
+/// Returns the message that a line begins with, which is no row, and what follows it.
 fn cut_message(alloc: Global, line: &[u8]) -> Result<(Message, &[u8]), Unmade> {
     let (word, rest) = cut_word(line);
     if let Some(message) = end_of(word) {
@@ -62,7 +62,7 @@ fn cut_message(alloc: Global, line: &[u8]) -> Result<(Message, &[u8]), Unmade> {
     Ok((Message::Begin(head), rest))
 }
 
-/// The message of this name, which is an end or Stop.
+/// Returns the message of this name: an end or Stop.
 fn end_of(word: &[u8]) -> Option<Message> {
     if word == b"ImageEnd".as_slice() {
         Some(Message::ImageEnd)
@@ -75,7 +75,7 @@ fn end_of(word: &[u8]) -> Option<Message> {
     }
 }
 
-/// The messages that are written one after another, with blanks between.
+/// Returns the messages that are written one after another, with blanks between.
 pub fn messages_of(alloc: Global, text: &[u8], is_narrow: bool) -> Result<Vec<Message>, Unmade> {
     let mut messages = Vec::new(alloc);
     let mut rest = text;
@@ -108,7 +108,7 @@ fn add_rows(
     Ok(())
 }
 
-/// The numbers as samples.
+/// Returns the numbers as samples.
 fn counted(alloc: Global, numbers: Numbers) -> Result<Vec<u16>, Unmade> {
     let mut samples = Vec::new(alloc);
     for k in 0..numbers.count {
@@ -128,7 +128,7 @@ fn add_row(
     Ok(())
 }
 
-/// The samples that are written one after another.
+/// Returns the samples that are written one after another.
 pub fn samples_of(alloc: Global, written: &[u8]) -> Result<Vec<u16>, Unmade> {
     let mut samples = Vec::new(alloc);
     let mut rest = written;
@@ -143,7 +143,7 @@ pub fn samples_of(alloc: Global, written: &[u8]) -> Result<Vec<u16>, Unmade> {
     Ok(samples)
 }
 
-/// The head that a line begins with, and what follows it.
+/// Returns the head that a line begins with, and what follows it.
 pub fn cut_head(alloc: Global, line: &[u8]) -> Result<(Head, &[u8]), Unmade> {
     let (word, rest) = cut_word(line);
     let (width, rest) = cut_number(rest);
@@ -171,7 +171,7 @@ const KINDS: &[(&[u8], Kind)] = &[
     (b"Pam", Kind::Pam),
 ];
 
-/// The number, if it is a sample.
+/// Returns the number, if it is a sample.
 fn sample_of(number: usize) -> Result<u16, Unmade> {
     match u16::try_from(number) {
         Ok(sample) => Ok(sample),
@@ -179,12 +179,12 @@ fn sample_of(number: usize) -> Result<u16, Unmade> {
     }
 }
 
-/// The number, or the greatest one.
+/// Returns the number, or the greatest one.
 pub fn number_of(number: usize) -> u32 {
     u32::try_from(number).unwrap_or(u32::MAX)
 }
 
-/// The head of this shape, whose height may be 0.
+/// Returns the head of this shape, whose height may be 0.
 pub fn head_of(alloc: Global, shape: Shape, tuple_type: &[u8]) -> Result<Head, Unmade> {
     if !Head::suits(shape.kind, shape.depth, shape.maxval, tuple_type) {
         return Err(Unmade);
@@ -196,7 +196,7 @@ pub fn head_of(alloc: Global, shape: Shape, tuple_type: &[u8]) -> Result<Head, U
     Ok(head.with_height(0))
 }
 
-/// The width of as few bits as hold the samples.
+/// Returns the width of as few bits as hold the samples.
 fn narrowest(samples: &[u16]) -> SampleWidth {
     let mut most = 0;
     for sample in samples {
@@ -211,7 +211,7 @@ fn narrowest(samples: &[u16]) -> SampleWidth {
     }
 }
 
-/// The samples, in as few bits as hold them, or in words.
+/// Returns the samples, in as few bits as hold them, or in words.
 pub fn held_by(alloc: Global, samples: &[u16], is_narrow: bool) -> Result<Samples, AllocError> {
     let sample_width = if is_narrow {
         narrowest(samples)
@@ -221,7 +221,7 @@ pub fn held_by(alloc: Global, samples: &[u16], is_narrow: bool) -> Result<Sample
     held(alloc, samples, sample_width)
 }
 
-/// The samples, held in this width.
+/// Returns the samples in this width.
 pub fn held(
     alloc: Global,
     samples: &[u16],
@@ -234,7 +234,7 @@ pub fn held(
     }))
 }
 
-/// The samples as pixels of one bit, 0 as black.
+/// Returns the samples as pixels of one bit, 0 as black.
 fn bits_of(alloc: Global, samples: &[u16]) -> Result<Bits, AllocError> {
     let mut bytes = Vec::new(alloc);
     for pixels in samples.chunks(8) {
@@ -251,7 +251,7 @@ fn bits_of(alloc: Global, samples: &[u16]) -> Result<Bits, AllocError> {
     Ok(Bits::new(bytes, samples.len()))
 }
 
-/// The samples modulo 256.
+/// Returns the samples modulo 256.
 fn bytes_of(alloc: Global, samples: &[u16]) -> Result<Vec<u8>, AllocError> {
     let mut bytes = Vec::new(alloc);
     for sample in samples {

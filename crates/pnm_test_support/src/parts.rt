@@ -1,10 +1,10 @@
-//! What messages are made of, for tests that name them one by one.
+//! The parts of messages, for tests that name them one by one.
 
 use super::messages::{Unmade, head_of};
 use pnm_image::{Head, Kind, Message, Packet, RepeatedRows, SampleSlice, Samples, Shape};
 use std::alloc::Global;
 
-/// What a message is made of.
+/// The parts of a message.
 #[derive(Clone, Copy, Debug)]
 pub enum Part<'a> {
     /// A head that isn't PAM: its kind, its width, its height and its maxval.
@@ -17,7 +17,7 @@ pub enum Part<'a> {
     Stop,
 }
 
-/// The shape and the tuple type of a head.
+/// Returns the shape and the tuple type of a head.
 fn head_parts(part: Part<'_>) -> Option<(Shape, &[u8])> {
     let (kind, width, height, depth, maxval, tuple_type) = match part {
         Part::Begin(kind, width, height, maxval) => {
@@ -39,7 +39,7 @@ fn head_parts(part: Part<'_>) -> Option<(Shape, &[u8])> {
     Some((shape, tuple_type.as_bytes()))
 }
 
-/// The message that is made of this.
+/// Makes the message of this part.
 pub fn message(alloc: Global, part: Part<'_>) -> Result<Message, Unmade> {
     if let Some((shape, tuple_type)) = head_parts(part) {
         return Ok(Message::Begin(head_of(alloc, shape, tuple_type)?));
@@ -52,7 +52,7 @@ pub fn message(alloc: Global, part: Part<'_>) -> Result<Message, Unmade> {
     })
 }
 
-/// Whether the message is made of this.
+/// Returns whether the message is made of this part.
 pub fn is_made_of(message: &Message, part: Part<'_>) -> bool {
     match message {
         Message::Begin(head) => is_head(head, part),
@@ -63,12 +63,12 @@ pub fn is_made_of(message: &Message, part: Part<'_>) -> bool {
     }
 }
 
-/// Whether the head is made of this.
+/// Returns whether the head is made of this part.
 fn is_head(head: &Head, part: Part<'_>) -> bool {
     head_parts(part) == Some((head.shape(), head.tuple_type()))
 }
 
-/// Whether these `length` samples are a row that is made of this.
+/// Returns whether these `length` samples are a row that is made of this part.
 fn is_row(row: SampleSlice<'_>, length: usize, part: Part<'_>) -> bool {
     match part {
         Part::Row(samples) => length == samples.len() && has_samples(row, samples),
@@ -76,7 +76,7 @@ fn is_row(row: SampleSlice<'_>, length: usize, part: Part<'_>) -> bool {
     }
 }
 
-/// Whether the row begins with these samples.
+/// Returns whether the row begins with these samples.
 fn has_samples(row: SampleSlice<'_>, samples: &[u16]) -> bool {
     for (at, sample) in samples.iter().enumerate() {
         if !is_sample(row, at, *sample) {
@@ -86,7 +86,7 @@ fn has_samples(row: SampleSlice<'_>, samples: &[u16]) -> bool {
     true
 }
 
-/// Whether sample `x` of the row is `sample`. In bits, a black pixel is a set bit, and its sample is 0.
+/// Returns whether sample `x` of the row is `sample`. In bits, a black pixel is a set bit, and its sample is 0.
 fn is_sample(row: SampleSlice<'_>, x: usize, sample: u16) -> bool {
     match row {
         SampleSlice::Bits(bytes, _) => match bytes.get(x / 8) {
@@ -101,8 +101,8 @@ fn is_sample(row: SampleSlice<'_>, x: usize, sample: u16) -> bool {
     }
 }
 
-/// Whether the messages of the packet are made of these from the one at `come` on, which then counts them, too. Rows
-/// that repeat are none of these.
+/// Returns whether the messages of the packet are made of the parts from the one at `come` on. Adds their number to
+/// `come`. Rows that repeat are no such parts.
 pub fn are_made_of(packet: &Packet, parts: &[Part<'_>], come: &mut usize) -> bool {
     match packet {
         Packet::Part(part) => is_part_made_of(part, parts, come),
@@ -111,14 +111,14 @@ pub fn are_made_of(packet: &Packet, parts: &[Part<'_>], come: &mut usize) -> boo
     }
 }
 
-/// The part at `come`, which then counts it, too.
+/// Returns the part at `come`, and adds 1 to `come`.
 fn next_of<'a>(parts: &[Part<'a>], come: &mut usize) -> Option<Part<'a>> {
     let part = parts.get(*come).copied();
     *come = come.saturating_add(1);
     part
 }
 
-/// The same for a part of an image.
+/// Does the same for a part of an image.
 fn is_part_made_of(part: &pnm_image::Part, parts: &[Part<'_>], come: &mut usize) -> bool {
     let (head, rows, ends_image) = part.parts();
     if let Some(head) = head
@@ -134,7 +134,7 @@ fn is_part_made_of(part: &pnm_image::Part, parts: &[Part<'_>], come: &mut usize)
     !ends_image || matches!(next_of(parts, come), Some(Part::ImageEnd))
 }
 
-/// The same for rows.
+/// Does the same for rows.
 fn are_rows_made_of(rows: &RepeatedRows, parts: &[Part<'_>], come: &mut usize) -> bool {
     let (rows, times) = rows.parts();
     for at in 0..rows.count() {

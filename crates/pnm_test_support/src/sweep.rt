@@ -1,4 +1,4 @@
-//! The answers to many cases that differ a little, told by the number of cases and a CRC-32.
+//! The answers to many cases that differ a little, printed as the number of cases and a CRC-32.
 
 use super::digest::Crc32;
 use std::alloc::AllocError;
@@ -11,7 +11,7 @@ pub struct Sweep {
 }
 
 impl Sweep {
-    /// No answers.
+    /// Creates a sweep without answers.
     pub fn new() -> Sweep {
         Sweep {
             cases: 0,

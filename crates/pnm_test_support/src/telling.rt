@@ -1,14 +1,14 @@
-//! How an answer is told: a word for each message, with a blank before it.
+//! How an answer is printed: a word for each message, with a blank before it.
 
 use super::digest::Crc32;
 use pnm_image::{Head, Message, SampleSlice, Samples};
 use std::alloc::AllocError;
 use std::fmt;
 
-/// A row of more samples is told by their number and their CRC-32.
+/// A row of more samples is printed as their number and their CRC-32.
 const MOST_SAMPLES: usize = 64;
 
-/// Adds what a message is.
+/// Adds a message.
 pub fn write_message(out: &mut String, message: &Message) -> Result<(), AllocError> {
     match message {
         Message::Begin(head) => write_head(out, head),
@@ -33,7 +33,7 @@ pub fn write_head(out: &mut String, head: &Head) -> Result<(), AllocError> {
     Ok(())
 }
 
-/// Adds bytes as they are written: a backslash, a line feed, and what isn't printed, with escapes.
+/// Adds bytes in the form of cases: a backslash, a line feed, and what isn't printed, with escapes.
 fn write_bytes(out: &mut String, bytes: &[u8]) -> Result<(), AllocError> {
     for byte in bytes {
         write_byte(out, *byte)?;
@@ -41,7 +41,7 @@ fn write_bytes(out: &mut String, bytes: &[u8]) -> Result<(), AllocError> {
     Ok(())
 }
 
-/// Adds a byte as it is written.
+/// Adds a byte in the form of cases.
 fn write_byte(out: &mut String, byte: u8) -> Result<(), AllocError> {
     match byte {
         b'\\' => out.push_str("\\\\"),
@@ -51,10 +51,10 @@ fn write_byte(out: &mut String, byte: u8) -> Result<(), AllocError> {
     }
 }
 
-/// A text of more bytes is told by their number and their CRC-32.
+/// A text of more bytes is printed as their number and their CRC-32.
 const MOST_BYTES: usize = 200;
 
-/// Adds a text as it is written, or how many bytes it has and their CRC-32.
+/// Adds a text in the form of cases, or how many bytes it has and their CRC-32.
 pub fn write_text(out: &mut String, text: &[u8]) -> Result<(), AllocError> {
     if text.is_empty() {
         return out.push_str(" no bytes");
@@ -95,7 +95,7 @@ fn write_long_row(out: &mut String, row: &Samples) -> Result<(), AllocError> {
     write!(out, " [{count} samples {number:08x}]")
 }
 
-/// Adds each of these as it is printed.
+/// Adds each of these values as it prints itself.
 pub fn write_all<T: fmt::Display>(out: &mut String, all: &[T]) -> Result<(), AllocError> {
     for one in all {
         write!(out, " {one}")?;
@@ -103,7 +103,7 @@ pub fn write_all<T: fmt::Display>(out: &mut String, all: &[T]) -> Result<(), All
     Ok(())
 }
 
-/// How the samples of a row are held.
+/// Returns the name of the width of a row's samples.
 pub fn width_of(row: SampleSlice<'_>) -> &'static str {
     match row {
         SampleSlice::Bits(_, _) => " bits",

@@ -1,4 +1,4 @@
-//! Messages that are handed over together. They are written, and told, one after another between braces.
+//! Messages that are handed over together. Cases and answers have them one after another between braces.
 
 ghost use Rattle.std.specs.Prelude.{◌≡◌, ◌*◌, All, IfOk, length};
 ghost use Rattle.pnm_image.specs.HeldRows.{AreRowsWithin};
@@ -11,8 +11,8 @@ use pnm_image::{
 };
 use std::alloc::{AllocError, Global};
 
-/// The packets of messages that are written one after another. What stands between braces is one packet. Rows are held
-/// in as few bits as hold their samples, or in words.
+/// Returns the packets of messages that are written one after another. What stands between braces is one packet. Rows
+/// are held in as few bits as hold their samples, or in words.
 pub fn packets_of(alloc: Global, text: &[u8], is_narrow: bool) -> Result<Vec<Packet>, Unmade> {
     let mut packets = Vec::new(alloc);
     let mut rest = text;
@@ -33,8 +33,8 @@ pub fn packets_of(alloc: Global, text: &[u8], is_narrow: bool) -> Result<Vec<Pac
     Ok(packets)
 }
 
-/// The part of an image that is written between braces: its head, rows and its end, or some of these, behind the number
-/// of times that the rows come.
+/// Returns the part of an image between braces: its head, rows and its end, or some of these, behind the number of
+/// times that the rows come.
 pub fn part_of(alloc: Global, text: &[u8], is_narrow: bool) -> Result<Part, Unmade> {
     let is_counted = text.first().is_some_and(|byte| byte.is_ascii_digit());
     let (times, text) = if is_counted {
@@ -61,7 +61,7 @@ pub fn part_of(alloc: Global, text: &[u8], is_narrow: bool) -> Result<Part, Unma
     Part::of(head, rows, ends_image).ok_or(Unmade)
 }
 
-/// The rows that these messages are, at least one, each as long as the others.
+/// Returns the rows that these messages are, at least one, each as long as the others.
 fn rows_among(alloc: Global, messages: &[Message], is_narrow: bool) -> Result<Rows, Unmade> {
     let row_length = length_of(messages.first());
     let mut samples = Vec::new(alloc);
@@ -72,7 +72,7 @@ fn rows_among(alloc: Global, messages: &[Message], is_narrow: bool) -> Result<Ro
     cut_into(alloc, samples, messages.len(), row_length)
 }
 
-/// How long a row is, 0 for another message.
+/// Returns how long a row is, 0 for another message.
 fn length_of(message: Option<&Message>) -> usize {
     match message {
         Some(Message::Row(row)) => row.len(),
@@ -94,7 +94,7 @@ fn add_samples(message: &Message, row_length: usize, samples: &mut Vec<u16>) -> 
     Ok(())
 }
 
-/// The samples as `count` rows of this length, at least one.
+/// Returns the samples as `count` rows of this length, at least one.
 pub fn cut_into(
     alloc: Global,
     samples: Samples,
@@ -119,7 +119,7 @@ pub fn cut_into(
     })
 }
 
-/// The pixels as `count` rows of this length.
+/// Returns the pixels as `count` rows of this length.
 fn rows_of_bits(
     alloc: Global,
     pixels: &Bits,
@@ -147,7 +147,7 @@ pub fn write_part(alloc: Global, out: &mut String, part: &Part) -> Result<(), Al
     write_times(alloc, out, part, times_of(part))
 }
 
-/// How many times the rows of the part come.
+/// Returns how many times the rows of the part come.
 fn times_of(part: &Part) -> u32 {
     match part.parts().1 {
         Some(rows) => rows.parts().1,
@@ -155,7 +155,7 @@ fn times_of(part: &Part) -> u32 {
     }
 }
 
-/// Adds the messages of a part of an image one after another, its rows so many times.
+/// Adds the messages of a part of an image one after another, its rows `times` times.
 fn write_times(alloc: Global, out: &mut String, part: &Part, times: u32) -> Result<(), AllocError> {
     let (head, rows, ends_image) = part.parts();
     if let Some(head) = head {
@@ -172,7 +172,7 @@ fn write_times(alloc: Global, out: &mut String, part: &Part, times: u32) -> Resu
     Ok(())
 }
 
-/// Adds the rows, each as a single row is told.
+/// Adds the rows, each as a single row.
 fn write_rows(alloc: Global, out: &mut String, rows: &Rows) -> Result<(), AllocError> {
     for at in 0..rows.count() {
         let row = rows.row(alloc, at)?;

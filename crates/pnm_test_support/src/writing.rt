@@ -1,13 +1,13 @@
-//! How a case is written on a line: words that a blank parts, and texts with escapes.
+//! How a case is written on a line: words with blanks between them, and texts with escapes.
 
 use std::alloc::{AllocError, Global};
 
-/// The first word of a line, and what follows the blank after it.
+/// Returns the first word of a line, and what follows the blank after it.
 pub fn cut_word(line: &[u8]) -> (&[u8], &[u8]) {
     cut_at(line, b' ')
 }
 
-/// What comes before the first byte `mark`, and what follows it.
+/// Returns what comes before the first byte `mark`, and what follows it.
 pub fn cut_at(line: &[u8], mark: u8) -> (&[u8], &[u8]) {
     for at in 0..line.len() {
         if line[at] == mark {
@@ -17,7 +17,7 @@ pub fn cut_at(line: &[u8], mark: u8) -> (&[u8], &[u8]) {
     (line, &[])
 }
 
-/// What a word stands for in a table.
+/// Returns what a word stands for in a table.
 pub fn named<T: Copy>(words: &[(&[u8], T)], word: &[u8]) -> Option<T> {
     for (name, meant) in words {
         if *name == word {
@@ -27,14 +27,14 @@ pub fn named<T: Copy>(words: &[(&[u8], T)], word: &[u8]) -> Option<T> {
     None
 }
 
-/// Two numbers that a line begins with, and what follows them.
+/// Returns the two numbers that a line begins with, and what follows them.
 pub fn cut_pair(line: &[u8]) -> (usize, usize, &[u8]) {
     let (first, rest) = cut_number(line);
     let (second, rest) = cut_number(rest);
     (first, second, rest)
 }
 
-/// The number that a line begins with, and what follows the byte after its digits.
+/// Returns the number that a line begins with, and what follows the byte after its digits.
 pub fn cut_number(line: &[u8]) -> (usize, &[u8]) {
     let mut number = 0usize;
     let mut rest = line;
@@ -52,8 +52,8 @@ pub fn cut_number(line: &[u8]) -> (usize, &[u8]) {
     (number, rest)
 }
 
-/// The bytes that a written text stands for. A byte stands for itself, except for a backslash: `\n`, `\t`, `\r` and
-/// `\xHH` are the byte that they are in Rust, and any other byte after it is itself. `\N(PART)` stands for N times
+/// Returns the bytes that a written text stands for. A byte stands for itself, except for a backslash: `\n`, `\t`, `\r`
+/// and `\xHH` are the byte that they are in Rust, and any other byte after it is itself. `\N(PART)` stands for N times
 /// PART, and `\#COUNT,FIRST,STEP,MODULUS,BYTES;` for COUNT numbers, FIRST plus k times STEP modulo MODULUS: in decimal
 /// with a blank after each if BYTES is 0, in a byte each if it is 1, and otherwise in two.
 pub fn text_of(alloc: Global, written: &[u8]) -> Result<Vec<u8>, AllocError> {
@@ -99,7 +99,7 @@ fn add_bytes(text: &mut Vec<u8>, written: &[u8]) -> Result<(), AllocError> {
     Ok(())
 }
 
-/// The byte that a written text begins with, 0 if it is empty, and what follows it.
+/// Returns the byte that a written text begins with, 0 if it is empty, and what follows it.
 fn cut_byte(written: &[u8]) -> (u8, &[u8]) {
     match written {
         [b'\\', b'x', high, low, rest @ ..] => (
@@ -112,7 +112,7 @@ fn cut_byte(written: &[u8]) -> (u8, &[u8]) {
     }
 }
 
-/// The byte that `mark` stands for after a backslash.
+/// Returns the byte that `mark` stands for after a backslash.
 fn escaped(mark: u8) -> u8 {
     match mark {
         b'n' => b'\n',
@@ -122,7 +122,7 @@ fn escaped(mark: u8) -> u8 {
     }
 }
 
-/// What a hexadecimal digit is worth.
+/// Returns what a hexadecimal digit is worth.
 fn hexadecimal(digit: u8) -> u8 {
     match digit {
         b'a'..=b'f' => digit - b'a' + 10,
@@ -141,14 +141,14 @@ pub struct Numbers {
 }
 
 impl Numbers {
-    /// Number `k`, counted from 0.
+    /// Returns number `k`, counted from 0.
     pub fn at(self, k: usize) -> usize {
         let turned = k.wrapping_mul(self.step).checked_rem(self.modulus);
         self.first.wrapping_add(turned.unwrap_or(0))
     }
 }
 
-/// The numbers that a written text begins with, and what follows them.
+/// Returns the numbers that a written text begins with, and what follows them.
 pub fn cut_numbers(written: &[u8]) -> (Numbers, &[u8]) {
     let (count, rest) = cut_number(written);
     let (first, rest) = cut_number(rest);

@@ -1,5 +1,5 @@
--- Tools that change each sample by itself: of the samples of an image a result has as many, in the same columns, rows
--- and planes.
+-- Tools that change each sample by itself. A result has as many samples as the image, in the same columns, rows and
+-- planes.
 use Rattle.std.specs.Prelude.{ℕ, List, map, Ok, true, [], ◌∷◌}
 use Rattle.pnm_image.specs.declared.shape.Kind.{Kind}
 use Rattle.pnm_image.specs.Heads.{HeadValue}
@@ -8,7 +8,7 @@ use Rattle.pnm_tools.specs.Meaning.{Meaning, RowRule}
 
 -- what such a tool does, which depends on the image's maxval alone
 pub record SampleRule : Type 0 where
-  -- the kind, the maxval and the tuple type of the result, each of that of the image
+  -- the result's kind, maxval and tuple type, each as a function of the image's
   pub kind : Kind → Kind
   pub maxval : ℕ → ℕ
   pub tuple_type : List ℕ → List ℕ

@@ -1,4 +1,4 @@
-//! Buffers that have their full length before their samples are stored.
+//! Buffers that are allocated at full length before samples are stored in them.
 
 ghost use Rattle.std.specs.Prelude.{◌≡◌, ◌≤◌, ◌+◌, ◌++◌, length, take};
 

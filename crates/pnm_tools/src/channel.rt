@@ -45,14 +45,14 @@ impl Planes {
         }
     }
 
-    /// The numbers of the planes.
+    /// Returns the numbers of the planes.
     pub fn numbers(&self) -> &[u16]
         ensures { result.now ≡ self.now.numbers }
     {
         self.numbers.as_slice()
     }
 
-    /// The bytes of the tuple type.
+    /// Returns the bytes of the tuple type.
     pub fn tuple_type(&self) -> &[u8]
         ensures { result.now ≡ self.now.tuple_type }
     {

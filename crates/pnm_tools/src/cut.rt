@@ -47,7 +47,7 @@ impl CutBox {
     }
 }
 
-/// Whether these are options that may stand together, in their ranges: of columns, or of rows.
+/// Returns whether these are options that may stand together, in their ranges: of columns, or of rows.
 fn is_lawful_axis(start: Option<i32>, end: Option<i32>, size: Option<u32>) -> bool
     ensures { IsTrue result ↔ IsLawfulAxis start end size }
 {
@@ -55,7 +55,7 @@ fn is_lawful_axis(start: Option<i32>, end: Option<i32>, size: Option<u32>) -> bo
     !all && is_edge(start) && is_edge(end) && is_size(size)
 }
 
-/// Whether the edge, if there is one, is in its range.
+/// Returns whether the edge, if there is one, is in its range.
 fn is_edge(edge: Option<i32>) -> bool
     ensures { IsTrue result ↔ IfSome edge IsEdge }
 {
@@ -65,7 +65,7 @@ fn is_edge(edge: Option<i32>) -> bool
     }
 }
 
-/// Whether the size, if there is one, is in its range.
+/// Returns whether the size, if there is one, is in its range.
 fn is_size(size: Option<u32>) -> bool
     ensures { IsTrue result ↔ IfSome size IsExtent }
 {

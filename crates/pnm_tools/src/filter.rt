@@ -1,4 +1,4 @@
-//! What a tool is to those who run it: a filter of messages.
+//! A tool as its callers see it: a filter of messages.
 
 ghost use Rattle.std.specs.Prelude.{◌≡◌, ℕ, ◌<◌, ◌≤◌, List, [], ◌∷◌, ◌++◌, Bool, true, false, Option, Some, None};
 ghost use Rattle.std.specs.Prelude.{OnOk, IfOk, IfErr, IfSome, IfNone, OnErr, Ok, Err, length};
@@ -15,7 +15,7 @@ ghost use Rattle.pnm_tools.specs.Answers.{AllMayCome, Answers, AnswersInFull, Ju
 use crate::fault::ToolFault;
 use pnm_image::Packet;
 
-/// A tool at work: it takes the messages of images, packet by packet, and gives those of their results.
+/// A tool at work: it takes the messages of images, packet by packet, and gives the messages of their results.
 ///
 /// After each `feed`, the caller calls `next` until it returns `None`.
 /// The tool gives the result's head as soon as an image begins, and all that is left of the result once the image has
@@ -67,9 +67,9 @@ pub trait Filter {
         ensures back { OnErr result ((t : ToolValue) (l g : List MessageValue) → at self.old t l g
             → AllMayCome (all_given self.old) l (messages_in packet) → ⊥) };
 
-    /// The next packet of the results, or `None` where all that is due was given. After a fault, it always returns that
-    /// fault. The only fault that can begin here is `Memory`, and none can begin once the end of the stream or Stop was
-    /// given.
+    /// Returns the next packet of the results, or `None` once all that is due was given. After a fault, it always
+    /// returns that fault. The only fault that can begin here is `Memory`, and none can begin once the end of the
+    /// stream or Stop was given.
     fn next(&mut self) -> Result<Option<Packet>, ToolFault>
         ensures given { IfOk result
             (λ r. IfSome r (λ p. (t : ToolValue) (l g : List MessageValue) → at self.old t l g

@@ -1,5 +1,5 @@
-//! What a tool at work makes of the rows of an image: some rows of the result at once, the rest once the image has
-//! ended. Rows come, and are given, one by one or together.
+//! A tool at work on the rows of an image. It gives some rows of the result at once, and the rest when the image has
+//! ended. It takes and gives rows one by one or together.
 
 ghost use Rattle.std.specs.Prelude.{ℕ, ◌≡◌, ◌++◌, [], ◌⊎◌, List, length, OnOk, IfOk, IfErr};
 ghost use Rattle.std.specs.Prelude.{IfNone, Ok, Err, ◌+◌, ◌≤◌};

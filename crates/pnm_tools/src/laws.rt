@@ -62,18 +62,18 @@ pub fn answers_are_due()
     ensures { AnswersAreDue }
 {}
 
-/// The tools that are called row-wise are those that commute with dealing: what such a tool makes of the image that a
-/// lane sees is what the lane gets of the result, and it refuses the one if it refuses the other, with the same fault.
+/// The row-wise tools are the ones that commute with dealing. Applied to a lane's share of an image such a tool makes
+/// that lane's share of the result, and it refuses the share exactly when it refuses the image, with the same fault.
 pub fn row_wise_tools_commute_with_dealing()
     ensures { RowWiseToolsCommuteWithDealing }
 {}
 
-/// Small images and lists of messages, dealt.
+/// How small images and lists of messages are dealt.
 pub fn dealt_examples_hold()
     ensures { DealtExamplesHold }
 {}
 
-/// The limits of options and of chains in numbers: the definitions have them by their names, from the code.
+/// The limits of options and of chains in numbers. The definitions take them from the code by their names.
 pub fn limits_are()
     ensures extent { MAX_EXTENT ≡ 16777216 }
     ensures tools { MAX_TOOLS ≡ 64 }

@@ -1,10 +1,10 @@
-//! Tells what tools make of written messages, and which tools the texts of chains name. A line of standard input is a
-//! word, and what it is about; messages are written as they are told (`pnm_test_support`), and escapes are those of
-//! texts. A line that begins with `#` is given back.
+//! Prints what tools make of written messages, and which tools the texts of chains name. A line of standard input is a
+//! word, and what it is about. Escapes, and the form of messages, are those of `pnm_test_support`. A line that begins
+//! with `#` is printed as it is.
 //!
 //! - `judge TOOL`: whether the tool is lawful, and whether row-wise
 //! - `copy TOOL`: the tool, and a copy of it
-//! - `tool TOOL`: what `judge` tells; the lines that follow are about this tool and all others since the last `none`
+//! - `tool TOOL`: what `judge` prints. The lines that follow are about this tool and all others since the last `none`
 //! - `head HEAD`: the head of the result
 //! - `run STEPS`: what the tool gives for each step (`steps`), however wide rows are held
 //! - `lane STEPS`: what the tool gives for each step in a lane
@@ -16,8 +16,8 @@
 //! - `chain TEXT`: the tools that the text of a chain names, or the number of the stage at fault and the fault
 //! - `names tools`, `names chain`: the printed faults of tools, and of texts of chains
 //!
-//! For several tools, answers are told whenever they change, with the number of the first tool that gives them. For a
-//! sweep, the number of images and a CRC-32 are told.
+//! For several tools, answers are printed whenever they change, with the number of the first tool that gives them. For
+//! a sweep, the number of images and a CRC-32 are printed.
 #![tactic(auto)]
 
 mod chains;
@@ -79,7 +79,7 @@ const FAULTS: &[ToolFault] = &[
     ToolFault::Memory,
 ];
 
-/// Tells what tools make, with what the lines so far have named.
+/// The solver of these cases, with the tools that the lines so far have named.
 #[derive(Drop)]
 struct Named {
     tools: Vec<Tool>,
@@ -156,7 +156,7 @@ fn write_tool(
     Ok(())
 }
 
-/// Adds what is told of each tool.
+/// Adds the answers of each tool.
 fn write_each(
     alloc: Global,
     how: How,
@@ -177,7 +177,7 @@ fn write_each(
     Ok(())
 }
 
-/// Adds what is told of a tool.
+/// Adds the answers of a tool.
 fn write_of_tool(
     alloc: Global,
     how: How,
@@ -198,7 +198,7 @@ fn write_of_tool(
     }
 }
 
-/// Adds the faults of the texts of chains, or of tools, as they are printed.
+/// Adds the names of the faults of texts of chains, or of tools.
 fn write_names(text: &[u8], out: &mut String) -> Result<(), AllocError> {
     if text == b"chain".as_slice() {
         return write_all(out, chains::KINDS);

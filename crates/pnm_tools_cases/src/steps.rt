@@ -1,8 +1,8 @@
 //! Steps of a tool at work. A message is fed, and then all that the tool gives is taken. With a `~` before the message,
-//! no message is told; with a `!`, nothing is taken. `?` takes one answer. A fault is told, and whether it doesn't
-//! stay. Messages between braces, their rows in as few bits as hold their samples, are fed together, or one by one if
-//! not all of them may come. What a tool gives together is told one by one, except by `?`, which tells it between
-//! braces, as one answer.
+//! no message is printed; with a `!`, nothing is taken. `?` takes one answer. A fault is printed, and whether it
+//! doesn't stay. Messages between braces, their rows in as few bits as hold their samples, are fed together, or one by
+//! one if not all of them may come. What a tool gives together is printed one by one, except by `?`, which prints it
+//! between braces, as one answer.
 
 use super::tasks::{Task, write_at_work};
 use pnm_filters::{RowState, RowWise};
@@ -17,17 +17,17 @@ const MOST_ANSWERS: usize = 100_000;
 /// How a message is passed on.
 #[derive(Clone, Copy)]
 pub enum Step {
-    /// All that the tool gives then is told.
+    /// All that the tool gives then is printed.
     Passes,
-    /// All is taken, and how wide its rows are held is told.
+    /// All is taken, and the widths of its rows are printed.
     Widths,
-    /// All is taken, but only a fault is told.
+    /// All is taken, but only a fault is printed.
     Drops,
     /// Nothing is taken.
     Takes,
 }
 
-/// Adds what a tool gives by these steps, and what it gives if rows are held in few bits, if that is something else.
+/// Adds what a tool gives by these steps, and what it gives if rows are held in few bits, if that differs.
 pub fn write_run(alloc: Global, tool: &Tool, text: &[u8], out: &mut String) -> Result<(), Unmade> {
     let mut narrow = String::new(alloc);
     write_at_work(alloc, tool, Task::Steps(text, Step::Passes, false), out)?;
@@ -144,7 +144,7 @@ pub fn pass_one<F: Filter>(
 }
 
 /// Passes on a packet, and adds all that the filter gives then, or the fault, and whether it doesn't stay. Returns the
-/// packet if the filter has.
+/// packet if the filter gave it back.
 fn pass_packet<F: Filter>(
     alloc: Global,
     state: &mut F,
@@ -195,7 +195,7 @@ fn write_next<F: Filter>(alloc: Global, state: &mut F, out: &mut String) -> Resu
     }
 }
 
-/// Takes all that the filter gives, and adds what the step tells of it, and a fault.
+/// Takes all that the filter gives, and adds what the step prints of it, and a fault.
 fn take_all<F: Filter>(
     alloc: Global,
     state: &mut F,
@@ -215,7 +215,7 @@ fn take_all<F: Filter>(
     out.push_str(" and more")
 }
 
-/// Adds what a step tells of a packet.
+/// Adds what a step prints of a packet.
 fn write_taken(
     alloc: Global,
     step: Step,
@@ -230,7 +230,7 @@ fn write_taken(
     }
 }
 
-/// Adds how wide each row of a part is held, each time that it comes.
+/// Adds the width of each row of a part, each time that it comes.
 fn write_widths(part: &Part, out: &mut String) -> Result<(), AllocError> {
     let (_, Some(rows), _) = part.parts() else {
         return Ok(());

@@ -1,4 +1,4 @@
-//! Tools as they are written: `invert`; `cut LEFT RIGHT TOP BOTTOM WIDTH HEIGHT`, with `_` for `None`; `depth MAXVAL`;
+//! Tools in cases: `invert`; `cut LEFT RIGHT TOP BOTTOM WIDTH HEIGHT`, with `_` for `None`; `depth MAXVAL`;
 //! `planes NUMBERS (TUPLE TYPE)`; `enlarge ACROSS DOWN`; `flip WAY`; `tile WIDTH HEIGHT`.
 
 use pnm_filters::result_head;

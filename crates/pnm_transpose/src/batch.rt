@@ -85,15 +85,15 @@ pub(crate) fn columns_of<T: BlockSample>(
         ≡ map (kept_column rows_first depth kept.now.strips.items kept.now.rows) (range_with_len first count)) }
     ensures refused { IfErr result (λ fault. fault ≡ Memory) }
 {
-    // The columns have their full length first, so that the stores don't grow them.
+    // Each column is allocated at full length, so that no store has to grow it.
     let samples = STRIP_ROWS * depth * kept.strips.len() + depth * kept.rows.len();
     let mut columns = blank_columns(alloc, count, samples)?;
     put_kept(columns.as_mut_slice(), kept, rows_first, first, depth);
     Ok(columns)
 }
 
-/// Stores columns of the rows, each from its first sample on: first the samples of the rows in strips and then those of
-/// the rows that came after them, or the latter first if `rows_first` is true.
+/// Stores columns of the rows, each from its first sample on: first the samples of the rows in strips, and then those
+/// of the later rows, or in the opposite order if `rows_first` is true.
 fn put_kept<T: BlockSample>(
     columns: &mut [Vec<T>],
     kept: &StripedRows<T>,

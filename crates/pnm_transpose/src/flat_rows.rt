@@ -29,7 +29,7 @@ impl<T> Model for FlatRows<T> {
 }
 
 impl<T> FlatRows<T> {
-    /// No rows.
+    /// Creates an empty list of rows.
     pub fn new(alloc: Global) -> FlatRows<T>
         ensures { result ≡ [] }
     {

@@ -26,7 +26,7 @@ impl<T> RowOf<T> {
         RowOf { samples }
     }
 
-    /// The samples.
+    /// Returns the samples.
     pub fn as_slice(&self) -> &[T]
         ensures { result.now ≡ self.now }
     {

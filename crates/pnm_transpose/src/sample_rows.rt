@@ -1,4 +1,4 @@
-//! Rows whose samples are all of one width, which a transposer keeps.
+//! The rows that a transposer keeps, all of one width.
 
 ghost use Rattle.std.specs.Prelude.{◌≡◌, ◌≤◌, ◌<◌, ◌+◌, ◌*◌, ◌++◌, ◌∷◌, [], OnOk, IfOk, IfErr, length, map};
 ghost use Rattle.std.specs.Prelude.{get_or, reverse, IsTrue, IsFalse};
@@ -35,7 +35,7 @@ const BATCH_OF_BITS: u32 = 256;
 /// little memory compared with the image.
 const LEAST_HEIGHT: u32 = 1024;
 
-/// The most samples of a row that is kept as it is even in such an image. Of short rows, many lie in the processor's
+/// The most samples of a row that isn't put into strips even in such an image. Many short rows lie in the processor's
 /// cache when they are exchanged, and making strips of them takes longer than it saves.
 const MOST_SAMPLES: u64 = 256;
 
@@ -51,14 +51,14 @@ pub(crate) enum SampleRows {
 }
 
 impl SampleRows {
-    /// No rows.
+    /// Creates an empty list of rows.
     pub fn new(alloc: Global) -> SampleRows
         ensures { (row_lists result ≡ []) × (strip_lists result ≡ []) }
     {
         SampleRows::Words(StripedRows::new(alloc))
     }
 
-    /// No rows, of this width. Rows take memory as they come: those that a head only announces take none.
+    /// Creates an empty list of rows of this width. It takes memory only as rows come, not when a head announces them.
     pub fn of_width(alloc: Global, sample_width: SampleWidth) -> SampleRows
         ensures empty { (row_lists result ≡ []) × (strip_lists result ≡ []) }
         ensures sample_width { rows_width result ≡ sample_width }
@@ -70,8 +70,8 @@ impl SampleRows {
         }
     }
 
-    /// Adds the rows at the end, one by one if the rows of the image are put into strips, or if these are held in
-    /// another width. The only fault is `Memory`.
+    /// Adds the rows at the end, one by one if the image is put into strips, or if their width differs. The only fault
+    /// is `Memory`.
     pub fn add(
         &mut self,
         alloc: Global,
@@ -138,7 +138,8 @@ impl SampleRows {
         self.push_samples(alloc, rows.row(alloc, at)?)
     }
 
-    /// Adds a row of bytes or words at the end. Returns false, and adds nothing, if the others are held otherwise.
+    /// Adds a row of bytes or words at the end. Returns false, and adds nothing, if its width differs from that of the
+    /// others.
     ///
     /// # Errors
     ///
@@ -163,7 +164,7 @@ impl SampleRows {
         }
     }
 
-    /// Adds a row at the end. Converts it first if it is held in another width. The only fault is `Memory`.
+    /// Adds a row at the end. Converts it first if its width differs. The only fault is `Memory`.
     fn push_samples(&mut self, alloc: Global, row: Samples) -> Result<(), ToolFault>
         requires { FitsWidth (rows_width self.old) row }
         ensures sample_width { rows_width self.new ≡ rows_width self.old }
@@ -188,7 +189,7 @@ impl SampleRows {
         }
     }
 
-    /// Adds the rows at the end. Returns false, and adds nothing, if they are held in another width.
+    /// Adds the rows at the end. Returns false, and adds nothing, if their width differs.
     ///
     /// # Errors
     ///
@@ -274,8 +275,8 @@ impl SampleRows {
     }
 
     /// Returns `count` columns of the rows, from column `first` on, the last column first. In each column, the samples
-    /// of the strips come before those of the rows that came after them, or behind those if `rows_first` is true. For
-    /// bits, `first` has to be a multiple of 8, `count` 1 to 256, and `depth` 1. The only fault is `Memory`.
+    /// of the strips come before those of the later rows, or behind them if `rows_first` is true. For bits, `first` has
+    /// to be a multiple of 8, `count` 1 to 256, and `depth` 1. The only fault is `Memory`.
     pub fn batch(
         &self,
         alloc: Global,

@@ -31,12 +31,12 @@ pub(crate) struct StripedRows<T> {
     /// The first rows, `STRIP_ROWS` in each strip: the samples of the first column, top to bottom or bottom to top,
     /// then those of the second column, and so on.
     pub strips: Vec<RowOf<T>>,
-    /// The rows that came after those in strips.
+    /// The rows that came after the strips.
     pub rows: FlatRows<T>,
 }
 
 impl<T> StripedRows<T> {
-    /// No rows.
+    /// Creates an empty list of rows.
     pub fn new(alloc: Global) -> StripedRows<T>
         ensures strips { result.strips.items ≡ [] }
         ensures rows { result.rows ≡ [] }

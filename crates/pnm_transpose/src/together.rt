@@ -15,8 +15,8 @@ const MOST_ROWS: u32 = 256;
 /// than to hand over by itself.
 const MOST_SAMPLES: usize = 1024;
 
-/// Takes the next columns of a batch, whose last column is the next one: as many together as are short and alike, or
-/// one. The only fault is `Memory`.
+/// Pops columns from the end of `batch`: several together if they are short and of the same length and width, or one.
+/// The only fault is `Memory`.
 pub(crate) fn next_columns(batch: &mut Vec<Samples>) -> Result<Option<Rows>, ToolFault>
     ensures given { IfOk result (λ rows. reverse batch.old.items ≡ rows_list rows ++ reverse batch.new.items) }
     ensures all { IfOk result (λ rows. IfNone rows (batch.new.items ≡ [])) }
@@ -38,7 +38,7 @@ pub(crate) fn next_columns(batch: &mut Vec<Samples>) -> Result<Option<Rows>, Too
     Ok(Some(Rows::new(held, bound, count, each)))
 }
 
-/// How many columns like this one are given together.
+/// Returns how many columns like this one are given together.
 fn most_like(first: &Rows) -> u32 {
     let each = first.row_length();
     match first.as_slice() {
@@ -47,9 +47,9 @@ fn most_like(first: &Rows) -> u32 {
     }
 }
 
-/// Moves the next column of a batch to those that are held, which have `each` samples and none above `bound`. Returns
-/// false if no column is left, or if the next one has another length or is held otherwise: then it stays in the batch.
-/// The only fault is `Memory`.
+/// Moves the next column of a batch to the end of `held`, whose columns have `each` samples and none above `bound`.
+/// Returns false if no column is left, or if the length or the width of the next one differs: then it stays in the
+/// batch. The only fault is `Memory`.
 fn take_next(
     batch: &mut Vec<Samples>,
     held: &mut RowVec,

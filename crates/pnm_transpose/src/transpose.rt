@@ -14,18 +14,18 @@ use std::alloc::Global;
 use std::marker::Model;
 
 /// Exchanges columns and rows: keeps the rows of an image, and gives its columns. If the way reverses the order of the
-/// rows, the kept rows are reversed once the image has ended. If it reverses the order of the columns, they are made
-/// from the last one on.
+/// rows, the kept rows are reversed once the image has ended. If it reverses the order of the columns, the last one is
+/// made first.
 #[derive(Drop)]
 pub struct Transposer {
     way: FlipWay,
     depth: u32,
     rows: SampleRows,
-    /// The columns that are made and not given yet, the next one last.
+    /// The columns that were made and not given yet, the next one last.
     batch: Vec<Samples>,
-    /// The first column that isn't made yet.
+    /// The first column that wasn't made yet.
     next: u32,
-    /// The columns from `next` up to this one, exclusive, aren't made yet; 0 until the image has ended.
+    /// The end of the columns that weren't made yet; 0 until the image has ended.
     columns: u32,
 }
 
@@ -62,7 +62,7 @@ impl ImageTool for Transposer {
         Ok(transposed)
     }
 
-    /// Keeps the rows, and makes none of the result yet.
+    /// Keeps the rows, and makes no row of the result yet.
     fn take(&mut self, alloc: Global, shape: Shape, _y: u32, rows: Rows) -> Result<(), ToolFault> {
         let last_first = self.way.transform().rows_reversed;
         self.rows.add(alloc, last_first, shape, &rows)
@@ -94,7 +94,7 @@ impl ImageTool for Transposer {
 }
 
 impl Transposer {
-    /// The tool before the first row.
+    /// Creates the tool before the first row.
     pub fn new(alloc: Global, way: FlipWay) -> Transposer
         requires { (transform_of way).exchanged ≡ true }
         ensures way { result.way ≡ way }

@@ -18,7 +18,7 @@ mod source_memory;
 mod texts;
 mod tools;
 
-/// Stops the test if `is_so` is false, and shows what is given, what is wanted and where. An assertion that shows its
+/// Stops the test if `is_so` is false, and shows what it got, what it wants and where. An assertion that shows its
 /// values takes long to prove: this one serves many tests.
 fn holds<G: fmt::Debug, W: fmt::Debug, P: fmt::Debug>(
     rt: &impl Abort,

@@ -40,7 +40,7 @@ fn push_header(buffer: &mut WriteBuffer, form: Form, head: &Head)
     }
 }
 
-/// The line of the magic.
+/// Appends the line of the magic.
 fn push_magic(buffer: &mut WriteBuffer, kind: Kind, form: Form)
     requires { length buffer.old ≡ 0 }
     ensures line { buffer.new ≡ buffer.old ++ magic_line kind form }
@@ -50,7 +50,7 @@ fn push_magic(buffer: &mut WriteBuffer, kind: Kind, form: Form)
     buffer.push(b"\n");
 }
 
-/// The lines of a PAM header after that of its magic.
+/// Appends the lines of a PAM header after that of its magic.
 fn push_fields(buffer: &mut WriteBuffer, shape: Shape, tuple_type: &[u8])
     requires magic { buffer.old ≡ codes "P7\n" }
     requires short { length tuple_type.now ≤ MAX_TUPLE_TYPE_LENGTH }
@@ -64,7 +64,7 @@ fn push_fields(buffer: &mut WriteBuffer, shape: Shape, tuple_type: &[u8])
     buffer.push(b"ENDHDR\n");
 }
 
-/// The line of the tuple type, if there is one.
+/// Appends the line of the tuple type, if there is one.
 fn push_tuple_type(buffer: &mut WriteBuffer, tuple_type: &[u8])
     requires { length buffer.old + length tuple_type.now + 10 ≤ 4096 }
     ensures line { buffer.new ≡ buffer.old ++ tuple_type_line tuple_type.now }
@@ -78,7 +78,7 @@ fn push_tuple_type(buffer: &mut WriteBuffer, tuple_type: &[u8])
     buffer.push(b"\n");
 }
 
-/// The line of a number, with its name.
+/// Appends the line of a number, with its name.
 fn push_field(buffer: &mut WriteBuffer, name: &[u8], number: u32)
     requires { length buffer.old + length name.now + 11 ≤ 4096 }
     ensures line { buffer.new ≡ buffer.old ++ (name.now ++ decimal number ++ codes "\n") }
@@ -88,7 +88,7 @@ fn push_field(buffer: &mut WriteBuffer, name: &[u8], number: u32)
     push_number(buffer, number, b"\n");
 }
 
-/// The line of the width and the height.
+/// Appends the line of the width and the height.
 fn push_size(buffer: &mut WriteBuffer, shape: Shape)
     requires { length buffer.old + 22 ≤ 4096 }
     ensures line { buffer.new ≡ buffer.old ++ size_line shape }
@@ -98,7 +98,7 @@ fn push_size(buffer: &mut WriteBuffer, shape: Shape)
     push_number(buffer, shape.height, b"\n");
 }
 
-/// The number in decimal, and the byte after it.
+/// Appends the number in decimal, and the bytes after it.
 fn push_number(buffer: &mut WriteBuffer, number: u32, after: &[u8])
     requires { length buffer.old + length after.now + 10 ≤ 4096 }
     ensures text { buffer.new ≡ buffer.old ++ (decimal number ++ after.now) }

@@ -1,5 +1,4 @@
-//! Laws of the bytes of messages. Each is stated over the definitions alone, as the contract of a function that does
-//! nothing.
+//! Laws of the bytes of messages. Each is about the definitions alone, as the contract of a function that does nothing.
 
 ghost use Rattle.pnm_write.specs.EncodingLaws.{BytesAreTheEncoding, MessagesAddTheirBytes};
 ghost use Rattle.pnm_write.specs.EncodingLaws.{RefusedStreamsAreOfImages, PlainRowsHaveOneText};
@@ -14,7 +13,7 @@ pub fn messages_add_their_bytes()
     ensures { MessagesAddTheirBytes }
 {}
 
-/// The form refuses a message of a stream for the reason for which it can't hold its images.
+/// A form refuses a message of a stream for the same reason for which it can't hold the stream's images.
 pub fn refused_streams_are_of_images()
     ensures { RefusedStreamsAreOfImages }
 {}

@@ -33,7 +33,7 @@ const ENTRIES: &[u8; 1280] = b"\
     4 2404 2414 2424 2434 2444 2454 2464 2474 2484 2494 2504 2514 2524 2534 2544 255\
 ";
 
-/// The entry of a number.
+/// Returns the entry of a number.
 #[inline(always)]
 fn entry(number: usize) -> &'static [u8]
     requires { number < 256 }
@@ -137,7 +137,7 @@ fn break_line(buffer: &mut [u8], at: usize, column: usize, size: usize) -> usize
 
 /// A sample as a number in a line.
 pub trait Numeral: Sample {
-    /// The number that it is.
+    /// Returns the number that it is.
     fn number(self) -> u16
         ensures { result ≡ Self.value self };
 

@@ -17,7 +17,7 @@ const NIBBLES: &[u8; 128] = b"\
     1 0 0 0 1 0 0 1 1 0 1 0 1 0 1 1 1 1 0 0 1 1 0 1 1 1 1 0 1 1 1 1 \
 ";
 
-/// The characters of four pixels.
+/// Returns the characters of four pixels.
 #[inline(always)]
 fn nibble(bits: usize) -> &'static [u8]
     requires { bits < 16 }

@@ -94,8 +94,8 @@ fn write_numbers<W: BytesOut, N: Numeral>(
     Ok(())
 }
 
-/// Writes a row of `count` samples that aren't held in the form of their kind. It isn't inlined, since the frames of
-/// its callers would then have room for its samples, too.
+/// Writes a row of `count` samples that aren't held in the width of their kind. It isn't inlined, since its callers'
+/// stack frames would then need room for its samples, too.
 #[inline(never)]
 fn write_others<W: BytesOut>(
     writer: &mut W,

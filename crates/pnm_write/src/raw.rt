@@ -33,7 +33,7 @@ fn widen(samples: &[u16], buffer: &mut [u8]) -> usize
     2 * samples.len()
 }
 
-/// The most samples whose bytes fit into 4,096 bytes.
+/// Returns the most samples whose bytes fit into 4,096 bytes.
 pub fn most_samples(sample_width: SampleWidth) -> usize
     ensures { result ≡ most_samples sample_width }
 {

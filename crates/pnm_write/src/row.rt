@@ -34,7 +34,7 @@ pub fn write_samples<W: BytesOut>(
     }
 }
 
-/// Writes the samples of a raw row: bits and bytes as they are held, if the file holds them so.
+/// Writes the samples of a raw row, without a copy if they are held as bits or bytes and the file has the same width.
 #[inline(always)]
 fn write_raw<W: BytesOut>(
     writer: &mut W,
@@ -55,7 +55,7 @@ fn write_raw<W: BytesOut>(
     }
 }
 
-/// The same bytes. A proof learns from the call that each one is below 256.
+/// Returns the same bytes. A proof learns from the call that each one is below 256.
 fn bytes_of(bytes: &[u8]) -> &[u8]
     ensures same { result.now ≡ bytes.now }
     ensures fit { AreBytes result.now }
@@ -63,7 +63,7 @@ fn bytes_of(bytes: &[u8]) -> &[u8]
     bytes
 }
 
-/// The number of samples.
+/// Returns the number of samples.
 pub fn count_of(row: SampleSlice<'_>) -> usize
     requires { HasWhiteSpare row }
     ensures { length (slice_samples row.entry) ≡ result }
@@ -75,8 +75,8 @@ pub fn count_of(row: SampleSlice<'_>) -> usize
     }
 }
 
-/// Writes `count` samples that are held in another form than their bytes, some at a time. It isn't inlined, since the
-/// frames of its callers would then have room for its samples, too.
+/// Writes `count` samples that aren't held in the width that the file has, some at a time. It isn't inlined, since its
+/// callers' stack frames would then need room for its samples, too.
 #[inline(never)]
 fn write_others<W: BytesOut>(
     writer: &mut W,

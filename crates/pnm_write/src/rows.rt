@@ -38,7 +38,7 @@ pub fn write_repeated<W: BytesOut>(
     Ok(())
 }
 
-/// Writes rows of an image of this shape: all at once, if their bytes are those of their samples in one row.
+/// Writes rows of an image of this shape: all at once, if their bytes are the same as those of one long row.
 #[inline(never)]
 pub fn write_rows<W: BytesOut>(
     writer: &mut W,
@@ -99,7 +99,7 @@ fn write_each<W: BytesOut>(
     Ok(())
 }
 
-/// Whether a sample has bytes of its own, so that rows of any length are whole bytes.
+/// Returns whether a sample has bytes of its own, so that rows of any length are whole bytes.
 fn has_whole_samples(sample_width: SampleWidth) -> bool
     ensures { IsTrue result → (each : ℕ) → AreWholeBytes sample_width each }
 {

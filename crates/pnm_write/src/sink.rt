@@ -31,14 +31,14 @@ pub struct Sink<W> {
     writer: W,
     place: Place,
     form: Form,
-    /// An image has begun.
+    /// Whether an image has begun.
     has_begun: bool,
     has_failed: bool,
     buffer: WriteBuffer,
 }
 
 impl<W: BytesOut> Sink<W> {
-    /// A sink over the writer, with a buffer of its own, before the first message. Nothing is written.
+    /// Creates a sink over the writer with a buffer of its own. Writes nothing.
     ///
     /// # Errors
     ///
@@ -56,7 +56,7 @@ impl<W: BytesOut> Sink<W> {
         Ok(Sink::with_buffer(buffer, writer, form))
     }
 
-    /// A sink over the writer that encodes into this buffer, before the first message. Nothing is written.
+    /// Creates a sink over the writer that encodes into this buffer. Writes nothing.
     pub fn with_buffer(buffer: WriteBuffer, writer: W, form: Form) -> Sink<W>
         ensures writer { writer_of result ≡ writer }
         ensures form { form_of result ≡ form }
@@ -74,9 +74,8 @@ impl<W: BytesOut> Sink<W> {
         }
     }
 
-    /// Writes all bytes of the messages that the packet stands for: at the beginning of an image its header, and for a
-    /// row its samples, as pbm(5), pgm(5), ppm(5) and pam(5) lay them out. The other messages have none. `flush`, which
-    /// `put` doesn't call, passes on what the writer keeps back of them.
+    /// Writes all bytes of the packet's messages: at the beginning of an image its header, and for a row its samples,
+    /// as pbm(5), pgm(5), ppm(5) and pam(5) lay them out. The other messages have none. `put` doesn't flush the writer.
     ///
     /// In plain form each row begins a line, a line has at most 70 bytes before its LF, and as many
     /// samples as it can hold, with one blank between each two.
@@ -95,7 +94,7 @@ impl<W: BytesOut> Sink<W> {
         ensures sound { OnOk result ((has_failed self.old ≡ false) × (has_failed self.new ≡ false)) }
         ensures form { form_of self.new ≡ form_of self.old }
 
-        // The messages that were put are more by those of the packet, or the same after a fault.
+        // The packet's messages were put, too; after a fault none of them were.
         ensures more { OnOk result ((messages : List _) → HasPut self.old messages
             → HasPut self.new (messages ++ messages_in packet.now)) }
         ensures same { OnErr result ((messages : List _) → HasPut self.old messages → HasPut self.new messages) }
@@ -205,7 +204,7 @@ impl<W: BytesOut> Sink<W> {
     }
 }
 
-/// Whether an image has begun after the packet, where one had begun before it or not.
+/// Returns whether an image has begun after the packet. `has_begun` says whether one had begun before it.
 ///
 /// # Errors
 ///
@@ -226,7 +225,7 @@ fn begins(form: Form, has_begun: bool, packet: &Packet) -> Result<bool, SinkFaul
     }
 }
 
-/// The head of the image that the packet begins, if it begins one.
+/// Returns the head of the image that the packet begins, if it begins one.
 fn head_of(packet: &Packet) -> Option<&Head>
     ensures some { IfSome result (λ head. BeginsWith head.now (messages_in packet.now)) }
     ensures none { IfNone result (BeginsNone (messages_in packet.now)) }

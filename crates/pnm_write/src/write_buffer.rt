@@ -36,7 +36,7 @@ impl Model for WriteBuffer {
 }
 
 impl WriteBuffer {
-    /// A buffer without bytes.
+    /// Creates an empty buffer.
     pub fn new(alloc: Global) -> Result<WriteBuffer, AllocError>
         ensures { IfOk result (λ buffer. buffer ≡ []) }
     {
@@ -44,7 +44,7 @@ impl WriteBuffer {
         Ok(WriteBuffer { bytes, length: 0 })
     }
 
-    /// The bytes.
+    /// Returns the bytes.
     pub(crate) fn as_slice(&self) -> &[u8]
         ensures { result.now ≡ self.now }
     {

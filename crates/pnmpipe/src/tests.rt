@@ -13,10 +13,10 @@ mod words_memory;
 /// An image of one row.
 const IMAGE: &[u8] = b"P5\n2 1\n122\nAB";
 
-/// What it is inverted.
+/// The image inverted.
 const INVERTED: &[u8] = b"P5\n2 1\n122\n98";
 
-/// The words of a command line.
+/// Returns the words of a command line.
 fn words_of(alloc: Global, texts: &[&str]) -> Result<Vec<String>, AllocError> {
     let mut words = Vec::new(alloc);
     for text in texts {
@@ -26,7 +26,7 @@ fn words_of(alloc: Global, texts: &[&str]) -> Result<Vec<String>, AllocError> {
 }
 
 /// Stops the test if something isn't so, and shows these values. An assertion that shows its values takes long to
-/// prove: this one stands for all others.
+/// prove: this one serves all tests.
 fn is_so<P: fmt::Debug>(rt: &impl Abort, is_right: bool, shown: &P) {
     assert!(rt; is_right, "{shown:?}");
 }
