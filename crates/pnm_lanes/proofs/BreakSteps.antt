@@ -1,9 +1,8 @@
 -- How dealing is broken off.
 use Rattle.pnm_lanes.proofs.Words.{◌≡◌, ◌⊎◌, inl, inr, ℕ, Bool, true, false, List, [], ◌∷◌, ◌++◌, length, Option, None, Some, refl, sym, ap, subst, ◌∙◌}
-use Rattle.pnm_lanes.proofs.Words.{append_assoc, append-nil, AllByRecursion, Packet, Sender, messages_in, Message, Stop, Place, Between, IsMessage}
-use Rattle.pnm_lanes.proofs.Words.{EndsBy, Accepts, IsLawful, IsLawfulFrom, place_of, same_first, next_may_come, ToolFault, IsRefused, place_of-append}
-use Rattle.pnm_lanes.proofs.Words.{OutOfOrder, Memory}
-use Rattle.pnm_lanes.proofs.Words.{Ending, More, Whole, BrokenOff, dealt, both_all, EndNothing, ends_after, StageEnd, Fault, PeerGone}
+use Rattle.pnm_lanes.proofs.Words.{append_assoc, append-nil, AllByRecursion, Packet, Sender, messages_in, Message, Stop, Place, Between, IsMessage, EndsBy}
+use Rattle.pnm_lanes.proofs.Words.{Accepts, IsLawful, IsLawfulFrom, place_of, same_first, next_may_come, ToolFault, IsRefused, place_of-append, OutOfOrder}
+use Rattle.pnm_lanes.proofs.Words.{Memory, Ending, More, Whole, BrokenOff, dealt, both_all, EndNothing, ends_after, StageEnd, Fault, PeerGone}
 use Rattle.pnm_lanes.proofs.Words.{IsLongestLawfulPrefix, IsEnded, EndsAtMostOnce, HasDrainedAfter, prefix_goes_on, ends_nothing, same_output, AtEach}
 use Rattle.pnm_lanes.proofs.Words.{HasReceivedSo, HasSentSo, HasLane, HasDealt, part_at, IsSentPart, HasBrokenOffDealing, HasDealtAll, IsReason, HasLeftOff}
 use Rattle.pnm_lanes.proofs.Words.{HasDealtMessages}

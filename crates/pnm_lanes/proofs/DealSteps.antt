@@ -1,9 +1,8 @@
 -- What has been dealt so far, and how the dealing ends.
 use Rattle.pnm_lanes.proofs.Words.{◌≡◌, inl, inr, ℕ, Bool, true, false, List, [], ◌∷◌, ◌++◌, length, Option, None, Some, refl, sym, ap, subst, ◌∙◌}
 use Rattle.pnm_lanes.proofs.Words.{append_assoc, append-nil, AllByRecursion, Packet, Sender, messages_in, sent, SameSender, Message, Stop, Place, Between}
-use Rattle.pnm_lanes.proofs.Words.{IsMessage, without_stop, EndsBy, IsLawful, place_of, IsPrefixOf, place_of-append, Ending, More, Whole, BrokenOff}
-use Rattle.pnm_lanes.proofs.Words.{dealt_from, dealt, prefix_of_prefix, EndNothing, ends_after, both_all, StageEnd, Well, Broken, PeerGone, ends_nothing}
-use Rattle.pnm_lanes.proofs.Words.{same_output}
+use Rattle.pnm_lanes.proofs.Words.{IsMessage, without_stop, EndsBy, IsLawful, place_of, IsPrefixOf, place_of-append, Ending, More, Whole, BrokenOff, dealt_from}
+use Rattle.pnm_lanes.proofs.Words.{dealt, prefix_of_prefix, EndNothing, ends_after, both_all, StageEnd, Well, Broken, PeerGone, ends_nothing, same_output}
 use Rattle.pnm_lanes.proofs.Words.{stop_is_cut, AtEach, HasSentSo, IsPrefixOfDealt, HasLane, HasDealt, part_at, IsSameEnd, IsSentPart, HasSentParts, IsSentAll}
 use Rattle.pnm_lanes.proofs.Words.{HasDealtAll, HasDealtMessages}
 use Rattle.pnm_lanes.proofs.EachLaws.{each-map, each-then, each-count}

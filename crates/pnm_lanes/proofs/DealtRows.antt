@@ -1,11 +1,9 @@
 -- What each lane gets of a part of an image, by its turn.
-use Rattle.pnm_lanes.proofs.Words.{◌≡◌, ◌⊎◌, inl, inr, ℕ, zero, suc, ◌+◌, ◌-◌, ◌*◌, ◌/◌, ◌%◌, ◌<◌, ◌≤◌, Bool, true, false, List, [], ◌∷◌, ◌++◌, map, refl, sym}
-use Rattle.pnm_lanes.proofs.Words.{ap}
-use Rattle.pnm_lanes.proofs.Words.{◌∙◌, arith, ◌==◌, nat_tests, if◌then◌else◌, cases_lt, div-add-mod', map-append, length, Option, None, Some}
-use Rattle.pnm_lanes.proofs.Words.{Message, Begin, Row, Place, Between, Inside, After, Shape, HeadValue, IsLawfulFrom, place_of}
-use Rattle.pnm_lanes.proofs.Words.{row_messages, head_messages, end_messages, dealt_row, dealt_rows, dealt_head, dealt_from, every, row_at}
-use Rattle.pnm_lanes.proofs.Words.{dealt_begin, AreLeftFrom}
-use Rattle.std.proofs.Math.Nat.{add-mod_left, add-mod_right, add-mod-mod, mod-add-mod, mod-eq_of_lt, mul-le-mul_right}
+use Rattle.pnm_lanes.proofs.Words.{◌≡◌, ◌⊎◌, inl, inr, ℕ, zero, suc, ◌+◌, ◌-◌, ◌%◌, ◌<◌, ◌≤◌, Bool, true, false, List, [], ◌∷◌, ◌++◌, map, refl, sym, ap, ◌∙◌}
+use Rattle.pnm_lanes.proofs.Words.{arith, ◌==◌, nat_tests, if◌then◌else◌, mod_below, map-append, length, Option, None, Some, Message, Begin, Row, Place}
+use Rattle.pnm_lanes.proofs.Words.{Between, Inside, After, Shape, HeadValue, IsLawfulFrom, place_of, row_messages, head_messages, end_messages, dealt_row}
+use Rattle.pnm_lanes.proofs.Words.{dealt_rows, dealt_head, dealt_from, every, row_at, dealt_begin, AreLeftFrom}
+use Rattle.std.proofs.Math.Nat.{add-mod_left, add-mod_right, add-mod-mod, mod-add-mod, mod-eq_of_lt}
 use Rattle.pnm_lanes.proofs.DealtLaws.{dealt_from-append}
 
 -- ---- turns
@@ -29,23 +27,17 @@ only_its_turn first lanes turn lane within lt is =
 
 -- ---- rows
 
--- fewer rows than there are lanes lie between two rows of one lane
-far_apart : (lanes p q r between : ℕ) → 0 < between → between < lanes → q * lanes + r ≡ p * lanes + r + between → ⊥
-far_apart lanes p q r between some few same = elim (cases_lt p q) [
-  | inl more ↦
-      let round : (p + 1) * lanes ≤ q * lanes = mul-le-mul_right lanes (omega (arith, more)) in
-      let next : (p + 1) * lanes ≡ p * lanes + lanes = grind arith in
-      omega (arith, round, next, same, few)
-  | inr less ↦
-      let round : q * lanes ≤ p * lanes = mul-le-mul_right lanes less in
-      omega (arith, round, same, some)
-]
-
-other_lane : (lanes y turn : ℕ) → suc turn < lanes → (y % lanes ≡ (y + suc turn) % lanes) → ⊥
+-- fewer rows than there are lanes go to other lanes than the row before them
+other_lane : (lanes y turn : ℕ) → suc turn < lanes → y % lanes ≡ (y + suc turn) % lanes → ⊥
 other_lane lanes y turn lt same =
-    let here : y / lanes * lanes + y % lanes ≡ y = div-add-mod' y lanes in
-    let there : (y + suc turn) / lanes * lanes + (y + suc turn) % lanes ≡ y + suc turn = div-add-mod' (y + suc turn) lanes in
-    far_apart lanes (y / lanes) ((y + suc turn) / lanes) (y % lanes) (suc turn) (omega arith) lt (omega (arith, here, there, same))
+    let first : ℕ = y % lanes in
+    let within : first < lanes = mod_below y lanes (omega (arith, lt)) in
+    let itself : y + 0 ≡ y = omega arith in
+    let here : (first + 0) % lanes ≡ y % lanes = mod-add-mod y lanes 0 ∙ ap (λ (n : ℕ). n % lanes) itself in
+    let alike : (first + 0) % lanes ≡ (first + suc turn) % lanes = here ∙ same ∙ sym (mod-add-mod y lanes (suc turn)) in
+    let turns : 0 ≡ suc turn =
+    sym (its_turn first lanes 0 within (omega (arith, lt))) ∙ ap (turn_of first lanes) alike ∙ its_turn first lanes (suc turn) within lt in
+    absurd cc
 
 -- of rows from row y on a lane gets every so many, beginning with its turn
 rows_by_turn : (lane lanes y turn : ℕ) (rows : List (List ℕ)) → turn < lanes → (y + turn) % lanes ≡ lane

@@ -1,9 +1,8 @@
 -- Messages that are dealt one after another, from a place on.
-use Rattle.pnm_lanes.proofs.Words.{◌≡◌, inl, inr, ℕ, ◌≤◌, List, [], ◌∷◌, ◌++◌, length, None, Some, refl, sym, ap, subst, ◌∙◌, append_assoc, append-nil}
-use Rattle.pnm_lanes.proofs.Words.{arith, Packet, Sender, messages_in, sent, Message, Place, IsLawfulFrom, place_after, place_of, place_of-append, ToolFault}
-use Rattle.pnm_lanes.proofs.Words.{OutOfOrder}
-use Rattle.pnm_lanes.proofs.Words.{dealt_from, StageEnd, Fault, same_output, itself_output, AtEach, part_at, IsSentPart, HasSentParts, IsSentAll, HasDealtAll}
-use Rattle.pnm_lanes.proofs.Words.{IsRefused, HasLeftOff, HasTakenLawful}
+use Rattle.pnm_lanes.proofs.Words.{◌≡◌, inl, inr, ℕ, ◌≤◌, List, [], ◌∷◌, ◌++◌, length, None, Some, refl, sym, ap, subst, ◌∙◌, append_assoc, append-nil, arith}
+use Rattle.pnm_lanes.proofs.Words.{Packet, Sender, messages_in, sent, Message, Place, IsLawfulFrom, place_after, place_of, place_of-append, ToolFault}
+use Rattle.pnm_lanes.proofs.Words.{OutOfOrder, dealt_from, StageEnd, Fault, same_output, itself_output, AtEach, part_at, IsSentPart, HasSentParts, IsSentAll}
+use Rattle.pnm_lanes.proofs.Words.{HasDealtAll, IsRefused, HasLeftOff, HasTakenLawful}
 use Rattle.pnm_lanes.proofs.EachLaws.{each-map, each-itself, each-then, each-count}
 use Rattle.pnm_lanes.proofs.DealtLaws.{dealt_from-append}
 

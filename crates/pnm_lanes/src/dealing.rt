@@ -15,9 +15,8 @@ ghost use Rattle.pnm_stages.specs.declared.stage.StageEnd.TheVariants.{Fault};
 ghost use Rattle.pnm_lanes.specs.LaneLimits.{IsLaneCount};
 ghost use Rattle.pnm_lanes.specs.Deals.{AtEach, HasDealt};
 ghost use Rattle.pnm_lanes.specs.Internal.DealParts.{HasDealtMessages, HasTakenLawful, IsRefused, HasSentParts};
-ghost use Rattle.pnm_lanes.specs.Internal.DealParts.{part_at};
-ghost use Rattle.pnm_lanes.specs.Internal.DealParts.{AreLeftFrom, row_at, dealt_begin, stream_end, IsSentTo, IsSameEnd};
-ghost use Rattle.pnm_lanes.specs.Internal.DealParts.{HasBrokenOffDealing};
+ghost use Rattle.pnm_lanes.specs.Internal.DealParts.{part_at, AreLeftFrom, row_at, dealt_begin, stream_end, IsSentTo};
+ghost use Rattle.pnm_lanes.specs.Internal.DealParts.{IsSameEnd, HasBrokenOffDealing};
 ghost use Rattle.pnm_lanes.specs.declared.lane.TheConstants.{MAX_LANES};
 
 use pnm_image::{Ending, Head, Packet, Part, Place, RepeatedRows, Rows};

@@ -1,5 +1,5 @@
-use Rattle.pnm_lanes.proofs.Words.{refl, sym, subst, ◌∙◌, received, known_items, Place, Ending, EndsBy, messages_in, More}
-use Rattle.pnm_lanes.proofs.Words.{itself_input, same_input, IsLaneCount}
+use Rattle.pnm_lanes.proofs.Words.{refl, sym, subst, ◌∙◌, received, known_items, Place, Ending, EndsBy, messages_in, More, itself_input, same_input}
+use Rattle.pnm_lanes.proofs.Words.{IsLaneCount}
 use Rattle.pnm_lanes.proofs.DealSteps.{IsDealing, deals_nothing, deals_packet, wakes_dealing, ends_whole, ends_broken}
 use Rattle.pnm_lanes.proofs.BreakSteps.{breaks_off, cuts, cut_here, ends_gone, interrupts_packet}
 use Rattle.pnm_lanes.proofs.SendSteps.{woken_count}

@@ -1,6 +1,5 @@
-use Rattle.pnm_lanes.proofs.Words.{◌≡◌, ◌∙◌, ◌<◌, ◌-◌, ◌+◌, ◌%◌, ◌++◌, ℕ, List, Option, Message, StageEnd, ap, sym, subst, refl, arith, length}
-use Rattle.pnm_lanes.proofs.Words.{mod_below, HeadValue, IsLawfulFrom, packet_list, row_messages, rows_list, end_messages, dealt_from, dealt_begin}
-use Rattle.pnm_lanes.proofs.Words.{every, row_at, part_at}
+use Rattle.pnm_lanes.proofs.Words.{◌≡◌, ◌∙◌, ◌<◌, ◌-◌, ◌+◌, ◌%◌, ◌++◌, ℕ, List, Option, Message, StageEnd, ap, sym, subst, refl, arith, length, mod_below}
+use Rattle.pnm_lanes.proofs.Words.{HeadValue, IsLawfulFrom, packet_list, row_messages, rows_list, end_messages, dealt_from, dealt_begin, every, row_at, part_at}
 use Rattle.pnm_lanes.proofs.SendSteps.{IsSending, sends_nothing, sends_next, misses_next, sends_all, leaves_off}
 use Rattle.pnm_lanes.proofs.DealtRows.{turn_of, its_turn, only_its_turn, part_by_turn}
 use Rattle.pnm_lanes.proofs.dealing.send_part.Goals as goal
