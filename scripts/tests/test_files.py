@@ -22,6 +22,7 @@ sys.dont_write_bytecode = True
 from support import COLOR, GRAY, HELPERS, PATIENCE, ROOT, SIGNALS, Program
 from support import has_ended, heed_signals, parser_of, run, run_tests
 
+from random_runs import stream_of
 from test_commands import stored_commands
 
 LIBRARY = None
@@ -64,35 +65,6 @@ FAULTS = {
     ("--plain", "pnminvert"): {"output: SecondPlain": GRAY + GRAY},
     ("--plain", "pamchannel 0"): {"output: PlainPam": GRAY},
 }
-
-
-def random_file(numbers):
-    """Images, of which some are faulty, plain or large, several, or none at all."""
-
-    def image(is_plain):
-        width, height, maxval = (numbers.choice(of) for of in ([1, 2, 3, 9], [1, 2, 5], [1, 7, 255, 300, 65_535]))
-        kind = numbers.choice("123" if is_plain else "4567")
-        if numbers.random() < 0.1:
-            width *= 300
-        depth = 3 if kind in "36" else numbers.choice([1, 2, 4]) if kind == "7" else 1
-        samples = [numbers.randrange(maxval + 1) for _ in range(width * height * depth)]
-        if kind == "7":
-            head = f"P7\nWIDTH {width}\nHEIGHT {height}\nDEPTH {depth}\nMAXVAL {maxval}\nENDHDR\n"
-        else:
-            head = f"P{kind} {width} {height}\n" + (f"{maxval}\n" if kind not in "14" else "")
-        if is_plain:
-            return head.encode() + " ".join(str(it % 2 if kind == "1" else it) for it in samples).encode() + b"\n"
-        if kind == "4":
-            return head.encode() + numbers.randbytes((width + 7) // 8 * height)
-        return head.encode() + b"".join(it.to_bytes(1 if maxval < 256 else 2, "big") for it in samples)
-
-    is_plain = numbers.random() < 0.2
-    text = b"".join(image(is_plain) for _ in range(numbers.choice([0, 1, 1, 1, 1, 2, 5])))
-    if numbers.random() < 0.3:
-        at = numbers.randrange(len(text) + 1)
-        before, behind = text[:at], text[at:]
-        text = numbers.choice([before, before + b"#x" + behind, before + b"\xff" + behind[1:], text[1:]])
-    return text
 
 
 def loaded_workers():
@@ -354,10 +326,10 @@ class SmallFiles(Files):
         """Random files get the same results and lines in process as by calls."""
         numbers = random.Random(11)
         for chain, *options in CHAINS:
-            names = [self.write(f"in/{at:03}", random_file(numbers)) for at in range(300 // len(CHAINS))]
+            names = [self.write(f"in/{at:03}", stream_of(numbers)[0]) for at in range(300 // len(CHAINS))]
             names += ["in/none", "in"]
             told, made = [], []
-            for small in ("2000", "0"):
+            for small in ("16000", "0"):
                 shutil.rmtree(self.path("out"), ignore_errors=True)
                 done = self.files("--small", small, *options, chain, "out", *names)
                 told.append((done.returncode, sorted(done.stderr.split(b"\n")), self.log()))

@@ -71,7 +71,8 @@ class Limits(unittest.TestCase):
         self.assertEqual(len(self.told(RT, text)), 1)
 
     def test_clauses_of_closures_do_not_count(self):
-        closure = ["    let it = || -> u8", "        requires { a", "            b }", "        ensures { c }", "    { d };"]
+        closure = ["    let it = || -> u8", "        requires { a", "            b }"]
+        closure += ["        ensures { c }", "    { d };"]
         self.assertEqual(self.told(RT, function(38, before=closure)), [])
         self.assertEqual(len(self.told(RT, function(39, before=closure))), 1)
 
